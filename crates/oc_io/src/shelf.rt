@@ -1,0 +1,36 @@
+//! Where files come from.
+ghost use Rattle.std.specs.Prelude.{◌≡◌, ℕ, ◌≤◌, List, length, IfOk, IfErr};
+ghost use Rattle.oc_io.specs.Held.{Held, Gives, Explains};
+
+use std::alloc::Global;
+use thiserror::Error;
+
+/// Why a file wasn't fetched.
+#[derive(Clone, Copy, Debug, PartialEq, Eq, Error)]
+pub enum ShelfError {
+    /// A fault was counted in this call.
+    #[error("the file can't be read")]
+    Unreadable,
+    /// The shelf tells what it holds, and has nothing under this name.
+    #[error("there is no such file")]
+    Absent,
+    /// More bytes than the limit: so many were taken.
+    #[error("the file has more than {taken} bytes")]
+    TooLong { taken: usize },
+    #[error("out of memory")]
+    Memory,
+}
+
+/// Where files come from, by their names.
+pub trait Shelf {
+    ghost holds: { Self → List ℕ → Held };
+
+    ghost faults: { Self → ℕ };
+
+    fn fetch(&mut self, alloc: Global, name: &str, limit: usize) -> Result<Vec<u8>, ShelfError>
+        ensures short { IfOk result (λ v. length v.items ≤ limit) }
+        ensures whole { IfOk result (λ v. Gives (holds self.old name.now) v.items) }
+        ensures cause { IfErr result (λ e. Explains (holds self.old name.now) limit (faults self.old) (faults self.new) e) }
+        ensures kept { (n : List ℕ) → holds self.new n ≡ holds self.old n }
+        ensures count { faults self.old ≤ faults self.new };
+}

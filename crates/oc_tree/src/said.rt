@@ -1,0 +1,43 @@
+//! What a run shows, as the source, the image and the report speak of it.
+
+/// Why a run was trapped: a divisor was zero, or an index lay outside its array.
+#[derive(Clone, Copy, Debug, PartialEq, Eq)]
+pub enum TrapKind {
+    Zero,
+    Index,
+}
+
+/// The visible part of a source event. Sensors and ports are numbered from 0 in the order of their
+/// declarations, statements from 1.
+#[derive(Clone, Copy, Debug, PartialEq, Eq)]
+pub enum Visible {
+    Sense { sensor: u8, value: i32 },
+    Emit { port: u8, value: i32 },
+    Use { stmt: u32 },
+    Done { stmt: u32 },
+    Tag { stmt: u32 },
+    End,
+    Trap { kind: TrapKind, stmt: u32 },
+}
+
+/// The numbers of samples, each once, in rising order.
+#[derive(Debug, Drop)]
+pub struct SampleSet {
+    pub numbers: Vec<u32>,
+}
+
+/// An event of the source's run, with the samples on which it depends. `instance` numbers the
+/// execution of a consistent set's block, and is 0 for everything but a tag.
+#[derive(Debug, Drop)]
+pub struct SourceEvent {
+    pub visible: Visible,
+    pub samples: SampleSet,
+    pub instance: u32,
+}
+
+/// What a region may overwrite: words of a nonvolatile variable, or a parameter's place.
+#[derive(Clone, Copy, Debug, PartialEq, Eq)]
+pub enum Target {
+    Nv { base: u32, len: u32 },
+    Param { slot: u32, len: u32 },
+}

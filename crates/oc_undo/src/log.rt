@@ -98,9 +98,9 @@ impl UndoLog {
         requires unmarked { has_entry self.old.entries addr ≡ false }
         ensures { self.new ≡ record self.old { entries = self.old.entries ++ record { addr = addr; old = old } ∷ []; back = 0 } }
     {
+        self.restart();
         let _ = self.entries.push(Entry { addr, old });
         self.marks[addr as usize] = true;
-        self.back = 0;
     }
 
     /// Puts back the next entry, which is the last that wasn't put back since the last restart. It
@@ -131,9 +131,9 @@ impl UndoLog {
     pub fn clear(&mut self)
         ensures { self.new ≡ record self.old { entries = []; back = 0 } }
     {
+        self.restart();
         unmark(&self.entries, &mut self.marks);
         self.entries.clear();
-        self.back = 0;
     }
 }
 

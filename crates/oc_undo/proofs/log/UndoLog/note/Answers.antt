@@ -7,17 +7,24 @@ use Rattle.oc_undo.specs.declared.Entry.{Entry}
 use Rattle.oc_undo.specs.Undo.{has_entry, IsMarked}
 use Rattle.oc_undo.proofs.Marks.{has_room, noted, when_ok}
 use Rattle.oc_undo.proofs.log.UndoLog.note.Goals as goal
+use Rattle.oc_undo.proofs.log.UndoLog.note.Goals.{After-self}
 
-abbrev within : (c : goal.After-self-2-1) → c.args.addr < length c.self.inside.marks.items
-within c = rw (← c.self.view_is) at c.requires.within
+-- what the log is after the restart, by the fields
+seen : (c : After-self) → (c.self.inside.entries.items ≡ c.args.self.now.entries) × (c.self.inside.back ≡ 0) × (length c.self.inside.marks.items ≡ c.args.self.now.words)
+seen c =
+    let e = c.self.view_is ∙ c.restart.ensures in
+    (ap (λ v. v.entries) e, ap (λ v. v.back) e, ap (λ v. v.words) e)
 
-abbrev unmarked : (c : goal.After-self-2-1) → has_entry c.self.inside.entries.items c.args.addr ≡ false
-unmarked c = rw (← c.self.view_is) at c.requires.unmarked
+abbrev within : (c : After-self) → c.args.addr < length c.self.inside.marks.items
+within c = subst (λ w. c.args.addr < w) (sym (seen c).2) c.requires.within
 
-abbrev entry : goal.After-self-2-1 → Entry
+abbrev unmarked : (c : After-self) → has_entry c.self.inside.entries.items c.args.addr ≡ false
+unmarked c = ap (λ l. has_entry l c.args.addr) (seen c).0 ∙ c.requires.unmarked
+
+abbrev entry : After-self → Entry
 entry c = record { addr = c.args.addr; old = c.args.old }
 
-pushed : (c : goal.After-self-2-1) → c.push.new.self.items ≡ c.self.inside.entries.items ++ entry c ∷ []
+pushed : (c : After-self) → c.push.new.self.items ≡ c.self.inside.entries.items ++ entry c ∷ []
 pushed c =
     let room = has_room _ _ c.args.addr c.self.invariant.0 (within c) (unmarked c) in
     let fits : SFits w32 c.args.old = c.ranges.old in
@@ -29,4 +36,4 @@ invariant_of-self c =
     subst (λ (l : List Entry). IsMarked l (slice_set c.self.inside.marks.items c.args.addr true) × (length (slice_set c.self.inside.marks.items c.args.addr true) ≤ vec_capacity c.push.new.self) × (0 ≤ length l)) (sym (pushed c)) (noted _ _ (entry c) c.self.invariant.0 (within c) (unmarked c), omega (arith, length-set c.self.inside.marks.items c.args.addr true), omega arith)
 
 pub returns : goal.returns
-returns c = rw (← c.self.view_is) (rw (pushed c, length-set) refl)
+returns c = rw (pushed c, length-set, (seen c).0, (seen c).1, (seen c).2) refl

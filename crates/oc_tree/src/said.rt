@@ -41,3 +41,32 @@ pub enum Target {
     Nv { base: u32, len: u32 },
     Param { slot: u32, len: u32 },
 }
+
+/// What an instruction shows, but for inputs, marks and the end.
+#[derive(Clone, Copy, Debug, PartialEq, Eq)]
+pub enum Shown {
+    Emitted { port: u8, value: i32 },
+    Used { stmt: u32 },
+    Finished { stmt: u32 },
+    Tagged { stmt: u32 },
+}
+
+/// How a run ends by itself.
+#[derive(Clone, Copy, Debug, PartialEq, Eq)]
+pub enum Ending {
+    Halted,
+    Trapped { kind: TrapKind, stmt: u32 },
+}
+
+/// What a run says: what is visible of it, the marks of its regions, and its outages.
+#[derive(Clone, Copy, Debug, PartialEq, Eq)]
+pub enum Said {
+    Sensed { sensor: u8, value: i32 },
+    Showed { what: Shown },
+    Entered { region: u32 },
+    Committed { region: u32 },
+    Aborted { region: u32 },
+    Off { ticks: u64 },
+    Dark,
+    Ended { how: Ending },
+}

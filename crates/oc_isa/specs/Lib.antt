@@ -1,0 +1,6 @@
+pub mod Image
+pub mod Levels
+pub mod Next
+pub mod Table
+pub mod Run
+pub mod Power

@@ -1,0 +1,41 @@
+-- Words: 32-bit numbers in two's complement.
+use Rattle.std.specs.Prelude.{ℕ, ℤ, pos, negsuc, Bool, true, false, not, cond, int_lt, int_le, int_rem, Option, Some, None, ◌^◌, if◌then◌else◌, nat_lt}
+use Rattle.std.specs.Int.{w32, int_wrapping_add, int_wrapping_sub, int_wrapping_mul, int_wrapping_div, int_wrapping_neg}
+use Rattle.std.specs.Ordering.{int_eq}
+use Rattle.oc_tree.specs.declared.tree.UnaryOp.{UnaryOp}
+use Rattle.oc_tree.specs.declared.tree.UnaryOp.TheVariants.{Neg, Not}
+
+-- a number of 32 bits
+abbrev pub is_word : ℤ → Bool
+is_word (pos n) = nat_lt n (2 ^ 31)
+is_word (negsuc n) = nat_lt n (2 ^ 31)
+
+-- a truth value as a word
+abbrev pub truth : Bool → ℤ
+truth b = cond b (pos 1) (pos 0)
+
+-- sums, differences and products wrap
+abbrev pub sum_of : ℤ → ℤ → ℤ
+sum_of x y = int_wrapping_add w32 x y
+
+abbrev pub difference_of : ℤ → ℤ → ℤ
+difference_of x y = int_wrapping_sub w32 x y
+
+abbrev pub product_of : ℤ → ℤ → ℤ
+product_of x y = int_wrapping_mul w32 x y
+
+-- nothing where the divisor is zero
+abbrev pub unless_zero : ℤ → ℤ → Option ℤ
+unless_zero divisor z = if int_eq divisor (pos 0) then None else Some z
+
+-- truncated toward zero; the least word divided by -1 is itself
+abbrev pub quotient_of : ℤ → ℤ → Option ℤ
+quotient_of x y = unless_zero y (int_wrapping_div w32 x y)
+
+-- the remainder has the sign of the dividend
+abbrev pub remainder_of : ℤ → ℤ → Option ℤ
+remainder_of x y = unless_zero y (int_rem x y)
+
+abbrev pub unary_of : UnaryOp → ℤ → ℤ
+unary_of Neg x = int_wrapping_neg w32 x
+unary_of Not x = truth (int_eq x (pos 0))

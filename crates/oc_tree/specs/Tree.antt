@@ -1,6 +1,7 @@
 -- The tree as contracts see it: numbers, names as their bytes, and lists in place of vectors.
 -- `ValueKind`, `Param`, `NvDecl` and `Decl` hold no vector, and are seen as they are.
 use Rattle.std.specs.Prelude.{ℕ, ℤ, Bool, List, Option}
+use Rattle.oc_tree.specs.Names.{Text, NameLists}
 use Rattle.oc_tree.specs.declared.tree.UnaryOp.{UnaryOp}
 use Rattle.oc_tree.specs.declared.tree.BinaryOp.{BinaryOp}
 use Rattle.oc_tree.specs.declared.tree.Scalar.{Scalar}
@@ -8,10 +9,6 @@ use Rattle.oc_tree.specs.declared.tree.ValueKind.{ValueKind}
 use Rattle.oc_tree.specs.declared.tree.Param.{Param}
 use Rattle.oc_tree.specs.declared.tree.NvDecl.{NvDecl}
 use Rattle.oc_tree.specs.declared.tree.Decl.{Decl}
-
--- the bytes of a name
-abbrev pub Text : Type 0
-Text = List ℕ
 
 mutual
   pub data TExpr : Type 0 where
@@ -80,13 +77,8 @@ pub record TFunction : Type 0 where
   pub result : Option Scalar
   pub body : TBlock
 
-pub record TNames : Type 0 where
-  pub sensors : List Text
-  pub ports : List Text
-  pub nvs : List Text
-
 pub record TProgram : Type 0 where
-  pub names : TNames
+  pub names : NameLists
   pub nv : List NvDecl
   pub functions : List TFunction
   pub order : List Decl

@@ -1,5 +1,5 @@
 -- Words: 32-bit numbers in two's complement.
-use Rattle.std.specs.Prelude.{ℤ, pos, negsuc, Bool, cond, int_rem, Option, Some, None, ◌^◌, if◌then◌else◌, nat_lt}
+use Rattle.std.specs.Prelude.{ℕ, ℤ, pos, negsuc, Bool, true, false, not, cond, int_lt, int_le, int_rem, Option, Some, None, ◌^◌, if◌then◌else◌, nat_lt}
 use Rattle.std.specs.Int.{w32, int_wrapping_add, int_wrapping_sub, int_wrapping_mul, int_wrapping_div, int_wrapping_neg}
 use Rattle.std.specs.Ordering.{int_eq}
 use Rattle.oc_tree.specs.declared.tree.UnaryOp.{UnaryOp}

@@ -1,1 +1,5 @@
 pub mod Nv
+pub mod Fields
+pub mod Numbers
+pub mod Places
+pub mod Back

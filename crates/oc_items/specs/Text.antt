@@ -18,27 +18,41 @@ abbrev pub trap_word : TrapKind → List ℕ
 trap_word trap.Zero = codes "zero"
 trap_word trap.Index = codes "index"
 
--- the fields of an item's line
+-- the tick of an item
+abbrev pub tick_of : Item → ℕ
+tick_of (item.Sense tick sensor value) = tick
+tick_of (item.Emit tick port value) = tick
+tick_of (item.Use tick stmt) = tick
+tick_of (item.Done tick stmt) = tick
+tick_of (item.Tag tick stmt) = tick
+tick_of (item.Enter tick region) = tick
+tick_of (item.Commit tick region) = tick
+tick_of (item.Abort tick region) = tick
+tick_of (item.Off tick ticks) = tick
+tick_of (item.Trap tick kind stmt) = tick
+tick_of (item.End tick) = tick
+tick_of (item.Dark tick) = tick
+
+-- the fields of an item's line after its tick
 abbrev pub fields_of : NameLists → Item → List (List ℕ)
 fields_of names (item.Sense tick sensor value) =
-    decimal tick ∷ codes "sense" ∷ name_at names.sensors sensor ∷ signed_decimal value ∷ []
+    codes "sense" ∷ name_at names.sensors sensor ∷ signed_decimal value ∷ []
 fields_of names (item.Emit tick port value) =
-    decimal tick ∷ codes "emit" ∷ name_at names.ports port ∷ signed_decimal value ∷ []
-fields_of names (item.Use tick stmt) = decimal tick ∷ codes "use" ∷ decimal stmt ∷ []
-fields_of names (item.Done tick stmt) = decimal tick ∷ codes "done" ∷ decimal stmt ∷ []
-fields_of names (item.Tag tick stmt) = decimal tick ∷ codes "tag" ∷ decimal stmt ∷ []
-fields_of names (item.Enter tick region) = decimal tick ∷ codes "enter" ∷ decimal region ∷ []
-fields_of names (item.Commit tick region) = decimal tick ∷ codes "commit" ∷ decimal region ∷ []
-fields_of names (item.Abort tick region) = decimal tick ∷ codes "abort" ∷ decimal region ∷ []
-fields_of names (item.Off tick ticks) = decimal tick ∷ codes "off" ∷ decimal ticks ∷ []
-fields_of names (item.Trap tick kind stmt) =
-    decimal tick ∷ codes "trap" ∷ trap_word kind ∷ decimal stmt ∷ []
-fields_of names (item.End tick) = decimal tick ∷ codes "end" ∷ []
-fields_of names (item.Dark tick) = decimal tick ∷ codes "dark" ∷ []
+    codes "emit" ∷ name_at names.ports port ∷ signed_decimal value ∷ []
+fields_of names (item.Use tick stmt) = codes "use" ∷ decimal stmt ∷ []
+fields_of names (item.Done tick stmt) = codes "done" ∷ decimal stmt ∷ []
+fields_of names (item.Tag tick stmt) = codes "tag" ∷ decimal stmt ∷ []
+fields_of names (item.Enter tick region) = codes "enter" ∷ decimal region ∷ []
+fields_of names (item.Commit tick region) = codes "commit" ∷ decimal region ∷ []
+fields_of names (item.Abort tick region) = codes "abort" ∷ decimal region ∷ []
+fields_of names (item.Off tick ticks) = codes "off" ∷ decimal ticks ∷ []
+fields_of names (item.Trap tick kind stmt) = codes "trap" ∷ trap_word kind ∷ decimal stmt ∷ []
+fields_of names (item.End tick) = codes "end" ∷ []
+fields_of names (item.Dark tick) = codes "dark" ∷ []
 
 -- the line of an item, with its line feed
 abbrev pub item_line : NameLists → Item → List ℕ
-item_line names i = line_of (fields_of names i)
+item_line names i = line_of (decimal (tick_of i) ∷ fields_of names i)
 
 -- the lines of these items, one after the other
 abbrev pub report_text : NameLists → List Item → List ℕ

@@ -6,4 +6,5 @@
 #![tactic(auto)]
 
 pub mod item;
+pub mod laws;
 pub mod text;

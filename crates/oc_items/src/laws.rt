@@ -1,0 +1,9 @@
+//! What the text of a report tells.
+ghost use Rattle.oc_items.specs.OneText.{OneTextEach};
+
+/// Under names of which no two of one kind are the same, two lists of items with the same text are
+/// equal.
+pub fn one_text_each()
+    ensures { OneTextEach }
+{
+}

@@ -17,10 +17,10 @@ use Rattle.oc_items.proofs.Fields.{AllFields, line_cut, decimal_field, begins_wi
 use Rattle.oc_items.proofs.Numbers.{signed_from, decimal_back, signed_field, signed_back}
 use Rattle.oc_items.proofs.Places.{place_from, place_back}
 
-first_of_all : {X : Type 0} (P : X → Type 0) (x : X) (xs : List X) → All P (x ∷ xs) → P x
+pub first_of_all : {X : Type 0} (P : X → Type 0) (x : X) (xs : List X) → All P (x ∷ xs) → P x
 first_of_all P x xs h = h 0 x (omega arith)
 
-rest_of_all : {X : Type 0} (P : X → Type 0) (x : X) (xs : List X) → All P (x ∷ xs) → All P xs
+pub rest_of_all : {X : Type 0} (P : X → Type 0) (x : X) (xs : List X) → All P (x ∷ xs) → All P xs
 rest_of_all P x xs h = λ k d l. h (suc k) d (omega (arith, l))
 
 abbrev pub kind_from : List ℕ → TrapKind
@@ -106,8 +106,8 @@ same_items names s p (i ∷ a) (j ∷ b) r t h k q w e =
     let hi = first_of_all (IsItem names) i a h in
     let hj = first_of_all (IsItem names) j b k in
     let cut = line_cut (decimal (tick_of i)) (decimal (tick_of j)) (fields_of names i) (fields_of names j) (report_text names a ++ r) (report_text names b ++ t)
-        (line_fits names s p i hi) (line_fits names s p j hj)
-        (sym (append_assoc (item_line names i) (report_text names a) r) ∙ e ∙ append_assoc (item_line names j) (report_text names b) t) in
+    (line_fits names s p i hi) (line_fits names s p j hj)
+    (sym (append_assoc (item_line names i) (report_text names a) r) ∙ e ∙ append_assoc (item_line names j) (report_text names b) t) in
     let one : i ≡ j = sym (line_back names s p i hi) ∙ ap (told_line names) cut.0 ∙ line_back names s p j hj in
     let rest = same_items names s p a b r t (rest_of_all (IsItem names) i a h) (rest_of_all (IsItem names) j b k) q w cut.1 in
     (ap (λ (x : Item). x ∷ a) one ∙ ap (λ (xs : List Item). j ∷ xs) rest.0, rest.1)

@@ -81,9 +81,10 @@ decimal_field n h = digits_field (decimal n) (digits_decimal (numerals_by_value 
 -- two lines with the same bytes have the same fields, and the same stands after them
 pub line_cut : (f g : List ℕ) (fs gs : List (List ℕ)) (r s : List ℕ) → AllFields (f ∷ fs) → AllFields (g ∷ gs)
     → line_of (f ∷ fs) ++ r ≡ line_of (g ∷ gs) ++ s → ((f ∷ fs) ≡ (g ∷ gs)) × (r ≡ s)
-line_cut f g fs gs r s h k e =
-    (sym (line_fields f fs r h) ∙ ap (fields_from []) e ∙ line_fields g gs s k,
-     sym (line_after f fs r h) ∙ ap after_line e ∙ line_after g gs s k)
+line_cut f g fs gs r s h k e = (
+  sym (line_fields f fs r h) ∙ ap (fields_from []) e ∙ line_fields g gs s k,
+  sym (line_after f fs r h) ∙ ap after_line e ∙ line_after g gs s k,
+)
 
 first_digit : (ds rest : List ℕ) (d : ℕ) → 0 < length ds → AllDigits 10 ds → get_or (ds ++ rest) 0 d < 58
 first_digit [] rest d l h = absurd (omega (arith, l))

@@ -3,3 +3,4 @@ pub mod Fields
 pub mod Numbers
 pub mod Places
 pub mod Back
+pub mod NvBack

@@ -27,7 +27,7 @@ place here (n ∷ rest) zero h l = rw (is_itself n) (omega arith)
 place here (n ∷ rest) (suc k) h l =
     let other = get_or rest k [] in
     elim (cases_Bool (bytes_eq n other)) [
-      inl same ↦ absurd (h 0 (suc k) [] (omega arith) (omega (arith, l)) (same_text n other (sym same)))
+      | inl same ↦ absurd (h 0 (suc k) [] (omega arith) (omega (arith, l)) (same_text n other (sym same)))
       | inr apart ↦ rw apart (place (here + 1) rest k (rest_differ n rest h) (omega (arith, l)) ∙ omega arith)
     ]
 

@@ -6,7 +6,7 @@
 use Rattle.std.proofs.Common.{ℕ, ◌+◌, ◌<◌, ◌≤◌, ◌≡◌, List, [], ◌∷◌, ◌++◌, length, get_or, drop, subst, ap, ◌∙◌}
 use Rattle.std.proofs.lemmas.List.{drop_more, drop_all}
 use Rattle.oc_io.specs.Faults.{TookPart}
-use Rattle.oc_io.proofs.Going.{Going, Both, go_on, stop, finish}
+use Rattle.oc_io.proofs.Going.{Going, Both, go_on, stop}
 
 -- a text that begins with the part of its first element
 abbrev pub Steps : {X : Type 0} → (List X → List ℕ) → (X → List ℕ) → Type 0

@@ -1,18 +1,17 @@
 -- An item is told by its line.
-use Rattle.std.proofs.Common.{ℕ, ℤ, ◌+◌, ◌^◌, ◌<◌, ◌≤◌, ◌≡◌, ◌≢◌, Bool, true, false, cond, List, [], ◌∷◌, ◌++◌, length, get_or, decimal, codes, ap, sym, ◌∙◌, refl, arith, append_assoc, suc}
+use Rattle.std.proofs.Common.{ℕ, ◌<◌, ◌≡◌, cond, List, [], ◌∷◌, ◌++◌, get_or, decimal, codes, ap, sym, ◌∙◌, refl, arith, append_assoc, suc}
 use Rattle.std.proofs.lemmas.List.{append-nil}
-use Rattle.std.specs.Fmt.{signed_decimal}
-use Rattle.std.specs.List.{All, AllPairs, flat_map}
+use Rattle.std.specs.List.{All}
 use Rattle.std.specs.Str.{bytes_eq}
 use Rattle.std.specs.Str.Parse.{digits_value}
 use Rattle.oc_io.specs.Lines.{further}
-use Rattle.oc_tree.specs.Names.{NameLists, Text}
+use Rattle.oc_tree.specs.Names.{NameLists}
 use Rattle.oc_tree.specs.declared.said.TrapKind.{TrapKind}
 use Rattle.oc_tree.specs.declared.said.TrapKind.TheVariants as trap
 use Rattle.oc_items.specs.declared.item.Item.{Item}
 use Rattle.oc_items.specs.declared.item.Item.TheVariants as item
 use Rattle.oc_items.specs.Text.{tick_of, fields_of, item_line, report_text}
-use Rattle.oc_items.specs.OneText.{AreApart, Fits, IsItem, is_field, OneTextEach}
+use Rattle.oc_items.specs.OneText.{AreApart, IsItem, OneTextEach}
 use Rattle.oc_items.proofs.Fields.{AllFields, line_cut, decimal_field, begins_with_digit}
 use Rattle.oc_items.proofs.Numbers.{signed_from, decimal_back, signed_field, signed_back}
 use Rattle.oc_items.proofs.Places.{place_from, place_back}

@@ -1,5 +1,5 @@
 -- Numbers are told by their decimals.
-use Rattle.std.proofs.Common.{ℕ, ℤ, pos, negsuc, ◌+◌, ◌-◌, ◌^◌, ◌<◌, ◌≤◌, ◌≡◌, ◌==◌, Bool, true, false, cond, List, [], ◌∷◌, length, decimal, ap, ◌∙◌, refl, arith, suc, w32, FitsSigned}
+use Rattle.std.proofs.Common.{ℕ, ℤ, pos, negsuc, ◌-◌, ◌^◌, ◌<◌, ◌≡◌, ◌==◌, true, false, cond, List, [], ◌∷◌, length, decimal, ap, ◌∙◌, refl, arith, suc, w32, FitsSigned}
 use Rattle.std.specs.Fmt.{signed_decimal}
 use Rattle.std.specs.Str.Parse.{digits_value, AllDigits}
 use Rattle.std.proofs.lemmas.Fmt.{decimal_is_IsNumeral}

@@ -1,13 +1,12 @@
 -- The words of the nonvolatile variables are told by their lines.
-use Rattle.std.proofs.Common.{ℕ, ℤ, ◌+◌, ◌<◌, ◌≤◌, ◌≡◌, Bool, true, false, cond, List, [], ◌∷◌, ◌++◌, length, get_or, take, drop, map, sum, min, ap, sym, subst, ◌∙◌, refl, arith, suc, w32, FitsSigned, codes, length-take, length-drop, get_or-take, get_or-drop}
+use Rattle.std.proofs.Common.{ℕ, ℤ, ◌+◌, ◌<◌, ◌≡◌, Bool, true, false, cond, List, [], ◌∷◌, ◌++◌, length, take, drop, map, sum, min, ap, sym, ◌∙◌, refl, arith, w32, FitsSigned, codes, length-take, length-drop, get_or-take, get_or-drop}
 use Rattle.std.proofs.lemmas.List.{take-append-drop}
 use Rattle.std.proofs.lemmas.List.Sums.{sum_by-cons}
 use Rattle.std.specs.Fmt.{signed_decimal}
 use Rattle.std.specs.List.{All}
-use Rattle.oc_tree.specs.Names.{NameLists, Text}
-use Rattle.oc_items.specs.declared.item.Item.{Item}
-use Rattle.oc_items.specs.Text.{words_line, words_lines, nv_lines, report_text, full_text, is_over}
-use Rattle.oc_items.specs.OneText.{AreApart, IsItem, is_field, OneReportEach}
+use Rattle.oc_tree.specs.Names.{Text}
+use Rattle.oc_items.specs.Text.{words_lines, nv_lines, is_over}
+use Rattle.oc_items.specs.OneText.{is_field, OneReportEach}
 use Rattle.oc_items.proofs.Fields.{AllFields, line_cut}
 use Rattle.oc_items.proofs.Numbers.{signed_from, signed_field, signed_back}
 use Rattle.oc_items.proofs.Back.{same_items, Quiet, first_of_all, rest_of_all}

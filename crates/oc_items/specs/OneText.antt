@@ -1,11 +1,11 @@
 -- A text tells its report.
-use Rattle.std.specs.Prelude.{ℕ, ℤ, ◌+◌, ◌^◌, ◌<◌, ◌≡◌, ◌≢◌, ◌==◌, ◌||◌, ◌&&◌, not, Bool, true, List, [], ◌∷◌, length, sum, FitsSigned, ⊤}
+use Rattle.std.specs.Prelude.{ℕ, ℤ, ◌^◌, ◌<◌, ◌≡◌, ◌≢◌, ◌==◌, ◌||◌, ◌&&◌, not, Bool, true, List, [], ◌∷◌, length, sum, FitsSigned, ⊤}
 use Rattle.std.specs.Int.{w32}
 use Rattle.std.specs.List.{All, AllPairs}
 use Rattle.oc_tree.specs.Names.{NameLists, Text}
 use Rattle.oc_items.specs.declared.item.Item.{Item}
 use Rattle.oc_items.specs.declared.item.Item.TheVariants as item
-use Rattle.oc_items.specs.Text.{IsNamed, tick_of, report_text, full_text, is_over, nv_lines}
+use Rattle.oc_items.specs.Text.{IsNamed, tick_of, report_text, full_text, is_over}
 
 -- a space or a line feed, which stands after a field
 abbrev pub ends_field : ℕ → Bool

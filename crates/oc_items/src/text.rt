@@ -1,5 +1,6 @@
 //! The lines of a report.
-ghost use Rattle.std.specs.Prelude.{◌≡◌, ◌<◌, ◌≤◌, length, OnOk, OnErr};
+ghost use Rattle.std.specs.Prelude.{◌≡◌, ◌<◌, ◌≤◌, ◌++◌, length, codes, decimal, OnOk, OnErr};
+ghost use Rattle.std.specs.Fmt.{signed_decimal};
 ghost use Rattle.oc_io.specs.Faults.{Rose, TookPart};
 ghost use Rattle.oc_tree.specs.Names.{names_view};
 ghost use Rattle.oc_items.specs.Text.{IsNamed, item_line, nv_line, trap_word, word_field, words_line};
@@ -11,17 +12,64 @@ use oc_io::sink::{Sink, SinkFault};
 use oc_tree::name::Names;
 use oc_tree::said::TrapKind;
 
-/// The word for why a run was trapped.
-fn trap_word(kind: TrapKind) -> &'static [u8]
-    ensures { result.now ≡ trap_word kind }
+/// The words for why a run was trapped, with the spaces around them.
+fn trap_words(kind: TrapKind) -> &'static [u8]
+    ensures { result.now ≡ codes " trap " ++ (trap_word kind ++ codes " ") }
 {
     match kind {
-        TrapKind::Zero => b"zero",
-        TrapKind::Index => b"index",
+        TrapKind::Zero => b" trap zero ",
+        TrapKind::Index => b" trap index ",
     }
 }
 
-/// Writes the line of an item, whose sensor or port is one of the names.
+/// Writes a line of a tick, a word and a number.
+fn put_number<O: Sink>(tick: u64, word: &[u8], number: u64, sink: &mut O) -> Result<(), SinkFault>
+    ensures ok { OnOk result (O.took sink.old (decimal tick ++ (word.now ++ (decimal number ++ codes "\n"))) sink.new) }
+    ensures part { OnErr result (TookPart O.took sink.old (decimal tick ++ (word.now ++ (decimal number ++ codes "\n"))) sink.new) }
+    ensures cause { OnErr result (Rose (O.faults sink.old) (O.faults sink.new)) }
+    ensures count { O.faults sink.old ≤ O.faults sink.new }
+{
+    let mut first = Buffer::new();
+    let mut last = Buffer::new();
+    let tick = first.format(tick).as_bytes();
+    put_pieces(sink, &[tick, word, last.format(number).as_bytes(), b"\n"])
+}
+
+/// Writes a line of a tick, a word, a name and a value.
+fn put_value<O: Sink>(
+    tick: u64,
+    word: &[u8],
+    name: &[u8],
+    value: i32,
+    sink: &mut O,
+) -> Result<(), SinkFault>
+    ensures ok { OnOk result (O.took sink.old (decimal tick ++ (word.now ++ (name.now ++ (codes " " ++ (signed_decimal value ++ codes "\n"))))) sink.new) }
+    ensures part { OnErr result (TookPart O.took sink.old (decimal tick ++ (word.now ++ (name.now ++ (codes " " ++ (signed_decimal value ++ codes "\n"))))) sink.new) }
+    ensures cause { OnErr result (Rose (O.faults sink.old) (O.faults sink.new)) }
+    ensures count { O.faults sink.old ≤ O.faults sink.new }
+{
+    let mut first = Buffer::new();
+    let mut last = Buffer::new();
+    let tick = first.format(tick).as_bytes();
+    put_pieces(
+        sink,
+        &[tick, word, name, b" ", last.format(value).as_bytes(), b"\n"],
+    )
+}
+
+/// Writes a line of a tick and a word.
+fn put_end<O: Sink>(tick: u64, word: &[u8], sink: &mut O) -> Result<(), SinkFault>
+    ensures ok { OnOk result (O.took sink.old (decimal tick ++ word.now) sink.new) }
+    ensures part { OnErr result (TookPart O.took sink.old (decimal tick ++ word.now) sink.new) }
+    ensures cause { OnErr result (Rose (O.faults sink.old) (O.faults sink.new)) }
+    ensures count { O.faults sink.old ≤ O.faults sink.new }
+{
+    let mut first = Buffer::new();
+    put_pieces(sink, &[first.format(tick).as_bytes(), word])
+}
+
+/// Writes the line of an item, whose sensor or port is one of the names. At a fault of the sink a
+/// part of the line was taken.
 pub fn put_item<O: Sink>(item: &Item, names: &Names, sink: &mut O) -> Result<(), SinkFault>
     requires { IsNamed (names_view names.now) item.now }
     ensures ok { OnOk result (O.took sink.old (item_line (names_view names.now) item.now) sink.new) }
@@ -29,117 +77,39 @@ pub fn put_item<O: Sink>(item: &Item, names: &Names, sink: &mut O) -> Result<(),
     ensures cause { OnErr result (Rose (O.faults sink.old) (O.faults sink.new)) }
     ensures count { O.faults sink.old ≤ O.faults sink.new }
 {
-    let mut first = Buffer::new();
-    let mut last = Buffer::new();
     match *item {
         Item::Sense {
             tick,
             sensor,
             value,
         } => {
-            let name = names.sensors[sensor as usize].bytes();
-            put_pieces(
+            put_value(
+                tick,
+                b" sense ",
+                names.sensors[sensor as usize].bytes(),
+                value,
                 sink,
-                &[
-                    first.format(tick).as_bytes(),
-                    b" sense ",
-                    name,
-                    b" ",
-                    last.format(value).as_bytes(),
-                    b"\n",
-                ],
             )
         }
         Item::Emit { tick, port, value } => {
-            let name = names.ports[port as usize].bytes();
-            put_pieces(
+            put_value(
+                tick,
+                b" emit ",
+                names.ports[port as usize].bytes(),
+                value,
                 sink,
-                &[
-                    first.format(tick).as_bytes(),
-                    b" emit ",
-                    name,
-                    b" ",
-                    last.format(value).as_bytes(),
-                    b"\n",
-                ],
             )
         }
-        Item::Use { tick, stmt } => put_pieces(
-            sink,
-            &[
-                first.format(tick).as_bytes(),
-                b" use ",
-                last.format(stmt).as_bytes(),
-                b"\n",
-            ],
-        ),
-        Item::Done { tick, stmt } => put_pieces(
-            sink,
-            &[
-                first.format(tick).as_bytes(),
-                b" done ",
-                last.format(stmt).as_bytes(),
-                b"\n",
-            ],
-        ),
-        Item::Tag { tick, stmt } => put_pieces(
-            sink,
-            &[
-                first.format(tick).as_bytes(),
-                b" tag ",
-                last.format(stmt).as_bytes(),
-                b"\n",
-            ],
-        ),
-        Item::Enter { tick, region } => put_pieces(
-            sink,
-            &[
-                first.format(tick).as_bytes(),
-                b" enter ",
-                last.format(region).as_bytes(),
-                b"\n",
-            ],
-        ),
-        Item::Commit { tick, region } => put_pieces(
-            sink,
-            &[
-                first.format(tick).as_bytes(),
-                b" commit ",
-                last.format(region).as_bytes(),
-                b"\n",
-            ],
-        ),
-        Item::Abort { tick, region } => put_pieces(
-            sink,
-            &[
-                first.format(tick).as_bytes(),
-                b" abort ",
-                last.format(region).as_bytes(),
-                b"\n",
-            ],
-        ),
-        Item::Off { tick, ticks } => put_pieces(
-            sink,
-            &[
-                first.format(tick).as_bytes(),
-                b" off ",
-                last.format(ticks).as_bytes(),
-                b"\n",
-            ],
-        ),
-        Item::Trap { tick, kind, stmt } => put_pieces(
-            sink,
-            &[
-                first.format(tick).as_bytes(),
-                b" trap ",
-                trap_word(kind),
-                b" ",
-                last.format(stmt).as_bytes(),
-                b"\n",
-            ],
-        ),
-        Item::End { tick } => put_pieces(sink, &[first.format(tick).as_bytes(), b" end\n"]),
-        Item::Dark { tick } => put_pieces(sink, &[first.format(tick).as_bytes(), b" dark\n"]),
+        Item::Use { tick, stmt } => put_number(tick, b" use ", stmt as u64, sink),
+        Item::Done { tick, stmt } => put_number(tick, b" done ", stmt as u64, sink),
+        Item::Tag { tick, stmt } => put_number(tick, b" tag ", stmt as u64, sink),
+        Item::Enter { tick, region } => put_number(tick, b" enter ", region as u64, sink),
+        Item::Commit { tick, region } => put_number(tick, b" commit ", region as u64, sink),
+        Item::Abort { tick, region } => put_number(tick, b" abort ", region as u64, sink),
+        Item::Off { tick, ticks } => put_number(tick, b" off ", ticks, sink),
+        Item::Trap { tick, kind, stmt } => put_number(tick, trap_words(kind), stmt as u64, sink),
+        Item::End { tick } => put_end(tick, b" end\n", sink),
+        Item::Dark { tick } => put_end(tick, b" dark\n", sink),
     }
 }
 
@@ -172,7 +142,8 @@ fn put_words<O: Sink>(name: &[u8], words: &[i32], sink: &mut O) -> Result<(), Si
     sink.put(b"\n")
 }
 
-/// Writes the line of the nonvolatile variable with this number, with all its words.
+/// Writes the line of the nonvolatile variable with this number: `nv`, its name and all its words.
+/// At a fault of the sink a part of the line was taken.
 pub fn put_nv<O: Sink>(
     name: u8,
     words: &[i32],

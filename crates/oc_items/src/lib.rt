@@ -7,4 +7,6 @@
 
 pub mod item;
 pub mod laws;
+#[cfg(test)]
+mod tests;
 pub mod text;

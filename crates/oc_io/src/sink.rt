@@ -21,6 +21,15 @@ pub trait Sink {
         ensures cause { OnErr result (Rose (faults self.old) (faults self.new)) }
         ensures count { faults self.old ≤ faults self.new };
 
+    /// Writes what the sink may still hold back. Whoever has put a text calls this at its end.
+    fn flush(&mut self) -> Result<(), SinkFault>
+        ensures nothing { took self.old [] self.new }
+        ensures cause { OnErr result (Rose (faults self.old) (faults self.new)) }
+        ensures count { faults self.old ≤ faults self.new }
+    {
+        Ok(())
+    }
+
     ghost took_nothing: { (s : Self) → took s [] s };
 
     ghost took_both: { (a b c : Self) (x y : List ℕ) → took a x b → took b y c → took a (x ++ y) c };

@@ -1,5 +1,5 @@
 -- Reading from left to right.
-use Rattle.std.specs.Prelude.{◌≡◌, ℕ, Bool, true, false, ◌==◌, List, [], ◌∷◌, codes, Option, Some, None, Result, Ok, Err, if◌then◌else◌}
+use Rattle.std.specs.Prelude.{◌≡◌, ◌≢◌, ℕ, Bool, true, false, ◌==◌, List, [], ◌∷◌, codes, Option, Some, None, Result, Ok, Err, if◌then◌else◌}
 use Rattle.std.specs.Str.{bytes_eq}
 use Rattle.oc_tree.specs.Names.{Text}
 use Rattle.oc_small.specs.declared.lexeme.Symbol.{Symbol}
@@ -7,7 +7,7 @@ use Rattle.oc_small.specs.declared.lexeme.Symbol.TheVariants as symbols
 use Rattle.oc_small.specs.declared.read.Refused.{Refused}
 use Rattle.oc_small.specs.declared.read.Refused.TheVariants as refused
 use Rattle.oc_small.specs.Lexeme.{Lexeme, name, number, symbol, other}
-use Rattle.oc_small.specs.Small.{Operand, constant, variable, Sum, Statement, let_input, let_sum, emit, Declaration, sensor, port}
+use Rattle.oc_small.specs.Small.{Operand, constant, variable, Sum, Statement, let_input, let_sum, emit, Declaration, sensor, port, spell_declarations, spell_body}
 
 infixl 10 ◌>>=◌
 abbrev pub ◌>>=◌ : {A B : Type 0} → Option A → (A → Option B) → Option B
@@ -163,3 +163,10 @@ head_at ls = do
   ls ← strip_at symbols.OpenRound ls
   ls ← strip_at symbols.CloseRound ls
   strip_at symbols.OpenCurly ls
+
+-- no declarations, and no body, begin here and go on
+abbrev pub StartsNoDeclarations : List Lexeme → Type 0
+StartsNoDeclarations ls = (ds : List Declaration) (rest : List Lexeme) → Stops rest → ls ≢ spell_declarations ds rest
+
+abbrev pub StartsNoBody : List Lexeme → Type 0
+StartsNoBody ls = (ss : List Statement) (rest : List Lexeme) → ls ≢ spell_body ss rest

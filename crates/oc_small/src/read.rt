@@ -1,11 +1,12 @@
 //! Reading the lexemes of a small program from left to right.
-ghost use Rattle.std.specs.Prelude.{◌≡◌, ◌<◌, List, [], ◌∷◌, length, map, Err, Some, None, option_map, OnSome, IfNone, OnOk, OnErr, MatchBool, IfOk, IfErr, MatchResult};
+ghost use Rattle.std.specs.Prelude.{◌≡◌, ◌≢◌, ◌<◌, List, [], ◌∷◌, length, map, Err, Some, None, option_map, OnSome, IfSome, IfNone, OnOk, OnErr, MatchBool, IfOk, IfErr, MatchResult};
 ghost use Rattle.std.specs.Bool.{OnTrue};
 ghost use Rattle.oc_small.specs.declared.read.Refused.TheVariants.{Memory, NotSmall};
-ghost use Rattle.oc_small.specs.Lexeme.{Lexeme as SomeLexeme, symbol, name};
-ghost use Rattle.oc_small.specs.Small.{Small, Statement as SomeStatement, Declaration as SomeDeclaration, operand_lexeme, spell_more, spell_sum, spell_statement, spell_body, spell_declarations, spell_head, lexemes_of};
+ghost use Rattle.oc_small.specs.Lexeme as says;
+ghost use Rattle.oc_small.specs.declared.lexeme.Symbol.TheVariants as symbols;
+ghost use Rattle.oc_small.specs.Small.{Small, Statement as SomeStatement, Declaration as SomeDeclaration, operand_lexeme, spell_more, spell_sum, spell_statement, spell_declaration, spell_body, spell_declarations, spell_head, lexemes_of};
 ghost use Rattle.oc_small.specs.View.{lexemes_view, operand_view, sum_view, statement_view, declaration_view, program_view};
-ghost use Rattle.oc_small.specs.Reading.{Steps, StepsOver, Stops, strip_at, name_at, operand_at, more_at, sum_at, input_at, let_sum_at, let_at, emit_at, statement_at, declared_at, declaration_at, head_at};
+ghost use Rattle.oc_small.specs.Reading.{Steps, StepsOver, Stops, StartsNoDeclarations, StartsNoBody, strip_at, name_at, operand_at, more_at, sum_at, input_at, let_sum_at, let_at, emit_at, statement_at, declared_at, declaration_at, head_at};
 
 use crate::lexeme::{Lexeme, Symbol};
 use crate::program::{Declaration, Operand, Program, Statement, Sum};
@@ -39,6 +40,7 @@ impl<'a, 'b> Reader<'a, 'b> {
     #[tactic(auto, unfolding(crate::specs::Reading::strip_at))]
     fn takes(&mut self, symbol: Symbol) -> bool
         ensures exact { MatchBool result (strip_at symbol (lexemes_view self.old.rest.now) ≡ Some (lexemes_view self.new.rest.now)) ((strip_at symbol (lexemes_view self.old.rest.now) ≡ None) × (self.new.rest.now ≡ self.old.rest.now)) }
+        ensures spelled { OnTrue result (lexemes_view self.old.rest.now ≡ says.symbol symbol ∷ lexemes_view self.new.rest.now) }
         ensures shorter { OnTrue result (length self.new.rest.now < length self.old.rest.now) }
     {
         match self.rest {
@@ -53,6 +55,7 @@ impl<'a, 'b> Reader<'a, 'b> {
     /// Passes over this symbol.
     fn expect(&mut self, symbol: Symbol) -> Result<(), Refused>
         ensures exact { StepsOver result (lexemes_view self.new.rest.now) (strip_at symbol (lexemes_view self.old.rest.now)) }
+        ensures spelled { OnOk result (lexemes_view self.old.rest.now ≡ says.symbol symbol ∷ lexemes_view self.new.rest.now) }
         ensures shorter { OnOk result (length self.new.rest.now < length self.old.rest.now) }
     {
         if self.takes(symbol) {
@@ -64,6 +67,7 @@ impl<'a, 'b> Reader<'a, 'b> {
     #[tactic(auto, unfolding(crate::specs::Reading::name_at))]
     fn name(&mut self) -> Result<&'a [u8], Refused>
         ensures exact { Steps (λ x. x.now) result (lexemes_view self.new.rest.now) (name_at (lexemes_view self.old.rest.now)) }
+        ensures spelled { IfOk result (λ x. lexemes_view self.old.rest.now ≡ says.name x.now ∷ lexemes_view self.new.rest.now) }
         ensures shorter { OnOk result (length self.new.rest.now < length self.old.rest.now) }
     {
         match self.rest {
@@ -78,6 +82,7 @@ impl<'a, 'b> Reader<'a, 'b> {
     #[tactic(auto, unfolding(crate::specs::Reading::operand_at))]
     fn operand(&mut self) -> Result<Operand<'a>, Refused>
         ensures exact { Steps operand_view result (lexemes_view self.new.rest.now) (operand_at (lexemes_view self.old.rest.now)) }
+        ensures spelled { IfOk result (λ o. lexemes_view self.old.rest.now ≡ operand_lexeme (operand_view o) ∷ lexemes_view self.new.rest.now) }
         ensures shorter { OnOk result (length self.new.rest.now < length self.old.rest.now) }
     {
         let [lexeme, rest @ ..] = self.rest else {
@@ -96,6 +101,7 @@ impl<'a, 'b> Reader<'a, 'b> {
     #[tactic(auto, unfolding(crate::specs::Reading::sum_at))]
     fn sum(&mut self) -> Result<Sum<'a>, Refused>
         ensures exact { Steps sum_view result (lexemes_view self.new.rest.now) (sum_at (lexemes_view self.old.rest.now)) }
+        ensures spelled { IfOk result (λ v. lexemes_view self.old.rest.now ≡ spell_sum (sum_view v) (lexemes_view self.new.rest.now)) }
         ensures shorter { OnOk result (length self.new.rest.now < length self.old.rest.now) }
     {
         let first = self.operand()?;
@@ -110,6 +116,7 @@ impl<'a, 'b> Reader<'a, 'b> {
     #[tactic(auto, unfolding(crate::specs::Reading::input_at))]
     fn input(&mut self, name: &'a [u8]) -> Result<Statement<'a>, Refused>
         ensures exact { Steps statement_view result (lexemes_view self.new.rest.now) (input_at name.now (lexemes_view self.old.rest.now)) }
+        ensures spelled { IfOk result (λ s. says.symbol symbols.Let ∷ says.name name.now ∷ says.symbol symbols.Assign ∷ says.symbol symbols.Sense ∷ lexemes_view self.old.rest.now ≡ spell_statement (statement_view s) (lexemes_view self.new.rest.now)) }
         ensures shorter { OnOk result (length self.new.rest.now < length self.old.rest.now) }
     {
         self.expect(Symbol::OpenRound)?;
@@ -123,6 +130,7 @@ impl<'a, 'b> Reader<'a, 'b> {
     #[tactic(auto, unfolding(crate::specs::Reading::let_sum_at))]
     fn let_sum(&mut self, name: &'a [u8]) -> Result<Statement<'a>, Refused>
         ensures exact { Steps statement_view result (lexemes_view self.new.rest.now) (let_sum_at name.now (lexemes_view self.old.rest.now)) }
+        ensures spelled { IfOk result (λ s. says.symbol symbols.Let ∷ says.name name.now ∷ says.symbol symbols.Assign ∷ lexemes_view self.old.rest.now ≡ spell_statement (statement_view s) (lexemes_view self.new.rest.now)) }
         ensures shorter { OnOk result (length self.new.rest.now < length self.old.rest.now) }
     {
         let sum = self.sum()?;
@@ -134,6 +142,7 @@ impl<'a, 'b> Reader<'a, 'b> {
     #[tactic(auto, unfolding(crate::specs::Reading::let_at))]
     fn let_statement(&mut self) -> Result<Statement<'a>, Refused>
         ensures exact { Steps statement_view result (lexemes_view self.new.rest.now) (let_at (lexemes_view self.old.rest.now)) }
+        ensures spelled { IfOk result (λ s. says.symbol symbols.Let ∷ lexemes_view self.old.rest.now ≡ spell_statement (statement_view s) (lexemes_view self.new.rest.now)) }
         ensures shorter { OnOk result (length self.new.rest.now < length self.old.rest.now) }
     {
         let name = self.name()?;
@@ -148,6 +157,7 @@ impl<'a, 'b> Reader<'a, 'b> {
     #[tactic(auto, unfolding(crate::specs::Reading::emit_at))]
     fn emission(&mut self) -> Result<Statement<'a>, Refused>
         ensures exact { Steps statement_view result (lexemes_view self.new.rest.now) (emit_at (lexemes_view self.old.rest.now)) }
+        ensures spelled { IfOk result (λ s. says.symbol symbols.Emit ∷ lexemes_view self.old.rest.now ≡ spell_statement (statement_view s) (lexemes_view self.new.rest.now)) }
         ensures shorter { OnOk result (length self.new.rest.now < length self.old.rest.now) }
     {
         self.expect(Symbol::OpenRound)?;
@@ -162,6 +172,7 @@ impl<'a, 'b> Reader<'a, 'b> {
     #[tactic(auto, unfolding(crate::specs::Reading::statement_at))]
     fn statement(&mut self) -> Result<Statement<'a>, Refused>
         ensures exact { Steps statement_view result (lexemes_view self.new.rest.now) (statement_at (lexemes_view self.old.rest.now)) }
+        ensures spelled { IfOk result (λ s. lexemes_view self.old.rest.now ≡ spell_statement (statement_view s) (lexemes_view self.new.rest.now)) }
         ensures shorter { OnOk result (length self.new.rest.now < length self.old.rest.now) }
     {
         if self.takes(Symbol::Let) {
@@ -175,6 +186,7 @@ impl<'a, 'b> Reader<'a, 'b> {
     #[tactic(auto, unfolding(crate::specs::Reading::declared_at))]
     fn declared(&mut self) -> Result<&'a [u8], Refused>
         ensures exact { Steps (λ x. x.now) result (lexemes_view self.new.rest.now) (declared_at (lexemes_view self.old.rest.now)) }
+        ensures spelled { IfOk result (λ x. lexemes_view self.old.rest.now ≡ says.name x.now ∷ says.symbol symbols.Semicolon ∷ lexemes_view self.new.rest.now) }
         ensures shorter { OnOk result (length self.new.rest.now < length self.old.rest.now) }
     {
         let name = self.name()?;
@@ -186,6 +198,7 @@ impl<'a, 'b> Reader<'a, 'b> {
     #[tactic(auto, unfolding(crate::specs::Reading::declaration_at))]
     fn declaration(&mut self) -> Result<Option<Declaration<'a>>, Refused>
         ensures exact { Steps (λ o. option_map declaration_view o) result (lexemes_view self.new.rest.now) (declaration_at (lexemes_view self.old.rest.now)) }
+        ensures spelled { IfOk result (λ o. IfSome o (λ d. lexemes_view self.old.rest.now ≡ spell_declaration (declaration_view d) (lexemes_view self.new.rest.now))) }
         ensures shorter { IfOk result (λ o. OnSome o (length self.new.rest.now < length self.old.rest.now)) }
         ensures kept { IfOk result (λ o. IfNone o (self.new.rest.now ≡ self.old.rest.now)) }
     {
@@ -203,7 +216,8 @@ impl<'a, 'b> Reader<'a, 'b> {
     /// The head of `main`, with its open brace.
     #[tactic(auto, unfolding(crate::specs::Reading::head_at))]
     fn head(&mut self) -> Result<(), Refused>
-        ensures { StepsOver result (lexemes_view self.new.rest.now) (head_at (lexemes_view self.old.rest.now)) }
+        ensures exact { StepsOver result (lexemes_view self.new.rest.now) (head_at (lexemes_view self.old.rest.now)) }
+        ensures spelled { OnOk result (lexemes_view self.old.rest.now ≡ spell_head (lexemes_view self.new.rest.now)) }
     {
         self.expect(Symbol::Function)?;
         let name = self.name()?;
@@ -214,4 +228,60 @@ impl<'a, 'b> Reader<'a, 'b> {
         self.expect(Symbol::CloseRound)?;
         self.expect(Symbol::OpenCurly)
     }
+
+    /// As many declarations as follow each other.
+    fn declarations(&mut self) -> Result<Vec<Declaration<'a>>, Refused>
+        ensures spelled { IfOk result (λ ds. lexemes_view self.old.rest.now ≡ spell_declarations (map declaration_view ds.items) (lexemes_view self.new.rest.now)) }
+        ensures stops { OnOk result (Stops (lexemes_view self.new.rest.now)) }
+        ensures only { IfErr result (λ e. e ≡ NotSmall → StartsNoDeclarations (lexemes_view self.old.rest.now)) }
+    {
+        let mut declarations = Vec::new(self.alloc);
+        while let Some(declaration) = self.declaration()? {
+            declarations.push(declaration)?;
+        }
+        Ok(declarations)
+    }
+
+    /// The statements of `main`, up to its closing brace.
+    fn body(&mut self) -> Result<Vec<Statement<'a>>, Refused>
+        ensures spelled { IfOk result (λ ss. lexemes_view self.old.rest.now ≡ spell_body (map statement_view ss.items) (lexemes_view self.new.rest.now)) }
+        ensures only { IfErr result (λ e. e ≡ NotSmall → StartsNoBody (lexemes_view self.old.rest.now)) }
+    {
+        let mut statements = Vec::new(self.alloc);
+        while !self.takes(Symbol::CloseCurly) {
+            statements.push(self.statement()?)?;
+        }
+        Ok(statements)
+    }
+
+    /// All that is left, as a program.
+    fn program(&mut self) -> Result<Program<'a>, Refused>
+        ensures spelled { IfOk result (λ p. lexemes_view self.old.rest.now ≡ lexemes_of (program_view p)) }
+        ensures only { IfErr result (λ e. e ≡ NotSmall → (p : Small) → lexemes_view self.old.rest.now ≢ lexemes_of p) }
+    {
+        let before = self.declarations()?;
+        self.head()?;
+        let body = self.body()?;
+        let after = self.declarations()?;
+        if !self.rest.is_empty() {
+            return Err(Refused::NotSmall);
+        }
+        Ok(Program {
+            before,
+            body,
+            after,
+        })
+    }
+}
+
+/// The small program that these lexemes are.
+pub fn read<'a>(alloc: Global, lexemes: &[Lexeme<'a>]) -> Result<Program<'a>, Refused>
+    ensures spelled { IfOk result (λ p. lexemes_view lexemes.now ≡ lexemes_of (program_view p)) }
+    ensures only { IfErr result (λ e. e ≡ NotSmall → (p : Small) → lexemes_view lexemes.now ≢ lexemes_of p) }
+{
+    let mut reader = Reader {
+        alloc,
+        rest: lexemes,
+    };
+    reader.program()
 }

@@ -103,3 +103,9 @@ pub sum_ends : (os : List Operand) (ls old initial : List Lexeme) (first : Opera
 unfolding sum_by
 sum_ends os ls old initial first h p i =
     sum_from old initial first h ∙ ap (λ r. sum_by first r) (ends os ls (more_at false initial) p i ∙ ap (λ l. Some (l, ls)) (append-nil os))
+
+-- ---- refusals
+
+pub fails_none : {Y : Type 0} (e : Refused) (read : Option Y) → e ≡ NotSmall → Fails e read → read ≡ None
+fails_none NotSmall read h f = f
+fails_none Memory read h f = cc

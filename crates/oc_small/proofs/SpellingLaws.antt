@@ -155,3 +155,21 @@ same_small p q h =
     let after = same_declarations p.after q.after [] [] nothing_stops nothing_stops body.1 in
     let small : List Declaration → List Statement → List Declaration → Small = λ b s a. record { before = b; body = s; after = a } in
     ap (λ b. small b p.body p.after) before.0 ∙ ap (λ s. small q.before s p.after) body.0 ∙ ap (λ a. small q.before q.body a) after.0
+
+-- what is left behind the parts of a small program
+
+pub behind_declarations : (ds : List Declaration) (old rest : List Lexeme) (p : Small) → old ≡ spell_declarations ds rest → Stops rest → old ≡ lexemes_of p → rest ≡ spell_head (spell_body p.body (spell_declarations p.after []))
+behind_declarations ds old rest p h s e =
+    (same_declarations ds p.before rest (spell_head (spell_body p.body (spell_declarations p.after []))) s (head_stops (spell_body p.body (spell_declarations p.after []))) (sym h ∙ e)).1
+
+pub wrong_head : (ls rest : List Lexeme) → head_at ls ≡ None → ls ≡ spell_head rest → ⊥
+wrong_head ls rest n h = some_none (head_at ls) (ap head_at h ∙ head_read rest) n
+
+pub behind_head : (ls rest next : List Lexeme) → ls ≡ spell_head rest → ls ≡ spell_head next → rest ≡ next
+behind_head ls rest next h e = let p : Some rest ≡ Some next = sym (head_read rest) ∙ ap head_at (sym h ∙ e) ∙ head_read next in cc
+
+pub behind_body : (ss ts : List Statement) (ls rest next : List Lexeme) → ls ≡ spell_body ss rest → ls ≡ spell_body ts next → rest ≡ next
+behind_body ss ts ls rest next h e = (same_body ss ts rest next (sym h ∙ e)).1
+
+pub behind_all : (ds es : List Declaration) (ls rest : List Lexeme) → ls ≡ spell_declarations ds rest → Stops rest → ls ≡ spell_declarations es [] → rest ≡ []
+behind_all ds es ls rest h s e = (same_declarations ds es rest [] s nothing_stops (sym h ∙ e)).1

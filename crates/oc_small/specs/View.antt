@@ -1,5 +1,7 @@
 -- What is read, as a small program.
-use Rattle.std.specs.Prelude.{List, map}
+use Rattle.std.specs.Prelude.{List, [], ◌∷◌, map, Option, Some, None}
+use Rattle.std.specs.Borrow.{Bor}
+use Rattle.oc_tree.specs.Names.{Text}
 use Rattle.oc_small.specs.Lexeme.{Lexeme, name, number, symbol, other}
 use Rattle.oc_small.specs.Small as small
 use Rattle.oc_small.specs.declared.lexeme.Lexeme.{Lexeme as ReadLexeme}
@@ -44,3 +46,11 @@ program_view p = record {
 
 abbrev pub lexemes_view : List ReadLexeme → List Lexeme
 lexemes_view ls = map lexeme_view ls
+
+-- names as their bytes
+abbrev pub names_view : List (Bor Text) → List Text
+names_view names = map (λ x. x.now) names
+
+abbrev pub name_view : Option (Bor Text) → List Text
+name_view None = []
+name_view (Some x) = x.now ∷ []

@@ -19,3 +19,4 @@
 mod lexeme;
 mod program;
 mod read;
+mod scope;

@@ -16,6 +16,7 @@
 //! [`compile`] answers its image, or that the tokens are no small program.
 #![tactic(auto)]
 
+mod code;
 mod lexeme;
 mod program;
 mod read;

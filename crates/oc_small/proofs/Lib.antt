@@ -1,2 +1,4 @@
 pub mod ReadingLaws
 pub mod SpellingLaws
+pub mod MadeLaws
+pub mod RunLaws

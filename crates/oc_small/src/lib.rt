@@ -18,6 +18,7 @@
 
 mod code;
 mod lexeme;
+mod making;
 mod program;
 mod read;
 mod scope;

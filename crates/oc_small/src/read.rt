@@ -11,13 +11,21 @@ ghost use Rattle.oc_small.specs.Reading.{Steps, StepsOver, Stops, StartsNoDeclar
 use crate::lexeme::{Lexeme, Symbol};
 use crate::program::{Declaration, Operand, Program, Statement, Sum};
 use oc_io::Memory;
-use std::alloc::{AllocFailed, Global};
+use std::alloc::{AllocError, AllocFailed, Global};
 
 /// Why there is no image: the tokens are no small program, or there was no memory.
 #[derive(Clone, Copy, Debug, PartialEq, Eq)]
 pub enum Refused {
     NotSmall,
     Memory,
+}
+
+impl From<AllocError> for Refused {
+    ghost from_gives = { λ _ e. e ≡ Memory };
+
+    fn from(_error: AllocError) -> Refused {
+        Refused::Memory
+    }
 }
 
 impl<T: Drop> From<AllocFailed<T>> for Refused {

@@ -2,3 +2,4 @@ pub mod ReadingLaws
 pub mod SpellingLaws
 pub mod MadeLaws
 pub mod RunLaws
+pub mod WholeLaws

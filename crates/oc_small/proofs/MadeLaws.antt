@@ -1,5 +1,5 @@
 -- The code of a small program is an image.
-use Rattle.std.proofs.Common.{◌≡◌, ℕ, zero, suc, ◌+◌, ◌*◌, ◌<◌, ◌≤◌, max, List, [], ◌∷◌, ◌++◌, length, refl, ap, sym, ◌∙◌, Bool, true, false, arith, append_assoc, length-append}
+use Rattle.std.proofs.Common.{◌≡◌, ℕ, zero, suc, ◌+◌, ◌*◌, ◌<◌, ◌≤◌, max, subst, List, [], ◌∷◌, ◌++◌, length, refl, ap, sym, ◌∙◌, Bool, true, false, arith, append_assoc, length-append}
 use Rattle.std.specs.Prelude.{◌&&◌, ◌||◌, nat_le, if◌then◌else◌}
 use Rattle.std.specs.List.{All}
 use Rattle.std.specs.Str.{bytes_eq}
@@ -127,3 +127,6 @@ well_made p h =
       each_nv = refl;
       few_words = omega arith;
     }
+
+pub well_made_as : (i : Parts) (p : Small) → keeps_rules p ≡ true → i ≡ small_code p → IsWellMade i
+well_made_as i p h e = subst IsWellMade (sym e) (well_made p h)

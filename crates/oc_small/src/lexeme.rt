@@ -1,5 +1,5 @@
 //! Tokens, as small programs see them.
-ghost use Rattle.std.specs.Prelude.{◌≡◌, ◌≤◌, map, length, All, IfOk};
+ghost use Rattle.std.specs.Prelude.{◌≡◌, ◌≤◌, map, length, All, IfOk, IfErr};
 ghost use Rattle.oc_lex.specs.Stands.{StandsIn};
 ghost use Rattle.oc_small.specs.Lexeme.{lexeme_of, symbol_of_word, symbol_of_mark, symbol_or_other};
 ghost use Rattle.oc_small.specs.View.{lexeme_view};
@@ -94,7 +94,8 @@ pub fn lexemes<'a>(
     tokens: &[Token],
 ) -> Result<Vec<Lexeme<'a>>, Refused>
     requires { All (StandsIn source.now) tokens.now }
-    ensures { IfOk result (λ ls. map lexeme_view ls.items ≡ map (lexeme_of source.now) tokens.now) }
+    ensures exact { IfOk result (λ ls. map lexeme_view ls.items ≡ map (lexeme_of source.now) tokens.now) }
+    ensures only { IfErr result (λ e. e ≡ Refused.Memory) }
 {
     let mut lexemes = Vec::new(alloc);
     for token in tokens {

@@ -4,7 +4,10 @@ use Rattle.oc_lex.specs.declared.token.Token.{Token}
 use Rattle.oc_isa.specs.Image.{Parts}
 use Rattle.oc_isa.specs.Table.{device_of}
 use Rattle.oc_isa.specs.Run.{IsSound}
-use Rattle.oc_small.specs.Lexeme.{Lexeme, lexeme_of}
+use Rattle.std.specs.Prelude.{OnOk, IfOk, IfErr}
+use Rattle.oc_small.specs.declared.read.Refused.{Refused}
+use Rattle.oc_small.specs.declared.read.Refused.TheVariants.{NotSmall}
+use Rattle.oc_small.specs.Lexeme.{lexeme_of}
 use Rattle.oc_small.specs.Small.{Small, lexemes_of}
 use Rattle.oc_small.specs.Rules.{keeps_rules, IsSmall}
 use Rattle.oc_small.specs.Code.{small_code}
@@ -19,12 +22,14 @@ one source tokens p q s t = same_small p q (sym s.spelled ∙ t.spelled)
 pub breaks : (source : List ℕ) (tokens : List Token) (p : Small) → map (lexeme_of source) tokens ≡ lexemes_of p → keeps_rules p ≡ false → IsNoSmall source tokens
 breaks source tokens p s b q t = let e = sym t.kept ∙ ap keeps_rules (same_small q p (sym t.spelled ∙ s)) ∙ b in cc
 
--- lexemes that no program spells leave none
-pub spells_none : (source : List ℕ) (tokens : List Token) (ls : List Lexeme) → ls ≡ map (lexeme_of source) tokens → ((p : Small) → ls ≡ lexemes_of p → ⊥) → IsNoSmall source tokens
-spells_none source tokens ls e n p s = n p (e ∙ s.spelled)
+-- the image of a program that is spelled so
+pub found_code : (source : List ℕ) (tokens : List Token) (p : Small) (r : Result Parts Refused) → map (lexeme_of source) tokens ≡ lexemes_of p → OnOk r (keeps_rules p ≡ true) → IfOk r (λ i. i ≡ small_code p) → IfOk r (λ i. IsCodeOf source tokens i)
+found_code source tokens p (Ok i) s k c = (p, record { spelled = s; kept = k }, c)
+found_code source tokens p (Err e) s k c = tt
 
-pub is_code : (source : List ℕ) (tokens : List Token) (ls : List Lexeme) (p : Small) (image : Parts) → ls ≡ map (lexeme_of source) tokens → ls ≡ lexemes_of p → keeps_rules p ≡ true → image ≡ small_code p → IsCodeOf source tokens image
-is_code source tokens ls p image e s k c = (p, record { spelled = sym e ∙ s; kept = k }, c)
+pub found_none : (source : List ℕ) (tokens : List Token) (p : Small) (r : Result Parts Refused) → map (lexeme_of source) tokens ≡ lexemes_of p → IfErr r (λ e. e ≡ NotSmall → keeps_rules p ≡ false) → IfErr r (λ e. e ≡ NotSmall → IsNoSmall source tokens)
+found_none source tokens p (Ok i) s k = tt
+found_none source tokens p (Err e) s k = λ n. breaks source tokens p s (k n)
 
 -- ---- what an image that was found is
 

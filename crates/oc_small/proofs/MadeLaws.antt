@@ -1,9 +1,9 @@
 -- The code of a small program is an image.
-use Rattle.std.proofs.Common.{◌≡◌, ℕ, zero, suc, ◌+◌, ◌*◌, ◌<◌, ◌≤◌, max, subst, List, [], ◌∷◌, ◌++◌, length, refl, ap, sym, ◌∙◌, Bool, true, false, arith, append_assoc, length-append}
+use Rattle.std.proofs.Common.{◌≡◌, ℕ, suc, ◌+◌, ◌*◌, ◌<◌, ◌≤◌, subst, List, [], ◌∷◌, ◌++◌, length, refl, sym, Bool, true, false, arith, length-append}
 use Rattle.std.specs.Prelude.{◌&&◌, ◌||◌, nat_le, if◌then◌else◌}
 use Rattle.std.specs.List.{All}
 use Rattle.std.specs.Str.{bytes_eq}
-use Rattle.std.proofs.lemmas.Bool.{and_parts, and_from, leb-true}
+use Rattle.std.proofs.lemmas.Bool.{and_parts, leb-true}
 use Rattle.std.proofs.lemmas.List.Elements.{All-append, All-cons, All-nil}
 use Rattle.oc_tree.specs.Names.{Text}
 use Rattle.oc_isa.specs.declared.instr.BinOp.TheVariants.{Add}
@@ -11,7 +11,7 @@ use Rattle.oc_isa.specs.declared.instr.Instr.TheVariants.{Bin, Store, Sense, Emi
 use Rattle.oc_isa.specs.declared.instr.Placed.{Placed}
 use Rattle.oc_isa.specs.Image.{Parts, Exists, IsWellMade}
 use Rattle.oc_small.specs.Small.{Operand, constant, variable, Sum, Statement, let_input, let_sum, emit, Small}
-use Rattle.oc_small.specs.Rules.{sensors_of, ports_of, variables_of, variable_in, variables_in, declared_names, sum_fits, statement_fits, statements_fit, fits, is_among, are_distinct, operand_named, operands_named, sum_named, statement_named, statements_named, keeps_rules}
+use Rattle.oc_small.specs.Rules.{sensors_of, ports_of, variables_of, variable_in, declared_names, sum_fits, statement_fits, statements_fit, fits, is_among, are_distinct, sum_named, statement_named, statements_named, keeps_rules}
 use Rattle.oc_small.specs.Code.{place_of, placed, operand_code, more_code, sum_code, statement_code, statements_code, sum_depth, statement_depth, statements_depth, small_code}
 
 -- ---- what the rules say

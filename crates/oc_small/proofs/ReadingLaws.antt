@@ -1,11 +1,10 @@
 -- What the reading of sums comes to.
-use Rattle.std.proofs.Common.{◌≡◌, ℕ, List, [], ◌∷◌, ◌++◌, Option, Some, None, refl, ap, sym, ◌∙◌, Bool, true, false, append_assoc, append-nil}
+use Rattle.std.proofs.Common.{◌≡◌, List, [], ◌∷◌, ◌++◌, Option, Some, None, refl, ap, sym, ◌∙◌, Bool, true, false, append_assoc, append-nil}
 use Rattle.std.specs.Prelude.{if◌then◌else◌}
-use Rattle.oc_small.specs.declared.lexeme.Symbol.{Symbol}
 use Rattle.oc_small.specs.declared.lexeme.Symbol.TheVariants as symbols
 use Rattle.oc_small.specs.declared.read.Refused.{Refused}
 use Rattle.oc_small.specs.declared.read.Refused.TheVariants.{Memory, NotSmall}
-use Rattle.oc_small.specs.Lexeme.{Lexeme, name, number, symbol, other}
+use Rattle.oc_small.specs.Lexeme.{Lexeme, symbol}
 use Rattle.oc_small.specs.Small.{Operand, Sum, operand_lexeme, spell_more}
 use Rattle.oc_small.specs.Reading.{◌>>=◌, is_symbol, strip_at, operand_of, operand_at, in_front, more_at, sum_at, Fails}
 

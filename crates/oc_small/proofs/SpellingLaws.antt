@@ -1,9 +1,9 @@
 -- What is spelled is read, so no two small programs are spelled alike.
-use Rattle.std.proofs.Common.{◌≡◌, ℕ, List, [], ◌∷◌, ◌++◌, Option, Some, None, refl, ap, sym, ◌∙◌, true, false}
+use Rattle.std.proofs.Common.{◌≡◌, ℕ, List, [], ◌∷◌, ◌++◌, Option, Some, None, refl, ap, sym, ◌∙◌, false}
 use Rattle.oc_small.specs.declared.lexeme.Symbol.TheVariants as symbols
-use Rattle.oc_small.specs.Lexeme.{Lexeme, name, number, symbol, other}
+use Rattle.oc_small.specs.Lexeme.{Lexeme, symbol}
 use Rattle.oc_small.specs.Small.{Operand, constant, variable, Sum, Statement, let_input, let_sum, emit, Declaration, sensor, port, Small, operand_lexeme, spell_more, spell_sum, spell_statement, spell_statements, spell_body, spell_head, spell_declaration, spell_declarations, lexemes_of}
-use Rattle.oc_small.specs.Reading.{◌>>=◌, with_some, strip_at, name_at, operand_of, operand_at, in_front, more_at, sum_at, input_at, let_sum_at, let_at, emit_at, statement_at, declared_at, declaration_at, Stops, head_at}
+use Rattle.oc_small.specs.Reading.{with_some, strip_at, name_at, operand_at, in_front, more_at, sum_at, input_at, let_sum_at, let_at, emit_at, statement_at, declared_at, declaration_at, Stops, head_at}
 use Rattle.oc_small.proofs.ReadingLaws.{no_plus, some_pair}
 
 -- ---- sums

@@ -1,5 +1,5 @@
 -- What `compile` says of small programs.
-use Rattle.std.proofs.Common.{◌≡◌, ℕ, List, map, refl, ap, sym, subst, ◌∙◌, true, false, Option, Some, None, Result, Ok, Err}
+use Rattle.std.proofs.Common.{◌≡◌, ℕ, List, map, ap, sym, subst, ◌∙◌, true, false, Result, Ok, Err}
 use Rattle.oc_lex.specs.declared.token.Token.{Token}
 use Rattle.oc_isa.specs.Image.{Parts}
 use Rattle.oc_isa.specs.Table.{device_of}

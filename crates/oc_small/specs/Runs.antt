@@ -1,5 +1,5 @@
 -- The run of a small program.
-use Rattle.std.specs.Prelude.{ℕ, ℤ, pos, List, [], ◌∷◌, ◌++◌, if◌then◌else◌}
+use Rattle.std.specs.Prelude.{ℤ, pos, List, [], ◌∷◌, ◌++◌, if◌then◌else◌}
 use Rattle.std.specs.Str.{bytes_eq}
 use Rattle.oc_tree.specs.Names.{Text}
 use Rattle.oc_tree.specs.Word.{sum_of}

@@ -1,9 +1,8 @@
 -- Small programs, and how they are spelled.
-use Rattle.std.specs.Prelude.{◌≡◌, ℕ, ℤ, List, [], ◌∷◌, ◌++◌, map, codes}
+use Rattle.std.specs.Prelude.{ℤ, List, [], ◌∷◌, codes}
 use Rattle.oc_tree.specs.Names.{Text}
-use Rattle.oc_lex.specs.declared.token.Token.{Token}
 use Rattle.oc_small.specs.declared.lexeme.Symbol.TheVariants as symbols
-use Rattle.oc_small.specs.Lexeme.{Lexeme, name, number, symbol, lexeme_of}
+use Rattle.oc_small.specs.Lexeme.{Lexeme, name, number, symbol}
 
 -- a number, or a variable by its name
 pub data Operand : Type 0 where

@@ -1,4 +1,4 @@
-use Rattle.std.proofs.Common.{◌≡◌, ap, Some}
+use Rattle.std.proofs.Common.{ap, Some}
 use Rattle.oc_lex.proofs.StandsLaws.{tokens_stand}
 use Rattle.oc_small.proofs.WholeLaws.{is_its_code, is_sound, runs_as}
 use Rattle.oc_small.proofs.compile.Goals as goal

@@ -1,6 +1,4 @@
-use Rattle.std.proofs.Common.{◌≡◌, sym, ap, ◌∙◌, false, true}
-use Rattle.std.specs.Prelude.{map, IfOk, IfErr, OnOk}
-use Rattle.oc_small.specs.Lexeme.{lexeme_of}
+use Rattle.std.proofs.Common.{sym, ap, ◌∙◌}
 use Rattle.oc_small.specs.View.{lexemes_view, program_view}
 use Rattle.oc_small.proofs.WholeLaws.{found_code, found_none}
 use Rattle.oc_small.proofs.image_of.Goals as goal

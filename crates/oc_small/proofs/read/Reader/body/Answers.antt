@@ -1,10 +1,9 @@
-use Rattle.std.proofs.Common.{◌≡◌, ◌∷◌, [], ◌++◌, map, sym, ap, ◌∙◌, None}
+use Rattle.std.proofs.Common.{◌≡◌, ◌∷◌, [], ◌++◌, map, sym, ap, ◌∙◌}
 use Rattle.std.proofs.lemmas.Result.{err_from_is_err_and}
 use Rattle.std.proofs.lemmas.List.{map_push}
-use Rattle.oc_small.specs.declared.lexeme.Symbol.TheVariants as symbols
 use Rattle.oc_small.specs.Small.{spell_statements}
 use Rattle.oc_small.specs.View.{lexemes_view, statement_view}
-use Rattle.oc_small.specs.Reading.{strip_at, statement_at}
+use Rattle.oc_small.specs.Reading.{statement_at}
 use Rattle.oc_small.proofs.ReadingLaws.{fails_none}
 use Rattle.oc_small.proofs.SpellingLaws.{no_body, spell_statements_push}
 use Rattle.oc_small.proofs.read.Reader.body.Goals as goal

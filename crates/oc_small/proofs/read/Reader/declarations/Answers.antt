@@ -1,8 +1,7 @@
-use Rattle.std.proofs.Common.{◌≡◌, ◌∷◌, [], ◌++◌, map, sym, ap, ◌∙◌, Some}
-use Rattle.std.specs.Prelude.{option_map, IfSome}
+use Rattle.std.proofs.Common.{◌≡◌, ◌∷◌, [], ◌++◌, map, sym, ap, ◌∙◌}
 use Rattle.std.proofs.lemmas.Result.{err_from_is_err_and}
 use Rattle.std.proofs.lemmas.List.{map_push}
-use Rattle.oc_small.specs.Small.{spell_declarations, spell_declaration}
+use Rattle.oc_small.specs.Small.{spell_declarations}
 use Rattle.oc_small.specs.View.{lexemes_view, declaration_view}
 use Rattle.oc_small.specs.Reading.{declaration_at}
 use Rattle.oc_small.proofs.ReadingLaws.{fails_none}

@@ -1,9 +1,9 @@
-use Rattle.std.proofs.Common.{◌≡◌, refl, List, ◌≤◌, ◌∷◌, [], ◌++◌, length, map, sym, ap, ◌∙◌, arith}
+use Rattle.std.proofs.Common.{◌≡◌, refl, List, ◌∷◌, [], length, map, arith}
 use Rattle.std.proofs.lemmas.Result.{err_from_is_err_and}
 use Rattle.std.proofs.lemmas.Grind.{common_steps}
 use Rattle.oc_small.specs.declared.lexeme.Lexeme.{Lexeme}
-use Rattle.oc_small.specs.Small.{Small, spell_body, spell_head, spell_declarations, lexemes_of}
-use Rattle.oc_small.specs.View.{lexemes_view, lexeme_view, declaration_view, statement_view}
+use Rattle.oc_small.specs.Small.{spell_body, spell_head, spell_declarations}
+use Rattle.oc_small.specs.View.{lexemes_view, declaration_view, statement_view}
 use Rattle.oc_small.specs.Reading.{head_at}
 use Rattle.oc_small.proofs.ReadingLaws.{fails_none}
 use Rattle.oc_small.proofs.SpellingLaws.{head_stops, nothing_stops, behind_declarations, wrong_head, behind_head, behind_body, behind_all}

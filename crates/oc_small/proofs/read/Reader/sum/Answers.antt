@@ -1,11 +1,10 @@
-use Rattle.std.proofs.Common.{◌≡◌, ◌∷◌, [], ◌++◌, map, sym, ap, ◌∙◌, arith, rules, length, Some}
+use Rattle.std.proofs.Common.{◌≡◌, ◌∷◌, [], ◌++◌, map, sym, ap, ◌∙◌, arith}
 use Rattle.std.proofs.lemmas.Result.{err_from_is_err_and}
 use Rattle.std.proofs.lemmas.List.{map_push}
 use Rattle.oc_small.specs.declared.lexeme.Symbol.TheVariants as symbols
 use Rattle.oc_small.specs.Lexeme.{symbol}
 use Rattle.oc_small.specs.Small.{spell_more}
-use Rattle.oc_small.specs.View.{lexemes_view, operand_view, sum_view}
-use Rattle.oc_small.specs.Reading.{more_at, sum_at}
+use Rattle.oc_small.specs.View.{lexemes_view, operand_view}
 use Rattle.oc_small.proofs.ReadingLaws.{goes_on, sum_fails, sum_ends, spell_more_push}
 use Rattle.oc_small.proofs.read.Reader.sum.Goals as goal
 

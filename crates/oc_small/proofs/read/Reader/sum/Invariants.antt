@@ -1,4 +1,4 @@
-use Rattle.std.proofs.Common.{◌≡◌, ◌<◌, ◌≤◌, length, map, false}
+use Rattle.std.proofs.Common.{◌≡◌, ◌≤◌, length, map, false}
 use Rattle.oc_small.specs.Small.{spell_more}
 use Rattle.oc_small.specs.View.{lexemes_view, operand_view}
 use Rattle.oc_small.specs.Reading.{more_at}

@@ -13,7 +13,13 @@
 //! }
 //! ```
 //!
-//! [`compile`] answers its image, or that the tokens are no small program.
+//! Declarations may stand before and after `main`. A sum has one to eight operands, each a number or
+//! a variable, and is added from the left; sums wrap. Sensors, ports, `main` and variables share one
+//! space of names, in which no name is declared twice. A variable is visible after its `let`,
+//! sensors and ports are visible everywhere. There are at most 64 sensors, 64 ports, 256 variables
+//! and 8,192 statements.
+//!
+//! [`compile`] answers the image of a small program, or that the tokens are none.
 #![tactic(auto)]
 
 ghost use Rattle.std.specs.Prelude.{◌≡◌, ◌≤◌, ℕ, List, length, All, Some, IfOk, IfErr, IfSome, IfNone};

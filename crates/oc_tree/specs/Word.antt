@@ -1,5 +1,5 @@
 -- Words: 32-bit numbers in two's complement.
-use Rattle.std.specs.Prelude.{ℕ, ℤ, pos, negsuc, Bool, true, false, not, cond, int_lt, int_le, int_rem, Option, Some, None, ◌^◌, if◌then◌else◌, nat_lt}
+use Rattle.std.specs.Prelude.{ℤ, pos, negsuc, Bool, ◌&&◌, cond, int_le, int_rem, Option, Some, None, if◌then◌else◌}
 use Rattle.std.specs.Int.{w32, int_wrapping_add, int_wrapping_sub, int_wrapping_mul, int_wrapping_div, int_wrapping_neg}
 use Rattle.std.specs.Ordering.{int_eq}
 use Rattle.oc_tree.specs.declared.tree.UnaryOp.{UnaryOp}
@@ -7,8 +7,7 @@ use Rattle.oc_tree.specs.declared.tree.UnaryOp.TheVariants.{Neg, Not}
 
 -- a number of 32 bits
 abbrev pub is_word : ℤ → Bool
-is_word (pos n) = nat_lt n (2 ^ 31)
-is_word (negsuc n) = nat_lt n (2 ^ 31)
+is_word z = int_le (negsuc 2147483647) z && int_le z (pos 2147483647)
 
 -- a truth value as a word
 abbrev pub truth : Bool → ℤ

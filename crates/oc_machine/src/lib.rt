@@ -1,0 +1,5 @@
+//! The machine that runs an image while power comes and goes.
+#![tactic(auto)]
+
+mod act;
+pub mod stack;

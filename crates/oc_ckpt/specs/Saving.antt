@@ -1,5 +1,5 @@
 -- What the area holds, and what is saved there.
-use Rattle.std.specs.Prelude.{ℕ, ℤ, pos, List, ◌∷◌, ◌++◌, length, drop}
+use Rattle.std.specs.Prelude.{ℤ, pos, List, ◌∷◌, ◌++◌, length, drop}
 use Rattle.oc_ckpt.specs.declared.AreaState.{AreaState}
 
 -- the words of the area, and its state word

@@ -53,10 +53,10 @@ has_room es marks a m h k =
 pub noted : (es : List Entry) (marks : List Bool) (e : Entry) → IsMarked es marks → e.addr < length marks → has_entry es e.addr ≡ false → IsMarked (es ++ e ∷ []) (slice_set marks e.addr true)
 noted es marks e m h k = record {
   told = λ b l.
-    ⊎_elim
-    (λ s. ap (λ i. get_or (slice_set marks e.addr true) i false) (sym s.1) ∙ get_or-set_same marks e.addr true false h ∙ sym (has_last es e b s.0))
-    (λ s. get_or-set_other marks e.addr b true false (λ q. s.1 (sym q)) ∙ m.told b (omega (arith, length-set marks e.addr true)) ∙ sym (has_other es e b s.0))
-    (eqb_tells e.addr b);
+      ⊎_elim
+      (λ s. ap (λ i. get_or (slice_set marks e.addr true) i false) (sym s.1) ∙ get_or-set_same marks e.addr true false h ∙ sym (has_last es e b s.0))
+      (λ s. get_or-set_other marks e.addr b true false (λ q. s.1 (sym q)) ∙ m.told b (omega (arith, length-set marks e.addr true)) ∙ sym (has_other es e b s.0))
+      (eqb_tells e.addr b);
   inside = λ i d l. omega (arith, length-set marks e.addr true, All-append (λ (x : Entry). x.addr < length marks) es (e ∷ []) m.inside (All-cons (λ (x : Entry). x.addr < length marks) e [] h (All-nil (λ (x : Entry). x.addr < length marks))) i d l);
   count = one_more marks e.addr h (m.told e.addr h ∙ k) ∙ omega (arith, m.count, length-append es (e ∷ []));
 }

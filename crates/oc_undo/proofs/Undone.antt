@@ -1,10 +1,10 @@
 -- Putting the log back.
-use Rattle.std.proofs.Common.{◌≡◌, ℕ, zero, suc, ◌<◌, ◌≤◌, List, [], ◌∷◌, ◌++◌, length, Some, refl, sym, ap, ◌∙◌, ⊎_elim, inl, inr, arith, get_or, take, ℤ, pos, get_or-set_same, get_or-set_other}
+use Rattle.std.proofs.Common.{true, ◌≡◌, ℕ, zero, suc, ◌<◌, ◌≤◌, List, [], ◌∷◌, ◌++◌, length, Some, refl, sym, ap, ◌∙◌, ⊎_elim, inl, inr, arith, get_or, take, ℤ, pos, get_or-set_same, get_or-set_other}
 use Rattle.std.specs.Prelude.{slice_get, slice_set, ◌⊎◌, if◌then◌else◌}
-use Rattle.std.proofs.lemmas.List.{set-set, set_comm, length-set}
+use Rattle.std.proofs.lemmas.List.{set-set, set_comm, set-get_or, length-set}
 use Rattle.std.proofs.Math.Seq.{take-length}
 use Rattle.std.proofs.lemmas.Bool.Decides.{eqb_tells}
-use Rattle.oc_undo.specs.Undo.{put_back, put_back_some, undo, undo_one, undo_some, rollback, first_old}
+use Rattle.oc_undo.specs.Undo.{has_entry, put_back, put_back_some, undo, undo_one, undo_some, rollback, first_old}
 use Rattle.oc_undo.specs.declared.Entry.{Entry}
 
 -- there is an entry of this address
@@ -30,6 +30,22 @@ undo_write (e ∷ es) nv a v h =
     (λ t. ap (λ l. slice_set l e.addr e.old) (undo_write es nv a v t))
     h
 
+marked_has : (es : List Entry) (a : ℕ) → has_entry es a ≡ true → HasAddr es a
+marked_has [] a h = absurd (cc)
+marked_has (e ∷ es) a h =
+    ⊎_elim
+    (λ k. inl k.1)
+    (λ k. inr (marked_has es a (sym (ap (λ b. if b then true else has_entry es a) k.0) ∙ h)))
+    (eqb_tells e.addr a)
+
+pub undo_write_marked : (es : List Entry) (nv : List ℤ) (a : ℕ) (v : ℤ) → has_entry es a ≡ true → undo es (slice_set nv a v) ≡ undo es nv
+undo_write_marked es nv a v h = undo_write es nv a v (marked_has es a h)
+
+-- an entry with the present word undoes nothing
+pub undo_noted : (es : List Entry) (nv : List ℤ) (a : ℕ) → undo (es ++ record { addr = a; old = get_or nv a (pos 0) } ∷ []) nv ≡ undo es nv
+undo_noted [] nv a = set-get_or nv a (pos 0)
+undo_noted (e ∷ es) nv a = ap (put_back e) (undo_noted es nv a)
+
 undo_last : (es : List Entry) (e : Entry) (nv : List ℤ) → undo (es ++ e ∷ []) nv ≡ undo es (put_back e nv)
 undo_last [] e nv = refl
 undo_last (f ∷ es) e nv = ap (put_back f) (undo_last es e nv)
@@ -48,7 +64,7 @@ last_of (e ∷ es) (suc k) h =
     record { entry = r.entry; got = r.got; taken = ap (λ l. e ∷ l) r.taken; has = inr r.has }
 
 -- one entry put back is undone by all
-one_undone : (es : List Entry) (k : ℕ) (nv : List ℤ) → suc k ≤ length es → undo es (undo_one es (suc k) nv) ≡ undo es nv
+pub one_undone : (es : List Entry) (k : ℕ) (nv : List ℤ) → k < length es → undo es (undo_one es (suc k) nv) ≡ undo es nv
 one_undone es k nv h =
     let r = last_of es k (omega arith) in
     ap (λ o. undo es (put_back_some o nv)) r.got ∙ undo_write es nv r.entry.addr r.entry.old r.has
@@ -57,7 +73,7 @@ one_undone es k nv h =
 some_undone : (es : List Entry) (k n : ℕ) (nv : List ℤ) → k ≤ length es → undo es (undo_some es k n nv) ≡ undo es nv
 some_undone es k zero nv h = refl
 some_undone es zero (suc n) nv h = refl
-some_undone es (suc k) (suc n) nv h = some_undone es k n (undo_one es (suc k) nv) (omega arith) ∙ one_undone es k nv h
+some_undone es (suc k) (suc n) nv h = some_undone es k n (undo_one es (suc k) nv) (omega arith) ∙ one_undone es k nv (omega arith)
 
 -- to put back so many of so many is to undo these
 all_of : (es : List Entry) (k : ℕ) (nv : List ℤ) → k ≤ length es → undo_some es k k nv ≡ undo (take k es) nv

@@ -1,5 +1,5 @@
 -- What a log of old words puts back.
-use Rattle.std.specs.Prelude.{ℕ, zero, suc, ◌-◌, ◌==◌, ◌≡◌, ◌<◌, ℤ, Bool, true, false, List, [], ◌∷◌, length, Option, Some, None, slice_get, slice_set, slice_index_or, if◌then◌else◌, count_by, All}
+use Rattle.std.specs.Prelude.{ℕ, zero, suc, ◌+◌, ◌-◌, ◌==◌, ◌≡◌, ◌<◌, ℤ, Bool, true, false, List, [], ◌∷◌, length, Option, Some, None, slice_get, slice_set, slice_index_or, if◌then◌else◌, count_by, All}
 use Rattle.oc_undo.specs.declared.Entry.{Entry}
 
 -- the entries, the oldest first, how many of them were put back, and of how many words the log is
@@ -38,7 +38,7 @@ undo_one entries (suc k) nv = put_back_some (slice_get entries k) nv
 -- the log after that: one more was put back, until all were
 abbrev pub after_one : Log → ℕ → Log
 after_one log zero = log
-after_one log (suc k) = record log { back = length log.entries - k }
+after_one log (suc k) = record log { back = log.back + 1 }
 
 -- where so many entries are left, so many of them are put back one by one, or all
 abbrev pub undo_some : List Entry → ℕ → ℕ → List ℤ → List ℤ

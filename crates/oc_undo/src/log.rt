@@ -65,9 +65,16 @@ impl UndoLog {
         ensures value { result ≡ length self.now.entries }
         ensures within { length self.now.entries ≤ self.now.words }
         ensures back { self.now.back ≤ length self.now.entries }
-        ensures inside { All (λ e. e.addr < self.now.words) self.now.entries }
     {
         self.entries.len()
+    }
+
+    /// Of how many nonvolatile words the log is.
+    pub fn words(&self) -> usize
+        ensures value { result ≡ self.now.words }
+        ensures inside { All (λ e. e.addr < self.now.words) self.now.entries }
+    {
+        self.marks.len()
     }
 
     /// The entries, the oldest first.
@@ -91,9 +98,9 @@ impl UndoLog {
         requires unmarked { has_entry self.old.entries addr ≡ false }
         ensures { self.new ≡ record self.old { entries = self.old.entries ++ record { addr = addr; old = old } ∷ []; back = 0 } }
     {
+        self.restart();
         let _ = self.entries.push(Entry { addr, old });
         self.marks[addr as usize] = true;
-        self.back = 0;
     }
 
     /// Puts back the next entry, which is the last that wasn't put back since the last restart. It
@@ -124,8 +131,61 @@ impl UndoLog {
     pub fn clear(&mut self)
         ensures { self.new ≡ record self.old { entries = []; back = 0 } }
     {
+        self.restart();
         unmark(&self.entries, &mut self.marks);
         self.entries.clear();
-        self.back = 0;
+    }
+}
+
+#[cfg(test)]
+mod tests {
+    use super::*;
+    use std::process::Abort;
+    use std::test::Fail;
+
+    const INITIAL: [i32; 4] = [10, 20, 30, 40];
+
+    /// Writes a word, and notes its old word first where there is no entry yet.
+    fn write(rt: &impl Abort, log: &mut UndoLog, nvm: &mut Nvm, addr: u32, word: i32) {
+        let at = addr as usize;
+        assert!(rt; at < log.words() && at < nvm.len());
+        if !log.marked(addr) {
+            log.note(addr, nvm.read(addr));
+        }
+        nvm.write(addr, word);
+    }
+
+    fn put_back(rt: &impl Abort, log: &mut UndoLog, nvm: &mut Nvm) -> bool {
+        assert!(rt; log.words() <= nvm.len());
+        log.undo_one(nvm)
+    }
+
+    #[test]
+    fn a_rollback_puts_back_the_first_old_words(rt: HostRuntime) -> Result<(), Fail> {
+        // the writes, the words after one entry was put back, and the number of entries
+        let cases: [([(u32, i32); 3], [i32; 4], usize); 3] = [
+            ([(2, 7), (2, 8), (2, 9)], [10, 20, 30, 40], 1),
+            ([(0, 7), (3, 8), (0, 9)], [9, 20, 30, 40], 2),
+            ([(1, -1), (3, 5), (2, 6)], [10, -1, 30, 5], 3),
+        ];
+        for (writes, after_one, entries) in cases {
+            let mut nvm = Nvm::new(rt.alloc(), &INITIAL)?;
+            let mut log = UndoLog::new(rt.alloc(), INITIAL.len())?;
+            for (addr, word) in writes {
+                write(&rt, &mut log, &mut nvm, addr, word);
+            }
+            assert_eq!(rt; log.len(), entries);
+            assert!(rt; put_back(&rt, &mut log, &mut nvm));
+            assert_eq!(rt; nvm.words(), &after_one[..]);
+            log.restart();
+            for _ in 0..entries {
+                assert!(rt; put_back(&rt, &mut log, &mut nvm));
+            }
+            assert!(rt; !put_back(&rt, &mut log, &mut nvm));
+            assert_eq!(rt; nvm.words(), &INITIAL[..]);
+            log.clear();
+            assert!(rt; log.entries().is_empty() && !log.marked(writes[0].0));
+        }
+        Ok(())
     }
 }

@@ -1,0 +1,128 @@
+//! Power files.
+ghost use Rattle.std.specs.Prelude.{◌≡◌, ◌+◌, ◌<◌, ◌^◌, IfOk, IfErr};
+ghost use Rattle.oc_power.specs.Power.{Explains, is_header, period_row, periods, power_file, power_rows};
+ghost use Rattle.oc_power.specs.Total.{total};
+ghost use Rattle.oc_power.specs.declared.power.PowerError.TheVariants as error;
+
+use oc_io::Memory;
+use oc_io::period::Period;
+use oc_rows::number::read_number;
+use oc_rows::rows::Rows;
+use std::alloc::{AllocFailed, Global};
+use thiserror::Error;
+
+/// What is wrong with a row.
+#[derive(Clone, Copy, Debug, PartialEq, Eq, Error)]
+pub enum PowerWhat {
+    #[error("the header is not `on,off`")]
+    Header,
+    #[error("there are not 2 or 3 fields")]
+    Fields,
+    #[error("a time is no number below 2^63")]
+    Number,
+    #[error("the mark is not `cut`")]
+    Mark,
+    #[error("the times so far reach 2^63")]
+    Sum,
+}
+
+/// Why a power file wasn't read: the first bad row, with rows numbered from 1, or want of memory.
+#[derive(Clone, Copy, Debug, PartialEq, Eq, Error)]
+pub enum PowerError {
+    #[error("row {row}: {what}")]
+    Row { row: u64, what: PowerWhat },
+    #[error("out of memory")]
+    Memory,
+}
+
+impl From<Memory> for PowerError {
+    ghost from_gives = { λ _ e. e ≡ error.Memory };
+
+    fn from(_: Memory) -> PowerError {
+        PowerError::Memory
+    }
+}
+
+impl<T: Drop> From<AllocFailed<T>> for PowerError {
+    ghost from_gives = { λ _ e. e ≡ error.Memory };
+
+    fn from(_: AllocFailed<T>) -> PowerError {
+        PowerError::Memory
+    }
+}
+
+/// Sums of times stay below this.
+const LIMIT: u64 = 1 << 63;
+
+fn has_header(rows: &Rows) -> bool
+    ensures { result ≡ is_header rows.now.row }
+{
+    rows.len() == 2 && rows.field(0) == b"on".as_slice() && rows.field(1) == b"off".as_slice()
+}
+
+/// The period of the row at hand, after periods of this sum.
+fn read_period(rows: &Rows, sum: u64) -> Result<Period, PowerWhat>
+    requires { sum < 2 ^ 63 }
+    ensures { result ≡ period_row sum rows.now.row }
+{
+    let fields = rows.len();
+    if fields != 2 && fields != 3 {
+        return Err(PowerWhat::Fields);
+    }
+    let (on, off) = match (read_number(rows.field(0)), read_number(rows.field(1))) {
+        (Some(on), Some(off)) => (on, off),
+        _ => return Err(PowerWhat::Number),
+    };
+    let cut = fields == 3;
+    if cut && rows.field(2) != b"cut".as_slice() {
+        return Err(PowerWhat::Mark);
+    }
+    let left = LIMIT - sum;
+    if left <= on || left - on <= off {
+        return Err(PowerWhat::Sum);
+    }
+    Ok(Period { on, off, cut })
+}
+
+/// The periods of the rows left.
+fn read_periods(alloc: Global, rows: &mut Rows) -> Result<Vec<Period>, PowerError>
+    ensures ok { IfOk result (λ v. power_rows (rows.old.number + 1) 0 rows.old.left ≡ periods v.items) }
+    ensures sum { IfOk result (λ v. total v.items < 2 ^ 63) }
+    ensures row { IfErr result (λ e. Explains (power_rows (rows.old.number + 1) 0 rows.old.left) e) }
+{
+    let mut periods = Vec::new(alloc);
+    let mut sum: u64 = 0;
+    while rows.next()? {
+        match read_period(rows, sum) {
+            Ok(period) => {
+                sum += period.on + period.off;
+                periods.push(period)?;
+            }
+            Err(what) => {
+                return Err(PowerError::Row {
+                    row: rows.number(),
+                    what,
+                });
+            }
+        }
+    }
+    Ok(periods)
+}
+
+/// The periods of a power file, in order. Its header is `on,off`; each row after it has the steps
+/// and the ticks of a period, below 2^63 in all, and `cut` as a third field where the checkpoint
+/// at the end of its steps doesn't complete.
+pub fn read_power(alloc: Global, bytes: &[u8]) -> Result<Vec<Period>, PowerError>
+    ensures ok { IfOk result (λ v. power_file bytes.now ≡ periods v.items) }
+    ensures sum { IfOk result (λ v. total v.items < 2 ^ 63) }
+    ensures row { IfErr result (λ e. Explains (power_file bytes.now) e) }
+{
+    let mut rows = Rows::new(alloc, bytes);
+    if !rows.next()? || !has_header(&rows) {
+        return Err(PowerError::Row {
+            row: 1,
+            what: PowerWhat::Header,
+        });
+    }
+    read_periods(alloc, &mut rows)
+}

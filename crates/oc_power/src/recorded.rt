@@ -1,0 +1,68 @@
+//! The rows as they are.
+ghost use Rattle.std.specs.Prelude.{◌≡◌, []};
+
+use crate::supply::Supply;
+use oc_io::Memory;
+use oc_io::period::Period;
+use std::alloc::Global;
+use std::marker::Model;
+
+/// Tells the rows as they are. Contracts see the periods left.
+#[derive(Drop)]
+pub struct Recorded {
+    rows: Vec<Period>,
+    place: usize,
+    alloc: Global,
+}
+
+impl Model for Recorded {
+    ghost use Rattle.std.specs.Prelude.{List, drop};
+    ghost use Rattle.oc_io.specs.declared.period.Period.{Period};
+
+    ghost Value = { List Period };
+
+    ghost view = { λ a. drop a.place a.rows.items };
+}
+
+impl Recorded {
+    /// A supply with nothing left.
+    pub fn new(alloc: Global) -> Recorded
+        ensures { result ≡ [] }
+    {
+        Recorded {
+            rows: Vec::new(alloc),
+            place: 0,
+            alloc,
+        }
+    }
+}
+
+impl Supply for Recorded {
+    ghost number = { λ _. 0 };
+
+    ghost plan = { λ _ rows. rows };
+
+    ghost left = { λ s. s };
+
+    fn name(&self) -> u8 {
+        0
+    }
+
+    fn feed(&mut self, rows: &[Period]) -> Result<(), Memory> {
+        let Ok(rows) = Vec::from_slice(self.alloc, rows) else {
+            return Err(Memory);
+        };
+        self.rows = rows;
+        self.place = 0;
+        Ok(())
+    }
+
+    fn next(&mut self) -> Option<Period> {
+        if self.rows.len() <= self.place {
+            return None;
+        }
+        let period = self.rows[self.place];
+        self.place += 1;
+        Some(period)
+    }
+}

@@ -1,0 +1,4 @@
+mod Turns
+mod Steps
+mod Fields
+mod Numbers

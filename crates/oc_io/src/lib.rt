@@ -9,6 +9,7 @@ pub mod disk;
 pub mod memory_shelf;
 pub mod memory_sink;
 pub mod period;
+pub mod pieces;
 pub mod shelf;
 pub mod sink;
 

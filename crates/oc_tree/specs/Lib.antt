@@ -1,3 +1,6 @@
+pub mod Tree
+pub mod View
+pub mod Nodes
 pub mod Names
 pub mod Said
 pub mod Word

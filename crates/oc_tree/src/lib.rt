@@ -2,5 +2,6 @@
 #![tactic(auto)]
 
 pub mod name;
+pub mod nodes;
 pub mod said;
 pub mod tree;

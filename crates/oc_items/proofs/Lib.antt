@@ -1,0 +1,6 @@
+pub mod Nv
+pub mod Fields
+pub mod Numbers
+pub mod Places
+pub mod Back
+pub mod NvBack

@@ -1,0 +1,5 @@
+pub mod Words
+pub mod Values
+pub mod PieceLaws
+pub mod TokenLaws
+pub mod LoopLaws

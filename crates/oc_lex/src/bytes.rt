@@ -1,0 +1,68 @@
+//! Kinds of bytes, and how far they run.
+ghost use Rattle.std.specs.Prelude.{◌≡◌, ◌≤◌, length};
+ghost use Rattle.std.specs.List.{prefix_len};
+ghost use Rattle.oc_lex.specs.Bytes.{class_of, in_line, in_name, in_number};
+
+#[derive(Clone, Copy, Debug, PartialEq, Eq)]
+pub enum Class {
+    Blank,
+    Letter,
+    Underscore,
+    Digit,
+    Other,
+}
+
+#[tactic(auto, unfolding(crate::specs::Bytes::class_of))]
+pub fn byte_class(byte: u8) -> Class
+    ensures { result ≡ class_of byte }
+{
+    match byte {
+        b' ' | b'\t' | b'\r' | b'\n' => Class::Blank,
+        b'a'..=b'z' | b'A'..=b'Z' => Class::Letter,
+        b'_' => Class::Underscore,
+        b'0'..=b'9' => Class::Digit,
+        _ => Class::Other,
+    }
+}
+
+fn is_in_name(byte: u8) -> bool
+    ensures { result ≡ in_name byte }
+{
+    match byte_class(byte) {
+        Class::Letter | Class::Underscore | Class::Digit => true,
+        Class::Blank | Class::Other => false,
+    }
+}
+
+fn is_in_number(byte: u8) -> bool
+    ensures { result ≡ in_number byte }
+{
+    match byte_class(byte) {
+        Class::Underscore | Class::Digit => true,
+        Class::Blank | Class::Letter | Class::Other => false,
+    }
+}
+
+/// How many bytes in front may go on a name.
+pub fn name_length(bytes: &[u8]) -> usize
+    ensures exact { result ≡ prefix_len in_name bytes.now }
+    ensures within { result ≤ length bytes.now }
+{
+    bytes.iter().take_while(|byte| is_in_name(**byte)).count()
+}
+
+/// How many bytes in front may go on a number.
+pub fn number_length(bytes: &[u8]) -> usize
+    ensures exact { result ≡ prefix_len in_number bytes.now }
+    ensures within { result ≤ length bytes.now }
+{
+    bytes.iter().take_while(|byte| is_in_number(**byte)).count()
+}
+
+/// How many bytes stand before the next line feed.
+pub fn line_length(bytes: &[u8]) -> usize
+    ensures exact { result ≡ prefix_len in_line bytes.now }
+    ensures within { result ≤ length bytes.now }
+{
+    bytes.iter().take_while(|byte| **byte != b'\n').count()
+}

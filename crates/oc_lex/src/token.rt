@@ -1,0 +1,114 @@
+//! What tokens are.
+
+/// A token: what it is, and where it stands in its source.
+#[derive(Clone, Copy, Debug, PartialEq, Eq)]
+pub struct Token {
+    pub kind: Kind,
+    /// The place of its first byte.
+    pub start: usize,
+    /// The place after its last byte.
+    pub end: usize,
+    /// 1 plus the number of line feeds before it.
+    pub line: u32,
+}
+
+/// A name's bytes are those from its token's start to its end.
+#[derive(Clone, Copy, Debug, PartialEq, Eq)]
+pub enum Kind {
+    Name,
+    Number { value: i32 },
+    Word(Word),
+    Mark(Mark),
+}
+
+/// The words that are no names.
+#[derive(Clone, Copy, Debug, PartialEq, Eq)]
+pub enum Word {
+    Sensor,
+    Port,
+    /// `nv`
+    Nonvolatile,
+    /// `fn`
+    Function,
+    Let,
+    /// `mut`
+    Mutable,
+    If,
+    Else,
+    For,
+    In,
+    While,
+    Bound,
+    Return,
+    True,
+    False,
+    Emit,
+    Sense,
+    Fresh,
+    Consistent,
+    /// `i32`
+    Int,
+    Bool,
+    Atomic,
+    /// `_`
+    Underscore,
+}
+
+/// The marks.
+#[derive(Clone, Copy, Debug, PartialEq, Eq)]
+pub enum Mark {
+    /// `(`
+    OpenRound,
+    /// `)`
+    CloseRound,
+    /// `{`
+    OpenCurly,
+    /// `}`
+    CloseCurly,
+    /// `[`
+    OpenSquare,
+    /// `]`
+    CloseSquare,
+    /// `;`
+    Semicolon,
+    /// `:`
+    Colon,
+    /// `,`
+    Comma,
+    /// `->`
+    Arrow,
+    /// `=`
+    Assign,
+    /// `==`
+    Equal,
+    /// `!=`
+    NotEqual,
+    /// `<`
+    Less,
+    /// `<=`
+    LessEqual,
+    /// `>`
+    Greater,
+    /// `>=`
+    GreaterEqual,
+    /// `+`
+    Plus,
+    /// `-`
+    Minus,
+    /// `*`
+    Star,
+    /// `/`
+    Slash,
+    /// `%`
+    Percent,
+    /// `&&`
+    And,
+    /// `||`
+    Or,
+    /// `!`
+    Not,
+    /// `&`
+    Ampersand,
+    /// `..`
+    Range,
+}

@@ -97,7 +97,8 @@ impl Area {
     pub fn save_all(&mut self, pc: i32, fp: i32, stack: &[i32])
         requires short { length stack.now ≤ 65536 }
         requires room { length stack.now + 3 ≤ length self.old.words }
-        ensures { self.new ≡ record { words = save_all (saved_words pc fp stack.now) self.old.words; state = AreaState.Sealed } }
+        ensures value { self.new ≡ record { words = save_all (saved_words pc fp stack.now) self.old.words; state = AreaState.Sealed } }
+        ensures size { length self.new.words ≡ length self.old.words }
     {
         self.words[0] = pc;
         self.words[1] = fp;

@@ -102,9 +102,9 @@ impl Machine {
         ensures state { self.new ≡ record { parts = self.old.parts; state = (Power.undo_step next self.old.state).state } }
         ensures said { result ≡ (Power.undo_step next self.old.state).said }
     {
-        if next < self.log.len() {
-            self.log.undo_one(&mut self.nvm);
-        }
+        let fits = self.log.words() <= self.nvm.len();
+        prove!(fits);
+        self.log.undo_one(&mut self.nvm);
         self.phase = undo_phase(next);
         None
     }

@@ -9,6 +9,6 @@ mod act;
 mod boot;
 //mod execute;
 pub mod machine;
-//mod outage;
-//mod region;
+mod outage;
+mod region;
 pub mod stack;

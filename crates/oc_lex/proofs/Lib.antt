@@ -3,3 +3,4 @@ pub mod Values
 pub mod PieceLaws
 pub mod TokenLaws
 pub mod LoopLaws
+pub mod StandsLaws

@@ -1,24 +1,21 @@
 -- One turn of the lexer.
-use Rattle.std.proofs.Common.{◌≡◌, ℕ, zero, suc, ◌+◌, ◌<◌, ◌≤◌, Bool, true, false, cond, List, [], ◌∷◌, ◌++◌, length, get_or, take, drop, Option, Some, None, Result, Ok, Err, refl, sym, ap, subst, ◌∙◌, arith, length-drop, append_assoc}
-use Rattle.std.specs.Prelude.{◌-◌, ◌==◌, count_by}
+use Rattle.std.proofs.Common.{◌≡◌, ℕ, zero, suc, ◌+◌, ◌<◌, ◌≤◌, Bool, true, false, cond, List, [], ◌∷◌, ◌++◌, length, get_or, take, drop, Option, Some, None, Ok, refl, sym, ap, subst, ◌∙◌, arith, length-drop}
+use Rattle.std.specs.Prelude.{◌-◌, ◌==◌}
 use Rattle.std.specs.List.{AllPass}
 use Rattle.std.proofs.Math.Seq.{take-add}
 use Rattle.std.proofs.lemmas.List.{take_rest, get_or-drop}
 use Rattle.std.proofs.lemmas.List.Sums.{sum_by-append, sum_by-cons}
 use Rattle.std.proofs.lemmas.Bool.Decides.{Decides-eqb}
-use Rattle.oc_lex.specs.declared.bytes.Class.{Class}
-use Rattle.oc_lex.specs.declared.bytes.Class.TheVariants as class
 use Rattle.oc_lex.specs.declared.piece.Piece.{Piece}
 use Rattle.oc_lex.specs.declared.piece.Piece.TheVariants as piece
 use Rattle.oc_lex.specs.declared.token.Mark.{Mark}
 use Rattle.oc_lex.specs.declared.token.Mark.TheVariants as marks
 use Rattle.oc_lex.specs.declared.token.Kind.{Kind}
 use Rattle.oc_lex.specs.declared.token.Token.{Token}
-use Rattle.oc_lex.specs.declared.lexer.LexError.{LexError}
-use Rattle.oc_lex.specs.Bytes.{class_of, begins_name, in_name, in_number, in_line}
+use Rattle.oc_lex.specs.Bytes.{class_of, in_name, in_number, in_line}
 use Rattle.oc_lex.specs.Spellings.{mark_spelling}
 use Rattle.oc_lex.specs.Pieces.{IsPiece, Longest}
-use Rattle.oc_lex.specs.Tokens.{IsKind, line_feeds, Lexed, none, between, token, Reads, tokens_of, feeds_of}
+use Rattle.oc_lex.specs.Tokens.{line_feeds, Lexed, none, between, token, Reads, tokens_of, feeds_of}
 use Rattle.oc_lex.proofs.PieceLaws.{positive}
 
 -- ---- line feeds
@@ -79,7 +76,6 @@ first_taken (suc n) (b ∷ bs) h = refl
 -- the line after a piece
 pub line_more : (source : List ℕ) (at n : ℕ) (p : Piece) → Longest p n (drop at source) → line_feeds (take (at + n) source) ≡ line_feeds (take at source) + feeds_of (get_or source at 0)
 line_more source at n p l =
-    let text : List ℕ = take n (drop at source) in
     let a = ap line_feeds (take-add at n source) ∙ feeds_append (take at source) (take n (drop at source)) in
     let b = piece_feeds p (take n (drop at source)) l.is_piece in
     let c = first_taken n (drop at source) (positive p n (drop at source) l.is_piece) in
@@ -125,6 +121,3 @@ within_next source at n p h l =
     let w : n ≤ length (rest_of source at) = l.within in
     let e : length (rest_of source at) ≡ length (drop at source) = ap (λ (x : List ℕ). length x) (take_rest source at) in
     omega (arith, length-drop at source)
-
-pub further : (source : List ℕ) (at n : ℕ) (p : Piece) → Longest p n (rest_of source at) → 0 < n
-further source at n p l = positive p n (rest_of source at) l.is_piece

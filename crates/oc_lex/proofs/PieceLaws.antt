@@ -1,10 +1,9 @@
 -- Longest pieces.
 use Rattle.std.proofs.Common.{◌≡◌, ℕ, zero, suc, ◌+◌, ◌<◌, ◌≤◌, Bool, true, false, cond, List, [], ◌∷◌, length, get_or, take, drop, refl, sym, ap, subst, ◌∙◌, arith, length-drop}
-use Rattle.std.specs.Prelude.{◌≢◌, ◌-◌}
+use Rattle.std.specs.Prelude.{◌-◌}
 use Rattle.std.specs.List.{prefix_len, AllPass}
 use Rattle.std.proofs.lemmas.List.{length-take-le, take_all}
 use Rattle.std.proofs.lemmas.List.Sums.{prefix_len-le-length}
-use Rattle.std.proofs.lemmas.Bool.Decides.{nat_tests}
 use Rattle.oc_lex.specs.declared.bytes.Class.{Class}
 use Rattle.oc_lex.specs.declared.bytes.Class.TheVariants as class
 use Rattle.oc_lex.specs.declared.piece.Piece.{Piece}
@@ -155,7 +154,7 @@ name_longest [] n k h e t f = absurd (omega arith)
 name_longest (b ∷ bs) n k h e t f =
     let w = prefix_len-le-length in_name bs in
     let l : Longest piece.Name (suc (prefix_len in_name bs)) (b ∷ bs) =
-      record { within = omega arith; is_piece = (rw e t, run_all in_name bs); no_longer = λ q m h d. let s = name_most q m b bs k e t h d in omega arith } in
+    record { within = omega arith; is_piece = (rw e t, run_all in_name bs); no_longer = λ q m h d. let s = name_most q m b bs k e t h d in omega arith } in
     let s : suc (prefix_len in_name bs) ≡ 1 + n = omega (arith, f ∙ ap (prefix_len in_name) (tail_is (b ∷ bs))) in
     subst (λ (x : ℕ). Longest piece.Name x (b ∷ bs)) s l
 
@@ -175,7 +174,7 @@ number_longest [] n h e f = absurd (omega arith)
 number_longest (b ∷ bs) n h e f =
     let w = prefix_len-le-length in_number bs in
     let l : Longest piece.Number (suc (prefix_len in_number bs)) (b ∷ bs) =
-      record { within = omega arith; is_piece = (e, run_all in_number bs); no_longer = λ q m h d. let s = number_most q m b bs e h d in omega arith } in
+    record { within = omega arith; is_piece = (e, run_all in_number bs); no_longer = λ q m h d. let s = number_most q m b bs e h d in omega arith } in
     let s : suc (prefix_len in_number bs) ≡ 1 + n = omega (arith, f ∙ ap (prefix_len in_number) (tail_is (b ∷ bs))) in
     subst (λ (x : ℕ). Longest piece.Number x (b ∷ bs)) s l
 
@@ -198,7 +197,7 @@ comment_longest b [] n h e f g = absurd (omega arith)
 comment_longest b (c ∷ bs) n h e f g =
     let w = prefix_len-le-length in_line bs in
     let l : Longest piece.Comment (suc (suc (prefix_len in_line bs))) (b ∷ c ∷ bs) =
-      record { within = omega arith; is_piece = (e, f, run_all in_line bs); no_longer = λ q m h d. let s = comment_most q m b c bs e h d in omega arith } in
+    record { within = omega arith; is_piece = (e, f, run_all in_line bs); no_longer = λ q m h d. let s = comment_most q m b c bs e h d in omega arith } in
     let s : suc (suc (prefix_len in_line bs)) ≡ 2 + n = omega (arith, g ∙ ap (prefix_len in_line) (tail_is (c ∷ bs))) in
     subst (λ (x : ℕ). Longest piece.Comment x (b ∷ c ∷ bs)) s l
 

@@ -1,10 +1,9 @@
 -- A source has one list of tokens or one first fault.
-use Rattle.std.proofs.Common.{◌≡◌, ℕ, zero, suc, ◌+◌, ◌<◌, ◌≤◌, Bool, true, false, cond, List, [], ◌∷◌, ◌++◌, length, get_or, take, drop, Option, Some, None, Result, Ok, Err, refl, sym, ap, subst, ◌∙◌, arith, inl, inr, ◌⊎◌, length-drop}
-use Rattle.std.specs.Prelude.{◌≢◌, ◌-◌, ◌==◌, find, count_by, pos, ℤ, MatchResult}
+use Rattle.std.proofs.Common.{◌≡◌, ℕ, ◌+◌, ◌<◌, true, false, List, [], ◌∷◌, ◌++◌, length, get_or, take, drop, Option, Some, None, Result, Ok, Err, refl, sym, ap, subst, ◌∙◌, arith, inl, inr, ◌⊎◌, length-drop}
+use Rattle.std.specs.Prelude.{◌==◌, find, pos, ℤ, MatchResult}
 use Rattle.std.specs.Global.{Vec}
 use Rattle.std.specs.Str.{bytes_eq}
-use Rattle.std.specs.List.{AllPass}
-use Rattle.std.proofs.lemmas.List.{take_all, append-nil, length-take-le}
+use Rattle.std.proofs.lemmas.List.{append-nil, length-take-le}
 use Rattle.oc_lex.specs.declared.bytes.Class.{Class}
 use Rattle.oc_lex.specs.declared.bytes.Class.TheVariants as class
 use Rattle.oc_lex.specs.declared.piece.Piece.{Piece}
@@ -17,9 +16,9 @@ use Rattle.oc_lex.specs.declared.token.Kind.TheVariants as kinds
 use Rattle.oc_lex.specs.declared.token.Token.{Token}
 use Rattle.oc_lex.specs.declared.lexer.LexError.{LexError}
 use Rattle.oc_lex.specs.declared.lexer.LexError.TheVariants as errors
-use Rattle.oc_lex.specs.Bytes.{class_of, value_of, in_name, in_number, in_line}
-use Rattle.oc_lex.specs.Spellings.{word_spelling, mark_spelling, SpellsNoWord}
-use Rattle.oc_lex.specs.Pieces.{IsPiece, Longest, BeginNoPiece}
+use Rattle.oc_lex.specs.Bytes.{class_of, value_of}
+use Rattle.oc_lex.specs.Spellings.{mark_spelling, SpellsNoWord}
+use Rattle.oc_lex.specs.Pieces.{IsPiece, Longest}
 use Rattle.oc_lex.specs.Tokens.{IsBetween, IsRefused, IsKind, line_feeds, token_at, Lexed, none, between, token, AreTokens, IsFault, HasFault, tokens_of}
 use Rattle.oc_lex.proofs.Words.{found, word_found, word_read}
 use Rattle.oc_lex.proofs.PieceLaws.{OfClass, piece_class, positive}
@@ -189,7 +188,6 @@ GoesOn source at n o us end = (vs : List Token) × Lexed source (at + n) vs end 
 goes_on : (source : List ℕ) {at end : ℕ} {us : List Token} → Lexed source at us end → (p : Piece) (n : ℕ) (o : Option Kind) → Longest p n (drop at source) → KindIs p (take n (drop at source)) (drop n (drop at source)) o → Ends source end → GoesOn source at n o us end
 goes_on source (none {at = at}) p n o l k stop = absurd (stop p n o l k)
 goes_on source (between {at = at} {n = m} {to = to} {p = q} {ts = us} l' b' d') p n o l k stop =
-    let bytes : List ℕ = drop at source in
     let e : m ≡ n = longest_same q p m n (drop at source) l' l in
     let l2 : Longest q n (drop at source) = subst (λ (x : ℕ). Longest q x (drop at source)) e l' in
     let f : q ≡ p = longest_piece q p n (drop at source) l2 l in
@@ -308,6 +306,6 @@ gives_only source (Err e) h ts d = elim h [ inl m ↦ m | inr f ↦ absurd (not_
 pub gives_first : (source : List ℕ) (r : Result (Vec Token) LexError) → Gives source r → (f : LexError) → HasFault source f → (r ≡ Err f) ⊎ (r ≡ Err errors.Memory)
 gives_first source (Ok v) h f d = absurd (not_both source v.items f h d)
 gives_first source (Err e) h f d = elim h [
-    | inl m ↦ inr (ap (λ (x : LexError). Err x) m)
-    | inr g ↦ inl (ap (λ (x : LexError). Err x) (faults_same source e f g d))
-  ]
+  | inl m ↦ inr (ap (λ (x : LexError). Err x) m)
+  | inr g ↦ inl (ap (λ (x : LexError). Err x) (faults_same source e f g d))
+]

@@ -1,5 +1,5 @@
 -- Bytes of a source, and the value of digits.
-use Rattle.std.specs.Prelude.{ℕ, ◌+◌, ◌-◌, ◌*◌, Bool, true, false, not, ◌&&◌, ◌||◌, List, [], ◌∷◌, fold, nat_le, ◌==◌, if◌then◌else◌}
+use Rattle.std.specs.Prelude.{ℕ, ◌+◌, ◌-◌, ◌*◌, Bool, true, false, not, ◌&&◌, ◌||◌, List, fold, nat_le, ◌==◌, if◌then◌else◌}
 use Rattle.oc_lex.specs.declared.bytes.Class.{Class}
 use Rattle.oc_lex.specs.declared.bytes.Class.TheVariants as class
 

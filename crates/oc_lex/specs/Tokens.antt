@@ -1,5 +1,5 @@
 -- The tokens of a source, and its first fault.
-use Rattle.std.specs.Prelude.{◌≡◌, ℕ, pos, ◌+◌, ◌<◌, ◌≤◌, ◌⊎◌, List, [], ◌∷◌, length, take, drop, count_by, ◌==◌, if◌then◌else◌, Option, Some, None, Result, Ok, Err}
+use Rattle.std.specs.Prelude.{◌≡◌, ℕ, pos, ◌+◌, ◌<◌, ◌⊎◌, List, [], ◌∷◌, length, take, drop, count_by, ◌==◌, if◌then◌else◌, Option, Some, None, Result, Ok, Err}
 use Rattle.oc_lex.specs.declared.bytes.Class.TheVariants as class
 use Rattle.oc_lex.specs.declared.piece.Piece.{Piece}
 use Rattle.oc_lex.specs.declared.piece.Piece.TheVariants as piece
@@ -10,7 +10,7 @@ use Rattle.oc_lex.specs.declared.lexer.LexError.{LexError}
 use Rattle.oc_lex.specs.declared.lexer.LexError.TheVariants as errors
 use Rattle.oc_lex.specs.Bytes.{class_of, value_of}
 use Rattle.oc_lex.specs.Spellings.{word_spelling, SpellsNoWord}
-use Rattle.oc_lex.specs.Pieces.{IsPiece, Longest, BeginNoPiece}
+use Rattle.oc_lex.specs.Pieces.{Longest, BeginNoPiece}
 
 -- pieces between tokens
 abbrev pub IsBetween : Piece → Type 0

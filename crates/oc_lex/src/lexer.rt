@@ -1,5 +1,6 @@
 //! From bytes to tokens.
-ghost use Rattle.std.specs.Prelude.{◌≡◌, ◌+◌, ◌≤◌, ◌<◌, ◌⊎◌, ◌++◌, List, Err, Ok, length, IfOk, IfErr, MatchResult, OnOk, MatchBool};
+ghost use Rattle.std.specs.Prelude.{◌≡◌, ◌+◌, ◌≤◌, ◌<◌, ◌⊎◌, ◌++◌, List, Err, Ok, length, IfOk, IfErr, MatchResult, OnOk, MatchBool, All};
+ghost use Rattle.oc_lex.specs.Stands.{InOrder, StandsIn};
 ghost use Rattle.oc_lex.specs.Tokens.{AreTokens, HasFault, BeginsWithLetter, Reads, feeds_of, tokens_of};
 ghost use Rattle.oc_lex.specs.declared.token.Token.{Token as SomeToken};
 ghost use Rattle.oc_lex.specs.declared.lexer.LexError.{LexError as SomeError};
@@ -39,6 +40,10 @@ pub fn lex(alloc: Global, source: &[u8]) -> Result<Vec<Token>, LexError>
     requires { length source.now ≤ 1048576 }
     // What comes with Ok are the tokens of the source.
     ensures found { IfOk result (λ tokens. AreTokens source.now tokens.items) }
+    // Each of them stands in the source, they follow each other, and they are no more than its bytes.
+    ensures stand { IfOk result (λ tokens. All (StandsIn source.now) tokens.items) }
+    ensures order { IfOk result (λ tokens. InOrder 0 tokens.items (length source.now)) }
+    ensures count { IfOk result (λ tokens. length tokens.items ≤ length source.now) }
     // Where the source has tokens, they come, unless memory runs out.
     ensures only { (ts : List SomeToken) → AreTokens source.now ts → MatchResult result (λ tokens. tokens.items ≡ ts) (λ e. e ≡ LexError.Memory) }
     // What comes with Err is the first fault of the source, or want of memory.
@@ -94,12 +99,23 @@ fn begins_with_letter(bytes: &[u8]) -> bool
     }
 }
 
-fn add(tokens: &mut Vec<Token>, kind: Option<Kind>, start: usize, end: usize, line: u32) -> Result<(), LexError>
+fn add(
+    tokens: &mut Vec<Token>,
+    kind: Option<Kind>,
+    start: usize,
+    end: usize,
+    line: u32,
+) -> Result<(), LexError>
     ensures added { OnOk result (tokens.new.items ≡ tokens.old.items ++ tokens_of kind start end line) }
     ensures refused { IfErr result (λ e. e ≡ LexError.Memory) }
 {
     if let Some(kind) = kind {
-        tokens.push(Token { kind, start, end, line })?;
+        tokens.push(Token {
+            kind,
+            start,
+            end,
+            line,
+        })?;
     }
     Ok(())
 }

@@ -9,6 +9,8 @@ mod lexer;
 mod literal;
 mod mark;
 mod piece;
+#[cfg(test)]
+mod tests;
 mod token;
 mod word;
 

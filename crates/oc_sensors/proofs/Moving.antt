@@ -6,7 +6,8 @@ use Rattle.std.proofs.lemmas.Bool.Decides.{nat_tests}
 use Rattle.std.proofs.lemmas.Bool.{cases_Bool}
 use Rattle.std.proofs.Common.{inl, inr, ◌≢◌}
 use Rattle.oc_sensors.specs.declared.sensors.Row.{Row}
-use Rattle.oc_sensors.specs.History.{shown_after, history, Ordered, Keeps}
+use Rattle.oc_sensors.specs.History.{shown_after, history}
+use Rattle.oc_sensors.specs.Keeping.{Ordered, Keeps}
 
 -- rows after a tick change nothing at it
 pub late : (rows : List Row) (value : ℤ) (n t sensor tick : ℕ) → tick < t → Ordered n t rows → shown_after value rows sensor tick ≡ value

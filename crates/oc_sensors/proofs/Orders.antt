@@ -9,7 +9,7 @@ use Rattle.oc_rows.specs.Numbers.{number_of}
 use Rattle.oc_sensors.specs.declared.sensors.Row.{Row}
 use Rattle.oc_sensors.specs.declared.file.SensorWhat.{SensorWhat}
 use Rattle.oc_sensors.specs.File.{Readings, readings, bad, row_after, row_of, row_then, sensor_of, sensor_row, sensor_rows, value_of, with_row}
-use Rattle.oc_sensors.specs.History.{Ordered}
+use Rattle.oc_sensors.specs.Keeping.{Ordered}
 
 found : (p : List ℕ → Bool) (from : ℕ) (names : List (List ℕ)) (place : ℕ) → position_from p from names ≡ Some place → place < from + length names
 found p from [] place e = cc e

@@ -170,3 +170,87 @@ pub fn read_sensors(alloc: Global, bytes: &[u8], names: &[Name]) -> Result<Senso
     let read = read_rows(alloc, &mut rows, names)?;
     Ok(Sensors::new(alloc, read, names.len())?)
 }
+
+#[cfg(test)]
+mod tests {
+    use super::*;
+    use std::alloc::AllocError;
+    use std::test::Fail;
+
+    /// The names `t` and `u`.
+    fn two_names(alloc: Global) -> Result<Vec<Name>, AllocError>
+        ensures { IfOk result (λ v. length v.items ≡ 2) }
+    {
+        let mut names = Vec::new(alloc);
+        names.push(Name::new(Vec::from_slice(alloc, b"t")?))?;
+        names.push(Name::new(Vec::from_slice(alloc, b"u")?))?;
+        Ok(names)
+    }
+
+    #[test]
+    fn tells_the_first_bad_row(rt: HostRuntime) -> Result<(), Fail> {
+        let names = two_names(rt.alloc())?;
+        let cases = [
+            ("", 1, SensorWhat::Header),
+            ("time,sensor", 1, SensorWhat::Header),
+            ("time,sensor,value,", 1, SensorWhat::Header),
+            ("time, sensor,value\n", 1, SensorWhat::Header),
+            ("\u{feff}\u{feff}time,sensor,value\n", 1, SensorWhat::Header),
+            ("time,sensor,value\n0,t", 2, SensorWhat::Fields),
+            (
+                "time,sensor,value\n0,t,1\n\n\n0,t,1,2\nx",
+                3,
+                SensorWhat::Fields,
+            ),
+            ("time,sensor,value\nx,q,x", 2, SensorWhat::Time),
+            (
+                "time,sensor,value\n9223372036854775808,q,x",
+                2,
+                SensorWhat::Time,
+            ),
+            (
+                "time,sensor,value\n00000000000000000000,q,x",
+                2,
+                SensorWhat::Time,
+            ),
+            ("time,sensor,value\n5,t,1\n4,q,x", 3, SensorWhat::Order),
+            ("time,sensor,value\n0,q,x", 2, SensorWhat::Sensor),
+            ("time,sensor,value\n0, t,x", 2, SensorWhat::Sensor),
+            ("time,sensor,value\n0,t,2147483648", 2, SensorWhat::Value),
+            ("time,sensor,value\n0,t,-2147483649", 2, SensorWhat::Value),
+            ("time,sensor,value\n0,t,+1", 2, SensorWhat::Value),
+            ("time,sensor,value\n0,t,-", 2, SensorWhat::Value),
+            (
+                "time,sensor,value\n0,t,-00000000000000000000",
+                2,
+                SensorWhat::Value,
+            ),
+            ("time,sensor,value\n0,t,", 2, SensorWhat::Value),
+        ];
+        for (text, row, what) in cases {
+            let read = read_sensors(rt.alloc(), text.as_bytes(), &names);
+            assert_eq!(rt;
+                read.err(),
+                Some(SensorError::Row { row, what }),
+                "at {text}"
+            );
+        }
+        Ok(())
+    }
+
+    #[test]
+    fn shows_the_last_row_up_to_a_tick(rt: HostRuntime) -> Result<(), Fail> {
+        let names = two_names(rt.alloc())?;
+        let text =
+            "\u{feff}time,sensor,value\r\n\"0\",t,\"21\"\r\n\r\n5,u,-2147483648\r\n5,u,-0021\r\n007,t,2147483647\r\n9,\"t\",\"-0";
+        let mut sensors = read_sensors(rt.alloc(), text.as_bytes(), &names)?;
+        assert_eq!(rt; sensors.sample(0, 0), 21);
+        assert_eq!(rt; sensors.sample(1, 4), 0);
+        assert_eq!(rt; sensors.sample(1, 5), -21);
+        assert_eq!(rt; sensors.sample(0, 5), 21);
+        assert_eq!(rt; sensors.sample(0, 8), 2147483647);
+        assert_eq!(rt; sensors.sample(0, u64::MAX), 0);
+        assert_eq!(rt; sensors.sample(1, u64::MAX), -21);
+        Ok(())
+    }
+}

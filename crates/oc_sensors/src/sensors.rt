@@ -1,6 +1,7 @@
 //! Sensors over time.
 ghost use Rattle.std.specs.Prelude.{◌≡◌, ℕ, ◌<◌, ◌≤◌, pos, length, get_or, IfOk};
-ghost use Rattle.oc_sensors.specs.History.{history, Keeps, Ordered};
+ghost use Rattle.oc_sensors.specs.History.{history};
+ghost use Rattle.oc_sensors.specs.Keeping.{Keeps, Ordered};
 
 use oc_io::Memory;
 use std::alloc::Global;
@@ -26,7 +27,8 @@ pub struct Sensors {
 
 impl Model for Sensors {
     ghost use Rattle.std.specs.Prelude.{length};
-    ghost use Rattle.oc_sensors.specs.History.{Told, Keeps};
+    ghost use Rattle.oc_sensors.specs.History.{Told};
+    ghost use Rattle.oc_sensors.specs.Keeping.{Keeps};
 
     ghost Value = { Told };
 

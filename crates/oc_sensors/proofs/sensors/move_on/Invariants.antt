@@ -1,5 +1,5 @@
 use Rattle.std.proofs.Common.{◌-◌, length}
-use Rattle.oc_sensors.specs.History.{Keeps}
+use Rattle.oc_sensors.specs.Keeping.{Keeps}
 use Rattle.oc_sensors.proofs.sensors.move_on.Given as goal
 
 abbrev pub invariant-loop-at : goal.invariant-loop-at

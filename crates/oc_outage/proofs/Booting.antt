@@ -1,0 +1,196 @@
+-- Steps of a boot.
+use Rattle.std.proofs.Common.{◌≡◌, ℕ, zero, suc, ◌+◌, ◌-◌, ◌<◌, ◌≤◌, ℤ, pos, List, [], ◌∷◌, ◌++◌, length, take, Some, refl, sym, ap, ◌∙◌, subst, ⊎_elim, arith, append-nil, Bool, true, false, get_or}
+use Rattle.std.specs.Prelude.{nat_lt, reverse, if◌then◌else◌}
+use Rattle.std.proofs.lemmas.Bool.{ltb-true, ltb-false, cases_lt, lt-ltb, le-ltb}
+use Rattle.std.proofs.lemmas.List.{length-take-le, length-reverse, reverse-append, reverse-reverse}
+use Rattle.std.proofs.Math.Seq.{take-length, take-suc}
+use Rattle.oc_tree.specs.Said.{Told}
+use Rattle.oc_tree.specs.declared.said.Said.TheVariants.{Entered}
+use Rattle.oc_undo.specs.Undo.{put_back, undo}
+use Rattle.oc_undo.specs.declared.Entry.{Entry}
+use Rattle.oc_ckpt.specs.declared.AreaState.TheVariants.{Sealed, Armed}
+use Rattle.oc_isa.specs.declared.phase.Phase.TheVariants.{Waking, Undoing, Restoring, Running}
+use Rattle.oc_isa.specs.Next.{Regs, Device}
+use Rattle.oc_isa.specs.Run.{core_at}
+use Rattle.oc_isa.specs.Power.{State, Stepped, wake, words_of, word_of, number_of, held, undone, undo_phase, undo_step, restored_pc, restored_fp, restored_stack, restore, resume, quietly}
+use Rattle.oc_items.specs.Erase.{marked, kept_samples}
+use Rattle.oc_outage.proofs.Continues as continues
+use Rattle.oc_outage.proofs.Continues.{IsAt}
+use Rattle.oc_outage.proofs.Facts.{state_at, regs_at, IsRestored, IsSealed, IsRestoring, IsWaking, IsUndoing, IsUndone, IsSettled, OnArmed, AreHonest, Stays}
+use Rattle.oc_outage.proofs.Reports.{settled_later, entry_later, honest_later, at_more, grown}
+use Rattle.oc_outage.proofs.Undone.{undo-set, undo-last, entry_number}
+use Rattle.oc_outage.proofs.Words.{IsSaved, length-words_of, saved_word, held-saved}
+
+-- the saved word number `done` is restored
+abbrev restored_one : Device → ℕ → State → Stepped
+restored_one d done s = quietly (record s {
+  phase = Restoring (suc done);
+  pc = restored_pc done (word_of s.words done) s.pc;
+  fp = restored_fp done (word_of s.words done) s.fp;
+  stack = restored_stack d.room done (word_of s.words done) s.stack;
+})
+
+stack_word : (done : ℕ) (saved : Regs) → 3 ≤ done → word_of (words_of saved) done ≡ get_or (reverse saved.stack) (done - 3) (pos 0)
+stack_word zero saved le = absurd (omega arith)
+stack_word (suc zero) saved le = absurd (omega arith)
+stack_word (suc (suc zero)) saved le = absurd (omega arith)
+stack_word (suc (suc (suc k))) saved le = let e : suc (suc (suc k)) - 3 ≡ k = omega arith in ap (λ n. get_or (reverse saved.stack) n (pos 0)) (sym e)
+
+-- nothing was restored yet
+pub none_restored : (d : Device) (pc fp : ℕ) (stack : List ℤ) (saved : Regs) → IsRestored d 0 pc fp stack saved
+none_restored d pc fp stack saved = record { upto = omega arith; pc_is = λ z. absurd (omega arith); fp_is = λ z. absurd (omega arith); stack_is = λ z. absurd (omega arith) }
+
+restored_stack-below : (room done : ℕ) (word : ℤ) (stack : List ℤ) → done < 3 → restored_stack room done word stack ≡ []
+restored_stack-below room done word stack lt = ap (λ b. if b then [] else (if nat_lt (length stack) room then word ∷ stack else stack)) (lt-ltb done 3 lt)
+
+restored_stack-from : (room done : ℕ) (word : ℤ) (stack : List ℤ) → 3 ≤ done → length stack < room → restored_stack room done word stack ≡ word ∷ stack
+restored_stack-from room done word stack le lt =
+    ap (λ b. if b then [] else (if nat_lt (length stack) room then word ∷ stack else stack)) (le-ltb done 3 le)
+    ∙ ap (λ b. if b then word ∷ stack else stack) (lt-ltb (length stack) room lt)
+
+-- one more word of the bottom of a stack
+reverse-take : (bottom : List ℤ) (k : ℕ) → k < length bottom → reverse (take (suc k) bottom) ≡ get_or bottom k (pos 0) ∷ reverse (take k bottom)
+reverse-take bottom k lt = ap reverse (take-suc bottom k (pos 0) lt) ∙ reverse-append (take k bottom) (get_or bottom k (pos 0) ∷ [])
+
+module _ (d : Device) (words : List ℤ) (saved : Regs) (is_saved : IsSaved words saved) where
+  more_pc : (done pc fp : ℕ) (stack : List ℤ) → IsRestored d done pc fp stack saved → restored_pc done (word_of words done) pc ≡ saved.pc
+  more_pc zero pc fp stack b = ap number_of (saved_word words saved 0 is_saved (omega arith))
+  more_pc (suc n) pc fp stack b = b.pc_is (omega arith)
+
+  more_fp : (done pc fp : ℕ) (stack : List ℤ) → IsRestored d done pc fp stack saved → 1 < suc done → restored_fp done (word_of words done) fp ≡ saved.fp
+  more_fp zero pc fp stack b lt = absurd (omega arith)
+  more_fp (suc zero) pc fp stack b lt = ap number_of (saved_word words saved 1 is_saved (omega arith))
+  more_fp (suc (suc n)) pc fp stack b lt = b.fp_is (omega arith)
+
+  more_stack : (done pc fp : ℕ) (stack : List ℤ) → IsRestored d done pc fp stack saved → done < length (words_of saved) → length saved.stack ≤ d.room → restored_stack d.room done (word_of words done) stack ≡ reverse (take (suc done - 3) (reverse saved.stack))
+  more_stack done pc fp stack b lt f =
+      let bottom = reverse saved.stack in
+      let same : length bottom ≡ length saved.stack = length-reverse saved.stack in
+      ⊎_elim
+      (λ l. let n : suc done - 3 ≡ 0 = omega arith in restored_stack-below d.room done _ stack l ∙ ap (λ n. reverse (take n bottom)) (sym n))
+      (λ g.
+      let e : stack ≡ reverse (take (done - 3) bottom) = b.stack_is (omega arith) in
+      let all = length-words_of saved in
+      let low : done - 3 < length bottom = omega arith in
+      let size : length stack ≡ done - 3 = ap length e ∙ length-reverse (take (done - 3) bottom) ∙ length-take-le (done - 3) bottom (omega arith) in
+      let n : suc done - 3 ≡ suc (done - 3) = omega arith in
+      let w : word_of words done ≡ get_or bottom (done - 3) (pos 0) = saved_word words saved done is_saved lt ∙ stack_word done saved g in
+      restored_stack-from d.room done (word_of words done) stack g (omega arith)
+      ∙ ap (λ x. x ∷ stack) w ∙ ap (λ l. get_or bottom (done - 3) (pos 0) ∷ l) e
+      ∙ sym (reverse-take bottom (done - 3) low) ∙ ap (λ n. reverse (take n bottom)) (sym n))
+      (cases_lt done 3)
+
+  -- one more word is restored
+  more_restored : (done pc fp : ℕ) (stack : List ℤ) → IsRestored d done pc fp stack saved → done < held words → length saved.stack ≤ d.room → IsRestored d (suc done) (restored_pc done (word_of words done) pc) (restored_fp done (word_of words done) fp) (restored_stack d.room done (word_of words done) stack) saved
+  more_restored done pc fp stack b ne f =
+      let e = held-saved words saved is_saved in
+      let u = b.upto in
+      let lt : done < length (words_of saved) = omega arith in
+      record { upto = omega arith; pc_is = λ z. more_pc done pc fp stack b; fp_is = λ z. more_fp done pc fp stack b z; stack_is = λ z. more_stack done pc fp stack b lt f }
+
+  -- all were restored
+  all_restored : (done pc fp : ℕ) (stack : List ℤ) → IsRestored d done pc fp stack saved → held words ≤ done → regs_at pc fp stack ≡ saved
+  all_restored done pc fp stack b e =
+      let q = held-saved words saved is_saved in
+      let u = b.upto in
+      let bottom = reverse saved.stack in
+      let n : done - 3 ≡ length bottom = omega arith in
+      let k : stack ≡ saved.stack = b.stack_is (omega arith) ∙ ap (λ n. reverse (take n bottom)) n ∙ ap reverse (take-length bottom) ∙ reverse-reverse saved.stack in
+      ap (λ p. regs_at p fp stack) (b.pc_is (omega arith)) ∙ ap (λ f. regs_at saved.pc f stack) (b.fp_is (omega arith)) ∙ ap (regs_at saved.pc saved.fp) k
+
+module _ (d : Device) (report : List Told) (made : ℕ) where
+  pub sealed_later : (nv words : List ℤ) → IsSealed d report made nv words → IsSealed d report (suc made) nv words
+  sealed_later nv words s = record { saved = s.saved; is_saved = s.is_saved; settled = settled_later d report made s.saved nv s.settled }
+
+  abbrev pub waking_later : (nv : List ℤ) (log : List Entry) (words : List ℤ) → IsWaking d report made nv log words → IsWaking d report (suc made) nv log words
+  waking_later nv log words s = record { region = s.region; entry = entry_later d report made s.region.number s.region.saved nv log s.entry }
+
+-- a boot from a checkpoint
+module _ (d : Device) (h : ℕ → ℕ → ℤ) (report : List Told) (made t done pc fp depth : ℕ) (stack nv : List ℤ) (log : List Entry) (words : List ℤ) (a : AreHonest d h made report) (sized : length words ≡ 3 + d.room) where
+  abbrev sealed_here : State
+  sealed_here = state_at (Restoring done) pc fp depth stack nv log Sealed words
+
+  restores_sealed : (more : Bool) → IsRestoring d report made done pc fp stack nv words → log ≡ [] → nat_lt done (held words) ≡ more → Stays d h report made t (if more then restored_one d done sealed_here else resume d Sealed sealed_here)
+  restores_sealed false s y q =
+      let e = all_restored d words s.sealed.saved s.sealed.is_saved done pc fp stack s.restored (ltb-false done (held words) q) in
+      ((subst (λ r. IsSettled d report (suc made) r nv) (sym e) (settled_later d report made s.sealed.saved nv s.sealed.settled), y), honest_later d h report made a, sized)
+  restores_sealed true s y q =
+      let settled = s.sealed.settled in
+      let f = continues.fits d _ _ settled.m (core_at s.sealed.saved 0 nv) settled.at in (
+        (
+          record {
+            sealed = record { saved = s.sealed.saved; is_saved = s.sealed.is_saved; settled = settled_later d report made s.sealed.saved nv settled };
+            restored = more_restored d words s.sealed.saved s.sealed.is_saved done pc fp stack s.restored (ltb-true done (held words) q) f;
+          },
+          y,
+        ),
+        honest_later d h report made a,
+        sized,
+      )
+
+  pub sealed_keeps : IsRestoring d report made done pc fp stack nv words → log ≡ [] → Stays d h report made t (restore d done sealed_here)
+  sealed_keeps s y = restores_sealed (nat_lt done (held words)) s y refl
+
+-- a boot in a region: the last entries are put back first
+module _ (d : Device) (report : List Told) (made pc fp depth : ℕ) (stack nv : List ℤ) (log : List Entry) (words : List ℤ) where
+  undo_from : (k : ℕ) → (s : IsWaking d report made nv log words) → k ≤ length log → undo (take k log) nv ≡ s.entry.entry_nv → OnArmed d (undo_phase k) depth (state_at (undo_phase k) pc fp depth stack nv log Armed words) report made
+  undo_from zero s le u = record { waking = s; same = u; restored = none_restored d pc fp stack s.region.saved }
+  undo_from (suc k) s le u = record { waking = s; short = omega arith; rest = u }
+
+module _ (d : Device) (h : ℕ → ℕ → ℤ) (report : List Told) (made t pc fp depth : ℕ) (stack nv : List ℤ) (log : List Entry) (words : List ℤ) (a : AreHonest d h made report) (sized : length words ≡ 3 + d.room) where
+  pub armed_wakes : IsWaking d report made nv log words → Stays d h report made t (wake d Armed (state_at Waking pc fp depth stack nv log Armed words))
+  armed_wakes s =
+      (undo_from d report (suc made) pc fp depth stack nv log words (length log) (waking_later d report made nv log words s) (omega arith) (ap (λ l. undo l nv) (take-length log) ∙ s.entry.undoes), honest_later d h report made a, sized)
+
+  pub undo_keeps : (k : ℕ) → IsUndoing d report made nv log words k → Stays d h report made t (undo_step k (state_at (Undoing k) pc fp depth stack nv log Armed words))
+  undo_keeps k u =
+      let l = entry_number log k u.short in
+      let e = l.entry in
+      let s = u.waking.entry in
+      let waking : IsWaking d report (suc made) (put_back e nv) log words = record { region = u.waking.region; entry = record { m = s.m; within = omega arith; entry_nv = s.entry_nv; undoes = undo-set log nv e.addr e.old l.has ∙ s.undoes; at = s.at; closed = s.closed } } in
+      let rest : undo (take k log) (put_back e nv) ≡ s.entry_nv = sym (undo-last (take k log) e nv) ∙ ap (λ l. undo l nv) (sym l.taken) ∙ u.rest in
+      let here : OnArmed d (undo_phase k) depth (state_at (undo_phase k) pc fp depth stack (put_back e nv) log Armed words) report (suc made) = undo_from d report (suc made) pc fp depth stack (put_back e nv) log words k waking (omega (arith, u.short)) rest in
+      subst (λ o. Stays d h report made t (quietly (state_at (undo_phase k) pc fp depth stack (undone o nv) log Armed words))) (sym l.got)
+      (here, honest_later d h report made a, sized)
+
+  -- the entry again, from the area
+  resumes : (w : IsWaking d report made nv log words) → nv ≡ w.entry.entry_nv → regs_at pc fp stack ≡ w.region.saved → Stays d h report made t (record { state = state_at Running pc fp 1 stack nv log Armed words; said = Some (Entered (d.region pc)) })
+  resumes w same eq =
+      let s = w.entry in
+      let r = w.region.number in
+      let saved = w.region.saved in
+      let regs = regs_at pc fp stack in
+      let there = subst (λ l. IsAt d (kept_samples report) (marked report ++ Entered r ∷ []) s.m (core_at saved 1 l)) (sym same) s.at in
+      let here = subst (λ g. IsAt d (kept_samples report) (marked report ++ Entered r ∷ []) s.m (core_at g 1 nv)) (sym eq) there in
+      let at = at_more d report t (Entered r) tt (kept_samples report) (marked report ++ Entered r ∷ []) s.m (core_at regs 1 nv) (sym (append-nil (kept_samples report))) refl here in
+      let n : d.region pc ≡ r = ap (λ (g : Regs). d.region g.pc) eq ∙ w.region.found in
+      subst (λ q. Stays d h report made t (record { state = state_at Running pc fp 1 stack nv log Armed words; said = Some (Entered q) })) (sym n) (
+        record {
+          region = w.region;
+          attempt = record {
+            before = report;
+            tick = t;
+            body = [];
+            parts = refl;
+            plain = tt;
+            entry = entry_later d report made r saved nv log s;
+            m = s.m;
+            within = omega (arith, s.within);
+            at = at;
+          };
+        },
+        grown d report t (Entered r) tt h made s.m (core_at regs 1 nv) a at (omega (arith, s.within)) (tt, tt) tt,
+        sized,
+      )
+
+  restores_armed : (done : ℕ) (more : Bool) → IsUndone d report made done pc fp stack nv log words → nat_lt done (held words) ≡ more → Stays d h report made t (if more then restored_one d done (state_at (Restoring done) pc fp depth stack nv log Armed words) else resume d Armed (state_at (Restoring done) pc fp depth stack nv log Armed words))
+  restores_armed done false s q =
+      resumes s.waking s.same (all_restored d words s.waking.region.saved s.waking.region.is_saved done pc fp stack s.restored (ltb-false done (held words) q))
+  restores_armed done true s q =
+      let e = s.waking.entry in
+      let g = s.waking.region in
+      let f = continues.fits d _ _ e.m (core_at g.saved 1 e.entry_nv) e.at in
+      (record { waking = waking_later d report made nv log words s.waking; same = s.same; restored = more_restored d words g.saved g.is_saved done pc fp stack s.restored (ltb-true done (held words) q) f }, honest_later d h report made a, sized)
+
+  pub undone_keeps : (done : ℕ) → IsUndone d report made done pc fp stack nv log words → Stays d h report made t (restore d done (state_at (Restoring done) pc fp depth stack nv log Armed words))
+  undone_keeps done s = restores_armed done (nat_lt done (held words)) s refl

@@ -1,0 +1,14 @@
+pub mod Erasing
+pub mod Growing
+pub mod Undone
+pub mod Words
+pub mod Continues
+pub mod Facts
+pub mod Reports
+pub mod Outside
+pub mod Inside
+pub mod Booting
+pub mod Outages
+pub mod Runs
+pub mod Lasting
+pub mod Enters

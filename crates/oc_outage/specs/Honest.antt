@@ -1,0 +1,80 @@
+-- What a report keeps, whenever power fails, and how a run is left.
+use Rattle.std.specs.Prelude.{◌≡◌, ◌≤◌, ℕ, ◌+◌, ℤ, List, [], ◌∷◌, ◌++◌, Bool, true, false, not, if◌then◌else◌}
+use Rattle.oc_io.specs.declared.period.Period.{Period}
+use Rattle.oc_tree.specs.Said.{Told}
+use Rattle.oc_tree.specs.declared.said.Ending.{Ending}
+use Rattle.oc_tree.specs.declared.said.Said.{Said}
+use Rattle.oc_tree.specs.declared.said.Said.TheVariants.{Sensed, Off, Dark, Ended}
+use Rattle.oc_ckpt.specs.declared.AreaState.{AreaState}
+use Rattle.oc_ckpt.specs.declared.AreaState.TheVariants.{Armed}
+use Rattle.oc_isa.specs.declared.phase.Phase.{Phase}
+use Rattle.oc_isa.specs.declared.phase.Phase.TheVariants.{Running, Entering, Over, Lost}
+use Rattle.oc_isa.specs.Next.{Regs, Enters, Device}
+use Rattle.oc_isa.specs.Run.{continuous_run}
+use Rattle.oc_isa.specs.Power.{State, World, ticks_on, one_period}
+use Rattle.oc_items.specs.Erase.{erase, marked, kept_samples, HasNoOffInside}
+
+-- an `enter` is found before the address that it leads to
+pub record IsFit (d : Device) : Type 0 where
+  pub entered : (regs : Regs) (nv : List ℤ) (r : ℕ) (to : Regs) → d.next regs nv ≡ Enters r to → d.region to.pc ≡ r
+
+-- how many steps the periods have
+abbrev pub all_on : List Period → ℕ
+all_on [] = 0
+all_on (p ∷ periods) = p.on + all_on periods
+
+abbrev pub IsPrefixOf : List Said → List Said → Type 0
+IsPrefixOf xs ys = (rest : List Said) × (xs ++ rest ≡ ys)
+
+-- an input has what the sensor's history has at its tick
+abbrev pub IsRead : (ℕ → ℕ → ℤ) → ℕ → Said → Type 0
+IsRead h tick (Sensed sensor value) = value ≡ h sensor tick
+IsRead h tick s = Unit {0}
+
+abbrev pub AreRead : (ℕ → ℕ → ℤ) → List Told → Type 0
+AreRead h [] = Unit {0}
+AreRead h (i ∷ is) = IsRead h i.tick i.said × AreRead h is
+
+-- without its aborted attempts, a report says what the continuous run says in its first n instructions, over the kept
+-- samples, or a prefix of it; no outage lies in a region; and each input is the sensor's
+pub record IsHonest (d : Device) (h : ℕ → ℕ → ℤ) (n : ℕ) (report : List Told) : Type 0 where
+  pub said : IsPrefixOf (marked report) ((continuous_run d (kept_samples report) n).out)
+  pub outside : HasNoOffInside false (erase report)
+  pub read : AreRead h report
+
+-- over the kept samples the continuous run says what the report says and leaves these nonvolatile words, in n
+-- instructions and in any more
+pub record IsWhole (d : Device) (n : ℕ) (report : List Told) (nv : List ℤ) : Type 0 where
+  pub said : (more : ℕ) → n ≤ more → (continuous_run d (kept_samples report) more).out ≡ marked report
+  pub left : (more : ℕ) → n ≤ more → (continuous_run d (kept_samples report) more).core.nv ≡ nv
+
+-- How a run is left
+
+abbrev pub EndsWith : List Told → Said → Type 0
+EndsWith report s = (before : List Told) × (tick : ℕ) × (report ≡ before ++ record { tick = tick; said = s } ∷ [])
+
+-- the last item, where the run ended by itself, lost a checkpoint, or used the periods up
+abbrev pub IsLeft : Phase → List Told → Type 0
+IsLeft Over report = (how : Ending) × EndsWith report (Ended how)
+IsLeft Lost report = (ticks : ℕ) × EndsWith report (Off ticks)
+IsLeft phase report = EndsWith report Dark
+
+-- boot is over, and the run goes on
+abbrev pub is_awake : Phase → Bool
+is_awake Running = true
+is_awake (Entering done) = true
+is_awake phase = false
+
+abbrev pub is_armed : AreaState → Bool
+is_armed Armed = true
+is_armed area = false
+
+-- at the end of this period a checkpoint is cut: one is taken where boot is over and no region is under way
+abbrev pub loses : Period → State → Bool
+loses p s = if p.cut then (if is_awake s.phase then not (is_armed s.area) else false) else false
+
+-- some period ends with a checkpoint that is cut
+abbrev pub loses_checkpoint : Device → (ℕ → ℕ → ℤ) → List Period → World → Bool
+loses_checkpoint d h [] w = false
+loses_checkpoint d h (p ∷ periods) w =
+    if loses p (ticks_on d h p.on w).state then true else loses_checkpoint d h periods (one_period d h p w)

@@ -1,0 +1,62 @@
+//! Power may fail after any step, and without its aborted attempts a report says what a run without
+//! outages says.
+//!
+//! Laws over the definitions of runs and reports, whatever the instructions are. A law is a function
+//! that does nothing, and its contract says the law.
+#![tactic(auto)]
+
+ghost use Rattle.std.specs.Prelude.{◌≡◌, ◌↔◌, ℕ, ℤ, List, [], ◌∷◌, ◌++◌, true};
+ghost use Rattle.oc_io.specs.declared.period.Period.{Period};
+ghost use Rattle.oc_tree.specs.Said.{Told};
+ghost use Rattle.oc_tree.specs.Word.{is_word};
+ghost use Rattle.oc_tree.specs.declared.said.Ending.{Ending};
+ghost use Rattle.oc_tree.specs.declared.said.Said.{Said};
+ghost use Rattle.oc_tree.specs.declared.said.Said.TheVariants.{Ended};
+ghost use Rattle.oc_isa.specs.declared.phase.Phase.TheVariants.{Over, Lost};
+ghost use Rattle.oc_isa.specs.Image.{Parts};
+ghost use Rattle.oc_isa.specs.Next.{Device};
+ghost use Rattle.oc_isa.specs.Run.{IsSound};
+ghost use Rattle.oc_isa.specs.Power.{first_world, power_run};
+ghost use Rattle.oc_isa.specs.Table.{device_of};
+ghost use Rattle.oc_items.specs.Erase.{marked};
+ghost use Rattle.oc_outage.specs.Honest.{IsFit, IsHonest, IsWhole, EndsWith, IsLeft, all_on, loses_checkpoint};
+
+/// Every prefix of the report of a run over any periods of power is honest: without its aborted
+/// attempts it says what the run without outages says, no outage lies in a region, and each input
+/// has the value that its sensor had then.
+pub fn honest()
+    ensures { (d : Device) (h : ℕ → ℕ → ℤ) (periods : List Period) (q rest : List Told) →
+        IsFit d → IsSound d → ((sensor tick : ℕ) → is_word (h sensor tick) ≡ true) →
+        q ++ rest ≡ (power_run d h periods).report → IsHonest d h (all_on periods) q }
+{}
+
+/// Where a run ends by itself, its report says the whole of the run without outages over the kept
+/// samples, and leaves the same nonvolatile words. What is left of such a report ends with that
+/// last word, so the run without outages has ended too.
+pub fn ended()
+    ensures whole { (d : Device) (h : ℕ → ℕ → ℤ) (periods : List Period) (how : Ending) →
+        IsFit d → IsSound d → ((sensor tick : ℕ) → is_word (h sensor tick) ≡ true) →
+        EndsWith (power_run d h periods).report (Ended how) →
+        IsWhole d (all_on periods) (power_run d h periods).report (power_run d h periods).state.nv }
+    ensures last { (report : List Told) (how : Ending) → EndsWith report (Ended how) →
+        (before : List Said) × (marked report ≡ before ++ Ended how ∷ []) }
+{}
+
+/// How a run is left, whatever the image: it ended by itself exactly where that is its report's
+/// last item, it lost a checkpoint exactly where some period cuts one, and then its last item is an
+/// outage; else the periods were used up, and the last item says so.
+pub fn left()
+    ensures last { (d : Device) (h : ℕ → ℕ → ℤ) (periods : List Period) →
+        IsLeft (power_run d h periods).state.phase (power_run d h periods).report }
+    ensures over { (d : Device) (h : ℕ → ℕ → ℤ) (periods : List Period) →
+        ((power_run d h periods).state.phase ≡ Over) ↔
+        ((how : Ending) × EndsWith (power_run d h periods).report (Ended how)) }
+    ensures lost { (d : Device) (h : ℕ → ℕ → ℤ) (periods : List Period) →
+        ((power_run d h periods).state.phase ≡ Lost) ↔
+        (loses_checkpoint d h periods (first_world d) ≡ true) }
+{}
+
+/// In every image an `enter` stands before the address that it leads to.
+pub fn fit()
+    ensures { (i : Parts) → IsFit (device_of i) }
+{}

@@ -4,3 +4,4 @@ pub mod Numbers
 pub mod Places
 pub mod Back
 pub mod NvBack
+pub mod Spelled

@@ -3,6 +3,7 @@ use Rattle.std.specs.Prelude.{ℕ, ℤ, ◌^◌, ◌<◌, ◌≡◌, ◌≢◌, 
 use Rattle.std.specs.Int.{w32}
 use Rattle.std.specs.List.{All, AllPairs}
 use Rattle.oc_tree.specs.Names.{NameLists, Text}
+use Rattle.oc_tree.specs.Spelling.{is_name}
 use Rattle.oc_items.specs.declared.item.Item.{Item}
 use Rattle.oc_items.specs.declared.item.Item.TheVariants as item
 use Rattle.oc_items.specs.Text.{IsNamed, tick_of, report_text, full_text, is_over}
@@ -11,7 +12,7 @@ use Rattle.oc_items.specs.Text.{IsNamed, tick_of, report_text, full_text, is_ove
 abbrev pub ends_field : ℕ → Bool
 ends_field b = (b == 32) || (b == 10)
 
--- none of these bytes ends a field, as none of a name of the language does
+-- none of these bytes ends a field
 abbrev pub is_field : List ℕ → Bool
 is_field [] = true
 is_field (b ∷ rest) = not (ends_field b) && is_field rest
@@ -59,3 +60,7 @@ OneReportEach = (names : NameLists) (sizes : List ℕ) (a b : List Item) (u v : 
     → All (FitsSigned w32) u → All (FitsSigned w32) v
     → full_text names sizes a u ≡ full_text names sizes b v
     → (a ≡ b) × (is_over a ≡ true → u ≡ v)
+
+-- names of the language are fields
+abbrev pub NamesAreFields : Type 0
+NamesAreFields = (name : Text) → is_name name ≡ true → is_field name ≡ true

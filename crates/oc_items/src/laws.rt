@@ -1,5 +1,10 @@
 //! What the text of a report tells.
-ghost use Rattle.oc_items.specs.OneText.{OneReportEach, OneTextEach};
+ghost use Rattle.oc_items.specs.OneText.{NamesAreFields, OneReportEach, OneTextEach};
+
+/// No byte of a name of the language is a space or a line feed.
+pub fn names_are_fields()
+    ensures { NamesAreFields }
+{}
 
 /// Under names of which no two of one kind are the same, two lists of items with the same text are
 /// equal.

@@ -4,3 +4,4 @@ pub mod Nodes
 pub mod Names
 pub mod Said
 pub mod Word
+pub mod Spelling

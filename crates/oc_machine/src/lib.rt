@@ -7,7 +7,7 @@
 
 mod act;
 mod boot;
-//mod execute;
+mod execute;
 pub mod machine;
 mod outage;
 mod region;

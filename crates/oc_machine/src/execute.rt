@@ -6,7 +6,7 @@ ghost use Rattle.oc_undo.specs.Undo.{has_entry};
 ghost use Rattle.oc_isa.specs.Power;
 ghost use Rattle.oc_isa.specs.Table;
 ghost use Rattle.oc_isa.specs.Table.{device_of};
-ghost use Rattle.oc_machine.specs.Acting.{regs_at, write_at, writing};
+ghost use Rattle.oc_machine.specs.Acting.{IsSampled, may_store, regs_at, write_at, writing};
 
 use crate::act::{NV_BASE, Outcome, act, address};
 use crate::machine::Machine;
@@ -20,7 +20,7 @@ use oc_tree::said::{Said, Shown};
 fn fetch(image: &Image, pc: u32) -> Option<Placed>
     ensures found { result ≡ slice_get image.now.code pc }
     ensures exists { IfSome result (λ p. Exists image.now p.instr) }
-    ensures inside { IfSome result (λ _. pc < length image.now.code) }
+    ensures low { IfSome result (λ _. pc + 1 < 2 ^ 31) }
 {
     match image.raw().code.get(pc as usize) {
         Some(placed) => Some(*placed),
@@ -144,6 +144,83 @@ impl Machine {
             self.write(a - NV_BASE, word, 2)
         } else {
             None
+        }
+    }
+
+    /// The instruction at the program counter, at this tick.
+    pub(crate) fn run_one(&mut self, h: &mut Sensors, now: u64) -> Option<Said>
+        requires running { self.old.state.phase ≡ Phase.Running }
+        requires depth { self.old.state.depth < 2 ^ 63 }
+        requires sensors { h.old.sensors ≡ length self.old.parts.names.sensors }
+        requires later { h.old.now ≤ now }
+        ensures state { self.new ≡ record { parts = self.old.parts; state = (Power.run_next (λ sensor. history h.old.rows sensor now) (Power.next_at (device_of self.old.parts) self.old.state) self.old.state).state } }
+        ensures said { result ≡ (Power.run_next (λ sensor. history h.old.rows sensor now) (Power.next_at (device_of self.old.parts) self.old.state) self.old.state).said }
+        ensures sensors { IsSampled h.old h.new now }
+    {
+        match fetch(&self.image, self.pc) {
+            Some(placed) => self.execute(placed, h, now),
+            None => None,
+        }
+    }
+
+    fn execute(&mut self, placed: Placed, h: &mut Sensors, now: u64) -> Option<Said>
+        requires running { self.old.state.phase ≡ Phase.Running }
+        requires depth { self.old.state.depth < 2 ^ 63 }
+        requires sensors { h.old.sensors ≡ length self.old.parts.names.sensors }
+        requires later { h.old.now ≤ now }
+        requires exists { Exists self.old.parts placed.instr }
+        requires pc { self.old.state.pc + 1 < 2 ^ 31 }
+        ensures state { self.new ≡ record { parts = self.old.parts; state = (Power.run_next (λ sensor. history h.old.rows sensor now) (Table.act self.old.parts placed.site placed.instr (Power.regs_of self.old.state) self.old.state.nv) self.old.state).state } }
+        ensures said { result ≡ (Power.run_next (λ sensor. history h.old.rows sensor now) (Table.act self.old.parts placed.site placed.instr (Power.regs_of self.old.state) self.old.state.nv) self.old.state).said }
+        ensures sensors { IsSampled h.old h.new now }
+    {
+        match placed.instr {
+            Instr::Nstore { a } => self.nstore(a),
+            Instr::Put => self.put(),
+            _ => self.execute_other(placed, h, now),
+        }
+    }
+
+    /// An instruction that isn't one of the two that may write a nonvolatile word.
+    fn execute_other(&mut self, placed: Placed, h: &mut Sensors, now: u64) -> Option<Said>
+        requires store { may_store placed.instr ≡ false }
+        requires running { self.old.state.phase ≡ Phase.Running }
+        requires depth { self.old.state.depth < 2 ^ 63 }
+        requires sensors { h.old.sensors ≡ length self.old.parts.names.sensors }
+        requires later { h.old.now ≤ now }
+        requires exists { Exists self.old.parts placed.instr }
+        requires pc { self.old.state.pc + 1 < 2 ^ 31 }
+        ensures state { self.new ≡ record { parts = self.old.parts; state = (Power.run_next (λ sensor. history h.old.rows sensor now) (Table.act self.old.parts placed.site placed.instr (Power.regs_of self.old.state) self.old.state.nv) self.old.state).state } }
+        ensures said { result ≡ (Power.run_next (λ sensor. history h.old.rows sensor now) (Table.act self.old.parts placed.site placed.instr (Power.regs_of self.old.state) self.old.state.nv) self.old.state).said }
+        ensures sensors { IsSampled h.old h.new now }
+    {
+        let outcome = act(
+            self.image.raw(),
+            placed,
+            self.pc,
+            self.fp,
+            &mut self.stack,
+            &self.nvm,
+        );
+        match outcome {
+            Outcome::Went { pc, fp, shown } => {
+                self.pc = pc;
+                self.fp = fp;
+                said_of(shown)
+            }
+            Outcome::Sampled { sensor, pc } => {
+                let value = h.sample(sensor, now);
+                self.stack.push(value);
+                self.pc = pc;
+                Some(Said::Sensed { sensor, value })
+            }
+            Outcome::Entering { region, pc } => self.enters(region, pc),
+            Outcome::Committing { region, pc } => self.commits(region, pc),
+            Outcome::Ended { how } => {
+                self.phase = Phase::Over;
+                Some(Said::Ended { how })
+            }
+            Outcome::Undefined => None,
         }
     }
 }

@@ -2,6 +2,7 @@
 ghost use Rattle.std.specs.Prelude.{◌≡◌, ◌+◌, ◌<◌, ◌^◌, ℕ, List, length, suc};
 ghost use Rattle.oc_isa.specs.Image.{parts_of};
 ghost use Rattle.oc_isa.specs.Power;
+ghost use Rattle.oc_machine.specs.Acting.{IsNamedSaid};
 ghost use Rattle.oc_isa.specs.Table;
 ghost use Rattle.oc_isa.specs.Table.{device_of};
 
@@ -68,6 +69,7 @@ impl Machine {
     pub(crate) fn wake(&mut self) -> Option<Said>
         ensures state { self.new ≡ record { parts = self.old.parts; state = (Power.wake (device_of self.old.parts) self.old.state.area self.old.state).state } }
         ensures said { result ≡ (Power.wake (device_of self.old.parts) self.old.state.area self.old.state).said }
+        ensures named { IsNamedSaid self.old.parts.names result }
     {
         match self.area.state() {
             AreaState::Fresh => self.start(),
@@ -101,6 +103,7 @@ impl Machine {
         requires { self.old.state.phase ≡ Phase.Undoing next }
         ensures state { self.new ≡ record { parts = self.old.parts; state = (Power.undo_step next self.old.state).state } }
         ensures said { result ≡ (Power.undo_step next self.old.state).said }
+        ensures named { IsNamedSaid self.old.parts.names result }
     {
         let fits = self.log.words() <= self.nvm.len();
         prove!(fits);
@@ -113,6 +116,7 @@ impl Machine {
     pub(crate) fn restore(&mut self, done: usize) -> Option<Said>
         ensures state { self.new ≡ record { parts = self.old.parts; state = (Power.restore (device_of self.old.parts) done self.old.state).state } }
         ensures said { result ≡ (Power.restore (device_of self.old.parts) done self.old.state).said }
+        ensures named { IsNamedSaid self.old.parts.names result }
     {
         let held = 3 + number_of(self.saved(2)) as usize;
         if done < held {
@@ -152,6 +156,7 @@ impl Machine {
     fn resume(&mut self) -> Option<Said>
         ensures state { self.new ≡ record { parts = self.old.parts; state = (Power.resume (device_of self.old.parts) self.old.state.area self.old.state).state } }
         ensures said { result ≡ (Power.resume (device_of self.old.parts) self.old.state.area self.old.state).said }
+        ensures named { IsNamedSaid self.old.parts.names result }
     {
         match self.area.state() {
             AreaState::Fresh => None,

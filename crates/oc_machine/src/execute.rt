@@ -6,7 +6,7 @@ ghost use Rattle.oc_undo.specs.Undo.{has_entry};
 ghost use Rattle.oc_isa.specs.Power;
 ghost use Rattle.oc_isa.specs.Table;
 ghost use Rattle.oc_isa.specs.Table.{device_of};
-ghost use Rattle.oc_machine.specs.Acting.{IsSampled, may_store, regs_at, write_at, writing};
+ghost use Rattle.oc_machine.specs.Acting.{IsNamedSaid, IsSampled, may_store, regs_at, write_at, writing};
 
 use crate::act::{NV_BASE, Outcome, act, address};
 use crate::machine::Machine;
@@ -58,6 +58,7 @@ impl Machine {
         requires running { self.old.state.phase ≡ Phase.Running }
         ensures state { self.new ≡ record { parts = self.old.parts; state = (writing addr word (regs_at (self.old.state.pc + 1) self.old.state.fp (drop operands self.old.state.stack)) self.old.state).state } }
         ensures said { result ≡ (writing addr word (regs_at (self.old.state.pc + 1) self.old.state.fp (drop operands self.old.state.stack)) self.old.state).said }
+        ensures named { IsNamedSaid self.old.parts.names result }
     {
         if self.must_log(addr) {
             self.note(addr);
@@ -95,6 +96,7 @@ impl Machine {
         requires running { self.old.state.phase ≡ Phase.Running }
         ensures state { (sample : ℕ → ℤ) → self.new ≡ record { parts = self.old.parts; state = (Power.run_next sample (Table.nstores (self.old.state.pc + 1) self.old.state.fp self.old.state.stack self.old.state.nv a) self.old.state).state } }
         ensures said { (sample : ℕ → ℤ) → result ≡ (Power.run_next sample (Table.nstores (self.old.state.pc + 1) self.old.state.fp self.old.state.stack self.old.state.nv a) self.old.state).said }
+        ensures named { IsNamedSaid self.old.parts.names result }
     {
         match self.stack.top(self.fp as usize) {
             Some(word) => {
@@ -114,6 +116,7 @@ impl Machine {
         requires running { self.old.state.phase ≡ Phase.Running }
         ensures state { (sample : ℕ → ℤ) → self.new ≡ record { parts = self.old.parts; state = (Power.run_next sample (Table.puts (self.old.state.pc + 1) self.old.state.fp self.old.state.stack self.old.state.nv) self.old.state).state } }
         ensures said { (sample : ℕ → ℤ) → result ≡ (Power.run_next sample (Table.puts (self.old.state.pc + 1) self.old.state.fp self.old.state.stack self.old.state.nv) self.old.state).said }
+        ensures named { IsNamedSaid self.old.parts.names result }
     {
         match self.stack.top_two(self.fp as usize) {
             Some((base, word)) => match address(base) {
@@ -131,6 +134,7 @@ impl Machine {
         requires operands { 2 ≤ length self.old.state.stack }
         ensures state { (sample : ℕ → ℤ) → self.new ≡ record { parts = self.old.parts; state = (Power.run_next sample (Table.puts_at (self.old.state.pc + 1) self.old.state.fp self.old.state.stack (drop 2 self.old.state.stack) self.old.state.nv a word) self.old.state).state } }
         ensures said { (sample : ℕ → ℤ) → result ≡ (Power.run_next sample (Table.puts_at (self.old.state.pc + 1) self.old.state.fp self.old.state.stack (drop 2 self.old.state.stack) self.old.state.nv a word) self.old.state).said }
+        ensures named { IsNamedSaid self.old.parts.names result }
     {
         if a < NV_BASE {
             if (a as usize) < self.stack.len() {
@@ -155,6 +159,7 @@ impl Machine {
         requires later { h.old.now ≤ now }
         ensures state { self.new ≡ record { parts = self.old.parts; state = (Power.run_next (λ sensor. history h.old.rows sensor now) (Power.next_at (device_of self.old.parts) self.old.state) self.old.state).state } }
         ensures said { result ≡ (Power.run_next (λ sensor. history h.old.rows sensor now) (Power.next_at (device_of self.old.parts) self.old.state) self.old.state).said }
+        ensures named { IsNamedSaid self.old.parts.names result }
         ensures sensors { IsSampled h.old h.new now }
     {
         match fetch(&self.image, self.pc) {
@@ -172,6 +177,7 @@ impl Machine {
         requires pc { self.old.state.pc + 1 < 2 ^ 31 }
         ensures state { self.new ≡ record { parts = self.old.parts; state = (Power.run_next (λ sensor. history h.old.rows sensor now) (Table.act self.old.parts placed.site placed.instr (Power.regs_of self.old.state) self.old.state.nv) self.old.state).state } }
         ensures said { result ≡ (Power.run_next (λ sensor. history h.old.rows sensor now) (Table.act self.old.parts placed.site placed.instr (Power.regs_of self.old.state) self.old.state.nv) self.old.state).said }
+        ensures named { IsNamedSaid self.old.parts.names result }
         ensures sensors { IsSampled h.old h.new now }
     {
         match placed.instr {
@@ -192,6 +198,7 @@ impl Machine {
         requires pc { self.old.state.pc + 1 < 2 ^ 31 }
         ensures state { self.new ≡ record { parts = self.old.parts; state = (Power.run_next (λ sensor. history h.old.rows sensor now) (Table.act self.old.parts placed.site placed.instr (Power.regs_of self.old.state) self.old.state.nv) self.old.state).state } }
         ensures said { result ≡ (Power.run_next (λ sensor. history h.old.rows sensor now) (Table.act self.old.parts placed.site placed.instr (Power.regs_of self.old.state) self.old.state.nv) self.old.state).said }
+        ensures named { IsNamedSaid self.old.parts.names result }
         ensures sensors { IsSampled h.old h.new now }
     {
         let outcome = act(

@@ -11,4 +11,5 @@ mod execute;
 pub mod machine;
 mod outage;
 mod region;
+pub mod run;
 pub mod stack;

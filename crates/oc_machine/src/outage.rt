@@ -1,6 +1,7 @@
 //! What a failure of power does.
 ghost use Rattle.std.specs.Prelude.{◌≡◌};
 ghost use Rattle.oc_isa.specs.Power;
+ghost use Rattle.oc_machine.specs.Acting.{IsNamedSaid};
 ghost use Rattle.oc_isa.specs.Table.{device_of};
 
 use crate::boot::{number_of, region_before};
@@ -14,6 +15,7 @@ impl Machine {
     pub(crate) fn fail(&mut self, cut: bool) -> Option<Said>
         ensures state { self.new ≡ record { parts = self.old.parts; state = (Power.fail_in (device_of self.old.parts) cut self.old.state.phase self.old.state).state } }
         ensures said { result ≡ (Power.fail_in (device_of self.old.parts) cut self.old.state.phase self.old.state).said }
+        ensures named { IsNamedSaid self.old.parts.names result }
     {
         match self.phase {
             Phase::Waking | Phase::Undoing { .. } | Phase::Restoring { .. } => {
@@ -29,6 +31,7 @@ impl Machine {
     fn fail_awake(&mut self, cut: bool) -> Option<Said>
         ensures state { self.new ≡ record { parts = self.old.parts; state = (Power.fail_awake (device_of self.old.parts) cut self.old.state).state } }
         ensures said { result ≡ (Power.fail_awake (device_of self.old.parts) cut self.old.state).said }
+        ensures named { IsNamedSaid self.old.parts.names result }
     {
         match self.area.state() {
             AreaState::Armed => {

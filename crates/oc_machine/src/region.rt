@@ -2,7 +2,7 @@
 ghost use Rattle.std.specs.Prelude.{◌≡◌, ◌+◌, ◌<◌, ◌^◌, ℕ, List, [], length, slice_get};
 ghost use Rattle.oc_isa.specs.Power;
 ghost use Rattle.oc_isa.specs.Table.{device_of};
-ghost use Rattle.oc_machine.specs.Acting.{enter_in, regs_at};
+ghost use Rattle.oc_machine.specs.Acting.{IsNamedSaid, enter_in, regs_at};
 
 use crate::machine::Machine;
 use oc_ckpt::AreaState;
@@ -30,6 +30,7 @@ impl Machine {
         requires { to < 2 ^ 31 }
         ensures state { self.new ≡ record { parts = self.old.parts; state = (Power.enter done region (regs_at to self.old.state.fp self.old.state.stack) self.old.state).state } }
         ensures said { result ≡ (Power.enter done region (regs_at to self.old.state.fp self.old.state.stack) self.old.state).said }
+        ensures named { IsNamedSaid self.old.parts.names result }
     {
         if done < 3 + self.stack.len() {
             let word = self.word_to_save(to, done);
@@ -51,6 +52,7 @@ impl Machine {
         requires to { to < 2 ^ 31 }
         ensures state { self.new ≡ record { parts = self.old.parts; state = (Power.enters self.old.state.depth region (regs_at to self.old.state.fp self.old.state.stack) self.old.state).state } }
         ensures said { result ≡ (Power.enters self.old.state.depth region (regs_at to self.old.state.fp self.old.state.stack) self.old.state).said }
+        ensures named { IsNamedSaid self.old.parts.names result }
     {
         if self.depth == 0 {
             self.enter(0, region, to)
@@ -67,6 +69,7 @@ impl Machine {
         requires { to < 2 ^ 31 }
         ensures state { self.new ≡ record { parts = self.old.parts; state = (Power.commits self.old.state.depth region (regs_at to self.old.state.fp self.old.state.stack) self.old.state).state } }
         ensures said { result ≡ (Power.commits self.old.state.depth region (regs_at to self.old.state.fp self.old.state.stack) self.old.state).said }
+        ensures named { IsNamedSaid self.old.parts.names result }
     {
         match self.depth {
             0 => None,
@@ -91,6 +94,7 @@ impl Machine {
     pub(crate) fn enter_on(&mut self, done: usize) -> Option<Said>
         ensures state { self.new ≡ record { parts = self.old.parts; state = (Power.enter_on done (Power.next_at (device_of self.old.parts) self.old.state) self.old.state).state } }
         ensures said { result ≡ (Power.enter_on done (Power.next_at (device_of self.old.parts) self.old.state) self.old.state).said }
+        ensures named { IsNamedSaid self.old.parts.names result }
     {
         match enter_at(&self.image.raw().code, self.pc) {
             Some(region) => self.enter(done, region, self.pc + 1),

@@ -224,7 +224,7 @@ impl Machine {
             Outcome::Entering { region, pc } => self.enters(region, pc),
             Outcome::Committing { region, pc } => self.commits(region, pc),
             Outcome::Ended { how } => {
-                self.phase = Phase::Over;
+                self.phase = Phase::Over { how };
                 Some(Said::Ended { how })
             }
             Outcome::Undefined => None,

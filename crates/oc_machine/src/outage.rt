@@ -23,7 +23,7 @@ impl Machine {
                 None
             }
             Phase::Running | Phase::Entering { .. } => self.fail_awake(cut),
-            Phase::Over | Phase::Lost => None,
+            Phase::Over { .. } | Phase::Lost => None,
         }
     }
 

@@ -1,2 +1,3 @@
 pub mod Levels
 pub mod Entering
+pub mod Loading

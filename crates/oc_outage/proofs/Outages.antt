@@ -104,7 +104,7 @@ module _ (d : Device) (h : ℕ → ℕ → ℤ) (report : List Told) (made t on 
   fails_by cut Fresh (Restoring k) pc fp depth s = absurd s
   fails_by cut Fresh Running pc fp depth s = absurd s
   fails_by cut Fresh (Entering k) pc fp depth s = absurd s
-  fails_by cut Fresh Over pc fp depth s = absurd s
+  fails_by cut Fresh (Over how) pc fp depth s = absurd s
   fails_by cut Fresh Lost pc fp depth s = absurd s
   fails_by cut Open Waking pc fp depth s = absurd s
   fails_by cut Open (Undoing k) pc fp depth s = absurd s
@@ -112,14 +112,14 @@ module _ (d : Device) (h : ℕ → ℕ → ℤ) (report : List Told) (made t on 
   fails_by cut Open Running pc fp zero s = fails_open cut pc fp s.0 s.1
   fails_by cut Open Running pc fp (suc depth) s = absurd s
   fails_by cut Open (Entering k) pc fp depth s = fails_entering cut k pc fp depth s.settled s.empty
-  fails_by cut Open Over pc fp depth s = record { holds = s; honest = a; sized = sized }
+  fails_by cut Open (Over how) pc fp depth s = record { holds = s; honest = a; sized = sized }
   fails_by cut Open Lost pc fp depth s = record { holds = tt; honest = a; sized = sized }
   fails_by cut Sealed Waking pc fp depth s = record { holds = (sealed_off d report made t off nv words s.0, s.1); honest = off_honest d h report made t off a s.0.settled.closed; sized = sized }
   fails_by cut Sealed (Undoing k) pc fp depth s = absurd s
   fails_by cut Sealed (Restoring k) pc fp depth s = record { holds = (sealed_off d report made t off nv words s.0.sealed, s.1); honest = off_honest d h report made t off a s.0.sealed.settled.closed; sized = sized }
   fails_by cut Sealed Running pc fp depth s = absurd s
   fails_by cut Sealed (Entering k) pc fp depth s = absurd s
-  fails_by cut Sealed Over pc fp depth s = absurd s
+  fails_by cut Sealed (Over how) pc fp depth s = absurd s
   fails_by cut Sealed Lost pc fp depth s = absurd s
   fails_by cut Armed Waking pc fp depth s = record { holds = waking_off d report made t off nv log words s; honest = off_honest d h report made t off a s.entry.closed; sized = sized }
   fails_by cut Armed (Undoing k) pc fp depth s = record { holds = waking_off d report made t off nv log words s.waking; honest = off_honest d h report made t off a s.waking.entry.closed; sized = sized }
@@ -127,7 +127,7 @@ module _ (d : Device) (h : ℕ → ℕ → ℤ) (report : List Told) (made t on 
   fails_by cut Armed Running pc fp zero s = absurd s
   fails_by cut Armed Running pc fp (suc depth) s = fails_armed cut pc fp depth s
   fails_by cut Armed (Entering k) pc fp depth s = absurd s
-  fails_by cut Armed Over pc fp depth s = record { holds = s; honest = a; sized = sized }
+  fails_by cut Armed (Over how) pc fp depth s = record { holds = s; honest = a; sized = sized }
   fails_by cut Armed Lost pc fp depth s = absurd s
 
 module _ (d : Device) (h : ℕ → ℕ → ℤ) where

@@ -1,3 +1,4 @@
 pub mod Levels
 pub mod Entering
 pub mod Loading
+pub mod Reaching

@@ -17,13 +17,11 @@ use Rattle.oc_outage.specs.Honest.{IsPrefixOf}
 use Rattle.oc_outage.proofs.Continues.{IsAt, fits}
 use Rattle.oc_outage.proofs.Erasing.{item, erase-attempt}
 use Rattle.oc_outage.proofs.Facts.{state_at, regs_at, IsSettled, IsEntry, IsAttempt, IsSealed, IsWaking, IsRunning, Holds, AreHonest, IsGood}
+use Rattle.oc_outage.proofs.Going.{world_at}
 use Rattle.oc_outage.proofs.Growing.{inside, read_more}
 use Rattle.oc_outage.proofs.Inside.{parts_more}
 use Rattle.oc_outage.proofs.Reports.{honest_all, honest_more, off_honest, settled_off, entry_off}
 use Rattle.oc_outage.proofs.Words.{length-words_of, saved_word, all_saved, length-save_all}
-
-abbrev pub world_at : ℕ → State → List Told → World
-world_at t s report = record { tick = t; state = s; report = report }
 
 -- an attempt is aborted
 module _ (d : Device) (report : List Told) (made t r : ℕ) (saved regs : Regs) (depth : ℕ) (nv : List ℤ) (log : List Entry) (s : IsAttempt d report made r saved regs depth nv log) where

@@ -43,8 +43,8 @@ pub fn ended()
 {}
 
 /// How a run is left, whatever the image: it ended by itself, and how, exactly where that is its
-/// report's last item, it lost a checkpoint exactly where some period cuts one, and then its last item is an
-/// outage; else the periods were used up, and the last item says so.
+/// report's last item, it lost a checkpoint exactly where some period cuts one, and then its last
+/// item is an outage; else the periods were used up, and the last item says so.
 pub fn left()
     ensures last { (d : Device) (h : ℕ → ℕ → ℤ) (periods : List Period) →
         IsLeft (power_run d h periods).state.phase (power_run d h periods).report }

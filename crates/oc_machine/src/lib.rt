@@ -13,3 +13,4 @@ mod outage;
 mod region;
 pub mod run;
 pub mod stack;
+pub mod stop;

@@ -58,22 +58,8 @@ fn read_value(bytes: &[u8]) -> Option<i32>
     ensures { result ≡ value_of bytes.now }
 {
     match bytes {
-        [b'-', digits @ ..] => {
-            let number = read_number(digits)?;
-            if number <= 1 << 31 {
-                Some((-(number as i64)) as i32)
-            } else {
-                None
-            }
-        }
-        _ => {
-            let number = read_number(bytes)?;
-            if number < 1 << 31 {
-                Some(number as i32)
-            } else {
-                None
-            }
-        }
+        [b'-', digits @ ..] => i32::try_from(-(read_number(digits)? as i64)).ok(),
+        _ => i32::try_from(read_number(bytes)?).ok(),
     }
 }
 

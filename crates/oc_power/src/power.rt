@@ -57,7 +57,9 @@ const LIMIT: u64 = 1 << 63;
 fn has_header(rows: &Rows) -> bool
     ensures { result ≡ is_header rows.now.row }
 {
-    rows.len() == 2 && rows.field(0) == b"on".as_slice() && rows.field(1) == b"off".as_slice()
+    rows.field_count() == 2
+        && rows.field(0) == b"on".as_slice()
+        && rows.field(1) == b"off".as_slice()
 }
 
 /// The period of the row at hand, after periods of this sum.
@@ -65,7 +67,7 @@ fn read_period(rows: &Rows, sum: u64) -> Result<Period, PowerWhat>
     requires { sum < 2 ^ 63 }
     ensures { result ≡ period_row sum rows.now.row }
 {
-    let fields = rows.len();
+    let fields = rows.field_count();
     if fields != 2 && fields != 3 {
         return Err(PowerWhat::Fields);
     }
@@ -92,7 +94,7 @@ fn read_periods(alloc: Global, rows: &mut Rows) -> Result<Vec<Period>, PowerErro
 {
     let mut periods = Vec::new(alloc);
     let mut sum: u64 = 0;
-    while rows.next()? {
+    while rows.step_on()? {
         match read_period(rows, sum) {
             Ok(period) => {
                 sum += period.on + period.off;
@@ -118,7 +120,7 @@ pub fn read_power(alloc: Global, bytes: &[u8]) -> Result<Vec<Period>, PowerError
     ensures row { IfErr result (λ e. Explains (power_file bytes.now) e) }
 {
     let mut rows = Rows::new(alloc, bytes);
-    if !rows.next()? || !has_header(&rows) {
+    if !rows.step_on()? || !has_header(&rows) {
         return Err(PowerError::Row {
             row: 1,
             what: PowerWhat::Header,

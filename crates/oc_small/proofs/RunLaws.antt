@@ -343,16 +343,18 @@ statements_finish i site pc bound (let_input x s ∷ ss) [] out h l d =
 statements_finish i site pc bound (let_input x s ∷ ss) (w ∷ v) out h l d =
     let p = and_parts (is_among i.names.sensors s) (statements_named i.names.sensors i.names.ports (names bound ++ x ∷ []) ss) h in
     let said = Sensed (place_of i.names.sensors s) w in
+    let rest = statements_run i.names.sensors i.names.ports (bind bound x w) ss v in
     let a = input_reach i pc site (length (variables_in ss)) w v out bound x s (statements_code (site + 1) i.names.sensors i.names.ports (names bound ++ x ∷ []) ss ++ placed 0 Halt ∷ []) (omega (arith, length-frame (suc (length (variables_in ss))) bound)) d in
     let e = names-bind bound x w in
     let f = statements_finish i (site + 1) a.to (bind bound x w) ss v (out ++ said ∷ [])
               (ap (λ l. statements_named i.names.sensors i.names.ports l ss) e ∙ p.1)
               (omega (arith, length-append bound (record { name = x; value = w } ∷ [])))
               (a.left ∙ ap (λ l. statements_code (site + 1) i.names.sensors i.names.ports l ss ++ placed 0 Halt ∷ []) (sym e)) in
-    then_finish i a.count (w ∷ v) v out (out ++ said ∷ []) _ _ _ _ a.steps (append_assoc out (said ∷ []) (statements_run i.names.sensors i.names.ports (bind bound x w) ss v)) f
+    then_finish i a.count (w ∷ v) v out (out ++ said ∷ []) (core pc (frame (suc (length (variables_in ss))) bound)) (core a.to (frame (length (variables_in ss)) (bind bound x w))) (said ∷ rest) rest a.steps (append_assoc out (said ∷ []) rest) f
 statements_finish i site pc bound (let_sum x s ∷ ss) v out h l d =
     let p = and_parts (sum_named (names bound) s) (statements_named i.names.sensors i.names.ports (names bound ++ x ∷ []) ss) h in
     let w = sum_value bound s in
+    let said = statements_run i.names.sensors i.names.ports (bind bound x w) ss v in
     let a = let_reach i pc site (length (variables_in ss)) v out bound x s (statements_code (site + 1) i.names.sensors i.names.ports (names bound ++ x ∷ []) ss ++ placed 0 Halt ∷ []) p.0 (omega (arith, length-frame (suc (length (variables_in ss))) bound))
               (d ∙ append_assoc (statement_code site i.names.sensors i.names.ports (names bound) (let_sum x s)) (statements_code (site + 1) i.names.sensors i.names.ports (names bound ++ x ∷ []) ss) (placed 0 Halt ∷ [])) in
     let e = names-bind bound x w in
@@ -360,10 +362,11 @@ statements_finish i site pc bound (let_sum x s ∷ ss) v out h l d =
               (ap (λ l. statements_named i.names.sensors i.names.ports l ss) e ∙ p.1)
               (omega (arith, length-append bound (record { name = x; value = w } ∷ [])))
               (a.left ∙ ap (λ l. statements_code (site + 1) i.names.sensors i.names.ports l ss ++ placed 0 Halt ∷ []) (sym e)) in
-    then_finish i a.count v v out out _ _ _ _ a.steps refl f
+    then_finish i a.count v v out out (core pc (frame (suc (length (variables_in ss))) bound)) (core a.to (frame (length (variables_in ss)) (bind bound x w))) said said a.steps refl f
 statements_finish i site pc bound (emit p s ∷ ss) v out h l d =
     let q = and_parts (is_among i.names.ports p && sum_named (names bound) s) (statements_named i.names.sensors i.names.ports (names bound ++ []) ss) h in
     let said = Showed (Emitted (place_of i.names.ports p) (sum_value bound s)) in
+    let rest = statements_run i.names.sensors i.names.ports bound ss v in
     let a = emit_reach i pc site (length (variables_in ss)) v out bound p s (statements_code (site + 1) i.names.sensors i.names.ports (names bound ++ []) ss ++ placed 0 Halt ∷ []) (and_parts (is_among i.names.ports p) (sum_named (names bound) s) q.0).1 (omega (arith, length-frame (length (variables_in ss)) bound))
               (d ∙ append_assoc (statement_code site i.names.sensors i.names.ports (names bound) (emit p s)) (statements_code (site + 1) i.names.sensors i.names.ports (names bound ++ []) ss) (placed 0 Halt ∷ [])) in
     let e = append_nil (names bound) in
@@ -371,7 +374,7 @@ statements_finish i site pc bound (emit p s ∷ ss) v out h l d =
               (ap (λ l. statements_named i.names.sensors i.names.ports l ss) (sym e) ∙ q.1)
               (omega arith)
               (a.left ∙ ap (λ l. statements_code (site + 1) i.names.sensors i.names.ports l ss ++ placed 0 Halt ∷ []) e) in
-    then_finish i a.count v v out (out ++ said ∷ []) _ _ _ _ a.steps (append_assoc out (said ∷ []) (statements_run i.names.sensors i.names.ports bound ss v)) f
+    then_finish i a.count v v out (out ++ said ∷ []) (core pc (frame (length (variables_in ss)) bound)) (core a.to (frame (length (variables_in ss)) bound)) (said ∷ rest) rest a.steps (append_assoc out (said ∷ []) rest) f
 
 -- ---- the whole program
 

@@ -34,6 +34,8 @@ mod making;
 mod program;
 mod read;
 mod scope;
+#[cfg(test)]
+mod tests;
 
 use lexeme::lexemes;
 use making::image;

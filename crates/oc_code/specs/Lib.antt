@@ -1,0 +1,4 @@
+pub mod Scope
+pub mod Forms
+pub mod Stack
+pub mod Code

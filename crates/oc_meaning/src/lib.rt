@@ -1,0 +1,3 @@
+//! What a source means: its run over a list of samples, where each value carries the samples on
+//! which it depends, and that run with the marks of regions. Definitions alone, in `specs/`.
+#![tactic(auto)]

@@ -1,1 +1,3 @@
 mod Rows
+pub mod Cells
+pub mod Steps

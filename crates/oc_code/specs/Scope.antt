@@ -1,5 +1,5 @@
 -- Where the code finds the variables that are visible.
-use Rattle.std.specs.Prelude.{ℕ, ◌+◌, Bool, false, List, [], ◌∷◌, Option, Some, None, if◌then◌else◌}
+use Rattle.std.specs.Prelude.{ℕ, ◌+◌, Bool, true, false, List, [], ◌∷◌, Option, Some, None, if◌then◌else◌}
 use Rattle.std.specs.Str.{bytes_eq}
 use Rattle.oc_tree.specs.Names.{Text}
 use Rattle.oc_tree.specs.Tree.{TExpr, variable, TKind, let_to, let_array, if_else, for_in, while_do, TElse, no_else, else_do, stmt, TBlock, block, TStmts, no_stmts, more, TFunction, TProgram}
@@ -19,15 +19,17 @@ pub data Slot : Type 0 where
   InNv : ℕ → Slot
   NoSlot : Slot
 
--- a visible variable: where it is, of how many words, and whether it is annotated `Fresh`
+-- a visible variable: where it is, of how many words, whether a statement may write it, and whether it is
+-- annotated `Fresh`
 pub record Named : Type 0 where
   pub name : Text
   pub slot : Slot
   pub words : ℕ
+  pub writable : Bool
   pub fresh : Bool
 
 abbrev pub unnamed : Text → Named
-unnamed x = record { name = x; slot = NoSlot; words = 0; fresh = false }
+unnamed x = record { name = x; slot = NoSlot; words = 0; writable = false; fresh = false }
 
 -- the visible variable of a name
 abbrev pub named : List Named → Text → Named
@@ -76,7 +78,7 @@ abbrev mutual
 
 -- a variable that a `let` makes in these slots, with the statements that follow it in its block
 abbrev pub let_named : Text → ℕ → ℕ → TStmts → Named
-let_named x s words rest = record { name = x; slot = InFrame s; words = words; fresh = is_annotated x rest }
+let_named x s words rest = record { name = x; slot = InFrame s; words = words; writable = true; fresh = is_annotated x rest }
 
 -- the variables that are visible behind a statement whose slots begin at s. An array's counter comes before it
 abbrev pub in_scope : TKind → ℕ → TStmts → List Named → List Named
@@ -85,7 +87,7 @@ in_scope (let_array m x k z n) s rest γ = let_named x (s + 1) n rest ∷ γ
 in_scope k s rest γ = γ
 
 abbrev pub for_named : Text → ℕ → Named
-for_named x s = record { name = x; slot = InFrame s; words = 1; fresh = false }
+for_named x s = record { name = x; slot = InFrame s; words = 1; writable = false; fresh = false }
 
 abbrev pub kind_words : ValueKind → ℕ
 kind_words Int = 1
@@ -97,15 +99,20 @@ param_slot Value s = InFrame s
 param_slot Shared s = ByAddress s
 param_slot Mutable s = ByAddress s
 
+abbrev pub may_write : Passing → Bool
+may_write Value = true
+may_write Shared = false
+may_write Mutable = true
+
 abbrev pub params_scope : List Param → ℕ → List Named → List Named
 params_scope [] s γ = γ
-params_scope (q ∷ qs) s γ = params_scope qs (s + 1) (record { name = q.name; slot = param_slot q.passing s; words = kind_words q.kind; fresh = false } ∷ γ)
+params_scope (q ∷ qs) s γ = params_scope qs (s + 1) (record { name = q.name; slot = param_slot q.passing s; words = kind_words q.kind; writable = may_write q.passing; fresh = false } ∷ γ)
 
 -- the nonvolatile variables, from word a on
 abbrev pub nv_scope : ℕ → List Text → List NvDecl → List Named
 nv_scope a [] ds = []
 nv_scope a (x ∷ xs) [] = []
-nv_scope a (x ∷ xs) (d ∷ ds) = record { name = x; slot = InNv a; words = d.words; fresh = false } ∷ nv_scope (a + d.words) xs ds
+nv_scope a (x ∷ xs) (d ∷ ds) = record { name = x; slot = InNv a; words = d.words; writable = true; fresh = false } ∷ nv_scope (a + d.words) xs ds
 
 abbrev pub function_scope : TProgram → TFunction → List Named
 function_scope p f = params_scope f.params 0 (nv_scope 0 p.names.nvs p.nv)

@@ -1,3 +1,4 @@
 mod Rows
 pub mod Cells
 pub mod Steps
+pub mod Places

@@ -2,3 +2,4 @@ mod Rows
 pub mod Cells
 pub mod Steps
 pub mod Places
+pub mod Exprs

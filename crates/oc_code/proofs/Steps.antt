@@ -67,8 +67,8 @@ module _ (parts : Parts) where
     pub by : (out : List Said) (nv : List ℤ) → Good out nv d → Good out nv c
 
   -- the run is over with this store
-  abbrev pub Stops : Mach → Store → Type 0
-  Stops c σ = Good (said_of σ.events) (words_of σ.nv) c
+  pub record Stops (c : Mach) (σ : Store) : Type 0 where
+    pub good : Good (said_of σ.events) (words_of σ.nv) c
 
   pub leads_self : (c : Mach) → Leads c c
   leads_self c = record { by = λ out nv g. g }
@@ -77,7 +77,7 @@ module _ (parts : Parts) where
   leads_on c d e l m = record { by = λ out nv g. l.by out nv (m.by out nv g) }
 
   pub leads_stop : (c d : Mach) (σ : Store) → Leads c d → Stops d σ → Stops c σ
-  leads_stop c d σ l m = l.by _ _ m
+  leads_stop c d σ l m = record { good = l.by (said_of σ.events) (words_of σ.nv) m.good }
 
   module _ (n : ℕ) (i : Instr) (c : Mach) (nx : Next) (at : slice_get parts.code c.core.regs.pc ≡ Some (placed n i)) (room : length c.core.regs.stack ≤ parts.stack) (e : act parts n i c.core.regs c.core.nv ≡ nx) where
     next_is : next_of parts c.core.regs c.core.nv ≡ nx
@@ -184,7 +184,7 @@ module _ (parts : Parts) where
     bin_step op x y z s at r low h = goes n (Bin op) (shown pc fp (y ∷ (x ∷ s)) σ) _ None None at (omega (arith, h)) (bin_is op x y s (Some z) low r ∙ push_is (pc + 1) fp s z (omega (arith, h)))
 
     pub bin_stop : (op : BinOp) (x y : ℤ) (s : List ℤ) → At (Bin op) → binary_of op x y ≡ None → fp ≤ length s → length s + 1 < parts.stack → Stops (shown pc fp (y ∷ (x ∷ s)) σ) (noted (Over (Trapped trap.Zero n)) [] σ)
-    bin_stop op x y s at r low h = ends n (Bin op) (shown pc fp (y ∷ (x ∷ s)) σ) (Trapped trap.Zero n) at (omega (arith, h)) (bin_is op x y s None low r)
+    bin_stop op x y s at r low h = record { good = ends n (Bin op) (shown pc fp (y ∷ (x ∷ s)) σ) (Trapped trap.Zero n) at (omega (arith, h)) (bin_is op x y s None low r) }
 
     index_is : (k : ℕ) (i : ℤ) (a : ℕ) (s : List ℤ) (o : Option ℕ) → fp ≤ length s → address i ≡ o → act parts n (Index k) (record { pc = pc; fp = fp; stack = i ∷ (pos a ∷ s) }) (words_of σ.nv) ≡ element parts.stack n k (pc + 1) fp s (pos a) o
     index_is k i a s o low r = pop_two_is fp i (pos a) s (λ i base rest. element parts.stack n k (pc + 1) fp rest base (address i)) low ∙ ap (element parts.stack n k (pc + 1) fp s (pos a)) r
@@ -197,7 +197,7 @@ module _ (parts : Parts) where
             ∙ number_is (pos (a + j)) s (word_small (a + j) (omega (arith, small))) (omega (arith, h)))
 
     pub index_stop : (k : ℕ) (i : ℤ) (a : ℕ) (s : List ℤ) → At (Index k) → element parts.stack n k (pc + 1) fp s (pos a) (address i) ≡ Ends (Trapped trap.Index n) → fp ≤ length s → length s + 1 < parts.stack → Stops (shown pc fp (i ∷ (pos a ∷ s)) σ) (noted (Over (Trapped trap.Index n)) [] σ)
-    index_stop k i a s at out low h = ends n (Index k) (shown pc fp (i ∷ (pos a ∷ s)) σ) (Trapped trap.Index n) at (omega (arith, h)) (index_is k i a s (address i) low refl ∙ out)
+    index_stop k i a s at out low h = record { good = ends n (Index k) (shown pc fp (i ∷ (pos a ∷ s)) σ) (Trapped trap.Index n) at (omega (arith, h)) (index_is k i a s (address i) low refl ∙ out) }
 
     pub jump_step : (t : ℕ) (s : List ℤ) → At (Jump t) → t < length parts.code → length s ≤ parts.stack → Leads (shown pc fp s σ) (shown t fp s σ)
     jump_step t s at inside h = goes n (Jump t) (shown pc fp s σ) _ None None at h (ap (λ b. check b (moves t fp s)) (lt_true t (length parts.code) inside))
@@ -232,8 +232,11 @@ module _ (parts : Parts) where
             (λ go g. subst (λ l. safe_next (Senses x (record { pc = pc + 1; fp = fp; stack = s })) l (shown pc fp s σ).core go) (sym r) g)
 
     pub sense_stop : (x : ℕ) (s : List ℤ) → At (Sense x) → σ.left ≡ [] → length s < parts.stack → Stops (shown pc fp s σ) σ
-    sense_stop x s at r h =
-        halts n (Sense x) (shown pc fp s σ) (Senses x (record { pc = pc + 1; fp = fp; stack = s })) at (omega (arith, h)) (ap (λ b. check b (Senses x (record { pc = pc + 1; fp = fp; stack = s }))) (lt_true (length s) parts.stack h)) _
+    sense_stop x s at r h = record { good = good }
+      where
+        good : Good (said_of σ.events) (words_of σ.nv) (shown pc fp s σ)
+        good =
+            halts n (Sense x) (shown pc fp s σ) (Senses x (record { pc = pc + 1; fp = fp; stack = s })) at (omega (arith, h)) (ap (λ b. check b (Senses x (record { pc = pc + 1; fp = fp; stack = s }))) (lt_true (length s) parts.stack h)) _
             (λ go. ap (λ l. follow (Senses x (record { pc = pc + 1; fp = fp; stack = s })) l (shown pc fp s σ).core (said_of σ.events) go) r)
             (λ go. subst (λ l. safe_next (Senses x (record { pc = pc + 1; fp = fp; stack = s })) l (shown pc fp s σ).core go) (sym r) tt)
 
@@ -271,4 +274,4 @@ module _ (parts : Parts) where
         goes_on (suc k) le go g = let e : suc k - 1 ≡ k = omega arith in subst (λ j. go σ.left (core_at to j (words_of σ.nv))) e g
 
     pub halt_stop : (s : List ℤ) → At Halt → length s ≤ parts.stack → Stops (shown pc fp s σ) (noted (Over Halted) [] σ)
-    halt_stop s at h = ends n Halt (shown pc fp s σ) Halted at h refl
+    halt_stop s at h = record { good = ends n Halt (shown pc fp s σ) Halted at h refl }

@@ -3,3 +3,4 @@ pub mod Cells
 pub mod Steps
 pub mod Places
 pub mod Exprs
+pub mod Writes

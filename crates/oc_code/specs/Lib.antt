@@ -2,3 +2,4 @@ pub mod Scope
 pub mod Forms
 pub mod Stack
 pub mod Code
+pub mod Formed

@@ -5,7 +5,7 @@ use Rattle.std.proofs.lemmas.Option.{none-some, same_Some, slice_get_within}
 use Rattle.oc_isa.specs.Levels.{at_level, set_level}
 use Rattle.oc_meaning.specs.Store.{Held, at, put_at, nothing}
 
--- the words of a variable, or a word that no variable has: a link, an address, a counter or a free word
+-- a variable of so many words and one more, or a word that no variable has: a link, an address, a counter or a free word
 pub data Cell : Type 0 where
   Own : ℕ → Cell
   Fixed : ℤ → Cell
@@ -29,14 +29,14 @@ owns (Own w ∷ cs) = suc (owns cs)
 abbrev pub size : List Cell → ℕ
 size [] = 0
 size (Fixed z ∷ cs) = suc (size cs)
-size (Own w ∷ cs) = size cs + w
+size (Own w ∷ cs) = size cs + suc w
 
 abbrev pub Shaped : List Cell → List Held → Type 0
 Shaped [] [] = Unit {0}
 Shaped [] (h ∷ hs) = ⊥
 Shaped (Fixed z ∷ cs) hs = Shaped cs hs
 Shaped (Own w ∷ cs) [] = ⊥
-Shaped (Own w ∷ cs) (h ∷ hs) = (length h.words ≡ w) × Shaped cs hs
+Shaped (Own w ∷ cs) (h ∷ hs) = (length h.words ≡ suc w) × Shaped cs hs
 
 abbrev pub addr : List Cell → ℕ → ℕ
 addr [] l = 0
@@ -46,7 +46,7 @@ addr (Own w ∷ cs) l = if l == owns cs then size cs else addr cs l
 abbrev pub width : List Cell → ℕ → ℕ
 width [] l = 0
 width (Fixed z ∷ cs) l = width cs l
-width (Own w ∷ cs) l = if l == owns cs then w else width cs l
+width (Own w ∷ cs) l = if l == owns cs then suc w else width cs l
 
 abbrev pub fixed_at : List Cell → ℕ → Option ℤ
 fixed_at [] a = None
@@ -126,7 +126,7 @@ local_read (Fixed y ∷ cs) hs l i z h e =
 local_read (Own w ∷ cs) [] l i z h e = absurd h
 local_read (Own w ∷ cs) (u ∷ hs) l i z h e = go (l == length hs) (l == owns cs) (ap (λ n. l == n) (owns_shaped cs hs h.1)) e (λ f. local_read cs hs l i z h.1 f)
   where
-    go : (b c : Bool) → b ≡ c → slice_get (unwrap_or (if b then Some u else at hs l) nothing).words i ≡ Some z → (slice_get (local hs l).words i ≡ Some z → (addr cs l + i < size cs) × (at_level (stack_of cs hs) (addr cs l + i) ≡ Some z)) → ((if c then size cs else addr cs l) + i < size cs + w) × (at_level (onto u.words (stack_of cs hs)) ((if c then size cs else addr cs l) + i) ≡ Some z)
+    go : (b c : Bool) → b ≡ c → slice_get (unwrap_or (if b then Some u else at hs l) nothing).words i ≡ Some z → (slice_get (local hs l).words i ≡ Some z → (addr cs l + i < size cs) × (at_level (stack_of cs hs) (addr cs l + i) ≡ Some z)) → ((if c then size cs else addr cs l) + i < size cs + suc w) × (at_level (onto u.words (stack_of cs hs)) ((if c then size cs else addr cs l) + i) ≡ Some z)
     go true true p f rest =
         let s = stack_of cs hs in
         let k = length-stack_of cs hs h.1 in
@@ -144,7 +144,7 @@ local_width (Fixed y ∷ cs) hs l h = local_width cs hs l h
 local_width (Own w ∷ cs) [] l h = absurd h
 local_width (Own w ∷ cs) (u ∷ hs) l h = go (l == length hs) (l == owns cs) (ap (λ n. l == n) (owns_shaped cs hs h.1)) (local_width cs hs l h.1)
   where
-    go : (b c : Bool) → b ≡ c → length (local hs l).words ≡ width cs l → length (unwrap_or (if b then Some u else at hs l) nothing).words ≡ (if c then w else width cs l)
+    go : (b c : Bool) → b ≡ c → length (local hs l).words ≡ width cs l → length (unwrap_or (if b then Some u else at hs l) nothing).words ≡ (if c then suc w else width cs l)
     go true true p r = h.0
     go false false p r = r
     go true false p r = absurd (grind (arith, p))
@@ -156,7 +156,7 @@ addr_below [] l = omega arith
 addr_below (Fixed z ∷ cs) l = omega (arith, addr_below cs l)
 addr_below (Own w ∷ cs) l = go (l == owns cs) (addr_below cs l)
   where
-    go : (b : Bool) → addr cs l + width cs l ≤ size cs → (if b then size cs else addr cs l) + (if b then w else width cs l) ≤ size cs + w
+    go : (b : Bool) → addr cs l + width cs l ≤ size cs → (if b then size cs else addr cs l) + (if b then suc w else width cs l) ≤ size cs + suc w
     go true r = omega arith
     go false r = omega (arith, r)
 
@@ -168,7 +168,7 @@ local_write (Fixed y ∷ cs) hs l i z q h e =
 local_write (Own w ∷ cs) [] l i z q h e = absurd h
 local_write (Own w ∷ cs) (u ∷ hs) l i z q h e = go (l == length hs) (l == owns cs) (ap (λ n. l == n) (owns_shaped cs hs h.1)) e (λ f. local_write cs hs l i z q h.1 f)
   where
-    go : (b c : Bool) → b ≡ c → i < (if c then w else width cs l) → (i < width cs l → set_level (stack_of cs hs) (addr cs l + i) z ≡ stack_of cs (put_at hs l (record { words = slice_set (local hs l).words i z; samples = q }))) → set_level (onto u.words (stack_of cs hs)) ((if c then size cs else addr cs l) + i) z ≡ stack_of (Own w ∷ cs) (if b then record { words = slice_set (unwrap_or (if b then Some u else at hs l) nothing).words i z; samples = q } ∷ hs else u ∷ put_at hs l (record { words = slice_set (unwrap_or (if b then Some u else at hs l) nothing).words i z; samples = q }))
+    go : (b c : Bool) → b ≡ c → i < (if c then suc w else width cs l) → (i < width cs l → set_level (stack_of cs hs) (addr cs l + i) z ≡ stack_of cs (put_at hs l (record { words = slice_set (local hs l).words i z; samples = q }))) → set_level (onto u.words (stack_of cs hs)) ((if c then size cs else addr cs l) + i) z ≡ stack_of (Own w ∷ cs) (if b then record { words = slice_set (unwrap_or (if b then Some u else at hs l) nothing).words i z; samples = q } ∷ hs else u ∷ put_at hs l (record { words = slice_set (unwrap_or (if b then Some u else at hs l) nothing).words i z; samples = q }))
     go true true p f rest = ap (λ n. set_level (onto u.words (stack_of cs hs)) (n + i) z) (sym (length-stack_of cs hs h.1)) ∙ set_row u.words (stack_of cs hs) i z (omega (arith, f, h.0))
     go false false p f rest =
         set_below u.words (stack_of cs hs) (addr cs l + i) z (omega (arith, addr_below cs l, f, length-stack_of cs hs h.1)) ∙ ap (onto u.words) (rest f)
@@ -182,7 +182,7 @@ shaped_put (Fixed y ∷ cs) hs l h s e = shaped_put cs hs l h s e
 shaped_put (Own w ∷ cs) [] l h s e = absurd s
 shaped_put (Own w ∷ cs) (u ∷ hs) l h s e = go (l == length hs) (l == owns cs) (ap (λ n. l == n) (owns_shaped cs hs s.1)) e (λ f. shaped_put cs hs l h s.1 f)
   where
-    go : (b c : Bool) → b ≡ c → length h.words ≡ (if c then w else width cs l) → (length h.words ≡ width cs l → Shaped cs (put_at hs l h)) → Shaped (Own w ∷ cs) (if b then h ∷ hs else u ∷ put_at hs l h)
+    go : (b c : Bool) → b ≡ c → length h.words ≡ (if c then suc w else width cs l) → (length h.words ≡ width cs l → Shaped cs (put_at hs l h)) → Shaped (Own w ∷ cs) (if b then h ∷ hs else u ∷ put_at hs l h)
     go true true p f rest = (f, s.1)
     go false false p f rest = (s.0, rest f)
     go true false p f rest = absurd (grind (arith, p))

@@ -4,3 +4,6 @@ pub mod Steps
 pub mod Places
 pub mod Exprs
 pub mod Writes
+pub mod Counts
+pub mod Marks
+pub mod Outcomes

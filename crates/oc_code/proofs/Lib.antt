@@ -7,3 +7,4 @@ pub mod Writes
 pub mod Counts
 pub mod Marks
 pub mod Outcomes
+pub mod Args

@@ -193,3 +193,17 @@ meaning_of_consistent_set = refl
 
 code_says_consistent_set : code_says consistent_set (region 0 1 6) (pos 5 ∷ pos 8 ∷ []) 60 ≡ said_in (marked_run consistent_set (region 0 1 6) (pos 5 ∷ pos 8 ∷ []))
 code_says_consistent_set = refl
+
+-- let x = sense(t); Fresh(x); while x > 0 bound 2 { emit(r, 1); }
+abbrev used_in_a_while : TProgram
+used_in_a_while = program [] [] (main
+    (at 1 (let_to false x None (right_sense t))
+    (at 2 (fresh x)
+    (at 3 (while_do (binary ops.Gt (variable x) (number (pos 0))) 2 (block 2 (at 4 (emit r (number (pos 1))) no_stmts))) no_stmts))) ∷ [])
+
+said_of_used_in_a_while : said_in (marked_run used_in_a_while (region 0 1 3) (pos 5 ∷ []))
+    ≡ Entered 1 ∷ Sensed 0 (pos 5) ∷ Showed (Used 3) ∷ emits (pos 1) ∷ Showed (Used 3) ∷ emits (pos 1) ∷ Showed (Finished 3) ∷ Committed 1 ∷ Ended Halted ∷ []
+said_of_used_in_a_while = refl
+
+code_says_used_in_a_while : code_says used_in_a_while (region 0 1 3) (pos 5 ∷ []) 60 ≡ said_in (marked_run used_in_a_while (region 0 1 3) (pos 5 ∷ []))
+code_says_used_in_a_while = refl

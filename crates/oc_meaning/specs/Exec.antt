@@ -174,7 +174,7 @@ for_turns (suc t) i body σ = then_do (body i σ) (for_turns t (i +ℤ pos 1) bo
 abbrev pub while_turns : ℕ → ℕ → Bool → (Store → List ℕ) → (Store → Got) → (Store → Outcome) → List ℕ → Store → Outcome
 while_turns zero n is taken test body before σ = Went (done is n before σ)
 while_turns (suc t) n is taken test body before σ =
-    with_value (test σ) n (used is n (taken σ) σ) (λ v. if is_zero v.num
+    with_value (test (used is n (taken σ) σ)) n (used is n (taken σ) σ) (λ v. if is_zero v.num
     then Went (done is n (union before (taken σ)) (used is n (taken σ) σ))
     else then_do (body (used is n (taken σ) σ)) (while_turns t n is taken test body (union before (taken σ))))
 

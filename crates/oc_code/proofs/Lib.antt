@@ -8,3 +8,5 @@ pub mod Counts
 pub mod Marks
 pub mod Outcomes
 pub mod Args
+pub mod Loops
+pub mod Whiles

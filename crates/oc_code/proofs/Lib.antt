@@ -10,3 +10,4 @@ pub mod Outcomes
 pub mod Args
 pub mod Loops
 pub mod Whiles
+pub mod Lets

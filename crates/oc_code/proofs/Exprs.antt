@@ -294,7 +294,7 @@ module _ (parts : Parts) (ds : List NvDecl) (small : total ds ≤ 65536) where
         subst (λ i. Leads parts (shown pc fp (i ∷ (pos a ∷ s)) σ) (shown (pc + 1) fp (pos (a + j) ∷ s) σ)) (sym r.0)
             (index_step parts n pc fp σ count j a s at r.1 (omega (arith, r.1, small')) low room)
 
-    index_ends : (s : Slot) (p : Place) (fit : Fits ds cs fp s p) → spot_of s p fit + place_width ds cs p ≤ 131072
+    pub index_ends : (s : Slot) (p : Place) (fit : Fits ds cs fp s p) → spot_of s p fit + place_width ds cs p ≤ 131072
     index_ends NoSlot Nowhere fit = omega arith
     index_ends NoSlot (Local l) fit = absurd fit
     index_ends NoSlot (Global g) fit = absurd fit
@@ -303,7 +303,7 @@ module _ (parts : Parts) (ds : List NvDecl) (small : total ds ≤ 65536) where
     index_ends (ByAddress k) p fit = stands_end ds cs σ p fit.spot h small fit.stands
     index_ends (InNv b) p fit = stands_end ds cs σ p fit.spot h small fit.stands
 
-    base_one : (s : Slot) → length (base_code n s) ≡ 1
+    pub base_one : (s : Slot) → length (base_code n s) ≡ 1
     base_one (InFrame k) = refl
     base_one (ByAddress k) = refl
     base_one (InNv b) = refl

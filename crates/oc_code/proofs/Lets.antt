@@ -183,8 +183,8 @@ module _ (parts : Parts) (ds : List NvDecl) (small : total ds ≤ 65536) (k fp :
         (subst (λ v. Leads parts (shown (p + 2) fp (frame top v (suc i) σ) σ) (shown last fp (frame top (replicate (suc w) z) (suc w) σ) σ)) (sym (fill_one i x z r))
         (turns r (suc i) (omega (arith, e)) top σ lt h))))
 
-    pub array_run : (D : ℕ) (x : Text) (γ : List Named) (env : List Binding) (rest : TStmts) (top : List ℤ) (σ : Store) → length top ≡ t + 1 → Holds ds cs σ → σ.depth ≡ D → Sees ds cs fp γ env → Runs parts ds small k fp false D (shown p fp (top ++ stack_of cs σ.locals) σ) (p + length (array_code n p s z (suc w))) (t + 1) (suc w + 1) cs (let_named x (s + 1) (suc w) rest ∷ γ) (bound_to x rest σ ∷ env) (Went (made (array_of z (suc w)) σ))
-    array_run D x γ env rest top σ lt h de sees =
+    pub array_run : (D : ℕ) (x : Text) (γ : List Named) (env : List Binding) (rest : TStmts) (top : List ℤ) (υ σ : Store) → length υ.locals ≡ owns cs → length top ≡ t + 1 → Holds ds cs σ → σ.depth ≡ D → Sees ds cs fp γ env → Runs parts ds small k fp false D (shown p fp (top ++ stack_of cs σ.locals) σ) (p + length (array_code n p s z (suc w))) (t + 1) (suc w + 1) cs (let_named x (s + 1) (suc w) rest ∷ γ) (bound_to x rest υ ∷ env) (Went (made (array_of z (suc w)) σ))
+    array_run D x γ env rest top υ σ own lt h de sees =
         let rem = shorter top in
         let lr : length rem ≡ t = omega (arith, length-shorter top (omega (arith, lt)), lt) in
         let j = t - suc w in
@@ -199,7 +199,7 @@ module _ (parts : Parts) (ds : List NvDecl) (small : total ds ≤ 65536) (k fp :
         let all = leads_on parts _ _ _ first' (turns v 0 (omega (arith, length-flip ws, lw)) upper σ lu h) in
         let C = Fixed (pos (suc w)) ∷ cs in
         let a = cells_hold (replicate (suc w) z) (suc w) σ (length-replicate (suc w) z) h in
-        let sees' = let_sees x (s + 1) w C γ env rest σ (owns_shaped cs σ.locals h.shaped) (omega (arith, base)) (sees_one ds (Fixed (pos (suc w))) cs fp γ env sees) in
+        let sees' = let_sees x (s + 1) w C γ env rest υ own (omega (arith, base)) (sees_one ds (Fixed (pos (suc w))) cs fp γ env sees) in
         let many : size (Own w ∷ (Fixed (pos (suc w)) ∷ [])) ≡ suc w + 1 = omega arith in
         (refl, record {
           new = Own w ∷ (Fixed (pos (suc w)) ∷ []);

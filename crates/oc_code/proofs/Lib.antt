@@ -11,3 +11,4 @@ pub mod Args
 pub mod Loops
 pub mod Whiles
 pub mod Lets
+pub mod Stmts

@@ -12,3 +12,4 @@ pub mod Loops
 pub mod Whiles
 pub mod Lets
 pub mod Stmts
+pub mod Trees

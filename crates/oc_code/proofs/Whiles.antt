@@ -52,7 +52,7 @@ module _ (parts : Parts) (ds : List NvDecl) (small : total ds ≤ 65536) (k fp :
   at_turn : HasAt parts.code (p + 6) (turn ++ again_code n q (p + 2))
   at_turn = at_body parts ds small k fp n p q cs base low (pos 0) (pos bound) turn front stop_loop t room
 
-  at_jump : slice_get parts.code (p + 6 + length cc) ≡ Some (placed n (Jfalse e))
+  pub at_jump : slice_get parts.code (p + 6 + length cc) ≡ Some (placed n (Jfalse e))
   at_jump = (has_back parts.code (p + 6) cc _ (has_front parts.code (p + 6) turn _ at_turn)).0
 
   pub at_test : HasAt parts.code (p + 6) cc

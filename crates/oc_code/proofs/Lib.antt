@@ -13,3 +13,4 @@ pub mod Whiles
 pub mod Lets
 pub mod Stmts
 pub mod Trees
+pub mod Bodies

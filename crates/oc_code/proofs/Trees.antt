@@ -87,7 +87,7 @@ module _ (parts : Parts) (ds : List NvDecl) (small : total ds ≤ 65536) where
     finished_run D n c pc t m cs γ env (Stopped h σ) b set mark room deep has r = r
 
     -- a statement and those behind it: `kc` is its own code, `o` what it does
-    row_run : (g : Bool) (D more' left n pc pcend m m2 : ℕ) (cs : List Cell) (γ1 γ2 : List Named) (env1 env2 : List Binding) (top : List ℤ) (σ : Store) (b e : Option ℕ) (u d : Bool) (set : List ℕ) (kc rc : List Placed) (o : Store → Outcome) (f : Store → Outcome) → Holds ds cs σ → σ.depth ≡ D + more' → more' + marks b ≡ left + marks e → length top + size cs ≤ parts.stack → HasAt parts.code pc (((enter_code n b ++ probe_code n u Use) ++ (kc ++ (probe_code n d Done ++ commit_code n e))) ++ rc)
+    pub row_run : (g : Bool) (D more' left n pc pcend m m2 : ℕ) (cs : List Cell) (γ1 γ2 : List Named) (env1 env2 : List Binding) (top : List ℤ) (σ : Store) (b e : Option ℕ) (u d : Bool) (set : List ℕ) (kc rc : List Placed) (o : Store → Outcome) (f : Store → Outcome) → Holds ds cs σ → σ.depth ≡ D + more' → more' + marks b ≡ left + marks e → length top + size cs ≤ parts.stack → HasAt parts.code pc (((enter_code n b ++ probe_code n u Use) ++ (kc ++ (probe_code n d Done ++ commit_code n e))) ++ rc)
         → ((τ : Store) → Alike σ τ → Holds ds cs τ → τ.depth ≡ D + left + marks e → Runs parts ds small k fp false (D + left + marks e) (shown (pc + length (enter_code n b ++ probe_code n u Use)) fp (top ++ stack_of cs τ.locals) τ) (pc + length (enter_code n b ++ probe_code n u Use) + length kc) (length top) m cs γ1 env1 (o τ))
         → ((τ : Store) (new : List Cell) (top' : List ℤ) → size new ≡ m → length top' + m ≡ length top → Holds ds (new ++ cs) τ → τ.depth ≡ D + left → Sees ds (new ++ cs) fp γ1 env1 → Runs parts ds small k fp g D (shown (pc + length ((enter_code n b ++ probe_code n u Use) ++ (kc ++ (probe_code n d Done ++ commit_code n e)))) fp (top' ++ stack_of (new ++ cs) τ.locals) τ) pcend (length top') m2 (new ++ cs) γ2 env2 (f τ))
         → Runs parts ds small k fp g D (shown pc fp (top ++ stack_of cs σ.locals) σ) pcend (length top) (m + m2) cs γ2 env2 (then_do (finished (λ τ. closed e (done d n set τ)) (o (used u n set (opened b σ)))) f)
@@ -120,7 +120,7 @@ module _ (parts : Parts) (ds : List NvDecl) (small : total ds ≤ 65536) where
         then_run parts ds small k fp g (D + left) D _ (pc + length wc) pcend (length top) m m2 cs γ1 γ2 env1 env2 fin f r3 rr
 
     -- a `return`, with the marks and probes before and behind its value
-    return_run : (D more' n pc pcend m2 : ℕ) (cs : List Cell) (γ : List Named) (env : List Binding) (top : List ℤ) (σ : Store) (b e : Option ℕ) (u d : Bool) (set set' : List ℕ) (ce rc : List Placed) (value : Store → Got) (f : Store → Outcome) (fin : Store → Store) → Holds ds cs σ → σ.depth ≡ D + more' → more' + marks b ≡ marks e → length top + size cs + 1 ≤ parts.stack → HasAt parts.code pc (((enter_code n b ++ probe_code n u Use) ++ ((ce ++ (probe_code n d Done ++ (commit_code n e ++ one n (Retv k)))) ++ [])) ++ rc)
+    pub return_run : (D more' n pc pcend m2 : ℕ) (cs : List Cell) (γ : List Named) (env : List Binding) (top : List ℤ) (σ : Store) (b e : Option ℕ) (u d : Bool) (set set' : List ℕ) (ce rc : List Placed) (value : Store → Got) (f : Store → Outcome) (fin : Store → Store) → Holds ds cs σ → σ.depth ≡ D + more' → more' + marks b ≡ marks e → length top + size cs + 1 ≤ parts.stack → HasAt parts.code pc (((enter_code n b ++ probe_code n u Use) ++ ((ce ++ (probe_code n d Done ++ (commit_code n e ++ one n (Retv k)))) ++ [])) ++ rc)
         → ((τ : Store) → Alike σ τ → Holds ds cs τ → Gives parts ds small (shown (pc + length (enter_code n b ++ probe_code n u Use)) fp (top ++ stack_of cs τ.locals) τ) n (pc + length (enter_code n b ++ probe_code n u Use) + length ce) fp (top ++ stack_of cs τ.locals) τ (value τ))
         → Runs parts ds small k fp true D (shown pc fp (top ++ stack_of cs σ.locals) σ) pcend (length top) m2 cs γ env (then_do (finished fin (with_value (value (used u n set (opened b σ))) n (used u n set (opened b σ)) (λ v. Returned v (closed e (done d n set' (used u n set (opened b σ))))))) f)
     return_run D more' n pc pcend m2 cs γ env top σ b e u d set set' ce rc value f fin h de same room has gives =

@@ -1,6 +1,7 @@
 -- The code of whole trees.
 use Rattle.std.proofs.Common.{◌≡◌, ℕ, zero, suc, ◌+◌, ◌-◌, ◌<◌, ◌≤◌, Bool, true, false, List, [], ◌∷◌, ◌++◌, length, Option, Some, None, refl, sym, ap, ◌∙◌, subst, arith, length-append, append_assoc, map}
 use Rattle.std.specs.Prelude.{ℤ, pos, ◌-ℤ◌, is_some, slice_get, max, if◌then◌else◌, ◌==◌}
+use Rattle.std.proofs.lemmas.Option.{none-some}
 use Rattle.oc_tree.specs.Names.{Text, NameLists}
 use Rattle.oc_tree.specs.Tree.{TExpr, call, TRight, right_value, right_sense, right_call, TKind, let_to, let_array, assign, assign_index, assign_deref, if_else, for_in, while_do, call_only, sense_only, emit, fresh, consistent, return, TElse, no_else, else_do, TStmt, stmt, TBlock, block, TStmts, no_stmts, more, TFunction}
 use Rattle.oc_tree.specs.declared.tree.NvDecl.{NvDecl}
@@ -12,7 +13,7 @@ use Rattle.oc_meaning.specs.Store.{Value, Held, Place, Turn, Store, Binding, hol
 use Rattle.oc_meaning.specs.Eval.{Got, Val, Traps, is_zero, value_of}
 use Rattle.oc_meaning.specs.Uses.{is_fresh, is_use, use_samples, begins_use, ends_use}
 use Rattle.oc_meaning.specs.Exec.{Region, begun_by, ended_by, Outcome, Went, Returned, Stopped, Passed, number_in, with_value, with_result, then_do, finished, opened, closed, used, done, right_run, count_of, for_turns, while_turns, in_turn, bound_to, grown, entered, kind_run, else_run, block_run, stmts_run}
-use Rattle.oc_code.specs.Scope.{Slot, InFrame, Named, named, slot_of, is_fresh_in, kind_slots, else_slots, block_slots, stmts_slots, in_scope, for_named}
+use Rattle.oc_code.specs.Scope.{Slot, InFrame, ByAddress, InNv, NoSlot, address_slot, Named, named, slot_of, is_fresh_in, kind_slots, else_slots, block_slots, stmts_slots, in_scope, for_named}
 use Rattle.oc_code.specs.Forms.{placed, one, enter_code, commit_code, probe_code, expr_code, write_code, again_code, array_code, count_code, while_code, one_way_code, two_way_code}
 use Rattle.oc_code.specs.Stack.{expr_depth, right_depth, kind_depth, else_depth, block_depth, stmts_depth}
 use Rattle.oc_code.specs.Code.{right_code, test_code, return_code, last_code, before_code, after_code, first_code, whole_code, kind_code, if_code, block_code, stmts_code}
@@ -21,6 +22,7 @@ use Rattle.oc_code.proofs.Cells.{Cell, Own, Fixed, stack_of, owns, size, Shaped,
 use Rattle.oc_code.proofs.Steps.{Mach, shown, Leads, Stops, leads_self, leads_on}
 use Rattle.oc_code.proofs.Places.{total, Found, Agrees, Sees, Holds, found, sees_one, sees_more}
 use Rattle.oc_code.proofs.Exprs.{HasAt, has_front, has_back, has_at, inside, Gives, gives_after, gives_at, expr_runs, depth_some, full_length}
+use Rattle.oc_code.proofs.Writes.{write_room}
 use Rattle.oc_code.proofs.Counts.{word_fits}
 use Rattle.oc_code.proofs.Marks.{Alike, alike_holds, used_alike, used_depth, use_run}
 use Rattle.oc_code.proofs.Outcomes.{Runs, runs_after, runs_at, same_cells, result_run, runs_more, runs_below, told, leave_run}
@@ -48,6 +50,23 @@ module _ (parts : Parts) (ds : List NvDecl) (small : total ds ≤ 65536) (names 
   KindRuns kind =
       (n s pc sp D : ℕ) (γ : List Named) (env : List Binding) (cs : List Cell) (top : List ℤ) (υ σ : Store) (rest : TStmts) → Ready ds fp s sp γ env cs top σ → length υ.locals ≡ owns cs → σ.depth ≡ D → kind_formed names fs regions rank own γ s kind → kind_slots kind ≤ length top → sp ≤ 65536 → sp + kind_depth need kind ≤ parts.stack → HasAt parts.code pc (kind_code names fs regions k γ n s pc kind) → pc + length (kind_code names fs regions k γ n s pc kind) < length parts.code → Runs parts ds small k fp false D (shown pc fp (top ++ stack_of cs σ.locals) σ) (pc + length (kind_code names fs regions k γ n s pc kind)) (length top) (kind_slots kind) cs (in_scope kind s rest γ) (grown kind rest env υ) (kind_run names regions call_of home env n kind σ)
 
+  right_some : (r : TRight) → 1 ≤ right_depth need r
+  right_some (right_value e) = depth_some parts ds small e
+  right_some (right_sense x) = omega arith
+  right_some (right_call (call f args)) = omega arith
+
+  no_reference : (s : Slot) → address_slot s ≡ None → write_room s ≡ 1
+  no_reference (InFrame k) h = refl
+  no_reference (ByAddress k) h = absurd (none-some k (sym h))
+  no_reference (InNv b) h = refl
+  no_reference NoSlot h = refl
+
+  write_most : (s : Slot) → write_room s ≤ 2
+  write_most (InFrame k) = omega arith
+  write_most (ByAddress k) = omega arith
+  write_most (InNv b) = omega arith
+  write_most NoSlot = omega arith
+
   let_one : (m : Bool) (x : Text) (t : _) (r : TRight) → KindRuns (let_to m x t r)
   let_one m x t r n s pc sp D γ env cs top υ σ rest q own' de fm le low room has stop =
       let under : fp ≤ size cs = omega (arith, q.base) in
@@ -57,12 +76,7 @@ module _ (parts : Parts) (ds : List NvDecl) (small : total ds ≤ 65536) (names 
       result_run parts ds small k fp false D D _ (pc + length cr) _ (length top) 1 cs (in_scope (let_to m x t r) s rest γ) (grown (let_to m x t r) rest env υ) top (right_run names regions call_of home env n σ r) (λ v τ. Went (made (holding v) τ))
           (right_runs parts ds small names fs regions rank own need call_of calls home k fp D n γ env cs under q.sees r top σ pc q.holds de fm (omega (arith, q.full, room)) (has_front parts.code pc cr i has) (omega (arith, stop, e)))
           (λ v τ h d. runs_at parts ds small k fp false D _ _ _ (length top) 1 cs (in_scope (let_to m x t r) s rest γ) (grown (let_to m x t r) rest env υ) (Went (made (holding v) τ)) e
-              (let_run parts ds small k fp D n s (pc + length cr) x cs γ env rest top v υ τ own' h d q.base le (omega (arith, q.full, low)) (omega (arith, q.full, room, some r)) q.sees (has_back parts.code pc cr i has).0))
-    where
-      some : (r : TRight) → 1 ≤ right_depth need r
-      some (right_value e) = depth_some parts ds small e
-      some (right_sense x) = omega arith
-      some (right_call (call f args)) = omega arith
+              (let_run parts ds small k fp D n s (pc + length cr) x cs γ env rest top v υ τ own' h d q.base le (omega (arith, q.full, low)) (omega (arith, q.full, room, right_some r)) q.sees (has_back parts.code pc cr i has).0))
 
   let_row : (m : Bool) (x : Text) (t : _) (z : ℤ) (c : ℕ) → KindRuns (let_array m x t z c)
   let_row m x t z zero n s pc sp D γ env cs top υ σ rest q own' de fm le low room has stop = absurd (omega (arith, fm.0))
@@ -362,3 +376,55 @@ module _ (parts : Parts) (ds : List NvDecl) (small : total ds ≤ 65536) (names 
           go (i ∷ a) c h = inside parts.code p i h.0
           go [] (i ∷ c) h = inside parts.code p i h.0
           go [] [] h = inside parts.code p _ h.0
+
+  none_run : (g : Bool) (o pc t D : ℕ) (γ : List Named) (env : List Binding) (cs : List Cell) (top : List ℤ) (σ : Store) → g ≡ false → o ≡ 0 → length top ≡ t → Holds ds cs σ → σ.depth ≡ D + o → Sees ds cs fp γ env → Runs parts ds small k fp g D (shown pc fp (top ++ stack_of cs σ.locals) σ) (pc + 0) t 0 cs γ env (Went σ)
+  none_run g o pc t D γ env cs top σ is none lt h de sees =
+      let w = top ++ stack_of cs σ.locals in
+      let e : pc ≡ pc + 0 = omega arith in
+      subst (λ g. Runs parts ds small k fp g D (shown pc fp w σ) (pc + 0) t 0 cs γ env (Went σ)) (sym is)
+          (same_cells parts ds small k fp D _ (pc + 0) t cs γ env top σ lt h (omega (arith, de, none)) sees (subst (λ p. Leads parts (shown pc fp w σ) (shown p fp w σ)) e (leads_self parts _)))
+
+  mutual
+    pub kind_runs : (kind : TKind) → KindRuns kind
+    kind_runs (let_to m x t r) n s pc sp D γ env cs top υ σ rest q own' de fm le low room has stop = let_one m x t r n s pc sp D γ env cs top υ σ rest q own' de fm le low room has stop
+    kind_runs (let_array m x t z c) n s pc sp D γ env cs top υ σ rest q own' de fm le low room has stop = let_row m x t z c n s pc sp D γ env cs top υ σ rest q own' de fm le low room has stop
+    kind_runs (assign x r) n s pc sp D γ env cs top υ σ rest q own' de fm le low room has stop =
+        assign_run parts ds small names fs regions rank own need call_of calls home k fp D n γ env cs (omega (arith, q.base)) q.sees x r top σ pc q.holds de fm.0 fm.1 (omega (arith, q.full, room, right_some r, no_reference (slot_of γ x) fm.2)) (omega (arith, q.full, room)) has stop
+    kind_runs (assign_index x e r) n s pc sp D γ env cs top υ σ rest q own' de fm le low room has stop =
+        assign_index_run parts ds small names fs regions rank own need call_of calls home k fp D n γ env cs (omega (arith, q.base)) q.sees x e r top σ pc q.holds de fm.0 fm.1 (omega (arith, q.full, room)) (omega (arith, q.full, room)) has
+    kind_runs (assign_deref x r) n s pc sp D γ env cs top υ σ rest q own' de fm le low room has stop =
+        assign_run parts ds small names fs regions rank own need call_of calls home k fp D n γ env cs (omega (arith, q.base)) q.sees x r top σ pc q.holds de fm.0 fm.1 (omega (arith, q.full, room, write_most (slot_of γ x))) (omega (arith, q.full, room)) has stop
+    kind_runs (if_else c a no_else) n s pc sp D γ env cs top υ σ rest q own' de fm le low room has stop = if_one c a (block_runs a) n s pc sp D γ env cs top υ σ rest q own' de fm le low room has stop
+    kind_runs (if_else c a (else_do b)) n s pc sp D γ env cs top υ σ rest q own' de fm le low room has stop = if_two c a b (block_runs a) (block_runs b) n s pc sp D γ env cs top υ σ rest q own' de fm le low room has stop
+    kind_runs (for_in x c d' b) n s pc sp D γ env cs top υ σ rest q own' de fm le low room has stop = for_one x c d' b (block_runs b) n s pc sp D γ env cs top υ σ rest q own' de fm le low room has stop
+    kind_runs (while_do c t b) n s pc sp D γ env cs top υ σ rest q own' de fm le low room has stop = while_one c t b (block_runs b) n s pc sp D γ env cs top υ σ rest q own' de fm le low room has stop
+    kind_runs (call_only c) n s pc sp D γ env cs top υ σ rest q own' de fm le low room has stop =
+        only_runs parts ds small names fs regions rank own need call_of calls home k fp D n γ env cs (omega (arith, q.base)) q.sees c top σ pc q.holds de fm (omega (arith, q.full, room)) has
+    kind_runs (sense_only x) n s pc sp D γ env cs top υ σ rest q own' de fm le low room has stop =
+        sense_only_run parts ds small names fs regions rank own need call_of calls home k fp D n γ env cs (omega (arith, q.base)) q.sees (number_in names.sensors x) pc top σ q.holds de (omega (arith, q.full, room)) has
+    kind_runs (emit p e) n s pc sp D γ env cs top υ σ rest q own' de fm le low room has stop =
+        let ce = expr_code n γ pc e in
+        let back = has_back parts.code pc ce _ has in
+        emit_run parts ds small names fs regions rank own need call_of calls home k fp D n γ env cs (omega (arith, q.base)) q.sees (number_in names.ports p) pc top σ ce (value_of env σ e) q.holds de (omega (arith, q.full, room, depth_some parts ds small e)) has
+            (expr_runs parts ds small n fp γ env cs top σ q.holds (omega (arith, q.base)) q.sees e pc (omega (arith, q.full, room)) (has_front parts.code pc ce _ has) (inside parts.code _ _ back.0))
+    kind_runs (fresh x) n s pc sp D γ env cs top υ σ rest q own' de fm le low room has stop =
+        none_run false 0 pc (length top) D γ env cs top σ refl refl refl q.holds (omega (arith, de)) q.sees
+    kind_runs (consistent x i) n s pc sp D γ env cs top υ σ rest q own' de fm le low room has stop =
+        tag_run parts ds small names fs regions rank own need call_of calls home k fp D n γ env cs (omega (arith, q.base)) q.sees pc (home i) top σ (held_at σ (place_of env x)).samples q.holds de (omega (arith, q.full, room)) has.0
+    kind_runs (return e) n s pc sp D γ env cs top υ σ rest q own' de fm le low room has stop = absurd fm
+
+    pub block_runs : (b : TBlock) → BlockRuns b
+    block_runs (block id ss) s pc sp D γ env cs top σ q de fm le low room has stop =
+        let σ1 = entered id σ in
+        let h : Holds ds cs σ1 = record { shaped = q.holds.shaped; nv = q.holds.nv; low = q.holds.low } in
+        leave_run parts ds small k fp false D _ _ (length top) (stmts_slots ss) (length σ.locals) cs γ γ env env (stmts_run names regions call_of home env ss σ1) (owns_shaped cs σ.locals q.holds.shaped) q.sees
+            (stmts_runs ss false 0 s pc sp D γ env cs top σ1 (record { holds = h; base = q.base; full = q.full; sees = q.sees }) (omega (arith, de)) fm le low room has (omega (arith, stop)))
+
+    pub stmts_runs : (ss : TStmts) → StmtsRun ss
+    stmts_runs no_stmts g o s pc sp D γ env cs top σ q de fm le low room has stop = none_run g o pc (length top) D γ env cs top σ fm.0 fm.1 refl q.holds de q.sees
+    stmts_runs (more (stmt n line (return e)) rest) g o s pc sp D γ env cs top σ q de fm le low room has stop =
+        let m : stmts_slots rest ≡ 0 + stmts_slots rest = omega arith in
+        subst (λ m. Runs parts ds small k fp g D (shown pc fp (top ++ stack_of cs σ.locals) σ) (pc + length (stmts_code names fs regions k γ s pc (more (stmt n line (return e)) rest))) (length top) m cs γ env (stmts_run names regions call_of home env (more (stmt n line (return e)) rest) σ)) m
+            (return_one n line e rest g o s pc sp D γ env cs top σ fm.0 q de fm.1 room has)
+    stmts_runs (more (stmt n line kind) rest) g o s pc sp D γ env cs top σ q de fm le low room has stop =
+        row_one n line kind rest (kind_runs kind) (stmts_runs rest) refl g o s pc sp D γ env cs top σ q de fm.0 fm.1 fm.2 fm.3 le low room has stop

@@ -26,7 +26,7 @@ use Rattle.oc_code.proofs.Cells.{Cell, stack_of, size, onto}
 use Rattle.oc_code.proofs.Steps.{Mach, shown, Leads, Stops, leads_on, leads_stop, drop_step, emit_step, sense_step, sense_stop, show_step, test_step}
 use Rattle.oc_code.proofs.Places.{total, IsVariable, Stands, place_width, Sees, Holds, found, held_width}
 use Rattle.oc_code.proofs.Exprs.{HasAt, has_front, has_back, has_at, inside, within_of, Gives, gives_after, expr_runs, depth_some, full_length, base_run, base_one, spot_of, spot_stands, PointsAt, point_run, index_ends}
-use Rattle.oc_code.proofs.Writes.{still_holds, same_depth, put_write, scalar_write}
+use Rattle.oc_code.proofs.Writes.{write_room, still_holds, same_depth, put_write, scalar_write}
 use Rattle.oc_code.proofs.Outcomes.{Runs, RightGives, runs_after, runs_at, same_cells, value_run, right_after, result_run, jump_run}
 use Rattle.oc_code.proofs.Args.{AreGiven, ArgsGive, args_runs}
 
@@ -122,7 +122,7 @@ module _ (parts : Parts) (ds : List NvDecl) (small : total ds ≤ 65536) (names 
             (show_step parts n pc fp σ Tag set _ at (omega (arith, room, full_length parts ds small cs σ h n fp under top)))
 
     -- a scalar is assigned
-    pub assign_run : (x : Text) (r : TRight) (top : List ℤ) (σ : Store) (pc : ℕ) → Holds ds cs σ → σ.depth ≡ D → right_formed names fs regions rank own γ r → (named γ x).writable ≡ true → length top + size cs + 2 ≤ parts.stack → length top + size cs + right_depth need r ≤ parts.stack → HasAt parts.code pc (right_code names fs regions k n γ pc r ++ write_code n (slot_of γ x)) → pc + length (right_code names fs regions k n γ pc r ++ write_code n (slot_of γ x)) < length parts.code → Does D (at_words pc top σ) (pc + length (right_code names fs regions k n γ pc r ++ write_code n (slot_of γ x))) top (with_result (right_run names regions call_of home env n σ r) (λ v τ. Went (put τ (place_of env x) (replaced (held_at τ (place_of env x)) v))))
+    pub assign_run : (x : Text) (r : TRight) (top : List ℤ) (σ : Store) (pc : ℕ) → Holds ds cs σ → σ.depth ≡ D → right_formed names fs regions rank own γ r → (named γ x).writable ≡ true → length top + size cs + write_room (slot_of γ x) ≤ parts.stack → length top + size cs + right_depth need r ≤ parts.stack → HasAt parts.code pc (right_code names fs regions k n γ pc r ++ write_code n (slot_of γ x)) → pc + length (right_code names fs regions k n γ pc r ++ write_code n (slot_of γ x)) < length parts.code → Does D (at_words pc top σ) (pc + length (right_code names fs regions k n γ pc r ++ write_code n (slot_of γ x))) top (with_result (right_run names regions call_of home env n σ r) (λ v τ. Went (put τ (place_of env x) (replaced (held_at τ (place_of env x)) v))))
     assign_run x r top σ pc h de fm wr two room has stop =
         let cr = right_code names fs regions k n γ pc r in
         let cw = write_code n (slot_of γ x) in

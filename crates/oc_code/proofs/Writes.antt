@@ -21,6 +21,13 @@ use Rattle.oc_code.proofs.Exprs.{HasAt}
 abbrev pub with_word : Store → Place → ℕ → ℤ → List ℕ → Store
 with_word σ p j z set = put σ p (record { words = slice_set (held_at σ p).words j z; samples = set })
 
+-- how many operands the write of a scalar has
+abbrev pub write_room : Slot → ℕ
+write_room (InFrame k) = 1
+write_room (ByAddress k) = 2
+write_room (InNv b) = 1
+write_room NoSlot = 1
+
 module _ (parts : Parts) (ds : List NvDecl) (small : total ds ≤ 65536) (cs : List Cell) (n fp : ℕ) (under : fp ≤ size cs) where
   abbrev full : List ℤ → Store → List ℤ
   full top σ = top ++ stack_of cs σ.locals
@@ -67,7 +74,7 @@ module _ (parts : Parts) (ds : List NvDecl) (small : total ds ≤ 65536) (cs : L
   put_write pc top σ Nowhere a j z set h is s lt at room = absurd is
 
   -- the topmost word goes into a scalar
-  pub scalar_write : (pc : ℕ) (top : List ℤ) (σ : Store) (s : Slot) (p : Place) (v : Value) → Holds ds cs σ → IsVariable p → Fits ds cs fp s p → HasAt parts.code pc (write_code n s) → length top + size cs + 2 ≤ parts.stack → Leads parts (shown pc fp (v.num ∷ full top σ) σ) (shown (pc + length (write_code n s)) fp (full top (put σ p (replaced (held_at σ p) v))) (put σ p (replaced (held_at σ p) v)))
+  pub scalar_write : (pc : ℕ) (top : List ℤ) (σ : Store) (s : Slot) (p : Place) (v : Value) → Holds ds cs σ → IsVariable p → Fits ds cs fp s p → HasAt parts.code pc (write_code n s) → length top + size cs + write_room s ≤ parts.stack → Leads parts (shown pc fp (v.num ∷ full top σ) σ) (shown (pc + length (write_code n s)) fp (full top (put σ p (replaced (held_at σ p) v))) (put σ p (replaced (held_at σ p) v)))
   scalar_write pc top σ NoSlot (Local l) v h is fit has room = absurd fit
   scalar_write pc top σ NoSlot (Global g) v h is fit has room = absurd fit
   scalar_write pc top σ NoSlot (Turn y) v h is fit has room = absurd fit

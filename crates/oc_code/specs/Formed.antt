@@ -11,7 +11,7 @@ use Rattle.oc_tree.specs.declared.said.Target.{Target}
 use Rattle.oc_isa.specs.Image.{Parts}
 use Rattle.oc_meaning.specs.Exec.{Region, begun_by, ended_by, number_in}
 use Rattle.oc_meaning.specs.Run.{function_named}
-use Rattle.oc_code.specs.Scope.{Slot, Named, named, kind_words, passed_slot, kind_slots, block_slots, in_scope, for_named, function_scope}
+use Rattle.oc_code.specs.Scope.{Slot, Named, named, slot_of, address_slot, kind_words, passed_slot, kind_slots, block_slots, in_scope, for_named, function_scope}
 use Rattle.oc_code.specs.Stack.{is_main_name, link_words}
 use Rattle.oc_code.specs.Code.{has_result, called_name, code_of}
 
@@ -81,7 +81,7 @@ module _ (names : NameLists) (fs : List TFunction) (regions : List Region) (rank
     pub kind_formed : List Named → ℕ → TKind → Type 0
     kind_formed γ s (let_to m x t r) = right_formed γ r
     kind_formed γ s (let_array m x t z n) = (1 ≤ n) × (n ≤ 65536)
-    kind_formed γ s (assign x r) = right_formed γ r × ((named γ x).writable ≡ true)
+    kind_formed γ s (assign x r) = right_formed γ r × ((named γ x).writable ≡ true) × (address_slot (slot_of γ x) ≡ None)
     kind_formed γ s (assign_index x e r) = right_formed γ r × ((named γ x).writable ≡ true)
     kind_formed γ s (assign_deref x r) = right_formed γ r × ((named γ x).writable ≡ true)
     kind_formed γ s (if_else c a b) = block_formed γ s a × else_formed γ (s + block_slots a) b

@@ -14,3 +14,4 @@ pub mod Lets
 pub mod Stmts
 pub mod Trees
 pub mod Bodies
+pub mod Params

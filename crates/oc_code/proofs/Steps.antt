@@ -17,11 +17,12 @@ use Rattle.oc_isa.specs.declared.instr.ProbeKind.{ProbeKind}
 use Rattle.oc_isa.specs.declared.instr.Placed.{Placed}
 use Rattle.oc_isa.specs.declared.instr.Instr.{Instr}
 use Rattle.oc_isa.specs.declared.instr.Instr.TheVariants.{Push, Load, Store as StoreTo, Nload, Nstore, Addr, Naddr, Get, Put, Index, Bin, Un, Jump, Jfalse, Call, Ret, Retv, Drop, Sense, Emit, Probe, Enter, Commit, Halt}
+use Rattle.oc_isa.specs.declared.image.ImageFunction.{ImageFunction}
 use Rattle.oc_isa.specs.Image.{Parts}
 use Rattle.oc_isa.specs.Levels.{at_level, set_level}
 use Rattle.oc_isa.specs.Next.{Regs, Write, Next, Goes, Senses, Enters, Commits, Ends, Stuck, Device, pushed, written}
 use Rattle.oc_isa.specs.Run.{Core, Ran, Onward, Aim, core_at, run_on, follow, run_commit, safe_commit, Safe, safe_next, then_shown, then_entered}
-use Rattle.oc_isa.specs.Table.{binary_of, probed, on, check, moves, address, word_at, puts_at, element, results, act, next_of, device_of}
+use Rattle.oc_isa.specs.Table.{binary_of, probed, on, check, moves, address, word_at, puts_at, element, results, calls, returns, address_in, pushes, act, next_of, device_of}
 use Rattle.oc_meaning.specs.Store.{Held, Event, Store, noted}
 use Rattle.oc_meaning.specs.Exec.{opened, closed, told_if}
 use Rattle.oc_meaning.specs.Run.{words_of}
@@ -275,3 +276,30 @@ module _ (parts : Parts) where
 
     pub halt_stop : (s : List ℤ) → At Halt → length s ≤ parts.stack → Stops (shown pc fp s σ) (noted (Over Halted) [] σ)
     halt_stop s at h = record { good = ends n Halt (shown pc fp s σ) Halted at h refl }
+
+    pub call_step : (f : ℕ) (g : ImageFunction) (s : List ℤ) → At (Call f) → slice_get parts.functions f ≡ Some g → fp + g.params ≤ length s → g.params + 2 ≤ g.frame → length s + (g.frame - g.params) ≤ parts.stack → g.entry < length parts.code → Leads (shown pc fp s σ) (shown g.entry (length s - g.params) (replicate (g.frame - (g.params + 2)) (pos 0) ++ (pos fp ∷ (pos (pc + 1) ∷ s))) σ)
+    call_step f g s at e has_params has_frame room inside =
+        goes n (Call f) (shown pc fp s σ) _ None None at (omega (arith, room))
+            (ap (λ o. on o (λ g. calls (length parts.code) parts.stack (pc + 1) fp s g.entry g.params g.frame)) e
+            ∙ ap (λ b. check b (check (nat_le (g.params + 2) g.frame) (check (nat_le (length s + (g.frame - g.params)) parts.stack) (check (nat_lt g.entry (length parts.code)) there)))) (le_true (fp + g.params) (length s) has_params)
+            ∙ ap (λ b. check b (check (nat_le (length s + (g.frame - g.params)) parts.stack) (check (nat_lt g.entry (length parts.code)) there))) (le_true (g.params + 2) g.frame has_frame)
+            ∙ ap (λ b. check b (check (nat_lt g.entry (length parts.code)) there)) (le_true (length s + (g.frame - g.params)) parts.stack room)
+            ∙ ap (λ b. check b there) (lt_true g.entry (length parts.code) inside))
+      where
+        there : Next
+        there = moves g.entry (length s - g.params) (replicate (g.frame - (g.params + 2)) (pos 0) ++ (pos fp ∷ (pos (pc + 1) ∷ s)))
+
+    back_is : (k : ℕ) (s : List ℤ) (to caller : ℕ) (go : ℕ → ℕ → List ℤ → Next) → at_level s (fp + k) ≡ Some (pos to) → at_level s (fp + k + 1) ≡ Some (pos caller) → returns k fp s go ≡ go to caller (drop (length s - fp) s)
+    back_is k s to caller go a b =
+        ap (λ o. on (address_in o) (λ pc. on (address_in (at_level s (fp + k + 1))) (λ caller. go pc caller (drop (length s - fp) s)))) a
+        ∙ ap (λ o. on (address_in o) (λ caller. go to caller (drop (length s - fp) s))) b
+
+    pub ret_step : (k : ℕ) (s : List ℤ) (to caller : ℕ) → At (Ret k) → at_level s (fp + k) ≡ Some (pos to) → at_level s (fp + k + 1) ≡ Some (pos caller) → length s ≤ parts.stack → Leads (shown pc fp s σ) (shown to caller (drop (length s - fp) s) σ)
+    ret_step k s to caller at a b room = goes n (Ret k) (shown pc fp s σ) _ None None at room (back_is k s to caller moves a b)
+
+    pub retv_step : (k : ℕ) (z : ℤ) (s : List ℤ) (to caller : ℕ) → At (Retv k) → at_level (z ∷ s) (fp + k) ≡ Some (pos to) → at_level (z ∷ s) (fp + k + 1) ≡ Some (pos caller) → fp ≤ length s → length s < parts.stack → length (drop (length (z ∷ s) - fp) (z ∷ s)) < parts.stack → Leads (shown pc fp (z ∷ s) σ) (shown to caller (z ∷ drop (length (z ∷ s) - fp) (z ∷ s)) σ)
+    retv_step k z s to caller at a b low room fits =
+        goes n (Retv k) (shown pc fp (z ∷ s) σ) _ None None at (omega (arith, room))
+            (pop_is fp z s (λ word below. returns k fp (z ∷ s) (λ pc caller rest. pushes parts.stack pc caller rest word)) low
+            ∙ back_is k (z ∷ s) to caller (λ pc caller rest. pushes parts.stack pc caller rest z) a b
+            ∙ push_is to caller (drop (length (z ∷ s) - fp) (z ∷ s)) z fits)

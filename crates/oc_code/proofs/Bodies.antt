@@ -17,7 +17,7 @@ use Rattle.oc_code.specs.Scope.{Slot, InFrame, ByAddress, InNv, NoSlot, address_
 use Rattle.oc_code.specs.Forms.{placed, one, enter_code, commit_code, probe_code, expr_code, write_code, again_code, array_code, count_code, while_code, one_way_code, two_way_code}
 use Rattle.oc_code.specs.Stack.{expr_depth, right_depth, kind_depth, else_depth, block_depth, stmts_depth}
 use Rattle.oc_code.specs.Code.{right_code, test_code, return_code, last_code, before_code, after_code, first_code, whole_code, kind_code, if_code, block_code, stmts_code}
-use Rattle.oc_code.specs.Formed.{marks, kind_formed, else_formed, block_formed, stmts_formed, right_formed}
+use Rattle.oc_code.specs.Formed.{marks, kind_formed, else_formed, block_formed, stmts_formed, right_formed, body_formed}
 use Rattle.oc_code.proofs.Cells.{Cell, Own, Fixed, stack_of, owns, size, Shaped, owns_shaped, length-stack_of, size-append, size_fixed, fixed_at, shaped_fixed}
 use Rattle.oc_code.proofs.Steps.{Mach, shown, Leads, Stops, leads_self, leads_on}
 use Rattle.oc_code.proofs.Places.{total, Found, Agrees, Sees, Holds, found, sees_one, sees_more}
@@ -428,3 +428,15 @@ module _ (parts : Parts) (ds : List NvDecl) (small : total ds ≤ 65536) (names 
             (return_one n line e rest g o s pc sp D γ env cs top σ fm.0 q de fm.1 room has)
     stmts_runs (more (stmt n line kind) rest) g o s pc sp D γ env cs top σ q de fm le low room has stop =
         row_one n line kind rest (kind_runs kind) (stmts_runs rest) refl g o s pc sp D γ env cs top σ q de fm.0 fm.1 fm.2 fm.3 le low room has stop
+
+  -- the body of a function; `g` says whether it has a result
+  pub body_runs : (b : TBlock) (g : Bool) (s pc sp D : ℕ) (γ : List Named) (env : List Binding) (cs : List Cell) (top : List ℤ) (σ : Store) → Ready ds fp s sp γ env cs top σ → σ.depth ≡ D → body_formed names fs regions rank own g γ s b → block_slots b ≤ length top → sp ≤ 65536 → sp + block_depth need b ≤ parts.stack → HasAt parts.code pc (block_code names fs regions k γ s pc b) → pc + length (block_code names fs regions k γ s pc b) + tail g ≤ length parts.code → Runs parts ds small k fp g D (shown pc fp (top ++ stack_of cs σ.locals) σ) (pc + length (block_code names fs regions k γ s pc b)) (length top) 0 cs γ env (block_run names regions call_of home env b σ)
+  body_runs (block id ss) g s pc sp D γ env cs top σ q de fm le low room has stop =
+      let σ1 = entered id σ in
+      let h : Holds ds cs σ1 = record { shaped = q.holds.shaped; nv = q.holds.nv; low = q.holds.low } in
+      leave_run parts ds small k fp g D _ _ (length top) (stmts_slots ss) (length σ.locals) cs γ γ env env (stmts_run names regions call_of home env ss σ1) (owns_shaped cs σ.locals q.holds.shaped) q.sees
+          (stmts_runs ss g 0 s pc sp D γ env cs top σ1 (record { holds = h; base = q.base; full = q.full; sees = q.sees }) (omega (arith, de)) fm le low room has stop)
+
+  -- the code of a body isn't empty, but where an instruction follows
+  pub body_some : (b : TBlock) (g : Bool) (s p : ℕ) (γ : List Named) → body_formed names fs regions rank own g γ s b → 1 ≤ length (block_code names fs regions k γ s p b) + tail g
+  body_some (block id ss) g s p γ fm = tail_some g 0 s p γ ss fm

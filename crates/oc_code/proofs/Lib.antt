@@ -15,3 +15,4 @@ pub mod Stmts
 pub mod Trees
 pub mod Bodies
 pub mod Params
+pub mod Calls

@@ -1,0 +1,107 @@
+-- The code of functions.
+use Rattle.std.proofs.Common.{◌≡◌, ℕ, zero, suc, ◌+◌, ◌-◌, ◌<◌, ◌≤◌, Bool, true, false, List, [], ◌∷◌, ◌++◌, length, Option, Some, None, refl, sym, ap, ◌∙◌, subst, arith, length-append, append_assoc, map, drop, replicate}
+use Rattle.std.specs.Prelude.{ℤ, pos, is_some, slice_get, if◌then◌else◌, ◌==◌}
+use Rattle.std.specs.Str.{bytes_eq}
+use Rattle.std.proofs.lemmas.List.{length-replicate}
+use Rattle.std.proofs.lemmas.Option.{none-some, same_Some, slice_get_within}
+use Rattle.oc_tree.specs.Names.{Text, NameLists}
+use Rattle.oc_tree.specs.Tree.{TFunction, TProgram, TBlock}
+use Rattle.oc_tree.specs.declared.tree.NvDecl.{NvDecl}
+use Rattle.oc_tree.specs.declared.said.Target.{Target}
+use Rattle.oc_isa.specs.declared.instr.Placed.{Placed}
+use Rattle.oc_isa.specs.declared.instr.Instr.TheVariants.{Call, Ret, Retv}
+use Rattle.oc_isa.specs.Image.{Parts}
+use Rattle.oc_isa.specs.Levels.{at_level}
+use Rattle.oc_meaning.specs.Store.{Value, Held, Store, Binding, left_at}
+use Rattle.oc_meaning.specs.Blocks.{set_home}
+use Rattle.oc_meaning.specs.Exec.{Region, Outcome, Went, Returned, Stopped, Passed, leave, block_run}
+use Rattle.oc_meaning.specs.Run.{Frame, function_named, nv_env, with_params, body_run, function_run, call_to}
+use Rattle.oc_code.specs.Scope.{Named, params_scope, nv_scope, function_scope, block_slots}
+use Rattle.oc_code.specs.Forms.{placed, one}
+use Rattle.oc_code.specs.Stack.{is_main_name, link_words, frame_words, block_depth, function_need, stack_words}
+use Rattle.oc_code.specs.Code.{function_number, close_code, body_code, function_code, functions_code, image_function, image_functions, code_of}
+use Rattle.oc_code.specs.Formed.{body_formed, IsFormed}
+use Rattle.oc_code.proofs.Cells.{Cell, Own, Fixed, stack_of, owns, size, Shaped, fixed_at, onto, owns_shaped, length-stack_of, stack_of-append, stack_of_fixed, owns-append, size-append, size_fixed, owns_fixed, shaped_fixed, shaped_back, fixed_more}
+use Rattle.oc_code.proofs.Steps.{Mach, shown, Leads, Stops, leads_on, call_step, ret_step, retv_step}
+use Rattle.oc_code.proofs.Places.{nv_width, total, Sees, Holds, sees_one, frame_word}
+use Rattle.oc_code.proofs.Exprs.{HasAt, has_front, has_back, has_at, inside}
+use Rattle.oc_code.proofs.Outcomes.{Runs, RightGives, runs_after}
+use Rattle.oc_code.proofs.Args.{AreGiven}
+use Rattle.oc_code.proofs.Lets.{same_eq}
+use Rattle.oc_code.proofs.Stmts.{CallsRun}
+use Rattle.oc_code.proofs.Trees.{tail}
+use Rattle.oc_code.proofs.Bodies.{Ready, body_runs, body_some}
+use Rattle.oc_code.proofs.Params.{Bound, binds, given_more, all_nv}
+
+drop_front : (a b : List ℤ) (n : ℕ) → length b ≡ n → drop (length (a ++ b) - n) (a ++ b) ≡ b
+drop_front [] b n e = let z : length b - n ≡ 0 = omega (arith, e) in ap (λ i. drop i b) z
+drop_front (x ∷ a) b n e =
+    let z : length ((x ∷ a) ++ b) - n ≡ suc (length (a ++ b) - n) = omega (arith, e, length-append a b) in
+    ap (λ i. drop i ((x ∷ a) ++ b)) z ∙ drop_front a b n e
+
+fixed_over : (new cs : List Cell) (a : ℕ) (z : ℤ) → fixed_at cs a ≡ Some z → fixed_at (new ++ cs) a ≡ Some z
+fixed_over [] cs a z h = h
+fixed_over (c ∷ new) cs a z h = fixed_more c (new ++ cs) a z (fixed_over new cs a z h)
+
+length-onto_words : (zs s : List ℤ) → length (onto zs s) ≡ length s + length zs
+length-onto_words [] s = omega arith
+length-onto_words (z ∷ zs) s = omega (arith, length-onto_words zs (z ∷ s))
+
+-- code that stands there lies within
+has_end : (code : List Placed) (pc : ℕ) (a : List Placed) → pc ≤ length code → HasAt code pc a → pc + length a ≤ length code
+has_end code pc [] le h = omega (arith, le)
+has_end code pc (i ∷ a) le h = omega (arith, has_end code (pc + 1) a (omega (arith, slice_get_within code pc i h.0)) h.1)
+
+-- a frame at its end: the links, the parameters, and the caller's cells
+module _ (parts : Parts) (ds : List NvDecl) (small : total ds ≤ 65536) (cs : List Cell) (top : List ℤ) (fp fp' k pc n : ℕ) (above P : List Cell) (over : P ≡ above ++ (map Fixed top ++ cs)) (base : size (map Fixed top ++ cs) ≡ fp') (many : size P ≡ fp' + k) (own : n ≡ owns cs) (low : size cs ≤ 65536) where
+  abbrev pub links : List Cell
+  links = Fixed (pos fp) ∷ (Fixed (pos (pc + 1)) ∷ P)
+
+  link_at : (new : List Cell) (X : List ℤ) (σ : Store) → Holds ds (new ++ links) σ → at_level (X ++ stack_of (new ++ links) σ.locals) (fp' + k) ≡ Some (pos (pc + 1))
+  link_at new X σ h =
+      let here : fixed_at (Fixed (pos (pc + 1)) ∷ P) (fp' + k) ≡ Some (pos (pc + 1)) = ap (λ b. if b then Some (pos (pc + 1)) else fixed_at P (fp' + k)) (ap (λ n. (fp' + k) == n) many ∙ same_eq (fp' + k)) in
+      frame_word ds (new ++ links) X σ (fp' + k) (pos (pc + 1)) h (fixed_over new links (fp' + k) (pos (pc + 1)) (fixed_more (Fixed (pos fp)) (Fixed (pos (pc + 1)) ∷ P) (fp' + k) (pos (pc + 1)) here))
+
+  frame_at : (new : List Cell) (X : List ℤ) (σ : Store) → Holds ds (new ++ links) σ → at_level (X ++ stack_of (new ++ links) σ.locals) (fp' + k + 1) ≡ Some (pos fp)
+  frame_at new X σ h =
+      let e : suc (size P) ≡ fp' + k + 1 = omega (arith, many) in
+      let here : fixed_at links (fp' + k + 1) ≡ Some (pos fp) = ap (λ b. if b then Some (pos fp) else fixed_at (Fixed (pos (pc + 1)) ∷ P) (fp' + k + 1)) (ap (λ n. (fp' + k + 1) == n) e ∙ same_eq (fp' + k + 1)) in
+      frame_word ds (new ++ links) X σ (fp' + k + 1) (pos fp) h (fixed_over new links (fp' + k + 1) (pos fp) here)
+
+  -- the words above the frame, and those below
+  parted : (new : List Cell) (X : List ℤ) (σ : Store) → Holds ds (new ++ links) σ → (front : List ℤ) × (X ++ stack_of (new ++ links) σ.locals ≡ front ++ (top ++ stack_of cs (left_at n σ).locals)) × Holds ds cs (left_at n σ) × (length (top ++ stack_of cs (left_at n σ).locals) ≡ fp')
+  parted new X σ h =
+      let N = new ++ (Fixed (pos fp) ∷ (Fixed (pos (pc + 1)) ∷ above)) in
+      let B = map Fixed top ++ cs in
+      let hs = σ.locals in
+      let e : new ++ links ≡ N ++ B = ap (λ p. new ++ (Fixed (pos fp) ∷ (Fixed (pos (pc + 1)) ∷ p))) over ∙ sym (append_assoc new (Fixed (pos fp) ∷ (Fixed (pos (pc + 1)) ∷ above)) B) in
+      let shaped : Shaped (N ++ B) hs = subst (λ c. Shaped c hs) e h.shaped in
+      let j : owns N ≡ length hs - n = omega (arith, own, owns_shaped (N ++ B) hs shaped, owns-append N B, owns-append (map Fixed top) cs, owns_fixed top) in
+      let bare : Shaped B (drop (owns N) hs) = shaped_back N B hs shaped in
+      let bare2 : Shaped cs (drop (owns N) hs) = subst (λ i. Shaped cs (drop i (drop (owns N) hs))) (owns_fixed top) (shaped_back (map Fixed top) cs (drop (owns N) hs) bare) in
+      let bare3 : Shaped cs (left_at n σ).locals = subst (λ i. Shaped cs (drop i hs)) j bare2 in
+      let same : X ++ stack_of (new ++ links) hs ≡ (X ++ stack_of N hs) ++ (top ++ stack_of cs (left_at n σ).locals) =
+          ap (λ c. X ++ stack_of c hs) e ∙ ap (λ l. X ++ l) (stack_of-append N B hs ∙ ap (λ l. stack_of N hs ++ l) (stack_of_fixed top cs (drop (owns N) hs)) ∙ ap (λ i. stack_of N hs ++ (top ++ stack_of cs (drop i hs))) j)
+          ∙ sym (append_assoc X (stack_of N hs) (top ++ stack_of cs (left_at n σ).locals)) in
+      (X ++ stack_of N hs, same, record { shaped = bare3; nv = h.nv; low = low }, omega (arith, length-append top (stack_of cs (left_at n σ).locals), length-stack_of cs (left_at n σ).locals bare3, base, size-append (map Fixed top) cs, size_fixed top))
+
+  -- the end of a call
+  pub frame_ends : (g : Bool) (D : ℕ) (c : Mach) (q t : ℕ) (γ : List Named) (env : List Binding) (o : Outcome) → fp' < parts.stack → t + size links ≤ parts.stack → fp' ≤ size links → (g ≡ false → slice_get parts.code q ≡ Some (placed 0 (Ret k))) → Runs parts ds small k fp' g D c q t 0 links γ env o → RightGives parts ds small 0 fp g D c (pc + 1) cs top (leave n o)
+  frame_ends g D c q t γ env (Went σ) some room under close r =
+      let w = r.1 in
+      let S = w.top ++ stack_of (w.new ++ links) σ.locals in
+      let d = parted w.new w.top σ w.holds in
+      let len : length S ≤ parts.stack = omega (arith, length-append w.top (stack_of (w.new ++ links) σ.locals), length-stack_of (w.new ++ links) σ.locals w.holds.shaped, size-append w.new links, w.many, w.free, room) in
+      let rest : drop (length S - fp') S ≡ top ++ stack_of cs (left_at n σ).locals = ap (λ s. drop (length s - fp') s) d.1 ∙ drop_front d.0 (top ++ stack_of cs (left_at n σ).locals) fp' d.3 in
+      let l = ret_step parts 0 q fp' σ k S (pc + 1) fp (close r.0) (link_at w.new w.top σ w.holds) (frame_at w.new w.top σ w.holds) len in
+      (r.0, d.2, w.depth, leads_on parts c _ _ w.leads (subst (λ s. Leads parts (shown q fp' S σ) (shown (pc + 1) fp s σ)) rest l))
+  frame_ends g D c q t γ env (Returned v σ) some room under close r =
+      let w = r.1 in
+      let s = w.top ++ stack_of (w.new ++ links) σ.locals in
+      let S = v.num ∷ s in
+      let d = parted w.new w.top σ w.holds in
+      let len : length s ≡ length w.top + size (w.new ++ links) = omega (arith, length-append w.top (stack_of (w.new ++ links) σ.locals), length-stack_of (w.new ++ links) σ.locals w.holds.shaped) in
+      let rest : drop (length S - fp') S ≡ top ++ stack_of cs (left_at n σ).locals = ap (λ s. drop (length (v.num ∷ s) - fp') (v.num ∷ s)) d.1 ∙ drop_front (v.num ∷ d.0) (top ++ stack_of cs (left_at n σ).locals) fp' d.3 in
+      let l = retv_step parts w.site w.spot fp' σ k v.num s (pc + 1) fp w.retv (link_at w.new (v.num ∷ w.top) σ w.holds) (frame_at w.new (v.num ∷ w.top) σ w.holds) (omega (arith, len, size-append w.new links, under)) (omega (arith, len, w.room)) (omega (arith, ap length rest, d.3, some)) in
+      (r.0, d.2, w.depth, leads_on parts c _ _ w.leads (subst (λ x. Leads parts (shown w.spot fp' S σ) (shown (pc + 1) fp (v.num ∷ x) σ)) rest l))
+  frame_ends g D c q t γ env (Stopped h σ) some room under close r = r

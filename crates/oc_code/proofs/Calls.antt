@@ -9,7 +9,7 @@ use Rattle.oc_tree.specs.Tree.{TFunction, TProgram, TBlock}
 use Rattle.oc_tree.specs.declared.tree.NvDecl.{NvDecl}
 use Rattle.oc_tree.specs.declared.said.Target.{Target}
 use Rattle.oc_isa.specs.declared.instr.Placed.{Placed}
-use Rattle.oc_isa.specs.declared.instr.Instr.TheVariants.{Call, Ret, Retv}
+use Rattle.oc_isa.specs.declared.instr.Instr.TheVariants.{Call, Ret, Retv, Halt}
 use Rattle.oc_isa.specs.Image.{Parts}
 use Rattle.oc_isa.specs.Levels.{at_level}
 use Rattle.oc_meaning.specs.Store.{Value, Held, Store, Binding, left_at}
@@ -105,3 +105,135 @@ module _ (parts : Parts) (ds : List NvDecl) (small : total ds ≤ 65536) (cs : L
       let l = retv_step parts w.site w.spot fp' σ k v.num s (pc + 1) fp w.retv (link_at w.new (v.num ∷ w.top) σ w.holds) (frame_at w.new (v.num ∷ w.top) σ w.holds) (omega (arith, len, size-append w.new links, under)) (omega (arith, len, w.room)) (omega (arith, ap length rest, d.3, some)) in
       (r.0, d.2, w.depth, leads_on parts c _ _ w.leads (subst (λ x. Leads parts (shown w.spot fp' S σ) (shown (pc + 1) fp (v.num ∷ x) σ)) rest l))
   frame_ends g D c q t γ env (Stopped h σ) some room under close r = r
+
+module _ (p : TProgram) (regions : List Region) (code : List Placed) where
+  -- a function's code stands at its entry
+  pub function_at : (at : ℕ) (fs : List TFunction) (x : Text) (g : TFunction) → at ≤ length code → HasAt code at (functions_code p regions at fs) → function_named fs x ≡ Some g → (e : ℕ) × (slice_get (image_functions p regions at fs) (function_number fs x) ≡ Some (image_function p regions e g)) × HasAt code e (function_code p regions e g) × (e ≤ length code)
+  function_at at [] x g le has h = absurd (none-some g h)
+  function_at at (f ∷ fs) x g le has h = go (bytes_eq x f.name) h (λ h'. function_at (at + length fc) fs x g (has_end code at fc le (has_front code at fc rest has)) (has_back code at fc rest has) h')
+    where
+      fc : List Placed
+      fc = function_code p regions at f
+      rest : List Placed
+      rest = functions_code p regions (at + length fc) fs
+
+      go : (b : Bool) → (if b then Some f else function_named fs x) ≡ Some g → (function_named fs x ≡ Some g → (e : ℕ) × (slice_get (image_functions p regions (at + length fc) fs) (function_number fs x) ≡ Some (image_function p regions e g)) × HasAt code e (function_code p regions e g) × (e ≤ length code)) → (e : ℕ) × (slice_get (image_functions p regions at (f ∷ fs)) (if b then 0 else suc (function_number fs x)) ≡ Some (image_function p regions e g)) × HasAt code e (function_code p regions e g) × (e ≤ length code)
+      go true e others =
+          let s = same_Some f g e in
+          (at, ap (λ g. Some (image_function p regions at g)) s, subst (λ g. HasAt code at (function_code p regions at g)) s (has_front code at fc rest has), le)
+      go false e others = others e
+
+module _ (p : TProgram) (regions : List Region) (targets : List (List Target)) (small : total p.nv ≤ 65536) (formed : IsFormed p regions targets) (each : length p.names.nvs ≡ length p.nv) (some : (j : ℕ) → j < length p.nv → 1 ≤ nv_width p.nv j) (all : HasAt (code_of p regions targets).code 0 (functions_code p regions 0 p.functions)) where
+  abbrev pub image : Parts
+  image = code_of p regions targets
+
+  abbrev pub Calls : ℕ → Type 0
+  Calls d = CallsRun image p.nv small p.names p.functions regions formed.rank d (stack_words p d) (call_to p regions d)
+
+  -- one function, where calls go at most d deep
+  function_runs : (d : ℕ) → Calls d → (f : Text) (g : TFunction) → function_named p.functions f ≡ Some g → is_main_name g.name ≡ false → formed.rank f < suc d → (ps : List Passed) (zs : List ℤ) (σ : Store) (n pc fp : ℕ) (cs : List Cell) (top : List ℤ) → Holds p.nv cs σ → fp ≤ size cs → AreGiven p.nv cs g.params ps zs → length top + size cs + function_need (stack_words p d) (Some g) ≤ image.stack → slice_get image.code pc ≡ Some (placed n (Call (function_number p.functions f))) → RightGives image p.nv small 0 fp (is_some g.result) σ.depth (shown pc fp (onto zs (top ++ stack_of cs σ.locals)) σ) (pc + 1) cs top (body_run p regions (call_to p regions d) g (with_params g.params ps (record { env = nv_env 0 p.names.nvs; locals = σ.locals })) σ)
+  function_runs d calls f g found no_main lower ps zs σ n pc fp cs top h under given room at =
+      frame_ends image p.nv small cs top fp fp' k pc (length σ.locals) bound.above P bound.over base_B many_P (owns_shaped cs σ.locals h.shaped) h.low
+          (is_some g.result) σ.depth start (e + length bc) (length Z) γ fr.env body_out (omega (arith, room, frame_is)) (omega (arith, room, frame_is, lz, many_P)) (omega (arith, many_P)) close
+          (runs_after image p.nv small k fp' (is_some g.result) σ.depth _ _ (e + length bc) (length Z) 0 L γ fr.env body_out first body)
+    where
+      parts : Parts
+      parts = image
+      B : List Cell
+      B = map Fixed top ++ cs
+      fp' : ℕ
+      fp' = length top + size cs
+      k : ℕ
+      k = length g.params
+      slots : ℕ
+      slots = block_slots g.body
+      Z : List ℤ
+      Z = replicate slots (pos 0)
+      lz : length Z ≡ slots
+      lz = length-replicate slots (pos 0)
+      fr : Frame
+      fr = with_params g.params ps (record { env = nv_env 0 p.names.nvs; locals = σ.locals })
+      γ : List Named
+      γ = function_scope p g
+      A : List ℤ
+      A = onto zs (top ++ stack_of cs σ.locals)
+      start : Mach
+      start = shown pc fp A σ
+      base_B : size B ≡ fp'
+      base_B = omega (arith, size-append (map Fixed top) cs, size_fixed top)
+      bound : Bound p.nv fp' 0 g.params (nv_scope 0 p.names.nvs p.nv) B (onto zs (stack_of B σ.locals)) fr
+      bound = binds p.nv fp' 0 g.params ps zs (nv_scope 0 p.names.nvs p.nv) (nv_env 0 p.names.nvs) B B [] σ.locals refl (all_nv p.nv B fp' p.names.nvs each some) (omega (arith, base_B)) (shaped_fixed top cs σ.locals h.shaped) (given_more p.nv (map Fixed top) cs g.params ps zs given)
+      P : List Cell
+      P = bound.P
+      many_P : size P ≡ fp' + k
+      many_P = omega (arith, bound.many)
+      same : A ≡ stack_of P fr.locals
+      same = ap (onto zs) (sym (stack_of_fixed top cs σ.locals)) ∙ bound.same
+      len_A : length A ≡ fp' + k
+      len_A = ap length same ∙ length-stack_of P fr.locals bound.shaped ∙ many_P
+      L : List Cell
+      L = Fixed (pos fp) ∷ (Fixed (pos (pc + 1)) ∷ P)
+      lw : link_words g ≡ 2
+      lw = ap (λ b. if b then 0 else 2) no_main
+      frame_is : frame_words g ≡ k + 2 + slots
+      frame_is = omega (arith, lw)
+      place : (e : ℕ) × (slice_get parts.functions (function_number p.functions f) ≡ Some (image_function p regions e g)) × HasAt parts.code e (function_code p regions e g) × (e ≤ length parts.code)
+      place = function_at p regions parts.code 0 p.functions f g (omega arith) all found
+      e : ℕ
+      e = place.0
+      bc : List Placed
+      bc = body_code p regions e g
+      cc : List Placed
+      cc = close_code g
+      fm : body_formed p.names p.functions regions formed.rank (formed.rank f) (is_some g.result) γ (k + link_words g) g.body
+      fm = formed.bodies f g found
+      lower_calls : CallsRun image p.nv small p.names p.functions regions formed.rank (formed.rank f) (stack_words p d) (call_to p regions d)
+      lower_calls f' g' a b lt = calls f' g' a b (omega (arith, lt, lower))
+
+      close_is : (r : Bool) → is_some g.result ≡ r → cc ≡ (if r then [] else one 0 (Ret k))
+      close_is r is = ap (λ b. if b then one 0 Halt else (if is_some g.result then [] else one 0 (Ret k))) no_main ∙ ap (λ b. if b then [] else one 0 (Ret k)) is
+      has_close : HasAt parts.code (e + length bc) cc
+      has_close = has_back parts.code e bc cc place.2
+      close : is_some g.result ≡ false → slice_get parts.code (e + length bc) ≡ Some (placed 0 (Ret k))
+      close r = (subst (HasAt parts.code (e + length bc)) (close_is false r) has_close).0
+      code_end : e + length (bc ++ cc) ≤ length parts.code
+      code_end = has_end parts.code e (bc ++ cc) place.3 place.2
+      tail_is : (r : Bool) → is_some g.result ≡ r → length cc ≡ tail r
+      tail_is true is = ap length (close_is true is)
+      tail_is false is = ap length (close_is false is)
+      stop : e + length bc + tail (is_some g.result) ≤ length parts.code
+      stop = omega (arith, code_end, length-append bc cc, tail_is (is_some g.result) refl)
+      starts : e < length parts.code
+      starts = omega (arith, stop, body_some image p.nv small p.names p.functions regions formed.rank (formed.rank f) (stack_words p d) (call_to p regions d) lower_calls (set_home g.body) k fp' g.body (is_some g.result) (k + link_words g) e γ fm)
+      τ : Store
+      τ = record σ { locals = fr.locals }
+      body_out : Outcome
+      body_out = block_run p.names regions (call_to p regions d) (set_home g.body) fr.env g.body τ
+
+      e1 : length A - k ≡ fp'
+      e1 = omega (arith, len_A)
+      e2 : frame_words g - (k + 2) ≡ slots
+      e2 = omega (arith, frame_is)
+      first : Leads parts start (shown e fp' (Z ++ stack_of L fr.locals) τ)
+      first =
+          subst (λ s. Leads parts start (shown e fp' (Z ++ (pos fp ∷ (pos (pc + 1) ∷ s))) σ)) same
+          (subst (λ j. Leads parts start (shown e fp' (replicate j (pos 0) ++ (pos fp ∷ (pos (pc + 1) ∷ A))) σ)) e2
+          (subst (λ i. Leads parts start (shown e i (replicate (frame_words g - (k + 2)) (pos 0) ++ (pos fp ∷ (pos (pc + 1) ∷ A))) σ)) e1
+          (call_step parts n pc fp σ (function_number p.functions f) (image_function p regions e g) A at place.1 (omega (arith, len_A, under)) (omega (arith, frame_is)) (omega (arith, len_A, frame_is, room)) starts)))
+
+      ready : Ready p.nv fp' (k + link_words g) (fp' + k + 2 + slots) γ fr.env L Z τ
+      ready = record {
+        holds = record { shaped = bound.shaped; nv = h.nv; low = omega (arith, many_P, room, frame_is, formed.stack_low) };
+        base = omega (arith, many_P, lw);
+        full = omega (arith, lz, many_P);
+        sees = sees_one p.nv (Fixed (pos fp)) (Fixed (pos (pc + 1)) ∷ P) fp' γ fr.env (sees_one p.nv (Fixed (pos (pc + 1))) P fp' γ fr.env bound.sees);
+      }
+      body : Runs image p.nv small k fp' (is_some g.result) σ.depth (shown e fp' (Z ++ stack_of L fr.locals) τ) (e + length bc) (length Z) 0 L γ fr.env body_out
+      body = body_runs image p.nv small p.names p.functions regions formed.rank (formed.rank f) (stack_words p d) (call_to p regions d) lower_calls (set_home g.body) k fp' g.body (is_some g.result) (k + link_words g) e (fp' + k + 2 + slots) σ.depth γ fr.env L Z τ ready refl fm (omega (arith, lz)) (omega (arith, room, frame_is, formed.stack_low)) (omega (arith, room, frame_is)) (has_front parts.code e bc cc place.2) stop
+
+  -- each call at each depth
+  pub calls_run : (d : ℕ) → Calls d
+  calls_run zero f g found no_main lower ps zs σ n pc fp cs top h under given room at = absurd (omega arith)
+  calls_run (suc d) f g found no_main lower ps zs σ n pc fp cs top h under given room at =
+      subst (λ o. RightGives image p.nv small 0 fp (is_some g.result) σ.depth (shown pc fp (onto zs (top ++ stack_of cs σ.locals)) σ) (pc + 1) cs top (function_run p regions (call_to p regions d) o ps σ)) (sym found)
+          (function_runs d (calls_run d) f g found no_main lower ps zs σ n pc fp cs top h under given (subst (λ o. length top + size cs + function_need (stack_words p d) o ≤ image.stack) found room) at)

@@ -3,6 +3,7 @@ use Rattle.std.proofs.Common.{◌≡◌, ℕ, zero, suc, ◌+◌, ◌-◌, ◌<�
 use Rattle.std.specs.Prelude.{ℤ, pos, is_some, slice_get, if◌then◌else◌, ◌==◌}
 use Rattle.std.specs.Str.{bytes_eq}
 use Rattle.std.proofs.lemmas.List.{length-replicate}
+use Rattle.std.proofs.lemmas.Slice.Eq.{bytes_eq-Decides}
 use Rattle.std.proofs.lemmas.Option.{none-some, same_Some, slice_get_within}
 use Rattle.oc_tree.specs.Names.{Text, NameLists}
 use Rattle.oc_tree.specs.Tree.{TFunction, TProgram, TBlock}
@@ -47,8 +48,17 @@ length-onto_words : (zs s : List ℤ) → length (onto zs s) ≡ length s + leng
 length-onto_words [] s = omega arith
 length-onto_words (z ∷ zs) s = omega (arith, length-onto_words zs (z ∷ s))
 
+-- the function of a name has that name
+pub found_at : (fs : List TFunction) (x : Text) (g : TFunction) → function_named fs x ≡ Some g → (slice_get fs (function_number fs x) ≡ Some g) × (x ≡ g.name)
+found_at [] x g h = absurd (none-some g h)
+found_at (f ∷ fs) x g h = go (bytes_eq x f.name) refl h (λ e. found_at fs x g e)
+  where
+    go : (b : Bool) → bytes_eq x f.name ≡ b → (if b then Some f else function_named fs x) ≡ Some g → (function_named fs x ≡ Some g → (slice_get fs (function_number fs x) ≡ Some g) × (x ≡ g.name)) → (slice_get (f ∷ fs) (if b then 0 else suc (function_number fs x)) ≡ Some g) × (x ≡ g.name)
+    go true p e others = (e, (bytes_eq-Decides x f.name).0 p ∙ ap (λ f. f.name) (same_Some f g e))
+    go false p e others = others e
+
 -- code that stands there lies within
-has_end : (code : List Placed) (pc : ℕ) (a : List Placed) → pc ≤ length code → HasAt code pc a → pc + length a ≤ length code
+pub has_end : (code : List Placed) (pc : ℕ) (a : List Placed) → pc ≤ length code → HasAt code pc a → pc + length a ≤ length code
 has_end code pc [] le h = omega (arith, le)
 has_end code pc (i ∷ a) le h = omega (arith, has_end code (pc + 1) a (omega (arith, slice_get_within code pc i h.0)) h.1)
 
@@ -186,7 +196,9 @@ module _ (p : TProgram) (regions : List Region) (targets : List (List Target)) (
       cc : List Placed
       cc = close_code g
       fm : body_formed p.names p.functions regions formed.rank (formed.rank f) (is_some g.result) γ (k + link_words g) g.body
-      fm = formed.bodies f g found
+      fm =
+          let a = found_at p.functions f g found in
+          subst (λ x. body_formed p.names p.functions regions formed.rank (formed.rank x) (is_some g.result) γ (k + link_words g) g.body) (sym a.1) (formed.bodies (function_number p.functions f) g a.0)
       lower_calls : CallsRun image p.nv small p.names p.functions regions formed.rank (formed.rank f) (stack_words p d) (call_to p regions d)
       lower_calls f' g' a b lt = calls f' g' a b (omega (arith, lt, lower))
 

@@ -16,3 +16,4 @@ pub mod Trees
 pub mod Bodies
 pub mod Params
 pub mod Calls
+pub mod Whole

@@ -1,5 +1,5 @@
 -- What a program keeps, so that its code is defined: what is asked of names, calls, returns, writes and regions.
-use Rattle.std.specs.Prelude.{◌≡◌, ◌≤◌, ◌<◌, ◌^◌, ℕ, suc, ◌+◌, Bool, true, false, List, [], ◌∷◌, length, codes, Option, Some, None, is_some, sum_by, count_by}
+use Rattle.std.specs.Prelude.{◌≡◌, ◌≤◌, ◌<◌, ◌^◌, ℕ, suc, ◌+◌, Bool, true, false, List, [], ◌∷◌, length, codes, Option, Some, None, is_some, slice_get, sum_by, count_by}
 use Rattle.std.specs.List.{All}
 use Rattle.oc_tree.specs.Names.{Text, NameLists}
 use Rattle.oc_tree.specs.Word.{is_word}
@@ -121,8 +121,8 @@ pub record IsFormed (p : TProgram) (regions : List Region) (targets : List (List
   pub main_takes_none : main.params ≡ []
   pub main_gives_none : main.result ≡ None
   pub main_high : rank (codes "main") ≤ length p.functions
-  pub bodies : (x : Text) (f : TFunction) → function_named p.functions x ≡ Some f →
-      body_formed p.names p.functions regions rank (rank x) (is_some f.result) (function_scope p f) (length f.params + link_words f) f.body
+  pub bodies : (i : ℕ) (f : TFunction) → slice_get p.functions i ≡ Some f →
+      body_formed p.names p.functions regions rank (rank f.name) (is_some f.result) (function_scope p f) (length f.params + link_words f) f.body
   pub stack_low : (code_of p regions targets).stack ≤ 65536
   pub code_short : length (code_of p regions targets).code < 2 ^ 31
   pub regions_known : All (λ r. (1 ≤ r.id) × (r.id ≤ length targets)) regions

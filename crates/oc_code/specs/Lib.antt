@@ -3,3 +3,4 @@ pub mod Forms
 pub mod Stack
 pub mod Code
 pub mod Formed
+pub mod Right

@@ -17,3 +17,4 @@ pub mod Bodies
 pub mod Params
 pub mod Calls
 pub mod Whole
+pub mod Made

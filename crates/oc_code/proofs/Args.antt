@@ -1,6 +1,6 @@
 -- The code of arguments leaves them on the stack.
-use Rattle.std.proofs.Common.{◌≡◌, ℕ, zero, suc, ◌+◌, ◌-◌, ◌<◌, ◌≤◌, Bool, true, false, List, [], ◌∷◌, ◌++◌, length, Option, Some, None, refl, sym, ap, ◌∙◌, subst, arith, length-append}
-use Rattle.std.specs.Prelude.{ℤ, pos, is_some, slice_get, max, if◌then◌else◌}
+use Rattle.std.proofs.Common.{◌≡◌, ℕ, ◌+◌, ◌<◌, ◌≤◌, true, List, [], ◌∷◌, ◌++◌, length, Some, None, refl, sym, ap, ◌∙◌, subst, arith, length-append}
+use Rattle.std.specs.Prelude.{ℤ, pos, is_some, max, if◌then◌else◌}
 use Rattle.std.proofs.lemmas.Option.{none-some}
 use Rattle.oc_tree.specs.Names.{Text}
 use Rattle.oc_tree.specs.Tree.{TExpr, number, truth, variable, index, deref, unary, binary, sensed, called, TArg, value, shared, mutable, TArgs, no_args, more_args}
@@ -12,16 +12,16 @@ use Rattle.oc_tree.specs.declared.said.Said.TheVariants.{Ended as Over}
 use Rattle.oc_tree.specs.declared.said.Ending.TheVariants.{Trapped}
 use Rattle.oc_isa.specs.declared.instr.Placed.{Placed}
 use Rattle.oc_isa.specs.Image.{Parts}
-use Rattle.oc_meaning.specs.Store.{Value, Place, Store, Binding, noted, binding_of, place_of}
+use Rattle.oc_meaning.specs.Store.{Store, Binding, noted, binding_of, place_of}
 use Rattle.oc_meaning.specs.Eval.{Got, Val, Traps, value_of}
 use Rattle.oc_meaning.specs.Exec.{Passed, Copied, Lent, Passing as Passings, Passes, Breaks, passed_first, copied_first, passed_on, value_first, arg_first, args_of}
 use Rattle.oc_code.specs.Scope.{Slot, InFrame, ByAddress, InNv, NoSlot, Named, named, slot_of, kind_words, may_write, param_slot, passed_slot, address_slot}
 use Rattle.oc_code.specs.Forms.{base_code, expr_code, value_code, arg_code, args_code}
-use Rattle.oc_code.specs.Stack.{expr_depth, arg_depth, args_depth}
+use Rattle.oc_code.specs.Stack.{arg_depth, args_depth}
 use Rattle.oc_code.specs.Formed.{IsLent, NamesLent, NamesWritable, IsPassed, ArePassed}
 use Rattle.oc_code.proofs.Cells.{Cell, stack_of, size, onto}
 use Rattle.oc_code.proofs.Steps.{Mach, shown, Leads, Stops, leads_self, leads_on, leads_stop}
-use Rattle.oc_code.proofs.Places.{total, is_reference, IsVariable, Stands, place_width, Fits, Agrees, Sees, Holds, found}
+use Rattle.oc_code.proofs.Places.{total, is_reference, IsVariable, Stands, place_width, Sees, Holds, found}
 use Rattle.oc_code.proofs.Exprs.{HasAt, has_front, has_back, Gives, expr_runs, base_run, depth_some, spot_of, spot_stands}
 
 -- an argument against its parameter, with the word that stands for it
@@ -95,15 +95,15 @@ module _ (parts : Parts) (ds : List NvDecl) (small : total ds ≤ 65536) where
         let p = place_of env x in
         let a = spot_of parts ds small cs σ h n fp under s p f.fits in
         put_one _ n pc' (pc + length (base_code n s)) fp cs _ σ q qs (Lent p) (pos a) gs (base_run parts ds small cs σ h n fp under pc top s p room f.fits has)
-            (a, refl, spot_stands parts ds small cs σ h n fp under s p f.fits (omega (arith, lent.0, lent.1, f.words)), sym f.words ∙ lent.1, lent.0, ref, λ m. f.variable (may m)) (rs (pos a))
+        (a, refl, spot_stands parts ds small cs σ h n fp under s p f.fits (omega (arith, lent.0, lent.1, f.words)), sym f.words ∙ lent.1, lent.0, ref, λ m. f.variable (may m)) (rs (pos a))
 
     on_one : (top : List ℤ) (pc pc' : ℕ) (q : Param) (qs : List Param) (e : TExpr) (gs : Passings) → NamesLent γ e (kind_words q.kind) → is_reference (param_slot q.passing 0) ≡ true → (may_write q.passing ≡ true → NamesWritable γ e) → length top + size cs + 1 ≤ parts.stack → HasAt parts.code pc (arg_code n γ pc (value e)) → ((z : ℤ) → ArgsGive (shown (pc + length (arg_code n γ pc (value e))) fp (z ∷ (top ++ stack_of cs σ.locals)) σ) n pc' fp cs (z ∷ (top ++ stack_of cs σ.locals)) σ qs gs) → Given top pc pc' q qs (arg_first env σ (value e) gs)
     on_one top pc pc' q qs (variable x) gs lent ref may room has rs =
         let w = top ++ stack_of cs σ.locals in
         let i = is_passed γ env cs fp n x (expr_code n γ pc (variable x)) sees lent.1 in
         subst (λ o. Given top pc pc' q qs (value_first o (value_of env σ (variable x)) gs)) (sym i.0)
-            (lend_one top pc pc' q qs x gs lent.0 ref may room (subst (HasAt parts.code pc) i.1 has)
-            (subst (λ c. (z : ℤ) → ArgsGive (shown (pc + length c) fp (z ∷ w) σ) n pc' fp cs (z ∷ w) σ qs gs) i.1 rs))
+        (lend_one top pc pc' q qs x gs lent.0 ref may room (subst (HasAt parts.code pc) i.1 has)
+        (subst (λ c. (z : ℤ) → ArgsGive (shown (pc + length c) fp (z ∷ w) σ) n pc' fp cs (z ∷ w) σ qs gs) i.1 rs))
     on_one top pc pc' q qs (number z) gs lent ref may room has rs = absurd lent
     on_one top pc pc' q qs (truth b) gs lent ref may room has rs = absurd lent
     on_one top pc pc' q qs (index x e) gs lent ref may room has rs = absurd lent
@@ -120,9 +120,9 @@ module _ (parts : Parts) (ds : List NvDecl) (small : total ds ≤ 65536) where
         let o = not_passed γ env cs fp e sees passed.1 in
         let same : arg_code n γ pc (value e) ≡ c = ap (λ o. value_code n o c) passed.1 in
         subst (λ o. Given top pc pc' q qs (value_first o (value_of env σ e) gs)) (sym o)
-            (copy_one _ n pc' (pc + length c) fp cs w σ q qs (value_of env σ e) gs is passed.0
-                (expr_runs parts ds small n fp γ env cs top σ h under sees e pc (omega (arith, room, deep)) (subst (HasAt parts.code pc) same has) (subst (λ c. pc + length c < length parts.code) same stop))
-                (subst (λ c. (z : ℤ) → ArgsGive (shown (pc + length c) fp (z ∷ w) σ) n pc' fp cs (z ∷ w) σ qs gs) same rs))
+        (copy_one _ n pc' (pc + length c) fp cs w σ q qs (value_of env σ e) gs is passed.0
+        (expr_runs parts ds small n fp γ env cs top σ h under sees e pc (omega (arith, room, deep)) (subst (HasAt parts.code pc) same has) (subst (λ c. pc + length c < length parts.code) same stop))
+        (subst (λ c. (z : ℤ) → ArgsGive (shown (pc + length c) fp (z ∷ w) σ) n pc' fp cs (z ∷ w) σ qs gs) same rs))
     arg_run top pc pc' q ByValue qs (shared x) gs is passed d room some deep has stop rs = absurd passed
     arg_run top pc pc' q ByValue qs (mutable x) gs is passed d room some deep has stop rs = absurd passed
     arg_run top pc pc' q Shared qs (value e) gs is passed d room some deep has stop rs =
@@ -147,4 +147,4 @@ module _ (parts : Parts) (ds : List NvDecl) (small : total ds ≤ 65536) where
         let r = args_code n γ (pc + length c) rest in
         let e' : pc + length c + length r ≡ pc' = omega (arith, e, length-append c r) in
         arg_run top pc pc' q q.passing qs a (args_of env σ rest) refl passed.0 (max (arg_depth a) 1) (omega (arith, room, arg_some a)) (omega arith) (omega arith) (has_front parts.code pc c r has) (omega (arith, e', stop))
-            (λ z. args_runs rest qs (z ∷ top) (pc + length c) pc' passed.1 e' (omega (arith, room)) (has_back parts.code pc c r has) stop)
+        (λ z. args_runs rest qs (z ∷ top) (pc + length c) pc' passed.1 e' (omega (arith, room)) (has_back parts.code pc c r has) stop)

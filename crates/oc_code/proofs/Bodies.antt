@@ -1,31 +1,31 @@
 -- The code of whole trees.
-use Rattle.std.proofs.Common.{◌≡◌, ℕ, zero, suc, ◌+◌, ◌-◌, ◌<◌, ◌≤◌, Bool, true, false, List, [], ◌∷◌, ◌++◌, length, Option, Some, None, refl, sym, ap, ◌∙◌, subst, arith, length-append, append_assoc, map}
-use Rattle.std.specs.Prelude.{ℤ, pos, ◌-ℤ◌, is_some, slice_get, max, if◌then◌else◌, ◌==◌}
+use Rattle.std.proofs.Common.{◌≡◌, ℕ, zero, suc, ◌+◌, ◌-◌, ◌<◌, ◌≤◌, Bool, true, false, List, [], ◌∷◌, ◌++◌, length, Option, Some, None, refl, sym, ap, ◌∙◌, subst, arith, length-append, map}
+use Rattle.std.specs.Prelude.{ℤ, pos, slice_get, max, if◌then◌else◌, ◌==◌}
 use Rattle.std.proofs.lemmas.Option.{none-some}
 use Rattle.oc_tree.specs.Names.{Text, NameLists}
-use Rattle.oc_tree.specs.Tree.{TExpr, call, TRight, right_value, right_sense, right_call, TKind, let_to, let_array, assign, assign_index, assign_deref, if_else, for_in, while_do, call_only, sense_only, emit, fresh, consistent, return, TElse, no_else, else_do, TStmt, stmt, TBlock, block, TStmts, no_stmts, more, TFunction}
+use Rattle.oc_tree.specs.Tree.{TExpr, call, TRight, right_value, right_sense, right_call, TKind, let_to, let_array, assign, assign_index, assign_deref, if_else, for_in, while_do, call_only, sense_only, emit, fresh, consistent, return, no_else, else_do, stmt, TBlock, block, TStmts, no_stmts, more, TFunction}
 use Rattle.oc_tree.specs.declared.tree.NvDecl.{NvDecl}
 use Rattle.oc_isa.specs.declared.instr.ProbeKind.TheVariants.{Use, Done}
 use Rattle.oc_isa.specs.declared.instr.Placed.{Placed}
 use Rattle.oc_isa.specs.declared.instr.Instr.TheVariants.{Store as StoreTo, Jump, Jfalse, Retv}
 use Rattle.oc_isa.specs.Image.{Parts}
-use Rattle.oc_meaning.specs.Store.{Value, Held, Place, Turn, Store, Binding, holding, made, held_at, place_of}
-use Rattle.oc_meaning.specs.Eval.{Got, Val, Traps, is_zero, value_of}
+use Rattle.oc_meaning.specs.Store.{Store, Binding, holding, made, held_at, place_of}
+use Rattle.oc_meaning.specs.Eval.{is_zero, value_of}
 use Rattle.oc_meaning.specs.Uses.{is_fresh, is_use, use_samples, begins_use, ends_use}
-use Rattle.oc_meaning.specs.Exec.{Region, begun_by, ended_by, Outcome, Went, Returned, Stopped, Passed, number_in, with_value, with_result, then_do, finished, opened, closed, used, done, right_run, count_of, for_turns, while_turns, in_turn, bound_to, grown, entered, kind_run, else_run, block_run, stmts_run}
-use Rattle.oc_code.specs.Scope.{Slot, InFrame, ByAddress, InNv, NoSlot, address_slot, Named, named, slot_of, is_fresh_in, kind_slots, else_slots, block_slots, stmts_slots, in_scope, for_named}
-use Rattle.oc_code.specs.Forms.{placed, one, enter_code, commit_code, probe_code, expr_code, write_code, again_code, array_code, count_code, while_code, one_way_code, two_way_code}
-use Rattle.oc_code.specs.Stack.{expr_depth, right_depth, kind_depth, else_depth, block_depth, stmts_depth}
-use Rattle.oc_code.specs.Code.{right_code, test_code, return_code, last_code, before_code, after_code, first_code, whole_code, kind_code, if_code, block_code, stmts_code}
-use Rattle.oc_code.specs.Formed.{marks, kind_formed, else_formed, block_formed, stmts_formed, right_formed, body_formed}
-use Rattle.oc_code.proofs.Cells.{Cell, Own, Fixed, stack_of, owns, size, Shaped, owns_shaped, length-stack_of, size-append, size_fixed, fixed_at, shaped_fixed}
-use Rattle.oc_code.proofs.Steps.{Mach, shown, Leads, Stops, leads_self, leads_on}
-use Rattle.oc_code.proofs.Places.{total, Found, Agrees, Sees, Holds, found, sees_one, sees_more}
+use Rattle.oc_meaning.specs.Exec.{Region, begun_by, ended_by, Outcome, Went, Returned, Passed, number_in, with_value, then_do, finished, opened, closed, used, done, right_run, while_turns, in_turn, grown, entered, kind_run, block_run, stmts_run}
+use Rattle.oc_code.specs.Scope.{Slot, InFrame, ByAddress, InNv, NoSlot, address_slot, Named, slot_of, is_fresh_in, kind_slots, block_slots, stmts_slots, in_scope, for_named}
+use Rattle.oc_code.specs.Forms.{placed, one, enter_code, commit_code, probe_code, expr_code, again_code, array_code, count_code, while_code}
+use Rattle.oc_code.specs.Stack.{expr_depth, right_depth, kind_depth, block_depth, stmts_depth}
+use Rattle.oc_code.specs.Code.{right_code, test_code, return_code, last_code, first_code, whole_code, kind_code, block_code, stmts_code}
+use Rattle.oc_code.specs.Formed.{marks, kind_formed, block_formed, stmts_formed, body_formed}
+use Rattle.oc_code.proofs.Cells.{Cell, Fixed, stack_of, owns, size, owns_shaped, size-append, size_fixed, fixed_at, shaped_fixed}
+use Rattle.oc_code.proofs.Steps.{Mach, shown, Leads, leads_self}
+use Rattle.oc_code.proofs.Places.{total, Sees, Holds, sees_one, sees_more}
 use Rattle.oc_code.proofs.Exprs.{HasAt, has_front, has_back, has_at, inside, Gives, gives_after, gives_at, expr_runs, depth_some, full_length}
 use Rattle.oc_code.proofs.Writes.{write_room}
 use Rattle.oc_code.proofs.Counts.{word_fits}
-use Rattle.oc_code.proofs.Marks.{Alike, alike_holds, used_alike, used_depth, use_run}
-use Rattle.oc_code.proofs.Outcomes.{Runs, runs_after, runs_at, same_cells, result_run, runs_more, runs_below, told, leave_run}
+use Rattle.oc_code.proofs.Marks.{alike_holds, used_alike, use_run}
+use Rattle.oc_code.proofs.Outcomes.{Runs, runs_at, same_cells, result_run, runs_more, runs_below, told, leave_run}
 use Rattle.oc_code.proofs.Loops.{for_run}
 use Rattle.oc_code.proofs.Whiles.{while_run, at_test, at_inner, at_jump}
 use Rattle.oc_code.proofs.Lets.{same_eq, let_run, array_run}
@@ -74,9 +74,9 @@ module _ (parts : Parts) (ds : List NvDecl) (small : total ds ≤ 65536) (names 
       let i = one n (StoreTo s) in
       let e : pc + length cr + 1 ≡ pc + length (cr ++ i) = omega (arith, length-append cr i) in
       result_run parts ds small k fp false D D _ (pc + length cr) _ (length top) 1 cs (in_scope (let_to m x t r) s rest γ) (grown (let_to m x t r) rest env υ) top (right_run names regions call_of home env n σ r) (λ v τ. Went (made (holding v) τ))
-          (right_runs parts ds small names fs regions rank own need call_of calls home k fp D n γ env cs under q.sees r top σ pc q.holds de fm (omega (arith, q.full, room)) (has_front parts.code pc cr i has) (omega (arith, stop, e)))
-          (λ v τ h d. runs_at parts ds small k fp false D _ _ _ (length top) 1 cs (in_scope (let_to m x t r) s rest γ) (grown (let_to m x t r) rest env υ) (Went (made (holding v) τ)) e
-              (let_run parts ds small k fp D n s (pc + length cr) x cs γ env rest top v υ τ own' h d q.base le (omega (arith, q.full, low)) (omega (arith, q.full, room, right_some r)) q.sees (has_back parts.code pc cr i has).0))
+      (right_runs parts ds small names fs regions rank own need call_of calls home k fp D n γ env cs under q.sees r top σ pc q.holds de fm (omega (arith, q.full, room)) (has_front parts.code pc cr i has) (omega (arith, stop, e)))
+      (λ v τ h d. runs_at parts ds small k fp false D _ _ _ (length top) 1 cs (in_scope (let_to m x t r) s rest γ) (grown (let_to m x t r) rest env υ) (Went (made (holding v) τ)) e
+      (let_run parts ds small k fp D n s (pc + length cr) x cs γ env rest top v υ τ own' h d q.base le (omega (arith, q.full, low)) (omega (arith, q.full, room, right_some r)) q.sees (has_back parts.code pc cr i has).0))
 
   let_row : (m : Bool) (x : Text) (t : _) (z : ℤ) (c : ℕ) → KindRuns (let_array m x t z c)
   let_row m x t z zero n s pc sp D γ env cs top υ σ rest q own' de fm le low room has stop = absurd (omega (arith, fm.0))
@@ -85,7 +85,7 @@ module _ (parts : Parts) (ds : List NvDecl) (small : total ds ≤ 65536) (names 
       let lt : length top ≡ j + 1 = omega (arith, le) in
       let kind = let_array m x t z (suc w) in
       subst (λ t. Runs parts ds small k fp false D (shown pc fp (top ++ stack_of cs σ.locals) σ) (pc + length (array_code n pc s z (suc w))) t (suc w + 1) cs (in_scope kind s rest γ) (grown kind rest env υ) (kind_run names regions call_of home env n kind σ)) (sym lt)
-          (array_run parts ds small k fp n pc s w z cs q.base q.holds.low has stop j (omega (arith, lt, q.full, room)) (omega (arith, lt, q.full, low)) fm.1 (omega (arith, lt, le)) D x γ env rest top υ σ own' lt q.holds de q.sees)
+      (array_run parts ds small k fp n pc s w z cs q.base q.holds.low has stop j (omega (arith, lt, q.full, room)) (omega (arith, lt, q.full, low)) fm.1 (omega (arith, lt, le)) D x γ env rest top υ σ own' lt q.holds de q.sees)
 
   if_one : (c : TExpr) (a : TBlock) → BlockRuns a → KindRuns (if_else c a no_else)
   if_one c a ra n s pc sp D γ env cs top υ σ rest q own' de fm le low room has stop =
@@ -96,9 +96,9 @@ module _ (parts : Parts) (ds : List NvDecl) (small : total ds ≤ 65536) (names 
       let len = length-append cc (placed n (Jfalse (pc + length cc + 1 + length ca)) ∷ ca) in
       let o = with_value (value_of env σ c) n σ (λ v. if is_zero v.num then Went σ else block_run names regions call_of home env a σ) in
       runs_more parts ds small k fp D _ _ (length top) (block_slots a + 0) cs γ env o le (omega (arith, q.full, low))
-          (one_way_run parts ds small names fs regions rank own need call_of calls home k fp D n γ env cs under q.sees pc top σ cc ca (value_of env σ c) (block_run names regions call_of home env a σ) q.holds de (omega (arith, q.full, room, depth_some parts ds small c)) has stop
-              (expr_runs parts ds small n fp γ env cs top σ q.holds under q.sees c pc (omega (arith, q.full, room)) (has_front parts.code pc cc (placed n (Jfalse (pc + length cc + 1 + length ca)) ∷ ca) has) (inside parts.code _ _ back.0))
-              (ra s (pc + length cc + 1) sp D γ env cs top σ q de fm.0 (omega (arith, le)) low (omega (arith, room)) back.1 (omega (arith, stop, len))))
+      (one_way_run parts ds small names fs regions rank own need call_of calls home k fp D n γ env cs under q.sees pc top σ cc ca (value_of env σ c) (block_run names regions call_of home env a σ) q.holds de (omega (arith, q.full, room, depth_some parts ds small c)) has stop
+      (expr_runs parts ds small n fp γ env cs top σ q.holds under q.sees c pc (omega (arith, q.full, room)) (has_front parts.code pc cc (placed n (Jfalse (pc + length cc + 1 + length ca)) ∷ ca) has) (inside parts.code _ _ back.0))
+      (ra s (pc + length cc + 1) sp D γ env cs top σ q de fm.0 (omega (arith, le)) low (omega (arith, room)) back.1 (omega (arith, stop, len))))
 
   if_two : (c : TExpr) (a b : TBlock) → BlockRuns a → BlockRuns b → KindRuns (if_else c a (else_do b))
   if_two c a b ra rb n s pc sp D γ env cs top υ σ rest q own' de fm le low room has stop =
@@ -132,22 +132,24 @@ module _ (parts : Parts) (ds : List NvDecl) (small : total ds ≤ 65536) (names 
       let below2 = subst (λ t. Runs parts ds small k fp false D (shown pb fp (top2 ++ stack_of C σ.locals) σ) (pb + length cb) t 0 cs γ env ob) d.3 below in
       let below3 = subst (λ w. Runs parts ds small k fp false D (shown pb fp w σ) (pb + length cb) (length top) 0 cs γ env ob) (sym d.4) below2 in
       runs_more parts ds small k fp D _ _ (length top) (block_slots a + block_slots b) cs γ env o le (omega (arith, q.full, low))
-          (two_way_run parts ds small names fs regions rank own need call_of calls home k fp D n γ env cs under q.sees pc top σ cc ca cb (value_of env σ c) oa ob q.holds (omega (arith, q.full, room, depth_some parts ds small c)) has stop
-              (expr_runs parts ds small n fp γ env cs top σ q.holds under q.sees c pc (omega (arith, q.full, room)) (has_front parts.code pc cc (test ∷ (ca ++ (jump ∷ cb))) has) (inside parts.code _ _ back.0))
-              (ra s (pc + length cc + 1) sp D γ env cs top σ q de fm.0 (omega (arith, le)) low (omega (arith, room)) (has_front parts.code (pc + length cc + 1) ca (jump ∷ cb) back.1) (inside parts.code _ _ back_a.0))
-              below3)
+      (two_way_run parts ds small names fs regions rank own need call_of calls home k fp D n γ env cs under q.sees pc top σ cc ca cb (value_of env σ c) oa ob q.holds (omega (arith, q.full, room, depth_some parts ds small c)) has stop
+      (expr_runs parts ds small n fp γ env cs top σ q.holds under q.sees c pc (omega (arith, q.full, room)) (has_front parts.code pc cc (test ∷ (ca ++ (jump ∷ cb))) has) (inside parts.code _ _ back.0))
+      (ra s (pc + length cc + 1) sp D γ env cs top σ q de fm.0 (omega (arith, le)) low (omega (arith, room)) (has_front parts.code (pc + length cc + 1) ca (jump ∷ cb) back.1) (inside parts.code _ _ back_a.0))
+      below3)
 
   -- the counter of a `for` is its variable
   for_sees : (x : Text) (i : ℤ) (s : ℕ) (cs : List Cell) (γ : List Named) (env : List Binding) → size cs ≡ fp + s → Sees ds cs fp γ env → Sees ds (Fixed i ∷ cs) fp (for_named x s ∷ γ) (in_turn x i ∷ env)
-  for_sees x i s cs γ env base sees =
-      (record {
-        name = refl;
-        fits = record { spot = fp + s; lies = (refl, omega (arith, base)); stands = stands; wide = omega arith };
-        words = refl;
-        fresh = refl;
-        reference = refl;
-        variable = λ e. absurd (grind (arith, e));
-      }, sees_one ds (Fixed i) cs fp γ env sees)
+  for_sees x i s cs γ env base sees = (
+    record {
+      name = refl;
+      fits = record { spot = fp + s; lies = (refl, omega (arith, base)); stands = stands; wide = omega arith };
+      words = refl;
+      fresh = refl;
+      reference = refl;
+      variable = λ e. absurd (grind (arith, e));
+    },
+    sees_one ds (Fixed i) cs fp γ env sees,
+  )
     where
       stands : fixed_at (Fixed i ∷ cs) (fp + s) ≡ Some i
       stands = ap (λ b. if b then Some i else fixed_at cs (fp + s)) (ap (λ n. (fp + s) == n) base ∙ same_eq (fp + s))
@@ -161,18 +163,18 @@ module _ (parts : Parts) (ds : List NvDecl) (small : total ds ≤ 65536) (names 
       let o = kind_run names regions call_of home env n kind σ in
       let whole = pc + length (count_code n pc s c d cb) in
       let r = for_run parts ds small k fp n pc s cs q.base q.holds.low c d cb has stop j (omega (arith, lt, q.full, room)) D γ env q.sees (word_fits c fm.0) (word_fits d fm.1) (for_named x s ∷ γ) (λ i. in_turn x i ∷ env) (λ i. block_run names regions call_of home (in_turn x i ∷ env) b)
-          (λ i top' τ lt' h' de'.
-              let ready : Ready ds fp (s + 1) sp (for_named x s ∷ γ) (in_turn x i ∷ env) (Fixed i ∷ cs) top' τ = record {
-                holds = record { shaped = h'.shaped; nv = h'.nv; low = omega (arith, low, q.full, lt) };
-                base = omega (arith, q.base);
-                full = omega (arith, q.full, lt, lt');
-                sees = for_sees x i s cs γ env q.base q.sees;
-              } in
-              subst (λ t. Runs parts ds small k fp false D (shown (pc + 6) fp (top' ++ (i ∷ stack_of cs τ.locals)) τ) (pc + 6 + length cb) t 0 (Fixed i ∷ cs) (for_named x s ∷ γ) (in_turn x i ∷ env) (block_run names regions call_of home (in_turn x i ∷ env) b τ)) lt'
-                  (rb (s + 1) (pc + 6) sp D (for_named x s ∷ γ) (in_turn x i ∷ env) (Fixed i ∷ cs) top' τ ready de' fm.2 (omega (arith, le, lt, lt')) low (omega (arith, room)) (body_at cb has) (omega (arith, stop, length-append cb (again_code n s (pc + 2))))))
-          top σ lt q.holds de in
+      (λ i top' τ lt' h' de'.
+      let ready : Ready ds fp (s + 1) sp (for_named x s ∷ γ) (in_turn x i ∷ env) (Fixed i ∷ cs) top' τ = record {
+        holds = record { shaped = h'.shaped; nv = h'.nv; low = omega (arith, low, q.full, lt) };
+        base = omega (arith, q.base);
+        full = omega (arith, q.full, lt, lt');
+        sees = for_sees x i s cs γ env q.base q.sees;
+      } in
+      subst (λ t. Runs parts ds small k fp false D (shown (pc + 6) fp (top' ++ (i ∷ stack_of cs τ.locals)) τ) (pc + 6 + length cb) t 0 (Fixed i ∷ cs) (for_named x s ∷ γ) (in_turn x i ∷ env) (block_run names regions call_of home (in_turn x i ∷ env) b τ)) lt'
+      (rb (s + 1) (pc + 6) sp D (for_named x s ∷ γ) (in_turn x i ∷ env) (Fixed i ∷ cs) top' τ ready de' fm.2 (omega (arith, le, lt, lt')) low (omega (arith, room)) (body_at cb has) (omega (arith, stop, length-append cb (again_code n s (pc + 2))))))
+      top σ lt q.holds de in
       runs_more parts ds small k fp D _ whole (length top) (block_slots b + 1) cs γ env o le (omega (arith, q.full, low))
-          (subst (λ t. Runs parts ds small k fp false D (shown pc fp (top ++ stack_of cs σ.locals) σ) whole t 0 cs γ env o) (sym lt) r)
+      (subst (λ t. Runs parts ds small k fp false D (shown pc fp (top ++ stack_of cs σ.locals) σ) whole t 0 cs γ env o) (sym lt) r)
     where
       body_at : (cb : List Placed) → HasAt parts.code pc (count_code n pc s c d cb) → HasAt parts.code (pc + 6) cb
       body_at cb has =
@@ -182,41 +184,57 @@ module _ (parts : Parts) (ds : List NvDecl) (small : total ds ≤ 65536) (names 
   while_one : (c : TExpr) (bound : ℕ) (b : TBlock) → BlockRuns b → KindRuns (while_do c bound b)
   while_one c bound b rb n s pc sp D γ env cs top υ σ rest q own' de fm le low room has stop =
       runs_more parts ds small k fp D _ last (length top) (block_slots b + 1) cs γ env o le (omega (arith, q.full, low))
-          (subst (λ F. Runs parts ds small k fp false D (shown pc fp (top ++ stack_of cs σ.locals) σ) last (length top) 0 cs γ env (turns F)) same
-          (subst (λ t. Runs parts ds small k fp false D (shown pc fp (top ++ stack_of cs σ.locals) σ) last t 0 cs γ env (turns (is_fresh_in γ))) (sym lt) r))
+      (subst (λ F. Runs parts ds small k fp false D (shown pc fp (top ++ stack_of cs σ.locals) σ) last (length top) 0 cs γ env (turns F)) same
+      (subst (λ t. Runs parts ds small k fp false D (shown pc fp (top ++ stack_of cs σ.locals) σ) last t 0 cs γ env (turns (is_fresh_in γ))) (sym lt) r))
     where
       kind : TKind
       kind = while_do c bound b
+
       under : fp ≤ size cs
       under = omega (arith, q.base)
+
       j : ℕ
       j = length top - 1
+
       lt : length top ≡ j + 1
       lt = omega (arith, le)
+
       is : Bool
       is = is_use (is_fresh_in γ) kind
+
       same : is_fresh_in γ ≡ is_fresh env
       same = fresh_same parts ds small cs fp γ env q.sees
+
       cc : List Placed
       cc = test_code names fs regions k n γ (pc + 6) is c
+
       cb : List Placed
       cb = block_code names fs regions k γ (s + 1) (pc + 6 + length cc + 1) b
+
       wc : List Placed
       wc = while_code n pc s bound cc cb
+
       last : ℕ
       last = pc + length (wc ++ probe_code n is Done)
+
       o : Outcome
       o = kind_run names regions call_of home env n kind σ
+
       turns : (Text → Bool) → Outcome
       turns F = while_turns bound n (is_use F kind) (use_samples env kind) (λ τ. value_of env τ c) (block_run names regions call_of home env b) [] σ
+
       loop_room : j + size cs + 3 ≤ parts.stack
       loop_room = omega (arith, lt, q.full, room)
+
       has_test : HasAt parts.code (pc + 6) cc
       has_test = at_test parts ds small k fp n pc s cs q.base q.holds.low bound fm.0 cc cb is has stop j loop_room
+
       has_body : HasAt parts.code (pc + 6 + length cc + 1) cb
       has_body = at_inner parts ds small k fp n pc s cs q.base q.holds.low bound fm.0 cc cb is has stop j loop_room
+
       has_jump : slice_get parts.code (pc + 6 + length cc) ≡ Some (placed n (Jfalse (pc + 6 + (length cc + 1 + length cb) + 5)))
       has_jump = at_jump parts ds small k fp n pc s cs q.base q.holds.low bound fm.0 cc cb is has stop j loop_room
+
       body_inside : pc + 6 + length cc + 1 + length cb < length parts.code
       body_inside = omega (arith, stop, length-append wc (probe_code n is Done), length-append (cc ++ (placed n (Jfalse (pc + 6 + (length cc + 1 + length cb) + 5)) ∷ cb)) (again_code n s (pc + 2)), length-append cc (placed n (Jfalse (pc + 6 + (length cc + 1 + length cb) + 5)) ∷ cb))
 
@@ -244,13 +262,13 @@ module _ (parts : Parts) (ds : List NvDecl) (small : total ds ≤ 65536) (names 
           let l' = subst (λ hs. Leads parts (shown (pc + 6) fp w τ) (shown (pc + 6 + length probe) fp (top' ++ (pos i ∷ stack_of cs hs)) υ)) (sym a.0) l in
           let e : pc + 6 + length probe + length ce ≡ pc + 6 + length cc = omega (arith, length-append probe ce) in
           gives_after parts ds small _ _ n (pc + 6 + length cc) fp (top' ++ (pos i ∷ stack_of cs υ.locals)) υ (value_of env υ c) l'
-              (gives_at parts ds small _ n _ _ fp (top' ++ (pos i ∷ stack_of cs υ.locals)) υ (value_of env υ c) e
-              (expr_runs parts ds small n fp γ env C top' υ hυ (omega (arith, q.base)) r.sees c (pc + 6 + length probe) (omega (arith, r.full, room)) (has_back parts.code (pc + 6) probe ce has_test) (omega (arith, e, inside parts.code _ _ has_jump))))
+          (gives_at parts ds small _ n _ _ fp (top' ++ (pos i ∷ stack_of cs υ.locals)) υ (value_of env υ c) e
+          (expr_runs parts ds small n fp γ env C top' υ hυ (omega (arith, q.base)) r.sees c (pc + 6 + length probe) (omega (arith, r.full, room)) (has_back parts.code (pc + 6) probe ce has_test) (omega (arith, e, inside parts.code _ _ has_jump))))
 
       r : Runs parts ds small k fp false D (shown pc fp (top ++ stack_of cs σ.locals) σ) last (j + 1) 0 cs γ env (turns (is_fresh_in γ))
       r = while_run parts ds small k fp n pc s cs q.base q.holds.low bound fm.0 cc cb is has stop j loop_room D γ env q.sees under (use_samples env kind) (λ τ. value_of env τ c) (block_run names regions call_of home env b) tested
           (λ i top' τ lt' h' de'. subst (λ t. Runs parts ds small k fp false D (shown (pc + 6 + length cc + 1) fp (top' ++ (pos i ∷ stack_of cs τ.locals)) τ) (pc + 6 + length cc + 1 + length cb) t 0 (Fixed (pos i) ∷ cs) γ env (block_run names regions call_of home env b τ)) lt'
-              (rb (s + 1) (pc + 6 + length cc + 1) sp D γ env (Fixed (pos i) ∷ cs) top' τ (ready i top' τ lt' h') de' fm.1 (omega (arith, le, lt, lt')) low (omega (arith, room)) has_body body_inside))
+          (rb (s + 1) (pc + 6 + length cc + 1) sp D γ env (Fixed (pos i) ∷ cs) top' τ (ready i top' τ lt' h') de' fm.1 (omega (arith, le, lt, lt')) low (omega (arith, room)) has_body body_inside))
           top σ lt q.holds de
 
   -- what is proved of statements: `gives` says that they end with a `return`, `inside'` how many regions are open among them
@@ -276,96 +294,131 @@ module _ (parts : Parts) (ds : List NvDecl) (small : total ds ≤ 65536) (names 
   row_one : (n line : ℕ) (kind : TKind) (rest : TStmts) → KindRuns kind → StmtsRun rest → last_code n (ended_by regions n) kind ≡ commit_code n (ended_by regions n) → (g : Bool) (o s pc sp D : ℕ) (γ : List Named) (env : List Binding) (cs : List Cell) (top : List ℤ) (σ : Store) → Ready ds fp s sp γ env cs top σ → σ.depth ≡ D + o → kind_formed names fs regions rank own γ s kind → (left : ℕ) → o + marks (begun_by regions n) ≡ left + marks (ended_by regions n) → stmts_formed names fs regions rank own g left (in_scope kind s rest γ) (s + kind_slots kind) rest → kind_slots kind + stmts_slots rest ≤ length top → sp ≤ 65536 → sp + max (kind_depth need kind) (stmts_depth need rest) ≤ parts.stack → HasAt parts.code pc (stmts_code names fs regions k γ s pc (more (stmt n line kind) rest)) → pc + length (stmts_code names fs regions k γ s pc (more (stmt n line kind) rest)) + tail g ≤ length parts.code → Runs parts ds small k fp g D (shown pc fp (top ++ stack_of cs σ.locals) σ) (pc + length (stmts_code names fs regions k γ s pc (more (stmt n line kind) rest))) (length top) (kind_slots kind + stmts_slots rest) cs γ env (stmts_run names regions call_of home env (more (stmt n line kind) rest) σ)
   row_one n line kind rest kr sr last g o s pc sp D γ env cs top σ q de fm left same fr le low room has stop =
       runs_forget parts ds small k fp g D _ _ (length top) (kind_slots kind + stmts_slots rest) cs γ γ1 env env1 _ q.sees
-          (subst (λ F. Runs parts ds small k fp g D (shown pc fp (top ++ stack_of cs σ.locals) σ) pcend (length top) (kind_slots kind + stmts_slots rest) cs γ1 env1 (then_do (finished (λ τ. closed e (done (ends_use F kind) n set τ)) (kind_run names regions call_of home env n kind (used (begins_use F kind) n set (opened b σ)))) (stmts_run names regions call_of home env1 rest))) (fresh_same parts ds small cs fp γ env q.sees)
-          (row_run parts ds small k fp g D o left n pc pcend (kind_slots kind) (stmts_slots rest) cs γ1 γ1 env1 env1 top σ b e u d set kc rc (λ τ. kind_run names regions call_of home env n kind τ) (stmts_run names regions call_of home env1 rest) q.holds de same (omega (arith, q.full, room)) has'
-              (λ τ a h d'. kr n s (pc + length fc) sp (D + left + marks e) γ env cs top σ τ rest (record { holds = h; base = q.base; full = q.full; sees = q.sees }) (owns_shaped cs σ.locals q.holds.shaped) d' fm (omega (arith, le)) low (omega (arith, room)) has_k (omega (arith, kc_end)))
-              (λ τ new top' many free h d' sees.
-                  let f = stmts_run names regions call_of home env1 rest τ in
-                  subst (λ w. Runs parts ds small k fp g D (shown (pc + length w) fp (top' ++ stack_of (new ++ cs) τ.locals) τ) pcend (length top') (stmts_slots rest) (new ++ cs) γ1 env1 f) same_wc
-                      (runs_at parts ds small k fp g D _ _ _ (length top') (stmts_slots rest) (new ++ cs) γ1 env1 f pc_end
-                      (sr g left (s + kind_slots kind) (pc + length wc) sp D γ1 env1 (new ++ cs) top' τ
-                          (record { holds = h; base = omega (arith, size-append new cs, many, q.base); full = omega (arith, size-append new cs, many, free, q.full); sees = sees }) d' fr (omega (arith, le, free)) low (omega (arith, room)) has_r (omega (arith, stop, len)))))))
+      (subst (λ F. Runs parts ds small k fp g D (shown pc fp (top ++ stack_of cs σ.locals) σ) pcend (length top) (kind_slots kind + stmts_slots rest) cs γ1 env1 (then_do (finished (λ τ. closed e (done (ends_use F kind) n set τ)) (kind_run names regions call_of home env n kind (used (begins_use F kind) n set (opened b σ)))) (stmts_run names regions call_of home env1 rest))) (fresh_same parts ds small cs fp γ env q.sees)
+      (row_run parts ds small k fp g D o left n pc pcend (kind_slots kind) (stmts_slots rest) cs γ1 γ1 env1 env1 top σ b e u d set kc rc (λ τ. kind_run names regions call_of home env n kind τ) (stmts_run names regions call_of home env1 rest) q.holds de same (omega (arith, q.full, room)) has'
+      (λ τ a h d'. kr n s (pc + length fc) sp (D + left + marks e) γ env cs top σ τ rest (record { holds = h; base = q.base; full = q.full; sees = q.sees }) (owns_shaped cs σ.locals q.holds.shaped) d' fm (omega (arith, le)) low (omega (arith, room)) has_k (omega (arith, kc_end)))
+      (λ τ new top' many free h d' sees.
+      let f = stmts_run names regions call_of home env1 rest τ in
+      subst (λ w. Runs parts ds small k fp g D (shown (pc + length w) fp (top' ++ stack_of (new ++ cs) τ.locals) τ) pcend (length top') (stmts_slots rest) (new ++ cs) γ1 env1 f) same_wc
+      (runs_at parts ds small k fp g D _ _ _ (length top') (stmts_slots rest) (new ++ cs) γ1 env1 f pc_end
+      (sr g left (s + kind_slots kind) (pc + length wc) sp D γ1 env1 (new ++ cs) top' τ
+      (record { holds = h; base = omega (arith, size-append new cs, many, q.base); full = omega (arith, size-append new cs, many, free, q.full); sees = sees }) d' fr (omega (arith, le, free)) low (omega (arith, room)) has_r (omega (arith, stop, len)))))))
     where
       b : Option ℕ
       b = begun_by regions n
+
       e : Option ℕ
       e = ended_by regions n
+
       u : Bool
       u = begins_use (is_fresh_in γ) kind
+
       d : Bool
       d = ends_use (is_fresh_in γ) kind
+
       set : List ℕ
       set = use_samples env kind σ
+
       γ1 : List Named
       γ1 = in_scope kind s rest γ
+
       env1 : List Binding
       env1 = grown kind rest env σ
+
       fc : List Placed
       fc = enter_code n b ++ probe_code n u Use
+
       kc : List Placed
       kc = kind_code names fs regions k γ n s (pc + length fc) kind
+
       wc : List Placed
       wc = fc ++ (kc ++ (probe_code n d Done ++ last_code n e kind))
+
       wc' : List Placed
       wc' = fc ++ (kc ++ (probe_code n d Done ++ commit_code n e))
+
       rc : List Placed
       rc = stmts_code names fs regions k γ1 (s + kind_slots kind) (pc + length wc) rest
+
       pcend : ℕ
       pcend = pc + length (wc ++ rc)
+
       same_wc : wc ≡ wc'
       same_wc = ap (λ l. fc ++ (kc ++ (probe_code n d Done ++ l))) last
+
       has' : HasAt parts.code pc (wc' ++ rc)
       has' = subst (λ w. HasAt parts.code pc (w ++ rc)) same_wc has
+
       has_w : HasAt parts.code pc wc
       has_w = has_front parts.code pc wc rc has
+
       has_k : HasAt parts.code (pc + length fc) kc
       has_k = has_front parts.code (pc + length fc) kc (probe_code n d Done ++ last_code n e kind) (has_back parts.code pc fc (kc ++ (probe_code n d Done ++ last_code n e kind)) has_w)
+
       has_r : HasAt parts.code (pc + length wc) rc
       has_r = has_back parts.code pc wc rc has
+
       len : length (wc ++ rc) ≡ length wc + length rc
       len = length-append wc rc
+
       pc_end : pc + length wc + length rc ≡ pcend
       pc_end = omega (arith, len)
+
       kc_end : pc + length fc + length kc < length parts.code
       kc_end = omega (arith, stop, len, length-append fc (kc ++ (probe_code n d Done ++ last_code n e kind)), length-append kc (probe_code n d Done ++ last_code n e kind), tail_some g left (s + kind_slots kind) (pc + length wc) γ1 rest fr)
 
   return_one : (n line : ℕ) (e : TExpr) (rest : TStmts) (g : Bool) (o s pc sp D : ℕ) (γ : List Named) (env : List Binding) (cs : List Cell) (top : List ℤ) (σ : Store) → g ≡ true → Ready ds fp s sp γ env cs top σ → σ.depth ≡ D + o → o + marks (begun_by regions n) ≡ marks (ended_by regions n) → sp + max (expr_depth e) (stmts_depth need rest) ≤ parts.stack → HasAt parts.code pc (stmts_code names fs regions k γ s pc (more (stmt n line (return e)) rest)) → Runs parts ds small k fp g D (shown pc fp (top ++ stack_of cs σ.locals) σ) (pc + length (stmts_code names fs regions k γ s pc (more (stmt n line (return e)) rest))) (length top) (stmts_slots rest) cs γ env (stmts_run names regions call_of home env (more (stmt n line (return e)) rest) σ)
   return_one n line e rest g o s pc sp D γ env cs top σ is q de same room has =
       subst (λ g. Runs parts ds small k fp g D start pcend (length top) (stmts_slots rest) cs γ env (stmts_run names regions call_of home env (more (stmt n line (return e)) rest) σ)) (sym is)
-          (subst (λ F. Runs parts ds small k fp true D start pcend (length top) (stmts_slots rest) cs γ env (then_do (finished fin (with_value (value_of env (σ2 F) e) n (σ2 F) (λ v. Returned v (closed (ended_by regions n) (done (is_use F (return e)) n (use_samples env (return e) (σ2 F)) (σ2 F)))))) (stmts_run names regions call_of home env rest))) (fresh_same parts ds small cs fp γ env q.sees)
-          (return_run parts ds small k fp D o n pc pcend (stmts_slots rest) cs γ env top σ b (ended_by regions n) u d set (use_samples env (return e) (σ2 (is_fresh_in γ))) ce rc (λ τ. value_of env τ e) (stmts_run names regions call_of home env rest) fin q.holds de same (omega (arith, q.full, room, depth_some parts ds small e)) has
-              (λ τ a h. expr_runs parts ds small n fp γ env cs top τ h (omega (arith, q.base)) q.sees e (pc + length fc) (omega (arith, q.full, room)) has_e (inside_of _ has_rest))))
+      (subst (λ F. Runs parts ds small k fp true D start pcend (length top) (stmts_slots rest) cs γ env (then_do (finished fin (with_value (value_of env (σ2 F) e) n (σ2 F) (λ v. Returned v (closed (ended_by regions n) (done (is_use F (return e)) n (use_samples env (return e) (σ2 F)) (σ2 F)))))) (stmts_run names regions call_of home env rest))) (fresh_same parts ds small cs fp γ env q.sees)
+      (return_run parts ds small k fp D o n pc pcend (stmts_slots rest) cs γ env top σ b (ended_by regions n) u d set (use_samples env (return e) (σ2 (is_fresh_in γ))) ce rc (λ τ. value_of env τ e) (stmts_run names regions call_of home env rest) fin q.holds de same (omega (arith, q.full, room, depth_some parts ds small e)) has
+      (λ τ a h. expr_runs parts ds small n fp γ env cs top τ h (omega (arith, q.base)) q.sees e (pc + length fc) (omega (arith, q.full, room)) has_e (inside_of _ has_rest))))
     where
       b : Option ℕ
       b = begun_by regions n
+
       u : Bool
       u = is_use (is_fresh_in γ) (return e)
+
       d : Bool
       d = u
+
       set : List ℕ
       set = use_samples env (return e) σ
+
       fc : List Placed
       fc = enter_code n b ++ probe_code n u Use
+
       ce : List Placed
       ce = expr_code n γ (pc + length fc) e
+
       behind : List Placed
       behind = probe_code n d Done ++ (commit_code n (ended_by regions n) ++ one n (Retv k))
+
       wc : List Placed
       wc = fc ++ ((ce ++ behind) ++ [])
+
       rc : List Placed
       rc = stmts_code names fs regions k γ (s + 0) (pc + length wc) rest
+
       pcend : ℕ
       pcend = pc + length (wc ++ rc)
+
       start : Mach
       start = shown pc fp (top ++ stack_of cs σ.locals) σ
+
       σ2 : (Text → Bool) → Store
       σ2 F = used (is_use F (return e)) n set (opened b σ)
+
       fin : Store → Store
       fin τ = closed (ended_by regions n) (done false n set τ)
+
       has_b : HasAt parts.code (pc + length fc) (ce ++ behind)
       has_b = has_front parts.code (pc + length fc) (ce ++ behind) [] (has_back parts.code pc fc ((ce ++ behind) ++ []) (has_front parts.code pc wc rc has))
+
       has_e : HasAt parts.code (pc + length fc) ce
       has_e = has_front parts.code (pc + length fc) ce behind has_b
+
       has_rest : HasAt parts.code (pc + length fc + length ce) behind
       has_rest = has_back parts.code (pc + length fc) ce behind has_b
 
@@ -382,7 +435,7 @@ module _ (parts : Parts) (ds : List NvDecl) (small : total ds ≤ 65536) (names 
       let w = top ++ stack_of cs σ.locals in
       let e : pc ≡ pc + 0 = omega arith in
       subst (λ g. Runs parts ds small k fp g D (shown pc fp w σ) (pc + 0) t 0 cs γ env (Went σ)) (sym is)
-          (same_cells parts ds small k fp D _ (pc + 0) t cs γ env top σ lt h (omega (arith, de, none)) sees (subst (λ p. Leads parts (shown pc fp w σ) (shown p fp w σ)) e (leads_self parts _)))
+      (same_cells parts ds small k fp D _ (pc + 0) t cs γ env top σ lt h (omega (arith, de, none)) sees (subst (λ p. Leads parts (shown pc fp w σ) (shown p fp w σ)) e (leads_self parts _)))
 
   mutual
     pub kind_runs : (kind : TKind) → KindRuns kind
@@ -406,7 +459,7 @@ module _ (parts : Parts) (ds : List NvDecl) (small : total ds ≤ 65536) (names 
         let ce = expr_code n γ pc e in
         let back = has_back parts.code pc ce _ has in
         emit_run parts ds small names fs regions rank own need call_of calls home k fp D n γ env cs (omega (arith, q.base)) q.sees (number_in names.ports p) pc top σ ce (value_of env σ e) q.holds de (omega (arith, q.full, room, depth_some parts ds small e)) has
-            (expr_runs parts ds small n fp γ env cs top σ q.holds (omega (arith, q.base)) q.sees e pc (omega (arith, q.full, room)) (has_front parts.code pc ce _ has) (inside parts.code _ _ back.0))
+        (expr_runs parts ds small n fp γ env cs top σ q.holds (omega (arith, q.base)) q.sees e pc (omega (arith, q.full, room)) (has_front parts.code pc ce _ has) (inside parts.code _ _ back.0))
     kind_runs (fresh x) n s pc sp D γ env cs top υ σ rest q own' de fm le low room has stop =
         none_run false 0 pc (length top) D γ env cs top σ refl refl refl q.holds (omega (arith, de)) q.sees
     kind_runs (consistent x i) n s pc sp D γ env cs top υ σ rest q own' de fm le low room has stop =
@@ -418,14 +471,14 @@ module _ (parts : Parts) (ds : List NvDecl) (small : total ds ≤ 65536) (names 
         let σ1 = entered id σ in
         let h : Holds ds cs σ1 = record { shaped = q.holds.shaped; nv = q.holds.nv; low = q.holds.low } in
         leave_run parts ds small k fp false D _ _ (length top) (stmts_slots ss) (length σ.locals) cs γ γ env env (stmts_run names regions call_of home env ss σ1) (owns_shaped cs σ.locals q.holds.shaped) q.sees
-            (stmts_runs ss false 0 s pc sp D γ env cs top σ1 (record { holds = h; base = q.base; full = q.full; sees = q.sees }) (omega (arith, de)) fm le low room has (omega (arith, stop)))
+        (stmts_runs ss false 0 s pc sp D γ env cs top σ1 (record { holds = h; base = q.base; full = q.full; sees = q.sees }) (omega (arith, de)) fm le low room has (omega (arith, stop)))
 
     pub stmts_runs : (ss : TStmts) → StmtsRun ss
     stmts_runs no_stmts g o s pc sp D γ env cs top σ q de fm le low room has stop = none_run g o pc (length top) D γ env cs top σ fm.0 fm.1 refl q.holds de q.sees
     stmts_runs (more (stmt n line (return e)) rest) g o s pc sp D γ env cs top σ q de fm le low room has stop =
         let m : stmts_slots rest ≡ 0 + stmts_slots rest = omega arith in
         subst (λ m. Runs parts ds small k fp g D (shown pc fp (top ++ stack_of cs σ.locals) σ) (pc + length (stmts_code names fs regions k γ s pc (more (stmt n line (return e)) rest))) (length top) m cs γ env (stmts_run names regions call_of home env (more (stmt n line (return e)) rest) σ)) m
-            (return_one n line e rest g o s pc sp D γ env cs top σ fm.0 q de fm.1 room has)
+        (return_one n line e rest g o s pc sp D γ env cs top σ fm.0 q de fm.1 room has)
     stmts_runs (more (stmt n line kind) rest) g o s pc sp D γ env cs top σ q de fm le low room has stop =
         row_one n line kind rest (kind_runs kind) (stmts_runs rest) refl g o s pc sp D γ env cs top σ q de fm.0 fm.1 fm.2 fm.3 le low room has stop
 
@@ -435,7 +488,7 @@ module _ (parts : Parts) (ds : List NvDecl) (small : total ds ≤ 65536) (names 
       let σ1 = entered id σ in
       let h : Holds ds cs σ1 = record { shaped = q.holds.shaped; nv = q.holds.nv; low = q.holds.low } in
       leave_run parts ds small k fp g D _ _ (length top) (stmts_slots ss) (length σ.locals) cs γ γ env env (stmts_run names regions call_of home env ss σ1) (owns_shaped cs σ.locals q.holds.shaped) q.sees
-          (stmts_runs ss g 0 s pc sp D γ env cs top σ1 (record { holds = h; base = q.base; full = q.full; sees = q.sees }) (omega (arith, de)) fm le low room has stop)
+      (stmts_runs ss g 0 s pc sp D γ env cs top σ1 (record { holds = h; base = q.base; full = q.full; sees = q.sees }) (omega (arith, de)) fm le low room has stop)
 
   -- the code of a body isn't empty, but where an instruction follows
   pub body_some : (b : TBlock) (g : Bool) (s p : ℕ) (γ : List Named) → body_formed names fs regions rank own g γ s b → 1 ≤ length (block_code names fs regions k γ s p b) + tail g

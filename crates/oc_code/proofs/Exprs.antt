@@ -1,33 +1,30 @@
 -- The code of an expression gives its value, or traps as it does.
-use Rattle.std.proofs.Common.{◌≡◌, ℕ, zero, suc, ◌+◌, ◌-◌, ◌<◌, ◌≤◌, Bool, true, false, List, [], ◌∷◌, ◌++◌, length, Option, Some, None, refl, sym, ap, ◌∙◌, subst, arith, length-append, drop, map}
-use Rattle.std.specs.Prelude.{ℤ, pos, negsuc, ◌==◌, if◌then◌else◌, slice_get, slice_set, slice_index_or, nat_lt, max}
+use Rattle.std.proofs.Common.{◌≡◌, ℕ, ◌+◌, ◌-◌, ◌<◌, ◌≤◌, Bool, true, false, List, [], ◌∷◌, ◌++◌, length, Option, Some, None, refl, sym, ap, ◌∙◌, subst, arith, length-append}
+use Rattle.std.specs.Prelude.{ℤ, pos, negsuc, if◌then◌else◌, slice_get, slice_index_or, nat_lt, max}
 use Rattle.std.proofs.lemmas.Option.{none-some, same_Some, slice_get_within, slice_get-get_or}
-use Rattle.oc_tree.specs.Names.{Text}
 use Rattle.oc_tree.specs.Tree.{TExpr, number, truth, variable, index, deref, unary, binary, sensed, called}
 use Rattle.oc_tree.specs.declared.tree.NvDecl.{NvDecl}
-use Rattle.oc_tree.specs.declared.tree.UnaryOp.{UnaryOp}
 use Rattle.oc_tree.specs.declared.tree.BinaryOp.{BinaryOp}
 use Rattle.oc_tree.specs.declared.tree.BinaryOp.TheVariants as ops
 use Rattle.oc_tree.specs.declared.said.Said.TheVariants.{Ended as Over}
-use Rattle.oc_tree.specs.declared.said.TrapKind.{TrapKind}
 use Rattle.oc_tree.specs.declared.said.TrapKind.TheVariants as trap
 use Rattle.oc_tree.specs.declared.said.Ending.TheVariants.{Trapped}
 use Rattle.oc_isa.specs.declared.instr.Placed.{Placed}
-use Rattle.oc_isa.specs.declared.instr.Instr.TheVariants.{Push, Load, Nload, Addr, Naddr, Get, Index, Bin, Un, Jump, Jfalse}
+use Rattle.oc_isa.specs.declared.instr.Instr.TheVariants.{Push, Get, Index, Bin, Un, Jump, Jfalse}
 use Rattle.oc_isa.specs.Image.{Parts}
 use Rattle.oc_isa.specs.Levels.{at_level}
-use Rattle.oc_isa.specs.Next.{Next, Ends}
+use Rattle.oc_isa.specs.Next.{Ends}
 use Rattle.oc_isa.specs.Table.{binary_of, word_at, address, element, pushes_number}
-use Rattle.oc_meaning.specs.Store.{Value, Held, Place, Local, Global, Turn, Nowhere, Store, Binding, plain, value_in, held_at, noted, binding_of, place_of}
+use Rattle.oc_meaning.specs.Store.{Place, Local, Global, Turn, Nowhere, Store, Binding, value_in, held_at, noted, place_of}
 use Rattle.oc_meaning.specs.Samples.{union}
 use Rattle.oc_meaning.specs.Eval.{Got, Val, Traps, is_zero, apply, given, and_got, depending, operated, and_then, or_else, combined, unary_value, element_of, read_element, value_of}
 use Rattle.oc_meaning.specs.Run.{words_of}
-use Rattle.oc_code.specs.Scope.{Slot, InFrame, ByAddress, InNv, NoSlot, Named, named, slot_of, words_of as words_in}
+use Rattle.oc_code.specs.Scope.{Slot, InFrame, ByAddress, InNv, NoSlot, Named, slot_of, words_of as words_in}
 use Rattle.oc_code.specs.Forms.{placed, one, read_code, base_code, bin_of, and_code, or_code, binary_code, expr_code}
 use Rattle.oc_code.specs.Stack.{both_depth, expr_depth}
-use Rattle.oc_code.proofs.Cells.{Cell, Own, Fixed, stack_of, size, fixed_at, length-stack_of}
-use Rattle.oc_code.proofs.Steps.{Mach, shown, Leads, Stops, leads_self, leads_on, leads_stop, lt_true, lt_false, push_step, load_step, nload_step, addr_step, naddr_step, get_step, un_step, bin_step, bin_stop, index_step, index_stop, jump_step, test_step}
-use Rattle.oc_code.proofs.Places.{Stands, place_width, Lies, Found, Fits, Agrees, Sees, Holds, IsNowhere, found, held_width, stands_read, stands_end, frame_word, first_word, total}
+use Rattle.oc_code.proofs.Cells.{Cell, stack_of, size, length-stack_of}
+use Rattle.oc_code.proofs.Steps.{Mach, shown, Leads, Stops, leads_on, leads_stop, lt_true, lt_false, push_step, load_step, nload_step, addr_step, naddr_step, get_step, un_step, bin_step, bin_stop, index_step, index_stop, jump_step, test_step}
+use Rattle.oc_code.proofs.Places.{Stands, place_width, Fits, Sees, Holds, found, held_width, stands_read, stands_end, frame_word, first_word, total}
 
 -- the instructions stand in the code at this place
 abbrev pub HasAt : List Placed → ℕ → List Placed → Type 0
@@ -93,8 +90,8 @@ module _ (parts : Parts) (ds : List NvDecl) (small : total ds ≤ 65536) where
         let at = (has_back parts.code (pc + length ca) cb (one n (Bin (bin_of op))) (has_back parts.code pc ca _ has)).0 in
         let len : pc1 + 1 ≡ pc + length (ca ++ (cb ++ one n (Bin (bin_of op)))) = omega (arith, length-append ca (cb ++ one n (Bin (bin_of op))), length-append cb (one n (Bin (bin_of op)))) in
         gives_at _ n _ _ fp w σ (operated op x y) len
-            (gives_after _ (shown pc1 fp (y.num ∷ (x.num ∷ w)) σ) n _ fp w σ (operated op x y) (leads_on parts _ _ _ ra (rb x.num))
-            (work pc1 op x.num y.num (union x.samples y.samples) (apply op x.num y.num) at (same x.num y.num) room))
+        (gives_after _ (shown pc1 fp (y.num ∷ (x.num ∷ w)) σ) n _ fp w σ (operated op x y) (leads_on parts _ _ _ ra (rb x.num))
+        (work pc1 op x.num y.num (union x.samples y.samples) (apply op x.num y.num) at (same x.num y.num) room))
 
     jump_gives : (c : Mach) (t pc : ℕ) (set : List ℕ) (g : Got) → slice_get parts.code pc ≡ Some (placed n (Jump t)) → t < length parts.code → length w < parts.stack → Gives c n pc fp w σ g → Gives c n t fp w σ (depending set g)
     jump_gives c t pc set (Traps k) at h room g = g
@@ -110,28 +107,33 @@ module _ (parts : Parts) (ds : List NvDecl) (small : total ds ≤ 65536) where
       where
         f : ℕ
         f = pc + length ca + 1 + length cb + 1
+
         e : ℕ
         e = pc + length ca + 1 + length cb + 2
+
         tail : List Placed
         tail = placed n (Jump e) ∷ one n (Push (pos 0))
 
         rest : HasAt parts.code (pc + length ca) (placed n (Jfalse f) ∷ (cb ++ tail))
         rest = has_back parts.code pc ca _ has
+
         at_jump : HasAt parts.code (pc + length ca + 1 + length cb) tail
         at_jump = has_back parts.code (pc + length ca + 1) cb _ rest.1
+
         len : e ≡ pc + length (and_code n pc ca cb)
         len = omega (arith, length-append ca (placed n (Jfalse f) ∷ (cb ++ tail)), length-append cb tail)
+
         len1 : f + 1 ≡ e
         len1 = omega arith
 
         go : (b : Bool) → is_zero x.num ≡ b → Gives (shown pc fp w σ) n (pc + length (and_code n pc ca cb)) fp w σ (if b then Val (record { num = pos 0; samples = x.samples }) else depending x.samples gb)
         go true p =
             gives_at _ n (f + 1) _ fp w σ (Val (record { num = pos 0; samples = x.samples })) (len1 ∙ len)
-                (leads_on parts _ _ _ ra (leads_on parts _ _ _ (test_step parts n (pc + length ca) fp σ f x.num w true rest.0 p (omega (arith, stop, len)) low room) (push_step parts n f fp σ (pos 0) w at_jump.1.0 room)))
+            (leads_on parts _ _ _ ra (leads_on parts _ _ _ (test_step parts n (pc + length ca) fp σ f x.num w true rest.0 p (omega (arith, stop, len)) low room) (push_step parts n f fp σ (pos 0) w at_jump.1.0 room)))
         go false p =
             gives_at _ n e _ fp w σ (depending x.samples gb) len
-                (gives_after _ _ n _ fp w σ (depending x.samples gb) (leads_on parts _ _ _ ra (test_step parts n (pc + length ca) fp σ f x.num w false rest.0 p (omega (arith, stop, len)) low room))
-                (jump_gives _ e _ x.samples gb at_jump.0 (omega (arith, stop, len)) room rb))
+            (gives_after _ _ n _ fp w σ (depending x.samples gb) (leads_on parts _ _ _ ra (test_step parts n (pc + length ca) fp σ f x.num w false rest.0 p (omega (arith, stop, len)) low room))
+            (jump_gives _ e _ x.samples gb at_jump.0 (omega (arith, stop, len)) room rb))
 
     or_run : (ca cb : List Placed) (ga gb : Got) (pc : ℕ) → length w < parts.stack → HasAt parts.code pc (or_code n pc ca cb) → pc + length (or_code n pc ca cb) < length parts.code → Gives (shown pc fp w σ) n (pc + length ca) fp w σ ga → Gives (shown (pc + length ca + 3) fp w σ) n (pc + length ca + 3 + length cb) fp w σ gb → Gives (shown pc fp w σ) n (pc + length (or_code n pc ca cb)) fp w σ (and_got ga (λ x. or_else x gb))
     or_run ca cb (Traps k) gb pc room has stop ra rb = ra
@@ -139,23 +141,26 @@ module _ (parts : Parts) (ds : List NvDecl) (small : total ds ≤ 65536) where
       where
         r : ℕ
         r = pc + length ca + 3
+
         e : ℕ
         e = pc + length ca + 3 + length cb
+
         rest : HasAt parts.code (pc + length ca) (placed n (Jfalse r) ∷ (placed n (Push (pos 1)) ∷ (placed n (Jump e) ∷ cb)))
         rest = has_back parts.code pc ca _ has
+
         len : e ≡ pc + length (or_code n pc ca cb)
         len = omega (arith, length-append ca (placed n (Jfalse r) ∷ (placed n (Push (pos 1)) ∷ (placed n (Jump e) ∷ cb))))
 
         go : (b : Bool) → is_zero x.num ≡ b → Gives (shown pc fp w σ) n (pc + length (or_code n pc ca cb)) fp w σ (if b then depending x.samples gb else Val (record { num = pos 1; samples = x.samples }))
         go true p =
             gives_at _ n e _ fp w σ (depending x.samples gb) len
-                (gives_after _ _ n _ fp w σ (depending x.samples gb) (leads_on parts _ _ _ ra (test_step parts n (pc + length ca) fp σ r x.num w true rest.0 p (omega (arith, stop, len)) low room))
-                (dep_gives _ e x.samples gb rb))
+            (gives_after _ _ n _ fp w σ (depending x.samples gb) (leads_on parts _ _ _ ra (test_step parts n (pc + length ca) fp σ r x.num w true rest.0 p (omega (arith, stop, len)) low room))
+            (dep_gives _ e x.samples gb rb))
         go false p =
             gives_at _ n e _ fp w σ (Val (record { num = pos 1; samples = x.samples })) len
-                (leads_on parts _ _ _ ra (leads_on parts _ _ _ (test_step parts n (pc + length ca) fp σ r x.num w false rest.0 p (omega (arith, stop, len)) low room)
-                (leads_on parts _ _ _ (push_step parts n (pc + length ca + 1) fp σ (pos 1) w rest.1.0 room)
-                (jump_step parts n (pc + length ca + 1 + 1) fp σ e (pos 1 ∷ w) rest.1.1.0 (omega (arith, stop, len)) (omega (arith, room))))))
+            (leads_on parts _ _ _ ra (leads_on parts _ _ _ (test_step parts n (pc + length ca) fp σ r x.num w false rest.0 p (omega (arith, stop, len)) low room)
+            (leads_on parts _ _ _ (push_step parts n (pc + length ca + 1) fp σ (pos 1) w rest.1.0 room)
+            (jump_step parts n (pc + length ca + 1 + 1) fp σ e (pos 1 ∷ w) rest.1.1.0 (omega (arith, stop, len)) (omega (arith, room))))))
 
     plain_run : (op : BinaryOp) → ((x y : ℤ) → binary_of (bin_of op) x y ≡ apply op x y) → (da db : ℕ) (ca : List Placed) (cb : ℕ → List Placed) (ga gb : Got) (pc : ℕ) → 1 ≤ da → 1 ≤ db → length w + max da (1 + db) ≤ parts.stack → HasAt parts.code pc (ca ++ (cb (pc + length ca) ++ one n (Bin (bin_of op)))) → pc + length (ca ++ (cb (pc + length ca) ++ one n (Bin (bin_of op)))) < length parts.code → (length w + da ≤ parts.stack → HasAt parts.code pc ca → pc + length ca < length parts.code → Gives (shown pc fp w σ) n (pc + length ca) fp w σ ga) → ((q : ℕ) (x : ℤ) → length w + 1 + db ≤ parts.stack → HasAt parts.code q (cb q) → q + length (cb q) < length parts.code → Gives (shown q fp (x ∷ w) σ) n (q + length (cb q)) fp (x ∷ w) σ gb) → Gives (shown pc fp w σ) n (pc + length (ca ++ (cb (pc + length ca) ++ one n (Bin (bin_of op))))) fp w σ (and_got ga (λ x. and_got gb (λ y. operated op x y)))
     plain_run op same da db ca cb ga gb pc pa pb room has stop ra rx =
@@ -165,8 +170,8 @@ module _ (parts : Parts) (ds : List NvDecl) (small : total ds ≤ 65536) where
         let back = has_back parts.code (pc + length ca) b i rest in
         let at_end = inside parts.code _ _ back.0 in
         two_run op same ca b ga gb pc (omega (arith, room, pb)) has
-            (ra (omega (arith, room)) (has_front parts.code pc ca _ has) (omega (arith, at_end)))
-            (λ x. rx (pc + length ca) x (omega (arith, room)) (has_front parts.code (pc + length ca) b i rest) at_end)
+        (ra (omega (arith, room)) (has_front parts.code pc ca _ has) (omega (arith, at_end)))
+        (λ x. rx (pc + length ca) x (omega (arith, room)) (has_front parts.code (pc + length ca) b i rest) at_end)
 
     -- an operator, with what the codes of both sides do
     pub binary_run : (op : BinaryOp) (da db : ℕ) (ca : List Placed) (cb : ℕ → List Placed) (ga gb : Got) (pc : ℕ) → 1 ≤ da → 1 ≤ db → length w + both_depth op da db ≤ parts.stack → HasAt parts.code pc (binary_code n pc op ca cb) → pc + length (binary_code n pc op ca cb) < length parts.code → (length w + da ≤ parts.stack → HasAt parts.code pc ca → pc + length ca < length parts.code → Gives (shown pc fp w σ) n (pc + length ca) fp w σ ga) → ((q : ℕ) → length w + db ≤ parts.stack → HasAt parts.code q (cb q) → q + length (cb q) < length parts.code → Gives (shown q fp w σ) n (q + length (cb q)) fp w σ gb) → ((q : ℕ) (x : ℤ) → length w + 1 + db ≤ parts.stack → HasAt parts.code q (cb q) → q + length (cb q) < length parts.code → Gives (shown q fp (x ∷ w) σ) n (q + length (cb q)) fp (x ∷ w) σ gb) → Gives (shown pc fp w σ) n (pc + length (binary_code n pc op ca cb)) fp w σ (combined op ga gb)
@@ -176,14 +181,14 @@ module _ (parts : Parts) (ds : List NvDecl) (small : total ds ≤ 65536) where
         let rest = has_back parts.code pc ca _ has in
         let back = has_back parts.code (pc + length ca + 1) b tail rest.1 in
         and_run ca b ga gb pc (omega (arith, room, pa)) has stop (ra (omega (arith, room)) (has_front parts.code pc ca _ has) (inside parts.code _ _ rest.0))
-            (rb (pc + length ca + 1) (omega (arith, room)) (has_front parts.code (pc + length ca + 1) b tail rest.1) (inside parts.code _ _ back.0))
+        (rb (pc + length ca + 1) (omega (arith, room)) (has_front parts.code (pc + length ca + 1) b tail rest.1) (inside parts.code _ _ back.0))
     binary_run ops.Or da db ca cb ga gb pc pa pb room has stop ra rb rx =
         let b = cb (pc + length ca + 3) in
         let rest = has_back parts.code pc ca _ has in
         let here : pc + length ca + 1 + 1 + 1 ≡ pc + length ca + 3 = omega arith in
         let len = length-append ca (placed n (Jfalse (pc + length ca + 3)) ∷ (placed n (Push (pos 1)) ∷ (placed n (Jump (pc + length ca + 3 + length b)) ∷ b))) in
         or_run ca b ga gb pc (omega (arith, room, pa)) has stop (ra (omega (arith, room)) (has_front parts.code pc ca _ has) (inside parts.code _ _ rest.0))
-            (rb (pc + length ca + 3) (omega (arith, room)) (has_at parts.code _ _ b here rest.1.1.1) (omega (arith, stop, len)))
+        (rb (pc + length ca + 3) (omega (arith, room)) (has_at parts.code _ _ b here rest.1.1.1) (omega (arith, stop, len)))
     binary_run ops.Add da db ca cb ga gb pc pa pb room has stop ra rb rx = plain_run ops.Add (λ x y. refl) da db ca cb ga gb pc pa pb room has stop ra rx
     binary_run ops.Sub da db ca cb ga gb pc pa pb room has stop ra rb rx = plain_run ops.Sub (λ x y. refl) da db ca cb ga gb pc pa pb room has stop ra rx
     binary_run ops.Mul da db ca cb ga gb pc pa pb room has stop ra rb rx = plain_run ops.Mul (λ x y. refl) da db ca cb ga gb pc pa pb room has stop ra rx
@@ -247,9 +252,9 @@ module _ (parts : Parts) (ds : List NvDecl) (small : total ds ≤ 65536) where
         let two : pc + 1 + 1 ≡ pc + 2 = omega arith in
         let r = stands_read ds cs (pos a ∷ top) σ p a 0 z h fit.stands (first_word ds cs σ p h fit.wide) in
         subst (λ q. Leads parts (shown pc fp (full top) σ) (shown q fp (z ∷ full top) σ)) two
-            (leads_on parts _ (shown (pc + 1) fp (pos a ∷ full top) σ) _
-            (load_step parts n pc fp σ k (pos a) (full top) has.0 (frame_word ds cs top σ (fp + k) (pos a) h fit.lies) (omega (arith, room, full_length top)))
-            (get_step parts n (pc + 1) fp σ a z (full top) has.1.0 (ap (word_at (pos a ∷ full top) (words_of σ.nv)) (sym s) ∙ r) (omega (arith, under, full_length top)) (omega (arith, room, full_length top))))
+        (leads_on parts _ (shown (pc + 1) fp (pos a ∷ full top) σ) _
+        (load_step parts n pc fp σ k (pos a) (full top) has.0 (frame_word ds cs top σ (fp + k) (pos a) h fit.lies) (omega (arith, room, full_length top)))
+        (get_step parts n (pc + 1) fp σ a z (full top) has.1.0 (ap (word_at (pos a ∷ full top) (words_of σ.nv)) (sym s) ∙ r) (omega (arith, under, full_length top)) (omega (arith, room, full_length top))))
     read_run pc top (InNv b) p room fit has =
         let z = (value_in (held_at σ p)).num in
         let r = stands_read ds cs top σ p fit.spot 0 z h fit.stands (first_word ds cs σ p h fit.wide) in
@@ -275,12 +280,12 @@ module _ (parts : Parts) (ds : List NvDecl) (small : total ds ≤ 65536) where
     base_run pc top NoSlot p room fit has = push_step parts n pc fp σ (pos 0) (full top) has.0 (omega (arith, room, full_length top))
     base_run pc top (InFrame k) p room fit has =
         subst (λ a. Leads parts (shown pc fp (full top) σ) (shown (pc + 1) fp (pos a ∷ full top) σ)) (sym fit.lies.0)
-            (addr_step parts n pc fp σ k (full top) has.0 (omega (arith, fit.lies.0, fit.lies.1, h.low)) (omega (arith, room, full_length top)))
+        (addr_step parts n pc fp σ k (full top) has.0 (omega (arith, fit.lies.0, fit.lies.1, h.low)) (omega (arith, room, full_length top)))
     base_run pc top (ByAddress k) p room fit has =
         load_step parts n pc fp σ k (pos fit.spot) (full top) has.0 (frame_word ds cs top σ (fp + k) (pos fit.spot) h fit.lies) (omega (arith, room, full_length top))
     base_run pc top (InNv b) p room fit has =
         subst (λ a. Leads parts (shown pc fp (full top) σ) (shown (pc + 1) fp (pos a ∷ full top) σ)) (sym fit.lies)
-            (naddr_step parts n pc fp σ b (full top) has.0 (omega (arith, fit.lies, fit.wide, stands_end ds cs σ p fit.spot h small fit.stands)) (omega (arith, room, full_length top)))
+        (naddr_step parts n pc fp σ b (full top) has.0 (omega (arith, fit.lies, fit.wide, stands_end ds cs σ p fit.spot h small fit.stands)) (omega (arith, room, full_length top)))
 
     -- the element that an index names: its address on the stack, or a trap
     abbrev pub PointsAt : Mach → ℕ → ℕ → List ℤ → Option ℕ → Type 0
@@ -292,7 +297,7 @@ module _ (parts : Parts) (ds : List NvDecl) (small : total ds ≤ 65536) where
     point_run pc count a s i (Some j) e at small' low room =
         let r = within_of count i j e in
         subst (λ i. Leads parts (shown pc fp (i ∷ (pos a ∷ s)) σ) (shown (pc + 1) fp (pos (a + j) ∷ s) σ)) (sym r.0)
-            (index_step parts n pc fp σ count j a s at r.1 (omega (arith, r.1, small')) low room)
+        (index_step parts n pc fp σ count j a s at r.1 (omega (arith, r.1, small')) low room)
 
     pub index_ends : (s : Slot) (p : Place) (fit : Fits ds cs fp s p) → spot_of s p fit + place_width ds cs p ≤ 131072
     index_ends NoSlot Nowhere fit = omega arith
@@ -317,7 +322,7 @@ module _ (parts : Parts) (ds : List NvDecl) (small : total ds ≤ 65536) where
         let z = slice_index_or (held_at σ p).words j (pos 0) in
         let read : slice_get (held_at σ p).words j ≡ Some z = slice_get-get_or (held_at σ p).words j (pos 0) (omega (arith, within, held_width ds cs σ p h)) in
         leads_on parts c _ _ r
-            (get_step parts n pc fp σ (a + j) z (full top) at (stands_read ds cs (pos (a + j) ∷ top) σ p a j z h (spot_stands s p fit (omega (arith, within))) read) (omega (arith, under, full_length top)) (omega (arith, room, full_length top)))
+        (get_step parts n pc fp σ (a + j) z (full top) at (stands_read ds cs (pos (a + j) ∷ top) σ p a j z h (spot_stands s p fit (omega (arith, within))) read) (omega (arith, under, full_length top)) (omega (arith, room, full_length top)))
 
     index_run : (pc count : ℕ) (top : List ℤ) (s : Slot) (p : Place) (fit : Fits ds cs fp s p) (ce : List Placed) (g : Got) (d : ℕ) → 1 ≤ d → count ≡ place_width ds cs p → length top + size cs + (1 + d) ≤ parts.stack → HasAt parts.code pc (base_code n s ++ (ce ++ (placed n (Index count) ∷ one n Get))) → Gives (shown (pc + 1) fp (pos (spot_of s p fit) ∷ full top) σ) n (pc + 1 + length ce) fp (pos (spot_of s p fit) ∷ full top) σ g → Gives (shown pc fp (full top) σ) n (pc + length (base_code n s ++ (ce ++ (placed n (Index count) ∷ one n Get)))) fp (full top) σ (and_got g (λ i. read_element (held_at σ p) (element_of (length (held_at σ p).words) i.num) i.samples))
     index_run pc count top s p fit ce (Traps k) d pd same room has re =
@@ -327,7 +332,7 @@ module _ (parts : Parts) (ds : List NvDecl) (small : total ds ≤ 65536) where
         base_at has room =
             let e : pc + length (base_code n s) ≡ pc + 1 = omega (arith, base_one s) in
             subst (λ q. Leads parts (shown pc fp (full top) σ) (shown q fp (pos (spot_of s p fit) ∷ full top) σ)) e
-                (base_run pc top s p (omega (arith, room)) fit (has_front parts.code pc (base_code n s) _ has))
+            (base_run pc top s p (omega (arith, room)) fit (has_front parts.code pc (base_code n s) _ has))
     index_run pc count top s p fit ce (Val i) d pd same room has re =
         let bc = base_code n s in
         let a = spot_of s p fit in
@@ -343,8 +348,8 @@ module _ (parts : Parts) (ds : List NvDecl) (small : total ds ≤ 65536) where
         let pointed = point_run q count a (full top) i.num o refl ends.0 (omega (arith, same, index_ends s p fit)) (omega (arith, under, full_length top)) (omega (arith, room, full_length top, pd)) in
         let got = get_run (q + 1) top s p fit _ i.samples o (λ j e. subst (λ c. j < c) same (within_of count i.num j e).1) ends.1.0 (omega (arith, room)) pointed in
         gives_at _ n (q + 1 + 1) _ fp (full top) σ (read_element (held_at σ p) (element_of (length (held_at σ p).words) i.num) i.samples) len
-            (gives_after _ _ n _ fp (full top) σ _ (leads_on parts _ _ _ first re)
-            (subst (λ c. Gives (shown q fp (i.num ∷ (pos a ∷ full top)) σ) n (q + 1 + 1) fp (full top) σ (read_element (held_at σ p) (element_of c i.num) i.samples)) words got))
+        (gives_after _ _ n _ fp (full top) σ _ (leads_on parts _ _ _ first re)
+        (subst (λ c. Gives (shown q fp (i.num ∷ (pos a ∷ full top)) σ) n (q + 1 + 1) fp (full top) σ (read_element (held_at σ p) (element_of c i.num) i.samples)) words got))
 
   pub expr_runs : (n fp : ℕ) (γ : List Named) (env : List Binding) (cs : List Cell) (top : List ℤ) (σ : Store) → Holds ds cs σ → fp ≤ size cs → Sees ds cs fp γ env → (e : TExpr) (pc : ℕ) → length top + size cs + expr_depth e ≤ parts.stack → HasAt parts.code pc (expr_code n γ pc e) → pc + length (expr_code n γ pc e) < length parts.code → Gives (shown pc fp (top ++ stack_of cs σ.locals) σ) n (pc + length (expr_code n γ pc e)) fp (top ++ stack_of cs σ.locals) σ (value_of env σ e)
   expr_runs n fp γ env cs top σ h under sees (number z) pc room has stop = push_step parts n pc fp σ z _ has.0 (omega (arith, room, full_length cs σ h n fp under top))
@@ -360,7 +365,7 @@ module _ (parts : Parts) (ds : List NvDecl) (small : total ds ≤ 65536) where
       let rest = has_at parts.code _ _ (ce ++ last) at1 (has_back parts.code pc bc _ has) in
       let ends = has_back parts.code (pc + 1) ce last rest in
       index_run cs σ h n fp under pc (words_in γ x) top (slot_of γ x) (place_of env x) f.fits ce (value_of env σ e) (expr_depth e) (depth_some e) f.words room has
-          (expr_runs n fp γ env cs (pos (spot_of cs σ h n fp under (slot_of γ x) (place_of env x) f.fits) ∷ top) σ h under sees e (pc + 1) (omega (arith, room)) (has_front parts.code (pc + 1) ce last rest) (inside parts.code _ _ ends.0))
+      (expr_runs n fp γ env cs (pos (spot_of cs σ h n fp under (slot_of γ x) (place_of env x) f.fits) ∷ top) σ h under sees e (pc + 1) (omega (arith, room)) (has_front parts.code (pc + 1) ce last rest) (inside parts.code _ _ ends.0))
   expr_runs n fp γ env cs top σ h under sees (unary op e) pc room has stop =
       let ce = expr_code n γ pc e in
       let back = has_back parts.code pc ce _ has in
@@ -371,12 +376,12 @@ module _ (parts : Parts) (ds : List NvDecl) (small : total ds ≤ 65536) where
       un_run (Traps k) len at r = r
       un_run (Val v) len at r =
           gives_at _ n _ _ fp _ σ (unary_value op (Val v)) len
-              (leads_on parts _ _ _ r (un_step parts n _ fp σ op v.num _ at (omega (arith, under, full_length cs σ h n fp under top)) (omega (arith, room, depth_some e, full_length cs σ h n fp under top))))
+          (leads_on parts _ _ _ r (un_step parts n _ fp σ op v.num _ at (omega (arith, under, full_length cs σ h n fp under top)) (omega (arith, room, depth_some e, full_length cs σ h n fp under top))))
   expr_runs n fp γ env cs top σ h under sees (binary op a b) pc room has stop =
       let w = full_length cs σ h n fp under top in
       binary_run n fp σ (top ++ stack_of cs σ.locals) (omega (arith, under, w)) op (expr_depth a) (expr_depth b) (expr_code n γ pc a) (λ q. expr_code n γ q b) (value_of env σ a) (value_of env σ b) pc (depth_some a) (depth_some b) (omega (arith, room, w)) has stop
-          (λ d f i. expr_runs n fp γ env cs top σ h under sees a pc (omega (arith, d, w)) f i)
-          (λ q d f i. expr_runs n fp γ env cs top σ h under sees b q (omega (arith, d, w)) f i)
-          (λ q x d f i. expr_runs n fp γ env cs (x ∷ top) σ h under sees b q (omega (arith, d, w)) f i)
+      (λ d f i. expr_runs n fp γ env cs top σ h under sees a pc (omega (arith, d, w)) f i)
+      (λ q d f i. expr_runs n fp γ env cs top σ h under sees b q (omega (arith, d, w)) f i)
+      (λ q x d f i. expr_runs n fp γ env cs (x ∷ top) σ h under sees b q (omega (arith, d, w)) f i)
   expr_runs n fp γ env cs top σ h under sees (sensed s) pc room has stop = push_step parts n pc fp σ _ _ has.0 (omega (arith, room, full_length cs σ h n fp under top))
   expr_runs n fp γ env cs top σ h under sees (called c) pc room has stop = push_step parts n pc fp σ _ _ has.0 (omega (arith, room, full_length cs σ h n fp under top))

@@ -1,26 +1,26 @@
 -- The code of a `let` makes its variable.
-use Rattle.std.proofs.Common.{◌≡◌, ℕ, zero, suc, ◌+◌, ◌-◌, ◌<◌, ◌≤◌, Bool, true, false, List, [], ◌∷◌, ◌++◌, length, Option, Some, None, refl, sym, ap, ◌∙◌, subst, arith, length-append, append_assoc, append-nil, length-set, take, drop, take-append-drop, length-take, length-drop, replicate}
+use Rattle.std.proofs.Common.{◌≡◌, ℕ, zero, suc, ◌+◌, ◌-◌, ◌<◌, ◌≤◌, true, false, List, [], ◌∷◌, ◌++◌, length, Some, refl, sym, ap, ◌∙◌, subst, arith, length-append, append_assoc, append-nil, length-set, take, drop, take-append-drop, length-take, length-drop, replicate}
 use Rattle.std.specs.Prelude.{ℤ, pos, ◌==◌, int_lt, slice_get, slice_set, unwrap_or, if◌then◌else◌}
 use Rattle.std.proofs.lemmas.List.{length-replicate}
 use Rattle.oc_tree.specs.Names.{Text}
 use Rattle.oc_tree.specs.Tree.{TStmts}
 use Rattle.oc_tree.specs.declared.tree.NvDecl.{NvDecl}
 use Rattle.oc_isa.specs.declared.instr.Placed.{Placed}
-use Rattle.oc_isa.specs.declared.instr.Instr.TheVariants.{Push, Load, Store as StoreTo, Addr, Index, Put}
+use Rattle.oc_isa.specs.declared.instr.Instr.TheVariants.{Store as StoreTo}
 use Rattle.oc_isa.specs.Image.{Parts}
-use Rattle.oc_isa.specs.Levels.{at_level, set_level}
-use Rattle.oc_meaning.specs.Store.{Value, Held, Place, Local, Store, Binding, at, put_at, put, held_at, nothing, holding, made}
+use Rattle.oc_isa.specs.Levels.{at_level}
+use Rattle.oc_meaning.specs.Store.{Value, Held, Local, Store, Binding, at, put_at, put, held_at, nothing, holding, made}
 use Rattle.oc_meaning.specs.Exec.{Went, bound_to, array_of}
 use Rattle.oc_code.specs.Scope.{InFrame, Named, let_named}
 use Rattle.oc_code.specs.Forms.{placed, fill_code, again_code, array_code}
-use Rattle.oc_code.proofs.Cells.{Cell, Own, Fixed, stack_of, owns, size, Shaped, addr, width, fixed_at, onto, owns_shaped, length-onto, length-stack_of}
-use Rattle.oc_code.proofs.Steps.{Mach, shown, Leads, leads_self, leads_on, push_step, load_step, addr_step, index_step, store_step}
-use Rattle.oc_code.proofs.Places.{total, Found, Agrees, Sees, Holds, sees_one, frame_word}
-use Rattle.oc_code.proofs.Exprs.{HasAt, has_front, has_at}
+use Rattle.oc_code.proofs.Cells.{Cell, Own, Fixed, stack_of, owns, size, addr, width, fixed_at, onto, owns_shaped, length-stack_of}
+use Rattle.oc_code.proofs.Steps.{shown, Leads, leads_on, push_step, load_step, addr_step, index_step, store_step}
+use Rattle.oc_code.proofs.Places.{total, Found, Sees, Holds, sees_one, frame_word}
+use Rattle.oc_code.proofs.Exprs.{HasAt, has_front}
 use Rattle.oc_code.proofs.Writes.{with_word, put_write}
 use Rattle.oc_code.proofs.Counts.{more_is}
-use Rattle.oc_code.proofs.Outcomes.{Runs, runs_after, runs_at}
-use Rattle.oc_code.proofs.Loops.{shorter, length-shorter, put_free, counted, at_body, end_is, test_run, again_run, start_run, e_end}
+use Rattle.oc_code.proofs.Outcomes.{Runs}
+use Rattle.oc_code.proofs.Loops.{shorter, length-shorter, put_free, at_body, end_is, test_run, again_run, start_run}
 
 pub same_eq : (n : ℕ) → (n == n) ≡ true
 same_eq n = grind arith
@@ -64,30 +64,36 @@ module _ (parts : Parts) (ds : List NvDecl) (small : total ds ≤ 65536) (k fp :
     where
       l : ℕ
       l = length σ.locals
+
       at_l : (l == owns C) ≡ true
       at_l = ap (λ n. n == owns C) own ∙ same_eq (owns C)
+
       wide : width (Own w ∷ C) l ≡ suc w
       wide = ap (λ b. if b then suc w else width C l) at_l
+
       stands : fp + s ≡ addr (Own w ∷ C) l
       stands = sym here ∙ sym (ap (λ b. if b then size C else addr C l) at_l)
+
       found : Found ds (Own w ∷ C) fp (InFrame s) (Local l)
       found = record { spot = fp + s; lies = (refl, omega (arith, here)); stands = (omega (arith, own), stands); wide = omega (arith, wide) }
 
   pub let_run : (D n s pc : ℕ) (x : Text) (cs : List Cell) (γ : List Named) (env : List Binding) (rest : TStmts) (top : List ℤ) (v : Value) (σ τ : Store) → length σ.locals ≡ owns cs → Holds ds cs τ → τ.depth ≡ D → size cs ≡ fp + s → 1 ≤ length top → length top + size cs ≤ 65536 → length top + size cs + 1 ≤ parts.stack → Sees ds cs fp γ env → slice_get parts.code pc ≡ Some (placed n (StoreTo s)) → Runs parts ds small k fp false D (shown pc fp (v.num ∷ (top ++ stack_of cs τ.locals)) τ) (pc + 1) (length top) 1 cs (let_named x s 1 rest ∷ γ) (bound_to x rest σ ∷ env) (Went (made (holding v) τ))
   let_run D n s pc x cs γ env rest top v σ τ own h de base free low room sees at =
       let len = length-stack_of cs τ.locals h.shaped in
-      let w : length (top ++ stack_of cs τ.locals) ≡ length top + size cs = omega (arith, length-append top (stack_of cs τ.locals), len) in
-      (refl, record {
-        new = Own 0 ∷ [];
-        top = shorter top;
-        many = refl;
-        free = length-shorter top free;
-        holds = record { shaped = (refl, h.shaped); nv = h.nv; low = omega (arith, low, free) };
-        depth = de;
-        sees = let_sees x s 0 cs γ env rest σ own base sees;
-        leads = subst (λ r. Leads parts (shown pc fp (v.num ∷ (top ++ stack_of cs τ.locals)) τ) (shown (pc + 1) fp r τ)) (put_free top (stack_of cs τ.locals) (fp + s) v.num (omega (arith, base, len)) free)
-            (store_step parts n pc fp τ s v.num (top ++ stack_of cs τ.locals) at (omega (arith, w, base, free)) (omega (arith, w, base)) (omega (arith, w, room)));
-      })
+      let w : length (top ++ stack_of cs τ.locals) ≡ length top + size cs = omega (arith, length-append top (stack_of cs τ.locals), len) in (
+        refl,
+        record {
+          new = Own 0 ∷ [];
+          top = shorter top;
+          many = refl;
+          free = length-shorter top free;
+          holds = record { shaped = (refl, h.shaped); nv = h.nv; low = omega (arith, low, free) };
+          depth = de;
+          sees = let_sees x s 0 cs γ env rest σ own base sees;
+          leads = subst (λ r. Leads parts (shown pc fp (v.num ∷ (top ++ stack_of cs τ.locals)) τ) (shown (pc + 1) fp r τ)) (put_free top (stack_of cs τ.locals) (fp + s) v.num (omega (arith, base, len)) free)
+              (store_step parts n pc fp τ s v.num (top ++ stack_of cs τ.locals) at (omega (arith, w, base, free)) (omega (arith, w, base)) (omega (arith, w, room)));
+        },
+      )
 
   -- an array: its elements lie above the counter
   module _ (n p s w : ℕ) (z : ℤ) (cs : List Cell) (base : size cs ≡ fp + s) (low : size cs ≤ 65536) (has : HasAt parts.code p (array_code n p s z (suc w))) (stop : p + length (array_code n p s z (suc w)) < length parts.code) (t : ℕ) (room : t + size cs + 4 ≤ parts.stack) (narrow : t + size cs + 1 ≤ 65536) (most : suc w ≤ 65536) (some : suc w ≤ t) where
@@ -128,28 +134,40 @@ module _ (parts : Parts) (ds : List NvDecl) (small : total ds ≤ 65536) (k fp :
       where
         τ : Store
         τ = made (row v) σ
+
         hτ : Holds ds (cells i) τ
         hτ = cells_hold v i σ lv h
+
         full : List ℤ
         full = top ++ stack_of (cells i) (row v ∷ σ.locals)
+
         len : length full ≡ t + 1 + size cs
         len = omega (arith, length-append top (stack_of (cells i) (row v ∷ σ.locals)), length-stack_of (cells i) (row v ∷ σ.locals) hτ.shaped, ltop)
+
         l : ℕ
         l = length σ.locals
+
         own : l ≡ owns cs
         own = owns_shaped cs σ.locals h.shaped
+
         at_l : (l == owns cs) ≡ true
         at_l = ap (λ n. n == owns cs) own ∙ same_eq (owns cs)
+
         counter : at_level (pos (fp + (s + 1)) ∷ (z ∷ full)) (fp + s) ≡ Some (pos i)
         counter = frame_word ds (cells i) (pos (fp + (s + 1)) ∷ (z ∷ top)) τ (fp + s) (pos i) hτ (ap (λ b. if b then Some (pos i) else fixed_at cs (fp + s)) (ap (λ n. (fp + s) == n) base ∙ same_eq (fp + s)))
+
         spot : fp + (s + 1) ≡ addr (cells i) l
         spot = (omega (arith, base) ∙ sym (ap (λ b. if b then suc (size cs) else addr cs l) at_l))
+
         wide : i < width (cells i) l
         wide = subst (λ n. i < n) (sym (ap (λ b. if b then suc w else width cs l) at_l)) lt
+
         after : with_word τ (Local l) i z [] ≡ made (row (slice_set v i z)) σ
         after = ap (λ h. put τ (Local l) (record { words = slice_set h.words i z; samples = [] })) (held_made σ (row v)) ∙ put_made σ (row v) (row (slice_set v i z))
+
         four : p + 6 + 1 + 1 + 1 + 1 + 1 ≡ p + 6 + 5
         four = omega arith
+
         put_it : Leads parts (shown (p + 6 + 1 + 1 + 1 + 1) fp (pos (fp + (s + 1) + i) ∷ (z ∷ full)) σ) (shown (p + 6 + 5) fp (top ++ stack_of (cells i) (row (slice_set v i z) ∷ σ.locals)) σ)
         put_it =
             let r = put_write parts ds small (cells i) n fp (omega (arith, base)) (p + 6 + 1 + 1 + 1 + 1) top τ (Local l) (fp + (s + 1)) i z [] hτ tt (omega (arith, own), spot) wide at_fill.1.1.1.1.0 (omega (arith, ltop, room)) in
@@ -167,7 +185,7 @@ module _ (parts : Parts) (ds : List NvDecl) (small : total ds ≤ 65536) (k fp :
         let l = test_run parts ds small k fp n p s cs base low (pos 0) (pos (suc w)) fill has stop t low_room (top ++ flip (replicate i z ++ [])) (pos i) σ false b len h in
         let ends = end_is parts ds small k fp n p s cs base low (pos 0) (pos (suc w)) fill has stop t low_room in
         subst (λ q. Leads parts (shown (p + 2) fp (frame top (replicate i z ++ []) i σ) σ) (shown q fp (frame top (replicate (suc w) z) (suc w) σ) σ)) ends
-            (subst (λ x. Leads parts (shown (p + 2) fp (frame top (replicate i z ++ []) i σ) σ) (shown (p + 6 + 5 + 5) fp x σ)) (ap (λ v. frame top v i σ) (append-nil (replicate i z)) ∙ ap (λ j. frame top (replicate j z) j σ) i_is) l)
+        (subst (λ x. Leads parts (shown (p + 2) fp (frame top (replicate i z ++ []) i σ) σ) (shown (p + 6 + 5 + 5) fp x σ)) (ap (λ v. frame top v i σ) (append-nil (replicate i z)) ∙ ap (λ j. frame top (replicate j z) j σ) i_is) l)
     turns (x ∷ r) i e top σ lt h =
         let v = replicate i z ++ (x ∷ r) in
         let lv : length v ≡ suc w = omega (arith, length-append (replicate i z) (x ∷ r), length-replicate i z, e) in
@@ -200,14 +218,16 @@ module _ (parts : Parts) (ds : List NvDecl) (small : total ds ≤ 65536) (k fp :
         let C = Fixed (pos (suc w)) ∷ cs in
         let a = cells_hold (replicate (suc w) z) (suc w) σ (length-replicate (suc w) z) h in
         let sees' = let_sees x (s + 1) w C γ env rest υ own (omega (arith, base)) (sees_one ds (Fixed (pos (suc w))) cs fp γ env sees) in
-        let many : size (Own w ∷ (Fixed (pos (suc w)) ∷ [])) ≡ suc w + 1 = omega arith in
-        (refl, record {
-          new = Own w ∷ (Fixed (pos (suc w)) ∷ []);
-          top = upper;
-          many = many;
-          free = omega (arith, lu);
-          holds = record { shaped = a.shaped; nv = a.nv; low = a.low };
-          depth = de;
-          sees = sees';
-          leads = subst (λ x. Leads parts (shown p fp (top ++ stack_of cs σ.locals) σ) (shown last fp x σ)) (as_cells upper (replicate (suc w) z) (suc w) σ) all;
-        })
+        let many : size (Own w ∷ (Fixed (pos (suc w)) ∷ [])) ≡ suc w + 1 = omega arith in (
+          refl,
+          record {
+            new = Own w ∷ (Fixed (pos (suc w)) ∷ []);
+            top = upper;
+            many = many;
+            free = omega (arith, lu);
+            holds = record { shaped = a.shaped; nv = a.nv; low = a.low };
+            depth = de;
+            sees = sees';
+            leads = subst (λ x. Leads parts (shown p fp (top ++ stack_of cs σ.locals) σ) (shown last fp x σ)) (as_cells upper (replicate (suc w) z) (suc w) σ) all;
+          },
+        )

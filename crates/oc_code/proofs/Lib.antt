@@ -18,3 +18,4 @@ pub mod Params
 pub mod Calls
 pub mod Whole
 pub mod Made
+pub mod Law

@@ -1,28 +1,23 @@
 -- The code of loops.
-use Rattle.std.proofs.Common.{◌≡◌, ℕ, zero, suc, ◌+◌, ◌-◌, ◌<◌, ◌≤◌, Bool, true, false, List, [], ◌∷◌, ◌++◌, length, Option, Some, None, refl, sym, ap, ◌∙◌, subst, arith, length-append, append_assoc, replicate}
-use Rattle.std.specs.Prelude.{ℤ, pos, negsuc, ◌+ℤ◌, ◌-ℤ◌, int_lt, slice_get, slice_set, FitsSigned, if◌then◌else◌}
+use Rattle.std.proofs.Common.{◌≡◌, ℕ, zero, suc, ◌+◌, ◌<◌, ◌≤◌, Bool, true, false, List, [], ◌∷◌, ◌++◌, length, Some, refl, sym, ap, ◌∙◌, subst, arith, length-append, append_assoc}
+use Rattle.std.specs.Prelude.{ℤ, pos, negsuc, ◌+ℤ◌, ◌-ℤ◌, int_lt, FitsSigned, if◌then◌else◌}
 use Rattle.std.specs.Int.{w32}
 use Rattle.oc_tree.specs.Word.{truth as word_of_truth, sum_of}
 use Rattle.oc_tree.specs.declared.tree.NvDecl.{NvDecl}
 use Rattle.oc_isa.specs.declared.instr.BinOp.TheVariants.{Add, Lt}
-use Rattle.oc_isa.specs.declared.instr.ProbeKind.TheVariants.{Use, Done}
 use Rattle.oc_isa.specs.declared.instr.Placed.{Placed}
-use Rattle.oc_isa.specs.declared.instr.Instr.TheVariants.{Push, Load, Store as StoreTo, Bin, Jump, Jfalse, Put, Index, Addr}
 use Rattle.oc_isa.specs.Image.{Parts}
 use Rattle.oc_isa.specs.Levels.{at_level, set_level}
-use Rattle.oc_meaning.specs.Samples.{union}
-use Rattle.oc_meaning.specs.Store.{Value, Held, Store, Binding}
-use Rattle.oc_meaning.specs.Eval.{Got, is_zero}
-use Rattle.oc_meaning.specs.Exec.{Outcome, Went, Returned, Stopped, then_do, with_value, count_of, for_turns, while_turns, used, done}
+use Rattle.oc_meaning.specs.Store.{Store, Binding}
+use Rattle.oc_meaning.specs.Exec.{Outcome, Went, Returned, Stopped, then_do, count_of, for_turns}
 use Rattle.oc_code.specs.Scope.{Named}
-use Rattle.oc_code.specs.Forms.{placed, one, probe_code, below_code, again_code, count_code, turn_code, while_code}
-use Rattle.oc_code.proofs.Cells.{Cell, Own, Fixed, stack_of, size, level_here, level_append, set_here, set_append, length-stack_of}
-use Rattle.oc_code.proofs.Steps.{Mach, shown, Leads, Stops, leads_self, leads_on, leads_stop, push_step, load_step, bin_step, store_step, jump_step, test_step}
+use Rattle.oc_code.specs.Forms.{below_code, again_code, count_code}
+use Rattle.oc_code.proofs.Cells.{Cell, Fixed, stack_of, size, level_here, level_append, set_here, set_append, length-stack_of}
+use Rattle.oc_code.proofs.Steps.{Mach, shown, Leads, leads_on, push_step, load_step, bin_step, store_step, jump_step, test_step}
 use Rattle.oc_code.proofs.Places.{total, Sees, Holds}
-use Rattle.oc_code.proofs.Exprs.{HasAt, has_front, has_back, has_at, Gives}
-use Rattle.oc_code.proofs.Counts.{more_turns, next_left, no_turn, count_some, count_none, next_fits, next_is, more_is}
-use Rattle.oc_code.proofs.Marks.{Alike, alike_holds, used_alike, done_alike, used_depth, done_depth, done_run}
-use Rattle.oc_code.proofs.Outcomes.{Arrives, Runs, runs_after, runs_at, same_cells, value_run, no_cells}
+use Rattle.oc_code.proofs.Exprs.{HasAt, has_back, has_at}
+use Rattle.oc_code.proofs.Counts.{more_turns, next_left, no_turn, count_some, count_none, next_fits, next_is}
+use Rattle.oc_code.proofs.Outcomes.{Arrives, Runs, runs_after, runs_at, same_cells, no_cells}
 
 -- all words but the last
 abbrev pub shorter : List ℤ → List ℤ
@@ -85,10 +80,13 @@ module _ (parts : Parts) (ds : List NvDecl) (small : total ds ≤ 65536) (k fp :
     where
       x : List ℤ
       x = counted top z σ
+
       len : length x ≡ t + 1 + size cs
       len = omega (arith, len_counted top z σ h, lt)
+
       under : fp ≤ length x
       under = omega (arith, len, base)
+
       inside : e_end < length parts.code
       inside = omega (arith, end_is, stop)
 
@@ -96,7 +94,7 @@ module _ (parts : Parts) (ds : List NvDecl) (small : total ds ≤ 65536) (k fp :
       go true =
           let e : p + 2 + 1 + 1 + 1 + 1 ≡ p + 6 = omega arith in
           subst (λ a. Leads parts (shown (p + 2 + 1 + 1 + 1) fp (pos 1 ∷ x) σ) (shown a fp x σ)) e
-              (test_step parts n (p + 2 + 1 + 1 + 1) fp σ e_end (pos 1) x false at_low.1.1.1.0 refl inside under (omega (arith, len, room)))
+          (test_step parts n (p + 2 + 1 + 1 + 1) fp σ e_end (pos 1) x false at_low.1.1.1.0 refl inside under (omega (arith, len, room)))
       go false = test_step parts n (p + 2 + 1 + 1 + 1) fp σ e_end (pos 0) x true at_low.1.1.1.0 refl inside under (omega (arith, len, room))
 
   -- one more, and back to the test
@@ -110,12 +108,16 @@ module _ (parts : Parts) (ds : List NvDecl) (small : total ds ≤ 65536) (k fp :
     where
       s : ℕ
       s = p + 6 + length a
+
       x : List ℤ
       x = counted top z σ
+
       len : length x ≡ t + 1 + size cs
       len = omega (arith, len_counted top z σ h, lt)
+
       under : fp ≤ length x
       under = omega (arith, len, base)
+
       write : set_level x (fp + q) y ≡ counted top y σ
       write = set_append top (z ∷ stack_of cs σ.locals) (fp + q) y (omega (arith, words σ h)) ∙ ap (λ r. top ++ r) (set_here z (stack_of cs σ.locals) (fp + q) y (words σ h))
 
@@ -127,24 +129,27 @@ module _ (parts : Parts) (ds : List NvDecl) (small : total ds ≤ 65536) (k fp :
       let e : p + 1 + 1 ≡ p + 2 = omega arith in
       let free = put_free top (stack_of cs σ.locals) (fp + q) c (words σ h) (omega (arith, lt)) in
       leads_on parts _ _ _ (push_step parts n p fp σ c x has.0 (omega (arith, len, room)))
-          (subst (λ a. Leads parts (shown (p + 1) fp (c ∷ x) σ) (shown a fp (counted (shorter top) c σ) σ)) e
-          (subst (λ r. Leads parts (shown (p + 1) fp (c ∷ x) σ) (shown (p + 1 + 1) fp r σ)) free
-          (store_step parts n (p + 1) fp σ q c x has.1.0 (omega (arith, len, base)) (omega (arith, len, base)) (omega (arith, len, room)))))
+      (subst (λ a. Leads parts (shown (p + 1) fp (c ∷ x) σ) (shown a fp (counted (shorter top) c σ) σ)) e
+      (subst (λ r. Leads parts (shown (p + 1) fp (c ∷ x) σ) (shown (p + 1 + 1) fp r σ)) free
+      (store_step parts n (p + 1) fp σ q c x has.1.0 (omega (arith, len, base)) (omega (arith, len, base)) (omega (arith, len, room)))))
 
   module _ (D : ℕ) (γ : List Named) (env : List Binding) (sees : Sees ds cs fp γ env) where
     -- behind the loop its counter is a free word
     pub uncounted : (pc : ℕ) (m : Mach) (top : List ℤ) (z : ℤ) (σ : Store) → length top ≡ t → Holds ds cs σ → σ.depth ≡ D → Leads parts m (shown pc fp (counted top z σ) σ) → Runs parts ds small k fp false D m pc (t + 1) 0 cs γ env (Went σ)
     uncounted pc m top z σ lt h de l =
         same_cells parts ds small k fp D m pc (t + 1) cs γ env (top ++ z ∷ []) σ (omega (arith, length-append top (z ∷ []), lt)) h de sees
-            (subst (λ w. Leads parts m (shown pc fp w σ)) (sym (append_assoc top (z ∷ []) (stack_of cs σ.locals))) l)
+        (subst (λ w. Leads parts m (shown pc fp w σ)) (sym (append_assoc top (z ∷ []) (stack_of cs σ.locals))) l)
 
     -- behind a turn: the same cells, and the counter
     turned : (m : Mach) (z : ℤ) (γ' : List Named) (env' : List Binding) (τ : Store) → Arrives parts ds small k fp D m (p + 6 + length a) t 0 (Fixed z ∷ cs) γ' env' τ → (top : List ℤ) × (length top ≡ t) × Holds ds cs τ × Leads parts m (shown (p + 6 + length a) fp (counted top z τ) τ)
     turned m z γ' env' τ r =
         let none = no_cells r.new r.many in
-        let h : Holds ds (Fixed z ∷ cs) τ = subst (λ l. Holds ds (l ++ (Fixed z ∷ cs)) τ) none r.holds in
-        (r.top, omega (arith, r.free), record { shaped = h.shaped; nv = h.nv; low = low },
-         subst (λ l. Leads parts m (shown (p + 6 + length a) fp (r.top ++ stack_of (l ++ (Fixed z ∷ cs)) τ.locals) τ)) none r.leads)
+        let h : Holds ds (Fixed z ∷ cs) τ = subst (λ l. Holds ds (l ++ (Fixed z ∷ cs)) τ) none r.holds in (
+          r.top,
+          omega (arith, r.free),
+          record { shaped = h.shaped; nv = h.nv; low = low },
+          subst (λ l. Leads parts m (shown (p + 6 + length a) fp (r.top ++ stack_of (l ++ (Fixed z ∷ cs)) τ.locals) τ)) none r.leads,
+        )
 
     -- a turn and what follows it
     pub next_turn : (pc : ℕ) (z y : ℤ) (m : Mach) (γ' : List Named) (env' : List Binding) (o : Outcome) (f : Store → Outcome) → sum_of z (pos 1) ≡ y → Runs parts ds small k fp false D m (p + 6 + length a) t 0 (Fixed z ∷ cs) γ' env' o → ((top : List ℤ) (τ : Store) → length top ≡ t → Holds ds cs τ → τ.depth ≡ D → Runs parts ds small k fp false D (shown (p + 2) fp (counted top y τ) τ) pc (t + 1) 0 cs γ env (f τ)) → Runs parts ds small k fp false D m pc (t + 1) 0 cs γ env (then_do o f)
@@ -159,8 +164,8 @@ module _ (parts : Parts) (ds : List NvDecl) (small : total ds ≤ 65536) (k fp :
       turns zero i fi e top σ lt h de = uncounted e_end _ top i σ lt h de (test_run top i σ false (no_turn i d e) lt h)
       turns (suc left) i fi e top σ lt h de =
           runs_after parts ds small k fp false D _ _ e_end (t + 1) 0 cs γ env (then_do (body i σ) (for_turns left (i +ℤ pos 1) body)) (test_run top i σ true (more_turns i d left e) lt h)
-              (next_turn e_end i (i +ℤ pos 1) _ γ' (env' i) (body i σ) (for_turns left (i +ℤ pos 1) body) (next_is i d left fi fd e) (rb i top σ lt h de)
-              (λ top' τ lt' h' de'. turns left (i +ℤ pos 1) (next_fits i d left fi fd e) (next_left i d left e) top' τ lt' h' de'))
+          (next_turn e_end i (i +ℤ pos 1) _ γ' (env' i) (body i σ) (for_turns left (i +ℤ pos 1) body) (next_is i d left fi fd e) (rb i top σ lt h de)
+          (λ top' τ lt' h' de'. turns left (i +ℤ pos 1) (next_fits i d left fi fd e) (next_left i d left e) top' τ lt' h' de'))
 
       all : (w : ℤ) → d -ℤ c ≡ w → (top : List ℤ) (σ : Store) → length top ≡ t → Holds ds cs σ → σ.depth ≡ D → Runs parts ds small k fp false D (shown (p + 2) fp (counted top c σ) σ) e_end (t + 1) 0 cs γ env (for_turns (count_of w) c body σ)
       all (pos m) e top σ lt h de = turns m c fc (count_some c d m e) top σ lt h de
@@ -170,4 +175,4 @@ module _ (parts : Parts) (ds : List NvDecl) (small : total ds ≤ 65536) (k fp :
       for_run top σ lt h de =
           let o = for_turns (count_of (d -ℤ c)) c body σ in
           runs_at parts ds small k fp false D _ e_end _ (t + 1) 0 cs γ env o end_is
-              (runs_after parts ds small k fp false D _ _ e_end (t + 1) 0 cs γ env o (start_run top σ lt h) (all (d -ℤ c) refl (shorter top) σ (omega (arith, length-shorter top (omega (arith, lt)), lt)) h de))
+          (runs_after parts ds small k fp false D _ _ e_end (t + 1) 0 cs γ env o (start_run top σ lt h) (all (d -ℤ c) refl (shorter top) σ (omega (arith, length-shorter top (omega (arith, lt)), lt)) h de))

@@ -1,10 +1,11 @@
 -- The code of a program is well made.
-use Rattle.std.proofs.Common.{◌≡◌, ℕ, zero, suc, ◌+◌, ◌-◌, ◌<◌, ◌≤◌, Bool, true, false, List, [], ◌∷◌, ◌++◌, length, Option, Some, None, refl, sym, ap, ◌∙◌, subst, arith, length-append, map}
-use Rattle.std.specs.Prelude.{ℤ, pos, is_some, slice_get, if◌then◌else◌, cond, ◌==◌, sum_by, count_by, fold, codes}
+use Rattle.std.proofs.Common.{◌≡◌, ℕ, zero, suc, ◌+◌, ◌≤◌, Bool, true, false, List, [], ◌∷◌, ◌++◌, length, Option, Some, None, refl, sym, ap, ◌∙◌, subst, arith, map}
+use Rattle.std.specs.Prelude.{ℤ, pos, is_some, slice_get, if◌then◌else◌, cond, ◌==◌, fold, codes}
+use Rattle.std.specs.Str.{bytes_eq}
 use Rattle.std.specs.List.{All}
-use Rattle.std.proofs.lemmas.Option.{none-some, slice_get_within}
+use Rattle.std.proofs.lemmas.Option.{none-some, same_Some, slice_get_within}
 use Rattle.oc_tree.specs.Names.{Text}
-use Rattle.oc_tree.specs.Tree.{TExpr, number, truth, variable, index, deref, unary, binary, sensed, called, TArg, value, shared, mutable, TCall, call, TArgs, no_args, more_args, TRight, right_value, right_sense, right_call, TKind, let_to, let_array, assign, assign_index, assign_deref, if_else, for_in, while_do, call_only, sense_only, emit, fresh, consistent, return, TElse, no_else, else_do, TStmt, stmt, TBlock, block, TStmts, no_stmts, more, TFunction, TProgram}
+use Rattle.oc_tree.specs.Tree.{TExpr, number, truth, variable, index, deref, unary, binary, sensed, called, TArg, value, shared, mutable, TCall, call, TArgs, no_args, more_args, TRight, right_value, right_sense, right_call, TKind, let_to, let_array, assign, assign_index, assign_deref, if_else, for_in, while_do, call_only, sense_only, emit, fresh, consistent, return, no_else, else_do, stmt, TBlock, block, TStmts, no_stmts, more, TFunction, TProgram}
 use Rattle.oc_tree.specs.declared.tree.NvDecl.{NvDecl}
 use Rattle.oc_tree.specs.declared.tree.BinaryOp.{BinaryOp}
 use Rattle.oc_tree.specs.declared.tree.BinaryOp.TheVariants as ops
@@ -13,17 +14,32 @@ use Rattle.oc_isa.specs.declared.image.ImageFunction.{ImageFunction}
 use Rattle.oc_isa.specs.declared.instr.ProbeKind.{ProbeKind}
 use Rattle.oc_isa.specs.declared.instr.ProbeKind.TheVariants.{Use, Done}
 use Rattle.oc_isa.specs.declared.instr.Placed.{Placed}
-use Rattle.oc_isa.specs.declared.instr.Instr.TheVariants.{Drop, Jump, Jfalse, Retv}
+use Rattle.oc_isa.specs.declared.instr.Instr.TheVariants.{Drop, Jfalse, Retv, Ret, Halt}
 use Rattle.oc_isa.specs.Image.{Parts, Exists, IsWellMade, is_main, main_of, frame_of}
 use Rattle.oc_meaning.specs.Uses.{is_use, begins_use, ends_use}
-use Rattle.oc_meaning.specs.Exec.{Region, begun_by, ended_by, number_in}
+use Rattle.oc_meaning.specs.Exec.{Region, begun_by, ended_by}
 use Rattle.oc_meaning.specs.Run.{function_named}
-use Rattle.oc_code.specs.Scope.{Slot, InFrame, ByAddress, InNv, NoSlot, Named, slot_of, words_of, is_fresh_in, passed_slot, kind_slots, block_slots, in_scope, for_named, function_scope}
-use Rattle.oc_code.specs.Forms.{placed, one, enter_code, commit_code, probe_code, read_code, write_code, base_code, binary_code, expr_code, value_code, arg_code, args_code, below_code, again_code, count_code}
+use Rattle.oc_code.specs.Scope.{Slot, InFrame, ByAddress, InNv, NoSlot, Named, slot_of, is_fresh_in, passed_slot, kind_slots, block_slots, in_scope, for_named, function_scope}
+use Rattle.oc_code.specs.Forms.{placed, one, enter_code, commit_code, probe_code, read_code, write_code, base_code, binary_code, expr_code, value_code, arg_code, args_code, again_code, count_code}
 use Rattle.oc_code.specs.Stack.{is_main_name, link_words, frame_words, block_depth, function_need, stack_words}
-use Rattle.oc_code.specs.Code.{function_number, has_result, called_name, last_code, call_code, right_code, first_code, whole_code, kind_code, block_code, stmts_code, close_code, function_code, functions_code, image_function, image_functions, image_nv, code_of}
-use Rattle.oc_code.specs.Formed.{IsLast, IsKnown, call_formed, right_formed, kind_formed, block_formed, stmts_formed, body_formed, IsFormed}
+use Rattle.oc_code.specs.Code.{function_number, has_result, called_name, last_code, call_code, right_code, first_code, whole_code, kind_code, block_code, stmts_code, close_code, body_code, function_code, functions_code, image_function, image_functions, image_nv, code_of}
+use Rattle.oc_code.specs.Formed.{IsLast, call_formed, right_formed, kind_formed, block_formed, stmts_formed, body_formed, IsFormed}
 use Rattle.oc_code.proofs.Calls.{found_at}
+use Rattle.oc_code.proofs.Whole.{name_eq_sym}
+
+-- where `main` stands
+main_entry : (p : TProgram) (regions : List Region) (at : ℕ) (fs : List TFunction) (g : TFunction) → function_named fs (codes "main") ≡ Some g → (e : ℕ) × (main_of (image_functions p regions at fs) ≡ Some (image_function p regions e g))
+main_entry p regions at [] g h = absurd (none-some g h)
+main_entry p regions at (f ∷ fs) g h = go (bytes_eq (codes "main") f.name) (is_main (image_function p regions at f)) (name_eq_sym (codes "main") f.name) h (λ h'. main_entry p regions (at + length (function_code p regions at f)) fs g h')
+  where
+    rest : List ImageFunction
+    rest = image_functions p regions (at + length (function_code p regions at f)) fs
+
+    go : (b c : Bool) → b ≡ c → (if b then Some f else function_named fs (codes "main")) ≡ Some g → (function_named fs (codes "main") ≡ Some g → (e : ℕ) × (main_of rest ≡ Some (image_function p regions e g))) → (e : ℕ) × ((if c then Some (image_function p regions at f) else main_of rest) ≡ Some (image_function p regions e g))
+    go true true q e others = (at, ap (λ g. Some (image_function p regions at g)) (same_Some f g e))
+    go false false q e others = others e
+    go true false q e others = absurd (grind (arith, q))
+    go false true q e others = absurd (grind (arith, q))
 
 module _ (P : Placed → Type 0) where
   -- of each instruction
@@ -157,7 +173,7 @@ module _ (p : TProgram) (regions : List Region) (targets : List (List Target)) (
     whole_fine : (γ : List Named) (n : ℕ) (kind : TKind) (c : List Placed) → Fine c → Fine (last_code n (ended_by regions n) kind) → Fine (whole_code p.names fs regions k γ n kind c)
     whole_fine γ n kind c h l =
         join (first_code p.names fs regions k γ n kind) _ (join (enter_code n (begun_by regions n)) _ (enter_fine n (begun_by regions n) (begun_known regions n formed.regions_known)) (probe_fine n (begins_use (is_fresh_in γ) kind) Use))
-            (join c _ h (join (probe_code n (ends_use (is_fresh_in γ) kind) Done) _ (probe_fine n (ends_use (is_fresh_in γ) kind) Done) l))
+        (join c _ h (join (probe_code n (ends_use (is_fresh_in γ) kind) Done) _ (probe_fine n (ends_use (is_fresh_in γ) kind) Done) l))
 
     ended_fine : (n : ℕ) → Fine (commit_code n (ended_by regions n))
     ended_fine n = commit_fine n (ended_by regions n) (ended_known regions n formed.regions_known)
@@ -190,8 +206,8 @@ module _ (p : TProgram) (regions : List Region) (targets : List (List Target)) (
           let cc = probe ++ ce in
           let cb = block_code p.names fs regions k γ (s + 1) (q + 6 + length cc + 1) b in
           join (count_code n q s (pos 0) (pos t) (cc ++ (placed n (Jfalse (q + 6 + (length cc + 1 + length cb) + 5)) ∷ cb))) (probe_code n is Done)
-              (count_fine n q s (pos 0) (pos t) _ (join cc _ (join probe ce (probe_fine n is Use) (expr_fine n γ (q + 6 + length probe) c)) (tt, block_fine γ (s + 1) (q + 6 + length cc + 1) b fm.1)))
-              (probe_fine n is Done)
+          (count_fine n q s (pos 0) (pos t) _ (join cc _ (join probe ce (probe_fine n is Use) (expr_fine n γ (q + 6 + length probe) c)) (tt, block_fine γ (s + 1) (q + 6 + length cc + 1) b fm.1)))
+          (probe_fine n is Done)
       kind_fine γ n s q (call_only c) fm = join (call_code p.names fs regions k n γ q c) _ (call_fine n γ q c fm) (drop_fine n (has_result fs (called_name c)))
       kind_fine γ n s q (sense_only x) fm = (fm, (tt, tt))
       kind_fine γ n s q (emit port e) fm = join (expr_code n γ q e) _ (expr_fine n γ q e) (fm, tt)
@@ -210,10 +226,60 @@ module _ (p : TProgram) (regions : List Region) (targets : List (List Target)) (
           let ends = probe_code n (is_use (is_fresh_in γ) (return e)) Done in
           let commit = commit_code n (ended_by regions n) in
           join (fc ++ ((ce ++ (ends ++ (commit ++ one n (Retv k)))) ++ [])) _
-              (whole_fine γ n (return e) (ce ++ (ends ++ (commit ++ one n (Retv k)))) (join ce _ (expr_fine n γ (q + length fc) e) (join ends _ (probe_fine n (is_use (is_fresh_in γ) (return e)) Done) (join commit _ (ended_fine n) (tt, tt)))) tt)
-              (last_fine rest fm.2 (in_scope (return e) s rest γ) (s + 0) _)
+          (whole_fine γ n (return e) (ce ++ (ends ++ (commit ++ one n (Retv k)))) (join ce _ (expr_fine n γ (q + length fc) e) (join ends _ (probe_fine n (is_use (is_fresh_in γ) (return e)) Done) (join commit _ (ended_fine n) (tt, tt)))) tt)
+          (last_fine rest fm.2 (in_scope (return e) s rest γ) (s + 0) _)
       stmts_fine g o γ s q (more (stmt n line kind) rest) fm =
           let kc = kind_code p.names fs regions k γ n s (q + length (first_code p.names fs regions k γ n kind)) kind in
           let wc = whole_code p.names fs regions k γ n kind kc in
           join wc _ (whole_fine γ n kind kc (kind_fine γ n s (q + length (first_code p.names fs regions k γ n kind)) kind fm.0) (ended_fine n))
-              (stmts_fine g fm.1 (in_scope kind s rest γ) (s + kind_slots kind) (q + length wc) rest fm.3)
+          (stmts_fine g fm.1 (in_scope kind s rest γ) (s + kind_slots kind) (q + length wc) rest fm.3)
+
+  close_fine : (f : TFunction) → Fine (close_code f)
+  close_fine f = go (is_main_name f.name) (is_some f.result)
+    where
+      go : (b r : Bool) → Fine (if b then one 0 Halt else (if r then [] else one 0 (Ret (length f.params))))
+      go true r = (tt, tt)
+      go false true = tt
+      go false false = (tt, tt)
+
+  body_fine : (k : ℕ) (own : ℕ) (g : Bool) (γ : List Named) (s q : ℕ) (b : TBlock) → body_formed p.names fs regions formed.rank own g γ s b → Fine (block_code p.names fs regions k γ s q b)
+  body_fine k own g γ s q (block id ss) fm = stmts_fine formed.rank own k g 0 γ s q ss fm
+
+  functions_fine : (at : ℕ) (gs : List TFunction) → ((i : ℕ) (f : TFunction) → slice_get gs i ≡ Some f → body_formed p.names fs regions formed.rank (formed.rank f.name) (is_some f.result) (function_scope p f) (length f.params + link_words f) f.body) → Fine (functions_code p regions at gs)
+  functions_fine at [] h = tt
+  functions_fine at (f ∷ gs) h =
+      join (function_code p regions at f) _
+      (join (body_code p regions at f) (close_code f) (body_fine (length f.params) (formed.rank f.name) (is_some f.result) (function_scope p f) (length f.params + link_words f) at f.body (h 0 f refl)) (close_fine f))
+      (functions_fine (at + length (function_code p regions at f)) gs (λ i g e. h (suc i) g e))
+
+  mains_from : (at : ℕ) (gs : List TFunction) (a : ℕ) → fold (λ a f. a + cond (is_main f) 1 0) a (image_functions p regions at gs) ≡ fold (λ a f. a + cond (is_main_name f.name) 1 0) a gs
+  mains_from at [] a = refl
+  mains_from at (f ∷ gs) a = mains_from (at + length (function_code p regions at f)) gs (a + cond (is_main_name f.name) 1 0)
+
+  words_from : (ds : List NvDecl) (a : ℕ) → fold (λ a v. a + v.words) a (map image_nv ds) ≡ fold (λ a d. a + d.words) a ds
+  words_from [] a = refl
+  words_from (d ∷ ds) a = words_from ds (a + d.words)
+
+  map_many : (ds : List NvDecl) → length (map image_nv ds) ≡ length ds
+  map_many [] = refl
+  map_many (d ∷ ds) = ap suc (map_many ds)
+
+  frame_fits : frame_of (main_of image.functions) ≤ image.stack
+  frame_fits =
+      let m = main_entry p regions 0 fs formed.main formed.main_found in
+      let s : frame_words formed.main + block_depth (stack_words p (length fs)) formed.main.body ≡ image.stack = ap (function_need (stack_words p (length fs))) (sym formed.main_found) in
+      omega (arith, ap frame_of m.1, s)
+
+  pub made : IsWellMade image
+  made = record {
+    one_main = mains_from 0 fs 0 ∙ formed.main_alone;
+    main_fits = frame_fits;
+    stack_low = formed.stack_low;
+    code_short = formed.code_short;
+    exist = each_all (λ i. Exists image i.instr) image.code (functions_fine 0 fs formed.bodies);
+    few_sensors = formed.few_sensors;
+    few_ports = formed.few_ports;
+    few_nvs = formed.few_nvs;
+    each_nv = map_many p.nv ∙ formed.each_nv;
+    few_words = subst (λ n. n ≤ 65536) (sym (words_from p.nv 0)) formed.few_words;
+  }

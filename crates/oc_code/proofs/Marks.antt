@@ -1,10 +1,10 @@
 -- Marks and probes.
-use Rattle.std.proofs.Common.{◌≡◌, ℕ, zero, suc, ◌+◌, ◌-◌, ◌<◌, ◌≤◌, Bool, true, false, List, [], ◌∷◌, ◌++◌, length, Option, Some, None, refl, sym, ap, ◌∙◌, subst, arith, length-append}
-use Rattle.std.specs.Prelude.{ℤ, if◌then◌else◌}
+use Rattle.std.proofs.Common.{◌≡◌, ℕ, ◌+◌, ◌-◌, ◌≤◌, Bool, true, false, List, length, Option, Some, None, refl, sym, ◌∙◌, subst, arith}
+use Rattle.std.specs.Prelude.{ℤ}
 use Rattle.oc_tree.specs.declared.tree.NvDecl.{NvDecl}
 use Rattle.oc_isa.specs.declared.instr.ProbeKind.TheVariants.{Use, Done}
 use Rattle.oc_isa.specs.Image.{Parts}
-use Rattle.oc_meaning.specs.Store.{Held, Store}
+use Rattle.oc_meaning.specs.Store.{Store}
 use Rattle.oc_meaning.specs.Exec.{opened, closed, used, done}
 use Rattle.oc_code.specs.Forms.{enter_code, commit_code, probe_code}
 use Rattle.oc_code.specs.Formed.{marks}

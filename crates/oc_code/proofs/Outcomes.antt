@@ -1,16 +1,16 @@
 -- What the code of statements does, and how it is put together.
-use Rattle.std.proofs.Common.{◌≡◌, ℕ, zero, suc, ◌+◌, ◌-◌, ◌<◌, ◌≤◌, Bool, true, false, List, [], ◌∷◌, ◌++◌, length, Option, Some, None, refl, sym, ap, ◌∙◌, subst, arith, length-append, append_assoc, drop, take, map, length-drop, length-take, take-append-drop}
-use Rattle.std.specs.Prelude.{ℤ, pos, slice_get}
+use Rattle.std.proofs.Common.{◌≡◌, ℕ, ◌+◌, ◌-◌, ◌<◌, ◌≤◌, Bool, true, false, List, [], ◌∷◌, ◌++◌, length, Some, refl, sym, ap, ◌∙◌, subst, arith, length-append, append_assoc, drop, take, map, length-drop, length-take, take-append-drop}
+use Rattle.std.specs.Prelude.{ℤ, slice_get}
 use Rattle.oc_tree.specs.declared.tree.NvDecl.{NvDecl}
 use Rattle.oc_isa.specs.declared.instr.Instr.TheVariants.{Jump, Retv}
 use Rattle.oc_isa.specs.Image.{Parts}
 use Rattle.oc_meaning.specs.Store.{Value, Held, Store, Binding, left_at}
 use Rattle.oc_meaning.specs.Eval.{Got, Val, Traps}
-use Rattle.oc_meaning.specs.Exec.{Stop, Trap, Short, Outcome, Went, Returned, Stopped, with_value, then_do, with_result, leave}
+use Rattle.oc_meaning.specs.Exec.{Outcome, Went, Returned, Stopped, with_value, then_do, with_result, leave}
 use Rattle.oc_code.specs.Scope.{Named}
 use Rattle.oc_code.specs.Forms.{placed}
 use Rattle.oc_code.proofs.Cells.{Cell, Own, Fixed, stack_of, owns, size, Shaped, length-stack_of, owns_shaped, stack_of-append, stack_of_fixed, owns-append, size-append, size_fixed, owns_fixed, shaped_fixed, shaped_front, shaped_back}
-use Rattle.oc_code.proofs.Steps.{Mach, shown, Leads, Stops, leads_self, leads_on, leads_stop, jump_step}
+use Rattle.oc_code.proofs.Steps.{Mach, shown, Leads, Stops, leads_on, leads_stop, jump_step}
 use Rattle.oc_code.proofs.Places.{total, Sees, Holds, sees_more}
 use Rattle.oc_code.proofs.Exprs.{Gives}
 
@@ -95,19 +95,21 @@ module _ (parts : Parts) (ds : List NvDecl) (small : total ds ≤ 65536) (k fp :
       let lt : length (take j q.top) + m ≡ t = omega (arith, length-take j q.top, q.free, le) in
       let assoc = append_assoc (map Fixed ws) q.new cs in
       let same : q.top ++ stack_of old σ.locals ≡ take j q.top ++ stack_of ((map Fixed ws ++ q.new) ++ cs) σ.locals =
-          ap (λ l. l ++ stack_of old σ.locals) (sym (take-append-drop j q.top)) ∙ append_assoc (take j q.top) ws (stack_of old σ.locals)
-          ∙ ap (λ l. take j q.top ++ l) (sym (stack_of_fixed ws old σ.locals)) ∙ ap (λ l. take j q.top ++ stack_of l σ.locals) (sym assoc) in
-      let low' : size (map Fixed ws ++ old) ≤ 65536 = omega (arith, size-append (map Fixed ws) old, size_fixed ws, lw, size-append q.new cs, q.many, low, le) in
-      (r.0, record {
-        new = map Fixed ws ++ q.new;
-        top = take j q.top;
-        many = omega (arith, size-append (map Fixed ws) q.new, size_fixed ws, lw, q.many);
-        free = lt;
-        holds = subst (λ l. Holds ds l σ) (sym assoc) (record { shaped = shaped_fixed ws old σ.locals q.holds.shaped; nv = q.holds.nv; low = low' });
-        depth = q.depth;
-        sees = subst (λ l. Sees ds l fp γ env) (sym assoc) (sees_more ds (map Fixed ws) old fp γ env q.sees);
-        leads = subst (λ l. Leads parts c (shown pc fp l σ)) same q.leads;
-      })
+      ap (λ l. l ++ stack_of old σ.locals) (sym (take-append-drop j q.top)) ∙ append_assoc (take j q.top) ws (stack_of old σ.locals)
+      ∙ ap (λ l. take j q.top ++ l) (sym (stack_of_fixed ws old σ.locals)) ∙ ap (λ l. take j q.top ++ stack_of l σ.locals) (sym assoc) in
+      let low' : size (map Fixed ws ++ old) ≤ 65536 = omega (arith, size-append (map Fixed ws) old, size_fixed ws, lw, size-append q.new cs, q.many, low, le) in (
+        r.0,
+        record {
+          new = map Fixed ws ++ q.new;
+          top = take j q.top;
+          many = omega (arith, size-append (map Fixed ws) q.new, size_fixed ws, lw, q.many);
+          free = lt;
+          holds = subst (λ l. Holds ds l σ) (sym assoc) (record { shaped = shaped_fixed ws old σ.locals q.holds.shaped; nv = q.holds.nv; low = low' });
+          depth = q.depth;
+          sees = subst (λ l. Sees ds l fp γ env) (sym assoc) (sees_more ds (map Fixed ws) old fp γ env q.sees);
+          leads = subst (λ l. Leads parts c (shown pc fp l σ)) same q.leads;
+        },
+      )
   runs_more D c pc t m cs γ env (Returned v σ) le low r = r
   runs_more D c pc t m cs γ env (Stopped h σ) le low r = r
 
@@ -122,17 +124,19 @@ module _ (parts : Parts) (ds : List NvDecl) (small : total ds ≤ 65536) (k fp :
       let l1 : Leads parts c (shown pc fp (q.top ++ stack_of (fix ++ cs) hs) σ) = subst (λ n. Leads parts c (shown pc fp (q.top ++ stack_of (n ++ (fix ++ cs)) hs) σ)) none q.leads in
       let bare : Shaped cs hs = subst (λ i. Shaped cs (drop i hs)) (owns_fixed ws) (shaped_back fix cs hs h.shaped) in
       let same : q.top ++ stack_of (fix ++ cs) hs ≡ (q.top ++ ws) ++ stack_of cs hs = ap (λ l. q.top ++ l) (stack_of_fixed ws cs hs) ∙ sym (append_assoc q.top ws (stack_of cs hs)) in
-      let many : length (q.top ++ ws) + 0 ≡ t + j = omega (arith, length-append q.top ws, lj, q.free) in
-      (r.0, record {
-        new = [];
-        top = q.top ++ ws;
-        many = refl;
-        free = many;
-        holds = record { shaped = bare; nv = h.nv; low = low };
-        depth = q.depth;
-        sees = sees;
-        leads = subst (λ l. Leads parts c (shown pc fp l σ)) same l1;
-      })
+      let many : length (q.top ++ ws) + 0 ≡ t + j = omega (arith, length-append q.top ws, lj, q.free) in (
+        r.0,
+        record {
+          new = [];
+          top = q.top ++ ws;
+          many = refl;
+          free = many;
+          holds = record { shaped = bare; nv = h.nv; low = low };
+          depth = q.depth;
+          sees = sees;
+          leads = subst (λ l. Leads parts c (shown pc fp l σ)) same l1;
+        },
+      )
   runs_below D c pc t j ws cs γ env (Returned v σ) lj low sees r = absurd (grind (arith, r.0))
   runs_below D c pc t j ws cs γ env (Stopped h σ) lj low sees r = r
 
@@ -140,47 +144,56 @@ module _ (parts : Parts) (ds : List NvDecl) (small : total ds ≤ 65536) (k fp :
   pub told : (m : ℕ) (top : List ℤ) (cs : List Cell) (hs : List Held) → m ≤ length top → (ws : List ℤ) × (rest : List ℤ) × (length ws ≡ m) × (length rest + m ≡ length top) × (top ++ stack_of cs hs ≡ rest ++ stack_of (map Fixed ws ++ cs) hs)
   told m top cs hs le =
       let j = length top - m in
-      let ws = drop j top in
-      (ws, take j top, omega (arith, length-drop j top), omega (arith, length-take j top),
-       ap (λ l. l ++ stack_of cs hs) (sym (take-append-drop j top)) ∙ append_assoc (take j top) ws (stack_of cs hs) ∙ ap (λ l. take j top ++ l) (sym (stack_of_fixed ws cs hs)))
+      let ws = drop j top in (
+        ws,
+        take j top,
+        omega (arith, length-drop j top),
+        omega (arith, length-take j top),
+        ap (λ l. l ++ stack_of cs hs) (sym (take-append-drop j top)) ∙ append_assoc (take j top) ws (stack_of cs hs) ∙ ap (λ l. take j top ++ l) (sym (stack_of_fixed ws cs hs)),
+      )
 
   -- behind a block its variables are free words
   left_alike : (new cs : List Cell) (σ : Store) (n : ℕ) → n ≡ owns cs → Holds ds (new ++ cs) σ → Holds ds cs (left_at n σ) × ((top : List ℤ) → top ++ stack_of (new ++ cs) σ.locals ≡ (top ++ stack_of new σ.locals) ++ stack_of cs (left_at n σ).locals)
   left_alike new cs σ n e h =
-      let j : owns new ≡ length σ.locals - n = omega (arith, e, owns_shaped (new ++ cs) σ.locals h.shaped, owns-append new cs) in
-      (record { shaped = subst (λ i. Shaped cs (drop i σ.locals)) j (shaped_back new cs σ.locals h.shaped); nv = h.nv; low = omega (arith, h.low, size-append new cs) },
-       λ top. ap (λ l. top ++ l) (stack_of-append new cs σ.locals) ∙ sym (append_assoc top (stack_of new σ.locals) (stack_of cs (drop (owns new) σ.locals)))
-       ∙ ap (λ i. (top ++ stack_of new σ.locals) ++ stack_of cs (drop i σ.locals)) j)
+      let j : owns new ≡ length σ.locals - n = omega (arith, e, owns_shaped (new ++ cs) σ.locals h.shaped, owns-append new cs) in (
+        record { shaped = subst (λ i. Shaped cs (drop i σ.locals)) j (shaped_back new cs σ.locals h.shaped); nv = h.nv; low = omega (arith, h.low, size-append new cs) },
+        λ top. ap (λ l. top ++ l) (stack_of-append new cs σ.locals) ∙ sym (append_assoc top (stack_of new σ.locals) (stack_of cs (drop (owns new) σ.locals)))
+            ∙ ap (λ i. (top ++ stack_of new σ.locals) ++ stack_of cs (drop i σ.locals)) j,
+      )
 
   pub leave_run : (g : Bool) (D : ℕ) (c : Mach) (pc t m n : ℕ) (cs : List Cell) (γ γ' : List Named) (env env' : List Binding) (o : Outcome) → n ≡ owns cs → Sees ds cs fp γ env → Runs g D c pc t m cs γ' env' o → Runs g D c pc t 0 cs γ env (leave n o)
   leave_run g D c pc t m n cs γ γ' env env' (Went σ) e sees r =
       let q = r.1 in
       let a = left_alike q.new cs σ n e q.holds in
-      let front = shaped_front q.new cs σ.locals q.holds.shaped in
-      (r.0, record {
-        new = [];
-        top = q.top ++ stack_of q.new σ.locals;
-        many = refl;
-        free = omega (arith, length-append q.top (stack_of q.new σ.locals), front, q.many, q.free);
-        holds = a.0;
-        depth = q.depth;
-        sees = sees;
-        leads = subst (λ l. Leads parts c (shown pc fp l σ)) (a.1 q.top) q.leads;
-      })
+      let front = shaped_front q.new cs σ.locals q.holds.shaped in (
+        r.0,
+        record {
+          new = [];
+          top = q.top ++ stack_of q.new σ.locals;
+          many = refl;
+          free = omega (arith, length-append q.top (stack_of q.new σ.locals), front, q.many, q.free);
+          holds = a.0;
+          depth = q.depth;
+          sees = sees;
+          leads = subst (λ l. Leads parts c (shown pc fp l σ)) (a.1 q.top) q.leads;
+        },
+      )
   leave_run g D c pc t m n cs γ γ' env env' (Returned v σ) e sees r =
       let q = r.1 in
-      let a = left_alike q.new cs σ n e q.holds in
-      (r.0, record {
-        new = [];
-        top = q.top ++ stack_of q.new σ.locals;
-        spot = q.spot;
-        site = q.site;
-        retv = q.retv;
-        room = omega (arith, q.room, length-append q.top (stack_of q.new σ.locals), shaped_front q.new cs σ.locals q.holds.shaped, size-append q.new cs);
-        holds = a.0;
-        depth = q.depth;
-        leads = subst (λ l. Leads parts c (shown q.spot fp (v.num ∷ l) σ)) (a.1 q.top) q.leads;
-      })
+      let a = left_alike q.new cs σ n e q.holds in (
+        r.0,
+        record {
+          new = [];
+          top = q.top ++ stack_of q.new σ.locals;
+          spot = q.spot;
+          site = q.site;
+          retv = q.retv;
+          room = omega (arith, q.room, length-append q.top (stack_of q.new σ.locals), shaped_front q.new cs σ.locals q.holds.shaped, size-append q.new cs);
+          holds = a.0;
+          depth = q.depth;
+          leads = subst (λ l. Leads parts c (shown q.spot fp (v.num ∷ l) σ)) (a.1 q.top) q.leads;
+        },
+      )
   leave_run g D c pc t m n cs γ γ' env env' (Stopped h σ) e sees r = r
 
   -- one part and then another
@@ -193,31 +206,35 @@ module _ (parts : Parts) (ds : List NvDecl) (small : total ds ≤ 65536) (k fp :
       go : (o : Outcome) → Runs g D' d pc (length r.1.top) m2 (r.1.new ++ cs) γ2 env2 o → Runs g D' c pc t (m + m2) cs γ2 env2 o
       go (Went τ) w =
           let q = w.1 in
-          let e = append_assoc q.new r.1.new cs in
-          (w.0, record {
-            new = q.new ++ r.1.new;
-            top = q.top;
-            many = omega (arith, size-append q.new r.1.new, q.many, r.1.many);
-            free = omega (arith, q.free, r.1.free);
-            holds = subst (λ l. Holds ds l τ) (sym e) q.holds;
-            depth = q.depth;
-            sees = subst (λ l. Sees ds l fp γ2 env2) (sym e) q.sees;
-            leads = subst (λ l. Leads parts c (shown pc fp (q.top ++ stack_of l τ.locals) τ)) (sym e) (leads_on parts c d _ r.1.leads q.leads);
-          })
+          let e = append_assoc q.new r.1.new cs in (
+            w.0,
+            record {
+              new = q.new ++ r.1.new;
+              top = q.top;
+              many = omega (arith, size-append q.new r.1.new, q.many, r.1.many);
+              free = omega (arith, q.free, r.1.free);
+              holds = subst (λ l. Holds ds l τ) (sym e) q.holds;
+              depth = q.depth;
+              sees = subst (λ l. Sees ds l fp γ2 env2) (sym e) q.sees;
+              leads = subst (λ l. Leads parts c (shown pc fp (q.top ++ stack_of l τ.locals) τ)) (sym e) (leads_on parts c d _ r.1.leads q.leads);
+            },
+          )
       go (Returned v τ) w =
           let q = w.1 in
-          let e = append_assoc q.new r.1.new cs in
-          (w.0, record {
-            new = q.new ++ r.1.new;
-            top = q.top;
-            spot = q.spot;
-            site = q.site;
-            retv = q.retv;
-            room = subst (λ l. length q.top + size l + 1 ≤ parts.stack) (sym e) q.room;
-            holds = subst (λ l. Holds ds l τ) (sym e) q.holds;
-            depth = q.depth;
-            leads = subst (λ l. Leads parts c (shown q.spot fp (v.num ∷ (q.top ++ stack_of l τ.locals)) τ)) (sym e) (leads_on parts c d _ r.1.leads q.leads);
-          })
+          let e = append_assoc q.new r.1.new cs in (
+            w.0,
+            record {
+              new = q.new ++ r.1.new;
+              top = q.top;
+              spot = q.spot;
+              site = q.site;
+              retv = q.retv;
+              room = subst (λ l. length q.top + size l + 1 ≤ parts.stack) (sym e) q.room;
+              holds = subst (λ l. Holds ds l τ) (sym e) q.holds;
+              depth = q.depth;
+              leads = subst (λ l. Leads parts c (shown q.spot fp (v.num ∷ (q.top ++ stack_of l τ.locals)) τ)) (sym e) (leads_on parts c d _ r.1.leads q.leads);
+            },
+          )
       go (Stopped h τ) q = leads_stop parts c d τ r.1.leads q
   then_run g D D' c pc1 pc t m m2 cs γ1 γ2 env1 env2 (Returned v σ) f r rs = absurd (grind (arith, r.0))
   then_run g D D' c pc1 pc t m m2 cs γ1 γ2 env1 env2 (Stopped h σ) f r rs = r

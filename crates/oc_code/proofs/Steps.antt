@@ -1,6 +1,6 @@
 -- Steps of the machine that shows a store.
-use Rattle.std.proofs.Common.{◌≡◌, ℕ, zero, suc, ◌+◌, ◌-◌, ◌<◌, ◌≤◌, Bool, true, false, List, [], ◌∷◌, ◌++◌, length, Option, Some, None, refl, sym, ap, ◌∙◌, subst, arith, length-append, drop, map, replicate}
-use Rattle.std.specs.Prelude.{ℤ, pos, ◌==◌, if◌then◌else◌, slice_get, slice_set, nat_lt, nat_le}
+use Rattle.std.proofs.Common.{◌≡◌, ℕ, zero, suc, ◌+◌, ◌-◌, ◌<◌, ◌≤◌, Bool, true, false, List, [], ◌∷◌, ◌++◌, length, Option, Some, None, refl, sym, ap, ◌∙◌, subst, arith, drop, replicate}
+use Rattle.std.specs.Prelude.{ℤ, pos, ◌==◌, if◌then◌else◌, slice_get, nat_lt, nat_le}
 use Rattle.std.specs.Ordering.{int_eq}
 use Rattle.oc_tree.specs.Word.{is_word, unary_of}
 use Rattle.oc_tree.specs.declared.tree.UnaryOp.{UnaryOp}
@@ -8,22 +8,20 @@ use Rattle.oc_tree.specs.declared.said.Said.{Said}
 use Rattle.oc_tree.specs.declared.said.Said.TheVariants.{Sensed, Showed, Entered, Committed, Ended as Over}
 use Rattle.oc_tree.specs.declared.said.Shown.{Shown}
 use Rattle.oc_tree.specs.declared.said.Shown.TheVariants.{Emitted}
-use Rattle.oc_tree.specs.declared.said.TrapKind.{TrapKind}
 use Rattle.oc_tree.specs.declared.said.TrapKind.TheVariants as trap
 use Rattle.oc_tree.specs.declared.said.Ending.{Ending}
 use Rattle.oc_tree.specs.declared.said.Ending.TheVariants.{Halted, Trapped}
 use Rattle.oc_isa.specs.declared.instr.BinOp.{BinOp}
 use Rattle.oc_isa.specs.declared.instr.ProbeKind.{ProbeKind}
-use Rattle.oc_isa.specs.declared.instr.Placed.{Placed}
 use Rattle.oc_isa.specs.declared.instr.Instr.{Instr}
-use Rattle.oc_isa.specs.declared.instr.Instr.TheVariants.{Push, Load, Store as StoreTo, Nload, Nstore, Addr, Naddr, Get, Put, Index, Bin, Un, Jump, Jfalse, Call, Ret, Retv, Drop, Sense, Emit, Probe, Enter, Commit, Halt}
+use Rattle.oc_isa.specs.declared.instr.Instr.TheVariants.{Push, Load, Store as StoreTo, Nload, Addr, Naddr, Get, Index, Bin, Un, Jump, Jfalse, Call, Ret, Retv, Drop, Sense, Emit, Probe, Enter, Commit, Halt}
 use Rattle.oc_isa.specs.declared.image.ImageFunction.{ImageFunction}
 use Rattle.oc_isa.specs.Image.{Parts}
 use Rattle.oc_isa.specs.Levels.{at_level, set_level}
-use Rattle.oc_isa.specs.Next.{Regs, Write, Next, Goes, Senses, Enters, Commits, Ends, Stuck, Device, pushed, written}
+use Rattle.oc_isa.specs.Next.{Regs, Write, Next, Goes, Senses, Enters, Commits, Ends, written}
 use Rattle.oc_isa.specs.Run.{Core, Ran, Onward, Aim, core_at, run_on, follow, run_commit, safe_commit, Safe, safe_next, then_shown, then_entered}
-use Rattle.oc_isa.specs.Table.{binary_of, probed, on, check, moves, address, word_at, puts_at, element, results, calls, returns, address_in, pushes, act, next_of, device_of}
-use Rattle.oc_meaning.specs.Store.{Held, Event, Store, noted}
+use Rattle.oc_isa.specs.Table.{binary_of, probed, on, check, moves, address, word_at, element, results, calls, returns, address_in, pushes, act, next_of, device_of}
+use Rattle.oc_meaning.specs.Store.{Event, Store, noted}
 use Rattle.oc_meaning.specs.Exec.{opened, closed, told_if}
 use Rattle.oc_meaning.specs.Run.{words_of}
 use Rattle.oc_code.specs.Forms.{placed}
@@ -103,6 +101,7 @@ module _ (parts : Parts) where
                 let same : exec (suc k) c ≡ exec k d = ran k ∙ f (run_on (device_of parts) k) in
                 let r = g.0.1 k (omega arith) in
                 (ap (λ x. x.out) same ∙ r.0, ap (λ x. x.core.nv) same ∙ r.1)
+
             never : (k : ℕ) → Safe (device_of parts) k c.samples c.core
             never zero = tt
             never (suc k) = safe k (s (Safe (device_of parts) k) (g.1 k))
@@ -114,6 +113,7 @@ module _ (parts : Parts) where
         later : (k : ℕ) → 1 ≤ k → ((exec k c).out ≡ out) × ((exec k c).core.nv ≡ c.core.nv)
         later zero le = absurd (omega arith)
         later (suc k) le = let same = ran k ∙ f (run_on (device_of parts) k) in (ap (λ x. x.out) same, ap (λ x. x.core.nv) same)
+
         never : (k : ℕ) → Safe (device_of parts) k c.samples c.core
         never zero = tt
         never (suc k) = safe k (s (Safe (device_of parts) k))
@@ -148,12 +148,12 @@ module _ (parts : Parts) where
     pub load_step : (k : ℕ) (z : ℤ) (s : List ℤ) → At (Load k) → at_level s (fp + k) ≡ Some z → length s < parts.stack → To s (z ∷ s)
     load_step k z s at r h =
         goes n (Load k) (shown pc fp s σ) _ None None at (omega (arith, h))
-            (ap (λ o. on o (λ word. check (nat_lt (length s) parts.stack) (moves (pc + 1) fp (word ∷ s)))) r ∙ push_is (pc + 1) fp s z h)
+        (ap (λ o. on o (λ word. check (nat_lt (length s) parts.stack) (moves (pc + 1) fp (word ∷ s)))) r ∙ push_is (pc + 1) fp s z h)
 
     pub nload_step : (a : ℕ) (z : ℤ) (s : List ℤ) → At (Nload a) → slice_get (words_of σ.nv) a ≡ Some z → length s < parts.stack → To s (z ∷ s)
     nload_step a z s at r h =
         goes n (Nload a) (shown pc fp s σ) _ None None at (omega (arith, h))
-            (ap (λ o. on o (λ word. check (nat_lt (length s) parts.stack) (moves (pc + 1) fp (word ∷ s)))) r ∙ push_is (pc + 1) fp s z h)
+        (ap (λ o. on o (λ word. check (nat_lt (length s) parts.stack) (moves (pc + 1) fp (word ∷ s)))) r ∙ push_is (pc + 1) fp s z h)
 
     number_is : (z : ℤ) (s : List ℤ) → is_word z ≡ true → length s < parts.stack → check (is_word z) (check (nat_lt (length s) parts.stack) (moves (pc + 1) fp (z ∷ s))) ≡ moves (pc + 1) fp (z ∷ s)
     number_is z s w h = ap (λ b. check b (check (nat_lt (length s) parts.stack) (moves (pc + 1) fp (z ∷ s)))) w ∙ push_is (pc + 1) fp s z h
@@ -167,8 +167,8 @@ module _ (parts : Parts) where
     pub get_step : (a : ℕ) (z : ℤ) (s : List ℤ) → At Get → word_at (pos a ∷ s) (words_of σ.nv) a ≡ Some z → fp ≤ length s → length s < parts.stack → To (pos a ∷ s) (z ∷ s)
     get_step a z s at r low h =
         goes n Get (shown pc fp (pos a ∷ s) σ) _ None None at (omega (arith, h))
-            (pop_is fp (pos a) s (λ base rest. on (address base) (λ b. on (word_at (pos a ∷ s) (words_of σ.nv) b) (λ word. check (nat_lt (length rest) parts.stack) (moves (pc + 1) fp (word ∷ rest))))) low
-            ∙ ap (λ o. on o (λ word. check (nat_lt (length s) parts.stack) (moves (pc + 1) fp (word ∷ s)))) r ∙ push_is (pc + 1) fp s z h)
+        (pop_is fp (pos a) s (λ base rest. on (address base) (λ b. on (word_at (pos a ∷ s) (words_of σ.nv) b) (λ word. check (nat_lt (length rest) parts.stack) (moves (pc + 1) fp (word ∷ rest))))) low
+        ∙ ap (λ o. on o (λ word. check (nat_lt (length s) parts.stack) (moves (pc + 1) fp (word ∷ s)))) r ∙ push_is (pc + 1) fp s z h)
 
     pub drop_step : (z : ℤ) (s : List ℤ) → At Drop → fp ≤ length s → length s < parts.stack → To (z ∷ s) s
     drop_step z s at low h = goes n Drop (shown pc fp (z ∷ s) σ) _ None None at (omega (arith, h)) (pop_is fp z s (λ x rest. moves (pc + 1) fp rest) low)
@@ -176,7 +176,7 @@ module _ (parts : Parts) where
     pub un_step : (op : UnaryOp) (z : ℤ) (s : List ℤ) → At (Un op) → fp ≤ length s → length s < parts.stack → To (z ∷ s) (unary_of op z ∷ s)
     un_step op z s at low h =
         goes n (Un op) (shown pc fp (z ∷ s) σ) _ None None at (omega (arith, h))
-            (pop_is fp z s (λ x rest. check (nat_lt (length rest) parts.stack) (moves (pc + 1) fp (unary_of op x ∷ rest))) low ∙ push_is (pc + 1) fp s (unary_of op z) h)
+        (pop_is fp z s (λ x rest. check (nat_lt (length rest) parts.stack) (moves (pc + 1) fp (unary_of op x ∷ rest))) low ∙ push_is (pc + 1) fp s (unary_of op z) h)
 
     bin_is : (op : BinOp) (x y : ℤ) (s : List ℤ) (o : Option ℤ) → fp ≤ length s → binary_of op x y ≡ o → act parts n (Bin op) (record { pc = pc; fp = fp; stack = y ∷ (x ∷ s) }) (words_of σ.nv) ≡ results parts.stack n (pc + 1) fp s o
     bin_is op x y s o low r = pop_two_is fp y x s (λ y x rest. results parts.stack n (pc + 1) fp rest (binary_of op x y)) low ∙ ap (results parts.stack n (pc + 1) fp s) r
@@ -193,9 +193,9 @@ module _ (parts : Parts) where
     pub index_step : (k j a : ℕ) (s : List ℤ) → At (Index k) → j < k → a + j < 131072 → fp ≤ length s → length s + 1 < parts.stack → To (pos j ∷ (pos a ∷ s)) (pos (a + j) ∷ s)
     index_step k j a s at within small low h =
         goes n (Index k) (shown pc fp (pos j ∷ (pos a ∷ s)) σ) _ None None at (omega (arith, h))
-            (index_is k (pos j) a s (Some j) low refl
-            ∙ ap (λ b. if b then check (is_word (pos (a + j))) (check (nat_lt (length s) parts.stack) (moves (pc + 1) fp (pos (a + j) ∷ s))) else Ends (Trapped trap.Index n)) (lt_true j k within)
-            ∙ number_is (pos (a + j)) s (word_small (a + j) (omega (arith, small))) (omega (arith, h)))
+        (index_is k (pos j) a s (Some j) low refl
+        ∙ ap (λ b. if b then check (is_word (pos (a + j))) (check (nat_lt (length s) parts.stack) (moves (pc + 1) fp (pos (a + j) ∷ s))) else Ends (Trapped trap.Index n)) (lt_true j k within)
+        ∙ number_is (pos (a + j)) s (word_small (a + j) (omega (arith, small))) (omega (arith, h)))
 
     pub index_stop : (k : ℕ) (i : ℤ) (a : ℕ) (s : List ℤ) → At (Index k) → element parts.stack n k (pc + 1) fp s (pos a) (address i) ≡ Ends (Trapped trap.Index n) → fp ≤ length s → length s + 1 < parts.stack → Stops (shown pc fp (i ∷ (pos a ∷ s)) σ) (noted (Over (Trapped trap.Index n)) [] σ)
     index_stop k i a s at out low h = record { good = ends n (Index k) (shown pc fp (i ∷ (pos a ∷ s)) σ) (Trapped trap.Index n) at (omega (arith, h)) (index_is k i a s (address i) low refl ∙ out) }
@@ -207,9 +207,9 @@ module _ (parts : Parts) where
     pub test_step : (t : ℕ) (z : ℤ) (s : List ℤ) (b : Bool) → At (Jfalse t) → int_eq z (pos 0) ≡ b → t < length parts.code → fp ≤ length s → length s < parts.stack → Leads (shown pc fp (z ∷ s) σ) (shown (if b then t else pc + 1) fp s σ)
     test_step t z s b at r inside low h =
         goes n (Jfalse t) (shown pc fp (z ∷ s) σ) _ None None at (omega (arith, h))
-            (pop_is fp z s (λ x rest. if int_eq x (pos 0) then check (nat_lt t (length parts.code)) (moves t fp rest) else moves (pc + 1) fp rest) low
-            ∙ ap (λ b. if b then check (nat_lt t (length parts.code)) (moves t fp s) else moves (pc + 1) fp s) r
-            ∙ go b)
+        (pop_is fp z s (λ x rest. if int_eq x (pos 0) then check (nat_lt t (length parts.code)) (moves t fp rest) else moves (pc + 1) fp rest) low
+        ∙ ap (λ b. if b then check (nat_lt t (length parts.code)) (moves t fp s) else moves (pc + 1) fp s) r
+        ∙ go b)
       where
         go : (b : Bool) → (if b then check (nat_lt t (length parts.code)) (moves t fp s) else moves (pc + 1) fp s) ≡ moves (if b then t else pc + 1) fp s
         go true = ap (λ b. check b (moves t fp s)) (lt_true t (length parts.code) inside)
@@ -218,19 +218,19 @@ module _ (parts : Parts) where
     pub store_step : (k : ℕ) (z : ℤ) (s : List ℤ) → At (StoreTo k) → fp + k < length s → fp ≤ length s → length s < parts.stack → To (z ∷ s) (set_level s (fp + k) z)
     store_step k z s at within low h =
         goes n (StoreTo k) (shown pc fp (z ∷ s) σ) _ None None at (omega (arith, h))
-            (ap (λ b. check b (on {A = ℤ × List ℤ} (if nat_le fp (length s) then Some (z, s) else None) (λ t. moves (pc + 1) fp (set_level t.1 (fp + k) t.0)))) (lt_true (fp + k) (suc (length s)) (omega (arith, within)))
-            ∙ pop_is fp z s (λ word rest. moves (pc + 1) fp (set_level rest (fp + k) word)) low)
+        (ap (λ b. check b (on {A = ℤ × List ℤ} (if nat_le fp (length s) then Some (z, s) else None) (λ t. moves (pc + 1) fp (set_level t.1 (fp + k) t.0)))) (lt_true (fp + k) (suc (length s)) (omega (arith, within)))
+        ∙ pop_is fp z s (λ word rest. moves (pc + 1) fp (set_level rest (fp + k) word)) low)
 
     pub emit_step : (p : ℕ) (z : ℤ) (set : List ℕ) (s : List ℤ) → At (Emit p) → fp ≤ length s → length s < parts.stack → Leads (shown pc fp (z ∷ s) σ) (shown (pc + 1) fp s (noted (Showed (Emitted p z)) set σ))
     emit_step p z set s at low h =
         goes n (Emit p) (shown pc fp (z ∷ s) σ) (record { pc = pc + 1; fp = fp; stack = s }) None (Some (Emitted p z)) at (omega (arith, h))
-            (pop_is fp z s (λ word rest. Goes (record { pc = pc + 1; fp = fp; stack = rest }) None (Some (Emitted p word))) low)
+        (pop_is fp z s (λ word rest. Goes (record { pc = pc + 1; fp = fp; stack = rest }) None (Some (Emitted p word))) low)
 
     pub sense_step : (x : ℕ) (z : ℤ) (zs : List ℤ) (set : List ℕ) (s : List ℤ) → At (Sense x) → σ.left ≡ z ∷ zs → length s < parts.stack → Leads (shown pc fp s σ) (shown (pc + 1) fp (z ∷ s) (noted (Sensed x z) set (record σ { left = zs; taken = suc σ.taken })))
     sense_step x z zs set s at r h =
         steps n (Sense x) (shown pc fp s σ) (Senses x (record { pc = pc + 1; fp = fp; stack = s })) at (omega (arith, h)) (ap (λ b. check b (Senses x (record { pc = pc + 1; fp = fp; stack = s }))) (lt_true (length s) parts.stack h)) _
-            (λ go. ap (λ l. follow (Senses x (record { pc = pc + 1; fp = fp; stack = s })) l (shown pc fp s σ).core (said_of σ.events) go) r)
-            (λ go g. subst (λ l. safe_next (Senses x (record { pc = pc + 1; fp = fp; stack = s })) l (shown pc fp s σ).core go) (sym r) g)
+        (λ go. ap (λ l. follow (Senses x (record { pc = pc + 1; fp = fp; stack = s })) l (shown pc fp s σ).core (said_of σ.events) go) r)
+        (λ go g. subst (λ l. safe_next (Senses x (record { pc = pc + 1; fp = fp; stack = s })) l (shown pc fp s σ).core go) (sym r) g)
 
     pub sense_stop : (x : ℕ) (s : List ℤ) → At (Sense x) → σ.left ≡ [] → length s < parts.stack → Stops (shown pc fp s σ) σ
     sense_stop x s at r h = record { good = good }
@@ -258,6 +258,7 @@ module _ (parts : Parts) where
       where
         to : Regs
         to = record { pc = pc + 1; fp = fp; stack = s }
+
         c : Core
         c = (shown pc fp s σ).core
 
@@ -280,11 +281,11 @@ module _ (parts : Parts) where
     pub call_step : (f : ℕ) (g : ImageFunction) (s : List ℤ) → At (Call f) → slice_get parts.functions f ≡ Some g → fp + g.params ≤ length s → g.params + 2 ≤ g.frame → length s + (g.frame - g.params) ≤ parts.stack → g.entry < length parts.code → Leads (shown pc fp s σ) (shown g.entry (length s - g.params) (replicate (g.frame - (g.params + 2)) (pos 0) ++ (pos fp ∷ (pos (pc + 1) ∷ s))) σ)
     call_step f g s at e has_params has_frame room inside =
         goes n (Call f) (shown pc fp s σ) _ None None at (omega (arith, room))
-            (ap (λ o. on o (λ g. calls (length parts.code) parts.stack (pc + 1) fp s g.entry g.params g.frame)) e
-            ∙ ap (λ b. check b (check (nat_le (g.params + 2) g.frame) (check (nat_le (length s + (g.frame - g.params)) parts.stack) (check (nat_lt g.entry (length parts.code)) there)))) (le_true (fp + g.params) (length s) has_params)
-            ∙ ap (λ b. check b (check (nat_le (length s + (g.frame - g.params)) parts.stack) (check (nat_lt g.entry (length parts.code)) there))) (le_true (g.params + 2) g.frame has_frame)
-            ∙ ap (λ b. check b (check (nat_lt g.entry (length parts.code)) there)) (le_true (length s + (g.frame - g.params)) parts.stack room)
-            ∙ ap (λ b. check b there) (lt_true g.entry (length parts.code) inside))
+        (ap (λ o. on o (λ g. calls (length parts.code) parts.stack (pc + 1) fp s g.entry g.params g.frame)) e
+        ∙ ap (λ b. check b (check (nat_le (g.params + 2) g.frame) (check (nat_le (length s + (g.frame - g.params)) parts.stack) (check (nat_lt g.entry (length parts.code)) there)))) (le_true (fp + g.params) (length s) has_params)
+        ∙ ap (λ b. check b (check (nat_le (length s + (g.frame - g.params)) parts.stack) (check (nat_lt g.entry (length parts.code)) there))) (le_true (g.params + 2) g.frame has_frame)
+        ∙ ap (λ b. check b (check (nat_lt g.entry (length parts.code)) there)) (le_true (length s + (g.frame - g.params)) parts.stack room)
+        ∙ ap (λ b. check b there) (lt_true g.entry (length parts.code) inside))
       where
         there : Next
         there = moves g.entry (length s - g.params) (replicate (g.frame - (g.params + 2)) (pos 0) ++ (pos fp ∷ (pos (pc + 1) ∷ s)))
@@ -300,6 +301,6 @@ module _ (parts : Parts) where
     pub retv_step : (k : ℕ) (z : ℤ) (s : List ℤ) (to caller : ℕ) → At (Retv k) → at_level (z ∷ s) (fp + k) ≡ Some (pos to) → at_level (z ∷ s) (fp + k + 1) ≡ Some (pos caller) → fp ≤ length s → length s < parts.stack → length (drop (length (z ∷ s) - fp) (z ∷ s)) < parts.stack → Leads (shown pc fp (z ∷ s) σ) (shown to caller (z ∷ drop (length (z ∷ s) - fp) (z ∷ s)) σ)
     retv_step k z s to caller at a b low room fits =
         goes n (Retv k) (shown pc fp (z ∷ s) σ) _ None None at (omega (arith, room))
-            (pop_is fp z s (λ word below. returns k fp (z ∷ s) (λ pc caller rest. pushes parts.stack pc caller rest word)) low
-            ∙ back_is k (z ∷ s) to caller (λ pc caller rest. pushes parts.stack pc caller rest z) a b
-            ∙ push_is to caller (drop (length (z ∷ s) - fp) (z ∷ s)) z fits)
+        (pop_is fp z s (λ word below. returns k fp (z ∷ s) (λ pc caller rest. pushes parts.stack pc caller rest word)) low
+        ∙ back_is k (z ∷ s) to caller (λ pc caller rest. pushes parts.stack pc caller rest z) a b
+        ∙ push_is to caller (drop (length (z ∷ s) - fp) (z ∷ s)) z fits)

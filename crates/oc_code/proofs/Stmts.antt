@@ -1,29 +1,27 @@
 -- The code of each form of statement.
-use Rattle.std.proofs.Common.{◌≡◌, ℕ, zero, suc, ◌+◌, ◌-◌, ◌<◌, ◌≤◌, Bool, true, false, List, [], ◌∷◌, ◌++◌, length, Option, Some, None, refl, sym, ap, ◌∙◌, subst, arith, length-append}
-use Rattle.std.specs.Prelude.{ℤ, pos, is_some, slice_get, max, if◌then◌else◌}
+use Rattle.std.proofs.Common.{◌≡◌, ℕ, ◌+◌, ◌<◌, ◌≤◌, Bool, true, false, List, [], ◌∷◌, ◌++◌, length, Option, Some, None, refl, sym, ap, ◌∙◌, subst, arith, length-append}
+use Rattle.std.specs.Prelude.{ℤ, pos, is_some, slice_get, if◌then◌else◌}
 use Rattle.oc_tree.specs.Names.{Text, NameLists}
 use Rattle.oc_tree.specs.Tree.{TExpr, TCall, call, TRight, right_value, right_sense, right_call, TFunction}
 use Rattle.oc_tree.specs.declared.tree.NvDecl.{NvDecl}
-use Rattle.oc_tree.specs.declared.said.Said.TheVariants.{Showed, Ended as Over}
+use Rattle.oc_tree.specs.declared.said.Said.TheVariants.{Showed}
 use Rattle.oc_tree.specs.declared.said.Shown.TheVariants.{Emitted}
-use Rattle.oc_tree.specs.declared.said.TrapKind.TheVariants as trap
-use Rattle.oc_tree.specs.declared.said.Ending.TheVariants.{Trapped}
 use Rattle.oc_isa.specs.declared.instr.ProbeKind.TheVariants.{Tag}
 use Rattle.oc_isa.specs.declared.instr.Placed.{Placed}
 use Rattle.oc_isa.specs.declared.instr.Instr.TheVariants.{Jump, Jfalse, Call, Drop, Sense, Emit, Probe, Index, Put}
 use Rattle.oc_isa.specs.Image.{Parts}
 use Rattle.oc_meaning.specs.Samples.{union}
-use Rattle.oc_meaning.specs.Store.{Value, Held, Place, Store, Binding, noted, held_at, put, with_element, replaced, place_of}
+use Rattle.oc_meaning.specs.Store.{Value, Place, Store, Binding, noted, held_at, put, with_element, replaced, place_of}
 use Rattle.oc_meaning.specs.Eval.{Got, Val, Traps, is_zero, element_of, value_of}
 use Rattle.oc_meaning.specs.Exec.{Outcome, Went, Returned, Stopped, Passed, Passing, Passes, Breaks, number_in, with_value, with_result, with_args, args_of, dropped, sense, tagged, element_written, call_run, right_run, Region}
 use Rattle.oc_meaning.specs.Run.{function_named}
-use Rattle.oc_code.specs.Scope.{Slot, Named, named, slot_of, words_of as words_in}
+use Rattle.oc_code.specs.Scope.{Named, named, slot_of, words_of as words_in}
 use Rattle.oc_code.specs.Forms.{placed, one, base_code, expr_code, args_code, write_code, one_way_code, two_way_code}
-use Rattle.oc_code.specs.Stack.{is_main_name, expr_depth, args_depth, call_depth, right_depth}
+use Rattle.oc_code.specs.Stack.{is_main_name, expr_depth, call_depth, right_depth}
 use Rattle.oc_code.specs.Code.{function_number, has_result, called_name, call_code, right_code, gives, element_code}
 use Rattle.oc_code.specs.Formed.{CallFormed, call_formed, right_formed}
 use Rattle.oc_code.proofs.Cells.{Cell, stack_of, size, onto}
-use Rattle.oc_code.proofs.Steps.{Mach, shown, Leads, Stops, leads_on, leads_stop, drop_step, emit_step, sense_step, sense_stop, show_step, test_step}
+use Rattle.oc_code.proofs.Steps.{Mach, shown, Leads, leads_on, drop_step, emit_step, sense_step, sense_stop, show_step, test_step}
 use Rattle.oc_code.proofs.Places.{total, IsVariable, Stands, place_width, Sees, Holds, found, held_width}
 use Rattle.oc_code.proofs.Exprs.{HasAt, has_front, has_back, has_at, inside, within_of, Gives, gives_after, expr_runs, depth_some, full_length, base_run, base_one, spot_of, spot_stands, PointsAt, point_run, index_ends}
 use Rattle.oc_code.proofs.Writes.{write_room, still_holds, same_depth, put_write, scalar_write}
@@ -58,10 +56,10 @@ module _ (parts : Parts) (ds : List NvDecl) (small : total ds ≤ 65536) (names 
         let at_call = has_back parts.code pc ca i has in
         let e : pc + length ca + 1 ≡ pc + length (ca ++ i) = omega (arith, length-append ca i) in
         args_run (is_some fm.callee.result) _ (pc + length ca) (pc + length (ca ++ i)) top _ σ fm.callee.params (args_of env σ args) (λ ps. call_of f ps σ)
-            (args_runs parts ds small n fp γ env cs σ h under sees args fm.callee.params top pc (pc + length ca) fm.passed refl (omega (arith, room)) (has_front parts.code pc ca i has) (inside parts.code _ _ at_call.0))
-            (λ ps zs given. subst (λ p. Rights (is_some fm.callee.result) D (shown (pc + length ca) fp (onto zs (top ++ stack_of cs σ.locals)) σ) p top (call_of f ps σ)) e
-                (subst (λ d. Rights (is_some fm.callee.result) d (shown (pc + length ca) fp (onto zs (top ++ stack_of cs σ.locals)) σ) (pc + length ca + 1) top (call_of f ps σ)) de
-                (calls f fm.callee fm.found fm.no_main fm.lower ps zs σ n (pc + length ca) fp cs top h under given (omega (arith, room)) at_call.0)))
+        (args_runs parts ds small n fp γ env cs σ h under sees args fm.callee.params top pc (pc + length ca) fm.passed refl (omega (arith, room)) (has_front parts.code pc ca i has) (inside parts.code _ _ at_call.0))
+        (λ ps zs given. subst (λ p. Rights (is_some fm.callee.result) D (shown (pc + length ca) fp (onto zs (top ++ stack_of cs σ.locals)) σ) p top (call_of f ps σ)) e
+        (subst (λ d. Rights (is_some fm.callee.result) d (shown (pc + length ca) fp (onto zs (top ++ stack_of cs σ.locals)) σ) (pc + length ca + 1) top (call_of f ps σ)) de
+        (calls f fm.callee fm.found fm.no_main fm.lower ps zs σ n (pc + length ca) fp cs top h under given (omega (arith, room)) at_call.0)))
 
     sense_run : (x pc : ℕ) (top : List ℤ) (σ : Store) (ls : List ℤ) → σ.left ≡ ls → Holds ds cs σ → σ.depth ≡ D → length top + size cs + 1 ≤ parts.stack → slice_get parts.code pc ≡ Some (placed n (Sense x)) → Rights true D (at_words pc top σ) (pc + 1) top (sense x ls σ)
     sense_run x pc top σ [] e h de room at = sense_stop parts n pc fp σ x _ at e (omega (arith, room, full_length parts ds small cs σ h n fp under top))
@@ -79,7 +77,7 @@ module _ (parts : Parts) (ds : List NvDecl) (small : total ds ≤ 65536) (names 
     right_runs (right_call (call f args)) top σ pc h de fm room has stop =
         let b : is_some fm.0.callee.result ≡ true = ap gives (sym fm.0.found) ∙ fm.1 in
         subst (λ b. Rights b D (at_words pc top σ) (pc + length (call_code names fs regions k n γ pc (call f args))) top (call_run names regions call_of home env n σ (call f args))) b
-            (call_runs f args fm.0 top σ pc h de room has)
+        (call_runs f args fm.0 top σ pc h de room has)
 
     -- what nothing takes is dropped
     pub dropped_run : (b : Bool) (c : Mach) (pc1 pc : ℕ) (top : List ℤ) (o : Outcome) → HasAt parts.code pc1 (if b then one n Drop else []) → pc1 + length (if b then one n Drop else []) ≡ pc → length top + size cs + 1 ≤ parts.stack → Rights b D c pc1 top o → Does D c pc top (dropped o)
@@ -89,8 +87,8 @@ module _ (parts : Parts) (ds : List NvDecl) (small : total ds ≤ 65536) (names 
         runs_at parts ds small k fp false D c pc1 pc (length top) 0 cs γ env (Went σ) e' (same_cells parts ds small k fp D c pc1 (length top) cs γ env top σ refl r.1 r.2 sees r.3)
     dropped_run true c pc1 pc top (Returned v σ) has e room r =
         runs_at parts ds small k fp false D c (pc1 + 1) pc (length top) 0 cs γ env (Went σ) e
-            (same_cells parts ds small k fp D c (pc1 + 1) (length top) cs γ env top σ refl r.1 r.2 sees
-            (leads_on parts c _ _ r.3 (drop_step parts n pc1 fp σ v.num _ has.0 (omega (arith, under, full_length parts ds small cs σ r.1 n fp under top)) (omega (arith, room, full_length parts ds small cs σ r.1 n fp under top)))))
+        (same_cells parts ds small k fp D c (pc1 + 1) (length top) cs γ env top σ refl r.1 r.2 sees
+        (leads_on parts c _ _ r.3 (drop_step parts n pc1 fp σ v.num _ has.0 (omega (arith, under, full_length parts ds small cs σ r.1 n fp under top)) (omega (arith, room, full_length parts ds small cs σ r.1 n fp under top)))))
     dropped_run false c pc1 pc top (Returned v σ) has e room r = absurd (grind (arith, r.0))
     dropped_run b c pc1 pc top (Stopped h σ) has e room r = r
 
@@ -111,15 +109,15 @@ module _ (parts : Parts) (ds : List NvDecl) (small : total ds ≤ 65536) (names 
         let len = full_length parts ds small cs σ h n fp under top in
         let e : pc + length ce + 1 ≡ pc + length (ce ++ one n (Emit x)) = omega (arith, length-append ce (one n (Emit x))) in
         value_run parts ds small k fp false D n _ (pc + length ce) _ (length top) 0 cs γ env _ σ g (λ v. Went (noted (Showed (Emitted x v.num)) v.samples σ)) r
-            (λ v. let τ = noted (Showed (Emitted x v.num)) v.samples σ in
-                runs_at parts ds small k fp false D _ _ _ (length top) 0 cs γ env (Went τ) e
-                    (same_cells parts ds small k fp D _ (pc + length ce + 1) (length top) cs γ env top τ refl (record { shaped = h.shaped; nv = h.nv; low = h.low }) de sees
-                    (emit_step parts n (pc + length ce) fp σ x v.num v.samples _ (has_back parts.code pc ce _ has).0 (omega (arith, len, under)) (omega (arith, len, room)))))
+        (λ v. let τ = noted (Showed (Emitted x v.num)) v.samples σ in
+        runs_at parts ds small k fp false D _ _ _ (length top) 0 cs γ env (Went τ) e
+        (same_cells parts ds small k fp D _ (pc + length ce + 1) (length top) cs γ env top τ refl (record { shaped = h.shaped; nv = h.nv; low = h.low }) de sees
+        (emit_step parts n (pc + length ce) fp σ x v.num v.samples _ (has_back parts.code pc ce _ has).0 (omega (arith, len, under)) (omega (arith, len, room)))))
 
     pub tag_run : (pc h : ℕ) (top : List ℤ) (σ : Store) (set : List ℕ) → Holds ds cs σ → σ.depth ≡ D → length top + size cs ≤ parts.stack → slice_get parts.code pc ≡ Some (placed n (Probe Tag n)) → Does D (at_words pc top σ) (pc + 1) top (Went (tagged h n set σ))
     tag_run pc h' top σ set h de room at =
         same_cells parts ds small k fp D _ (pc + 1) (length top) cs γ env top (tagged h' n set σ) refl (record { shaped = h.shaped; nv = h.nv; low = h.low }) de sees
-            (show_step parts n pc fp σ Tag set _ at (omega (arith, room, full_length parts ds small cs σ h n fp under top)))
+        (show_step parts n pc fp σ Tag set _ at (omega (arith, room, full_length parts ds small cs σ h n fp under top)))
 
     -- a scalar is assigned
     pub assign_run : (x : Text) (r : TRight) (top : List ℤ) (σ : Store) (pc : ℕ) → Holds ds cs σ → σ.depth ≡ D → right_formed names fs regions rank own γ r → (named γ x).writable ≡ true → length top + size cs + write_room (slot_of γ x) ≤ parts.stack → length top + size cs + right_depth need r ≤ parts.stack → HasAt parts.code pc (right_code names fs regions k n γ pc r ++ write_code n (slot_of γ x)) → pc + length (right_code names fs regions k n γ pc r ++ write_code n (slot_of γ x)) < length parts.code → Does D (at_words pc top σ) (pc + length (right_code names fs regions k n γ pc r ++ write_code n (slot_of γ x))) top (with_result (right_run names regions call_of home env n σ r) (λ v τ. Went (put τ (place_of env x) (replaced (held_at τ (place_of env x)) v))))
@@ -130,11 +128,11 @@ module _ (parts : Parts) (ds : List NvDecl) (small : total ds ≤ 65536) (names 
         let p = place_of env x in
         let e : pc + length cr + length cw ≡ pc + length (cr ++ cw) = omega (arith, length-append cr cw) in
         result_run parts ds small k fp false D D _ (pc + length cr) _ (length top) 0 cs γ env top (right_run names regions call_of home env n σ r) (λ v τ. Went (put τ p (replaced (held_at τ p) v)))
-            (right_runs r top σ pc h de fm room (has_front parts.code pc cr cw has) (omega (arith, stop, e)))
-            (λ v τ h' de'. let υ = put τ p (replaced (held_at τ p) v) in
-                runs_at parts ds small k fp false D _ _ _ (length top) 0 cs γ env (Went υ) e
-                    (same_cells parts ds small k fp D _ (pc + length cr + length cw) (length top) cs γ env top υ refl (still_holds parts ds small cs n fp under τ p 0 v.num v.samples h') (same_depth parts ds small cs n fp under τ p (replaced (held_at τ p) v) ∙ de') sees
-                    (scalar_write parts ds small cs n fp under (pc + length cr) top τ (slot_of γ x) p v h' (f.variable wr) f.fits (has_back parts.code pc cr cw has) two)))
+        (right_runs r top σ pc h de fm room (has_front parts.code pc cr cw has) (omega (arith, stop, e)))
+        (λ v τ h' de'. let υ = put τ p (replaced (held_at τ p) v) in
+        runs_at parts ds small k fp false D _ _ _ (length top) 0 cs γ env (Went υ) e
+        (same_cells parts ds small k fp D _ (pc + length cr + length cw) (length top) cs γ env top υ refl (still_holds parts ds small cs n fp under τ p 0 v.num v.samples h') (same_depth parts ds small cs n fp under τ p (replaced (held_at τ p) v) ∙ de') sees
+        (scalar_write parts ds small cs n fp under (pc + length cr) top τ (slot_of γ x) p v h' (f.variable wr) f.fits (has_back parts.code pc cr cw has) two)))
 
     -- the element that an index names is written
     pointed_write : (c : Mach) (pc : ℕ) (top : List ℤ) (τ : Store) (h : Holds ds cs τ) (p : Place) (a : ℕ) (i v : Value) (o : Option ℕ) → ((j : ℕ) → o ≡ Some j → (j < place_width ds cs p) × Stands ds cs p a) → τ.depth ≡ D → IsVariable p → slice_get parts.code pc ≡ Some (placed n Put) → length top + size cs + 2 ≤ parts.stack → PointsAt parts ds small cs τ h n fp under c pc a (v.num ∷ (top ++ stack_of cs τ.locals)) o → Does D c (pc + 1) top (element_written p o i v n τ)
@@ -144,7 +142,7 @@ module _ (parts : Parts) (ds : List NvDecl) (small : total ds ≤ 65536) (names 
         let set = union (held_at τ p).samples (union i.samples v.samples) in
         let υ = put τ p (with_element (held_at τ p) j v.num (union i.samples v.samples)) in
         same_cells parts ds small k fp D c (pc + 1) (length top) cs γ env top υ refl (still_holds parts ds small cs n fp under τ p j v.num set h) (same_depth parts ds small cs n fp under τ p (with_element (held_at τ p) j v.num (union i.samples v.samples)) ∙ de) sees
-            (leads_on parts c _ _ r (put_write parts ds small cs n fp under pc top τ p a j v.num set h is w.1 w.0 at room))
+        (leads_on parts c _ _ r (put_write parts ds small cs n fp under pc top τ p a j v.num set h is w.1 w.0 at room))
 
     -- what stands behind the right side of an element's assignment
     element_run : (x : Text) (e : TExpr) (pc : ℕ) (top : List ℤ) (v : Value) (τ : Store) (h : Holds ds cs τ) → τ.depth ≡ D → (named γ x).writable ≡ true → length top + size cs + (2 + expr_depth e) ≤ parts.stack → HasAt parts.code pc (base_code n (slot_of γ x) ++ (expr_code n γ (pc + 1) e ++ (placed n (Index (words_in γ x)) ∷ one n Put))) → Does D (shown pc fp (v.num ∷ (top ++ stack_of cs τ.locals)) τ) (pc + 1 + length (expr_code n γ (pc + 1) e) + 2) top (with_value (value_of env τ e) n τ (λ i. element_written (place_of env x) (element_of (length (held_at τ (place_of env x)).words) i.num) i v n τ))
@@ -169,13 +167,13 @@ module _ (parts : Parts) (ds : List NvDecl) (small : total ds ≤ 65536) (names 
         let words : count ≡ length (held_at τ p).words = f.words ∙ sym (held_width ds cs τ p h) in
         let got = expr_runs parts ds small n fp γ env cs (pos a ∷ (v.num ∷ top)) τ h under sees e (pc + 1) (omega (arith, room)) (has_front parts.code (pc + 1) ce last rest) (inside parts.code _ _ ends.0) in
         value_run parts ds small k fp false D n _ q (q + 2) (length top) 0 cs γ env (pos a ∷ w) τ (value_of env τ e) (λ i. element_written p (element_of (length (held_at τ p).words) i.num) i v n τ)
-            (gives_after parts ds small _ _ n q fp (pos a ∷ w) τ (value_of env τ e) first got)
-            (λ i. subst (λ c. Does D (shown q fp (i.num ∷ (pos a ∷ w)) τ) (q + 2) top (element_written p (element_of c i.num) i v n τ)) words
-                (runs_at parts ds small k fp false D _ _ _ (length top) 0 cs γ env (element_written p (element_of count i.num) i v n τ) two
-                (pointed_write _ (q + 1) top τ h p a i v (element_of count i.num)
-                    (λ j e. let r = within_of count i.num j e in (omega (arith, r.1, f.words), spot_stands parts ds small cs τ h n fp under s p f.fits (omega (arith, r.1, f.words))))
-                    de (f.variable wr) ends.1.0 (omega (arith, room, some))
-                    (point_run parts ds small cs τ h n fp under q count a w i.num (element_of count i.num) refl ends.0 (omega (arith, f.words, index_ends parts ds small cs τ h n fp under s p f.fits)) (omega (arith, len, under)) (omega (arith, len, room, some))))))
+        (gives_after parts ds small _ _ n q fp (pos a ∷ w) τ (value_of env τ e) first got)
+        (λ i. subst (λ c. Does D (shown q fp (i.num ∷ (pos a ∷ w)) τ) (q + 2) top (element_written p (element_of c i.num) i v n τ)) words
+        (runs_at parts ds small k fp false D _ _ _ (length top) 0 cs γ env (element_written p (element_of count i.num) i v n τ) two
+        (pointed_write _ (q + 1) top τ h p a i v (element_of count i.num)
+        (λ j e. let r = within_of count i.num j e in (omega (arith, r.1, f.words), spot_stands parts ds small cs τ h n fp under s p f.fits (omega (arith, r.1, f.words))))
+        de (f.variable wr) ends.1.0 (omega (arith, room, some))
+        (point_run parts ds small cs τ h n fp under q count a w i.num (element_of count i.num) refl ends.0 (omega (arith, f.words, index_ends parts ds small cs τ h n fp under s p f.fits)) (omega (arith, len, under)) (omega (arith, len, room, some))))))
 
     pub assign_index_run : (x : Text) (e : TExpr) (r : TRight) (top : List ℤ) (σ : Store) (pc : ℕ) → Holds ds cs σ → σ.depth ≡ D → right_formed names fs regions rank own γ r → (named γ x).writable ≡ true → length top + size cs + (2 + expr_depth e) ≤ parts.stack → length top + size cs + right_depth need r ≤ parts.stack → HasAt parts.code pc (element_code names fs regions k n γ pc x e (right_code names fs regions k n γ pc r)) → Does D (at_words pc top σ) (pc + length (element_code names fs regions k n γ pc x e (right_code names fs regions k n γ pc r))) top (with_result (right_run names regions call_of home env n σ r) (λ v τ. with_value (value_of env τ e) n τ (λ i. element_written (place_of env x) (element_of (length (held_at τ (place_of env x)).words) i.num) i v n τ)))
     assign_index_run x e r top σ pc h de fm wr two room has =
@@ -191,9 +189,9 @@ module _ (parts : Parts) (ds : List NvDecl) (small : total ds ≤ 65536) (names 
         let in_code = inside parts.code _ _ ends2.1.0 in
         let len : pc + length cr + 1 + length ce + 2 ≡ pc + length (cr ++ tail) = omega (arith, length-append cr tail, length-append bc (ce ++ last), length-append ce last, b1) in
         result_run parts ds small k fp false D D _ (pc + length cr) _ (length top) 0 cs γ env top (right_run names regions call_of home env n σ r) (λ v τ. with_value (value_of env τ e) n τ (λ i. element_written (place_of env x) (element_of (length (held_at τ (place_of env x)).words) i.num) i v n τ))
-            (right_runs r top σ pc h de fm room (has_front parts.code pc cr tail has) (omega (arith, in_code)))
-            (λ v τ h' de'. runs_at parts ds small k fp false D _ _ _ (length top) 0 cs γ env (with_value (value_of env τ e) n τ (λ i. element_written (place_of env x) (element_of (length (held_at τ (place_of env x)).words) i.num) i v n τ)) len
-                (element_run x e (pc + length cr) top v τ h' de' wr two rest))
+        (right_runs r top σ pc h de fm room (has_front parts.code pc cr tail has) (omega (arith, in_code)))
+        (λ v τ h' de'. runs_at parts ds small k fp false D _ _ _ (length top) 0 cs γ env (with_value (value_of env τ e) n τ (λ i. element_written (place_of env x) (element_of (length (held_at τ (place_of env x)).words) i.num) i v n τ)) len
+        (element_run x e (pc + length cr) top v τ h' de' wr two rest))
 
     -- a choice with one side
     pub one_way_run : (pc : ℕ) (top : List ℤ) (σ : Store) (cc ca : List Placed) (g : Got) (oa : Outcome) → Holds ds cs σ → σ.depth ≡ D → length top + size cs + 1 ≤ parts.stack → HasAt parts.code pc (one_way_code n pc cc ca) → pc + length (one_way_code n pc cc ca) < length parts.code → Gives parts ds small (at_words pc top σ) n (pc + length cc) fp (top ++ stack_of cs σ.locals) σ g → Does D (at_words (pc + length cc + 1) top σ) (pc + length cc + 1 + length ca) top oa → Does D (at_words pc top σ) (pc + length (one_way_code n pc cc ca)) top (with_value g n σ (λ v. if is_zero v.num then Went σ else oa))
@@ -202,12 +200,16 @@ module _ (parts : Parts) (ds : List NvDecl) (small : total ds ≤ 65536) (names 
       where
         f : ℕ
         f = pc + length cc + 1 + length ca
+
         w : List ℤ
         w = top ++ stack_of cs σ.locals
+
         len : length w ≡ length top + size cs
         len = full_length parts ds small cs σ h n fp under top
+
         at_test : slice_get parts.code (pc + length cc) ≡ Some (placed n (Jfalse f))
         at_test = (has_back parts.code pc cc _ has).0
+
         last : f ≡ pc + length (one_way_code n pc cc ca)
         last = omega (arith, length-append cc (placed n (Jfalse f) ∷ ca))
 
@@ -221,16 +223,22 @@ module _ (parts : Parts) (ds : List NvDecl) (small : total ds ≤ 65536) (names 
       where
         f : ℕ
         f = pc + length cc + 1 + length ca + 1
+
         e_end : ℕ
         e_end = f + length cb
+
         w : List ℤ
         w = top ++ stack_of cs σ.locals
+
         len : length w ≡ length top + size cs
         len = full_length parts ds small cs σ h n fp under top
+
         rest : HasAt parts.code (pc + length cc) (placed n (Jfalse f) ∷ (ca ++ (placed n (Jump e_end) ∷ cb)))
         rest = has_back parts.code pc cc _ has
+
         at_jump : slice_get parts.code (pc + length cc + 1 + length ca) ≡ Some (placed n (Jump e_end))
         at_jump = (has_back parts.code (pc + length cc + 1) ca _ rest.1).0
+
         last : e_end ≡ pc + length (two_way_code n pc cc ca cb)
         last = omega (arith, length-append cc (placed n (Jfalse f) ∷ (ca ++ (placed n (Jump e_end) ∷ cb))), length-append ca (placed n (Jump e_end) ∷ cb))
 

@@ -1,35 +1,25 @@
 -- The code of statements and blocks.
 use mathlib.Core.Path.{fun_ext}
-use Rattle.std.proofs.Common.{◌≡◌, ℕ, zero, suc, ◌+◌, ◌-◌, ◌<◌, ◌≤◌, Bool, true, false, List, [], ◌∷◌, ◌++◌, length, Option, Some, None, refl, sym, ap, ◌∙◌, subst, arith, length-append, append_assoc, map}
-use Rattle.std.specs.Prelude.{ℤ, pos, ◌-ℤ◌, is_some, slice_get, max, if◌then◌else◌}
-use Rattle.std.specs.Str.{bytes_eq}
-use Rattle.oc_tree.specs.Names.{Text, NameLists}
-use Rattle.oc_tree.specs.Tree.{TExpr, TRight, TKind, let_to, let_array, assign, assign_index, assign_deref, if_else, for_in, while_do, call_only, sense_only, emit, fresh, consistent, return, TElse, no_else, else_do, TStmt, stmt, TBlock, block, TStmts, no_stmts, more, TFunction}
+use Rattle.std.proofs.Common.{◌≡◌, ℕ, ◌+◌, ◌-◌, ◌≤◌, Bool, true, false, List, [], ◌∷◌, ◌++◌, length, Option, refl, sym, ap, ◌∙◌, subst, arith, length-append}
+use Rattle.std.specs.Prelude.{ℤ}
 use Rattle.oc_tree.specs.declared.tree.NvDecl.{NvDecl}
 use Rattle.oc_isa.specs.declared.instr.ProbeKind.TheVariants.{Use, Done}
 use Rattle.oc_isa.specs.declared.instr.Placed.{Placed}
-use Rattle.oc_isa.specs.declared.instr.Instr.TheVariants.{Store as StoreTo, Retv}
+use Rattle.oc_isa.specs.declared.instr.Instr.TheVariants.{Retv}
 use Rattle.oc_isa.specs.Image.{Parts}
-use Rattle.oc_meaning.specs.Store.{Value, Held, Place, Turn, Store, Binding, holding, made, held_at, place_of}
-use Rattle.oc_meaning.specs.Eval.{Got, Val, Traps, is_zero, value_of}
-use Rattle.oc_meaning.specs.Uses.{is_fresh, is_use, use_samples, begins_use, ends_use}
-use Rattle.oc_meaning.specs.Exec.{Region, begun_by, ended_by, Outcome, Went, Returned, Stopped, Passed, number_in, with_value, with_result, then_do, finished, opened, closed, used, done, right_run, count_of, in_turn, bound_to, grown, entered, kind_run, else_run, block_run, stmts_run}
-use Rattle.oc_code.specs.Scope.{Slot, InFrame, Named, named, is_fresh_in, kind_slots, else_slots, block_slots, stmts_slots, in_scope, for_named}
-use Rattle.oc_code.specs.Forms.{placed, one, enter_code, commit_code, probe_code, expr_code, write_code, array_code, count_code, while_code}
-use Rattle.oc_code.specs.Stack.{expr_depth, right_depth, kind_depth, else_depth, block_depth, stmts_depth}
-use Rattle.oc_code.specs.Code.{right_code, test_code, return_code, last_code, before_code, after_code, first_code, whole_code, kind_code, if_code, block_code, stmts_code}
-use Rattle.oc_code.specs.Formed.{marks, kind_formed, else_formed, block_formed, stmts_formed, right_formed}
-use Rattle.oc_code.proofs.Cells.{Cell, Own, Fixed, stack_of, owns, size, Shaped, owns_shaped, length-stack_of, size-append, size_fixed, fixed_at, shaped_fixed}
-use Rattle.oc_code.proofs.Steps.{Mach, shown, Leads, Stops, leads_self, leads_on}
-use Rattle.oc_code.proofs.Places.{total, Found, Agrees, Sees, Holds, found, sees_one, sees_more}
-use Rattle.oc_code.proofs.Exprs.{HasAt, has_front, has_back, has_at, inside, Gives, gives_after, expr_runs, depth_some, full_length}
-use Rattle.oc_code.proofs.Counts.{word_fits}
+use Rattle.oc_meaning.specs.Store.{Store, Binding}
+use Rattle.oc_meaning.specs.Eval.{Got, Val, Traps}
+use Rattle.oc_meaning.specs.Uses.{is_fresh}
+use Rattle.oc_meaning.specs.Exec.{Outcome, Went, Returned, Stopped, with_value, then_do, finished, opened, closed, used, done}
+use Rattle.oc_code.specs.Scope.{Named, is_fresh_in}
+use Rattle.oc_code.specs.Forms.{one, enter_code, commit_code, probe_code}
+use Rattle.oc_code.specs.Formed.{marks}
+use Rattle.oc_code.proofs.Cells.{Cell, stack_of, size, length-stack_of, size-append}
+use Rattle.oc_code.proofs.Steps.{Mach, shown, Leads, leads_on}
+use Rattle.oc_code.proofs.Places.{total, Sees, Holds, found, sees_more}
+use Rattle.oc_code.proofs.Exprs.{HasAt, has_front, has_back, Gives, gives_after}
 use Rattle.oc_code.proofs.Marks.{Alike, alike_holds, alike_on, opened_alike, closed_alike, used_alike, done_alike, opened_depth, closed_depth, used_depth, done_depth, enter_run, commit_run, use_run, done_run}
-use Rattle.oc_code.proofs.Outcomes.{Arrives, Gaves, Runs, runs_after, runs_at, same_cells, result_run, runs_more, runs_below, told, leave_run, then_run}
-use Rattle.oc_code.proofs.Loops.{for_run}
-use Rattle.oc_code.proofs.Whiles.{while_run, at_test, at_inner}
-use Rattle.oc_code.proofs.Lets.{same_eq, let_run, array_run}
-use Rattle.oc_code.proofs.Stmts.{CallsRun, right_runs, only_runs, sense_only_run, emit_run, tag_run, assign_run, assign_index_run, one_way_run, two_way_run}
+use Rattle.oc_code.proofs.Outcomes.{Runs, runs_after, runs_at, then_run}
 
 -- how many instructions must follow the code of statements
 abbrev pub tail : Bool → ℕ
@@ -72,17 +62,19 @@ module _ (parts : Parts) (ds : List NvDecl) (small : total ds ≤ 65536) where
         let l2 = commit_run parts n fp (pc + length probe) w τ mark (has_back parts.code pc probe commit has) de low in
         let e : pc + length probe + length commit ≡ pc + length (probe ++ commit) = omega (arith, length-append probe commit) in
         let l = leads_on parts c _ _ q.leads (leads_on parts _ _ _ l1 l2) in
-        let l' = subst (λ p. Leads parts c (shown p fp w υ)) e l in
-        (refl, record {
-          new = q.new;
-          top = q.top;
-          many = q.many;
-          free = q.free;
-          holds = alike_holds ds C σ υ ab q.holds;
-          depth = closed_depth mark τ ∙ ap (λ d. d - marks mark) (done_depth b n set σ ∙ q.depth);
-          sees = q.sees;
-          leads = subst (λ hs. Leads parts c (shown (pc + length (probe ++ commit)) fp (q.top ++ stack_of C hs) υ)) (sym ab.0) l';
-        })
+        let l' = subst (λ p. Leads parts c (shown p fp w υ)) e l in (
+          refl,
+          record {
+            new = q.new;
+            top = q.top;
+            many = q.many;
+            free = q.free;
+            holds = alike_holds ds C σ υ ab q.holds;
+            depth = closed_depth mark τ ∙ ap (λ d. d - marks mark) (done_depth b n set σ ∙ q.depth);
+            sees = q.sees;
+            leads = subst (λ hs. Leads parts c (shown (pc + length (probe ++ commit)) fp (q.top ++ stack_of C hs) υ)) (sym ab.0) l';
+          },
+        )
     finished_run D n c pc t m cs γ env (Returned v σ) b set mark room deep has r = absurd (grind (arith, r.0))
     finished_run D n c pc t m cs γ env (Stopped h σ) b set mark room deep has r = r
 
@@ -128,34 +120,49 @@ module _ (parts : Parts) (ds : List NvDecl) (small : total ds ≤ 65536) where
       where
         enter : List Placed
         enter = enter_code n b
+
         probe : List Placed
         probe = probe_code n u Use
+
         ends : List Placed
         ends = probe_code n d Done
+
         commit : List Placed
         commit = commit_code n e
+
         fc : List Placed
         fc = enter ++ probe
+
         body : List Placed
         body = ce ++ (ends ++ (commit ++ one n (Retv k)))
+
         has_w : HasAt parts.code pc (fc ++ (body ++ []))
         has_w = has_front parts.code pc (fc ++ (body ++ [])) rc has
+
         has_f : HasAt parts.code pc fc
         has_f = has_front parts.code pc fc (body ++ []) has_w
+
         has_b : HasAt parts.code (pc + length fc) body
         has_b = has_front parts.code (pc + length fc) body [] (has_back parts.code pc fc (body ++ []) has_w)
+
         σ1 : Store
         σ1 = opened b σ
+
         σ2 : Store
         σ2 = used u n set σ1
+
         a : Alike σ σ2
         a = alike_on σ σ1 σ2 (opened_alike b σ) (used_alike u n set σ1)
+
         h2 : Holds ds cs σ2
         h2 = alike_holds ds cs σ σ2 a h
+
         w : List ℤ
         w = top ++ stack_of cs σ.locals
+
         low : length w + 1 ≤ parts.stack
         low = omega (arith, room, length-append top (stack_of cs σ.locals), length-stack_of cs σ.locals h.shaped)
+
         first : Leads parts (shown pc fp w σ) (shown (pc + length fc) fp (top ++ stack_of cs σ2.locals) σ2)
         first =
             let l1 = enter_run parts n fp pc w σ b (has_front parts.code pc enter probe has_f) (omega (arith, low)) in
@@ -163,18 +170,25 @@ module _ (parts : Parts) (ds : List NvDecl) (small : total ds ≤ 65536) where
             let e1 : pc + length enter + length probe ≡ pc + length fc = omega (arith, length-append enter probe) in
             let l = subst (λ p. Leads parts (shown pc fp w σ) (shown p fp w σ2)) e1 (leads_on parts _ _ _ l1 l2) in
             subst (λ hs. Leads parts (shown pc fp w σ) (shown (pc + length fc) fp (top ++ stack_of cs hs) σ2)) (sym a.0) l
+
         τ : Store
         τ = done d n set' σ2
+
         υ : Store
         υ = closed e τ
+
         q : ℕ
         q = pc + length fc + length ce
+
         rest : HasAt parts.code q (ends ++ (commit ++ one n (Retv k)))
         rest = has_back parts.code (pc + length fc) ce _ has_b
+
         rest2 : HasAt parts.code (q + length ends) (commit ++ one n (Retv k))
         rest2 = has_back parts.code q ends (commit ++ one n (Retv k)) rest
+
         ab : Alike σ2 υ
         ab = alike_on σ2 τ υ (done_alike d n set' σ2) (closed_alike e τ)
+
         deep : τ.depth ≡ D + marks e
         deep = omega (arith, done_depth d n set' σ2, used_depth u n set σ1, opened_depth b σ, de, same)
 
@@ -188,18 +202,20 @@ module _ (parts : Parts) (ds : List NvDecl) (small : total ds ≤ 65536) where
 
         go : (g : Got) → Gives parts ds small (shown (pc + length fc) fp (top ++ stack_of cs σ2.locals) σ2) n q fp (top ++ stack_of cs σ2.locals) σ2 g → Runs parts ds small k fp true D (shown pc fp w σ) pcend (length top) m2 cs γ env (then_do (finished fin (with_value g n σ2 (λ v. Returned v υ))) f)
         go (Traps t) r = gives_after parts ds small _ _ n q fp (top ++ stack_of cs σ2.locals) σ2 (Traps t) first r
-        go (Val v) r =
-            (refl, record {
-              new = [];
-              top = top;
-              spot = q + length ends + length commit;
-              site = n;
-              retv = (has_back parts.code (q + length ends) commit (one n (Retv k)) rest2).0;
-              room = room;
-              holds = alike_holds ds cs σ2 υ ab h2;
-              depth = closed_depth e τ ∙ ap (λ x. x - marks e) deep ∙ less;
-              leads = leads_on parts _ _ _ first (leads_on parts _ _ _ r (behind v.num));
-            })
+        go (Val v) r = (
+          refl,
+          record {
+            new = [];
+            top = top;
+            spot = q + length ends + length commit;
+            site = n;
+            retv = (has_back parts.code (q + length ends) commit (one n (Retv k)) rest2).0;
+            room = room;
+            holds = alike_holds ds cs σ2 υ ab h2;
+            depth = closed_depth e τ ∙ ap (λ x. x - marks e) deep ∙ less;
+            leads = leads_on parts _ _ _ first (leads_on parts _ _ _ r (behind v.num));
+          },
+        )
           where
             less : D + marks e - marks e ≡ D
             less = omega arith

@@ -1,5 +1,5 @@
 -- The whole run.
-use Rattle.std.proofs.Common.{◌≡◌, ℕ, zero, suc, ◌+◌, ◌-◌, ◌<◌, ◌≤◌, Bool, true, false, List, [], ◌∷◌, ◌++◌, length, Option, Some, None, refl, sym, ap, ◌∙◌, subst, arith, length-append, append_assoc, append-nil, map, replicate}
+use Rattle.std.proofs.Common.{◌≡◌, ℕ, zero, suc, ◌+◌, ◌<◌, ◌≤◌, Bool, true, false, List, [], ◌∷◌, ◌++◌, length, Some, refl, sym, ap, ◌∙◌, subst, arith, length-append, append_assoc, append-nil, map, replicate}
 use Rattle.std.specs.Prelude.{ℤ, pos, is_some, slice_get, if◌then◌else◌, sum_by, fold, codes}
 use Rattle.std.specs.Str.{bytes_eq}
 use Rattle.std.specs.List.{All}
@@ -11,29 +11,27 @@ use Rattle.std.proofs.lemmas.Option.{slice_get-get_or}
 use Rattle.oc_tree.specs.Names.{Text}
 use Rattle.oc_tree.specs.Tree.{TFunction, TProgram}
 use Rattle.oc_tree.specs.declared.tree.NvDecl.{NvDecl}
-use Rattle.oc_tree.specs.declared.said.Said.{Said}
 use Rattle.oc_tree.specs.declared.said.Said.TheVariants.{Ended as Over}
 use Rattle.oc_tree.specs.declared.said.Ending.TheVariants.{Halted}
 use Rattle.oc_tree.specs.declared.said.Target.{Target}
-use Rattle.oc_isa.specs.declared.image.ImageFunction.{ImageFunction}
 use Rattle.oc_isa.specs.declared.instr.Placed.{Placed}
 use Rattle.oc_isa.specs.declared.instr.Instr.TheVariants.{Halt, Ret}
 use Rattle.oc_isa.specs.Image.{Parts, is_main, main_of, frame_of, entry_of, initial_words}
 use Rattle.oc_isa.specs.Run.{start_of, continuous_run, IsSound}
 use Rattle.oc_isa.specs.Table.{device_of}
-use Rattle.oc_meaning.specs.Store.{Value, Held, Event, Store, Binding, left_at, noted}
+use Rattle.oc_meaning.specs.Store.{Event, Store, Binding, noted}
 use Rattle.oc_meaning.specs.Blocks.{set_home}
-use Rattle.oc_meaning.specs.Exec.{Region, Stop, Trap, Short, Outcome, Went, Returned, Stopped, leave, array_of, block_run}
-use Rattle.oc_meaning.specs.Run.{Frame, function_named, nv_env, with_params, body_run, function_run, call_to, first_values, first_store, main_run, in_order, words_of, trace_of, marked_run, said_in}
+use Rattle.oc_meaning.specs.Exec.{Region, Trap, Short, Outcome, Went, Returned, Stopped, leave, block_run}
+use Rattle.oc_meaning.specs.Run.{function_named, nv_env, with_params, function_run, call_to, first_values, first_store, main_run, in_order, words_of, trace_of, marked_run, said_in}
 use Rattle.oc_code.specs.Scope.{Named, params_scope, nv_scope, function_scope, block_slots}
 use Rattle.oc_code.specs.Forms.{placed, one}
 use Rattle.oc_code.specs.Stack.{is_main_name, link_words, frame_words, block_depth, function_need, stack_words}
-use Rattle.oc_code.specs.Code.{function_number, close_code, body_code, function_code, functions_code, image_function, image_functions, image_nv, stack_of_main, code_of}
+use Rattle.oc_code.specs.Code.{function_number, close_code, body_code, function_code, functions_code, image_function, image_functions, image_nv, code_of}
 use Rattle.oc_code.specs.Formed.{body_formed, IsFormed}
 use Rattle.oc_code.specs.Right.{Shows}
-use Rattle.oc_code.proofs.Cells.{Cell, stack_of, size, length-stack_of, size-append}
-use Rattle.oc_code.proofs.Steps.{Mach, said_of, shown, exec, Good, Leads, Stops, leads_stop, halt_stop}
-use Rattle.oc_code.proofs.Places.{nv_width, total, NvShaped, Sees, Holds}
+use Rattle.oc_code.proofs.Cells.{stack_of, length-stack_of, size-append}
+use Rattle.oc_code.proofs.Steps.{Mach, said_of, shown, Good, leads_stop, halt_stop}
+use Rattle.oc_code.proofs.Places.{nv_width, total, NvShaped, Sees}
 use Rattle.oc_code.proofs.Exprs.{HasAt, has_front, has_back}
 use Rattle.oc_code.proofs.Outcomes.{Runs}
 use Rattle.oc_code.proofs.Stmts.{CallsRun}
@@ -68,6 +66,7 @@ main_at p regions code at (f ∷ fs) g le has h = go (bytes_eq (codes "main") f.
   where
     fc : List Placed
     fc = function_code p regions at f
+
     rest : List Placed
     rest = functions_code p regions (at + length fc) fs
 
@@ -129,61 +128,84 @@ module _ (p : TProgram) (regions : List Region) (targets : List (List Target)) (
   good : (samples : List ℤ) → Good parts (said_in (marked_run p regions samples)) (marked_run p regions samples).nv (record { samples = samples; core = start_of (device_of parts); out = [] })
   good samples =
       subst (λ o. Good parts (said_in (trace_of o)) (trace_of o).nv start) (sym out_is)
-          (subst (λ c. Good parts (said_in (trace_of (leave 0 body_out))) (trace_of (leave 0 body_out)).nv c) first_is
-          (shows_of _ (e + length bc) (length Z) γ env body_out has_halt (omega (arith, lz, need_is)) body))
+      (subst (λ c. Good parts (said_in (trace_of (leave 0 body_out))) (trace_of (leave 0 body_out)).nv c) first_is
+      (shows_of _ (e + length bc) (length Z) γ env body_out has_halt (omega (arith, lz, need_is)) body))
     where
       start : Mach
       start = record { samples = samples; core = start_of (device_of parts); out = [] }
+
       d : ℕ
       d = length p.functions
+
       g : TFunction
       g = formed.main
+
       place : (e : ℕ) × (main_of parts.functions ≡ Some (image_function p regions e g)) × HasAt parts.code e (function_code p regions e g) × (e ≤ length parts.code)
       place = main_at p regions parts.code 0 p.functions g (omega arith) all formed.main_found
+
       e : ℕ
       e = place.0
+
       bc : List Placed
       bc = body_code p regions e g
+
       found : (slice_get p.functions (function_number p.functions (codes "main")) ≡ Some g) × (codes "main" ≡ g.name)
       found = found_at p.functions (codes "main") g formed.main_found
+
       is_main_one : is_main_name g.name ≡ true
       is_main_one = (bytes_eq-Decides g.name (codes "main")).1 (sym found.1)
+
       lw : link_words g ≡ 0
       lw = ap (λ b. if b then 0 else 2) is_main_one
+
       no_params : length g.params ≡ 0
       no_params = ap length formed.main_takes_none
+
       no_result : is_some g.result ≡ false
       no_result = ap is_some formed.main_gives_none
+
       slots : ℕ
       slots = block_slots g.body
+
       frame_is : frame_words g ≡ slots
       frame_is = omega (arith, lw, no_params)
+
       Z : List ℤ
       Z = replicate slots (pos 0)
+
       lz : length Z ≡ slots
       lz = length-replicate slots (pos 0)
+
       γ : List Named
       γ = function_scope p g
+
       env : List Binding
       env = nv_env 0 p.names.nvs
+
       σ : Store
       σ = first_store p samples
+
       body_out : Outcome
       body_out = block_run p.names regions (call_to p regions d) (set_home g.body) env g.body σ
+
       need_is : frame_words g + block_depth (stack_words p d) g.body ≡ parts.stack
       need_is = ap (function_need (stack_words p d)) (sym formed.main_found)
 
       close_is : close_code g ≡ one 0 Halt
       close_is = ap (λ b. if b then one 0 Halt else (if is_some g.result then [] else one 0 (Ret (length g.params)))) is_main_one
+
       has_halt : slice_get parts.code (e + length bc) ≡ Some (placed 0 Halt)
       has_halt = (subst (HasAt parts.code (e + length bc)) close_is (has_back parts.code e bc (close_code g) place.2)).0
+
       stop : e + length bc + 1 ≤ length parts.code
       stop = omega (arith, has_end parts.code e (bc ++ close_code g) place.3 place.2, length-append bc (close_code g), ap length close_is)
 
       scope_is : γ ≡ nv_scope 0 p.names.nvs p.nv
       scope_is = ap (λ qs. params_scope qs 0 (nv_scope 0 p.names.nvs p.nv)) formed.main_takes_none
+
       sees : Sees p.nv [] 0 γ env
       sees = subst (λ γ. Sees p.nv [] 0 γ env) (sym scope_is) (all_nv p.nv [] 0 p.names.nvs (sym formed.each_nv) (some_words p.nv formed.nv_some))
+
       ready : Ready p.nv 0 (length g.params + link_words g) slots γ env [] Z σ
       ready = record {
         holds = record { shaped = tt; nv = first_shaped p.nv; low = omega arith };
@@ -191,8 +213,10 @@ module _ (p : TProgram) (regions : List Region) (targets : List (List Target)) (
         full = omega (arith, lz);
         sees = sees;
       }
+
       fm : body_formed p.names p.functions regions formed.rank (formed.rank (codes "main")) (is_some g.result) γ (length g.params + link_words g) g.body
       fm = subst (λ x. body_formed p.names p.functions regions formed.rank (formed.rank x) (is_some g.result) γ (length g.params + link_words g) g.body) (sym found.1) (formed.bodies (function_number p.functions (codes "main")) g found.0)
+
       calls : CallsRun parts p.nv small p.names p.functions regions formed.rank (formed.rank (codes "main")) (stack_words p d) (call_to p regions d)
       calls f' g' a b lt = calls_run p regions targets small formed (sym formed.each_nv) (some_words p.nv formed.nv_some) all d f' g' a b (omega (arith, lt, formed.main_high))
 

@@ -1,20 +1,19 @@
 -- The code that writes a variable writes it.
-use Rattle.std.proofs.Common.{◌≡◌, ℕ, zero, suc, ◌+◌, ◌-◌, ◌<◌, ◌≤◌, Bool, true, false, List, [], ◌∷◌, ◌++◌, length, Option, Some, None, refl, sym, ap, ◌∙◌, subst, arith, length-append, length-set, drop, map}
-use Rattle.std.specs.Prelude.{ℤ, pos, ◌==◌, if◌then◌else◌, slice_get, slice_set, slice_index_or, nat_lt, nat_le}
+use Rattle.std.proofs.Common.{◌≡◌, ℕ, suc, ◌+◌, ◌-◌, ◌<◌, ◌≤◌, List, [], ◌∷◌, ◌++◌, length, Some, None, refl, ap, ◌∙◌, subst, arith, length-append, length-set}
+use Rattle.std.specs.Prelude.{ℤ, pos, if◌then◌else◌, slice_get, slice_set, nat_lt}
 use Rattle.oc_tree.specs.declared.tree.NvDecl.{NvDecl}
-use Rattle.oc_isa.specs.declared.instr.Instr.TheVariants.{Load, Store as StoreTo, Nstore, Put, Drop}
-use Rattle.oc_isa.specs.declared.instr.Placed.{Placed}
+use Rattle.oc_isa.specs.declared.instr.Instr.TheVariants.{Nstore, Put}
 use Rattle.oc_isa.specs.Image.{Parts}
 use Rattle.oc_isa.specs.Levels.{set_level}
-use Rattle.oc_isa.specs.Next.{Regs, Write, Next, Goes}
+use Rattle.oc_isa.specs.Next.{Regs, Goes}
 use Rattle.oc_isa.specs.Table.{on, check, moves, address, puts_at, writes}
 use Rattle.oc_meaning.specs.Store.{Value, Held, Place, Local, Global, Turn, Nowhere, Store, replaced, held_at, put}
 use Rattle.oc_meaning.specs.Run.{words_of}
 use Rattle.oc_code.specs.Scope.{Slot, InFrame, ByAddress, InNv, NoSlot}
-use Rattle.oc_code.specs.Forms.{placed, one, write_code}
+use Rattle.oc_code.specs.Forms.{placed, write_code}
 use Rattle.oc_code.proofs.Cells.{Cell, stack_of, size, addr, addr_below, set_append, local_write, shaped_put, length-stack_of}
-use Rattle.oc_code.proofs.Steps.{Mach, shown, Leads, leads_on, goes, lt_true, lt_false, pop_is, pop_two_is, load_step, store_step}
-use Rattle.oc_code.proofs.Places.{base, nv_width, nv_below, nv_total, nv_write, nv_put, total, IsVariable, Stands, place_width, Lies, Found, Fits, Holds, held_width, frame_word}
+use Rattle.oc_code.proofs.Steps.{shown, Leads, leads_on, goes, lt_true, lt_false, pop_is, pop_two_is, load_step, store_step}
+use Rattle.oc_code.proofs.Places.{base, nv_below, nv_total, nv_write, nv_put, total, IsVariable, Stands, place_width, Fits, Holds, held_width, frame_word}
 use Rattle.oc_code.proofs.Exprs.{HasAt}
 
 -- the variable with one word written
@@ -58,18 +57,18 @@ module _ (parts : Parts) (ds : List NvDecl) (small : total ds ≤ 65536) (cs : L
   pub put_write : (pc : ℕ) (top : List ℤ) (σ : Store) (p : Place) (a j : ℕ) (z : ℤ) (set : List ℕ) → Holds ds cs σ → IsVariable p → Stands ds cs p a → j < place_width ds cs p → slice_get parts.code pc ≡ Some (placed n Put) → length top + size cs + 2 ≤ parts.stack → Leads parts (shown pc fp (pos (a + j) ∷ (z ∷ full top σ)) σ) (shown (pc + 1) fp (full top (with_word σ p j z set)) (with_word σ p j z set))
   put_write pc top σ (Local l) a j z set h is s lt at room =
       goes parts n Put (shown pc fp (pos (a + j) ∷ (z ∷ full top σ)) σ) _ None None at (omega (arith, room, full_length top σ h))
-          (pop_two_is parts fp (pos (a + j)) z (full top σ) (λ base word rest. on (address base) (λ b. puts_at (pc + 1) fp (pos (a + j) ∷ (z ∷ full top σ)) rest (words_of σ.nv) b word)) (omega (arith, under, full_length top σ h))
-          ∙ ap (λ b. if b then check (nat_lt (a + j) (suc (suc (length (full top σ))))) (moves (pc + 1) fp (set_level (full top σ) (a + j) z)) else writes (pc + 1) fp (full top σ) (words_of σ.nv) (a + j - 65536) z) (lt_true (a + j) 65536 (omega (arith, addr_below cs l, lt, s.1, h.low)))
-          ∙ ap (λ b. check b (moves (pc + 1) fp (set_level (full top σ) (a + j) z))) (lt_true (a + j) (suc (suc (length (full top σ)))) (omega (arith, addr_below cs l, lt, s.1, full_length top σ h)))
-          ∙ ap (moves (pc + 1) fp) (ap (λ a. set_level (full top σ) (a + j) z) s.1 ∙ local_full top σ l j z set h lt))
+      (pop_two_is parts fp (pos (a + j)) z (full top σ) (λ base word rest. on (address base) (λ b. puts_at (pc + 1) fp (pos (a + j) ∷ (z ∷ full top σ)) rest (words_of σ.nv) b word)) (omega (arith, under, full_length top σ h))
+      ∙ ap (λ b. if b then check (nat_lt (a + j) (suc (suc (length (full top σ))))) (moves (pc + 1) fp (set_level (full top σ) (a + j) z)) else writes (pc + 1) fp (full top σ) (words_of σ.nv) (a + j - 65536) z) (lt_true (a + j) 65536 (omega (arith, addr_below cs l, lt, s.1, h.low)))
+      ∙ ap (λ b. check b (moves (pc + 1) fp (set_level (full top σ) (a + j) z))) (lt_true (a + j) (suc (suc (length (full top σ)))) (omega (arith, addr_below cs l, lt, s.1, full_length top σ h)))
+      ∙ ap (moves (pc + 1) fp) (ap (λ a. set_level (full top σ) (a + j) z) s.1 ∙ local_full top σ l j z set h lt))
   put_write pc top σ (Global g) a j z set h is s lt at room =
       let b : a + j - 65536 ≡ base ds g + j = omega (arith, s) in
       let r : Regs = record { pc = pc + 1; fp = fp; stack = full top σ } in
       subst (λ nv. Leads parts (shown pc fp (pos (a + j) ∷ (z ∷ full top σ)) σ) (record { samples = σ.left; core = record { regs = r; depth = σ.depth; nv = nv }; out = (shown pc fp [] σ).out })) (ap (λ k. slice_set (words_of σ.nv) k z) b ∙ nv_write σ.nv ds g j z set h.nv lt)
-          (goes parts n Put (shown pc fp (pos (a + j) ∷ (z ∷ full top σ)) σ) r (Some (record { addr = a + j - 65536; word = z })) None at (omega (arith, room, full_length top σ h))
-              (pop_two_is parts fp (pos (a + j)) z (full top σ) (λ base word rest. on (address base) (λ b. puts_at (pc + 1) fp (pos (a + j) ∷ (z ∷ full top σ)) rest (words_of σ.nv) b word)) (omega (arith, under, full_length top σ h))
-              ∙ ap (λ b. if b then check (nat_lt (a + j) (suc (suc (length (full top σ))))) (moves (pc + 1) fp (set_level (full top σ) (a + j) z)) else writes (pc + 1) fp (full top σ) (words_of σ.nv) (a + j - 65536) z) (lt_false (a + j) 65536 (omega (arith, s)))
-              ∙ ap (λ b. check b (Goes r (Some (record { addr = a + j - 65536; word = z })) None)) (lt_true (a + j - 65536) (length (words_of σ.nv)) (omega (arith, b, lt, nv_below ds g, nv_total σ.nv ds h.nv)))))
+      (goes parts n Put (shown pc fp (pos (a + j) ∷ (z ∷ full top σ)) σ) r (Some (record { addr = a + j - 65536; word = z })) None at (omega (arith, room, full_length top σ h))
+      (pop_two_is parts fp (pos (a + j)) z (full top σ) (λ base word rest. on (address base) (λ b. puts_at (pc + 1) fp (pos (a + j) ∷ (z ∷ full top σ)) rest (words_of σ.nv) b word)) (omega (arith, under, full_length top σ h))
+      ∙ ap (λ b. if b then check (nat_lt (a + j) (suc (suc (length (full top σ))))) (moves (pc + 1) fp (set_level (full top σ) (a + j) z)) else writes (pc + 1) fp (full top σ) (words_of σ.nv) (a + j - 65536) z) (lt_false (a + j) 65536 (omega (arith, s)))
+      ∙ ap (λ b. check b (Goes r (Some (record { addr = a + j - 65536; word = z })) None)) (lt_true (a + j - 65536) (length (words_of σ.nv)) (omega (arith, b, lt, nv_below ds g, nv_total σ.nv ds h.nv)))))
   put_write pc top σ (Turn y) a j z set h is s lt at room = absurd is
   put_write pc top σ Nowhere a j z set h is s lt at room = absurd is
 
@@ -82,7 +81,7 @@ module _ (parts : Parts) (ds : List NvDecl) (small : total ds ≤ 65536) (cs : L
   scalar_write pc top σ (InFrame k) (Local l) v h is fit has room =
       let e : fp + k ≡ addr cs l + 0 = omega (arith, fit.lies.0, fit.stands.1) in
       subst (λ s. Leads parts (shown pc fp (v.num ∷ full top σ) σ) (shown (pc + 1) fp s σ)) (ap (λ a. set_level (full top σ) a v.num) e ∙ local_full top σ l 0 v.num v.samples h fit.wide)
-          (store_step parts n pc fp σ k v.num (full top σ) has.0 (omega (arith, fit.lies.0, fit.lies.1, full_length top σ h)) (omega (arith, under, full_length top σ h)) (omega (arith, room, full_length top σ h)))
+      (store_step parts n pc fp σ k v.num (full top σ) has.0 (omega (arith, fit.lies.0, fit.lies.1, full_length top σ h)) (omega (arith, under, full_length top σ h)) (omega (arith, room, full_length top σ h)))
   scalar_write pc top σ (InFrame k) (Global g) v h is fit has room = absurd (omega (arith, fit.lies.1, fit.stands, h.low))
   scalar_write pc top σ (InFrame k) (Turn y) v h is fit has room = absurd is
   scalar_write pc top σ (InFrame k) Nowhere v h is fit has room = absurd is
@@ -92,17 +91,17 @@ module _ (parts : Parts) (ds : List NvDecl) (small : total ds ≤ 65536) (cs : L
       let two : pc + 1 + 1 ≡ pc + 2 = omega arith in
       let τ = put σ p (replaced (held_at σ p) v) in
       subst (λ q. Leads parts (shown pc fp (v.num ∷ full top σ) σ) (shown q fp (full top τ) τ)) two
-          (leads_on parts _ (shown (pc + 1) fp (pos a ∷ (v.num ∷ full top σ)) σ) _
-          (load_step parts n pc fp σ k (pos a) (v.num ∷ full top σ) has.0 (frame_word ds cs (v.num ∷ top) σ (fp + k) (pos a) h fit.lies) (omega (arith, room, full_length top σ h)))
-          (subst (λ b. Leads parts (shown (pc + 1) fp (pos b ∷ (v.num ∷ full top σ)) σ) (shown (pc + 1 + 1) fp (full top τ) τ)) e
-          (put_write (pc + 1) top σ p a 0 v.num v.samples h is fit.stands fit.wide has.1.0 room)))
+      (leads_on parts _ (shown (pc + 1) fp (pos a ∷ (v.num ∷ full top σ)) σ) _
+      (load_step parts n pc fp σ k (pos a) (v.num ∷ full top σ) has.0 (frame_word ds cs (v.num ∷ top) σ (fp + k) (pos a) h fit.lies) (omega (arith, room, full_length top σ h)))
+      (subst (λ b. Leads parts (shown (pc + 1) fp (pos b ∷ (v.num ∷ full top σ)) σ) (shown (pc + 1 + 1) fp (full top τ) τ)) e
+      (put_write (pc + 1) top σ p a 0 v.num v.samples h is fit.stands fit.wide has.1.0 room)))
   scalar_write pc top σ (InNv b) (Local l) v h is fit has room = absurd (omega (arith, fit.lies, fit.stands.1, fit.wide, addr_below cs l, h.low))
   scalar_write pc top σ (InNv b) (Global g) v h is fit has room =
       let e : b ≡ base ds g + 0 = omega (arith, fit.lies, fit.stands) in
       let r : Regs = record { pc = pc + 1; fp = fp; stack = full top σ } in
       subst (λ nv. Leads parts (shown pc fp (v.num ∷ full top σ) σ) (record { samples = σ.left; core = record { regs = r; depth = σ.depth; nv = nv }; out = (shown pc fp [] σ).out })) (ap (λ k. slice_set (words_of σ.nv) k v.num) e ∙ nv_write σ.nv ds g 0 v.num v.samples h.nv fit.wide)
-          (goes parts n (Nstore b) (shown pc fp (v.num ∷ full top σ) σ) r (Some (record { addr = b; word = v.num })) None has.0 (omega (arith, room, full_length top σ h))
-              (pop_is parts fp v.num (full top σ) (λ word rest. writes (pc + 1) fp rest (words_of σ.nv) b word) (omega (arith, under, full_length top σ h))
-              ∙ ap (λ t. check t (Goes r (Some (record { addr = b; word = v.num })) None)) (lt_true b (length (words_of σ.nv)) (omega (arith, e, fit.wide, nv_below ds g, nv_total σ.nv ds h.nv)))))
+      (goes parts n (Nstore b) (shown pc fp (v.num ∷ full top σ) σ) r (Some (record { addr = b; word = v.num })) None has.0 (omega (arith, room, full_length top σ h))
+      (pop_is parts fp v.num (full top σ) (λ word rest. writes (pc + 1) fp rest (words_of σ.nv) b word) (omega (arith, under, full_length top σ h))
+      ∙ ap (λ t. check t (Goes r (Some (record { addr = b; word = v.num })) None)) (lt_true b (length (words_of σ.nv)) (omega (arith, e, fit.wide, nv_below ds g, nv_total σ.nv ds h.nv)))))
   scalar_write pc top σ (InNv b) (Turn y) v h is fit has room = absurd is
   scalar_write pc top σ (InNv b) Nowhere v h is fit has room = absurd is

@@ -89,7 +89,7 @@ module _ (names : NameLists) (fs : List TFunction) (regions : List Region) (k : 
     kind_code γ n s p (for_in x c d b) = count_code n p s c d (block_code (for_named x s ∷ γ) (s + 1) (p + 6) b)
     kind_code γ n s p (while_do c t b) =
         while_code n p s t (test_code n γ (p + 6) (is_use (is_fresh_in γ) (while_do c t b)) c)
-            (block_code γ (s + 1) (p + 6 + length (test_code n γ (p + 6) (is_use (is_fresh_in γ) (while_do c t b)) c) + 1) b)
+        (block_code γ (s + 1) (p + 6 + length (test_code n γ (p + 6) (is_use (is_fresh_in γ) (while_do c t b)) c) + 1) b)
         ++ probe_code n (is_use (is_fresh_in γ) (while_do c t b)) Done
     kind_code γ n s p (call_only c) = call_code n γ p c ++ (if has_result fs (called_name c) then one n Drop else [])
     kind_code γ n s p (sense_only x) = placed n (Sense (number_in names.sensors x)) ∷ one n Drop

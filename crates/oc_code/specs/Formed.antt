@@ -1,17 +1,16 @@
 -- What a program keeps, so that its code is defined: what is asked of names, calls, returns, writes and regions.
-use Rattle.std.specs.Prelude.{◌≡◌, ◌≤◌, ◌<◌, ◌^◌, ℕ, suc, ◌+◌, Bool, true, false, List, [], ◌∷◌, length, codes, Option, Some, None, is_some, slice_get, sum_by, count_by}
+use Rattle.std.specs.Prelude.{◌≡◌, ◌≤◌, ◌<◌, ◌^◌, ℕ, ◌+◌, Bool, true, false, List, [], ◌∷◌, length, codes, Option, Some, None, is_some, slice_get, sum_by, count_by}
 use Rattle.std.specs.List.{All}
 use Rattle.oc_tree.specs.Names.{Text, NameLists}
 use Rattle.oc_tree.specs.Word.{is_word}
-use Rattle.oc_tree.specs.Tree.{TExpr, variable, TArg, value, shared, mutable, TCall, call, TArgs, no_args, more_args, TRight, right_value, right_sense, right_call, TKind, let_to, let_array, assign, assign_index, assign_deref, if_else, for_in, while_do, call_only, sense_only, emit, fresh, consistent, return, TElse, no_else, else_do, TStmt, stmt, TBlock, block, TStmts, no_stmts, more, TFunction, TProgram}
+use Rattle.oc_tree.specs.Tree.{TExpr, variable, TArg, value, shared, mutable, TCall, call, TArgs, no_args, more_args, TRight, right_value, right_sense, right_call, TKind, let_to, let_array, assign, assign_index, assign_deref, if_else, for_in, while_do, call_only, sense_only, emit, fresh, consistent, return, TElse, no_else, else_do, stmt, TBlock, block, TStmts, no_stmts, more, TFunction, TProgram}
 use Rattle.oc_tree.specs.declared.tree.Param.{Param}
 use Rattle.oc_tree.specs.declared.tree.Passing.{Passing}
 use Rattle.oc_tree.specs.declared.tree.Passing.TheVariants.{Value, Shared, Mutable}
 use Rattle.oc_tree.specs.declared.said.Target.{Target}
-use Rattle.oc_isa.specs.Image.{Parts}
 use Rattle.oc_meaning.specs.Exec.{Region, begun_by, ended_by, number_in}
 use Rattle.oc_meaning.specs.Run.{function_named}
-use Rattle.oc_code.specs.Scope.{Slot, Named, named, slot_of, address_slot, kind_words, passed_slot, kind_slots, block_slots, in_scope, for_named, function_scope}
+use Rattle.oc_code.specs.Scope.{Named, named, slot_of, address_slot, kind_words, passed_slot, kind_slots, block_slots, in_scope, for_named, function_scope}
 use Rattle.oc_code.specs.Stack.{is_main_name, link_words}
 use Rattle.oc_code.specs.Code.{has_result, called_name, code_of}
 

@@ -8,6 +8,7 @@ use Rattle.oc_isa.specs.Table.{device_of}
 use Rattle.oc_meaning.specs.Exec.{Region}
 use Rattle.oc_meaning.specs.Run.{Trace, marked_run, said_in}
 use Rattle.oc_code.specs.Code.{code_of}
+use Rattle.oc_code.specs.Formed.{IsFormed}
 
 -- from some number of instructions on, a run says just what the source's does, and leaves the same nonvolatile words
 abbrev pub Shows : (ℕ → Ran) → Trace → Type 0
@@ -18,3 +19,7 @@ pub record IsRight (p : TProgram) (regions : List Region) (targets : List (List 
   pub made : IsWellMade (code_of p regions targets)
   pub sound : IsSound (device_of (code_of p regions targets))
   pub shows : (samples : List ℤ) → Shows (continuous_run (device_of (code_of p regions targets)) samples) (marked_run p regions samples)
+
+-- the code of each formed program is right
+abbrev pub FormedIsRight : Type 0
+FormedIsRight = (p : TProgram) (regions : List Region) (targets : List (List Target)) → IsFormed p regions targets → IsRight p regions targets

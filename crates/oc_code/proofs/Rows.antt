@@ -1,6 +1,9 @@
 -- Worked rows: what small programs mean, and their code.
-use Rattle.std.specs.Prelude.{◌≡◌, ℕ, ℤ, pos, true, false, List, [], ◌∷◌, codes, Option, None}
-use Rattle.std.proofs.Common.{refl}
+use Rattle.std.specs.Prelude.{◌≡◌, ◌≤◌, ◌+◌, ℕ, zero, suc, ℤ, pos, true, false, List, [], ◌∷◌, length, codes, Option, Some, None, is_some, slice_get, if◌then◌else◌}
+use Rattle.std.specs.List.{All}
+use Rattle.std.specs.Str.{bytes_eq}
+use Rattle.std.proofs.lemmas.Option.{none-some, same_Some}
+use Rattle.std.proofs.Common.{refl, subst, arith}
 use Rattle.oc_tree.specs.Names.{Text}
 use Rattle.oc_tree.specs.Tree.{TExpr, number, truth, variable, index, deref, binary, mutable, call, no_args, more_args, right_value, right_sense, TKind, let_to, let_array, assign, assign_index, assign_deref, if_else, for_in, while_do, call_only, emit, fresh, consistent, no_else, stmt, block, TStmts, no_stmts, more, TFunction, TProgram}
 use Rattle.oc_tree.specs.declared.tree.Param.{Param}
@@ -23,7 +26,10 @@ use Rattle.oc_isa.specs.Run.{continuous_run}
 use Rattle.oc_meaning.specs.Store.{Event}
 use Rattle.oc_meaning.specs.Exec.{Region}
 use Rattle.oc_meaning.specs.Run.{AtEnd, AtShort, source_run, marked_run, said_in}
+use Rattle.oc_code.specs.Scope.{function_scope}
+use Rattle.oc_code.specs.Stack.{link_words}
 use Rattle.oc_code.specs.Code.{code_of}
+use Rattle.oc_code.specs.Formed.{body_formed, IsFormed}
 
 abbrev event : Said → List ℕ → Event
 event said samples = record { said = said; samples = samples; instance = 0 }
@@ -149,20 +155,27 @@ said_of_local_array = refl
 code_says_local_array : code_says local_array [] [] 150 ≡ said_in (source_run local_array [])
 code_says_local_array = refl
 
--- nv n = 3; nv c = 0; fn grab() { n = sense(t); } fn bump(k: &mut i32) { *k = *k + 1; }
--- fn show() { let x = n; Fresh(x); emit(r, x); } fn main() { grab(); bump(&mut c); show(); }
-abbrev by_reference : TProgram
-by_reference = program (codes "n" ∷ codes "c" ∷ []) (nv_word (pos 3) ∷ nv_word (pos 0) ∷ [])
-    (function (codes "grab") [] None 1 (at 1 (assign (codes "n") (right_sense t)) no_stmts)
-    ∷ function (codes "bump") (record { name = codes "k"; passing = passing.Mutable; kind = kinds.Int } ∷ []) None 2
-    (at 2 (assign_deref (codes "k") (right_value (plus (deref (codes "k")) (number (pos 1))))) no_stmts)
-    ∷ function (codes "show") [] None 3
-    (at 3 (let_to false x None (right_value (variable (codes "n")))) (at 4 (fresh x) (at 5 (emit r (variable x)) no_stmts)))
-    ∷ function (codes "main") [] None 4
+abbrev main_of_it : TFunction
+main_of_it = function (codes "main") [] None 4
     (at 6 (call_only (call (codes "grab") no_args))
     (at 7 (call_only (call (codes "bump") (more_args (mutable (codes "c")) no_args)))
     (at 8 (call_only (call (codes "show") no_args)) no_stmts)))
-    ∷ [])
+
+abbrev grab : TFunction
+grab = function (codes "grab") [] None 1 (at 1 (assign (codes "n") (right_sense t)) no_stmts)
+
+abbrev bump : TFunction
+bump = function (codes "bump") (record { name = codes "k"; passing = passing.Mutable; kind = kinds.Int } ∷ []) None 2
+    (at 2 (assign_deref (codes "k") (right_value (plus (deref (codes "k")) (number (pos 1))))) no_stmts)
+
+abbrev show : TFunction
+show = function (codes "show") [] None 3
+    (at 3 (let_to false x None (right_value (variable (codes "n")))) (at 4 (fresh x) (at 5 (emit r (variable x)) no_stmts)))
+
+-- nv n = 3; nv c = 0; fn grab() { n = sense(t); } fn bump(k: &mut i32) { *k = *k + 1; }
+-- fn show() { let x = n; Fresh(x); emit(r, x); } fn main() { grab(); bump(&mut c); show(); }
+abbrev by_reference : TProgram
+by_reference = program (codes "n" ∷ codes "c" ∷ []) (nv_word (pos 3) ∷ nv_word (pos 0) ∷ []) (grab ∷ bump ∷ show ∷ main_of_it ∷ [])
 
 said_of_by_reference : said_in (marked_run by_reference (region 3 6 8) (pos 6 ∷ []))
     ≡ Entered 1 ∷ Sensed 0 (pos 6) ∷ Showed (Used 5) ∷ emits (pos 6) ∷ Showed (Finished 5) ∷ Committed 1 ∷ Ended Halted ∷ []
@@ -207,3 +220,59 @@ said_of_used_in_a_while = refl
 
 code_says_used_in_a_while : code_says used_in_a_while (region 0 1 3) (pos 5 ∷ []) 60 ≡ said_in (marked_run used_in_a_while (region 0 1 3) (pos 5 ∷ []))
 code_says_used_in_a_while = refl
+
+-- Both kinds of programs are formed: one with calls, references and a region, and one with an array and a loop.
+
+only_region : All (λ r. (1 ≤ r.id) × (r.id ≤ 1)) (region 3 6 8)
+only_region zero d lt = (omega arith, omega arith)
+only_region (suc k) d lt = absurd (omega arith)
+
+abbrev main_last : Text → ℕ
+main_last x = if bytes_eq x (codes "main") then 1 else 0
+
+abbrev Body : TFunction → Type 0
+Body f = body_formed by_reference.names by_reference.functions (region 3 6 8) main_last (main_last f.name) (is_some f.result) (function_scope by_reference f) (length f.params + link_words f) f.body
+
+by_reference_formed : IsFormed by_reference (region 3 6 8) ([] ∷ [])
+by_reference_formed = record {
+  rank = main_last;
+  main = main_of_it;
+  main_found = refl;
+  main_alone = refl;
+  main_takes_none = refl;
+  main_gives_none = refl;
+  main_high = omega arith;
+  bodies = bodies;
+  stack_low = omega arith;
+  code_short = omega arith;
+  regions_known = only_region;
+  few_sensors = omega arith;
+  few_ports = omega arith;
+  few_nvs = omega arith;
+  each_nv = refl;
+  nv_some = nv_some;
+  few_words = omega arith;
+}
+  where
+    nv_some : All (λ d. 1 ≤ d.words) by_reference.nv
+    nv_some zero d lt = omega arith
+    nv_some (suc zero) d lt = omega arith
+    nv_some (suc (suc k)) d lt = absurd (omega arith)
+
+    bodies : (i : ℕ) (f : TFunction) → slice_get by_reference.functions i ≡ Some f → Body f
+    bodies zero f e = subst Body (same_Some grab f e) ((omega arith, refl, refl), 0, refl, (refl, refl))
+    bodies (suc zero) f e = subst Body (same_Some bump f e) ((tt, refl), 0, refl, (refl, refl))
+    bodies (suc (suc zero)) f e = subst Body (same_Some show f e) (tt, 0, refl, (tt, 0, refl, (omega arith, 0, refl, (refl, refl))))
+    bodies (suc (suc (suc zero))) f e =
+        subst Body (same_Some main_of_it f e) (
+          record { callee = grab; found = refl; no_main = refl; lower = omega arith; passed = tt },
+          1,
+          refl,
+          (
+            record { callee = bump; found = refl; no_main = refl; lower = omega arith; passed = (((omega arith, refl), refl), tt) },
+            1,
+            refl,
+            (record { callee = show; found = refl; no_main = refl; lower = omega arith; passed = tt }, 0, refl, (refl, refl)),
+          ),
+        )
+    bodies (suc (suc (suc (suc k)))) f e = absurd (none-some f e)

@@ -5,3 +5,4 @@ pub mod Uses
 pub mod Blocks
 pub mod Exec
 pub mod Run
+pub mod Unmarked

@@ -22,7 +22,8 @@ use Rattle.oc_isa.specs.Table.{device_of}
 use Rattle.oc_meaning.specs.Store.{Event, Store, Binding, noted}
 use Rattle.oc_meaning.specs.Blocks.{set_home}
 use Rattle.oc_meaning.specs.Exec.{Region, Trap, Short, Outcome, Went, Returned, Stopped, leave, block_run}
-use Rattle.oc_meaning.specs.Run.{function_named, nv_env, with_params, function_run, call_to, first_values, first_store, main_run, in_order, words_of, trace_of, marked_run, said_in}
+use Rattle.oc_meaning.specs.Run.{function_named, nv_env, with_params, function_run, call_to, first_values, first_store, main_run, in_order, words_of, trace_of, marked_run, source_run, said_in}
+use Rattle.oc_meaning.proofs.Bare.{only_tell}
 use Rattle.oc_code.specs.Scope.{Named, params_scope, nv_scope, function_scope, block_slots}
 use Rattle.oc_code.specs.Forms.{placed, one}
 use Rattle.oc_code.specs.Stack.{is_main_name, link_words, frame_words, block_depth, function_need, stack_words}
@@ -238,8 +239,8 @@ module _ (p : TProgram) (regions : List Region) (targets : List (List Target)) (
           ap (λ o. function_run p regions (call_to p regions d) o [] σ) formed.main_found
           ∙ ap (λ qs. leave 0 (block_run p.names regions (call_to p regions d) (set_home g.body) (with_params qs [] (record { env = env; locals = [] })).env g.body (record σ { locals = (with_params qs [] (record { env = env; locals = [] })).locals }))) formed.main_takes_none
 
-  pub shows : (samples : List ℤ) → Shows (continuous_run (device_of parts) samples) (marked_run p regions samples)
-  shows samples = (good samples).0
+  pub shows : (samples : List ℤ) → Shows (continuous_run (device_of parts) samples) (said_in (marked_run p regions samples)) (source_run p samples).nv
+  shows samples = subst (Shows (continuous_run (device_of parts) samples) (said_in (marked_run p regions samples))) (ap (λ t. t.nv) (only_tell p regions samples)) (good samples).0
 
   pub sound : IsSound (device_of parts)
   sound = record { safe = λ n samples are. (good samples).1 n }

@@ -5,11 +5,12 @@ use Rattle.std.specs.Str.{bytes_eq}
 use Rattle.std.proofs.lemmas.Option.{none-some, same_Some}
 use Rattle.std.proofs.Common.{refl, subst, arith}
 use Rattle.oc_tree.specs.Names.{Text}
-use Rattle.oc_tree.specs.Tree.{TExpr, number, truth, variable, index, deref, binary, mutable, call, no_args, more_args, right_value, right_sense, TKind, let_to, let_array, assign, assign_index, assign_deref, if_else, for_in, while_do, call_only, emit, fresh, consistent, no_else, stmt, block, TStmts, no_stmts, more, TFunction, TProgram}
+use Rattle.oc_tree.specs.Tree.{TExpr, number, truth, variable, index, deref, binary, mutable, call, no_args, more_args, right_value, right_sense, right_call, TKind, let_to, let_array, assign, assign_index, assign_deref, if_else, for_in, while_do, call_only, emit, fresh, consistent, no_else, stmt, block, TStmts, no_stmts, more, TFunction, TProgram, return}
 use Rattle.oc_tree.specs.declared.tree.Param.{Param}
 use Rattle.oc_tree.specs.declared.tree.NvDecl.{NvDecl}
 use Rattle.oc_tree.specs.declared.tree.Passing.TheVariants as passing
 use Rattle.oc_tree.specs.declared.tree.Scalar.{Scalar}
+use Rattle.oc_tree.specs.declared.tree.Scalar.TheVariants.{Int}
 use Rattle.oc_tree.specs.declared.tree.ValueKind.TheVariants as kinds
 use Rattle.oc_tree.specs.declared.tree.BinaryOp.TheVariants as ops
 use Rattle.oc_tree.specs.declared.said.Said.{Said}
@@ -276,3 +277,31 @@ by_reference_formed = record {
           ),
         )
     bodies (suc (suc (suc (suc k)))) f e = absurd (none-some f e)
+
+-- fn f() -> i32 { let x = sense(t); Fresh(x); return x; } fn main() { let y = f(); emit(r, y); }
+abbrev fresh_result : TProgram
+fresh_result = program [] []
+    (function (codes "f") [] (Some Int) 1
+        (at 1 (let_to false x None (right_sense t)) (at 2 (fresh x) (at 3 (return (variable x)) no_stmts)))
+    ∷ function (codes "main") [] None 2
+        (at 4 (let_to false (codes "y") None (right_call (call (codes "f") no_args))) (at 5 (emit r (variable (codes "y"))) no_stmts))
+    ∷ [])
+
+-- a region that ends with a `return` is committed behind the end of its use
+said_of_fresh_result : said_in (marked_run fresh_result (region 0 1 3) (pos 9 ∷ []))
+    ≡ Entered 1 ∷ Sensed 0 (pos 9) ∷ Showed (Used 3) ∷ Showed (Finished 3) ∷ Committed 1 ∷ emits (pos 9) ∷ Ended Halted ∷ []
+said_of_fresh_result = refl
+
+code_says_fresh_result : code_says fresh_result (region 0 1 3) (pos 9 ∷ []) 60 ≡ said_in (marked_run fresh_result (region 0 1 3) (pos 9 ∷ []))
+code_says_fresh_result = refl
+
+abbrev nested : List Region
+nested = record { id = 1; function = 0; block = 1; first = 1; last = 3 } ∷ record { id = 2; function = 1; block = 2; first = 4; last = 5 } ∷ []
+
+-- only the outermost region tells
+said_of_nested : said_in (marked_run fresh_result nested (pos 9 ∷ []))
+    ≡ Entered 2 ∷ Sensed 0 (pos 9) ∷ Showed (Used 3) ∷ Showed (Finished 3) ∷ emits (pos 9) ∷ Committed 2 ∷ Ended Halted ∷ []
+said_of_nested = refl
+
+code_says_nested : code_says fresh_result nested (pos 9 ∷ []) 60 ≡ said_in (marked_run fresh_result nested (pos 9 ∷ []))
+code_says_nested = refl

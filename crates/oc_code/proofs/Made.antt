@@ -196,7 +196,11 @@ module _ (p : TProgram) (regions : List Region) (targets : List (List Target)) (
       kind_fine γ n s q (if_else c a (else_do b)) fm =
           let cc = expr_code n γ q c in
           let ca = block_code p.names fs regions k γ s (q + length cc + 1) a in
-          join cc _ (expr_fine n γ q c) (tt, join ca _ (block_fine γ s (q + length cc + 1) a fm.0) (tt, block_fine γ (s + block_slots a) (q + length cc + 1 + length ca + 1) b fm.1))
+          let pb = q + length cc + 1 + length ca + 1 in
+          let cb = block_code p.names fs regions k γ (s + block_slots a) pb b in
+          let jump = placed n (Jump (pb + length cb)) in
+          join cc (placed n (Jfalse pb) ∷ (ca ++ (jump ∷ cb))) (expr_fine n γ q c)
+          (tt, join ca (jump ∷ cb) (block_fine γ s (q + length cc + 1) a fm.0) (tt, block_fine γ (s + block_slots a) pb b fm.1))
       kind_fine γ n s q (for_in x c d b) fm =
           count_fine n q s c d (block_code p.names fs regions k (for_named x s ∷ γ) (s + 1) (q + 6) b) (block_fine (for_named x s ∷ γ) (s + 1) (q + 6) b fm.2)
       kind_fine γ n s q (while_do c t b) fm =
@@ -205,8 +209,9 @@ module _ (p : TProgram) (regions : List Region) (targets : List (List Target)) (
           let ce = expr_code n γ (q + 6 + length probe) c in
           let cc = probe ++ ce in
           let cb = block_code p.names fs regions k γ (s + 1) (q + 6 + length cc + 1) b in
-          join (count_code n q s (pos 0) (pos t) (cc ++ (placed n (Jfalse (q + 6 + (length cc + 1 + length cb) + 5)) ∷ cb))) (probe_code n is Done)
-          (count_fine n q s (pos 0) (pos t) _ (join cc _ (join probe ce (probe_fine n is Use) (expr_fine n γ (q + 6 + length probe) c)) (tt, block_fine γ (s + 1) (q + 6 + length cc + 1) b fm.1)))
+          let turn = placed n (Jfalse (q + 6 + (length cc + 1 + length cb) + 5)) ∷ cb in
+          join (count_code n q s (pos 0) (pos t) (cc ++ turn)) (probe_code n is Done)
+          (count_fine n q s (pos 0) (pos t) (cc ++ turn) (join cc turn (join probe ce (probe_fine n is Use) (expr_fine n γ (q + 6 + length probe) c)) (tt, block_fine γ (s + 1) (q + 6 + length cc + 1) b fm.1)))
           (probe_fine n is Done)
       kind_fine γ n s q (call_only c) fm = join (call_code p.names fs regions k n γ q c) _ (call_fine n γ q c fm) (drop_fine n (has_result fs (called_name c)))
       kind_fine γ n s q (sense_only x) fm = (fm, (tt, tt))

@@ -282,9 +282,9 @@ by_reference_formed = record {
 abbrev fresh_result : TProgram
 fresh_result = program [] []
     (function (codes "f") [] (Some Int) 1
-        (at 1 (let_to false x None (right_sense t)) (at 2 (fresh x) (at 3 (return (variable x)) no_stmts)))
+    (at 1 (let_to false x None (right_sense t)) (at 2 (fresh x) (at 3 (return (variable x)) no_stmts)))
     ∷ function (codes "main") [] None 2
-        (at 4 (let_to false (codes "y") None (right_call (call (codes "f") no_args))) (at 5 (emit r (variable (codes "y"))) no_stmts))
+    (at 4 (let_to false (codes "y") None (right_call (call (codes "f") no_args))) (at 5 (emit r (variable (codes "y"))) no_stmts))
     ∷ [])
 
 -- a region that ends with a `return` is committed behind the end of its use

@@ -14,7 +14,7 @@ use Rattle.oc_isa.specs.declared.image.ImageFunction.{ImageFunction}
 use Rattle.oc_isa.specs.declared.instr.ProbeKind.{ProbeKind}
 use Rattle.oc_isa.specs.declared.instr.ProbeKind.TheVariants.{Use, Done}
 use Rattle.oc_isa.specs.declared.instr.Placed.{Placed}
-use Rattle.oc_isa.specs.declared.instr.Instr.TheVariants.{Drop, Jfalse, Retv, Ret, Halt}
+use Rattle.oc_isa.specs.declared.instr.Instr.TheVariants.{Drop, Jump, Jfalse, Retv, Ret, Halt}
 use Rattle.oc_isa.specs.Image.{Parts, Exists, IsWellMade, is_main, main_of, frame_of}
 use Rattle.oc_meaning.specs.Uses.{is_use, begins_use, ends_use}
 use Rattle.oc_meaning.specs.Exec.{Region, begun_by, ended_by}

@@ -1,0 +1,68 @@
+-- What is answered, and why.
+use Rattle.std.specs.Prelude.{ℕ, ◌+◌, ◌<◌, ◌≡◌, ◌⊎◌, ◌++◌, Bool, true, false, List, [], codes, decimal, Some, None}
+use Rattle.oc_io.specs.Held.{Held}
+use Rattle.oc_top.specs.Commands.{Plans, Task, task_of, word_at}
+use Rattle.oc_top.specs.Files.{Files, AreFiles, NotFetched}
+use Rattle.oc_top.specs.Sources.{Reading, ReadsAs}
+use Rattle.oc_top.specs.Verdict.{Verdict, verdict}
+use Rattle.oc_top.specs.declared.answer.Answer.{Answer}
+use Rattle.oc_top.specs.declared.answer.Answer.TheVariants as answer
+
+-- the status of an answer
+abbrev pub status_of : Answer → ℕ
+status_of answer.Usage = 1
+status_of (answer.Unreadable word) = 2
+status_of (answer.TooLong word) = 3
+status_of (answer.Syntax line) = 4
+status_of answer.NotBuilt = 13
+status_of (answer.BadSensors row) = 6
+status_of (answer.BadPower row) = 7
+status_of answer.WriteFault = 10
+status_of answer.End = 0
+status_of answer.Trapped = 8
+status_of answer.Dark = 9
+status_of answer.Memory = 11
+status_of answer.Cut = 12
+
+-- the line of an answer on the standard error, or none
+abbrev pub line_of : List (List ℕ) → Answer → List ℕ
+line_of words answer.Usage = codes "ocelot: not a command\n"
+line_of words (answer.Unreadable word) = codes "ocelot: cannot read " ++ (word_at words word ++ codes "\n")
+line_of words (answer.TooLong word) = codes "ocelot: too long " ++ (word_at words word ++ codes "\n")
+line_of words (answer.Syntax line) = codes "ocelot: syntax error in line " ++ (decimal line ++ codes "\n")
+line_of words answer.NotBuilt = codes "ocelot: not built in line 1\n"
+line_of words (answer.BadSensors row) = codes "ocelot: bad row " ++ (decimal row ++ codes " in sensors\n")
+line_of words (answer.BadPower row) = codes "ocelot: bad row " ++ (decimal row ++ codes " in power\n")
+line_of words answer.WriteFault = codes "ocelot: cannot write\n"
+line_of words answer.End = []
+line_of words answer.Trapped = []
+line_of words answer.Dark = []
+line_of words answer.Memory = codes "ocelot: out of memory\n"
+line_of words answer.Cut = codes "ocelot: checkpoint lost\n"
+
+-- an answer to a whole run
+abbrev pub ran : Answer → Bool
+ran answer.End = true
+ran answer.Trapped = true
+ran answer.Dark = true
+ran answer.Cut = true
+ran other = false
+
+-- the files of a task were fetched, and this is the verdict on them
+pub record Worked (holds : List ℕ → Held) (plans : Plans) (words : List (List ℕ)) (gives : Verdict) : Type 0 where
+  pub task : Task
+  pub asked : task_of plans words ≡ Some task
+  pub files : Files
+  pub fetched : AreFiles holds words task.first files
+  pub reading : Reading
+  pub reads : ReadsAs files.source reading
+  pub is_verdict : verdict reading files task.plan ≡ gives
+
+-- how an answer comes of the words, the supplies, what the shelf holds, and faults that rose in this call; and what is
+-- written: this text, or a part of it
+pub data Comes (holds : List ℕ → Held) (plans : Plans) (words : List (List ℕ)) (unread unwritten : Type 0) (wrote part : List ℕ → Type 0) (end : Answer) : Type 0 where
+  no_command : task_of plans words ≡ None → end ≡ answer.Usage → wrote [] → Comes holds plans words unread unwritten wrote part end
+  not_fetched : (task : Task) → task_of plans words ≡ Some task → NotFetched holds words task.first unread end → wrote [] → Comes holds plans words unread unwritten wrote part end
+  no_memory : (task : Task) → task_of plans words ≡ Some task → end ≡ answer.Memory → wrote [] → Comes holds plans words unread unwritten wrote part end
+  worked : (text : List ℕ) → Worked holds plans words (record { answer = end; text = text }) → wrote text → Comes holds plans words unread unwritten wrote part end
+  stopped : (last : Answer) (text : List ℕ) → Worked holds plans words (record { answer = last; text = text }) → ran last ≡ true → unwritten → end ≡ answer.WriteFault → part text → Comes holds plans words unread unwritten wrote part end

@@ -1,0 +1,7 @@
+pub mod Commands
+pub mod Files
+pub mod Sources
+pub mod Reports
+pub mod Verdict
+pub mod Answers
+pub mod Headline

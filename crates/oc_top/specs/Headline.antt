@@ -15,7 +15,10 @@ use Rattle.oc_isa.specs.Power.{power_run}
 use Rattle.oc_isa.specs.Table.{device_of}
 use Rattle.oc_items.specs.Erase.{erase, marked, kept_samples, HasNoOffInside}
 use Rattle.oc_outage.specs.Honest.{IsPrefixOf, AreRead, EndsWith}
-use Rattle.oc_small.specs.Small.{Small, small_code, small_run}
+use Rattle.oc_small.specs.Small.{Small}
+use Rattle.oc_small.specs.Rules.{sensors_of}
+use Rattle.oc_small.specs.Code.{small_code}
+use Rattle.oc_small.specs.Runs.{small_run}
 use Rattle.oc_top.specs.Commands.{Plan}
 use Rattle.oc_top.specs.Files.{Files}
 use Rattle.oc_top.specs.Sources.{ReadsAs, program}
@@ -39,7 +42,7 @@ pub record Runs (files : Files) (plan : Plan) (text : List ℕ) : Type 0 where
   pub small : Small
   pub spelled : ReadsAs files.source (program small)
   pub rows : List Row
-  pub sensed : sensor_file small.sensors files.sensors ≡ sensor_rows.readings rows
+  pub sensed : sensor_file (sensors_of small) files.sensors ≡ sensor_rows.readings rows
   pub periods : List Period
   pub powered : power_file files.power ≡ power_rows.periods periods
   pub is_text : text ≡ text_of (small_code small) (power_run (device_of (small_code small)) (history rows) (plan periods))

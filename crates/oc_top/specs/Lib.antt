@@ -5,3 +5,4 @@ pub mod Reports
 pub mod Verdict
 pub mod Answers
 pub mod Headline
+pub mod Steps

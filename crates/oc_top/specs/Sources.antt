@@ -4,7 +4,8 @@ use Rattle.oc_lex.specs.Tokens.{AreTokens, HasFault, line_feeds}
 use Rattle.oc_lex.specs.declared.token.Token.{Token}
 use Rattle.oc_lex.specs.declared.lexer.LexError.{LexError}
 use Rattle.oc_lex.specs.declared.lexer.LexError.TheVariants as fault
-use Rattle.oc_small.specs.Small.{Small, Spells}
+use Rattle.oc_small.specs.Small.{Small}
+use Rattle.oc_small.specs.Rules.{IsSmall}
 
 -- no tokens: the first fault is in this line. Tokens that spell no small program. Or the program that they spell
 pub data Reading : Type 0 where
@@ -24,5 +25,5 @@ line_at source at = 1 + line_feeds (take at source)
 -- this is how a source reads
 abbrev pub ReadsAs : List ℕ → Reading → Type 0
 ReadsAs source (faulty line) = (f : LexError) × HasFault source f × (line ≡ line_at source (place_of f))
-ReadsAs source other = (tokens : List Token) × AreTokens source tokens × ((p : Small) → Spells source tokens p → ⊥)
-ReadsAs source (program p) = (tokens : List Token) × AreTokens source tokens × Spells source tokens p
+ReadsAs source other = (tokens : List Token) × AreTokens source tokens × ((p : Small) → IsSmall source tokens p → ⊥)
+ReadsAs source (program p) = (tokens : List Token) × AreTokens source tokens × IsSmall source tokens p

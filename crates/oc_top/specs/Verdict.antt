@@ -10,7 +10,7 @@ use Rattle.oc_sensors.specs.History.{history}
 use Rattle.oc_isa.specs.Image.{Parts}
 use Rattle.oc_isa.specs.Power.{power_run}
 use Rattle.oc_isa.specs.Table.{device_of}
-use Rattle.oc_small.specs.Small.{small_code}
+use Rattle.oc_small.specs.Code.{small_code}
 use Rattle.oc_top.specs.Commands.{Plan}
 use Rattle.oc_top.specs.Files.{Files}
 use Rattle.oc_top.specs.Sources.{Reading, faulty, other, program}

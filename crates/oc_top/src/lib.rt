@@ -8,3 +8,4 @@
 pub mod answer;
 pub mod command;
 pub mod files;
+pub mod prepare;

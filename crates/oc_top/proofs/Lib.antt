@@ -1,3 +1,4 @@
 pub mod Taking
 pub mod Fetching
 pub mod Preparing
+pub mod Variables

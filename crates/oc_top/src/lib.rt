@@ -9,3 +9,4 @@ pub mod answer;
 pub mod command;
 pub mod files;
 pub mod prepare;
+pub mod report;

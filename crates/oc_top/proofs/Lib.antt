@@ -2,3 +2,5 @@ pub mod Taking
 pub mod Fetching
 pub mod Preparing
 pub mod Variables
+pub mod Writing
+pub mod Stopping

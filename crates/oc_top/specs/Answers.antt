@@ -1,5 +1,6 @@
 -- What is answered, and why.
 use Rattle.std.specs.Prelude.{ℕ, ◌+◌, ◌<◌, ◌≡◌, ◌⊎◌, ◌++◌, Bool, true, false, List, [], codes, decimal, Some, None}
+use Rattle.oc_io.specs.Faults.{Rose, TookPart}
 use Rattle.oc_io.specs.Held.{Held}
 use Rattle.oc_top.specs.Commands.{Plans, Task, task_of, word_at}
 use Rattle.oc_top.specs.Files.{Files, AreFiles, NotFetched}
@@ -40,29 +41,34 @@ line_of words answer.Dark = []
 line_of words answer.Memory = codes "ocelot: out of memory\n"
 line_of words answer.Cut = codes "ocelot: checkpoint lost\n"
 
--- an answer to a whole run
-abbrev pub ran : Answer → Bool
-ran answer.End = true
-ran answer.Trapped = true
-ran answer.Dark = true
-ran answer.Cut = true
-ran other = false
+-- the answer to a run, and not to files that are refused
+abbrev pub is_of_run : Answer → Bool
+is_of_run answer.End = true
+is_of_run answer.Trapped = true
+is_of_run answer.Dark = true
+is_of_run answer.Cut = true
+is_of_run other = false
 
 -- the files of a task were fetched, and this is the verdict on them
-pub record Worked (holds : List ℕ → Held) (plans : Plans) (words : List (List ℕ)) (gives : Verdict) : Type 0 where
+pub record Worked (holds : List ℕ → Held) (plans : Plans) (words : List (List ℕ)) (run : Verdict) : Type 0 where
   pub task : Task
   pub asked : task_of plans words ≡ Some task
   pub files : Files
   pub fetched : AreFiles holds words task.first files
   pub reading : Reading
   pub reads : ReadsAs files.source reading
-  pub is_verdict : verdict reading files task.plan ≡ gives
+  pub is_verdict : verdict reading files task.plan ≡ run
 
--- how an answer comes of the words, the supplies, what the shelf holds, and faults that rose in this call; and what is
--- written: this text, or a part of it
-pub data Comes (holds : List ℕ → Held) (plans : Plans) (words : List (List ℕ)) (unread unwritten : Type 0) (wrote part : List ℕ → Type 0) (end : Answer) : Type 0 where
-  no_command : task_of plans words ≡ None → end ≡ answer.Usage → wrote [] → Comes holds plans words unread unwritten wrote part end
-  not_fetched : (task : Task) → task_of plans words ≡ Some task → NotFetched holds words task.first unread end → wrote [] → Comes holds plans words unread unwritten wrote part end
-  no_memory : (task : Task) → task_of plans words ≡ Some task → end ≡ answer.Memory → wrote [] → Comes holds plans words unread unwritten wrote part end
-  worked : (text : List ℕ) → Worked holds plans words (record { answer = end; text = text }) → wrote text → Comes holds plans words unread unwritten wrote part end
-  stopped : (last : Answer) (text : List ℕ) → Worked holds plans words (record { answer = last; text = text }) → ran last ≡ true → unwritten → end ≡ answer.WriteFault → part text → Comes holds plans words unread unwritten wrote part end
+-- the sink took all of a run's text, and this is its answer; or its faults rose, and it took a part
+pub data IsWritten {S : Type 0} (took : S → List ℕ → S → Type 0) (faults : S → ℕ) (old new : S) (run : Verdict) (end : Answer) : Type 0 where
+  whole : end ≡ run.answer → took old run.text new → IsWritten took faults old new run end
+  in_part : end ≡ answer.WriteFault → Rose (faults old) (faults new) → TookPart took old run.text new → IsWritten took faults old new run end
+
+-- how an answer comes of the words, the supplies, what the shelf holds, and faults of shelf and sink that rose in this
+-- call; and what the sink took
+pub data Comes {S : Type 0} (holds : List ℕ → Held) (plans : Plans) (words : List (List ℕ)) (unread : Type 0) (took : S → List ℕ → S → Type 0) (faults : S → ℕ) (old new : S) (end : Answer) : Type 0 where
+  no_command : task_of plans words ≡ None → end ≡ answer.Usage → took old [] new → Comes holds plans words unread took faults old new end
+  not_fetched : (task : Task) → task_of plans words ≡ Some task → NotFetched holds words task.first unread end → took old [] new → Comes holds plans words unread took faults old new end
+  no_memory : (task : Task) → task_of plans words ≡ Some task → end ≡ answer.Memory → took old [] new → Comes holds plans words unread took faults old new end
+  refused : (run : Verdict) → Worked holds plans words run → is_of_run run.answer ≡ false → end ≡ run.answer → took old [] new → Comes holds plans words unread took faults old new end
+  ran : (run : Verdict) → Worked holds plans words run → is_of_run run.answer ≡ true → IsWritten took faults old new run end → Comes holds plans words unread took faults old new end

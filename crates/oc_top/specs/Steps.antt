@@ -54,18 +54,23 @@ IsNotBuilt source answer.NotBuilt = ReadsAs source other
 IsNotBuilt source answer.Memory = Unit {0}
 IsNotBuilt source end = ⊥
 
--- a newly loaded machine with the source's image, unread sensors that show the rows of the sensor file, and the periods
--- that the supply tells of those of the power file
-pub record IsReady (files : Files) (plan : Plan) (machine : Running) (sensors : Told) (left : List Period) : Type 0 where
-  pub built : IsBuilt files.source machine.parts
+-- a newly loaded machine with a sound image, its sensors, not read yet, and periods whose times are below 2^63 in all
+pub record CanRun (machine : Running) (sensors : Told) (left : List Period) : Type 0 where
   pub loaded : machine.state ≡ first_state (device_of machine.parts)
-  pub sensed : sensor_file machine.parts.names.sensors files.sensors ≡ sensor_rows.readings sensors.rows
+  pub sound : IsSound (device_of machine.parts)
   pub counted : sensors.sensors ≡ length machine.parts.names.sensors
   pub unread : sensors.now ≡ 0
+  pub sum : total left < 2 ^ 63
+
+-- such a machine with the source's image, where the sensors show the rows of the sensor file, and the periods are those
+-- that the supply tells of the rows of the power file
+pub record IsReady (files : Files) (plan : Plan) (machine : Running) (sensors : Told) (left : List Period) : Type 0 where
+  pub can_run : CanRun machine sensors left
+  pub built : IsBuilt files.source machine.parts
+  pub sensed : sensor_file machine.parts.names.sensors files.sensors ≡ sensor_rows.readings sensors.rows
   pub periods : List Period
   pub powered : power_file files.power ≡ power_rows.periods periods
   pub planned : left ≡ plan periods
-  pub sum : total left < 2 ^ 63
 
 -- the files are refused with this answer, or there was no memory
 pub data IsTurnedDown (files : Files) (plan : Plan) (end : Answer) : Type 0 where

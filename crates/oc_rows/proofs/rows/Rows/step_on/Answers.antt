@@ -2,7 +2,7 @@ use Rattle.std.proofs.Common.{◌+◌, ◌∙◌, arith, ap, refl, sym}
 use Rattle.csv.specs.Records.{fields_of}
 use Rattle.oc_rows.specs.Place.{Place}
 use Rattle.oc_rows.proofs.Steps.{no_row, row_taken}
-use Rattle.oc_rows.proofs.rows.Rows.next.Goals as goal
+use Rattle.oc_rows.proofs.rows.Rows.step_on.Goals as goal
 
 pub overflow_add-self : goal.overflow_add-self
 overflow_add-self c =

@@ -1,5 +1,6 @@
 pub mod Taking
 pub mod Fetching
+pub mod Readings
 pub mod Preparing
 pub mod Variables
 pub mod Writing

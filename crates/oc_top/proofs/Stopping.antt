@@ -8,13 +8,16 @@ use Rattle.oc_tree.specs.declared.said.Ending.{Ending}
 use Rattle.oc_tree.specs.declared.said.Ending.TheVariants.{Halted, Trapped}
 use Rattle.oc_tree.specs.declared.said.TrapKind.{TrapKind}
 use Rattle.oc_isa.specs.declared.phase.Phase.{Phase}
-use Rattle.oc_isa.specs.declared.phase.Phase.TheVariants.{Lost}
+use Rattle.oc_isa.specs.declared.phase.Phase.TheVariants.{Waking, Undoing, Restoring, Running, Entering, Over, Lost}
 use Rattle.oc_isa.specs.Image.{Parts}
 use Rattle.oc_isa.specs.Power.{World, first_world, power_run}
 use Rattle.oc_isa.specs.Table.{device_of}
 use Rattle.oc_items.specs.Text.{report_text, full_text, nv_lines, is_over, ends}
 use Rattle.oc_items.specs.Told.{item_of}
 use Rattle.oc_items.specs.declared.item.Item.{Item}
+use Rattle.oc_machine.specs.Telling.{stop_of}
+use Rattle.oc_machine.specs.declared.stop.Stop.{Stop}
+use Rattle.oc_machine.specs.declared.stop.Stop.TheVariants as stops
 use Rattle.oc_outage.specs.Honest.{EndsWith, IsLeft, loses_checkpoint}
 use Rattle.oc_outage.proofs.Lasting.{last_item, lost_exactly}
 use Rattle.oc_io.specs.Faults.{Rose, TookPart}
@@ -53,32 +56,28 @@ module _ (parts : Parts) (h : ℕ → ℕ → ℤ) (periods : List Period) where
   abbrev loses : Bool
   loses = loses_checkpoint (device_of parts) h periods (first_world (device_of parts))
 
-  -- a run whose last item is no outage lost no checkpoint
-  lost_by : (s : Said) → EndsWith world.report s → ((ticks : ℕ) → Some s ≡ Some (Off ticks) → ⊥) → (phase : Phase) → phase ≡ Lost → IsLeft phase world.report → ⊥
-  lost_by s e apart Lost p l = apart l.0 (sym (last_is world.report s e) ∙ last_is world.report (Off l.0) l.1)
-  lost_by s e apart phase p l = cc p
+  -- the answer by the phase in which the run was left
+  abbrev answer_at : Phase → Answer
+  answer_at (Over Halted) = answer.End
+  answer_at (Over (Trapped kind site)) = answer.Trapped
+  answer_at Lost = answer.Cut
+  answer_at phase = answer.Dark
 
-  kept_by : (b : Bool) → loses ≡ b → (b ≡ true → ⊥) → loses ≡ false
-  kept_by true e apart = absurd (apart refl)
-  kept_by false e apart = e
+  kept_by : (b : Bool) (phase : Phase) → loses ≡ b → world.state.phase ≡ phase → (phase ≡ Lost → ⊥) → loses ≡ false
+  kept_by true phase e p apart = absurd (apart (sym p ∙ (lost_exactly (device_of parts) h periods).1 e))
+  kept_by false phase e p apart = e
 
-  kept : (s : Said) → EndsWith world.report s → ((ticks : ℕ) → Some s ≡ Some (Off ticks) → ⊥) → loses ≡ false
-  kept s e apart = kept_by loses refl (λ t. lost_by s e apart world.state.phase ((lost_exactly (device_of parts) h periods).1 t) (last_item (device_of parts) h periods))
+  answer_by_last : (phase : Phase) (s : Said) → world.state.phase ≡ phase → (phase ≡ Lost → ⊥) → EndsWith world.report s → answer_of parts h periods ≡ answer_by (Some s)
+  answer_by_last phase s p apart e = rw (kept_by loses phase refl p apart) (ap answer_by (last_is world.report s e))
 
-  answer_last : (s : Said) → EndsWith world.report s → ((ticks : ℕ) → Some s ≡ Some (Off ticks) → ⊥) → answer_of parts h periods ≡ answer_by (Some s)
-  answer_last s e apart = rw (kept s e apart) (ap answer_by (last_is world.report s e))
+  answer_in : (phase : Phase) → world.state.phase ≡ phase → IsLeft phase world.report → answer_of parts h periods ≡ answer_at phase
+  answer_in (Over Halted) p l = answer_by_last (Over Halted) (Ended Halted) p (λ q. cc q) l
+  answer_in (Over (Trapped kind site)) p l = answer_by_last (Over (Trapped kind site)) (Ended (Trapped kind site)) p (λ q. cc q) l
+  answer_in Lost p l = rw ((lost_exactly (device_of parts) h periods).0 p) refl
+  answer_in phase p l = answer_by_last phase Dark p (λ q. cc q) l
 
-  pub ended_answer : EndsWith world.report (Ended Halted) → answer.End ≡ answer_of parts h periods
-  ended_answer e = sym (answer_last (Ended Halted) e (λ ticks q. cc q))
-
-  pub trapped_answer : (kind : TrapKind) (site : ℕ) → EndsWith world.report (Ended (Trapped kind site)) → answer.Trapped ≡ answer_of parts h periods
-  trapped_answer kind site e = sym (answer_last (Ended (Trapped kind site)) e (λ ticks q. cc q))
-
-  pub dark_answer : EndsWith world.report Dark → answer.Dark ≡ answer_of parts h periods
-  dark_answer e = sym (answer_last Dark e (λ ticks q. cc q))
-
-  pub cut_answer : world.state.phase ≡ Lost → answer.Cut ≡ answer_of parts h periods
-  cut_answer p = rw ((lost_exactly (device_of parts) h periods).0 p) refl
+  pub answer_is : answer_of parts h periods ≡ answer_at world.state.phase
+  answer_is = answer_in world.state.phase refl (last_item (device_of parts) h periods)
 
   -- ---- the text
 
@@ -88,19 +87,20 @@ module _ (parts : Parts) (h : ℕ → ℕ → ℤ) (periods : List Period) where
   abbrev variables : List ℕ
   variables = nv_lines parts.names (map (λ v. v.words) parts.nv) world.state.nv
 
-  pub over_text : (how : Ending) → EndsWith world.report (Ended how) → text_of parts world ≡ lines ++ variables
-  over_text Halted e = rw (over_is world.report (Ended Halted) true e (λ tick. refl)) refl
-  over_text (Trapped kind site) e = rw (over_is world.report (Ended (Trapped kind site)) true e (λ tick. refl)) refl
+  -- the run is over with this answer
+  abbrev is_over_with : Answer → Bool
+  is_over_with answer.End = true
+  is_over_with answer.Trapped = true
+  is_over_with other = false
 
-  pub dark_text : EndsWith world.report Dark → text_of parts world ≡ lines
-  dark_text e = rw (over_is world.report Dark false e (λ tick. refl)) (append-nil lines)
+  over_in : (phase : Phase) → IsLeft phase world.report → is_over (map item_of world.report) ≡ is_over_with (answer_at phase)
+  over_in (Over Halted) l = over_is world.report (Ended Halted) true l (λ tick. refl)
+  over_in (Over (Trapped kind site)) l = over_is world.report (Ended (Trapped kind site)) true l (λ tick. refl)
+  over_in Lost l = over_is world.report (Off l.0) false l.1 (λ tick. refl)
+  over_in phase l = over_is world.report Dark false l (λ tick. refl)
 
-  lost_text_by : (phase : Phase) → phase ≡ Lost → IsLeft phase world.report → text_of parts world ≡ lines
-  lost_text_by Lost p l = rw (over_is world.report (Off l.0) false l.1 (λ tick. refl)) (append-nil lines)
-  lost_text_by phase p l = cc p
-
-  pub lost_text : world.state.phase ≡ Lost → text_of parts world ≡ lines
-  lost_text p = lost_text_by world.state.phase p (last_item (device_of parts) h periods)
+  pub text_is : text_of parts world ≡ lines ++ cond (is_over_with (answer_at world.state.phase)) variables []
+  text_is = ap (λ (b : Bool). lines ++ cond b variables []) (over_in world.state.phase (last_item (device_of parts) h periods))
 
 -- ---- what is written
 
@@ -114,28 +114,50 @@ module _ {S : Type 0} (took : S → List ℕ → S → Type 0) (faults : S → �
   abbrev text : List ℕ
   text = lines parts (history rows) periods
 
-  as_run : (a c : S) (x end : Answer) (t : List ℕ) → x ≡ answer_of parts (history rows) periods → t ≡ text_of parts run → IsWritten took faults a c (record { answer = x; text = t }) end → IsWritten took faults a c (runs parts rows periods) end
-  as_run a c x end t p q w = subst (λ (v : Verdict). IsWritten took faults a c v end) (same_verdict x (answer_of parts (history rows) periods) t (text_of parts run) p q) w
+  -- the answer and the text by how the machine stopped
+  abbrev stop_answer : Stop → Answer
+  stop_answer stops.End = answer.End
+  stop_answer (stops.Trap kind site) = answer.Trapped
+  stop_answer stops.Dark = answer.Dark
+  stop_answer stops.WriteFault = answer.WriteFault
+  stop_answer (stops.Cut period) = answer.Cut
 
-  over_by : (a b c : S) (x end : Answer) (how : Ending) → x ≡ answer_of parts (history rows) periods → EndsWith run.report (Ended how) → faults a ≤ faults b → took a text b
-      → IsWritten took faults b c (record { answer = x; text = variables parts (history rows) periods }) end → IsWritten took faults a c (runs parts rows periods) end
-  over_by a b c x end how p e le t w = as_run a c x end (text ++ variables parts (history rows) periods) p (sym (over_text parts (history rows) periods how e)) (written_after took faults both a b c text _ end le t w)
+  stop_at : (count : ℕ) (phase : Phase) → stop_answer (stop_of count phase) ≡ answer_at parts (history rows) periods phase
+  stop_at count (Over Halted) = refl
+  stop_at count (Over (Trapped kind site)) = refl
+  stop_at count Lost = refl
+  stop_at count phase = refl
 
-  pub ended_written : (a b c : S) (end : Answer) → EndsWith run.report (Ended Halted) → faults a ≤ faults b → took a text b
+  stopped_at : (stop : Stop) (count : ℕ) → stop ≡ stop_of count run.state.phase → stop_answer stop ≡ answer_at parts (history rows) periods run.state.phase
+  stopped_at stop count e = ap stop_answer e ∙ stop_at count run.state.phase
+
+  verdict_at : (x : Answer) → x ≡ answer_at parts (history rows) periods run.state.phase
+      → ◌≡◌ {A = Verdict} (record { answer = x; text = text ++ cond (is_over_with parts (history rows) periods x) (variables parts (history rows) periods) [] }) (runs parts rows periods)
+  verdict_at x e = same_verdict x _ _ _ (e ∙ sym (answer_is parts (history rows) periods))
+    (ap (λ (z : Answer). text ++ cond (is_over_with parts (history rows) periods z) (variables parts (history rows) periods) []) e ∙ sym (text_is parts (history rows) periods))
+
+  as_run : (a c : S) (x end : Answer) → x ≡ answer_at parts (history rows) periods run.state.phase
+      → IsWritten took faults a c (record { answer = x; text = text ++ cond (is_over_with parts (history rows) periods x) (variables parts (history rows) periods) [] }) end → IsWritten took faults a c (runs parts rows periods) end
+  as_run a c x end e w = subst (λ (v : Verdict). IsWritten took faults a c v end) (verdict_at x e) w
+
+  pub ended_written : (a b c : S) (count : ℕ) (end : Answer) → stops.End ≡ stop_of count run.state.phase → faults a ≤ faults b → took a text b
       → IsWritten took faults b c (record { answer = answer.End; text = variables parts (history rows) periods }) end → IsWritten took faults a c (runs parts rows periods) end
-  ended_written a b c end e = over_by a b c answer.End end Halted (ended_answer parts (history rows) periods e) e
+  ended_written a b c count end e le t w = as_run a c answer.End end (stopped_at stops.End count e) (written_after took faults both a b c text _ end le t w)
 
-  pub trapped_written : (a b c : S) (end : Answer) (kind : TrapKind) (site : ℕ) → EndsWith run.report (Ended (Trapped kind site)) → faults a ≤ faults b → took a text b
+  pub trapped_written : (a b c : S) (count : ℕ) (end : Answer) (kind : TrapKind) (site : ℕ) → stops.Trap kind site ≡ stop_of count run.state.phase → faults a ≤ faults b → took a text b
       → IsWritten took faults b c (record { answer = answer.Trapped; text = variables parts (history rows) periods }) end → IsWritten took faults a c (runs parts rows periods) end
-  trapped_written a b c end kind site e = over_by a b c answer.Trapped end (Trapped kind site) (trapped_answer parts (history rows) periods kind site e) e
+  trapped_written a b c count end kind site e le t w = as_run a c answer.Trapped end (stopped_at (stops.Trap kind site) count e) (written_after took faults both a b c text _ end le t w)
 
-  pub dark_written : (a b c : S) (end : Answer) → EndsWith run.report Dark → faults a ≤ faults b → took a text b → took b [] c → Stays answer.Dark end (Rose (faults b) (faults c)) → IsWritten took faults a c (runs parts rows periods) end
-  dark_written a b c end e le t n s =
-      as_run a c answer.Dark end text (dark_answer parts (history rows) periods e) (sym (dark_text parts (history rows) periods e)) (flushed_written took faults both a b c answer.Dark end text le t n s)
+  flushed_run : (a b c : S) (x end : Answer) → x ≡ answer_at parts (history rows) periods run.state.phase → is_over_with parts (history rows) periods x ≡ false → faults a ≤ faults b → took a text b → took b [] c → Stays x end (Rose (faults b) (faults c)) → IsWritten took faults a c (runs parts rows periods) end
+  flushed_run a b c x end e no_more le t n s =
+      let whole_text : text ≡ text ++ cond (is_over_with parts (history rows) periods x) (variables parts (history rows) periods) [] = rw no_more (sym (append-nil text)) in
+      as_run a c x end e (subst (λ (u : List ℕ). IsWritten took faults a c (record { answer = x; text = u }) end) whole_text (flushed_written took faults both a b c x end text le t n s))
 
-  pub cut_written : (a b c : S) (end : Answer) → run.state.phase ≡ Lost → faults a ≤ faults b → took a text b → took b [] c → Stays answer.Cut end (Rose (faults b) (faults c)) → IsWritten took faults a c (runs parts rows periods) end
-  cut_written a b c end e le t n s =
-      as_run a c answer.Cut end text (cut_answer parts (history rows) periods e) (sym (lost_text parts (history rows) periods e)) (flushed_written took faults both a b c answer.Cut end text le t n s)
+  pub dark_written : (a b c : S) (count : ℕ) (end : Answer) → stops.Dark ≡ stop_of count run.state.phase → faults a ≤ faults b → took a text b → took b [] c → Stays answer.Dark end (Rose (faults b) (faults c)) → IsWritten took faults a c (runs parts rows periods) end
+  dark_written a b c count end e = flushed_run a b c answer.Dark end (stopped_at stops.Dark count e) refl
+
+  pub cut_written : (a b c : S) (count period : ℕ) (end : Answer) → stops.Cut period ≡ stop_of count run.state.phase → faults a ≤ faults b → took a text b → took b [] c → Stays answer.Cut end (Rose (faults b) (faults c)) → IsWritten took faults a c (runs parts rows periods) end
+  cut_written a b c count period end e = flushed_run a b c answer.Cut end (stopped_at (stops.Cut period) count e) refl
 
   abbrev rest : List ℕ
   rest = cond (is_over (map item_of run.report)) (variables parts (history rows) periods) []

@@ -1,5 +1,5 @@
 -- The steps before the first byte is written.
-use Rattle.std.specs.Prelude.{ℕ, ℤ, ◌≤◌, ◌<◌, ◌^◌, ◌≡◌, ◌⊎◌, List, length}
+use Rattle.std.specs.Prelude.{ℕ, ℤ, ◌≤◌, ◌<◌, ◌^◌, ◌≡◌, ◌⊎◌, true, List, length}
 use Rattle.oc_io.specs.declared.period.Period.{Period}
 use Rattle.oc_power.specs.Power.{Power, power_file}
 use Rattle.oc_power.specs.Power as power_rows
@@ -8,7 +8,8 @@ use Rattle.oc_power.specs.declared.power.PowerError.{PowerError}
 use Rattle.oc_power.specs.declared.power.PowerError.TheVariants as power_error
 use Rattle.oc_sensors.specs.File.{sensor_file}
 use Rattle.oc_sensors.specs.File as sensor_rows
-use Rattle.oc_sensors.specs.History.{Told}
+use Rattle.oc_sensors.specs.History.{Told, history}
+use Rattle.oc_tree.specs.Word.{is_word}
 use Rattle.oc_sensors.specs.declared.file.SensorError.{SensorError}
 use Rattle.oc_sensors.specs.declared.file.SensorError.TheVariants as sensor_error
 use Rattle.oc_isa.specs.Image.{Parts}
@@ -54,12 +55,14 @@ IsNotBuilt source answer.NotBuilt = ReadsAs source other
 IsNotBuilt source answer.Memory = Unit {0}
 IsNotBuilt source end = ⊥
 
--- a newly loaded machine with a sound image, its sensors, not read yet, and periods whose times are below 2^63 in all
+-- a newly loaded machine with a sound image, its sensors, not read yet, which show words, and periods whose times are
+-- below 2^63 in all
 pub record CanRun (machine : Running) (sensors : Told) (left : List Period) : Type 0 where
   pub loaded : machine.state ≡ first_state (device_of machine.parts)
   pub sound : IsSound (device_of machine.parts)
   pub counted : sensors.sensors ≡ length machine.parts.names.sensors
   pub unread : sensors.now ≡ 0
+  pub words : (sensor tick : ℕ) → is_word (history sensors.rows sensor tick) ≡ true
   pub sum : total left < 2 ^ 63
 
 -- such a machine with the source's image, where the sensors show the rows of the sensor file, and the periods are those

@@ -12,7 +12,7 @@ use crate::files::Fetched;
 use oc_io::Memory;
 use oc_isa::image::Image;
 use oc_lex::{LexError, lex};
-use oc_machine::Machine;
+use oc_machine::machine::Machine;
 use oc_power::power::{PowerError, read_power};
 use oc_power::supply::Supply;
 use oc_sensors::file::{SensorError, read_sensors};

@@ -12,7 +12,8 @@ use crate::prepare::Prepared;
 use oc_io::sink::{Sink, SinkFault};
 use oc_isa::image::RawImage;
 use oc_items::text::put_nv;
-use oc_machine::{Machine, Stop};
+use oc_machine::machine::Machine;
+use oc_machine::stop::Stop;
 use oc_power::supply::Supply;
 
 /// Writes a line for each nonvolatile variable of an image, in order, with its words.

@@ -1,5 +1,5 @@
 use Rattle.std.proofs.lemmas.Result.{err_from_is_err_and}
-use Rattle.oc_top.proofs.Preparing.{not_built, no_sensors, no_power}
+use Rattle.oc_top.proofs.Preparing.{not_built, no_sensors, no_power, is_ready}
 use Rattle.oc_top.proofs.prepare.prepare.Goals as goal
 
 pub returns-in_err-image-clause-refused : goal.returns-in_err-image-clause-refused
@@ -21,3 +21,13 @@ returns-in_err-periods-clause-refused g c =
     let sensed = rw c.deref-2.ensures.value at c.in_ok-sensors.ensures.rows in
     let bad = rw c.deref-3.ensures.value at c.in_err-periods.ensures.row in
     rw p.1 (no_power _ _ _ c.in_err-periods.field-0.0 c.in_ok-image.image _ p.2 built sensed bad)
+
+pub returns-clause-ready : goal.returns-clause-ready
+returns-clause-ready g c =
+    let built = rw c.deref.ensures.value at c.in_ok-image.ensures.built in
+    let sensed = rw c.deref-2.ensures.value at c.in_ok-sensors.ensures.rows in
+    let powered = rw c.deref-3.ensures.value at c.in_ok-periods.ensures.ok in
+    let fed = c.in_ok-feed.ensures in
+    let planned = rw c.deref-4.ensures.value at fed.0 in
+    let sum = rw c.deref-4.ensures.value at fed.1.1.0 in
+    is_ready _ _ _ _ _ _ c.in_ok-image.image c.in_ok-machine.ensures built sensed c.in_ok-sensors.ensures.sensors c.in_ok-sensors.ensures.now powered planned (rw planned (sum c.in_ok-periods.ensures.sum))

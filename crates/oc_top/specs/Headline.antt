@@ -1,6 +1,5 @@
 -- What the report of a run keeps, whenever power fails.
 use Rattle.std.specs.Prelude.{ℕ, ℤ, ◌≡◌, false, List, ◌++◌}
-use Rattle.oc_io.specs.Held.{Held}
 use Rattle.oc_io.specs.declared.period.Period.{Period}
 use Rattle.oc_power.specs.Power.{power_file}
 use Rattle.oc_power.specs.Power as power_rows
@@ -22,7 +21,7 @@ use Rattle.oc_small.specs.Runs.{small_run}
 use Rattle.oc_top.specs.Commands.{Plan}
 use Rattle.oc_top.specs.Files.{Files}
 use Rattle.oc_top.specs.Sources.{ReadsAs, program}
-use Rattle.oc_top.specs.Reports.{text_of}
+use Rattle.oc_top.specs.Verdict.{Verdict, runs}
 
 -- without its aborted attempts, the report says what the program says over the kept samples, or a prefix of it; no outage
 -- lies in a region; and each input has what its sensor had at that tick
@@ -36,14 +35,14 @@ pub record IsHonestThroughout (p : Small) (h : ℕ → ℕ → ℤ) (report : Li
   pub honest : (front rest : List Told) → front ++ rest ≡ report → IsHonest p h front
   pub whole : (how : Ending) → EndsWith report (Ended how) → marked report ≡ small_run p (kept_samples report)
 
--- a run of the small program that the source spells, over what the sensors showed and the periods that the supply told:
--- this text is that of its report, and the report is honest
-pub record Runs (files : Files) (plan : Plan) (text : List ℕ) : Type 0 where
+-- a run of the small program that a source spells, over what the sensors showed and the periods that the supply told:
+-- its answer and its text are those of the report, and the report is honest
+pub record IsRun (files : Files) (plan : Plan) (run : Verdict) : Type 0 where
   pub small : Small
   pub spelled : ReadsAs files.source (program small)
   pub rows : List Row
   pub sensed : sensor_file (sensors_of small) files.sensors ≡ sensor_rows.readings rows
   pub periods : List Period
   pub powered : power_file files.power ≡ power_rows.periods periods
-  pub is_text : text ≡ text_of (small_code small) (power_run (device_of (small_code small)) (history rows) (plan periods))
+  pub is_run : run ≡ runs (small_code small) rows (plan periods)
   pub honest : IsHonestThroughout small (history rows) ((power_run (device_of (small_code small)) (history rows) (plan periods)).report)

@@ -3,6 +3,6 @@ pub mod Files
 pub mod Sources
 pub mod Reports
 pub mod Verdict
-pub mod Answers
 pub mod Headline
+pub mod Answers
 pub mod Steps

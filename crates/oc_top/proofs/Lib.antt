@@ -6,3 +6,4 @@ pub mod Preparing
 pub mod Variables
 pub mod Writing
 pub mod Stopping
+pub mod Asking

@@ -4,7 +4,6 @@ use Rattle.std.specs.Str.{bytes_eq}
 use Rattle.oc_io.specs.declared.period.Period.{Period}
 use Rattle.oc_rows.specs.Numbers.{number_of}
 use Rattle.oc_top.specs.declared.command.Command.{Command}
-use Rattle.oc_top.specs.declared.command.Command.TheVariants as command
 
 -- a word may stand for a file: it isn't empty and doesn't begin with `-`
 abbrev pub is_file : List ℕ → Bool
@@ -22,7 +21,7 @@ supply_of word = if nat_le (length word) 3 then option_and_then supply_named (nu
 -- `run` with this supply, where it has one; its files' words begin at this place
 abbrev pub run_with : Option ℕ → ℕ → Option Command
 run_with None first = None
-run_with (Some supply) first = Some (command.Run supply first)
+run_with (Some supply) first = Some (record { supply = supply; first = first })
 
 abbrev pub are_files : List ℕ → List ℕ → List ℕ → Bool
 are_files source sensors power = is_file source && is_file sensors && is_file power
@@ -49,13 +48,13 @@ pub record Task : Type 0 where
   pub first : ℕ
   pub plan : Plan
 
-abbrev pub task_at : ℕ → Option Plan → Option Task
-task_at first None = None
-task_at first (Some plan) = Some (record { first = first; plan = plan })
+abbrev pub with_plan : ℕ → Option Plan → Option Task
+with_plan first None = None
+with_plan first (Some plan) = Some (record { first = first; plan = plan })
 
 abbrev pub task_for : Plans → Option Command → Option Task
 task_for plans None = None
-task_for plans (Some (command.Run supply first)) = task_at first (plans supply)
+task_for plans (Some command) = with_plan command.first (plans command.supply)
 
 -- what a line of words asks for, with these supplies
 abbrev pub task_of : Plans → List (List ℕ) → Option Task

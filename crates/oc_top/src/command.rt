@@ -5,11 +5,12 @@ ghost use Rattle.oc_top.specs.Commands.{command_of, is_file, supply_of};
 
 use oc_rows::number::read_number;
 
-/// What a line of words asks for: `run`, with the supply of this number. The words of its three
-/// files, source, sensors and power, begin at the place `first`.
+/// What a line of words asks for: to run an image with the supply of this number. The words of its
+/// three files, source, sensors and power, begin at the place `first`.
 #[derive(Clone, Copy, Debug, PartialEq, Eq)]
-pub enum Command {
-    Run { supply: u8, first: usize },
+pub struct Command {
+    pub supply: u8,
+    pub first: usize,
 }
 
 /// Whether a word may stand for a file.
@@ -46,7 +47,10 @@ pub fn read_command(words: &[String]) -> Option<Command>
     match words {
         [word, source, sensors, power] => {
             if word.as_str() == "run" && are_files(source, sensors, power) {
-                Some(Command::Run { supply: 0, first: 1 })
+                Some(Command {
+                    supply: 0,
+                    first: 1,
+                })
             } else {
                 None
             }
@@ -57,7 +61,7 @@ pub fn read_command(words: &[String]) -> Option<Command>
                 && are_files(source, sensors, power)
             {
                 let supply = read_supply(number.as_str())?;
-                Some(Command::Run { supply, first: 3 })
+                Some(Command { supply, first: 3 })
             } else {
                 None
             }

@@ -10,3 +10,4 @@ pub mod command;
 pub mod files;
 pub mod prepare;
 pub mod report;
+pub mod top;

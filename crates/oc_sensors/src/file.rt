@@ -1,5 +1,7 @@
 //! Sensor files.
-ghost use Rattle.std.specs.Prelude.{◌≡◌, ◌+◌, ◌≤◌, length, IfOk, IfErr};
+ghost use Rattle.std.specs.Prelude.{◌≡◌, ◌+◌, ◌≤◌, ℕ, true, length, IfOk, IfErr};
+ghost use Rattle.oc_tree.specs.Word.{is_word};
+ghost use Rattle.oc_sensors.specs.History.{history};
 ghost use Rattle.oc_sensors.specs.File.{Explains, is_header, readings, sensor_file, sensor_of, sensor_row, sensor_rows, value_of};
 ghost use Rattle.oc_sensors.specs.declared.file.SensorError.TheVariants as error;
 
@@ -144,6 +146,7 @@ pub fn read_sensors(alloc: Global, bytes: &[u8], names: &[Name]) -> Result<Senso
     ensures rows { IfOk result (λ s. sensor_file names.now bytes.now ≡ readings s.rows) }
     ensures sensors { IfOk result (λ s. s.sensors ≡ length names.now) }
     ensures now { IfOk result (λ s. s.now ≡ 0) }
+    ensures words { IfOk result (λ s. (sensor tick : ℕ) → is_word (history s.rows sensor tick) ≡ true) }
     ensures bad { IfErr result (λ e. Explains (sensor_file names.now bytes.now) e) }
 {
     let mut rows = Rows::new(alloc, bytes);

@@ -125,6 +125,13 @@ impl Machine {
         })
     }
 
+    /// The image that it runs.
+    pub fn image(&self) -> &Image
+        ensures { result.now ≡ self.now.parts }
+    {
+        &self.image
+    }
+
     /// The area, where registers and the stack are saved.
     pub fn area(&self) -> &Area
         ensures { result.now ≡ record { words = self.now.state.words; state = self.now.state.area } }

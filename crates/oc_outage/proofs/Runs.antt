@@ -134,3 +134,7 @@ module _ (d : Device) (h : ℕ → ℕ → ℤ) (fit : IsFit d) (words_of_h : (s
 
   pub over_is_whole : (periods : List Period) (how : Ending) → IsSound d → (power_run d h periods).state.phase ≡ Over how → IsWhole d (all_on periods) (power_run d h periods).report (power_run d h periods).state.nv
   over_is_whole periods how s e = (run_end periods s).whole how e
+
+  -- the same, against any longer run without outages
+  pub every_prefix_later : (periods : List Period) (q rest : List Told) (n : ℕ) → all_on periods ≤ n → IsSound d → q ++ rest ≡ (power_run d h periods).report → IsHonest d h n q
+  every_prefix_later periods q rest n le s e = (run_end periods s).honest.each q rest e n le

@@ -187,9 +187,9 @@ then_finish : (i : Parts) (n : ℕ) (v w : List ℤ) (out said : List Said) (c e
 then_finish i n v w out said c e result rest s same f = record {
   count = n + f.count;
   runs = λ k h.
-    let a : k ≡ n + (k - n) = omega arith in
-    let b : f.count ≤ k - n = omega arith in
-    ap (λ j. (run_on (device_of i) j v c out).out) a ∙ ap (λ r. r.out) (s.runs (k - n)) ∙ f.runs (k - n) b ∙ same;
+      let a : k ≡ n + (k - n) = omega arith in
+      let b : f.count ≤ k - n = omega arith in
+      ap (λ j. (run_on (device_of i) j v c out).out) a ∙ ap (λ r. r.out) (s.runs (k - n)) ∙ f.runs (k - n) b ∙ same;
   safe = s.safe f.safe;
 }
 
@@ -248,7 +248,7 @@ operand_act : (i : Parts) (pc site free : ℕ) (above : List ℤ) (bound : List 
 operand_act i pc site free above bound (constant n) h l = push_next i pc site (above ++ frame free bound) n l
 operand_act i pc site free above bound (variable x) h l =
     load_next i pc site (above ++ frame free bound) (place_of (names bound) x) (value_of bound x)
-      (ap (λ s. at_level s (place_of (names bound) x)) (sym (append_assoc above (replicate free (pos 0)) (reverse (values bound)))) ∙ loaded (above ++ replicate free (pos 0)) bound x h) l
+    (ap (λ s. at_level s (place_of (names bound) x)) (sym (append_assoc above (replicate free (pos 0)) (reverse (values bound)))) ∙ loaded (above ++ replicate free (pos 0)) bound x h) l
 
 operand_site : (site : ℕ) (visible : List Text) (o : Operand) → (operand_code site visible o).site ≡ site
 operand_site site visible (constant n) = refl
@@ -257,7 +257,7 @@ operand_site site visible (variable x) = refl
 operand_reach : (i : Parts) (pc site free : ℕ) (v : List ℤ) (out : List Said) (above : List ℤ) (bound : List Bound) (o : Operand) (rest : List Placed) → operand_named (names bound) o ≡ true → length (above ++ frame free bound) < i.stack → drop pc i.code ≡ operand_code site (names bound) o ∷ rest → Reaches i pc v out (above ++ frame free bound) v out (operand_value bound o ∷ (above ++ frame free bound)) rest
 operand_reach i pc site free v out above bound o rest h l d =
     reach_one i pc v out (above ++ frame free bound) (operand_value bound o ∷ (above ++ frame free bound)) None (operand_code site (names bound) o) rest d
-      (ap (λ s. act i s (operand_code site (names bound) o).instr (regs pc (above ++ frame free bound)) []) (operand_site site (names bound) o) ∙ operand_act i pc site free above bound o h l) (omega arith)
+    (ap (λ s. act i s (operand_code site (names bound) o).instr (regs pc (above ++ frame free bound)) []) (operand_site site (names bound) o) ∙ operand_act i pc site free above bound o h l) (omega arith)
 
 -- there is room for a second operand, where there is one
 abbrev Roomy : List Operand → ℕ → ℕ → Type 0
@@ -292,6 +292,7 @@ sum_reach i pc site free v out bound s rest h l d =
     more_fits : (os : List Operand) (n room : ℕ) → n + (if length os == 0 then 1 else 2) ≤ room → Roomy os n room
     more_fits [] n room h = tt
     more_fits (o ∷ os) n room h = grind (arith, nat_tests)
+
     first_fits : (s : Sum) (n room : ℕ) → n + sum_depth s ≤ room → n < room
     first_fits s n room h = grind arith
 
@@ -301,8 +302,8 @@ store_reach : (i : Parts) (pc site free : ℕ) (v : List ℤ) (out : List Said) 
 store_reach i pc site free v out bound x w rest l d =
     let n : length (names bound) ≡ length bound = length-map bound (λ b. b.name) in
     reach_one i pc v out (w ∷ frame (suc free) bound) (frame free (bind bound x w)) None (placed site (Store (length (names bound)))) rest d
-      (store_next i pc site (frame (suc free) bound) w (length (names bound)) (omega (arith, length-frame (suc free) bound))
-      ∙ ap (λ l. moves (pc + 1) 0 l) (ap (λ k. set_level (frame (suc free) bound) k w) n ∙ stored free bound x w)) (omega arith)
+    (store_next i pc site (frame (suc free) bound) w (length (names bound)) (omega (arith, length-frame (suc free) bound))
+    ∙ ap (λ l. moves (pc + 1) 0 l) (ap (λ k. set_level (frame (suc free) bound) k w) n ∙ stored free bound x w)) (omega arith)
 
 let_reach : (i : Parts) (pc site free : ℕ) (v : List ℤ) (out : List Said) (bound : List Bound) (x : Text) (s : Sum) (rest : List Placed) → sum_named (names bound) s ≡ true → length (frame (suc free) bound) + sum_depth s ≤ i.stack → drop pc i.code ≡ statement_code site i.names.sensors i.names.ports (names bound) (let_sum x s) ++ rest → Reaches i pc v out (frame (suc free) bound) v out (frame free (bind bound x (sum_value bound s))) rest
 let_reach i pc site free v out bound x s rest h l d =
@@ -327,7 +328,7 @@ emit_reach : (i : Parts) (pc site free : ℕ) (v : List ℤ) (out : List Said) (
 emit_reach i pc site free v out bound p s rest h l d =
     let a = sum_reach i pc site free v out bound s (placed site (Emit (place_of i.names.ports p)) ∷ rest) h l (d ∙ append_assoc (sum_code site (names bound) s) (placed site (Emit (place_of i.names.ports p)) ∷ []) rest) in
     then_reach i pc v v v out out (out ++ Showed (Emitted (place_of i.names.ports p) (sum_value bound s)) ∷ []) _ _ _ _ _ a
-      (reach_one i a.to v out (sum_value bound s ∷ frame free bound) (frame free bound) (Some (Emitted (place_of i.names.ports p) (sum_value bound s))) (placed site (Emit (place_of i.names.ports p))) rest a.left (emit_next i a.to site (frame free bound) (sum_value bound s) (place_of i.names.ports p)) (enough s (length (frame free bound)) i.stack l))
+    (reach_one i a.to v out (sum_value bound s ∷ frame free bound) (frame free bound) (Some (Emitted (place_of i.names.ports p) (sum_value bound s))) (placed site (Emit (place_of i.names.ports p))) rest a.left (emit_next i a.to site (frame free bound) (sum_value bound s) (place_of i.names.ports p)) (enough s (length (frame free bound)) i.stack l))
   where
     enough : (s : Sum) (n room : ℕ) → n + sum_depth s ≤ room → suc n ≤ room
     enough s n room h = grind arith
@@ -347,33 +348,33 @@ statements_finish i site pc bound (let_input x s ∷ ss) (w ∷ v) out h l d =
     let a = input_reach i pc site (length (variables_in ss)) w v out bound x s (statements_code (site + 1) i.names.sensors i.names.ports (names bound ++ x ∷ []) ss ++ placed 0 Halt ∷ []) (omega (arith, length-frame (suc (length (variables_in ss))) bound)) d in
     let e = names-bind bound x w in
     let f = statements_finish i (site + 1) a.to (bind bound x w) ss v (out ++ said ∷ [])
-              (ap (λ l. statements_named i.names.sensors i.names.ports l ss) e ∙ p.1)
-              (omega (arith, length-append bound (record { name = x; value = w } ∷ [])))
-              (a.left ∙ ap (λ l. statements_code (site + 1) i.names.sensors i.names.ports l ss ++ placed 0 Halt ∷ []) (sym e)) in
+    (ap (λ l. statements_named i.names.sensors i.names.ports l ss) e ∙ p.1)
+    (omega (arith, length-append bound (record { name = x; value = w } ∷ [])))
+    (a.left ∙ ap (λ l. statements_code (site + 1) i.names.sensors i.names.ports l ss ++ placed 0 Halt ∷ []) (sym e)) in
     then_finish i a.count (w ∷ v) v out (out ++ said ∷ []) (core pc (frame (suc (length (variables_in ss))) bound)) (core a.to (frame (length (variables_in ss)) (bind bound x w))) (said ∷ rest) rest a.steps (append_assoc out (said ∷ []) rest) f
 statements_finish i site pc bound (let_sum x s ∷ ss) v out h l d =
     let p = and_parts (sum_named (names bound) s) (statements_named i.names.sensors i.names.ports (names bound ++ x ∷ []) ss) h in
     let w = sum_value bound s in
     let said = statements_run i.names.sensors i.names.ports (bind bound x w) ss v in
     let a = let_reach i pc site (length (variables_in ss)) v out bound x s (statements_code (site + 1) i.names.sensors i.names.ports (names bound ++ x ∷ []) ss ++ placed 0 Halt ∷ []) p.0 (omega (arith, length-frame (suc (length (variables_in ss))) bound))
-              (d ∙ append_assoc (statement_code site i.names.sensors i.names.ports (names bound) (let_sum x s)) (statements_code (site + 1) i.names.sensors i.names.ports (names bound ++ x ∷ []) ss) (placed 0 Halt ∷ [])) in
+    (d ∙ append_assoc (statement_code site i.names.sensors i.names.ports (names bound) (let_sum x s)) (statements_code (site + 1) i.names.sensors i.names.ports (names bound ++ x ∷ []) ss) (placed 0 Halt ∷ [])) in
     let e = names-bind bound x w in
     let f = statements_finish i (site + 1) a.to (bind bound x w) ss v out
-              (ap (λ l. statements_named i.names.sensors i.names.ports l ss) e ∙ p.1)
-              (omega (arith, length-append bound (record { name = x; value = w } ∷ [])))
-              (a.left ∙ ap (λ l. statements_code (site + 1) i.names.sensors i.names.ports l ss ++ placed 0 Halt ∷ []) (sym e)) in
+    (ap (λ l. statements_named i.names.sensors i.names.ports l ss) e ∙ p.1)
+    (omega (arith, length-append bound (record { name = x; value = w } ∷ [])))
+    (a.left ∙ ap (λ l. statements_code (site + 1) i.names.sensors i.names.ports l ss ++ placed 0 Halt ∷ []) (sym e)) in
     then_finish i a.count v v out out (core pc (frame (suc (length (variables_in ss))) bound)) (core a.to (frame (length (variables_in ss)) (bind bound x w))) said said a.steps refl f
 statements_finish i site pc bound (emit p s ∷ ss) v out h l d =
     let q = and_parts (is_among i.names.ports p && sum_named (names bound) s) (statements_named i.names.sensors i.names.ports (names bound ++ []) ss) h in
     let said = Showed (Emitted (place_of i.names.ports p) (sum_value bound s)) in
     let rest = statements_run i.names.sensors i.names.ports bound ss v in
     let a = emit_reach i pc site (length (variables_in ss)) v out bound p s (statements_code (site + 1) i.names.sensors i.names.ports (names bound ++ []) ss ++ placed 0 Halt ∷ []) (and_parts (is_among i.names.ports p) (sum_named (names bound) s) q.0).1 (omega (arith, length-frame (length (variables_in ss)) bound))
-              (d ∙ append_assoc (statement_code site i.names.sensors i.names.ports (names bound) (emit p s)) (statements_code (site + 1) i.names.sensors i.names.ports (names bound ++ []) ss) (placed 0 Halt ∷ [])) in
+    (d ∙ append_assoc (statement_code site i.names.sensors i.names.ports (names bound) (emit p s)) (statements_code (site + 1) i.names.sensors i.names.ports (names bound ++ []) ss) (placed 0 Halt ∷ [])) in
     let e = append_nil (names bound) in
     let f = statements_finish i (site + 1) a.to bound ss v (out ++ said ∷ [])
-              (ap (λ l. statements_named i.names.sensors i.names.ports l ss) (sym e) ∙ q.1)
-              (omega arith)
-              (a.left ∙ ap (λ l. statements_code (site + 1) i.names.sensors i.names.ports l ss ++ placed 0 Halt ∷ []) e) in
+    (ap (λ l. statements_named i.names.sensors i.names.ports l ss) (sym e) ∙ q.1)
+    (omega arith)
+    (a.left ∙ ap (λ l. statements_code (site + 1) i.names.sensors i.names.ports l ss ++ placed 0 Halt ∷ []) e) in
     then_finish i a.count v v out (out ++ said ∷ []) (core pc (frame (length (variables_in ss)) bound)) (core a.to (frame (length (variables_in ss)) bound)) (said ∷ rest) rest a.steps (append_assoc out (said ∷ []) rest) f
 
 -- ---- the whole program

@@ -145,8 +145,8 @@ declared_at ls = do
 unfoldable pub declaration_at : List Lexeme → Option (Option Declaration × List Lexeme)
 declaration_at ls =
     with_some (strip_at symbols.Sensor ls)
-      (with_some (strip_at symbols.Port ls) (Some (None, ls)) (λ ls. declared_at ls >>= λ x. Some (Some (port x.0), x.1)))
-      (λ ls. declared_at ls >>= λ x. Some (Some (sensor x.0), x.1))
+    (with_some (strip_at symbols.Port ls) (Some (None, ls)) (λ ls. declared_at ls >>= λ x. Some (Some (port x.0), x.1)))
+    (λ ls. declared_at ls >>= λ x. Some (Some (sensor x.0), x.1))
 
 -- no declaration begins here
 abbrev pub Stops : List Lexeme → Type 0

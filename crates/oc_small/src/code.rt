@@ -12,8 +12,11 @@ use oc_isa::instr::{BinOp, Instr, Placed};
 use std::alloc::Global;
 
 const SENSORS: usize = 64;
+
 const PORTS: usize = 64;
+
 const VARIABLES: usize = 256;
+
 const STATEMENTS: usize = 8192;
 
 /// How many operands follow the first one at most.
@@ -85,12 +88,7 @@ fn operand(
     }
 }
 
-fn sum(
-    code: &mut Vec<Placed>,
-    visible: &[&[u8]],
-    site: u32,
-    sum: &Sum,
-) -> Result<(), Refused>
+fn sum(code: &mut Vec<Placed>, visible: &[&[u8]], site: u32, sum: &Sum) -> Result<(), Refused>
     requires { length visible.now ≤ 256 }
     ensures code { OnOk result (code.new.items ≡ code.old.items ++ sum_code site (names_view visible.now) (sum_view sum.now)) }
     ensures named { OnOk result (sum_named (names_view visible.now) (sum_view sum.now) ≡ true) }

@@ -79,5 +79,4 @@ fn image_of(alloc: Global, source: &[u8], tokens: &[Token]) -> Result<Image, Ref
 /// No tokens are two small programs.
 pub fn one_small()
     ensures { (source : List ℕ) (tokens : List SomeToken) (p q : Small) → IsSmall source tokens p → IsSmall source tokens q → p ≡ q }
-{
-}
+{}

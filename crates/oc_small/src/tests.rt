@@ -36,7 +36,11 @@ fn expect_code(
     assert_eq!(rt; raw.functions.len(), 1);
     let main = raw.functions.first().ok_or("no function")?;
     assert_eq!(rt; main.name.bytes(), b"main".as_slice());
-    assert_eq!(rt; (main.entry, main.params, main.frame), (0, 0, frame), "{source}");
+    assert_eq!(rt;
+        (main.entry, main.params, main.frame),
+        (0, 0, frame),
+        "{source}"
+    );
     assert!(rt; raw.targets.is_empty() && raw.nv.is_empty() && raw.names.nvs.is_empty());
     Ok(())
 }

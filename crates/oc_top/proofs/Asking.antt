@@ -39,7 +39,7 @@ ready_run files plan machine sensors left r =
       powered = r.powered;
       is_run = ap (λ (i : Parts). runs i sensors.rows left) b.is_code ∙ ap (λ (ps : List Period). runs (small_code b.small) sensors.rows ps) r.planned;
       honest = subst (λ (ps : List Period). IsHonestThroughout b.small (history sensors.rows) ((power_run (device_of (small_code b.small)) (history sensors.rows) ps).report)) r.planned
-        (subst (λ (i : Parts). IsHonestThroughout b.small (history sensors.rows) ((power_run (device_of i) (history sensors.rows) left).report)) b.is_code honest);
+          (subst (λ (i : Parts). IsHonestThroughout b.small (history sensors.rows) ((power_run (device_of i) (history sensors.rows) left).report)) b.is_code honest);
     }
 
 module _ {S : Type 0} (holds : List ℕ → Held) (words : List (List ℕ)) (task : Task) (unread : Type 0) (took : S → List ℕ → S → Type 0) (faults : S → ℕ) (old new : S) (end : Answer) (files : Files) (fetched : AreFiles holds words task.first files) where

@@ -134,7 +134,7 @@ module _ {S : Type 0} (took : S → List ℕ → S → Type 0) (faults : S → �
   verdict_at : (x : Answer) → x ≡ answer_at parts (history rows) periods run.state.phase
       → ◌≡◌ {A = Verdict} (record { answer = x; text = text ++ cond (is_over_with parts (history rows) periods x) (variables parts (history rows) periods) [] }) (runs parts rows periods)
   verdict_at x e = same_verdict x _ _ _ (e ∙ sym (answer_is parts (history rows) periods))
-    (ap (λ (z : Answer). text ++ cond (is_over_with parts (history rows) periods z) (variables parts (history rows) periods) []) e ∙ sym (text_is parts (history rows) periods))
+      (ap (λ (z : Answer). text ++ cond (is_over_with parts (history rows) periods z) (variables parts (history rows) periods) []) e ∙ sym (text_is parts (history rows) periods))
 
   as_run : (a c : S) (x end : Answer) → x ≡ answer_at parts (history rows) periods run.state.phase
       → IsWritten took faults a c (record { answer = x; text = text ++ cond (is_over_with parts (history rows) periods x) (variables parts (history rows) periods) [] }) end → IsWritten took faults a c (runs parts rows periods) end

@@ -12,7 +12,6 @@ use Rattle.oc_top.proofs.Taking.{took_flushed}
 abbrev pub Stays : Answer → Answer → Type 0 → Type 0
 Stays before after rose = (after ≡ before) ⊎ ((after ≡ answer.WriteFault) × rose)
 
-
 module _ {S : Type 0} (took : S → List ℕ → S → Type 0) (faults : S → ℕ) (both : Both took) where
   -- a text was taken and then flushed
   pub flushed_written : (a b c : S) (before after : Answer) (text : List ℕ) → faults a ≤ faults b → took a text b → took b [] c → Stays before after (Rose (faults b) (faults c))

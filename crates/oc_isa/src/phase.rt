@@ -1,5 +1,7 @@
 //! What the machine is about.
 
+use oc_tree::said::Ending;
+
 /// What is under way.
 #[derive(Clone, Copy, Debug, PartialEq, Eq)]
 pub enum Phase {
@@ -13,8 +15,8 @@ pub enum Phase {
     Running,
     /// An outermost `enter` has saved so many words.
     Entering { done: usize },
-    /// The run has ended.
-    Over,
+    /// The run has ended by itself.
+    Over { how: Ending },
     /// A low-power checkpoint didn't complete, and the run is over.
     Lost,
 }

@@ -3,7 +3,7 @@ use Rattle.std.proofs.Common.{◌≡◌, ℕ, ◌+◌, ◌-◌, ℤ, List, Optio
 use Rattle.std.specs.Prelude.{slice_get}
 use Rattle.oc_isa.specs.declared.instr.Placed.{Placed}
 use Rattle.oc_isa.specs.declared.instr.Instr.{Instr}
-use Rattle.oc_isa.specs.declared.instr.Instr.TheVariants.{Push, Load, Store, Nload, Nstore, Addr, Naddr, Get, Put, Index, Bin, Un, Jump, Jfalse, Call, Ret, Retv, Drop, Sense, Emit, Probe, Enter, Commit, Halt}
+use Rattle.oc_isa.specs.declared.instr.Instr.TheVariants.{Enter}
 use Rattle.oc_isa.specs.Image.{Parts}
 use Rattle.oc_isa.specs.Next.{Regs, Next, Enters, Stuck}
 use Rattle.oc_isa.specs.Table.{on, act, region_of, region_in, device_of}

@@ -111,7 +111,7 @@ module _ (d : Device) where
   abbrev pub OnOpen : Phase → ℕ → State → List Told → ℕ → Type 0
   OnOpen Running zero s report made = IsSettled report made (regs_of s) s.nv × (s.log ≡ [])
   OnOpen (Entering done) depth s report made = IsEntering report made done (regs_of s) s.nv s.log s.words
-  OnOpen Over depth s report made = IsWhole d made report s.nv
+  OnOpen (Over how) depth s report made = IsWhole d made report s.nv
   OnOpen Lost depth s report made = Unit {0}
   OnOpen p depth s report made = ⊥
 
@@ -125,7 +125,7 @@ module _ (d : Device) where
   OnArmed (Undoing k) depth s report made = IsUndoing report made s.nv s.log s.words k
   OnArmed (Restoring done) depth s report made = IsUndone report made done s.pc s.fp s.stack s.nv s.log s.words
   OnArmed Running (suc depth) s report made = IsRunning report made (regs_of s) (suc depth) s.nv s.log s.words
-  OnArmed Over depth s report made = IsWhole d made report s.nv
+  OnArmed (Over how) depth s report made = IsWhole d made report s.nv
   OnArmed p depth s report made = ⊥
 
   -- exactly one fact for each state of the area

@@ -16,7 +16,7 @@ use Rattle.oc_outage.specs.Honest.{EndsWith, IsLeft, is_armed, loses, loses_chec
 
 -- a step of a run that isn't over loses no checkpoint, and ends the run only where it says so
 abbrev IsTold : Phase → Option Said → Type 0
-IsTold Over said = (how : Ending) × (said ≡ Some (Ended how))
+IsTold (Over how) said = said ≡ Some (Ended how)
 IsTold Lost said = ⊥
 IsTold p said = Unit {0}
 
@@ -78,12 +78,12 @@ next_tells sample (Goes to w v) s = goes_tells (to_log s.depth w s.log) to w v s
 next_tells sample (Senses x to) s = tt
 next_tells sample (Enters r to) s = enters_tells s.depth r to (in_phase s Running)
 next_tells sample (Commits r to) s = commits_tells s.depth r to s
-next_tells sample (Ends how) s = (how, refl)
+next_tells sample (Ends how) s = refl
 next_tells sample Stuck s = tt
 
 -- a run that is over has its last item; a step or an outage leaves that alone
 abbrev IsClosed : Phase → List Told → Type 0
-IsClosed Over report = IsLeft Over report
+IsClosed (Over how) report = IsLeft (Over how) report
 IsClosed Lost report = IsLeft Lost report
 IsClosed p report = Unit {0}
 
@@ -96,7 +96,7 @@ closes (Undoing k) said report t q = tt
 closes (Restoring k) said report t q = tt
 closes Running said report t q = tt
 closes (Entering k) said report t q = tt
-closes Over said report t q = (q.0, (report, t, ap (told report t) q.1))
+closes (Over how) said report t q = (report, t, ap (told report t) q)
 closes Lost said report t q = absurd q
 
 abbrev is_lost : Phase → Bool
@@ -110,7 +110,7 @@ told_unlost (Undoing k) said q = refl
 told_unlost (Restoring k) said q = refl
 told_unlost Running said q = refl
 told_unlost (Entering k) said q = refl
-told_unlost Over said q = refl
+told_unlost (Over how) said q = refl
 told_unlost Lost said q = absurd q
 
 abbrev world_in : World → Phase → World
@@ -131,7 +131,7 @@ module _ (d : Device) (h : ℕ → ℕ → ℤ) where
   tick_by (Restoring k) w = keeps_of (world_in w (Restoring k)) _ refl (restore_tells d k w.state)
   tick_by Running w = keeps_of (world_in w Running) _ refl (next_tells (λ s. h s w.tick) (next_at d w.state) w.state)
   tick_by (Entering k) w = keeps_of (world_in w (Entering k)) _ refl (enter_on_tells k (next_at d w.state) w.state)
-  tick_by Over w = record { closed = λ c. c; lost = refl }
+  tick_by (Over how) w = record { closed = λ c. c; lost = refl }
   tick_by Lost w = record { closed = λ c. c; lost = refl }
 
   ticks_by : (n : ℕ) (w : World) → Keeps w (ticks_on d h n w)
@@ -177,7 +177,7 @@ module _ (d : Device) (h : ℕ → ℕ → ℤ) where
   fails_by p (Restoring k) w = record { closed = λ c. tt; lost = asleep p.cut }
   fails_by p Running w = record { closed = λ c. awake_closed p.cut w.state.area (record w.state { phase = Running }) _ w.tick p.off; lost = awake_lost p.cut w.state.area (record w.state { phase = Running }) }
   fails_by p (Entering k) w = record { closed = λ c. awake_closed p.cut w.state.area (record w.state { phase = Entering k }) _ w.tick p.off; lost = awake_lost p.cut w.state.area (record w.state { phase = Entering k }) }
-  fails_by p Over w = record { closed = λ c. c; lost = asleep p.cut }
+  fails_by p (Over how) w = record { closed = λ c. c; lost = asleep p.cut }
   fails_by p Lost w = record { closed = λ c. c; lost = refl }
 
   -- the end
@@ -191,7 +191,7 @@ module _ (d : Device) (h : ℕ → ℕ → ℤ) where
   dark_by (Restoring k) w = record { last = λ c. (w.report, w.tick, refl); lost_is = refl }
   dark_by Running w = record { last = λ c. (w.report, w.tick, refl); lost_is = refl }
   dark_by (Entering k) w = record { last = λ c. (w.report, w.tick, refl); lost_is = refl }
-  dark_by Over w = record { last = λ c. c; lost_is = refl }
+  dark_by (Over how) w = record { last = λ c. c; lost_is = refl }
   dark_by Lost w = record { last = λ c. c; lost_is = refl }
 
   choice_assoc : (a b c : Bool) → (if (if a then true else b) then true else c) ≡ (if a then true else (if b then true else c))
@@ -226,7 +226,7 @@ module _ (d : Device) (h : ℕ → ℕ → ℤ) where
   lost_is (Restoring k) e = absurd (cc)
   lost_is Running e = absurd (cc)
   lost_is (Entering k) e = absurd (cc)
-  lost_is Over e = absurd (cc)
+  lost_is (Over how) e = absurd (cc)
   lost_is Lost e = refl
 
   pub lost_exactly : (periods : List Period) → ((power_run d h periods).state.phase ≡ Lost) ↔ (loses_checkpoint d h periods (first_world d) ≡ true)
@@ -247,19 +247,19 @@ last_same (x ∷ xs) (y ∷ ys) i j e = last_same xs ys i j (cc)
 ends_same : (report : List Told) (r s : Said) → EndsWith report r → EndsWith report s → r ≡ s
 ends_same report r s a b = ap (λ (i : Told). i.said) (last_same a.0 b.0 _ _ (sym a.2 ∙ b.2))
 
-pub ended_over : (p : Phase) (report : List Told) (how : Ending) → IsLeft p report → EndsWith report (Ended how) → p ≡ Over
+pub ended_over : (p : Phase) (report : List Told) (how : Ending) → IsLeft p report → EndsWith report (Ended how) → p ≡ Over how
 ended_over Waking report how l e = let s = ends_same report Dark (Ended how) l e in absurd (cc)
 ended_over (Undoing k) report how l e = let s = ends_same report Dark (Ended how) l e in absurd (cc)
 ended_over (Restoring k) report how l e = let s = ends_same report Dark (Ended how) l e in absurd (cc)
 ended_over Running report how l e = let s = ends_same report Dark (Ended how) l e in absurd (cc)
 ended_over (Entering k) report how l e = let s = ends_same report Dark (Ended how) l e in absurd (cc)
-ended_over Over report how l e = refl
+ended_over (Over other) report how l e = let s = ends_same report (Ended other) (Ended how) l e in cc
 ended_over Lost report how l e = let s = ends_same report (Off l.0) (Ended how) l.1 e in absurd (cc)
 
-over_ended : (p : Phase) (report : List Told) → IsLeft p report → p ≡ Over → (how : Ending) × EndsWith report (Ended how)
-over_ended p report l e = subst (λ p. IsLeft p report) e l
+over_ended : (p : Phase) (report : List Told) (how : Ending) → IsLeft p report → p ≡ Over how → EndsWith report (Ended how)
+over_ended p report how l e = subst (λ p. IsLeft p report) e l
 
-pub over_exactly : (d : Device) (h : ℕ → ℕ → ℤ) (periods : List Period) → ((power_run d h periods).state.phase ≡ Over) ↔ ((how : Ending) × EndsWith (power_run d h periods).report (Ended how))
-over_exactly d h periods =
+pub over_exactly : (d : Device) (h : ℕ → ℕ → ℤ) (periods : List Period) (how : Ending) → ((power_run d h periods).state.phase ≡ Over how) ↔ EndsWith (power_run d h periods).report (Ended how)
+over_exactly d h periods how =
     let l = last_item d h periods in
-    (λ e. over_ended _ _ l e, λ e. ended_over _ _ e.0 l e.1)
+    (λ e. over_ended _ _ how l e, λ e. ended_over _ _ how l e)

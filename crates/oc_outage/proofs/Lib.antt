@@ -12,3 +12,6 @@ pub mod Outages
 pub mod Runs
 pub mod Lasting
 pub mod Enters
+pub mod Going
+pub mod Resting
+pub mod Depth

@@ -17,13 +17,11 @@ use Rattle.oc_outage.specs.Honest.{IsPrefixOf}
 use Rattle.oc_outage.proofs.Continues.{IsAt, fits}
 use Rattle.oc_outage.proofs.Erasing.{item, erase-attempt}
 use Rattle.oc_outage.proofs.Facts.{state_at, regs_at, IsSettled, IsEntry, IsAttempt, IsSealed, IsWaking, IsRunning, Holds, AreHonest, IsGood}
+use Rattle.oc_outage.proofs.Going.{world_at}
 use Rattle.oc_outage.proofs.Growing.{inside, read_more}
 use Rattle.oc_outage.proofs.Inside.{parts_more}
 use Rattle.oc_outage.proofs.Reports.{honest_all, honest_more, off_honest, settled_off, entry_off}
 use Rattle.oc_outage.proofs.Words.{length-words_of, saved_word, all_saved, length-save_all}
-
-abbrev pub world_at : ℕ → State → List Told → World
-world_at t s report = record { tick = t; state = s; report = report }
 
 -- an attempt is aborted
 module _ (d : Device) (report : List Told) (made t r : ℕ) (saved regs : Regs) (depth : ℕ) (nv : List ℤ) (log : List Entry) (s : IsAttempt d report made r saved regs depth nv log) where
@@ -104,7 +102,7 @@ module _ (d : Device) (h : ℕ → ℕ → ℤ) (report : List Told) (made t on 
   fails_by cut Fresh (Restoring k) pc fp depth s = absurd s
   fails_by cut Fresh Running pc fp depth s = absurd s
   fails_by cut Fresh (Entering k) pc fp depth s = absurd s
-  fails_by cut Fresh Over pc fp depth s = absurd s
+  fails_by cut Fresh (Over how) pc fp depth s = absurd s
   fails_by cut Fresh Lost pc fp depth s = absurd s
   fails_by cut Open Waking pc fp depth s = absurd s
   fails_by cut Open (Undoing k) pc fp depth s = absurd s
@@ -112,14 +110,14 @@ module _ (d : Device) (h : ℕ → ℕ → ℤ) (report : List Told) (made t on 
   fails_by cut Open Running pc fp zero s = fails_open cut pc fp s.0 s.1
   fails_by cut Open Running pc fp (suc depth) s = absurd s
   fails_by cut Open (Entering k) pc fp depth s = fails_entering cut k pc fp depth s.settled s.empty
-  fails_by cut Open Over pc fp depth s = record { holds = s; honest = a; sized = sized }
+  fails_by cut Open (Over how) pc fp depth s = record { holds = s; honest = a; sized = sized }
   fails_by cut Open Lost pc fp depth s = record { holds = tt; honest = a; sized = sized }
   fails_by cut Sealed Waking pc fp depth s = record { holds = (sealed_off d report made t off nv words s.0, s.1); honest = off_honest d h report made t off a s.0.settled.closed; sized = sized }
   fails_by cut Sealed (Undoing k) pc fp depth s = absurd s
   fails_by cut Sealed (Restoring k) pc fp depth s = record { holds = (sealed_off d report made t off nv words s.0.sealed, s.1); honest = off_honest d h report made t off a s.0.sealed.settled.closed; sized = sized }
   fails_by cut Sealed Running pc fp depth s = absurd s
   fails_by cut Sealed (Entering k) pc fp depth s = absurd s
-  fails_by cut Sealed Over pc fp depth s = absurd s
+  fails_by cut Sealed (Over how) pc fp depth s = absurd s
   fails_by cut Sealed Lost pc fp depth s = absurd s
   fails_by cut Armed Waking pc fp depth s = record { holds = waking_off d report made t off nv log words s; honest = off_honest d h report made t off a s.entry.closed; sized = sized }
   fails_by cut Armed (Undoing k) pc fp depth s = record { holds = waking_off d report made t off nv log words s.waking; honest = off_honest d h report made t off a s.waking.entry.closed; sized = sized }
@@ -127,7 +125,7 @@ module _ (d : Device) (h : ℕ → ℕ → ℤ) (report : List Told) (made t on 
   fails_by cut Armed Running pc fp zero s = absurd s
   fails_by cut Armed Running pc fp (suc depth) s = fails_armed cut pc fp depth s
   fails_by cut Armed (Entering k) pc fp depth s = absurd s
-  fails_by cut Armed Over pc fp depth s = record { holds = s; honest = a; sized = sized }
+  fails_by cut Armed (Over how) pc fp depth s = record { holds = s; honest = a; sized = sized }
   fails_by cut Armed Lost pc fp depth s = absurd s
 
 module _ (d : Device) (h : ℕ → ℕ → ℤ) where

@@ -4,6 +4,7 @@ use Rattle.std.proofs.lemmas.List.{length-replicate}
 use Rattle.oc_io.specs.declared.period.Period.{Period}
 use Rattle.oc_tree.specs.Said.{Told}
 use Rattle.oc_tree.specs.Word.{is_word}
+use Rattle.oc_tree.specs.declared.said.Ending.{Ending}
 use Rattle.oc_undo.specs.declared.Entry.{Entry}
 use Rattle.oc_ckpt.specs.declared.AreaState.{AreaState}
 use Rattle.oc_ckpt.specs.declared.AreaState.TheVariants.{Fresh, Open, Sealed, Armed}
@@ -30,7 +31,7 @@ module _ (d : Device) (h : ℕ → ℕ → ℤ) (fit : IsFit d) (words_of_h : (s
     step_keeps Fresh (Restoring k) pc fp depth s = absurd s
     step_keeps Fresh Running pc fp depth s = absurd s
     step_keeps Fresh (Entering k) pc fp depth s = absurd s
-    step_keeps Fresh Over pc fp depth s = absurd s
+    step_keeps Fresh (Over how) pc fp depth s = absurd s
     step_keeps Fresh Lost pc fp depth s = absurd s
     step_keeps Open Waking pc fp depth s = absurd s
     step_keeps Open (Undoing k) pc fp depth s = absurd s
@@ -38,14 +39,14 @@ module _ (d : Device) (h : ℕ → ℕ → ℤ) (fit : IsFit d) (words_of_h : (s
     step_keeps Open Running pc fp zero s = open_keeps d h fit words_of_h report made t pc fp stack nv log words a sized s.0 s.1
     step_keeps Open Running pc fp (suc depth) s = absurd s
     step_keeps Open (Entering k) pc fp depth s = enter_goes_on d h fit report made t (Entering k) pc fp depth stack nv log words a sized k s
-    step_keeps Open Over pc fp depth s = (whole_later d report made nv s, honest_later d h report made a, sized)
+    step_keeps Open (Over how) pc fp depth s = (whole_later d report made nv s, honest_later d h report made a, sized)
     step_keeps Open Lost pc fp depth s = (tt, honest_later d h report made a, sized)
     step_keeps Sealed Waking pc fp depth s = ((record { sealed = sealed_later d report made nv words s.0; restored = none_restored d pc fp stack _ }, s.1), honest_later d h report made a, sized)
     step_keeps Sealed (Undoing k) pc fp depth s = absurd s
     step_keeps Sealed (Restoring k) pc fp depth s = sealed_keeps d h report made t k pc fp depth stack nv log words a sized s.0 s.1
     step_keeps Sealed Running pc fp depth s = absurd s
     step_keeps Sealed (Entering k) pc fp depth s = absurd s
-    step_keeps Sealed Over pc fp depth s = absurd s
+    step_keeps Sealed (Over how) pc fp depth s = absurd s
     step_keeps Sealed Lost pc fp depth s = absurd s
     step_keeps Armed Waking pc fp depth s = armed_wakes d h report made t pc fp depth stack nv log words a sized s
     step_keeps Armed (Undoing k) pc fp depth s = undo_keeps d h report made t pc fp depth stack nv log words a sized k s
@@ -53,7 +54,7 @@ module _ (d : Device) (h : ℕ → ℕ → ℤ) (fit : IsFit d) (words_of_h : (s
     step_keeps Armed Running pc fp zero s = absurd s
     step_keeps Armed Running pc fp (suc depth) s = armed_keeps d h words_of_h report made t pc fp stack depth nv log words a sized s
     step_keeps Armed (Entering k) pc fp depth s = absurd s
-    step_keeps Armed Over pc fp depth s = (whole_later d report made nv s, honest_later d h report made a, sized)
+    step_keeps Armed (Over how) pc fp depth s = (whole_later d report made nv s, honest_later d h report made a, sized)
     step_keeps Armed Lost pc fp depth s = absurd s
 
   abbrev in_phase : World → Phase → World
@@ -71,7 +72,7 @@ module _ (d : Device) (h : ℕ → ℕ → ℤ) (fit : IsFit d) (words_of_h : (s
   tick_by (Restoring k) made w g = good_after (Restoring k) made w g
   tick_by Running made w g = good_after Running made w g
   tick_by (Entering k) made w g = good_after (Entering k) made w g
-  tick_by Over made w g = let s = step_stays Over made w g in record { holds = s.0; honest = s.1; sized = s.2 }
+  tick_by (Over how) made w g = let s = step_stays (Over how) made w g in record { holds = s.0; honest = s.1; sized = s.2 }
   tick_by Lost made w g = let s = step_stays Lost made w g in record { holds = s.0; honest = s.1; sized = s.2 }
 
   tick_keeps : (made : ℕ) (w : World) → IsGood d h made w → IsGood d h (suc made) (tick_on d h w)
@@ -86,22 +87,22 @@ module _ (d : Device) (h : ℕ → ℕ → ℤ) (fit : IsFit d) (words_of_h : (s
   -- at the end: the report is honest, and whole where the run ended by itself
   pub record IsEnd (made : ℕ) (w : World) : Type 0 where
     pub honest : AreHonest d h made w.report
-    pub whole : w.state.phase ≡ Over → IsWhole d made w.report w.state.nv
+    pub whole : (how : Ending) → w.state.phase ≡ Over how → IsWhole d made w.report w.state.nv
 
-  over_whole : (area : AreaState) (depth made : ℕ) (s : State) (report : List Told) → Holds d area Over depth s report made → IsWhole d made report s.nv
-  over_whole Fresh depth made s report g = absurd g
-  over_whole Open depth made s report g = g
-  over_whole Sealed depth made s report g = absurd g
-  over_whole Armed depth made s report g = g
+  over_whole : (area : AreaState) (how : Ending) (depth made : ℕ) (s : State) (report : List Told) → Holds d area (Over how) depth s report made → IsWhole d made report s.nv
+  over_whole Fresh how depth made s report g = absurd g
+  over_whole Open how depth made s report g = g
+  over_whole Sealed how depth made s report g = absurd g
+  over_whole Armed how depth made s report g = g
 
   dark_by : (phase : Phase) (made : ℕ) (w : World) → IsGood d h made (in_phase w phase) → IsEnd made (darkness (in_phase w phase))
-  dark_by Waking made w g = record { honest = dark_honest d h w.report made w.tick g.honest; whole = λ e. absurd (cc) }
-  dark_by (Undoing k) made w g = record { honest = dark_honest d h w.report made w.tick g.honest; whole = λ e. absurd (cc) }
-  dark_by (Restoring k) made w g = record { honest = dark_honest d h w.report made w.tick g.honest; whole = λ e. absurd (cc) }
-  dark_by Running made w g = record { honest = dark_honest d h w.report made w.tick g.honest; whole = λ e. absurd (cc) }
-  dark_by (Entering k) made w g = record { honest = dark_honest d h w.report made w.tick g.honest; whole = λ e. absurd (cc) }
-  dark_by Over made w g = record { honest = g.honest; whole = λ e. over_whole w.state.area w.state.depth made (record w.state { phase = Over }) w.report g.holds }
-  dark_by Lost made w g = record { honest = g.honest; whole = λ e. absurd (cc) }
+  dark_by Waking made w g = record { honest = dark_honest d h w.report made w.tick g.honest; whole = λ how e. absurd (cc) }
+  dark_by (Undoing k) made w g = record { honest = dark_honest d h w.report made w.tick g.honest; whole = λ how e. absurd (cc) }
+  dark_by (Restoring k) made w g = record { honest = dark_honest d h w.report made w.tick g.honest; whole = λ how e. absurd (cc) }
+  dark_by Running made w g = record { honest = dark_honest d h w.report made w.tick g.honest; whole = λ how e. absurd (cc) }
+  dark_by (Entering k) made w g = record { honest = dark_honest d h w.report made w.tick g.honest; whole = λ how e. absurd (cc) }
+  dark_by (Over how) made w g = record { honest = g.honest; whole = λ other e. over_whole w.state.area how w.state.depth made (record w.state { phase = Over how }) w.report g.holds }
+  dark_by Lost made w g = record { honest = g.honest; whole = λ how e. absurd (cc) }
 
   through_keeps : (periods : List Period) (made : ℕ) (w : World) → IsGood d h made w → IsEnd (made + all_on periods) (through d h periods w)
   through_keeps [] made w g =
@@ -131,5 +132,9 @@ module _ (d : Device) (h : ℕ → ℕ → ℤ) (fit : IsFit d) (words_of_h : (s
   pub every_prefix : (periods : List Period) (q rest : List Told) → IsSound d → q ++ rest ≡ (power_run d h periods).report → IsHonest d h (all_on periods) q
   every_prefix periods q rest s e = (run_end periods s).honest.each q rest e (all_on periods) (omega arith)
 
-  pub over_is_whole : (periods : List Period) → IsSound d → (power_run d h periods).state.phase ≡ Over → IsWhole d (all_on periods) (power_run d h periods).report (power_run d h periods).state.nv
-  over_is_whole periods s e = (run_end periods s).whole e
+  pub over_is_whole : (periods : List Period) (how : Ending) → IsSound d → (power_run d h periods).state.phase ≡ Over how → IsWhole d (all_on periods) (power_run d h periods).report (power_run d h periods).state.nv
+  over_is_whole periods how s e = (run_end periods s).whole how e
+
+  -- the same, against any longer run without outages
+  pub every_prefix_later : (periods : List Period) (q rest : List Told) (n : ℕ) → all_on periods ≤ n → IsSound d → q ++ rest ≡ (power_run d h periods).report → IsHonest d h n q
+  every_prefix_later periods q rest n le s e = (run_end periods s).honest.each q rest e n le

@@ -1,8 +1,7 @@
 -- What a report keeps, whenever power fails, and how a run is left.
-use Rattle.std.specs.Prelude.{◌≡◌, ◌≤◌, ℕ, ◌+◌, ℤ, List, [], ◌∷◌, ◌++◌, Bool, true, false, not, if◌then◌else◌}
+use Rattle.std.specs.Prelude.{◌≡◌, ◌≤◌, ℕ, suc, ◌+◌, ℤ, List, [], ◌∷◌, ◌++◌, Bool, true, false, not, if◌then◌else◌}
 use Rattle.oc_io.specs.declared.period.Period.{Period}
 use Rattle.oc_tree.specs.Said.{Told}
-use Rattle.oc_tree.specs.declared.said.Ending.{Ending}
 use Rattle.oc_tree.specs.declared.said.Said.{Said}
 use Rattle.oc_tree.specs.declared.said.Said.TheVariants.{Sensed, Off, Dark, Ended}
 use Rattle.oc_ckpt.specs.declared.AreaState.{AreaState}
@@ -11,7 +10,7 @@ use Rattle.oc_isa.specs.declared.phase.Phase.{Phase}
 use Rattle.oc_isa.specs.declared.phase.Phase.TheVariants.{Running, Entering, Over, Lost}
 use Rattle.oc_isa.specs.Next.{Regs, Enters, Device}
 use Rattle.oc_isa.specs.Run.{continuous_run}
-use Rattle.oc_isa.specs.Power.{State, World, ticks_on, one_period}
+use Rattle.oc_isa.specs.Power.{State, World, is_over, ticks_on, one_period}
 use Rattle.oc_items.specs.Erase.{erase, marked, kept_samples, HasNoOffInside}
 
 -- an `enter` is found before the address that it leads to
@@ -55,7 +54,7 @@ EndsWith report s = (before : List Told) × (tick : ℕ) × (report ≡ before +
 
 -- the last item, where the run ended by itself, lost a checkpoint, or used the periods up
 abbrev pub IsLeft : Phase → List Told → Type 0
-IsLeft Over report = (how : Ending) × EndsWith report (Ended how)
+IsLeft (Over how) report = EndsWith report (Ended how)
 IsLeft Lost report = (ticks : ℕ) × EndsWith report (Off ticks)
 IsLeft phase report = EndsWith report Dark
 
@@ -78,3 +77,8 @@ abbrev pub loses_checkpoint : Device → (ℕ → ℕ → ℤ) → List Period �
 loses_checkpoint d h [] w = false
 loses_checkpoint d h (p ∷ periods) w =
     if loses p (ticks_on d h p.on w).state then true else loses_checkpoint d h periods (one_period d h p w)
+
+-- how many of the periods a run begins: no more once it is over
+abbrev pub begun : Device → (ℕ → ℕ → ℤ) → List Period → World → ℕ
+begun d h [] w = 0
+begun d h (p ∷ periods) w = if is_over w.state.phase then 0 else suc (begun d h periods (one_period d h p w))

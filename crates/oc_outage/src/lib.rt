@@ -5,7 +5,7 @@
 //! that does nothing, and its contract says the law.
 #![tactic(auto)]
 
-ghost use Rattle.std.specs.Prelude.{◌≡◌, ◌↔◌, ℕ, ℤ, List, [], ◌∷◌, ◌++◌, true};
+ghost use Rattle.std.specs.Prelude.{◌≡◌, ◌↔◌, ℕ, ℤ, List, [], ◌∷◌, ◌++◌, take, true};
 ghost use Rattle.oc_io.specs.declared.period.Period.{Period};
 ghost use Rattle.oc_tree.specs.Said.{Told};
 ghost use Rattle.oc_tree.specs.Word.{is_word};
@@ -16,10 +16,10 @@ ghost use Rattle.oc_isa.specs.declared.phase.Phase.TheVariants.{Over, Lost};
 ghost use Rattle.oc_isa.specs.Image.{Parts};
 ghost use Rattle.oc_isa.specs.Next.{Device};
 ghost use Rattle.oc_isa.specs.Run.{IsSound};
-ghost use Rattle.oc_isa.specs.Power.{first_world, power_run};
+ghost use Rattle.oc_isa.specs.Power.{World, is_over, ticks_on, power_fails, one_period, through, first_world, power_run};
 ghost use Rattle.oc_isa.specs.Table.{device_of};
 ghost use Rattle.oc_items.specs.Erase.{marked};
-ghost use Rattle.oc_outage.specs.Honest.{IsFit, IsHonest, IsWhole, EndsWith, IsLeft, all_on, loses_checkpoint};
+ghost use Rattle.oc_outage.specs.Honest.{IsFit, IsHonest, IsWhole, EndsWith, IsLeft, all_on, loses_checkpoint, begun};
 
 /// Every prefix of the report of a run over any periods of power is honest: without its aborted
 /// attempts it says what the run without outages says, no outage lies in a region, and each input
@@ -42,18 +42,33 @@ pub fn ended()
         (before : List Said) × (marked report ≡ before ++ Ended how ∷ []) }
 {}
 
-/// How a run is left, whatever the image: it ended by itself exactly where that is its report's
-/// last item, it lost a checkpoint exactly where some period cuts one, and then its last item is an
-/// outage; else the periods were used up, and the last item says so.
+/// How a run is left, whatever the image: it ended by itself, and how, exactly where that is its
+/// report's last item, it lost a checkpoint exactly where some period cuts one, and then its last
+/// item is an outage; else the periods were used up, and the last item says so.
 pub fn left()
     ensures last { (d : Device) (h : ℕ → ℕ → ℤ) (periods : List Period) →
         IsLeft (power_run d h periods).state.phase (power_run d h periods).report }
-    ensures over { (d : Device) (h : ℕ → ℕ → ℤ) (periods : List Period) →
-        ((power_run d h periods).state.phase ≡ Over) ↔
-        ((how : Ending) × EndsWith (power_run d h periods).report (Ended how)) }
+    ensures over { (d : Device) (h : ℕ → ℕ → ℤ) (periods : List Period) (how : Ending) →
+        ((power_run d h periods).state.phase ≡ Over how) ↔
+        EndsWith (power_run d h periods).report (Ended how) }
     ensures lost { (d : Device) (h : ℕ → ℕ → ℤ) (periods : List Period) →
         ((power_run d h periods).state.phase ≡ Lost) ↔
         (loses_checkpoint d h periods (first_world d) ≡ true) }
+{}
+
+/// Once a run is over nothing happens any more: no tick, no outage and no further period changes
+/// its world. So the periods that it begins make the whole of it.
+pub fn stays()
+    ensures ticks { (d : Device) (h : ℕ → ℕ → ℤ) (w : World) (n : ℕ) →
+        is_over w.state.phase ≡ true → ticks_on d h n w ≡ w }
+    ensures fails { (d : Device) (w : World) (p : Period) →
+        is_over w.state.phase ≡ true → power_fails d p w ≡ w }
+    ensures period { (d : Device) (h : ℕ → ℕ → ℤ) (w : World) (p : Period) →
+        is_over w.state.phase ≡ true → one_period d h p w ≡ w }
+    ensures rest { (d : Device) (h : ℕ → ℕ → ℤ) (w : World) (periods : List Period) →
+        is_over w.state.phase ≡ true → through d h periods w ≡ w }
+    ensures begun { (d : Device) (h : ℕ → ℕ → ℤ) (w : World) (periods : List Period) →
+        through d h periods w ≡ through d h (take (begun d h periods w) periods) w }
 {}
 
 /// In every image an `enter` stands before the address that it leads to.

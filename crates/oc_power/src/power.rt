@@ -57,7 +57,9 @@ const LIMIT: u64 = 1 << 63;
 fn has_header(rows: &Rows) -> bool
     ensures { result ≡ is_header rows.now.row }
 {
-    rows.len() == 2 && rows.field(0) == b"on".as_slice() && rows.field(1) == b"off".as_slice()
+    rows.field_count() == 2
+        && rows.field(0) == b"on".as_slice()
+        && rows.field(1) == b"off".as_slice()
 }
 
 /// The period of the row at hand, after periods of this sum.
@@ -65,7 +67,7 @@ fn read_period(rows: &Rows, sum: u64) -> Result<Period, PowerWhat>
     requires { sum < 2 ^ 63 }
     ensures { result ≡ period_row sum rows.now.row }
 {
-    let fields = rows.len();
+    let fields = rows.field_count();
     if fields != 2 && fields != 3 {
         return Err(PowerWhat::Fields);
     }
@@ -92,7 +94,7 @@ fn read_periods(alloc: Global, rows: &mut Rows) -> Result<Vec<Period>, PowerErro
 {
     let mut periods = Vec::new(alloc);
     let mut sum: u64 = 0;
-    while rows.next()? {
+    while rows.step_on()? {
         match read_period(rows, sum) {
             Ok(period) => {
                 sum += period.on + period.off;
@@ -118,11 +120,69 @@ pub fn read_power(alloc: Global, bytes: &[u8]) -> Result<Vec<Period>, PowerError
     ensures row { IfErr result (λ e. Explains (power_file bytes.now) e) }
 {
     let mut rows = Rows::new(alloc, bytes);
-    if !rows.next()? || !has_header(&rows) {
+    if !rows.step_on()? || !has_header(&rows) {
         return Err(PowerError::Row {
             row: 1,
             what: PowerWhat::Header,
         });
     }
     read_periods(alloc, &mut rows)
+}
+
+#[cfg(test)]
+mod tests {
+    use super::*;
+    use std::test::Fail;
+
+    #[test]
+    fn tells_the_first_bad_row(rt: HostRuntime) {
+        let cases = [
+            ("", 1, PowerWhat::Header),
+            ("\n\n", 1, PowerWhat::Header),
+            ("on,of", 1, PowerWhat::Header),
+            ("on,off,cut\n6,0", 1, PowerWhat::Header),
+            ("\u{feff}\u{feff}on,off\n6,0", 1, PowerWhat::Header),
+            ("on,off\n6", 2, PowerWhat::Fields),
+            ("on,off\n\n6,0\n\n6,0,cut,\nx", 3, PowerWhat::Fields),
+            ("on,off\n6,x", 2, PowerWhat::Number),
+            ("on,off\nx,0,x", 2, PowerWhat::Number),
+            ("on,off\n6, 0", 2, PowerWhat::Number),
+            ("on,off\n6,-1", 2, PowerWhat::Number),
+            ("on,off\n9223372036854775808,0", 2, PowerWhat::Number),
+            ("on,off\n6,00000000000000000000", 2, PowerWhat::Number),
+            ("on,off\n9223372036854775807,1,x", 2, PowerWhat::Mark),
+            ("on,off\n6,0,", 2, PowerWhat::Mark),
+            ("on,off\n9223372036854775807,1", 2, PowerWhat::Sum),
+            ("on,off\n9223372036854775806,0\n0,1\n1,0", 4, PowerWhat::Sum),
+        ];
+        for (text, row, what) in cases {
+            let read = read_power(rt.alloc(), text.as_bytes());
+            assert_eq!(rt;
+                read.err(),
+                Some(PowerError::Row { row, what }),
+                "at {text}"
+            );
+        }
+    }
+
+    #[test]
+    fn reads_periods(rt: HostRuntime) -> Result<(), Fail> {
+        let text = "\u{feff}\"on\",off\r\n\r\n\"006\",0\r9223372036854775700,100,\"cut\n";
+        let periods = [
+            Period {
+                on: 6,
+                off: 0,
+                cut: false,
+            },
+            Period {
+                on: 9223372036854775700,
+                off: 100,
+                cut: true,
+            },
+        ];
+        let read = read_power(rt.alloc(), text.trim_end().as_bytes())?;
+        assert_eq!(rt; read.as_slice(), periods.as_slice());
+        assert!(rt; read_power(rt.alloc(), b"on,off")?.is_empty());
+        Ok(())
+    }
 }

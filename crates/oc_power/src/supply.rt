@@ -46,3 +46,109 @@ pub fn choose(supplies: Vec<Box<dyn Supply>>, wanted: u8) -> Option<Box<dyn Supp
     }
     None
 }
+
+#[cfg(test)]
+mod tests {
+    use super::*;
+    use crate::cutter::Cutter;
+    use crate::looped::Looped;
+    use crate::recorded::Recorded;
+    use std::alloc::Global;
+    use std::test::Fail;
+
+    const fn period(on: u64, off: u64, cut: bool) -> Period {
+        Period { on, off, cut }
+    }
+
+    /// All periods that a supply tells of these rows.
+    fn tell(
+        alloc: Global,
+        supply: &mut dyn Supply,
+        rows: &[Period],
+    ) -> Result<Vec<Period>, Memory> {
+        supply.feed(rows)?;
+        let mut told = Vec::new(alloc);
+        while let Some(period) = supply.next() {
+            if told.push(period).is_err() {
+                return Err(Memory);
+            }
+        }
+        Ok(told)
+    }
+
+    #[test]
+    fn tells_the_rows_and_their_pieces(rt: HostRuntime) -> Result<(), Fail> {
+        let alloc = rt.alloc();
+        let rows = [
+            period(7, 4, false),
+            period(3, 1, false),
+            period(0, 2, true),
+            period(4, 0, true),
+        ];
+        let pieces = [
+            period(3, 0, false),
+            period(3, 0, false),
+            period(1, 4, false),
+            period(3, 1, false),
+            period(0, 2, true),
+            period(3, 0, false),
+            period(1, 0, true),
+        ];
+        let mut recorded = Recorded::new(alloc);
+        let mut cutter = Cutter::new(alloc, 3);
+        cutter.feed(&rows)?;
+        let _ = cutter.next();
+        assert_eq!(rt;
+            tell(alloc, &mut recorded, &rows)?.as_slice(),
+            rows.as_slice()
+        );
+        assert_eq!(rt;
+            tell(alloc, &mut cutter, &rows)?.as_slice(),
+            pieces.as_slice()
+        );
+        assert_eq!(rt; (recorded.name(), cutter.name()), (0, 2));
+        Ok(())
+    }
+
+    #[test]
+    fn tells_whole_rounds(rt: HostRuntime) -> Result<(), Fail> {
+        let alloc = rt.alloc();
+        let cases = [
+            (7, 3, 64),
+            (0, 0, 64),
+            (1 << 57, 0, 63),
+            (1 << 57, (1 << 57) - 1, 32),
+            (1 << 62, 0, 1),
+            ((1 << 63) - 1, 0, 1),
+            ((1 << 63) - 1, 1, 0),
+            (u64::MAX, u64::MAX, 0),
+        ];
+        let mut looped = Looped::new(alloc, 64);
+        for (on, off, rounds) in cases {
+            let told = tell(alloc, &mut looped, &[period(on, off, true)])?;
+            assert_eq!(rt; told.len(), rounds, "at {on} and {off}");
+            assert!(rt; told.iter().all(|p| *p == period(on, off, true)));
+        }
+        assert!(rt; tell(alloc, &mut looped, &[])?.is_empty());
+        assert_eq!(rt; looped.name(), 1);
+        Ok(())
+    }
+
+    #[test]
+    fn chooses_the_first_of_a_number(rt: HostRuntime) -> Result<(), Fail> {
+        let alloc = rt.alloc();
+        let rows = [period(2, 1, false)];
+        for (number, told) in [(0, Some(1)), (2, Some(2)), (1, None)] {
+            let mut supplies: Vec<Box<dyn Supply>> = Vec::new(alloc);
+            supplies.push(Box::new(alloc, Cutter::new(alloc, 1))?)?;
+            supplies.push(Box::new(alloc, Recorded::new(alloc))?)?;
+            supplies.push(Box::new(alloc, Cutter::new(alloc, 5))?)?;
+            let chosen = match choose(supplies, number) {
+                Some(mut supply) => Some(tell(alloc, &mut *supply, &rows)?.len()),
+                None => None,
+            };
+            assert_eq!(rt; chosen, told, "at {number}");
+        }
+        Ok(())
+    }
+}

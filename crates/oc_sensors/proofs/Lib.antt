@@ -1,3 +1,4 @@
+mod Orders
 pub mod Before
 pub mod Moving
-mod Orders
+pub mod Words

@@ -1,5 +1,7 @@
 //! Sensor files.
-ghost use Rattle.std.specs.Prelude.{◌≡◌, ◌+◌, ◌≤◌, length, IfOk, IfErr};
+ghost use Rattle.std.specs.Prelude.{◌≡◌, ◌+◌, ◌≤◌, ℕ, true, length, IfOk, IfErr};
+ghost use Rattle.oc_tree.specs.Word.{is_word};
+ghost use Rattle.oc_sensors.specs.History.{history};
 ghost use Rattle.oc_sensors.specs.File.{Explains, is_header, readings, sensor_file, sensor_of, sensor_row, sensor_rows, value_of};
 ghost use Rattle.oc_sensors.specs.declared.file.SensorError.TheVariants as error;
 
@@ -58,22 +60,8 @@ fn read_value(bytes: &[u8]) -> Option<i32>
     ensures { result ≡ value_of bytes.now }
 {
     match bytes {
-        [b'-', digits @ ..] => {
-            let number = read_number(digits)?;
-            if number <= 1 << 31 {
-                Some((-(number as i64)) as i32)
-            } else {
-                None
-            }
-        }
-        _ => {
-            let number = read_number(bytes)?;
-            if number < 1 << 31 {
-                Some(number as i32)
-            } else {
-                None
-            }
-        }
+        [b'-', digits @ ..] => i32::try_from(-(read_number(digits)? as i64)).ok(),
+        _ => i32::try_from(read_number(bytes)?).ok(),
     }
 }
 
@@ -93,7 +81,7 @@ fn find_sensor(names: &[Name], name: &[u8]) -> Option<u8>
 fn has_header(rows: &Rows) -> bool
     ensures { result ≡ is_header rows.now.row }
 {
-    rows.len() == 3
+    rows.field_count() == 3
         && rows.field(0) == b"time".as_slice()
         && rows.field(1) == b"sensor".as_slice()
         && rows.field(2) == b"value".as_slice()
@@ -104,7 +92,7 @@ fn read_row(rows: &Rows, names: &[Name], before: u64) -> Result<Row, SensorWhat>
     requires { length names.now ≤ 256 }
     ensures { result ≡ sensor_row names.now before rows.now.row }
 {
-    if rows.len() != 3 {
+    if rows.field_count() != 3 {
         return Err(SensorWhat::Fields);
     }
     let Some(time) = read_number(rows.field(0)) else {
@@ -134,7 +122,7 @@ fn read_rows(alloc: Global, rows: &mut Rows, names: &[Name]) -> Result<Vec<Row>,
 {
     let mut read: Vec<Row> = Vec::new(alloc);
     let mut before: u64 = 0;
-    while rows.next()? {
+    while rows.step_on()? {
         match read_row(rows, names, before) {
             Ok(row) => {
                 before = row.time;
@@ -158,10 +146,11 @@ pub fn read_sensors(alloc: Global, bytes: &[u8], names: &[Name]) -> Result<Senso
     ensures rows { IfOk result (λ s. sensor_file names.now bytes.now ≡ readings s.rows) }
     ensures sensors { IfOk result (λ s. s.sensors ≡ length names.now) }
     ensures now { IfOk result (λ s. s.now ≡ 0) }
+    ensures words { IfOk result (λ s. (sensor tick : ℕ) → is_word (history s.rows sensor tick) ≡ true) }
     ensures bad { IfErr result (λ e. Explains (sensor_file names.now bytes.now) e) }
 {
     let mut rows = Rows::new(alloc, bytes);
-    if !rows.next()? || !has_header(&rows) {
+    if !rows.step_on()? || !has_header(&rows) {
         return Err(SensorError::Row {
             row: 1,
             what: SensorWhat::Header,

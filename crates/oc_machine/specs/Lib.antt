@@ -1,0 +1,4 @@
+pub mod Acting
+pub mod Kept
+pub mod Stacked
+pub mod Telling

@@ -1,0 +1,8 @@
+//! What holds of the runs of every source.
+ghost use Rattle.oc_meaning.specs.Unmarked.{MarksOnlyTell};
+
+/// A run with the marks of any regions is the source's run, once its marks are left out: the same
+/// events with the same samples, the same ending and the same nonvolatile words.
+pub fn marks_only_tell()
+    ensures { MarksOnlyTell }
+{}

@@ -1,0 +1,22 @@
+use Rattle.std.proofs.Common.{◌+◌, ◌<◌, ◌≡◌, length, arith}
+use Rattle.oc_io.proofs.Going.{begin, finish}
+use Rattle.oc_top.proofs.Variables.{variable_on, variable_stop}
+use Rattle.oc_top.proofs.report.put_nvs.Goals as goal
+
+pub loop-place-init : goal.loop-place-init
+loop-place-init g c = record { count = omega arith; going = begin g.O.Sink.took g.met.O.Sink.took_nothing _ _ }
+
+pub loop-place-preserved : goal.loop-place-preserved
+loop-place-preserved g c =
+    let among = rw c.deref-nv-items.ensures.value at c.loop-place-test.true in
+    let size = rw c.deref-nv-items.ensures.value at c.min.ensures in
+    record {
+      count = omega arith;
+      going = variable_on g.O.Sink.took g.met.O.Sink.took_both _ _ _ _ _ _ _ _ _ _ _ _ among c.requires.each_nv size c.split_at.ensures.front c.split_at.ensures.back c.loop-place.invariant.going c.in_default.ensures.ok;
+    }
+
+pub returns-in-Err-clause-part : goal.returns-in-Err-clause-part
+returns-in-Err-clause-part g c =
+    let among = rw c.deref-nv-items.ensures.value at c.loop-place-test.true in
+    let size = rw c.deref-nv-items.ensures.value at c.min.ensures in
+    variable_stop g.O.Sink.took g.met.O.Sink.took_both _ _ _ _ _ _ _ _ _ _ _ _ among c.requires.each_nv size c.split_at.ensures.front c.split_at.ensures.back c.loop-place.invariant.going c.in-Err.ensures.part

@@ -1,0 +1,65 @@
+-- The command lines.
+use Rattle.std.specs.Prelude.{ℕ, ◌==◌, ◌&&◌, Bool, false, not, List, [], ◌∷◌, length, get_or, codes, Option, Some, None, option_and_then, nat_le, nat_lt, if◌then◌else◌}
+use Rattle.std.specs.Str.{bytes_eq}
+use Rattle.oc_io.specs.declared.period.Period.{Period}
+use Rattle.oc_rows.specs.Numbers.{number_of}
+use Rattle.oc_top.specs.declared.command.Command.{Command}
+
+-- a word may stand for a file: it isn't empty and doesn't begin with `-`
+abbrev pub is_file : List ℕ → Bool
+is_file [] = false
+is_file (b ∷ rest) = not (b == 45)
+
+-- a number that names a supply
+abbrev pub supply_named : ℕ → Option ℕ
+supply_named number = if nat_lt number 256 then Some number else None
+
+-- the supply's number that a word spells: 1 to 3 digits, at most 255
+abbrev pub supply_of : List ℕ → Option ℕ
+supply_of word = if nat_le (length word) 3 then option_and_then supply_named (number_of word) else None
+
+-- `run` with this supply, where it has one; its files' words begin at this place
+abbrev pub run_with : Option ℕ → ℕ → Option Command
+run_with None first = None
+run_with (Some supply) first = Some (record { supply = supply; first = first })
+
+abbrev pub are_files : List ℕ → List ℕ → List ℕ → Bool
+are_files source sensors power = is_file source && is_file sensors && is_file power
+
+-- the command of a line of words
+abbrev pub command_of : List (List ℕ) → Option Command
+command_of (word ∷ source ∷ sensors ∷ power ∷ []) =
+    if bytes_eq word (codes "run") && are_files source sensors power then run_with (Some 0) 1 else None
+command_of (word ∷ option ∷ number ∷ source ∷ sensors ∷ power ∷ []) =
+    if bytes_eq word (codes "run") && bytes_eq option (codes "--supply") && are_files source sensors power
+    then run_with (supply_of number) 3 else None
+command_of other = None
+
+-- what a supply tells of the rows that it is fed
+abbrev pub Plan : Type 0
+Plan = List Period → List Period
+
+-- what the first supply with each number tells, where there is one
+abbrev pub Plans : Type 0
+Plans = ℕ → Option Plan
+
+-- a run is asked for: the word of its first file, and what its supply tells
+pub record Task : Type 0 where
+  pub first : ℕ
+  pub plan : Plan
+
+abbrev pub with_plan : ℕ → Option Plan → Option Task
+with_plan first None = None
+with_plan first (Some plan) = Some (record { first = first; plan = plan })
+
+abbrev pub task_for : Plans → Option Command → Option Task
+task_for plans None = None
+task_for plans (Some command) = with_plan command.first (plans command.supply)
+
+-- what a line of words asks for, with these supplies
+abbrev pub task_of : Plans → List (List ℕ) → Option Task
+task_of plans words = task_for plans (command_of words)
+
+-- the word at a place
+abbrev pub word_at : List (List ℕ) → ℕ → List ℕ
+word_at words place = get_or words place []

@@ -1,0 +1,61 @@
+-- The three files of a run: its source, its sensors and its power.
+use Rattle.std.specs.Prelude.{ℕ, zero, suc, ◌+◌, ◌<◌, ◌≤◌, ◌≡◌, ◌⊎◌, List, length}
+use Rattle.oc_io.specs.Held.{Held, nothing, content, Gives, Longer}
+use Rattle.oc_top.specs.Commands.{word_at}
+use Rattle.oc_top.specs.declared.files.Fetched.{Fetched}
+use Rattle.oc_top.specs.declared.answer.Answer.{Answer}
+use Rattle.oc_top.specs.declared.answer.Answer.TheVariants as answer
+
+-- the bytes of the three files
+pub record Files : Type 0 where
+  pub source : List ℕ
+  pub sensors : List ℕ
+  pub power : List ℕ
+
+abbrev pub bytes_of : Fetched → Files
+bytes_of f = record { source = f.source.items; sensors = f.sensors.items; power = f.power.items }
+
+-- how many bytes a source, and each other file, may have
+abbrev pub limit_at : ℕ → ℕ
+limit_at zero = 1048576
+limit_at (suc k) = 16777216
+
+-- these are the bytes held, where that is told, and they are no more than the limit
+pub record IsFile (held : Held) (limit : ℕ) (bytes : List ℕ) : Type 0 where
+  pub gives : Gives held bytes
+  pub within : length bytes ≤ limit
+
+-- these are the files whose words begin at a place
+pub record AreFiles (holds : List ℕ → Held) (words : List (List ℕ)) (first : ℕ) (files : Files) : Type 0 where
+  pub source : IsFile (holds (word_at words first)) (limit_at 0) files.source
+  pub sensors : IsFile (holds (word_at words (first + 1))) (limit_at 1) files.sensors
+  pub power : IsFile (holds (word_at words (first + 2))) (limit_at 2) files.power
+
+-- a shelf that tells what it holds has just these bytes under a name, no more than the limit
+pub record IsHeld (held : Held) (limit : ℕ) (bytes : List ℕ) : Type 0 where
+  pub told : held ≡ content bytes
+  pub within : length bytes ≤ limit
+
+pub record AreHeld (holds : List ℕ → Held) (words : List (List ℕ)) (first : ℕ) (files : Files) : Type 0 where
+  pub source : IsHeld (holds (word_at words first)) (limit_at 0) files.source
+  pub sensors : IsHeld (holds (word_at words (first + 1))) (limit_at 1) files.sensors
+  pub power : IsHeld (holds (word_at words (first + 2))) (limit_at 2) files.power
+
+-- the files before this one, of the three, were fetched
+abbrev pub WereFetched : (List ℕ → Held) → List (List ℕ) → ℕ → ℕ → Type 0
+WereFetched holds words first place =
+    (k : ℕ) → k < place → (bytes : List ℕ) × IsFile (holds (word_at words (first + k))) (limit_at k) bytes
+
+-- why the file at a place among the three wasn't fetched: the shelf's faults rose, or it tells that nothing is there;
+-- or the file is longer than its limit; or there was no memory
+abbrev pub IsRefused : Held → ℕ → ℕ → Type 0 → Answer → Type 0
+IsRefused held limit word unread (answer.Unreadable w) = (w ≡ word) × (unread ⊎ (held ≡ nothing))
+IsRefused held limit word unread (answer.TooLong w) = (w ≡ word) × Longer held limit
+IsRefused held limit word unread answer.Memory = Unit {0}
+IsRefused held limit word unread end = ⊥
+
+pub record NotFetched (holds : List ℕ → Held) (words : List (List ℕ)) (first : ℕ) (unread : Type 0) (end : Answer) : Type 0 where
+  pub place : ℕ
+  pub among : place < 3
+  pub before : WereFetched holds words first place
+  pub refused : IsRefused (holds (word_at words (first + place))) (limit_at place) (first + place) unread end

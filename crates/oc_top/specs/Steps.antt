@@ -1,0 +1,81 @@
+-- The steps before the first byte is written.
+use Rattle.std.specs.Prelude.{ℕ, ℤ, ◌≤◌, ◌<◌, ◌^◌, ◌≡◌, ◌⊎◌, true, List, length}
+use Rattle.oc_io.specs.declared.period.Period.{Period}
+use Rattle.oc_power.specs.Power.{Power, power_file}
+use Rattle.oc_power.specs.Power as power_rows
+use Rattle.oc_power.specs.Total.{total}
+use Rattle.oc_power.specs.declared.power.PowerError.{PowerError}
+use Rattle.oc_power.specs.declared.power.PowerError.TheVariants as power_error
+use Rattle.oc_sensors.specs.File.{sensor_file}
+use Rattle.oc_sensors.specs.File as sensor_rows
+use Rattle.oc_sensors.specs.History.{Told, history}
+use Rattle.oc_tree.specs.Word.{is_word}
+use Rattle.oc_sensors.specs.declared.file.SensorError.{SensorError}
+use Rattle.oc_sensors.specs.declared.file.SensorError.TheVariants as sensor_error
+use Rattle.oc_isa.specs.Image.{Parts}
+use Rattle.oc_isa.specs.Power.{first_state}
+use Rattle.oc_isa.specs.Run.{IsSound, AreWords, continuous_run}
+use Rattle.oc_isa.specs.Table.{device_of}
+use Rattle.oc_machine.specs.Kept.{Running}
+use Rattle.oc_small.specs.Small.{Small}
+use Rattle.oc_small.specs.Code.{small_code}
+use Rattle.oc_small.specs.Runs.{small_run}
+use Rattle.oc_top.specs.Commands.{Plan}
+use Rattle.oc_top.specs.Files.{Files}
+use Rattle.oc_top.specs.Sources.{Reading, ReadsAs, faulty, other, program}
+use Rattle.oc_top.specs.Verdict.{verdict, refuses}
+use Rattle.oc_top.specs.declared.answer.Answer.{Answer}
+use Rattle.oc_top.specs.declared.answer.Answer.TheVariants as answer
+
+-- the answer to a sensor file that wasn't read, and to such a power file
+abbrev pub for_sensors : SensorError → Answer
+for_sensors (sensor_error.Row row what) = answer.BadSensors row
+for_sensors sensor_error.Memory = answer.Memory
+
+abbrev pub for_power : PowerError → Answer
+for_power (power_error.Row row what) = answer.BadPower row
+for_power power_error.Memory = answer.Memory
+
+-- over any samples, and in enough instructions, the image's run without outages says what the program says
+abbrev pub RunsSo : Parts → Small → Type 0
+RunsSo parts p = (samples : List ℤ) → AreWords samples → (n : ℕ) × ((more : ℕ) → n ≤ more → (continuous_run (device_of parts) samples more).out ≡ small_run p samples)
+
+-- the image of the small program that a source spells
+pub record IsBuilt (source : List ℕ) (parts : Parts) : Type 0 where
+  pub small : Small
+  pub reads : ReadsAs source (program small)
+  pub is_code : parts ≡ small_code small
+  pub sound : IsSound (device_of parts)
+  pub runs : RunsSo parts small
+
+-- why there is no image of a source
+abbrev pub IsNotBuilt : List ℕ → Answer → Type 0
+IsNotBuilt source (answer.Syntax line) = ReadsAs source (faulty line)
+IsNotBuilt source answer.NotBuilt = ReadsAs source other
+IsNotBuilt source answer.Memory = Unit {0}
+IsNotBuilt source end = ⊥
+
+-- a newly loaded machine with a sound image, its sensors, not read yet, which show words, and periods whose times are
+-- below 2^63 in all
+pub record CanRun (machine : Running) (sensors : Told) (left : List Period) : Type 0 where
+  pub loaded : machine.state ≡ first_state (device_of machine.parts)
+  pub sound : IsSound (device_of machine.parts)
+  pub counted : sensors.sensors ≡ length machine.parts.names.sensors
+  pub unread : sensors.now ≡ 0
+  pub words : (sensor tick : ℕ) → is_word (history sensors.rows sensor tick) ≡ true
+  pub sum : total left < 2 ^ 63
+
+-- such a machine with the source's image, where the sensors show the rows of the sensor file, and the periods are those
+-- that the supply tells of the rows of the power file
+pub record IsReady (files : Files) (plan : Plan) (machine : Running) (sensors : Told) (left : List Period) : Type 0 where
+  pub can_run : CanRun machine sensors left
+  pub built : IsBuilt files.source machine.parts
+  pub sensed : sensor_file machine.parts.names.sensors files.sensors ≡ sensor_rows.readings sensors.rows
+  pub periods : List Period
+  pub powered : power_file files.power ≡ power_rows.periods periods
+  pub planned : left ≡ plan periods
+
+-- the files are refused with this answer, or there was no memory
+pub data IsTurnedDown (files : Files) (plan : Plan) (end : Answer) : Type 0 where
+  by_memory : end ≡ answer.Memory → IsTurnedDown files plan end
+  by_files : (reading : Reading) → ReadsAs files.source reading → verdict reading files plan ≡ refuses end → IsTurnedDown files plan end

@@ -1,0 +1,52 @@
+-- What a run answers and writes, by what its files say.
+use Rattle.std.specs.Prelude.{ℕ, List, []}
+use Rattle.oc_io.specs.declared.period.Period.{Period}
+use Rattle.oc_power.specs.Power.{Power, power_file}
+use Rattle.oc_power.specs.Power as power_rows
+use Rattle.oc_sensors.specs.declared.sensors.Row.{Row}
+use Rattle.oc_sensors.specs.File.{Readings, sensor_file}
+use Rattle.oc_sensors.specs.File as sensor_rows
+use Rattle.oc_sensors.specs.History.{history}
+use Rattle.oc_isa.specs.Image.{Parts}
+use Rattle.oc_isa.specs.Power.{power_run}
+use Rattle.oc_isa.specs.Table.{device_of}
+use Rattle.oc_small.specs.Code.{small_code}
+use Rattle.oc_top.specs.Commands.{Plan}
+use Rattle.oc_top.specs.Files.{Files}
+use Rattle.oc_top.specs.Sources.{Reading, faulty, other, program}
+use Rattle.oc_top.specs.Reports.{answer_of, text_of}
+use Rattle.oc_top.specs.declared.answer.Answer.{Answer}
+use Rattle.oc_top.specs.declared.answer.Answer.TheVariants as answer
+
+-- an answer, and the text on the standard output
+pub record Verdict : Type 0 where
+  pub answer : Answer
+  pub text : List ℕ
+
+abbrev pub refuses : Answer → Verdict
+refuses end = record { answer = end; text = [] }
+
+-- the run of an image over these periods
+abbrev pub runs : Parts → List Row → List Period → Verdict
+runs parts rows periods = record {
+  answer = answer_of parts (history rows) periods;
+  text = text_of parts (power_run (device_of parts) (history rows) periods);
+}
+
+abbrev pub with_power : Parts → List Row → Power → Plan → Verdict
+with_power parts rows (power_rows.bad row what) plan = refuses (answer.BadPower row)
+with_power parts rows (power_rows.periods periods) plan = runs parts rows (plan periods)
+
+abbrev pub with_sensors : Parts → Readings → Power → Plan → Verdict
+with_sensors parts (sensor_rows.bad row what) power plan = refuses (answer.BadSensors row)
+with_sensors parts (sensor_rows.readings rows) power plan = with_power parts rows power plan
+
+abbrev pub with_parts : Parts → Files → Plan → Verdict
+with_parts parts files plan = with_sensors parts (sensor_file parts.names.sensors files.sensors) (power_file files.power) plan
+
+-- the verdict on files whose source reads so, where the chosen supply has this plan: the first of the source, the
+-- sensors and the power that can't be read, or the run
+abbrev pub verdict : Reading → Files → Plan → Verdict
+verdict (faulty line) files plan = refuses (answer.Syntax line)
+verdict other files plan = refuses answer.NotBuilt
+verdict (program p) files plan = with_parts (small_code p) files plan

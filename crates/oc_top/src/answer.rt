@@ -1,0 +1,121 @@
+//! Answers, their statuses and their lines.
+ghost use Rattle.std.specs.Prelude.{◌≡◌, ◌≤◌, ◌⊎◌, map, OnOk, OnErr};
+ghost use Rattle.std.specs.String.{string_bytes};
+ghost use Rattle.oc_io.specs.Faults.{Rose, TookPart};
+ghost use Rattle.oc_top.specs.Answers.{line_of, status_of};
+ghost use Rattle.oc_top.specs.Commands.{word_at};
+
+use itoa::Buffer;
+use oc_io::pieces::put_pieces;
+use oc_io::sink::{Sink, SinkFault};
+
+/// How a call ends. A file is told by the place of its word, lines and rows count from 1.
+#[derive(Clone, Copy, Debug, PartialEq, Eq)]
+pub enum Answer {
+    /// The words are no command, or no supply has the number.
+    Usage,
+    /// The shelf couldn't read a file, or tells that it has none of this name.
+    Unreadable { word: usize },
+    /// A file is longer than its limit.
+    TooLong { word: usize },
+    /// The source isn't tokens.
+    Syntax { line: usize },
+    /// The source is tokens, and no small program.
+    NotBuilt,
+    /// The first bad row of the sensor file.
+    BadSensors { row: u64 },
+    /// The first bad row of the power file.
+    BadPower { row: u64 },
+    /// The report couldn't be written whole.
+    WriteFault,
+    /// The run ended.
+    End,
+    /// The run was trapped.
+    Trapped,
+    /// The periods were used up.
+    Dark,
+    /// There was no memory.
+    Memory,
+    /// A checkpoint didn't complete.
+    Cut,
+}
+
+/// The status of an answer.
+pub fn status(answer: Answer) -> u8
+    ensures { result ≡ status_of answer }
+{
+    match answer {
+        Answer::End => 0,
+        Answer::Usage => 1,
+        Answer::Unreadable { .. } => 2,
+        Answer::TooLong { .. } => 3,
+        Answer::Syntax { .. } => 4,
+        Answer::BadSensors { .. } => 6,
+        Answer::BadPower { .. } => 7,
+        Answer::Trapped => 8,
+        Answer::Dark => 9,
+        Answer::WriteFault => 10,
+        Answer::Memory => 11,
+        Answer::Cut => 12,
+        Answer::NotBuilt => 13,
+    }
+}
+
+/// The bytes of the word at a place.
+fn word_bytes(words: &[String], place: usize) -> &[u8]
+    ensures { result.now ≡ word_at (map string_bytes words.now) place }
+{
+    match words.get(place) {
+        Some(word) => word.as_str().as_bytes(),
+        None => b"",
+    }
+}
+
+/// Writes the line of an answer, which may be empty.
+fn put_line_of<E: Sink>(answer: Answer, words: &[String], err: &mut E) -> Result<(), SinkFault>
+    ensures ok { OnOk result (E.took err.old (line_of (map string_bytes words.now) answer) err.new) }
+    ensures part { OnErr result (TookPart E.took err.old (line_of (map string_bytes words.now) answer) err.new) }
+    ensures cause { OnErr result (Rose (E.faults err.old) (E.faults err.new)) }
+    ensures count { E.faults err.old ≤ E.faults err.new }
+{
+    let mut number = Buffer::new();
+    match answer {
+        Answer::Usage => put_pieces(err, &[b"ocelot: not a command\n"]),
+        Answer::Unreadable { word } => put_pieces(
+            err,
+            &[b"ocelot: cannot read ", word_bytes(words, word), b"\n"],
+        ),
+        Answer::TooLong { word } => {
+            put_pieces(err, &[b"ocelot: too long ", word_bytes(words, word), b"\n"])
+        }
+        Answer::Syntax { line } => {
+            let line = number.format(line).as_bytes();
+            put_pieces(err, &[b"ocelot: syntax error in line ", line, b"\n"])
+        }
+        Answer::NotBuilt => put_pieces(err, &[b"ocelot: not built in line 1\n"]),
+        Answer::BadSensors { row } => {
+            let row = number.format(row).as_bytes();
+            put_pieces(err, &[b"ocelot: bad row ", row, b" in sensors\n"])
+        }
+        Answer::BadPower { row } => {
+            let row = number.format(row).as_bytes();
+            put_pieces(err, &[b"ocelot: bad row ", row, b" in power\n"])
+        }
+        Answer::WriteFault => put_pieces(err, &[b"ocelot: cannot write\n"]),
+        Answer::Memory => put_pieces(err, &[b"ocelot: out of memory\n"]),
+        Answer::Cut => put_pieces(err, &[b"ocelot: checkpoint lost\n"]),
+        Answer::End | Answer::Trapped | Answer::Dark => Ok(()),
+    }
+}
+
+/// Writes the line of an answer. At a fault a part of the line was taken.
+pub fn put_line<E: Sink>(answer: Answer, words: &[String], err: &mut E)
+    ensures { E.took err.old (line_of (map string_bytes words.now) answer) err.new ⊎ (Rose (E.faults err.old) (E.faults err.new) × TookPart E.took err.old (line_of (map string_bytes words.now) answer) err.new) }
+{
+    match put_line_of(answer, words, err) {
+        Ok(()) => {
+            let _ = err.flush();
+        }
+        Err(_) => {}
+    }
+}

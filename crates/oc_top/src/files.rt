@@ -1,0 +1,69 @@
+//! Fetching the files of a run.
+ghost use Rattle.std.specs.Prelude.{◌≡◌, ℕ, ◌+◌, ◌<◌, ◌≤◌, List, length, map, IfOk, IfErr};
+ghost use Rattle.std.specs.String.{string_bytes};
+ghost use Rattle.oc_io.specs.Faults.{Rose};
+ghost use Rattle.oc_top.specs.Commands.{word_at};
+ghost use Rattle.oc_top.specs.Files.{AreFiles, IsFile, IsRefused, NotFetched, bytes_of};
+
+use crate::answer::Answer;
+use oc_io::shelf::{Shelf, ShelfError};
+use std::alloc::Global;
+
+/// The most bytes of a source: 1 MiB.
+pub const SOURCE_LIMIT: usize = 1 << 20;
+
+/// The most bytes of a sensor file and of a power file: 16 MiB.
+pub const ROWS_LIMIT: usize = 1 << 24;
+
+/// The bytes of a run's three files.
+#[derive(Drop)]
+pub struct Fetched {
+    pub source: Vec<u8>,
+    pub sensors: Vec<u8>,
+    pub power: Vec<u8>,
+}
+
+/// The bytes of the file under the word at a place, or the answer that there are none.
+fn fetch_word<F: Shelf>(
+    alloc: Global,
+    words: &[String],
+    word: usize,
+    limit: usize,
+    shelf: &mut F,
+) -> Result<Vec<u8>, Answer>
+    requires { word < length words.now }
+    ensures file { IfOk result (λ v. IsFile (F.holds shelf.old (word_at (map string_bytes words.now) word)) limit v.items) }
+    ensures refused { IfErr result (λ a. IsRefused (F.holds shelf.old (word_at (map string_bytes words.now) word)) limit word (Rose (F.faults shelf.old) (F.faults shelf.new)) a) }
+    ensures kept { (name : List ℕ) → F.holds shelf.new name ≡ F.holds shelf.old name }
+    ensures count { F.faults shelf.old ≤ F.faults shelf.new }
+{
+    match shelf.fetch(alloc, words[word].as_str(), limit) {
+        Ok(bytes) => Ok(bytes),
+        Err(ShelfError::Unreadable) => Err(Answer::Unreadable { word }),
+        Err(ShelfError::Absent) => Err(Answer::Unreadable { word }),
+        Err(ShelfError::TooLong { .. }) => Err(Answer::TooLong { word }),
+        Err(ShelfError::Memory) => Err(Answer::Memory),
+    }
+}
+
+/// The three files whose words begin at a place, in the order of the words. The first that is
+/// refused decides the answer, and no later one is fetched.
+pub fn fetch_files<F: Shelf>(
+    alloc: Global,
+    words: &[String],
+    first: usize,
+    shelf: &mut F,
+) -> Result<Fetched, Answer>
+    requires { first + 2 < length words.now }
+    ensures files { IfOk result (λ f. AreFiles (F.holds shelf.old) (map string_bytes words.now) first (bytes_of f)) }
+    ensures refused { IfErr result (λ a. NotFetched (F.holds shelf.old) (map string_bytes words.now) first (Rose (F.faults shelf.old) (F.faults shelf.new)) a) }
+{
+    let source = fetch_word(alloc, words, first, SOURCE_LIMIT, shelf)?;
+    let sensors = fetch_word(alloc, words, first + 1, ROWS_LIMIT, shelf)?;
+    let power = fetch_word(alloc, words, first + 2, ROWS_LIMIT, shelf)?;
+    Ok(Fetched {
+        source,
+        sensors,
+        power,
+    })
+}

@@ -1,0 +1,13 @@
+//! The program, over a shelf, two sinks and supplies of power.
+//!
+//! [`top::ocelot`] does what a line of words asks for and answers its status. [`command`] reads the
+//! words, [`files`] fetches, [`prepare`] has the steps before the first byte is written, [`report`]
+//! writes, and [`answer`] has the answers with their lines.
+#![tactic(auto)]
+
+pub mod answer;
+pub mod command;
+pub mod files;
+pub mod prepare;
+pub mod report;
+pub mod top;

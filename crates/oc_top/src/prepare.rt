@@ -1,0 +1,119 @@
+//! The steps before the first byte is written.
+ghost use Rattle.std.specs.Prelude.{◌≡◌, ◌≤◌, length, IfOk, IfErr};
+ghost use Rattle.oc_lex.specs.Tokens.{line_feeds};
+ghost use Rattle.oc_sensors.specs.File.{Explains, readings, sensor_file};
+ghost use Rattle.oc_top.specs.Files.{bytes_of};
+ghost use Rattle.oc_top.specs.Sources.{line_at};
+ghost use Rattle.oc_top.specs.Steps.{IsBuilt, IsNotBuilt, IsReady, IsTurnedDown, for_power, for_sensors};
+ghost use Rattle.oc_top.specs.declared.answer.Answer.TheVariants as answers;
+
+use crate::answer::Answer;
+use crate::files::Fetched;
+use oc_io::Memory;
+use oc_isa::image::Image;
+use oc_lex::{LexError, lex};
+use oc_machine::machine::Machine;
+use oc_power::power::{PowerError, read_power};
+use oc_power::supply::Supply;
+use oc_sensors::file::{SensorError, read_sensors};
+use oc_sensors::sensors::Sensors;
+use oc_small::compile;
+use std::alloc::Global;
+
+/// A newly loaded machine, and the sensors that it reads.
+#[derive(Drop)]
+pub struct Prepared {
+    pub machine: Machine,
+    pub sensors: Sensors,
+}
+
+impl From<Memory> for Answer {
+    ghost from_gives = { λ _ a. a ≡ answers.Memory };
+
+    fn from(_: Memory) -> Answer {
+        Answer::Memory
+    }
+}
+
+impl From<SensorError> for Answer {
+    ghost from_gives = { λ e a. a ≡ for_sensors e };
+
+    fn from(error: SensorError) -> Answer {
+        match error {
+            SensorError::Row { row, .. } => Answer::BadSensors { row },
+            SensorError::Memory => Answer::Memory,
+        }
+    }
+}
+
+impl From<PowerError> for Answer {
+    ghost from_gives = { λ e a. a ≡ for_power e };
+
+    fn from(error: PowerError) -> Answer {
+        match error {
+            PowerError::Row { row, .. } => Answer::BadPower { row },
+            PowerError::Memory => Answer::Memory,
+        }
+    }
+}
+
+fn count_feeds(bytes: &[u8]) -> usize
+    ensures count { result ≡ line_feeds bytes.now }
+    ensures few { result ≤ length bytes.now }
+{
+    bytes.iter().filter(|byte| **byte == b'\n').count()
+}
+
+/// The line of the byte at a place.
+fn line_of(source: &[u8], at: usize) -> usize
+    requires { length source.now ≤ 1048576 }
+    ensures { result ≡ line_at source.now at }
+{
+    1 + count_feeds(&source[..at.min(source.len())])
+}
+
+/// The image of the small program that a source spells.
+fn build(alloc: Global, source: &[u8]) -> Result<Image, Answer>
+    requires { length source.now ≤ 1048576 }
+    ensures built { IfOk result (λ i. IsBuilt source.now i) }
+    ensures refused { IfErr result (λ a. IsNotBuilt source.now a) }
+{
+    let tokens = match lex(alloc, source) {
+        Ok(tokens) => tokens,
+        Err(LexError::Byte { at }) | Err(LexError::Literal { at }) => {
+            return Err(Answer::Syntax {
+                line: line_of(source, at),
+            });
+        }
+        Err(LexError::Memory) => return Err(Answer::Memory),
+    };
+    match compile(alloc, source, &tokens)? {
+        Some(image) => Ok(image),
+        None => Err(Answer::NotBuilt),
+    }
+}
+
+/// The sensors of an image, which show the rows of a sensor file.
+fn sensors_for(alloc: Global, bytes: &[u8], image: &Image) -> Result<Sensors, SensorError>
+    ensures rows { IfOk result (λ s. sensor_file image.now.names.sensors bytes.now ≡ readings s.rows) }
+    ensures sensors { IfOk result (λ s. s.sensors ≡ length image.now.names.sensors) }
+    ensures now { IfOk result (λ s. s.now ≡ 0) }
+    ensures bad { IfErr result (λ e. Explains (sensor_file image.now.names.sensors bytes.now) e) }
+{
+    read_sensors(alloc, bytes, &image.raw().names.sensors)
+}
+
+/// A machine with the source's image, the sensors of the sensor file, and the supply fed with the
+/// rows of the power file. The first file that is refused, in this order, decides the answer.
+pub fn prepare(alloc: Global, files: &Fetched, supply: &mut dyn Supply) -> Result<Prepared, Answer>
+    requires { length files.now.source.items ≤ 1048576 }
+    ensures ready { IfOk result (λ p. IsReady (bytes_of files.now) (plan supply.old) p.machine p.sensors (left supply.new)) }
+    ensures refused { IfErr result (λ a. IsTurnedDown (bytes_of files.now) (plan supply.old) a) }
+{
+    let image = build(alloc, &files.source)?;
+    let sensors = sensors_for(alloc, &files.sensors, &image)?;
+    let periods = read_power(alloc, &files.power)?;
+    supply.feed(&periods)?;
+    let machine = Machine::load(alloc, image)?;
+    Ok(Prepared { machine, sensors })
+}

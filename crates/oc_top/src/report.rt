@@ -1,0 +1,77 @@
+//! Writing the report of a run.
+ghost use Rattle.std.specs.Prelude.{◌≡◌, ◌≤◌, ◌⊎◌, [], map, OnOk, OnErr};
+ghost use Rattle.oc_io.specs.Faults.{Rose, TookPart};
+ghost use Rattle.oc_isa.specs.Image.{IsWellMade, parts_of};
+ghost use Rattle.oc_items.specs.Text.{nv_lines};
+ghost use Rattle.oc_top.specs.Answers.{IsWritten};
+ghost use Rattle.oc_top.specs.Steps.{CanRun};
+ghost use Rattle.oc_top.specs.Verdict.{runs};
+
+use crate::answer::Answer;
+use crate::prepare::Prepared;
+use oc_io::sink::{Sink, SinkFault};
+use oc_isa::image::RawImage;
+use oc_items::text::put_nv;
+use oc_machine::machine::Machine;
+use oc_machine::stop::Stop;
+use oc_power::supply::Supply;
+
+/// Writes a line for each nonvolatile variable of an image, in order, with its words.
+fn put_nvs<O: Sink>(image: &RawImage, words: &[i32], out: &mut O) -> Result<(), SinkFault>
+    requires { IsWellMade (parts_of image.now) }
+    ensures ok { OnOk result (O.took out.old (nv_lines (parts_of image.now).names (map (λ v. v.words) (parts_of image.now).nv) words.now) out.new) }
+    ensures part { OnErr result (TookPart O.took out.old (nv_lines (parts_of image.now).names (map (λ v. v.words) (parts_of image.now).nv) words.now) out.new) }
+    ensures cause { OnErr result (Rose (O.faults out.old) (O.faults out.new)) }
+    ensures count { O.faults out.old ≤ O.faults out.new }
+{
+    let mut rest = words;
+    for (place, nv) in image.nv.iter().enumerate() {
+        let (own, others) = rest.split_at((nv.words as usize).min(rest.len()));
+        if let Err(fault) = put_nv(place as u8, own, &image.names, out) {
+            return Err(fault);
+        }
+        rest = others;
+    }
+    Ok(())
+}
+
+/// Flushes at the end of a text. The answer stays, unless that fails.
+fn flushed<O: Sink>(answer: Answer, out: &mut O) -> Answer
+    ensures nothing { O.took out.old [] out.new }
+    ensures stays { (result ≡ answer) ⊎ ((result ≡ Answer.WriteFault) × Rose (O.faults out.old) (O.faults out.new)) }
+    ensures count { O.faults out.old ≤ O.faults out.new }
+{
+    match out.flush() {
+        Ok(()) => answer,
+        Err(_) => Answer::WriteFault,
+    }
+}
+
+/// Writes the nonvolatile variables, where the run is over.
+fn finished<O: Sink>(answer: Answer, machine: &Machine, out: &mut O) -> Answer
+    ensures written { IsWritten O.took O.faults out.old out.new (record { answer = answer; text = nv_lines machine.now.parts.names (map (λ v. v.words) machine.now.parts.nv) machine.now.state.nv }) result }
+    ensures count { O.faults out.old ≤ O.faults out.new }
+{
+    match put_nvs(machine.image().raw(), machine.nv_words(), out) {
+        Ok(()) => flushed(answer, out),
+        Err(_) => Answer::WriteFault,
+    }
+}
+
+/// Runs a newly loaded machine over the periods that the supply tells, and writes the report.
+pub fn report<O: Sink>(prepared: Prepared, supply: &mut dyn Supply, out: &mut O) -> Answer
+    requires { CanRun prepared.machine prepared.sensors (left supply.old) }
+    ensures { IsWritten O.took O.faults out.old out.new (runs prepared.machine.parts prepared.sensors.rows (left supply.old)) result }
+{
+    let Prepared {
+        mut machine,
+        mut sensors,
+    } = prepared;
+    match machine.run(&mut sensors, supply, out) {
+        Stop::End => finished(Answer::End, &machine, out),
+        Stop::Trap { .. } => finished(Answer::Trapped, &machine, out),
+        Stop::Dark => flushed(Answer::Dark, out),
+        Stop::Cut { .. } => flushed(Answer::Cut, out),
+        Stop::WriteFault => Answer::WriteFault,
+    }
+}

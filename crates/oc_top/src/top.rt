@@ -1,0 +1,108 @@
+//! The top call.
+ghost use Rattle.std.specs.Prelude.{◌≡◌, ◌+◌, ◌<◌, ◌⊎◌, map, length, option_map, Some};
+ghost use Rattle.std.specs.String.{string_bytes};
+ghost use Rattle.oc_io.specs.Faults.{Rose, TookPart};
+ghost use Rattle.oc_power.specs.Choice.{first_with};
+ghost use Rattle.oc_top.specs.Commands.{command_of};
+ghost use Rattle.oc_top.specs.Answers.{Comes, Outcome, line_of, status_of};
+
+use crate::answer::{Answer, put_line, status};
+use crate::command::{Command, read_command};
+use crate::files::fetch_files;
+use crate::prepare::prepare;
+use crate::report::report;
+use oc_io::shelf::Shelf;
+use oc_io::sink::Sink;
+use oc_power::supply::{Supply, choose};
+use std::alloc::Global;
+
+/// Runs the files whose words begin at a place, with this supply.
+fn run<F: Shelf, O: Sink>(
+    alloc: Global,
+    words: &[String],
+    first: usize,
+    shelf: &mut F,
+    out: &mut O,
+    supply: &mut dyn Supply,
+) -> Answer
+    requires { first + 2 < length words.now }
+    ensures { Outcome (F.holds shelf.old) (map string_bytes words.now) (record { first = first; plan = plan supply.old }) (Rose (F.faults shelf.old) (F.faults shelf.new)) O.took O.faults out.old out.new result }
+{
+    let files = match fetch_files(alloc, words, first, shelf) {
+        Ok(files) => files,
+        Err(answer) => return answer,
+    };
+    match prepare(alloc, &files, supply) {
+        Ok(prepared) => report(prepared, supply, out),
+        Err(answer) => answer,
+    }
+}
+
+/// The same with a supply of its own.
+fn run_with<F: Shelf, O: Sink>(
+    alloc: Global,
+    words: &[String],
+    first: usize,
+    shelf: &mut F,
+    out: &mut O,
+    mut supply: Box<dyn Supply>,
+) -> Answer
+    requires { first + 2 < length words.now }
+    ensures { Outcome (F.holds shelf.old) (map string_bytes words.now) (record { first = first; plan = plan supply }) (Rose (F.faults shelf.old) (F.faults shelf.new)) O.took O.faults out.old out.new result }
+{
+    run(alloc, words, first, shelf, out, &mut *supply)
+}
+
+/// Obeys a command with the first supply that has its number.
+fn obey<F: Shelf, O: Sink>(
+    alloc: Global,
+    words: &[String],
+    command: Command,
+    shelf: &mut F,
+    out: &mut O,
+    supplies: Vec<Box<dyn Supply>>,
+) -> Answer
+    requires { command_of (map string_bytes words.now) ≡ Some command }
+    ensures { Comes (F.holds shelf.old) (λ k. option_map (λ b. plan b) (first_with (λ b. number b) k supplies.items)) (map string_bytes words.now) (Rose (F.faults shelf.old) (F.faults shelf.new)) O.took O.faults out.old out.new result }
+{
+    match choose(supplies, command.supply) {
+        Some(supply) => run_with(alloc, words, command.first, shelf, out, supply),
+        None => Answer::Usage,
+    }
+}
+
+/// Does what a line of words asks for.
+fn answer_words<F: Shelf, O: Sink>(
+    alloc: Global,
+    words: &[String],
+    shelf: &mut F,
+    out: &mut O,
+    supplies: Vec<Box<dyn Supply>>,
+) -> Answer
+    ensures { Comes (F.holds shelf.old) (λ k. option_map (λ b. plan b) (first_with (λ b. number b) k supplies.items)) (map string_bytes words.now) (Rose (F.faults shelf.old) (F.faults shelf.new)) O.took O.faults out.old out.new result }
+{
+    match read_command(words) {
+        Some(command) => obey(alloc, words, command, shelf, out, supplies),
+        None => Answer::Usage,
+    }
+}
+
+/// Does what a line of words asks for, and answers its status.
+pub fn ocelot<F: Shelf, O: Sink, E: Sink>(
+    alloc: Global,
+    words: &[String],
+    shelf: &mut F,
+    out: &mut O,
+    err: &mut E,
+    supplies: Vec<Box<dyn Supply>>,
+) -> u8
+    ensures { (answer : SomeAnswer) × (result ≡ status_of answer)
+        × Comes (F.holds shelf.old) (λ k. option_map (λ b. plan b) (first_with (λ b. number b) k supplies.items)) (map string_bytes words.now) (Rose (F.faults shelf.old) (F.faults shelf.new)) O.took O.faults out.old out.new answer
+        × (E.took err.old (line_of (map string_bytes words.now) answer) err.new ⊎ (Rose (E.faults err.old) (E.faults err.new) × TookPart E.took err.old (line_of (map string_bytes words.now) answer) err.new)) }
+{
+    let answer = answer_words(alloc, words, shelf, out, supplies);
+    put_line(answer, words, err);
+    status(answer)
+}
+
+ghost use Rattle.oc_top.specs.declared.answer.Answer.{Answer as SomeAnswer};

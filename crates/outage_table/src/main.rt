@@ -111,7 +111,12 @@ fn main(rt: HostRuntime) -> anyhow::Result<()> {
     }
     let two_values = b"time,sensor,value\n0,t,21\n60,t,30\n";
     run_over(alloc, two_values, &[period(18, 10)], &mut out)?;
-    run_over(alloc, two_values, &[period(18, 10), period(2, 10)], &mut out)?;
+    run_over(
+        alloc,
+        two_values,
+        &[period(18, 10), period(2, 10)],
+        &mut out,
+    )?;
     out.flush()?;
     Ok(())
 }

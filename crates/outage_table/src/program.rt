@@ -74,7 +74,10 @@ fn code(alloc: Global) -> Result<Vec<Placed>, AllocError>
 fn targets(alloc: Global) -> Result<Vec<Vec<Target>>, AllocError>
     ensures { IfOk result (λ targets. map (λ v. v.items) targets.items ≡ specs.targets) }
 {
-    let region = vec![in alloc; Target::Nv { base: 0, len: 1 }, Target::Nv { base: 1, len: 1 }]?;
+    let region = vec![in alloc;
+        Target::Nv { base: 0, len: 1 },
+        Target::Nv { base: 1, len: 1 },
+    ]?;
     Ok(vec![in alloc; region]?)
 }
 

@@ -1,6 +1,5 @@
--- The program is well made, and no run of it meets an undefined step.
-use Rattle.std.proofs.Common.{◌≡◌, refl, arith, rules}
-use Rattle.oc_isa.specs.Image.{IsWellMade}
+-- No run of the program meets an undefined step.
+use Rattle.std.proofs.Common.{rules}
 use Rattle.oc_isa.specs.Run.{IsSound, start_of}
 use Rattle.oc_isa.specs.Table.{device_of}
 use Rattle.outage_table.specs.Program.{program}
@@ -11,6 +10,3 @@ ends = search rules
 
 pub sound : IsSound (device_of program)
 sound = sound_by (device_of program) 17 ends
-
-pub made : IsWellMade program
-made = search rules

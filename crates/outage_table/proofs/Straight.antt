@@ -1,5 +1,6 @@
 -- A run that ends within so many instructions, whatever the samples, meets no undefined step at any time.
 use Rattle.std.proofs.Common.{◌≡◌, ◌≤◌, ℕ, zero, suc, ℤ, List, [], ◌∷◌, length, true}
+use Rattle.std.proofs.lemmas.List.Elements.{All-head, All-tail}
 use Rattle.oc_tree.specs.Word.{is_word}
 use Rattle.oc_isa.specs.Next.{Regs, Next, Goes, Senses, Enters, Commits, Ends, Stuck, Device, pushed, written}
 use Rattle.oc_isa.specs.Run.{Core, start_of, core_at, safe_sense, safe_commit, safe_next, Safe, AreWords, IsSound}
@@ -24,6 +25,9 @@ abbrev pub EndsIn : Device → ℕ → Here
 EndsIn d zero c = ⊥
 EndsIn d (suc n) c = (length c.regs.stack ≤ d.room) × next_ends (d.next c.regs c.nv) c (EndsIn d n)
 
+abbrev IsWord : ℤ → Type 0
+IsWord x = is_word x ≡ true
+
 module _ (d : Device) where
   abbrev AllSafe : Core → Type 0
   AllSafe c = (n : ℕ) (samples : List ℤ) → AreWords samples → Safe d n samples c
@@ -34,7 +38,7 @@ module _ (d : Device) where
 
   sense_safe : (to : Regs) (c : Core) (go : Here) (n : ℕ) → ((c : Core) → go c → AllSafe c) → ((x : ℤ) → is_word x ≡ true → go (core_at (pushed to x) c.depth c.nv)) → (samples : List ℤ) → AreWords samples → safe_sense samples to c (Safe d n)
   sense_safe to c go n h e [] words = tt
-  sense_safe to c go n h e (x ∷ samples) words = h _ (e x words.0) n samples words.1
+  sense_safe to c go n h e (x ∷ samples) words = h _ (e x (All-head IsWord x samples words)) n samples (All-tail IsWord x samples words)
 
   next_safe : (next : Next) (c : Core) (go : Here) (n : ℕ) → ((c : Core) → go c → AllSafe c) → next_ends next c go → (samples : List ℤ) → AreWords samples → safe_next next samples c (Safe d n)
   next_safe (Goes to w shown) c go n h e samples words = h _ e n samples words

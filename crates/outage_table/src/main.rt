@@ -6,7 +6,7 @@
 //! the undo log is put back.
 #![tactic(auto)]
 
-ghost use Rattle.std.specs.Prelude.{◌<◌, ◌^◌};
+ghost use Rattle.std.specs.Prelude.{◌≡◌, ◌<◌, ◌^◌, false};
 ghost use Rattle.oc_power.specs.Total.{total};
 
 mod program;
@@ -23,7 +23,9 @@ use oc_sensors::file::read_sensors;
 use program::{names, program};
 use std::alloc::Global;
 
-fn period(on: u64, off: u64) -> Period {
+fn period(on: u64, off: u64) -> Period
+    ensures { result ≡ record { on = on; off = off; cut = false } }
+{
     Period {
         on,
         off,
@@ -91,7 +93,8 @@ fn run_over<O: Sink>(
     let mut sensors = read_sensors(alloc, sensors, &names.sensors)?;
     let mut supply = Recorded::new(alloc);
     supply.feed(periods)?;
-    let mut machine = Machine::load(alloc, program(alloc)?)?;
+    let image = program(alloc)?;
+    let mut machine = Machine::load(alloc, image)?;
     machine.run(&mut sensors, &mut supply, out);
     put_kept(alloc, &machine, out)
 }

@@ -1,0 +1,5 @@
+pub mod Lexemes
+pub mod Fronts
+pub mod Expressions
+pub mod Reading
+pub mod ReadingExpressions

@@ -1,0 +1,2 @@
+//! The grammar.
+#![tactic(auto)]

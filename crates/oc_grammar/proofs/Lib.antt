@@ -1,3 +1,4 @@
 pub mod FrontLaws
 pub mod ListLaws
 pub mod ExpressionLaws
+pub mod ExpressionsRead

@@ -2,3 +2,4 @@ pub mod FrontLaws
 pub mod ListLaws
 pub mod ExpressionLaws
 pub mod ExpressionsRead
+pub mod UnaryLaws

@@ -112,3 +112,35 @@ part_at room ts = whole_by (level_at 5 room) ts
 
 unfoldable pub whole_at : Lexemes → Read TExpr
 whole_at ts = part_at 33 ts
+
+-- ---- the parts of a unary
+
+unfoldable pub prefixed_at : ℕ → ℕ → Lexemes → ReadExpr
+prefixed_at zero n ts = too_deep ts
+prefixed_at (suc room) n ts = unary_at room n ts
+
+unfoldable pub inner_at : ℕ → ℕ → Lexemes → ReadExpr
+inner_at zero n ts = too_deep ts
+inner_at (suc room) n ts = level_at 5 room n ts
+
+unfoldable pub args_at : ℕ → Lexemes → Read (List TArg)
+args_at room ts = args_by (level_at 5 room) ts
+
+unfoldable pub arg_at : ℕ → Lexemes → Read TArg
+arg_at room ts = arg_by (level_at 5 room) ts
+
+unfoldable pub inner_args_at : ℕ → Lexemes → Read (List TArg)
+inner_args_at zero ts = too_deep ts
+inner_args_at (suc room) ts = args_at room ts
+
+unfoldable pub inner_sensor_at : ℕ → Lexemes → Read Text
+inner_sensor_at zero ts = too_deep ts
+inner_sensor_at (suc room) ts = sensor_at ts
+
+unfoldable pub named_at : ℕ → Text → ℕ → Lexemes → ReadExpr
+named_at room x n ts = named_by (inner_at room) (inner_args_at room) x n ts
+
+-- the reading of a unary, by its first token
+unfoldable pub unary_here : ℕ → ℕ → Lexemes → ReadExpr
+unary_here room n ts =
+    next_at ts >>= λ x. unary_by (prefixed_at room) (inner_at room) (inner_args_at room) (inner_sensor_at room) x.0 n x.1

@@ -1,0 +1,6 @@
+//! From tokens to the tree of a program.
+#![tactic(auto)]
+
+mod expression;
+mod reader;
+mod stop;

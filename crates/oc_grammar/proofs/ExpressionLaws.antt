@@ -215,7 +215,7 @@ arg_sound room inner sound ts x e =
 args_sound : (room : ℕ) (inner : ℕ → Lexemes → ReadExpr) → Sound inner room 5 → (ts : Lexemes) (x : List TArg × Lexemes) → args_by inner ts ≡ Ok x → SpellsArgs room (args_of x.0) ts x.1
 args_sound room inner sound ts x e =
     listed_sound (SpellsArg room) (λ xs from rest. SpellsArgs room (args_of xs) from rest) (arg_by inner) (arg_sound room inner sound)
-      (λ from rest s. closed s) (λ a from b rest d s. last d s) (λ a as' from b c rest d s q. further d s q) (length ts) ts x e
+      (λ from rest s. closed s) (λ a from b rest d s. last d s) (λ a as' from b c rest d s q. further d s q) (suc (length ts)) ts x e
 
 sensor_sound : (ts : Lexemes) (x : Text × Lexemes) → sensor_at ts ≡ Ok x → IsSensor x.0 ts x.1
 unfolding sensor_at
@@ -283,3 +283,6 @@ mutual
   shorter_args (closed s) = let h = sign_shorter s in omega arith
   shorter_args (last d s) = let h = shorter_arg d in let g = sign_shorter s in omega arith
   shorter_args (further d s e) = let h = shorter_arg d in let g = sign_shorter s in let f = shorter_args e in omega arith
+
+pub arg_shorter : (room : ℕ) (ts : Lexemes) (x : TArg × Lexemes) → arg_by (level_at 5 room) ts ≡ Ok x → length x.1 < length ts
+arg_shorter room ts x e = shorter_arg (arg_sound room (level_at 5 room) (level_sound room 5) ts x e)

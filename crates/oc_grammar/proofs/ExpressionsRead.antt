@@ -42,7 +42,7 @@ chain_enough level part short (suc k) (suc j) e n ts h g =
           let s = short m o.1 x p in
           chain_enough level part short k j (binary o.0 e x.0) x.1 x.2 (omega arith) (omega arith))))
 
-no_front : (level : ℕ) (y : BinaryOp × Lexemes) → operator_front level [] ≡ Some y → ⊥
+pub no_front : (level : ℕ) (y : BinaryOp × Lexemes) → operator_front level [] ≡ Some y → ⊥
 unfolding operator_front
 no_front level y e = cc
 
@@ -119,7 +119,7 @@ abbrev pub on : ℕ → ℕ → TExpr → ℕ → Lexemes → ReadExpr
 on zero room e n ts = Ok (e, n, ts)
 on (suc level) room e n ts = if suc level == 3 then Ok (e, n, ts) else chain (suc level) (level_at level room) (length ts) e n ts
 
-chain_stopped : (level : ℕ) (part : ℕ → Lexemes → ReadExpr) (k : ℕ) (e : TExpr) (n : ℕ) (ts : Lexemes) → operator_front level ts ≡ None → chain level part k e n ts ≡ Ok (e, n, ts)
+pub chain_stopped : (level : ℕ) (part : ℕ → Lexemes → ReadExpr) (k : ℕ) (e : TExpr) (n : ℕ) (ts : Lexemes) → operator_front level ts ≡ None → chain level part k e n ts ≡ Ok (e, n, ts)
 unfolding chain
 chain_stopped level part zero e n ts h = refl
 chain_stopped level part (suc k) e n ts h = rw h refl
@@ -263,7 +263,7 @@ mutual
       let k : m ≡ n = omega arith in rw (k, sign_strip c) refl
   goes_on (result {room = room} {f = f} {args = args} {b = b} {rest = rest} a_name a_sign d) stops n m h =
       let k : m ≡ n = omega arith in
-      let inner : listed_by (arg_by (level_at 5 room)) (length b) b ≡ Ok (list_of args, rest) = args_read d (length b) (omega arith) in
+      let inner : listed_by (arg_by (level_at 5 room)) (suc (length b)) b ≡ Ok (list_of args, rest) = args_read d (suc (length b)) (omega arith) in
       rw (k, inner, args_back args) refl
   goes_on (one {room = room} {level = level} {e = e} {from = from} {rest = rest} d) stops n m h =
       let g = below_next level in

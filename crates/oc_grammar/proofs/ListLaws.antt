@@ -50,3 +50,28 @@ listed_enough part short (suc k) (suc j) ts h g =
           let l = sign_shorter (strip_mark_ok marks.Comma x.1 us c) in
           ap (λ (r : Read (List _)). r >>= λ xs. Ok (x.0 ∷ xs.0, xs.1)) (listed_enough part short k j us (omega arith) (omega arith)))))
       (λ us _. refl)
+
+-- ---- one thing at a time
+
+abbrev pub listed_at : {A : Type 0} → (Lexemes → Read A) → Lexemes → Read (List A)
+listed_at part ts = listed_by part (suc (length ts)) ts
+
+-- behind one thing
+abbrev pub behind : {A : Type 0} → (Lexemes → Read (List A)) → A × Lexemes → Read (List A)
+behind rest x =
+    with_some (strip_mark marks.Comma x.1)
+      (expect_mark marks.CloseRound x.1 >>= λ us. Ok (x.0 ∷ [], us))
+      (λ us. rest us >>= λ xs. Ok (x.0 ∷ xs.0, xs.1))
+
+pub listed_turn : {A : Type 0} (part : Lexemes → Read A) → Shortens part → (ts : Lexemes) → strip_mark marks.CloseRound ts ≡ None → listed_at part ts ≡ (part ts >>= behind (listed_at part))
+unfolding listed_by
+listed_turn part short ts none =
+    rw none (bind_same (part ts) _ _ (λ x e.
+      let s = short ts x e in
+      with_some_same (strip_mark marks.Comma x.1) _ _ _ _ (λ _. refl) (λ us c.
+        let l = sign_shorter (strip_mark_ok marks.Comma x.1 us c) in
+        ap (λ (r : Read (List _)). r >>= λ xs. Ok (x.0 ∷ xs.0, xs.1)) (listed_enough part short (length ts) (suc (length us)) us (omega arith) (omega arith)))))
+
+pub listed_closed : {A : Type 0} (part : Lexemes → Read A) (ts us : Lexemes) → strip_mark marks.CloseRound ts ≡ Some us → listed_at part ts ≡ Ok ([], us)
+unfolding listed_by
+listed_closed part ts us e = rw e refl

@@ -89,7 +89,7 @@ arg_by inner ts =
       (λ us. reference_by (take_word words.Mutable us))
 
 abbrev pub args_by : (ℕ → Lexemes → ReadExpr) → Lexemes → Read (List TArg)
-args_by inner ts = listed_by (arg_by inner) (length ts) ts
+args_by inner ts = listed_by (arg_by inner) (suc (length ts)) ts
 
 -- the sensor's name, behind the `(` and up to the `)`
 unfoldable pub sensor_at : Lexemes → Read Text

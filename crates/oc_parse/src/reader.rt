@@ -74,7 +74,7 @@ impl Reader<'_> {
     /// Takes the token in front.
     #[tactic(auto, unfolding(oc_grammar::specs::Reading::next_at))]
     pub fn next(&mut self) -> Result<Token, Stop>
-        ensures exact { Reads (lexeme_of self.old.source.now) result (left self.new) (next_at (left self.old)) }
+        ensures exact { Reads (lexeme_of self.new.source.now) result (left self.new) (next_at (left self.old)) }
         ensures shorter { OnOk result (length self.new.rest.now + 1 ≡ length self.old.rest.now) }
     {
         match self.rest {

@@ -212,7 +212,7 @@ arg_sound room inner sound ts x e =
       | inr w ↦ reference_sound room ts w.0 x (strip_mark_ok marks.Ampersand ts w.0 w.1) w.2
     ]
 
-args_sound : (room : ℕ) (inner : ℕ → Lexemes → ReadExpr) → Sound inner room 5 → (ts : Lexemes) (x : List TArg × Lexemes) → args_by inner ts ≡ Ok x → SpellsArgs room (args_of x.0) ts x.1
+pub args_sound : (room : ℕ) (inner : ℕ → Lexemes → ReadExpr) → Sound inner room 5 → (ts : Lexemes) (x : List TArg × Lexemes) → args_by inner ts ≡ Ok x → SpellsArgs room (args_of x.0) ts x.1
 args_sound room inner sound ts x e =
     listed_sound (SpellsArg room) (λ xs from rest. SpellsArgs room (args_of xs) from rest) (arg_by inner) (arg_sound room inner sound)
       (λ from rest s. closed s) (λ a from b rest d s. last d s) (λ a as' from b c rest d s q. further d s q) (suc (length ts)) ts x e

@@ -180,16 +180,16 @@ unary_target (suc room) n line line' x rest = refl
 
 -- ---- arguments
 
-list_of : TArgs → List TArg
+pub list_of : TArgs → List TArg
 list_of no_args = []
 list_of (more_args a rest) = a ∷ list_of rest
 
-args_back : (args : TArgs) → args_of (list_of args) ≡ args
+pub args_back : (args : TArgs) → args_of (list_of args) ≡ args
 unfolding list_of
 args_back no_args = refl
 args_back (more_args a rest) = ap (λ (r : TArgs). more_args a r) (args_back rest)
 
-abbrev Begins : Lexemes → Type 0
+abbrev pub Begins : Lexemes → Type 0
 Begins from = (strip_mark marks.CloseRound from ≡ None) × (strip_mark marks.Ampersand from ≡ None) × (strip_mark marks.OpenSquare from ≡ None)
 
 pub begins : {room level : ℕ} {e : TExpr} {from rest : Lexemes} → Spells room level e from rest → Begins from
@@ -215,7 +215,7 @@ arg_begins (by_value d few) = (begins d).0
 arg_begins (by_shared a_sign i) = refl
 arg_begins (by_mutable a_sign k i) = refl
 
-named_no_word : {x : Text} {from rest : Lexemes} → Named x from rest → (w : Word) → strip_word w from ≡ None
+pub named_no_word : {x : Text} {from rest : Lexemes} → Named x from rest → (w : Word) → strip_word w from ≡ None
 unfolding strip_word
 named_no_word a_name w = refl
 
@@ -223,11 +223,11 @@ comma_only : {from rest : Lexemes} → Sign marks.CloseRound from rest → strip
 unfolding strip_mark
 comma_only a_sign = refl
 
-take_without : (w : Word) (ts : Lexemes) → strip_word w ts ≡ None → take_word w ts ≡ (false, ts)
+pub take_without : (w : Word) (ts : Lexemes) → strip_word w ts ≡ None → take_word w ts ≡ (false, ts)
 unfolding take_word
 take_without w ts e = rw e refl
 
-take_with : {w : Word} {ts rest : Lexemes} → Keyword w ts rest → take_word w ts ≡ (true, rest)
+pub take_with : {w : Word} {ts rest : Lexemes} → Keyword w ts rest → take_word w ts ≡ (true, rest)
 unfolding take_word
 take_with k = rw (keyword_strip k) refl
 
@@ -290,7 +290,7 @@ mutual
   arg_read (by_shared {room = room} {x = x} {a = a} {rest = rest} a_sign i) stops = reference_read false x a a rest i (take_without words.Mutable a (named_no_word i words.Mutable))
   arg_read (by_mutable {room = room} {x = x} {a = a} {b = b} {rest = rest} a_sign k i) stops = reference_read true x a b rest i (take_with k)
 
-  args_read : {room : ℕ} {args : TArgs} {from rest : Lexemes} → SpellsArgs room args from rest → (k : ℕ) → length from ≤ k → listed_by (arg_by (level_at 5 room)) k from ≡ Ok (list_of args, rest)
+  pub args_read : {room : ℕ} {args : TArgs} {from rest : Lexemes} → SpellsArgs room args from rest → (k : ℕ) → length from ≤ k → listed_by (arg_by (level_at 5 room)) k from ≡ Ok (list_of args, rest)
   args_read (closed s) zero h = let g = sign_shorter s in absurd (omega arith)
   args_read (closed s) (suc k) h = rw (sign_strip s) refl
   args_read (last d s) zero h = let g = shorter_arg d in absurd (omega arith)

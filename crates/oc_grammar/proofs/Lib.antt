@@ -3,3 +3,5 @@ pub mod ListLaws
 pub mod ExpressionLaws
 pub mod ExpressionsRead
 pub mod UnaryLaws
+pub mod SimpleLaws
+pub mod StatementLaws

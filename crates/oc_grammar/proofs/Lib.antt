@@ -5,3 +5,4 @@ pub mod ExpressionsRead
 pub mod UnaryLaws
 pub mod SimpleLaws
 pub mod StatementLaws
+pub mod StatementsRead

@@ -5,3 +5,5 @@ pub mod Reading
 pub mod ReadingExpressions
 pub mod Statements
 pub mod ReadingStatements
+pub mod Programs
+pub mod ReadingPrograms

@@ -6,3 +6,4 @@ pub mod UnaryLaws
 pub mod SimpleLaws
 pub mod StatementLaws
 pub mod StatementsRead
+pub mod ProgramLaws

@@ -41,7 +41,7 @@ args_at_read {from = from} d = args_read d (suc (length from)) (omega arith)
 
 -- ---- types and constants
 
-array_sound : (from ts : Lexemes) (x : ℕ × Lexemes) → Sign marks.OpenSquare from ts → array_at ts ≡ Ok x → SpellsArray x.0 from x.1
+pub array_sound : (from ts : Lexemes) (x : ℕ × Lexemes) → Sign marks.OpenSquare from ts → array_at ts ≡ Ok x → SpellsArray x.0 from x.1
 unfolding array_at
 array_sound from ts x o e =
     let a = bind_ok (expect_word words.Int ts) _ x e in

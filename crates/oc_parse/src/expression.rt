@@ -11,7 +11,7 @@ use oc_tree::name::Name;
 use oc_tree::tree::{Arg, Call, Expr, UnaryOp};
 
 /// How many brackets and prefix operators of a whole expression may be in one another.
-const BRACKETS: u32 = 33;
+pub const BRACKETS: u32 = 33;
 
 /// How many binary operators a whole expression may have.
 const OPERATORS: u32 = 255;

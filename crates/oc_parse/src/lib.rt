@@ -3,4 +3,5 @@
 
 mod expression;
 mod reader;
+mod simple;
 mod stop;

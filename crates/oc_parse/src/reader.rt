@@ -1,6 +1,6 @@
 //! The tokens that are left.
 ghost use Rattle.std.specs.Prelude.{◌≡◌, suc, ◌+◌, length, Ok, Some, None, MatchBool, MatchOption, MatchResult, OnOk, IfNone, IfSome, slice_range};
-ghost use Rattle.oc_grammar.specs.Reading.{next_at, strip_mark, strip_word, expect_mark, expect_word, name_at, number_at, operator_front};
+ghost use Rattle.oc_grammar.specs.Reading.{next_at, strip_mark, strip_word, expect_mark, expect_word, name_at, number_at, take_word, operator_front};
 ghost use Rattle.oc_grammar.specs.ReadingExpressions.{spend_at};
 ghost use Rattle.std.specs.Bool.{OnFalse};
 ghost use Rattle.oc_grammar.specs.Lexemes.{lexeme_of};
@@ -104,8 +104,9 @@ impl Reader<'_> {
     }
 
     /// Takes this word, if it is in front.
-    #[tactic(auto, unfolding(oc_grammar::specs::Reading::strip_word))]
+    #[tactic(auto, unfolding(oc_grammar::specs::Reading::strip_word, oc_grammar::specs::Reading::take_word))]
     pub fn take_word(&mut self, word: Word) -> bool
+        ensures pair { (result, left self.new) ≡ take_word word (left self.old) }
         ensures exact { MatchBool result (strip_word word (left self.old) ≡ Some (left self.new)) (strip_word word (left self.old) ≡ None) }
         ensures kept { OnFalse result (left self.new ≡ left self.old) }
         ensures shorter { MatchBool result (length self.new.rest.now + 1 ≡ length self.old.rest.now) (length self.new.rest.now ≡ length self.old.rest.now) }

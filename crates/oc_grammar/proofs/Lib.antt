@@ -7,3 +7,4 @@ pub mod SimpleLaws
 pub mod StatementLaws
 pub mod StatementsRead
 pub mod ProgramLaws
+pub mod NodeLaws

@@ -128,7 +128,7 @@ declared_sound ts y e =
 
 -- ---- items
 
-abbrev Grows : TProgram → Place → TProgram × ℕ × ℕ × Lexemes → Type 0
+abbrev pub Grows : TProgram → Place → TProgram × ℕ × ℕ × Lexemes → Type 0
 Grows p x y = SpellsItem p x y.0 (y.1, y.2, y.3)
 
 item_by_sound : (p : TProgram) (t : Lexeme) (n b : ℕ) (ts : Lexemes) (y : TProgram × ℕ × ℕ × Lexemes) → item_by p t n b ts ≡ Ok y → Grows p (n, b, t ∷ ts) y
@@ -148,7 +148,7 @@ item_by_sound p (keyword line words.Function) n b ts y e =
     subst (Grows p (n, b, keyword line words.Function ∷ ts)) (ok_is _ y f.2) (function_item (function_sound n b (keyword line words.Function ∷ ts) ts f.0 a_keyword f.1))
 item_by_sound p _ n b ts y e = absurd cc
 
-item_sound : (p : TProgram) (n b : ℕ) (ts : Lexemes) (y : TProgram × ℕ × ℕ × Lexemes) → item_at p n b ts ≡ Ok y → Grows p (n, b, ts) y
+pub item_sound : (p : TProgram) (n b : ℕ) (ts : Lexemes) (y : TProgram × ℕ × ℕ × Lexemes) → item_at p n b ts ≡ Ok y → Grows p (n, b, ts) y
 unfolding item_at
 item_sound p n b ts y e =
     let x = bind_ok (next_at ts) _ y e in
@@ -179,12 +179,12 @@ param_shorter (a_param i s p t) = let a = name_shorter i in let b = sign_shorter
 pub param_at_shorter : Shortens param_at
 param_at_shorter ts x e = param_shorter (param_sound ts x e)
 
-params_shorter : {ps : List Param} {from rest : Lexemes} → SpellsParams ps from rest → length rest < length from
+pub params_shorter : {ps : List Param} {from rest : Lexemes} → SpellsParams ps from rest → length rest < length from
 params_shorter (no_param s) = let a = sign_shorter s in omega arith
 params_shorter (last_param p s) = let a = param_shorter p in let b = sign_shorter s in omega arith
 params_shorter (further_params p s d) = let a = param_shorter p in let b = sign_shorter s in let c = params_shorter d in omega arith
 
-result_shorter : {r : Option Scalar} {from rest : Lexemes} → SpellsResult r from rest → length rest ≤ length from
+pub result_shorter : {r : Option Scalar} {from rest : Lexemes} → SpellsResult r from rest → length rest ≤ length from
 result_shorter no_result = omega arith
 result_shorter (a_result s (int_scalar k)) = let a = sign_shorter s in let b = keyword_shorter k in omega arith
 result_shorter (a_result s (bool_scalar k)) = let a = sign_shorter s in let b = keyword_shorter k in omega arith

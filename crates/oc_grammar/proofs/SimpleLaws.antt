@@ -155,7 +155,7 @@ note_shorter : {k : Option ValueKind} {from rest : Lexemes} → SpellsNote k fro
 note_shorter (typed s t) = let a = sign_shorter s in let b = type_shorter t in omega arith
 note_shorter untyped = omega arith
 
-head_shorter : {m : Bool} {x : Text} {k : Option ValueKind} {from rest : Lexemes} → LetHead m x k from rest → length rest < length from
+pub head_shorter : {m : Bool} {x : Text} {k : Option ValueKind} {from rest : Lexemes} → LetHead m x k from rest → length rest < length from
 head_shorter (let_head w m i t s) = let a = keyword_shorter w in let b = mut_shorter m in let c = name_shorter i in let d = note_shorter t in let e = sign_shorter s in omega arith
 
 -- ---- what is read is spelled so

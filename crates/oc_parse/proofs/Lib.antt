@@ -1,2 +1,4 @@
+pub mod ItemLoops
 pub mod Loops
+pub mod StatementLoops
 pub mod Views

@@ -1,5 +1,5 @@
 -- What the code reads, against the reading.
-use Rattle.std.specs.Prelude.{◌≡◌, ℕ, Result, Ok, Err}
+use Rattle.std.specs.Prelude.{◌≡◌, ℕ, ◌+◌, ◌≤◌, length, Result, Ok, Err}
 use Rattle.oc_tree.specs.Tree.{TExpr}
 use Rattle.oc_grammar.specs.Lexemes.{Lexemes, lexemes_of}
 use Rattle.oc_grammar.specs.Reading.{Fault, syntax_fault, depth_fault, Read}
@@ -16,6 +16,15 @@ use Rattle.oc_grammar.specs.Reading.{same_mark, same_word, at_level}
 use Rattle.oc_parse.specs.declared.stop.Stop.{Stop}
 use Rattle.oc_parse.specs.declared.stop.Stop.TheVariants as stops
 use Rattle.oc_parse.specs.declared.reader.Reader.{Reader}
+use Rattle.oc_parse.specs.declared.statement.Parser.{Parser}
+use Rattle.oc_grammar.specs.ReadingStatements.{ReadNumbered}
+use Rattle.std.specs.Prelude.{◌-◌}
+use Rattle.oc_tree.specs.Tree.{TProgram}
+use Rattle.oc_tree.specs.View.{program_view}
+use Rattle.oc_tree.specs.declared.tree.Program.{Program}
+use Rattle.oc_parse.specs.declared.program.ParseError.{ParseError}
+use Rattle.oc_parse.specs.declared.program.ParseError.TheVariants as errors
+use Rattle.oc_grammar.specs.ReadingStatements as reading
 
 -- the tokens that are left
 abbrev pub left : Reader → Lexemes
@@ -51,3 +60,28 @@ word_is w _ = false
 abbrev pub kind_operator : ℕ → Kind → Option BinaryOp
 kind_operator level (kinds.Mark m) = at_level level (mark_operator m)
 kind_operator level _ = None
+
+-- a reading, from where the parser is
+abbrev pub from : {A : Type 0} → reading.Reader A → Parser → ReadNumbered A
+from read p = read p.statements p.blocks (left p.reader)
+
+-- the same is read, up to where the parser is
+abbrev pub ReadsTo : {X Y : Type 0} → (X → Y) → Result X Stop → Parser → ReadNumbered Y → Type 0
+ReadsTo view (Ok x) p read = read ≡ Ok (view x, p.statements, p.blocks, left p.reader)
+ReadsTo view (Err e) p read = Stopped e read
+
+-- the numbers of what may still come are below 2^32
+abbrev pub Fits : Parser → Type 0
+Fits p = (p.statements + length p.reader.rest.now ≤ 4294967295) × (p.blocks + length p.reader.rest.now ≤ 4294967295)
+
+-- the same program is read, or reading stops with the same fault or for want of memory
+abbrev pub Whole : Result Program Stop → Result TProgram Fault → Type 0
+Whole (Ok p) read = read ≡ Ok (program_view p)
+Whole (Err e) read = Stopped e read
+
+-- a fault stands at its token, in a list of so many tokens
+abbrev pub Parses : Result Program ParseError → ℕ → Result TProgram Fault → Type 0
+Parses (Ok p) count read = read ≡ Ok (program_view p)
+Parses (Err errors.Memory) count read = Unit {0}
+Parses (Err (errors.Syntax token)) count read = (n : ℕ) × (read ≡ Err (syntax_fault n)) × (token ≡ count - n)
+Parses (Err (errors.Depth token)) count read = (n : ℕ) × (read ≡ Err (depth_fault n)) × (token ≡ count - n)

@@ -2,6 +2,11 @@
 #![tactic(auto)]
 
 mod expression;
+mod item;
+mod program;
 mod reader;
 mod simple;
+mod statement;
 mod stop;
+
+pub use program::{ParseError, parse};

@@ -1,5 +1,5 @@
 //! The tokens that are left.
-ghost use Rattle.std.specs.Prelude.{◌≡◌, suc, ◌+◌, length, Ok, Some, None, MatchBool, MatchOption, MatchResult, OnOk, IfNone, IfSome, slice_range};
+ghost use Rattle.std.specs.Prelude.{◌≡◌, suc, ◌+◌, length, Ok, Some, None, is_some, MatchBool, MatchOption, MatchResult, OnOk, IfNone, IfSome, slice_range};
 ghost use Rattle.oc_grammar.specs.Reading.{next_at, strip_mark, strip_word, expect_mark, expect_word, name_at, number_at, take_word, operator_front};
 ghost use Rattle.oc_grammar.specs.ReadingExpressions.{spend_at};
 ghost use Rattle.std.specs.Bool.{OnFalse};
@@ -228,6 +228,26 @@ impl Reader<'_> {
         Stop::Depth {
             left: self.rest.len() + 1,
         }
+    }
+
+    /// The fault that the token in front passes a depth.
+    pub fn too_deep_here(&self) -> Stop
+        ensures { result ≡ Stop.Depth (length self.now.rest.now) }
+    {
+        Stop::Depth {
+            left: self.rest.len(),
+        }
+    }
+
+    /// Whether this word is in front.
+    #[tactic(auto, unfolding(oc_grammar::specs::Reading::strip_word))]
+    pub fn stands(&self, word: Word) -> bool
+        ensures { result ≡ is_some (strip_word word (left self.now)) }
+    {
+        let [token, ..] = self.rest else {
+            return false;
+        };
+        is_word(*token, word)
     }
 
     /// Takes one from the binary operators that an expression may still have, for the operator just

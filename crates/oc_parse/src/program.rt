@@ -1,5 +1,5 @@
 //! Whole programs.
-ghost use Rattle.std.specs.Prelude.{◌≡◌, ◌≤◌, ◌-◌, length, IfOk, MatchResult};
+ghost use Rattle.std.specs.Prelude.{◌≡◌, ◌≤◌, ℕ, List, length, IfOk, MatchResult};
 ghost use Rattle.oc_tree.specs.Tree.{TProgram};
 ghost use Rattle.oc_tree.specs.View.{program_view};
 ghost use Rattle.oc_lex.specs.Tokens.{AreTokens};
@@ -59,7 +59,7 @@ fn whole(alloc: Global, source: &[u8], tokens: &[Token]) -> Result<Program, Stop
     requires { length tokens.now ≤ 1048576 }
     ensures { Whole result (program_at (lexemes_of source.now tokens.now)) }
 {
-    let mut program = empty(alloc, last_line(source, tokens));
+    let mut program = empty(alloc, last_line(tokens));
     let reader = Reader {
         alloc,
         source,
@@ -77,8 +77,8 @@ fn whole(alloc: Global, source: &[u8], tokens: &[Token]) -> Result<Program, Stop
 }
 
 /// The line of the last token, or 1 where there is none.
-fn last_line(_source: &[u8], tokens: &[Token]) -> u32
-    ensures { result ≡ last_line_of (lexemes_of _source.now tokens.now) }
+fn last_line(tokens: &[Token]) -> u32
+    ensures { (source : List ℕ) → result ≡ last_line_of (lexemes_of source tokens.now) }
 {
     match tokens {
         [] => 1,

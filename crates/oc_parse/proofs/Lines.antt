@@ -1,8 +1,11 @@
--- The line of the last token.
+-- The line of the last token, and how many are left.
 use Rattle.std.proofs.Common.{◌≡◌, ℕ, zero, suc, ◌+◌, ◌-◌, ◌<◌, ◌≤◌, List, [], ◌∷◌, length, get_or, refl, ◌∙◌, arith}
+use Rattle.std.proofs.lemmas.List.{length-map}
 use Rattle.oc_lex.specs.declared.token.Kind.{Kind}
 use Rattle.oc_lex.specs.declared.token.Kind.TheVariants as kinds
 use Rattle.oc_lex.specs.declared.token.Token.{Token}
+use Rattle.oc_parse.specs.declared.reader.Reader.{Reader}
+use Rattle.oc_parse.specs.Steps.{left}
 use Rattle.oc_grammar.specs.Lexemes.{Lexeme, line_of, lexeme_by, lexeme_of, lexemes_of, last_line}
 
 line_by : (line : ℕ) (text : List ℕ) (k : Kind) → line ≡ line_of (lexeme_by line text k)
@@ -19,3 +22,6 @@ last_is source (t ∷ u ∷ ts) d h =
     let f : suc (length ts) - 1 ≡ length ts = omega arith in
     let r : (get_or (u ∷ ts) (suc (length ts) - 1) d).line ≡ last_line (lexemes_of source (u ∷ ts)) = last_is source (u ∷ ts) d (omega arith) in
     rw e (rw f at r)
+
+pub count_left : (r : Reader) → length (left r) ≡ length r.rest.now
+count_left r = length-map r.rest.now _

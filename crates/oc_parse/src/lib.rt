@@ -8,5 +8,7 @@ mod reader;
 mod simple;
 mod statement;
 mod stop;
+#[cfg(test)]
+mod tests;
 
 pub use program::{ParseError, parse};

@@ -43,13 +43,13 @@ chain_sound room level part ne sound (suc k) total from e n ts y d h =
     elim (with_some_ok (operator_front (suc level) ts) _ _ (Ok y) h) [
       | inl w ↦ moved room (suc level) total from (e, n, ts) y w.1 d
       | inr w ↦
-        let s = bind_ok (spend_at n w.0.1) _ y w.2 in
-        let b = bind_ok (part s.0 w.0.1) _ y s.2 in
-        let p = sound s.0 w.0.1 b.0 b.1 in
-        let c = spent n w.0.1 s.0 s.1 in
-        let o = d.1 in
-        let q = p.1 in
-        chain_sound room level part ne sound k total from (binary w.0.0 e b.0.0) b.0.1 b.0.2 y (more ne d.0 (front_ok (suc level) ts w.0 w.1) p.0, omega arith) b.2
+          let s = bind_ok (spend_at n w.0.1) _ y w.2 in
+          let b = bind_ok (part s.0 w.0.1) _ y s.2 in
+          let p = sound s.0 w.0.1 b.0 b.1 in
+          let c = spent n w.0.1 s.0 s.1 in
+          let o = d.1 in
+          let q = p.1 in
+          chain_sound room level part ne sound k total from (binary w.0.0 e b.0.0) b.0.1 b.0.2 y (more ne d.0 (front_ok (suc level) ts w.0 w.1) p.0, omega arith) b.2
     ]
 
 three_sound : (room : ℕ) (part : ℕ → Lexemes → ReadExpr) → Sound part room 2 → (total : ℕ) (from : Lexemes) (e : TExpr) (n : ℕ) (ts : Lexemes) (y : TExpr × ℕ × Lexemes) → Spelled room 2 total from (e, n, ts) → chain 3 part 1 e n ts ≡ Ok y → Spelled room 3 total from y
@@ -58,13 +58,13 @@ three_sound room part sound total from e n ts y d h =
     elim (with_some_ok (operator_front 3 ts) _ _ (Ok y) h) [
       | inl w ↦ moved room 3 total from (e, n, ts) y w.1 (one d.0, d.1)
       | inr w ↦
-        let s = bind_ok (spend_at n w.0.1) _ y w.2 in
-        let b = bind_ok (part s.0 w.0.1) _ y s.2 in
-        let p = sound s.0 w.0.1 b.0 b.1 in
-        let c = spent n w.0.1 s.0 s.1 in
-        let o = d.1 in
-        let q = p.1 in
-        moved room 3 total from (binary w.0.0 e b.0.0, b.0.1, b.0.2) y b.2 (compare d.0 (front_ok 3 ts w.0 w.1) p.0, omega arith)
+          let s = bind_ok (spend_at n w.0.1) _ y w.2 in
+          let b = bind_ok (part s.0 w.0.1) _ y s.2 in
+          let p = sound s.0 w.0.1 b.0 b.1 in
+          let c = spent n w.0.1 s.0 s.1 in
+          let o = d.1 in
+          let q = p.1 in
+          moved room 3 total from (binary w.0.0 e b.0.0, b.0.1, b.0.2) y b.2 (compare d.0 (front_ok 3 ts w.0 w.1) p.0, omega arith)
     ]
 
 -- whether a level is that of comparisons
@@ -90,13 +90,13 @@ levels_sound room lowest sound zero n ts y e = sound n ts y e
 levels_sound room lowest sound (suc level) n ts y e =
     elim (is_three (suc level)) [
       | inl k ↦
-        let two : level ≡ 2 = omega arith in
-        let P : ℕ → Type 0 = λ l. Sound (levels l lowest) room l → Sound (levels (suc l) lowest) room (suc l) in
-        subst P (sym two) (third_sound room lowest) (levels_sound room lowest sound level) n ts y e
+          let two : level ≡ 2 = omega arith in
+          let P : ℕ → Type 0 = λ l. Sound (levels l lowest) room l → Sound (levels (suc l) lowest) room (suc l) in
+          subst P (sym two) (third_sound room lowest) (levels_sound room lowest sound level) n ts y e
       | inr ne ↦
-        let b = bind_ok (levels level lowest n ts) _ y e in
-        let d = levels_sound room lowest sound level n ts b.0 b.1 in
-        chain_sound room level (levels level lowest) ne (levels_sound room lowest sound level) (most (suc level) b.0.2) n ts b.0.0 b.0.1 b.0.2 y (one d.0, d.1) b.2
+          let b = bind_ok (levels level lowest n ts) _ y e in
+          let d = levels_sound room lowest sound level n ts b.0 b.1 in
+          chain_sound room level (levels level lowest) ne (levels_sound room lowest sound level) (most (suc level) b.0.2) n ts b.0.0 b.0.1 b.0.2 y (one d.0, d.1) b.2
     ]
 
 -- inside one more bracket or prefix operator
@@ -143,17 +143,17 @@ named_sound : (room : ℕ) (prefixed inner : ℕ → Lexemes → ReadExpr) (args
 named_sound room prefixed inner args sensor p line x n ts y e =
     elim (with_some_ok (strip_mark marks.OpenRound ts) _ _ (Ok y) e) [
       | inl w ↦
-        elim (with_some_ok (strip_mark marks.OpenSquare ts) _ _ (Ok y) w.1) [
-          | inl v ↦ moved room 0 n (named line x ∷ ts) (variable x, n, ts) y v.1 (name a_name, omega arith)
-          | inr v ↦
-            let b = bind_ok (inner n v.0) _ y v.2 in
-            let d = p.of_inner n v.0 b.0 b.1 in
-            let c = bind_ok (expect_mark marks.CloseSquare b.0.2) _ y b.2 in
-            moved room 0 n (named line x ∷ ts) (index x b.0.0, b.0.1, c.0) y c.2 (element_in room x b.0.0 (named line x ∷ ts) ts v.0 b.0.2 c.0 a_name (strip_mark_ok marks.OpenSquare ts v.0 v.1) d.0 (expect_mark_ok marks.CloseSquare b.0.2 c.0 c.1), d.1)
-        ]
+          elim (with_some_ok (strip_mark marks.OpenSquare ts) _ _ (Ok y) w.1) [
+            | inl v ↦ moved room 0 n (named line x ∷ ts) (variable x, n, ts) y v.1 (name a_name, omega arith)
+            | inr v ↦
+                let b = bind_ok (inner n v.0) _ y v.2 in
+                let d = p.of_inner n v.0 b.0 b.1 in
+                let c = bind_ok (expect_mark marks.CloseSquare b.0.2) _ y b.2 in
+                moved room 0 n (named line x ∷ ts) (index x b.0.0, b.0.1, c.0) y c.2 (element_in room x b.0.0 (named line x ∷ ts) ts v.0 b.0.2 c.0 a_name (strip_mark_ok marks.OpenSquare ts v.0 v.1) d.0 (expect_mark_ok marks.CloseSquare b.0.2 c.0 c.1), d.1)
+          ]
       | inr w ↦
-        let b = bind_ok (args w.0) _ y w.2 in
-        moved room 0 n (named line x ∷ ts) (called (call x (args_of b.0.0)), n, b.0.1) y b.2 (result_in room x (args_of b.0.0) (named line x ∷ ts) ts w.0 b.0.1 a_name (strip_mark_ok marks.OpenRound ts w.0 w.1) (p.of_args w.0 b.0 b.1), omega arith)
+          let b = bind_ok (args w.0) _ y w.2 in
+          moved room 0 n (named line x ∷ ts) (called (call x (args_of b.0.0)), n, b.0.1) y b.2 (result_in room x (args_of b.0.0) (named line x ∷ ts) ts w.0 b.0.1 a_name (strip_mark_ok marks.OpenRound ts w.0 w.1) (p.of_args w.0 b.0 b.1), omega arith)
     ]
 
 unary_by_sound : (room : ℕ) (prefixed inner : ℕ → Lexemes → ReadExpr) (args : Lexemes → Read (List TArg)) (sensor : Lexemes → Read Text) → Parts room prefixed inner args sensor → (t : Lexeme) (n : ℕ) (ts : Lexemes) (y : TExpr × ℕ × Lexemes) → unary_by prefixed inner args sensor t n ts ≡ Ok y → Spelled room 0 n (t ∷ ts) y
@@ -206,16 +206,16 @@ arg_sound : (room : ℕ) (inner : ℕ → Lexemes → ReadExpr) → Sound inner 
 arg_sound room inner sound ts x e =
     elim (with_some_ok (strip_mark marks.Ampersand ts) _ _ (Ok x) e) [
       | inl w ↦
-        let b = bind_ok (whole_by inner ts) _ x w.1 in
-        let d = part_sound room inner sound ts b.0 b.1 in
-        subst (λ (q : TArg × Lexemes). SpellsArg room q.0 ts q.1) (ok_is _ x b.2) (by_value d.0 d.1)
+          let b = bind_ok (whole_by inner ts) _ x w.1 in
+          let d = part_sound room inner sound ts b.0 b.1 in
+          subst (λ (q : TArg × Lexemes). SpellsArg room q.0 ts q.1) (ok_is _ x b.2) (by_value d.0 d.1)
       | inr w ↦ reference_sound room ts w.0 x (strip_mark_ok marks.Ampersand ts w.0 w.1) w.2
     ]
 
 pub args_sound : (room : ℕ) (inner : ℕ → Lexemes → ReadExpr) → Sound inner room 5 → (ts : Lexemes) (x : List TArg × Lexemes) → args_by inner ts ≡ Ok x → SpellsArgs room (args_of x.0) ts x.1
 args_sound room inner sound ts x e =
     listed_sound (SpellsArg room) (λ xs from rest. SpellsArgs room (args_of xs) from rest) (arg_by inner) (arg_sound room inner sound)
-      (λ from rest s. closed s) (λ a from b rest d s. last d s) (λ a as' from b c rest d s q. further d s q) (suc (length ts)) ts x e
+    (λ from rest s. closed s) (λ a from b rest d s. last d s) (λ a as' from b c rest d s q. further d s q) (suc (length ts)) ts x e
 
 sensor_sound : (ts : Lexemes) (x : Text × Lexemes) → sensor_at ts ≡ Ok x → IsSensor x.0 ts x.1
 unfolding sensor_at

@@ -36,11 +36,11 @@ chain_enough level part short (suc k) zero e n [] h g = refl
 chain_enough level part short (suc k) zero e n (t ∷ ts) h g = absurd (omega arith)
 chain_enough level part short (suc k) (suc j) e n ts h g =
     with_some_same (operator_front level ts) _ _ _ _ (λ _. refl) (λ o f.
-      let l = infix_shorter (front_ok level ts o f) in
-      bind_same (spend_at n o.1) _ _ (λ m _.
-        bind_same (part m o.1) _ _ (λ x p.
-          let s = short m o.1 x p in
-          chain_enough level part short k j (binary o.0 e x.0) x.1 x.2 (omega arith) (omega arith))))
+    let l = infix_shorter (front_ok level ts o f) in
+    bind_same (spend_at n o.1) _ _ (λ m _.
+    bind_same (part m o.1) _ _ (λ x p.
+    let s = short m o.1 x p in
+    chain_enough level part short k j (binary o.0 e x.0) x.1 x.2 (omega arith) (omega arith))))
 
 pub no_front : (level : ℕ) (y : BinaryOp × Lexemes) → operator_front level [] ≡ Some y → ⊥
 unfolding operator_front
@@ -83,6 +83,7 @@ infix_opens_not (an_operator {token = token} {op = op} {level = level} {rest = r
     by_mark line marks.OpenRound e = absurd cc
     by_mark line marks.OpenSquare e = absurd cc
     by_mark line _ e = (refl, refl)
+
     by_token : (t : Lexeme) → infix_of t ≡ Some (op, level) → (strip_mark marks.OpenRound (t ∷ rest) ≡ None) × (strip_mark marks.OpenSquare (t ∷ rest) ≡ None)
     by_token (sign line m) e = by_mark line m e
     by_token _ e = (refl, refl)
@@ -236,6 +237,7 @@ reference_read m x a us rest i e = rw (e, name_read i) refl
 
 mutual
   unfolding list_of levels unary_at next_at listed_by strip_mark expect_mark sensor_at name_at
+
   pub goes_on : {room level : ℕ} {e : TExpr} {from rest : Lexemes} → Spells room level e from rest → Stops level rest → (n m : ℕ) → m ≡ operators e + n → level_at level room m from ≡ on level room e n rest
   goes_on (literal {room = room} {v = v} {rest = rest} (a_numeral {line = line})) stops n m h =
       let k : m ≡ n = omega arith in rw k (unary_literal room n line v rest)

@@ -125,9 +125,9 @@ unfolding strip_mark
 strip_mark_ok m (sign line k ∷ ts) rest e =
     elim (chosen (eqb (mark_number k) (mark_number m)) (Some ts) None (Some rest) e) [
       | inl w ↦
-        let a : k ≡ m = one_mark k m (eqb-true _ _ w.0) in
-        let b : ts ≡ rest = some_is ts rest w.1 in
-        subst (λ (n : Mark). Sign n (sign line k ∷ ts) rest) a (subst (λ (r : Lexemes). Sign k (sign line k ∷ ts) r) b a_sign)
+          let a : k ≡ m = one_mark k m (eqb-true _ _ w.0) in
+          let b : ts ≡ rest = some_is ts rest w.1 in
+          subst (λ (n : Mark). Sign n (sign line k ∷ ts) rest) a (subst (λ (r : Lexemes). Sign k (sign line k ∷ ts) r) b a_sign)
       | inr w ↦ absurd cc
     ]
 strip_mark_ok m _ rest e = absurd cc
@@ -137,9 +137,9 @@ unfolding strip_word
 strip_word_ok m (keyword line k ∷ ts) rest e =
     elim (chosen (eqb (word_number k) (word_number m)) (Some ts) None (Some rest) e) [
       | inl w ↦
-        let a : k ≡ m = one_word k m (eqb-true _ _ w.0) in
-        let b : ts ≡ rest = some_is ts rest w.1 in
-        subst (λ (n : Word). Keyword n (keyword line k ∷ ts) rest) a (subst (λ (r : Lexemes). Keyword k (keyword line k ∷ ts) r) b a_keyword)
+          let a : k ≡ m = one_word k m (eqb-true _ _ w.0) in
+          let b : ts ≡ rest = some_is ts rest w.1 in
+          subst (λ (n : Word). Keyword n (keyword line k ∷ ts) rest) a (subst (λ (r : Lexemes). Keyword k (keyword line k ∷ ts) r) b a_keyword)
       | inr w ↦ absurd cc
     ]
 strip_word_ok m _ rest e = absurd cc

@@ -38,6 +38,7 @@ passing_sound ts = by_mark (strip_mark marks.Ampersand ts) refl
     by_word : (us : Lexemes) (o : Option Lexemes) → strip_mark marks.Ampersand ts ≡ Some us → strip_word words.Mutable us ≡ o → IsPassing ts (reference_to (with_some o (false, us) (λ vs. (true, vs))))
     by_word us None a k = shared_ref (strip_mark_ok marks.Ampersand ts us a)
     by_word us (Some vs) a k = mutable_ref (strip_mark_ok marks.Ampersand ts us a) (strip_word_ok words.Mutable us vs k)
+
     by_mark : (o : Option Lexemes) → strip_mark marks.Ampersand ts ≡ o → IsPassing ts (with_some o (passings.Value, ts) (λ us. reference_to (with_some (strip_word words.Mutable us) (false, us) (λ vs. (true, vs)))))
     by_mark None a = itself
     by_mark (Some us) a = by_word us (strip_word words.Mutable us) a refl
@@ -54,7 +55,7 @@ params_sound : (ts : Lexemes) (y : List Param × Lexemes) → params_at ts ≡ O
 unfolding params_at
 params_sound ts y e =
     listed_sound SpellsParam SpellsParams param_at param_sound
-      (λ from rest s. no_param s) (λ p from b rest d s. last_param d s) (λ p ps from b c rest d s q. further_params d s q) (suc (length ts)) ts y e
+    (λ from rest s. no_param s) (λ p from b rest d s. last_param d s) (λ p ps from b c rest d s q. further_params d s q) (suc (length ts)) ts y e
 
 scalar_from_sound : (t : Lexeme) (ts : Lexemes) (y : Scalar × Lexemes) → scalar_from t ts ≡ Ok y → SpellsScalar y.0 (t ∷ ts) y.1
 scalar_from_sound (keyword line words.Int) ts y e = subst (λ (q : Scalar × Lexemes). SpellsScalar q.0 (keyword line words.Int ∷ ts) q.1) (ok_is _ y e) (int_scalar a_keyword)
@@ -73,8 +74,8 @@ result_sound ts y e =
     elim (with_some_ok (strip_mark marks.Arrow ts) _ _ (Ok y) e) [
       | inl w ↦ subst (λ (q : Option Scalar × Lexemes). SpellsResult q.0 ts q.1) (ok_is _ y w.1) no_result
       | inr w ↦
-        let a = bind_ok (scalar_at w.0) _ y w.2 in
-        subst (λ (q : Option Scalar × Lexemes). SpellsResult q.0 ts q.1) (ok_is _ y a.2) (a_result (strip_mark_ok marks.Arrow ts w.0 w.1) (scalar_sound w.0 a.0 a.1))
+          let a = bind_ok (scalar_at w.0) _ y w.2 in
+          subst (λ (q : Option Scalar × Lexemes). SpellsResult q.0 ts q.1) (ok_is _ y a.2) (a_result (strip_mark_ok marks.Arrow ts w.0 w.1) (scalar_sound w.0 a.0 a.1))
     ]
 
 function_sound : (n b : ℕ) (from ts : Lexemes) (y : TFunction × ℕ × ℕ × Lexemes) → Keyword words.Function from ts → function_at (front_line from) n b ts ≡ Ok y → SpellsFunction y.0 (n, b, from) (y.1, y.2, y.3)
@@ -86,7 +87,7 @@ function_sound n b from ts y w e =
     let r = bind_ok (result_at ps.0.1) _ y ps.2 in
     let t = bind_ok (block_at 32 n b r.0.1) _ y r.2 in
     subst (λ (q : TFunction × ℕ × ℕ × Lexemes). SpellsFunction q.0 (n, b, from) (q.1, q.2, q.3)) (ok_is _ y t.2)
-      (a_function w (name_ok ts f.0.0 f.0.1 f.1) (expect_mark_ok marks.OpenRound f.0.1 o.0 o.1) (params_sound o.0 ps.0 ps.1) (result_sound ps.0.1 r.0 r.1) (block_sound 32 n b r.0.1 t.0 t.1))
+    (a_function w (name_ok ts f.0.0 f.0.1 f.1) (expect_mark_ok marks.OpenRound f.0.1 o.0 o.1) (params_sound o.0 ps.0 ps.1) (result_sound ps.0.1 r.0 r.1) (block_sound 32 n b r.0.1 t.0 t.1))
 
 -- ---- declarations
 
@@ -113,7 +114,7 @@ nv_sound from ts y w e =
     let i = bind_ok (const_at d.0) _ y d.2 in
     let s = bind_ok (expect_mark marks.Semicolon i.0.1) _ y i.2 in
     subst (λ (q : (Text × NvDecl) × Lexemes). SpellsNv q.0.0 q.0.1 from q.1) (ok_is _ y s.2)
-      (an_nv w (name_ok ts x.0.0 x.0.1 x.1) (expect_mark_ok marks.Colon x.0.1 a.0 a.1) (cells_sound a.0 c.0 c.1) (expect_mark_ok marks.Assign c.0.1 d.0 d.1) (const_sound d.0 i.0 i.1) (expect_mark_ok marks.Semicolon i.0.1 s.0 s.1))
+    (an_nv w (name_ok ts x.0.0 x.0.1 x.1) (expect_mark_ok marks.Colon x.0.1 a.0 a.1) (cells_sound a.0 c.0 c.1) (expect_mark_ok marks.Assign c.0.1 d.0 d.1) (const_sound d.0 i.0 i.1) (expect_mark_ok marks.Semicolon i.0.1 s.0 s.1))
 
 -- a name and the `;`
 abbrev IsDeclared : Text → Lexemes → Lexemes → Type 0

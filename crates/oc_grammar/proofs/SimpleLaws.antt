@@ -85,8 +85,8 @@ const_sound ts x e =
     elim (with_some_ok (strip_mark marks.Minus ts) _ _ (Ok x) e) [
       | inl w ↦ positive (number_ok ts x.0 x.1 w.1)
       | inr w ↦
-        let a = bind_ok (number_at w.0) _ x w.2 in
-        subst (λ (q : ℤ × Lexemes). SpellsConst q.0 ts q.1) (ok_is _ x a.2) (negative (strip_mark_ok marks.Minus ts w.0 w.1) (number_ok w.0 a.0.0 a.0.1 a.1))
+          let a = bind_ok (number_at w.0) _ x w.2 in
+          subst (λ (q : ℤ × Lexemes). SpellsConst q.0 ts q.1) (ok_is _ x a.2) (negative (strip_mark_ok marks.Minus ts w.0 w.1) (number_ok w.0 a.0.0 a.0.1 a.1))
     ]
 
 pub const_read : {z : ℤ} {from rest : Lexemes} → SpellsConst z from rest → const_at from ≡ Ok (z, rest)
@@ -142,8 +142,8 @@ note_sound ts x e =
     elim (with_some_ok (strip_mark marks.Colon ts) _ _ (Ok x) e) [
       | inl w ↦ subst (λ (q : Option ValueKind × Lexemes). SpellsNote q.0 ts q.1) (ok_is _ x w.1) untyped
       | inr w ↦
-        let a = bind_ok (type_at w.0) _ x w.2 in
-        subst (λ (q : Option ValueKind × Lexemes). SpellsNote q.0 ts q.1) (ok_is _ x a.2) (typed (strip_mark_ok marks.Colon ts w.0 w.1) (type_sound w.0 a.0 a.1))
+          let a = bind_ok (type_at w.0) _ x w.2 in
+          subst (λ (q : Option ValueKind × Lexemes). SpellsNote q.0 ts q.1) (ok_is _ x a.2) (typed (strip_mark_ok marks.Colon ts w.0 w.1) (type_sound w.0 a.0 a.1))
     ]
 
 note_read : {k : Option ValueKind} {from a rest : Lexemes} → SpellsNote k from a → Sign marks.Assign a rest → note_at from ≡ Ok (k, a)
@@ -255,8 +255,8 @@ unfolding bind_at
 bind_sound m x k from ts y h e =
     elim (with_some_ok (strip_mark marks.OpenSquare ts) _ _ (Ok y) e) [
       | inl w ↦
-        let a = bind_ok (right_at ts) _ y w.1 in
-        moved from (let_to m x k a.0.0, a.0.1) y a.2 (let_right h (right_sound ts a.0 a.1))
+          let a = bind_ok (right_at ts) _ y w.1 in
+          moved from (let_to m x k a.0.0, a.0.1) y a.2 (let_right h (right_sound ts a.0 a.1))
       | inr w ↦ fill_sound m x k from ts w.0 y h (strip_mark_ok marks.OpenSquare ts w.0 w.1) w.2
     ]
 
@@ -273,12 +273,12 @@ unfolding set_at
 set_sound x from ts y i e =
     elim (with_some_ok (strip_mark marks.OpenRound ts) _ _ (Ok y) e) [
       | inl w ↦
-        elim (with_some_ok (strip_mark marks.OpenSquare ts) _ _ (Ok y) w.1) [
-          | inl v ↦
-            let a = bind_ok (expect_mark marks.Assign ts) _ y v.1 in
-            assign_sound x from ts a.0 y i (expect_mark_ok marks.Assign ts a.0 a.1) a.2
-          | inr v ↦ element_to_sound x from ts v.0 y i (strip_mark_ok marks.OpenSquare ts v.0 v.1) v.2
-        ]
+          elim (with_some_ok (strip_mark marks.OpenSquare ts) _ _ (Ok y) w.1) [
+            | inl v ↦
+                let a = bind_ok (expect_mark marks.Assign ts) _ y v.1 in
+                assign_sound x from ts a.0 y i (expect_mark_ok marks.Assign ts a.0 a.1) a.2
+            | inr v ↦ element_to_sound x from ts v.0 y i (strip_mark_ok marks.OpenSquare ts v.0 v.1) v.2
+          ]
       | inr w ↦ call_sound x from ts w.0 y i (strip_mark_ok marks.OpenRound ts w.0 w.1) w.2
     ]
 

@@ -74,9 +74,9 @@ stmts_sound room one sound (suc k) n b ts y e =
     let P : List TStmt → Place → Place → Type 0 = λ ss p q. SpellsStmts room (stmts_of ss) p q in
     elim (with_some_ok (strip_mark marks.CloseCurly ts) _ _ (Ok y) e) [
       | inl w ↦
-        let s = bind_ok (one n b ts) _ y w.1 in
-        let r = bind_ok (stmts_by one k s.0.1 s.0.2 s.0.3) _ y s.2 in
-        moved P (n, b, ts) _ y r.2 (first (sound n b ts s.0 s.1) (stmts_sound room one sound k s.0.1 s.0.2 s.0.3 r.0 r.1))
+          let s = bind_ok (one n b ts) _ y w.1 in
+          let r = bind_ok (stmts_by one k s.0.1 s.0.2 s.0.3) _ y s.2 in
+          moved P (n, b, ts) _ y r.2 (first (sound n b ts s.0 s.1) (stmts_sound room one sound k s.0.1 s.0.2 s.0.3 r.0 r.1))
       | inr w ↦ moved P (n, b, ts) ([], n, b, w.0) y w.2 (end (strip_mark_ok marks.CloseCurly ts w.0 w.1))
     ]
 
@@ -115,8 +115,8 @@ else_sound room body chained bs cs n b ts y e =
     elim (with_some_ok (strip_word words.Else ts) _ _ (Ok y) e) [
       | inl w ↦ moved (SpellsElse room) (n, b, ts) (no_else, n, b, ts) y w.1 without
       | inr w ↦
-        let t = bind_ok (with_some (strip_word words.If w.0) (body n b w.0) (λ _. chained n b w.0)) _ y w.2 in
-        moved (SpellsElse room) (n, b, ts) (else_do t.0.0, t.0.1, t.0.2, t.0.3) y t.2
+          let t = bind_ok (with_some (strip_word words.If w.0) (body n b w.0) (λ _. chained n b w.0)) _ y w.2 in
+          moved (SpellsElse room) (n, b, ts) (else_do t.0.0, t.0.1, t.0.2, t.0.3) y t.2
           (elim (with_some_ok (strip_word words.If w.0) _ _ (Ok t.0) t.1) [
             | inl v ↦ otherwise (strip_word_ok words.Else ts w.0 w.1) (bs n b w.0 t.0 v.1)
             | inr v ↦ else_if_in room n b ts w.0 v.0 t.0.0 (t.0.1, t.0.2, t.0.3) (strip_word_ok words.Else ts w.0 w.1) (strip_word_ok words.If w.0 v.0 v.1) (cs n b w.0 t.0 v.2)

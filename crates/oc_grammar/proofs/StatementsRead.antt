@@ -80,6 +80,7 @@ with_line body other n b (t ∷ ts) k p e = rw e refl
 
 mutual
   unfolding next_at stmt_list if_by for_by while_by stmts_by block_at chained_at else_at stmt_here
+
   kind_read : {room : ℕ} {k : TKind} {p q : Place} → SpellsKind room k p q → strip_word words.Else q.2 ≡ None → KindRead (block_at room) (else_at room) k p.0 p.1 p.2 q
   kind_read (simple {room = room} {n = n} {b = b} d) h = simple_read (block_at room) (else_at room) n b d
   kind_read (if_form a_keyword c t o) h = rw (whole_read c (block_stops t), block_read t, else_read o h) refl

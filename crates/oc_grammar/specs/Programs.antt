@@ -60,25 +60,37 @@ declared kind line order = order ++ record { kind = kind; line = line } ∷ []
 abbrev pub with_sensor : ℕ → Text → TProgram → TProgram
 with_sensor line x p = record {
   names = record { sensors = p.names.sensors ++ x ∷ []; ports = p.names.ports; nvs = p.names.nvs };
-  nv = p.nv; functions = p.functions; order = declared decls.Sensor line p.order; last_line = p.last_line;
+  nv = p.nv;
+  functions = p.functions;
+  order = declared decls.Sensor line p.order;
+  last_line = p.last_line;
 }
 
 abbrev pub with_port : ℕ → Text → TProgram → TProgram
 with_port line x p = record {
   names = record { sensors = p.names.sensors; ports = p.names.ports ++ x ∷ []; nvs = p.names.nvs };
-  nv = p.nv; functions = p.functions; order = declared decls.Port line p.order; last_line = p.last_line;
+  nv = p.nv;
+  functions = p.functions;
+  order = declared decls.Port line p.order;
+  last_line = p.last_line;
 }
 
 abbrev pub with_nv : ℕ → Text → NvDecl → TProgram → TProgram
 with_nv line x d p = record {
   names = record { sensors = p.names.sensors; ports = p.names.ports; nvs = p.names.nvs ++ x ∷ [] };
-  nv = p.nv ++ d ∷ []; functions = p.functions; order = declared decls.Nv line p.order; last_line = p.last_line;
+  nv = p.nv ++ d ∷ [];
+  functions = p.functions;
+  order = declared decls.Nv line p.order;
+  last_line = p.last_line;
 }
 
 abbrev pub with_function : TFunction → TProgram → TProgram
 with_function f p = record {
-  names = p.names; nv = p.nv; functions = p.functions ++ f ∷ [];
-  order = declared decls.Function f.line p.order; last_line = p.last_line;
+  names = p.names;
+  nv = p.nv;
+  functions = p.functions ++ f ∷ [];
+  order = declared decls.Function f.line p.order;
+  last_line = p.last_line;
 }
 
 -- the item between two places makes the one program the other
@@ -97,7 +109,10 @@ pub data SpellsItems : TProgram → Place → TProgram → Type 0 where
 abbrev pub empty_program : ℕ → TProgram
 empty_program line = record {
   names = record { sensors = []; ports = []; nvs = [] };
-  nv = []; functions = []; order = []; last_line = line;
+  nv = [];
+  functions = [];
+  order = [];
+  last_line = line;
 }
 
 -- the tokens spell the program, within the depths

@@ -155,8 +155,8 @@ unfoldable pub listed_by : {A : Type 0} → (Lexemes → Read A) → ℕ → Lex
 listed_by part zero ts = refuse ts
 listed_by part (suc n) ts =
     with_some (strip_mark marks.CloseRound ts)
-      (part ts >>= λ x.
-        with_some (strip_mark marks.Comma x.1)
-          (expect_mark marks.CloseRound x.1 >>= λ us. Ok (x.0 ∷ [], us))
-          (λ us. listed_by part n us >>= λ xs. Ok (x.0 ∷ xs.0, xs.1)))
-      (λ us. Ok ([], us))
+    (part ts >>= λ x.
+    with_some (strip_mark marks.Comma x.1)
+    (expect_mark marks.CloseRound x.1 >>= λ us. Ok (x.0 ∷ [], us))
+    (λ us. listed_by part n us >>= λ xs. Ok (x.0 ∷ xs.0, xs.1)))
+    (λ us. Ok ([], us))

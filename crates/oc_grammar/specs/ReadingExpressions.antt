@@ -24,7 +24,7 @@ unfoldable pub chain : ℕ → (ℕ → Lexemes → ReadExpr) → ℕ → TExpr 
 chain level part zero e n ts = Ok (e, n, ts)
 chain level part (suc k) e n ts =
     with_some (operator_front level ts) (Ok (e, n, ts))
-      (λ o. spend_at n o.1 >>= λ m. part m o.1 >>= λ x. chain level part k (binary o.0 e x.0) x.1 x.2)
+    (λ o. spend_at n o.1 >>= λ m. part m o.1 >>= λ x. chain level part k (binary o.0 e x.0) x.1 x.2)
 
 -- a comparison goes on once, another level as long as there are operators
 abbrev pub most : ℕ → Lexemes → ℕ
@@ -52,8 +52,8 @@ result_by args f n ts = args ts >>= λ x. Ok (called (call f (args_of x.0)), n, 
 abbrev pub named_by : (ℕ → Lexemes → ReadExpr) → (Lexemes → Read (List TArg)) → Text → ℕ → Lexemes → ReadExpr
 named_by inner args x n ts =
     with_some (strip_mark marks.OpenRound ts)
-      (with_some (strip_mark marks.OpenSquare ts) (Ok (variable x, n, ts)) (element_by inner x n))
-      (result_by args x n)
+    (with_some (strip_mark marks.OpenSquare ts) (Ok (variable x, n, ts)) (element_by inner x n))
+    (result_by args x n)
 
 abbrev pub input_by : (Lexemes → Read Text) → ℕ → Lexemes → ReadExpr
 input_by sensor n ts = expect_mark marks.OpenRound ts >>= λ us. sensor us >>= λ x. Ok (sensed x.0, n, x.1)
@@ -85,8 +85,8 @@ reference_by m = name_at m.1 >>= λ x. Ok (reference m.0 x.0, x.1)
 abbrev pub arg_by : (ℕ → Lexemes → ReadExpr) → Lexemes → Read TArg
 arg_by inner ts =
     with_some (strip_mark marks.Ampersand ts)
-      (whole_by inner ts >>= λ x. Ok (value x.0, x.1))
-      (λ us. reference_by (take_word words.Mutable us))
+    (whole_by inner ts >>= λ x. Ok (value x.0, x.1))
+    (λ us. reference_by (take_word words.Mutable us))
 
 abbrev pub args_by : (ℕ → Lexemes → ReadExpr) → Lexemes → Read (List TArg)
 args_by inner ts = listed_by (arg_by inner) (suc (length ts)) ts

@@ -143,10 +143,10 @@ let_at ts = let_from (take_word words.Mutable ts)
 unfoldable pub set_at : Text → Lexemes → Read TKind
 set_at x ts =
     with_some (strip_mark marks.OpenRound ts)
-      (with_some (strip_mark marks.OpenSquare ts)
-        (expect_mark marks.Assign ts >>= assign_at x)
-        (element_to_at x))
-      (call_at x)
+    (with_some (strip_mark marks.OpenSquare ts)
+    (expect_mark marks.Assign ts >>= assign_at x)
+    (element_to_at x))
+    (call_at x)
 
 -- a statement without blocks that begins with this token
 abbrev pub simple_from : Lexeme → Lexemes → Read TKind
@@ -214,8 +214,8 @@ unfoldable pub stmts_by : Reader TStmt → ℕ → Reader (List TStmt)
 stmts_by one zero n b ts = refuse ts
 stmts_by one (suc k) n b ts =
     with_some (strip_mark marks.CloseCurly ts)
-      (one n b ts >>= λ s. stmts_by one k s.1 s.2 s.3 >>= λ x. Ok (s.0 ∷ x.0, x.1, x.2, x.3))
-      (λ us. Ok ([], n, b, us))
+    (one n b ts >>= λ s. stmts_by one k s.1 s.2 s.3 >>= λ x. Ok (s.0 ∷ x.0, x.1, x.2, x.3))
+    (λ us. Ok ([], n, b, us))
 
 abbrev pub braces_by : Reader TStmt → Reader TBlock
 braces_by one n b ts = do
@@ -237,8 +237,8 @@ no_chained n b ts = Err (depth_fault (length ts))
 abbrev pub else_by : Reader TBlock → Reader TBlock → Reader TElse
 else_by body chained n b ts =
     with_some (strip_word words.Else ts)
-      (Ok (no_else, n, b, ts))
-      (λ us. with_some (strip_word words.If us) (body n b us) (λ _. chained n b us) >>= λ t. Ok (else_do t.0, t.1, t.2, t.3))
+    (Ok (no_else, n, b, ts))
+    (λ us. with_some (strip_word words.If us) (body n b us) (λ _. chained n b us) >>= λ t. Ok (else_do t.0, t.1, t.2, t.3))
 
 -- with room for so many more blocks in one another
 unfoldable pub stmt_at : ℕ → Reader TStmt

@@ -9,5 +9,4 @@ ghost use Rattle.oc_grammar.specs.Programs.{SpellsProgram};
 /// No two trees spell one list of tokens.
 pub fn one_tree()
     ensures { (tokens : Lexemes) (p q : TProgram) → SpellsProgram p tokens → SpellsProgram q tokens → p ≡ q }
-{
-}
+{}

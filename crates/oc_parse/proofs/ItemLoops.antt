@@ -22,8 +22,8 @@ items_enough (suc k) zero p n b ts h g = absurd (omega arith)
 items_enough (suc k) (suc j) p n b [] h g = refl
 items_enough (suc k) (suc j) p n b (t ∷ ts) h g =
     bind_same (item_at p n b (t ∷ ts)) _ _ (λ x e.
-      let l = item_at_shorter p n b (t ∷ ts) x e in
-      items_enough k j x.0 x.1 x.2 x.3 (omega arith) (omega arith))
+    let l = item_at_shorter p n b (t ∷ ts) x e in
+    items_enough k j x.0 x.1 x.2 x.3 (omega arith) (omega arith))
 
 abbrev onward : TProgram × ℕ × ℕ × Lexemes → Result TProgram Fault
 onward x = items_at x.0 x.1 x.2 x.3
@@ -33,8 +33,8 @@ unfolding items_by items_at
 items_turn p n b [] h = absurd (omega arith)
 items_turn p n b (t ∷ ts) h =
     bind_same (item_at p n b (t ∷ ts)) _ _ (λ x e.
-      let l = item_at_shorter p n b (t ∷ ts) x e in
-      items_enough (suc (length ts)) (suc (length x.3)) x.0 x.1 x.2 x.3 (omega arith) (omega arith))
+    let l = item_at_shorter p n b (t ∷ ts) x e in
+    items_enough (suc (length ts)) (suc (length x.3)) x.0 x.1 x.2 x.3 (omega arith) (omega arith))
 
 pub items_go_on : (p : TProgram) (n b : ℕ) (ts : Lexemes) (q : TProgram) (n' b' : ℕ) (us : Lexemes) (total : Result TProgram Fault) → 0 < length ts → item_at p n b ts ≡ Ok (q, n', b', us) → items_at p n b ts ≡ total → items_at q n' b' us ≡ total
 items_go_on p n b ts q n' b' us total h e so_far =

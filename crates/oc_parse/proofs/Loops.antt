@@ -53,13 +53,13 @@ list_closes part front ts us total e so_far =
 pub list_stops : {A : Type 0} (part : Lexemes → Read A) → Shortens part → (front : List A) (ts : Lexemes) (s : Stop) (total : Read (List A)) → strip_mark marks.CloseRound ts ≡ None → Stopped s (part ts) → after front (listed_at part ts) ≡ total → Stopped s total
 list_stops part short front ts s total none h so_far =
     stopped_along s _ total (sym (ap (λ (r : Read (List _)). after front r) (listed_turn part short ts none)) ∙ so_far)
-      (stopped_bind s (part ts >>= behind (listed_at part)) _ (stopped_bind s (part ts) (behind (listed_at part)) h))
+    (stopped_bind s (part ts >>= behind (listed_at part)) _ (stopped_bind s (part ts) (behind (listed_at part)) h))
 
 pub list_close_stops : {A : Type 0} (part : Lexemes → Read A) → Shortens part → (front : List A) (ts : Lexemes) (x : A) (us : Lexemes) (s : Stop) (total : Read (List A)) → strip_mark marks.CloseRound ts ≡ None → part ts ≡ Ok (x, us) → strip_mark marks.Comma us ≡ None → Stopped s (expect_mark marks.CloseRound us) → after front (listed_at part ts) ≡ total → Stopped s total
 list_close_stops part short front ts x us s total none e comma h so_far =
     let turn : listed_at part ts ≡ (expect_mark marks.CloseRound us >>= λ vs. Ok (x ∷ [], vs)) = listed_turn part short ts none ∙ rw (e, comma) refl in
     stopped_along s _ total (sym (ap (λ (r : Read (List _)). after front r) turn) ∙ so_far)
-      (stopped_bind s (expect_mark marks.CloseRound us >>= λ vs. Ok (x ∷ [], vs)) _ (stopped_bind s (expect_mark marks.CloseRound us) _ h))
+    (stopped_bind s (expect_mark marks.CloseRound us >>= λ vs. Ok (x ∷ [], vs)) _ (stopped_bind s (expect_mark marks.CloseRound us) _ h))
 
 -- ---- arguments
 

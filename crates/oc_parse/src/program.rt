@@ -1,6 +1,7 @@
 //! Whole programs.
 ghost use Rattle.std.specs.Prelude.{◌≡◌, ◌≤◌, ℕ, List, length, IfOk, MatchResult};
 ghost use Rattle.oc_tree.specs.Tree.{TProgram};
+ghost use Rattle.oc_tree.specs.Nodes.{program_nodes};
 ghost use Rattle.oc_tree.specs.View.{program_view};
 ghost use Rattle.oc_lex.specs.Tokens.{AreTokens};
 ghost use Rattle.oc_grammar.specs.Lexemes.{last_line as last_line_of, lexemes_of};
@@ -40,6 +41,8 @@ pub fn parse(alloc: Global, source: &[u8], tokens: &[Token]) -> Result<Program, 
     ensures found { IfOk result (λ p. SpellsProgram (program_view p) (lexemes_of source.now tokens.now)) }
     // What the tokens spell comes, unless memory runs out.
     ensures only { (p : TProgram) → SpellsProgram p (lexemes_of source.now tokens.now) → MatchResult result (λ q. program_view q ≡ p) (λ e. e ≡ ParseError.Memory) }
+    // Its expressions have no more nodes than there are tokens.
+    ensures nodes { IfOk result (λ p. program_nodes (program_view p) ≤ length tokens.now) }
     // A fault is the first that reading from left to right comes to.
     ensures fault { Parses result (length tokens.now) (program_at (lexemes_of source.now tokens.now)) }
 {

@@ -131,12 +131,7 @@ impl Reader<'_> {
 
     /// Takes the words of a new array behind the `[`.
     #[tactic(auto, unfolding(oc_grammar::specs::ReadingStatements::fill_at))]
-    fn fill(
-        &mut self,
-        mutable: bool,
-        name: Name,
-        kind: Option<ValueKind>,
-    ) -> Result<StmtKind, Stop>
+    fn fill(&mut self, mutable: bool, name: Name, kind: Option<ValueKind>) -> Result<StmtKind, Stop>
         ensures exact { Reads kind_view result (left self.new) (fill_at mutable name kind (left self.old)) }
         ensures shorter { OnOk result (length self.new.rest.now < length self.old.rest.now) }
     {

@@ -34,22 +34,58 @@ fn faults_at_their_tokens(rt: HostRuntime) -> Result<(), Fail> {
     let cases: [(&str, Option<ParseError>); 19] = [
         ("", None),
         ("fn main() { }", None),
-        ("fn main() { let x = 1 < 2 < 3; }", Some(ParseError::Syntax { token: 11 })),
+        (
+            "fn main() { let x = 1 < 2 < 3; }",
+            Some(ParseError::Syntax { token: 11 }),
+        ),
         ("fn main() { if x { } }", None),
         ("fn main() { if x { } else if y { } else { } }", None),
-        ("fn main() { if x else { } }", Some(ParseError::Syntax { token: 7 })),
-        ("fn main() { let mut a: [i32; 3] = [-1; 3]; a[0] = f(&mut a, b,); }", None),
+        (
+            "fn main() { if x else { } }",
+            Some(ParseError::Syntax { token: 7 }),
+        ),
+        (
+            "fn main() { let mut a: [i32; 3] = [-1; 3]; a[0] = f(&mut a, b,); }",
+            None,
+        ),
         ("fn main() { let x = (sense(t)); *r = --x; f(); }", None),
-        ("fn main() { sense(t) + 1; }", Some(ParseError::Syntax { token: 9 })),
-        ("fn main() { while x bound 3 { } for i in -1..2 { } return 1; }", None),
-        ("fn main() { f(&x y); }", Some(ParseError::Syntax { token: 9 })),
-        ("fn main() { let x = &y; }", Some(ParseError::Syntax { token: 8 })),
-        ("fn f(a: &mut [i32; 2], b: &bool, c: i32,) -> bool { return a[b]; }", None),
-        ("sensor t; port r; nv n: i32 = -7; nv a: [i32; 4] = 2;", None),
+        (
+            "fn main() { sense(t) + 1; }",
+            Some(ParseError::Syntax { token: 9 }),
+        ),
+        (
+            "fn main() { while x bound 3 { } for i in -1..2 { } return 1; }",
+            None,
+        ),
+        (
+            "fn main() { f(&x y); }",
+            Some(ParseError::Syntax { token: 9 }),
+        ),
+        (
+            "fn main() { let x = &y; }",
+            Some(ParseError::Syntax { token: 8 }),
+        ),
+        (
+            "fn f(a: &mut [i32; 2], b: &bool, c: i32,) -> bool { return a[b]; }",
+            None,
+        ),
+        (
+            "sensor t; port r; nv n: i32 = -7; nv a: [i32; 4] = 2;",
+            None,
+        ),
         ("nv n: bool = 0;", Some(ParseError::Syntax { token: 3 })),
-        ("fn main() { emit(r, 1); Fresh(x); Consistent(x, 1); }", None),
-        ("fn main() { Consistent(x, -1); }", Some(ParseError::Syntax { token: 9 })),
-        ("fn main() { _ = 1; }", Some(ParseError::Syntax { token: 5 })),
+        (
+            "fn main() { emit(r, 1); Fresh(x); Consistent(x, 1); }",
+            None,
+        ),
+        (
+            "fn main() { Consistent(x, -1); }",
+            Some(ParseError::Syntax { token: 9 }),
+        ),
+        (
+            "fn main() { _ = 1; }",
+            Some(ParseError::Syntax { token: 5 }),
+        ),
         ("fn main() { } }", Some(ParseError::Syntax { token: 6 })),
     ];
     for (text, expected) in cases {
@@ -101,12 +137,21 @@ fn depths(rt: HostRuntime) -> Result<(), Fail> {
             256,
             Some(ParseError::Depth { token: 519 }),
         ),
-        (["fn main() { let x = f(1", " + 1", ") + 1", " + 1", "; }"], 254, None),
+        (
+            ["fn main() { let x = f(1", " + 1", ") + 1", " + 1", "; }"],
+            254,
+            None,
+        ),
     ];
     for (parts, count, expected) in cases {
         let source = nested(rt.alloc(), parts, count)?;
         assert!(rt; source.len() < 10000);
-        assert_eq!(rt; fault(rt.alloc(), source.as_slice())?, expected, "{}", parts[1]);
+        assert_eq!(rt;
+            fault(rt.alloc(), source.as_slice())?,
+            expected,
+            "{}",
+            parts[1]
+        );
     }
     Ok(())
 }

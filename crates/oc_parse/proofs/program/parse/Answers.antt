@@ -1,8 +1,10 @@
-use Rattle.std.proofs.Common.{◌≡◌, Ok, sym, ◌∙◌, arith}
+use Rattle.std.proofs.Common.{◌≡◌, length, Ok, sym, ◌∙◌, arith}
+use Rattle.std.proofs.lemmas.List.{length-map}
 use Rattle.oc_tree.specs.View.{program_view}
 use Rattle.oc_lex.proofs.StandsLaws.{tokens_count}
 use Rattle.oc_grammar.specs.Lexemes.{lexemes_of}
 use Rattle.oc_grammar.proofs.ProgramLaws.{program_sound, program_read}
+use Rattle.oc_grammar.proofs.NodeLaws.{nodes_within}
 use Rattle.oc_grammar.proofs.FrontLaws.{ok_is}
 use Rattle.oc_parse.specs.declared.stop.Stop.TheVariants as stops
 use Rattle.oc_parse.proofs.Spelled.{only_memory}
@@ -31,3 +33,10 @@ returns-in-Err-Depth-clause-only c = λ p d.
     let m = only_memory (lexemes_of c.args.source.now c.args.tokens.now) p c.in-Err-Depth.field-0 c.in-Err-Depth.ensures d in
     let k : stops.Depth c.in-Err-Depth.left ≡ stops.Memory = sym c.in-Err-Depth.field-0-is ∙ m in
     absurd cc
+
+pub returns-in-Ok-clause-nodes : goal.returns-in-Ok-clause-nodes
+returns-in-Ok-clause-nodes c =
+    let ts = lexemes_of c.args.source.now c.args.tokens.now in
+    let n = nodes_within ts (program_view c.in-Ok.program) (program_sound ts (program_view c.in-Ok.program) c.in-Ok.ensures) in
+    let k : length ts ≡ length c.args.tokens.now = length-map c.args.tokens.now _ in
+    omega (arith, n, k)

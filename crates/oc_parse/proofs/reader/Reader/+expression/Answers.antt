@@ -55,9 +55,10 @@ args-returns-then-not-take-clause-exact t c =
 pub args-loop-args-preserved : goal.args-loop-args-preserved
 unfolding args_at arg_at
 args-loop-args-preserved t c =
-    let e : map arg_view c.push.new.self.items ≡ map arg_view c.loop-args.args.items ++ arg_view c.in_ok-arg.field-0 ∷ [] = rw c.in_ok-push.ensures.items (map_push _ c.loop-args.args.items c.in_ok-arg.field-0) in
-    (rw e (list_goes_on (arg_at c.args.room) (args_shorten c.args.room) (map arg_view c.loop-args.args.items) (left c.loop-args.self) (arg_view c.in_ok-arg.field-0) (left c.arg.new.self) (left c.take-in-loop-args.new.self) (args_at c.args.room (left c.args.self.now)) c.loop-args-test.ensures.exact (rw c.loop-args-test.ensures.kept at c.in_ok-arg.ensures.exact) c.if-not-take.ensures.exact c.loop-args.invariant.0),
-      omega (arith, c.loop-args-test.ensures.shorter, c.in_ok-arg.ensures.shorter, c.if-not-take.ensures.shorter))
+    let e : map arg_view c.push.new.self.items ≡ map arg_view c.loop-args.args.items ++ arg_view c.in_ok-arg.field-0 ∷ [] = rw c.in_ok-push.ensures.items (map_push _ c.loop-args.args.items c.in_ok-arg.field-0) in (
+      rw e (list_goes_on (arg_at c.args.room) (args_shorten c.args.room) (map arg_view c.loop-args.args.items) (left c.loop-args.self) (arg_view c.in_ok-arg.field-0) (left c.arg.new.self) (left c.take-in-loop-args.new.self) (args_at c.args.room (left c.args.self.now)) c.loop-args-test.ensures.exact (rw c.loop-args-test.ensures.kept at c.in_ok-arg.ensures.exact) c.if-not-take.ensures.exact c.loop-args.invariant.0),
+      omega (arith, c.loop-args-test.ensures.shorter, c.in_ok-arg.ensures.shorter, c.if-not-take.ensures.shorter),
+    )
 
 pub args-returns-clause-exact : goal.args-returns-clause-exact
 unfolding args_at arg_at
@@ -78,4 +79,3 @@ pub prefixed-returns-in_err-inner-clause-exact : goal.prefixed-returns-in_err-in
 prefixed-returns-in_err-inner-clause-exact t c =
     let p = err_from_is_err_and c.from_residual.result c.from_residual.ensures.1 in
     rw (p.1, p.2) (prefixed_stops c.args.room c.args.op c.args.operators.now (left c.args.self.now) c.in_err-inner.field-0.0 (omega arith) c.in_err-inner.ensures.exact)
-

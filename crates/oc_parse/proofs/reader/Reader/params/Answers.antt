@@ -25,9 +25,10 @@ returns-then-not-take-clause-exact c =
 
 pub loop-params-preserved : goal.loop-params-preserved
 unfolding params_at
-loop-params-preserved c =
-    (rw c.in_ok-push.ensures.items (list_goes_on param_at param_at_shorter c.loop-params.params.items (left c.loop-params.self) c.in_ok-param.field-0 (left c.param.new.self) (left c.take-in-loop-params.new.self) (params_at (left c.args.self.now)) c.loop-params-test.ensures.exact (rw c.loop-params-test.ensures.kept at c.in_ok-param.ensures.exact) c.if-not-take.ensures.exact c.loop-params.invariant.0),
-      omega (arith, c.loop-params-test.ensures.shorter, c.in_ok-param.ensures.shorter, c.if-not-take.ensures.shorter))
+loop-params-preserved c = (
+  rw c.in_ok-push.ensures.items (list_goes_on param_at param_at_shorter c.loop-params.params.items (left c.loop-params.self) c.in_ok-param.field-0 (left c.param.new.self) (left c.take-in-loop-params.new.self) (params_at (left c.args.self.now)) c.loop-params-test.ensures.exact (rw c.loop-params-test.ensures.kept at c.in_ok-param.ensures.exact) c.if-not-take.ensures.exact c.loop-params.invariant.0),
+  omega (arith, c.loop-params-test.ensures.shorter, c.in_ok-param.ensures.shorter, c.if-not-take.ensures.shorter),
+)
 
 pub returns-clause-exact : goal.returns-clause-exact
 unfolding params_at

@@ -48,10 +48,11 @@ statements-returns-in_err-statement-clause-exact t c =
 
 pub statements-loop-self-preserved : goal.statements-loop-self-preserved
 statements-loop-self-preserved t c =
-    let e : map stmt_view c.push.new.self.items ≡ map stmt_view c.loop-self.statements.items ++ stmt_view c.in_ok-statement.statement ∷ [] = rw c.in_ok-push.ensures.items (map_push _ c.loop-self.statements.items c.in_ok-statement.statement) in
-    (rw e (block_goes_on c.args.room (map stmt_view c.loop-self.statements.items) c.loop-self.self.statements c.loop-self.self.blocks (left c.loop-self.self.reader) (stmt_view c.in_ok-statement.statement) c.statement.new.self.statements c.statement.new.self.blocks (left c.statement.new.self.reader) (from (stmts_at c.args.room) c.args.self.now) c.loop-self-test.ensures.exact (rw c.loop-self-test.ensures.kept at c.in_ok-statement.ensures.exact) c.loop-self.invariant.0),
+    let e : map stmt_view c.push.new.self.items ≡ map stmt_view c.loop-self.statements.items ++ stmt_view c.in_ok-statement.statement ∷ [] = rw c.in_ok-push.ensures.items (map_push _ c.loop-self.statements.items c.in_ok-statement.statement) in (
+      rw e (block_goes_on c.args.room (map stmt_view c.loop-self.statements.items) c.loop-self.self.statements c.loop-self.self.blocks (left c.loop-self.self.reader) (stmt_view c.in_ok-statement.statement) c.statement.new.self.statements c.statement.new.self.blocks (left c.statement.new.self.reader) (from (stmts_at c.args.room) c.args.self.now) c.loop-self-test.ensures.exact (rw c.loop-self-test.ensures.kept at c.in_ok-statement.ensures.exact) c.loop-self.invariant.0),
       c.in_ok-statement.ensures.fits,
-      omega (arith, c.loop-self-test.ensures.shorter, c.in_ok-statement.ensures.shorter))
+      omega (arith, c.loop-self-test.ensures.shorter, c.in_ok-statement.ensures.shorter),
+    )
 
 pub statements-returns-clause-exact : goal.statements-returns-clause-exact
 statements-returns-clause-exact t c =

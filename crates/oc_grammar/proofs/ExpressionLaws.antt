@@ -1,23 +1,19 @@
 -- What is read is spelled so, and what is spelled so is read: expressions.
-use Rattle.std.proofs.Common.{◌≡◌, ◌≢◌, ℕ, zero, suc, ◌+◌, ◌-◌, ◌<◌, ◌≤◌, Bool, true, false, cond, eqb, List, [], ◌∷◌, length, Option, Some, None, Result, Ok, Err, refl, sym, ap, subst, ◌∙◌, arith, inl, inr, ◌⊎◌}
+use Rattle.std.proofs.Common.{◌≡◌, ◌≢◌, ℕ, zero, suc, ◌+◌, ◌<◌, ◌≤◌, Bool, true, false, eqb, List, ◌∷◌, length, Option, Some, None, Ok, refl, sym, ap, subst, ◌∙◌, arith, inl, inr, ◌⊎◌}
 use Rattle.std.proofs.lemmas.Bool.{eqb-true, ne_eqb, eq-eqb}
 use Rattle.oc_tree.specs.Names.{Text}
-use Rattle.oc_tree.specs.Tree.{TExpr, number, truth, variable, index, deref, unary, binary, sensed, called, TArg, value, shared, mutable, TCall, call, TArgs, no_args, more_args}
+use Rattle.oc_tree.specs.Tree.{TExpr, number, truth, variable, index, deref, unary, binary, sensed, called, TArg, call, TArgs}
 use Rattle.oc_tree.specs.View.{args_of}
-use Rattle.oc_tree.specs.declared.tree.UnaryOp.{UnaryOp}
 use Rattle.oc_tree.specs.declared.tree.UnaryOp.TheVariants as prefixes
-use Rattle.oc_tree.specs.declared.tree.BinaryOp.{BinaryOp}
-use Rattle.oc_lex.specs.declared.token.Word.{Word}
 use Rattle.oc_lex.specs.declared.token.Word.TheVariants as words
-use Rattle.oc_lex.specs.declared.token.Mark.{Mark}
 use Rattle.oc_lex.specs.declared.token.Mark.TheVariants as marks
 use Rattle.oc_grammar.specs.Lexemes.{Lexeme, Lexemes, named, numeral, keyword, sign}
-use Rattle.oc_grammar.specs.Fronts.{Named, a_name, Numeral, a_numeral, Keyword, a_keyword, Sign, a_sign, Infix, an_operator, infix_of, mark_operator}
+use Rattle.oc_grammar.specs.Fronts.{Named, a_name, a_numeral, Keyword, a_keyword, Sign, a_sign}
 use Rattle.oc_grammar.specs.Expressions.{operators, Spells, literal, yes, no, name, element, target, parens, minus, negation, input, result, one, more, compare, SpellsArg, by_value, by_shared, by_mutable, SpellsArgs, closed, last, further, SpellsWhole}
-use Rattle.oc_grammar.specs.Reading.{Fault, Read, ◌>>=◌, with_some, refuse, refuse_last, too_deep, mark_number, next_at, strip_mark, strip_word, expect_mark, name_at, take_word, operator_front, listed_by}
-use Rattle.oc_grammar.specs.ReadingExpressions.{ReadExpr, spend_at, chain, most, levels, prefix_by, parens_by, element_by, result_by, named_by, input_by, unary_by, whole_by, reference, reference_by, arg_by, args_by, sensor_at, unary_at, level_at, part_at, whole_at}
-use Rattle.oc_grammar.proofs.FrontLaws.{bind_ok, bind_same, done, ok_is, some_is, with_some_ok, with_some_same, strip_mark_ok, strip_word_ok, expect_mark_ok, name_ok, next_ok, sign_strip, sign_expect, keyword_strip, name_read, sign_shorter, keyword_shorter, name_shorter, number_shorter, infix_shorter, front_ok, infix_front, other_level}
-use Rattle.oc_grammar.proofs.ListLaws.{PartSound, Shortens, listed_sound, listed_enough}
+use Rattle.oc_grammar.specs.Reading.{Read, with_some, too_deep, next_at, strip_mark, strip_word, expect_mark, name_at, take_word, operator_front}
+use Rattle.oc_grammar.specs.ReadingExpressions.{ReadExpr, spend_at, chain, most, levels, named_by, unary_by, whole_by, reference_by, arg_by, args_by, sensor_at, unary_at, level_at, part_at, whole_at}
+use Rattle.oc_grammar.proofs.FrontLaws.{bind_ok, done, ok_is, with_some_ok, strip_mark_ok, strip_word_ok, expect_mark_ok, name_ok, next_ok, sign_shorter, keyword_shorter, name_shorter, number_shorter, infix_shorter, front_ok}
+use Rattle.oc_grammar.proofs.ListLaws.{PartSound, listed_sound}
 
 -- ---- what is read is spelled so
 

@@ -1,23 +1,22 @@
 -- What is spelled so is read: expressions.
-use Rattle.std.proofs.Common.{◌≡◌, ◌≢◌, ℕ, zero, suc, ◌+◌, ◌-◌, ◌<◌, ◌≤◌, Bool, true, false, cond, eqb, List, [], ◌∷◌, length, Option, Some, None, Result, Ok, Err, refl, sym, ap, subst, ◌∙◌, arith, inl, inr, ◌⊎◌}
-use Rattle.std.proofs.lemmas.Bool.{eqb-true, ne_eqb, eq-eqb}
+use Rattle.std.proofs.Common.{◌≡◌, ◌≢◌, ℕ, zero, suc, ◌+◌, ◌-◌, ◌<◌, ◌≤◌, Bool, true, false, cond, eqb, List, [], ◌∷◌, length, Some, None, Ok, refl, sym, ap, ◌∙◌, arith}
+use Rattle.std.proofs.lemmas.Bool.{eqb-true, ne_eqb}
 use Rattle.std.specs.Prelude.{if◌then◌else◌, ◌==◌}
 use Rattle.oc_tree.specs.Names.{Text}
-use Rattle.oc_tree.specs.Tree.{TExpr, number, truth, variable, index, deref, unary, binary, sensed, called, TArg, value, shared, mutable, TCall, call, TArgs, no_args, more_args}
+use Rattle.oc_tree.specs.Tree.{TExpr, number, truth, variable, deref, binary, TArg, TArgs, no_args, more_args}
 use Rattle.oc_tree.specs.View.{args_of}
-use Rattle.oc_tree.specs.declared.tree.UnaryOp.TheVariants as prefixes
 use Rattle.oc_tree.specs.declared.tree.BinaryOp.{BinaryOp}
 use Rattle.oc_lex.specs.declared.token.Word.{Word}
 use Rattle.oc_lex.specs.declared.token.Word.TheVariants as words
 use Rattle.oc_lex.specs.declared.token.Mark.{Mark}
 use Rattle.oc_lex.specs.declared.token.Mark.TheVariants as marks
 use Rattle.oc_grammar.specs.Lexemes.{Lexeme, Lexemes, named, numeral, keyword, sign}
-use Rattle.oc_grammar.specs.Fronts.{Named, a_name, Numeral, a_numeral, Keyword, a_keyword, Sign, a_sign, Infix, an_operator, infix_of, mark_operator}
+use Rattle.oc_grammar.specs.Fronts.{Named, a_name, a_numeral, Keyword, a_keyword, Sign, a_sign, Infix, an_operator, infix_of, mark_operator}
 use Rattle.oc_grammar.specs.Expressions.{operators, Spells, literal, yes, no, name, element, target, parens, minus, negation, input, result, one, more, compare, SpellsArg, by_value, by_shared, by_mutable, SpellsArgs, closed, last, further, SpellsWhole}
-use Rattle.oc_grammar.specs.Reading.{Fault, Read, ◌>>=◌, with_some, refuse, refuse_last, too_deep, mark_number, next_at, strip_mark, strip_word, expect_mark, name_at, take_word, operator_front, listed_by}
-use Rattle.oc_grammar.specs.ReadingExpressions.{ReadExpr, spend_at, chain, most, levels, prefix_by, parens_by, element_by, result_by, named_by, input_by, unary_by, whole_by, reference, reference_by, arg_by, args_by, sensor_at, unary_at, level_at, part_at, whole_at}
-use Rattle.oc_grammar.proofs.FrontLaws.{bind_ok, bind_same, done, ok_is, some_is, with_some_ok, with_some_same, sign_strip, sign_expect, keyword_strip, name_read, sign_shorter, infix_shorter, front_ok, infix_front, other_level}
-use Rattle.oc_grammar.proofs.ExpressionLaws.{Sound, Spelled, level_sound, most_other, shorter, shorter_arg, spent}
+use Rattle.oc_grammar.specs.Reading.{mark_number, next_at, strip_mark, strip_word, expect_mark, name_at, take_word, operator_front, listed_by}
+use Rattle.oc_grammar.specs.ReadingExpressions.{ReadExpr, spend_at, chain, most, levels, reference, reference_by, arg_by, sensor_at, unary_at, level_at, part_at, whole_at}
+use Rattle.oc_grammar.proofs.FrontLaws.{bind_same, done, with_some_same, sign_strip, keyword_strip, name_read, sign_shorter, infix_shorter, front_ok, infix_front, other_level}
+use Rattle.oc_grammar.proofs.ExpressionLaws.{level_sound, shorter, shorter_arg}
 
 -- ---- any number of turns that is enough
 

@@ -1,5 +1,5 @@
 -- What is read in front stands there, and what stands there is read.
-use Rattle.std.proofs.Common.{◌≡◌, ℕ, zero, suc, ℤ, ◌+◌, ◌-◌, ◌<◌, ◌≤◌, Bool, true, false, cond, eqb, List, [], ◌∷◌, length, get_or, Option, Some, None, Result, Ok, Err, refl, sym, ap, subst, ◌∙◌, arith, inl, inr, ◌⊎◌}
+use Rattle.std.proofs.Common.{◌≡◌, ℕ, suc, ℤ, Bool, true, false, cond, eqb, List, [], ◌∷◌, length, get_or, Option, Some, None, Result, Ok, Err, refl, sym, ap, subst, ◌∙◌, inl, inr, ◌⊎◌}
 use Rattle.std.proofs.lemmas.Bool.{eqb-true, ne_eqb, eq-eqb}
 use Rattle.oc_tree.specs.Names.{Text}
 use Rattle.oc_tree.specs.declared.tree.BinaryOp.{BinaryOp}
@@ -9,7 +9,7 @@ use Rattle.oc_lex.specs.declared.token.Mark.{Mark}
 use Rattle.oc_lex.specs.declared.token.Mark.TheVariants as marks
 use Rattle.oc_grammar.specs.Lexemes.{Lexeme, Lexemes, named, numeral, keyword, sign}
 use Rattle.oc_grammar.specs.Fronts.{Named, a_name, Numeral, a_numeral, Keyword, a_keyword, Sign, a_sign, Infix, an_operator, infix_of}
-use Rattle.oc_grammar.specs.Reading.{Fault, syntax_fault, depth_fault, Read, ◌>>=◌, with_some, refuse, mark_number, same_mark, word_number, same_word, next_at, strip_mark, strip_word, expect_mark, expect_word, name_at, number_at, take_word, at_level, operator_of, before, operator_front}
+use Rattle.oc_grammar.specs.Reading.{Fault, ◌>>=◌, with_some, refuse, mark_number, word_number, next_at, strip_mark, strip_word, expect_mark, expect_word, name_at, number_at, at_level, operator_of, before, operator_front}
 
 -- ---- tools
 

@@ -1,10 +1,10 @@
 -- Things with commas between them.
-use Rattle.std.proofs.Common.{◌≡◌, ℕ, zero, suc, ◌+◌, ◌<◌, ◌≤◌, List, [], ◌∷◌, ◌++◌, length, Option, Some, None, Result, Ok, Err, refl, sym, ap, subst, ◌∙◌, arith, inl, inr, ◌⊎◌}
+use Rattle.std.proofs.Common.{◌≡◌, ℕ, zero, suc, ◌<◌, List, [], ◌∷◌, length, Some, None, Ok, refl, ap, subst, arith, inl, inr}
 use Rattle.oc_lex.specs.declared.token.Mark.TheVariants as marks
 use Rattle.oc_grammar.specs.Lexemes.{Lexemes}
 use Rattle.oc_grammar.specs.Fronts.{Sign}
-use Rattle.oc_grammar.specs.Reading.{Fault, Read, ◌>>=◌, with_some, refuse, strip_mark, expect_mark, listed_by}
-use Rattle.oc_grammar.proofs.FrontLaws.{bind_ok, bind_same, done, ok_is, with_some_ok, with_some_same, strip_mark_ok, expect_mark_ok, sign_shorter}
+use Rattle.oc_grammar.specs.Reading.{Read, ◌>>=◌, with_some, strip_mark, expect_mark, listed_by}
+use Rattle.oc_grammar.proofs.FrontLaws.{bind_ok, bind_same, ok_is, with_some_ok, with_some_same, strip_mark_ok, expect_mark_ok, sign_shorter}
 
 -- a reading of one thing takes what R says
 abbrev pub PartSound : {A : Type 0} → (A → Lexemes → Lexemes → Type 0) → (Lexemes → Read A) → Type 0

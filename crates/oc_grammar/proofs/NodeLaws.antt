@@ -1,13 +1,13 @@
 -- A program has no more nodes of expressions than tokens.
-use Rattle.std.proofs.Common.{◌≡◌, ℕ, zero, suc, ◌+◌, ◌≤◌, ◌<◌, List, [], ◌∷◌, ◌++◌, length, refl, sym, ap, ◌∙◌, arith, zero-add}
+use Rattle.std.proofs.Common.{◌≡◌, ℕ, ◌+◌, ◌≤◌, List, [], ◌∷◌, ◌++◌, length, refl, ◌∙◌, arith, zero-add}
 use Rattle.std.proofs.lemmas.List.Sums.{sum_by-append}
 use Rattle.std.specs.Prelude.{sum_by}
 use Rattle.oc_tree.specs.Tree.{TExpr, number, truth, variable, index, deref, unary, binary, sensed, called, TArg, TArgs, TRight, TKind, TElse, TStmt, TBlock, TStmts, TFunction, TProgram}
 use Rattle.oc_tree.specs.Nodes.{expr_nodes, arg_nodes, args_nodes, right_nodes, kind_nodes, else_nodes, stmt_nodes, block_nodes, stmts_nodes, program_nodes}
-use Rattle.oc_grammar.specs.Lexemes.{Lexemes, last_line}
-use Rattle.oc_grammar.specs.Expressions.{Spells, literal, yes, no, name, element, target, parens, minus, negation, input, result, one, more, compare, SpellsArg, by_value, by_shared, by_mutable, SpellsArgs, closed, last, further, SpellsWhole}
-use Rattle.oc_grammar.specs.Statements.{right_of, SpellsRight, a_right, LetHead, SpellsSimple, let_right, let_fill, assigns, assigns_index, assigns_deref, calls, senses, emits, marks_fresh, marks_consistent, returns, Place, SpellsKind, simple, if_form, for_form, while_form, SpellsElse, without, otherwise, else_if, SpellsStmt, statement, SpellsBlock, braces, SpellsStmts, end, first}
-use Rattle.oc_grammar.specs.Programs.{SpellsFunction, a_function, SpellsItem, sensor_item, port_item, nv_item, function_item, SpellsItems, no_item, an_item, empty_program, SpellsProgram, with_function}
+use Rattle.oc_grammar.specs.Lexemes.{Lexemes}
+use Rattle.oc_grammar.specs.Expressions.{Spells, literal, yes, no, name, element, target, parens, minus, negation, input, result, one, more, compare, SpellsArg, by_value, by_shared, by_mutable, SpellsArgs, closed, last, further}
+use Rattle.oc_grammar.specs.Statements.{right_of, SpellsRight, a_right, SpellsSimple, let_right, let_fill, assigns, assigns_index, assigns_deref, calls, senses, emits, marks_fresh, marks_consistent, returns, Place, SpellsKind, simple, if_form, for_form, while_form, SpellsElse, without, otherwise, else_if, SpellsStmt, statement, SpellsBlock, braces, SpellsStmts, end, first}
+use Rattle.oc_grammar.specs.Programs.{SpellsFunction, a_function, SpellsItem, sensor_item, port_item, nv_item, function_item, SpellsItems, no_item, an_item, SpellsProgram}
 use Rattle.oc_grammar.proofs.FrontLaws.{sign_shorter, keyword_shorter, name_shorter, number_shorter, infix_shorter}
 use Rattle.oc_grammar.proofs.SimpleLaws.{simple_shorter, const_shorter, head_shorter}
 use Rattle.oc_grammar.proofs.ProgramLaws.{params_shorter, result_shorter, item_shorter}

@@ -1,29 +1,26 @@
 -- Programs: what is read is spelled so, and what is spelled so is read.
-use Rattle.std.proofs.Common.{◌≡◌, ℕ, zero, suc, ℤ, ◌+◌, ◌<◌, ◌≤◌, Bool, true, false, List, [], ◌∷◌, length, Option, Some, None, Result, Ok, Err, refl, sym, ap, subst, ◌∙◌, arith, inl, inr, ◌⊎◌}
+use Rattle.std.proofs.Common.{◌≡◌, ℕ, zero, suc, ◌<◌, ◌≤◌, Bool, true, false, List, [], ◌∷◌, length, Option, Some, None, Ok, refl, sym, subst, ◌∙◌, arith, inl, inr}
 use Rattle.oc_tree.specs.Names.{Text}
 use Rattle.oc_tree.specs.Tree.{TBlock, TFunction, TProgram}
 use Rattle.oc_tree.specs.declared.tree.Scalar.{Scalar}
-use Rattle.oc_tree.specs.declared.tree.Scalar.TheVariants as scalars
 use Rattle.oc_tree.specs.declared.tree.Passing.{Passing}
 use Rattle.oc_tree.specs.declared.tree.Passing.TheVariants as passings
 use Rattle.oc_tree.specs.declared.tree.Param.{Param}
 use Rattle.oc_tree.specs.declared.tree.NvDecl.{NvDecl}
-use Rattle.oc_lex.specs.declared.token.Word.{Word}
 use Rattle.oc_lex.specs.declared.token.Word.TheVariants as words
-use Rattle.oc_lex.specs.declared.token.Mark.{Mark}
 use Rattle.oc_lex.specs.declared.token.Mark.TheVariants as marks
-use Rattle.oc_grammar.specs.Lexemes.{Lexeme, Lexemes, named, numeral, keyword, sign, line_of, front_line, last_line}
+use Rattle.oc_grammar.specs.Lexemes.{Lexeme, Lexemes, keyword, sign, front_line, last_line}
 use Rattle.oc_grammar.specs.Fronts.{Named, a_name, Keyword, a_keyword, Sign, a_sign}
-use Rattle.oc_grammar.specs.Reading.{Fault, Read, ◌>>=◌, with_some, refuse, refuse_last, next_at, strip_mark, strip_word, expect_mark, name_at, take_word, listed_by}
-use Rattle.oc_grammar.specs.Statements.{SpellsScalar, int_scalar, bool_scalar, SpellsArray, an_array, SpellsType, int_type, bool_type, array_type, SpellsConst, Place, SpellsBlock, braces}
-use Rattle.oc_grammar.specs.ReadingStatements.{array_at, type_at, const_at, ReadNumbered, Reader, block_at}
-use Rattle.oc_grammar.specs.Programs.{SpellsPassing, itself, shared_ref, mutable_ref, SpellsParam, a_param, SpellsParams, no_param, last_param, further_params, SpellsResult, no_result, a_result, SpellsFunction, a_function, SpellsCells, one_cell, array_cells, SpellsNv, an_nv, declared, with_sensor, with_port, with_nv, with_function, SpellsItem, sensor_item, port_item, nv_item, function_item, SpellsItems, no_item, an_item, empty_program, SpellsProgram}
-use Rattle.oc_grammar.specs.ReadingPrograms.{reference, reference_to, passing_at, param_from, param_at, params_at, scalar_from, scalar_at, result_at, function_at, cells_from, cells_at, nv_at, declared_at, item_by, item_at, items_by, items_at, program_at}
-use Rattle.oc_grammar.proofs.FrontLaws.{bind_ok, done, ok_is, with_some_ok, strip_mark_ok, strip_word_ok, expect_mark_ok, name_ok, next_ok, sign_strip, sign_expect, keyword_strip, name_read, number_read, keyword_expect, sign_shorter, keyword_shorter, name_shorter}
+use Rattle.oc_grammar.specs.Reading.{with_some, next_at, strip_mark, strip_word, expect_mark, name_at, take_word, listed_by}
+use Rattle.oc_grammar.specs.Statements.{SpellsScalar, int_scalar, bool_scalar, an_array, SpellsType, int_type, bool_type, array_type, Place, SpellsBlock, braces}
+use Rattle.oc_grammar.specs.ReadingStatements.{array_at, type_at, const_at, block_at}
+use Rattle.oc_grammar.specs.Programs.{SpellsPassing, itself, shared_ref, mutable_ref, SpellsParam, a_param, SpellsParams, no_param, last_param, further_params, SpellsResult, no_result, a_result, SpellsFunction, a_function, SpellsCells, one_cell, array_cells, SpellsNv, an_nv, SpellsItem, sensor_item, port_item, nv_item, function_item, SpellsItems, no_item, an_item, empty_program, SpellsProgram}
+use Rattle.oc_grammar.specs.ReadingPrograms.{reference_to, passing_at, param_at, params_at, scalar_from, scalar_at, result_at, function_at, cells_from, cells_at, nv_at, declared_at, item_by, item_at, items_by, items_at, program_at}
+use Rattle.oc_grammar.proofs.FrontLaws.{bind_ok, ok_is, with_some_ok, strip_mark_ok, strip_word_ok, expect_mark_ok, name_ok, next_ok, sign_strip, sign_expect, name_read, number_read, keyword_expect, sign_shorter, keyword_shorter, name_shorter}
 use Rattle.oc_grammar.proofs.ListLaws.{PartSound, Shortens, listed_sound}
 use Rattle.oc_grammar.proofs.ExpressionsRead.{take_without, take_with}
 use Rattle.oc_grammar.proofs.SimpleLaws.{other_mark, array_sound, type_sound, type_read, type_shorter, const_sound, const_read, const_shorter}
-use Rattle.oc_grammar.proofs.StatementLaws.{Takes, block_sound, block_shorter}
+use Rattle.oc_grammar.proofs.StatementLaws.{block_sound, block_shorter}
 use Rattle.oc_grammar.proofs.StatementsRead.{block_read}
 
 -- ---- what is read is spelled so: functions

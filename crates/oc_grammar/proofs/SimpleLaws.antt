@@ -1,25 +1,24 @@
 -- Statements without blocks: what is read is spelled so, and what is spelled so is read.
-use Rattle.std.proofs.Common.{◌≡◌, ◌≢◌, ℕ, zero, suc, ℤ, ◌+◌, ◌-◌, ◌<◌, ◌≤◌, Bool, true, false, cond, eqb, List, [], ◌∷◌, length, Option, Some, None, Result, Ok, Err, refl, sym, ap, subst, ◌∙◌, arith, inl, inr, ◌⊎◌}
+use Rattle.std.proofs.Common.{◌≡◌, ℕ, suc, ℤ, ◌<◌, ◌≤◌, Bool, true, false, eqb, List, ◌∷◌, length, Option, Some, None, Ok, refl, subst, arith, inl, inr}
 use Rattle.std.specs.Prelude.{unsigned_abs}
 use Rattle.oc_tree.specs.Names.{Text}
-use Rattle.oc_tree.specs.Tree.{TExpr, TArg, TCall, call, TArgs, TRight, TKind, let_to, let_array, assign, assign_index, assign_deref, if_else, for_in, while_do, call_only, sense_only, emit, fresh, consistent, return, TElse, no_else, else_do, TStmt, stmt, TBlock, block, TStmts, no_stmts, more}
-use Rattle.oc_tree.specs.View.{args_of, stmts_of}
+use Rattle.oc_tree.specs.Tree.{TExpr, TArg, call, TArgs, TRight, TKind, let_to, let_array, assign, assign_index, assign_deref, call_only, sense_only, emit, fresh, consistent, return, TElse, TBlock}
+use Rattle.oc_tree.specs.View.{args_of}
 use Rattle.oc_tree.specs.declared.tree.ValueKind.{ValueKind}
 use Rattle.oc_tree.specs.declared.tree.ValueKind.TheVariants as types
-use Rattle.oc_lex.specs.declared.token.Word.{Word}
 use Rattle.oc_lex.specs.declared.token.Word.TheVariants as words
 use Rattle.oc_lex.specs.declared.token.Mark.{Mark}
 use Rattle.oc_lex.specs.declared.token.Mark.TheVariants as marks
-use Rattle.oc_grammar.specs.Lexemes.{Lexeme, Lexemes, named, numeral, keyword, sign, line_of, front_line}
-use Rattle.oc_grammar.specs.Fronts.{Named, a_name, Numeral, a_numeral, Keyword, a_keyword, Sign, a_sign}
+use Rattle.oc_grammar.specs.Lexemes.{Lexeme, Lexemes, named, keyword, sign}
+use Rattle.oc_grammar.specs.Fronts.{Named, a_name, a_numeral, Keyword, a_keyword, Sign, a_sign}
 use Rattle.oc_grammar.specs.Expressions.{SpellsArgs, SpellsWhole}
-use Rattle.oc_grammar.specs.Reading.{Fault, depth_fault, Read, ◌>>=◌, with_some, refuse, refuse_last, too_deep, mark_number, next_at, strip_mark, strip_word, expect_mark, expect_word, name_at, number_at, take_word}
+use Rattle.oc_grammar.specs.Reading.{◌>>=◌, with_some, mark_number, next_at, strip_mark, strip_word, expect_mark, expect_word, name_at, number_at, take_word}
 use Rattle.oc_grammar.specs.ReadingExpressions.{level_at, args_at, whole_at}
-use Rattle.oc_grammar.specs.Statements.{SpellsArray, an_array, SpellsType, int_type, bool_type, array_type, opposite, SpellsConst, positive, negative, right_of, SpellsRight, a_right, SpellsMut, with_mut, without_mut, SpellsNote, typed, untyped, LetHead, let_head, SpellsSimple, let_right, let_fill, assigns, assigns_index, assigns_deref, calls, senses, emits, marks_fresh, marks_consistent, returns}
-use Rattle.oc_grammar.specs.ReadingStatements.{array_at, type_from, type_at, const_at, right_at, note_at, fill_at, assign_at, element_to_at, target_at, call_at, sense_at, emit_at, fresh_at, consistent_at, return_at, bind_at, let_from, let_at, set_at, simple_from, Reader, simple_by, kind_by}
-use Rattle.oc_grammar.proofs.FrontLaws.{bind_ok, done, ok_is, with_some_ok, strip_mark_ok, strip_word_ok, expect_mark_ok, expect_word_ok, name_ok, number_ok, next_ok, sign_strip, sign_expect, keyword_strip, keyword_expect, name_read, number_read, sign_shorter, keyword_shorter, name_shorter, number_shorter}
+use Rattle.oc_grammar.specs.Statements.{SpellsArray, an_array, SpellsType, int_type, bool_type, array_type, SpellsConst, positive, negative, SpellsRight, a_right, SpellsMut, with_mut, without_mut, SpellsNote, typed, untyped, LetHead, let_head, SpellsSimple, let_right, let_fill, assigns, assigns_index, assigns_deref, calls, senses, emits, marks_fresh, marks_consistent, returns}
+use Rattle.oc_grammar.specs.ReadingStatements.{array_at, type_from, type_at, const_at, right_at, note_at, fill_at, assign_at, element_to_at, target_at, call_at, sense_at, emit_at, fresh_at, consistent_at, return_at, bind_at, let_from, let_at, set_at, simple_from, Reader, kind_by}
+use Rattle.oc_grammar.proofs.FrontLaws.{bind_ok, done, ok_is, with_some_ok, strip_mark_ok, strip_word_ok, expect_mark_ok, expect_word_ok, name_ok, number_ok, next_ok, sign_strip, sign_expect, keyword_expect, name_read, number_read, sign_shorter, keyword_shorter, name_shorter, number_shorter}
 use Rattle.oc_grammar.proofs.ExpressionLaws.{args_sound, level_sound, whole_sound, shorter, shorter_args}
-use Rattle.oc_grammar.proofs.ExpressionsRead.{Stops, stops_sign, begins, list_of, args_back, args_read, named_no_word, take_without, take_with, whole_read}
+use Rattle.oc_grammar.proofs.ExpressionsRead.{stops_sign, begins, list_of, args_back, args_read, named_no_word, take_without, take_with, whole_read}
 
 -- ---- fronts
 

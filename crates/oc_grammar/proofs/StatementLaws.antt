@@ -1,16 +1,15 @@
 -- Statements and blocks: what is read is spelled so.
-use Rattle.std.proofs.Common.{◌≡◌, ℕ, zero, suc, ◌+◌, ◌<◌, ◌≤◌, List, [], ◌∷◌, length, Option, Some, None, Result, Ok, Err, refl, sym, ap, subst, ◌∙◌, arith, inl, inr, ◌⊎◌}
-use Rattle.std.specs.Prelude.{unsigned_abs}
-use Rattle.oc_tree.specs.Tree.{TKind, if_else, for_in, while_do, TElse, no_else, else_do, TStmt, stmt, TBlock, block, TStmts, no_stmts, more}
+use Rattle.std.proofs.Common.{◌≡◌, ℕ, zero, suc, ◌<◌, ◌≤◌, List, [], ◌∷◌, length, Ok, refl, sym, subst, arith, inl, inr}
+use Rattle.oc_tree.specs.Tree.{TKind, TElse, no_else, else_do, TStmt, TBlock, block, TStmts, no_stmts, more}
 use Rattle.oc_tree.specs.View.{stmts_of}
 use Rattle.oc_lex.specs.declared.token.Word.TheVariants as words
 use Rattle.oc_lex.specs.declared.token.Mark.TheVariants as marks
-use Rattle.oc_grammar.specs.Lexemes.{Lexeme, Lexemes, named, numeral, keyword, sign, line_of, front_line}
-use Rattle.oc_grammar.specs.Fronts.{Keyword, a_keyword, Sign}
-use Rattle.oc_grammar.specs.Reading.{Fault, depth_fault, Read, ◌>>=◌, with_some, too_deep, next_at, strip_mark, strip_word, expect_mark, expect_word, name_at, number_at}
+use Rattle.oc_grammar.specs.Lexemes.{Lexeme, Lexemes, keyword}
+use Rattle.oc_grammar.specs.Fronts.{Keyword, a_keyword}
+use Rattle.oc_grammar.specs.Reading.{with_some, too_deep, next_at, strip_mark, strip_word, expect_mark, expect_word, name_at, number_at}
 use Rattle.oc_grammar.specs.ReadingExpressions.{whole_at}
 use Rattle.oc_grammar.specs.Statements.{Place, SpellsKind, simple, if_form, for_form, while_form, SpellsElse, without, otherwise, else_if, SpellsStmt, statement, SpellsBlock, braces, SpellsStmts, end, first}
-use Rattle.oc_grammar.specs.ReadingStatements.{const_at, simple_from, ReadNumbered, Reader, if_by, for_by, while_by, simple_by, kind_by, stmt_by, stmts_by, braces_by, no_block, chained_by, no_chained, else_by, stmt_at, block_at}
+use Rattle.oc_grammar.specs.ReadingStatements.{const_at, simple_from, Reader, if_by, for_by, while_by, simple_by, kind_by, stmt_by, stmts_by, braces_by, no_block, chained_by, no_chained, else_by, stmt_at, block_at}
 use Rattle.oc_grammar.proofs.FrontLaws.{bind_ok, done, ok_is, with_some_ok, strip_mark_ok, strip_word_ok, expect_mark_ok, expect_word_ok, name_ok, number_ok, next_ok, sign_shorter, keyword_shorter, name_shorter, number_shorter}
 use Rattle.oc_grammar.proofs.ExpressionLaws.{whole_sound, Inside}
 use Rattle.oc_grammar.proofs.SimpleLaws.{simple_sound, simple_shorter, const_sound, const_shorter, whole_shorter}

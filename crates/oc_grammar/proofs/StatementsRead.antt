@@ -1,21 +1,18 @@
 -- Statements and blocks: what is spelled so is read.
-use Rattle.std.proofs.Common.{◌≡◌, ℕ, zero, suc, ◌+◌, ◌<◌, ◌≤◌, List, [], ◌∷◌, length, Option, Some, None, Result, Ok, Err, refl, sym, ap, subst, ◌∙◌, arith}
-use Rattle.oc_tree.specs.Tree.{TKind, if_else, for_in, while_do, TElse, no_else, else_do, TStmt, stmt, TBlock, block, TStmts, no_stmts, more}
+use Rattle.std.proofs.Common.{◌≡◌, ℕ, zero, suc, ◌<◌, List, [], ◌∷◌, length, None, Ok, refl, ap, ◌∙◌, arith}
+use Rattle.oc_tree.specs.Tree.{TKind, TElse, TStmt, stmt, TBlock, TStmts, no_stmts, more}
 use Rattle.oc_tree.specs.View.{stmts_of}
-use Rattle.oc_lex.specs.declared.token.Word.{Word}
 use Rattle.oc_lex.specs.declared.token.Word.TheVariants as words
-use Rattle.oc_lex.specs.declared.token.Mark.{Mark}
 use Rattle.oc_lex.specs.declared.token.Mark.TheVariants as marks
-use Rattle.oc_grammar.specs.Lexemes.{Lexeme, Lexemes, named, numeral, keyword, sign, line_of, front_line}
-use Rattle.oc_grammar.specs.Fronts.{Named, a_name, Keyword, a_keyword, Sign, a_sign}
-use Rattle.oc_grammar.specs.Reading.{Fault, Read, ◌>>=◌, with_some, next_at, strip_mark, strip_word, expect_mark, expect_word, name_at, number_at}
-use Rattle.oc_grammar.specs.ReadingExpressions.{whole_at}
+use Rattle.oc_grammar.specs.Lexemes.{Lexemes, front_line}
+use Rattle.oc_grammar.specs.Fronts.{a_name, a_keyword, a_sign}
+use Rattle.oc_grammar.specs.Reading.{next_at, strip_mark, strip_word}
 use Rattle.oc_grammar.specs.Statements.{Place, SpellsSimple, let_right, let_fill, let_head, assigns, assigns_index, assigns_deref, calls, senses, emits, marks_fresh, marks_consistent, returns, SpellsKind, simple, if_form, for_form, while_form, SpellsElse, without, otherwise, else_if, SpellsStmt, statement, SpellsBlock, braces, SpellsStmts, end, first}
-use Rattle.oc_grammar.specs.ReadingStatements.{const_at, Reader, ReadNumbered, if_by, for_by, while_by, kind_by, stmt_by, stmts_by, braces_by, no_block, chained_by, no_chained, else_by, stmt_at, block_at, chained_at, else_at, stmt_here}
-use Rattle.oc_grammar.proofs.FrontLaws.{done, ok_is, sign_strip, sign_expect, keyword_strip, keyword_expect, name_read, number_read, sign_shorter}
+use Rattle.oc_grammar.specs.ReadingStatements.{Reader, if_by, for_by, while_by, stmt_by, stmts_by, stmt_at, block_at, chained_at, else_at, stmt_here}
+use Rattle.oc_grammar.proofs.FrontLaws.{sign_strip, sign_expect, keyword_strip, keyword_expect, name_read, number_read}
 use Rattle.oc_grammar.proofs.ExpressionsRead.{Stops, stops_sign, stops_keyword, whole_read}
 use Rattle.oc_grammar.proofs.SimpleLaws.{KindRead, simple_read, const_read}
-use Rattle.oc_grammar.proofs.StatementLaws.{stmt_shorter, stmts_shorter}
+use Rattle.oc_grammar.proofs.StatementLaws.{stmt_shorter}
 
 pub stmt_is : (room n b : ℕ) (ts : Lexemes) → stmt_at room n b ts ≡ stmt_here room n b ts
 unfolding stmt_at stmt_here block_at else_at chained_at

@@ -1,7 +1,7 @@
 -- Which expressions the tokens spell.
-use Rattle.std.specs.Prelude.{◌≡◌, ◌≢◌, ℕ, zero, suc, ℤ, ◌+◌, ◌≤◌, true, false}
+use Rattle.std.specs.Prelude.{◌≢◌, ℕ, suc, ℤ, ◌+◌, ◌≤◌, true, false}
 use Rattle.oc_tree.specs.Names.{Text}
-use Rattle.oc_tree.specs.Tree.{TExpr, number, truth, variable, index, deref, unary, binary, sensed, called, TArg, value, shared, mutable, TCall, call, TArgs, no_args, more_args}
+use Rattle.oc_tree.specs.Tree.{TExpr, number, truth, variable, index, deref, unary, binary, sensed, called, TArg, value, shared, mutable, call, TArgs, no_args, more_args}
 use Rattle.oc_tree.specs.declared.tree.UnaryOp.TheVariants as prefixes
 use Rattle.oc_tree.specs.declared.tree.BinaryOp.{BinaryOp}
 use Rattle.oc_lex.specs.declared.token.Word.TheVariants as words

@@ -1,5 +1,5 @@
 -- What stands in front of a list of tokens, and what follows it.
-use Rattle.std.specs.Prelude.{◌≡◌, ℕ, ℤ, Option, Some, None, List, ◌∷◌}
+use Rattle.std.specs.Prelude.{◌≡◌, ℕ, ℤ, Option, Some, None, ◌∷◌}
 use Rattle.oc_tree.specs.Names.{Text}
 use Rattle.oc_tree.specs.declared.tree.BinaryOp.{BinaryOp}
 use Rattle.oc_tree.specs.declared.tree.BinaryOp.TheVariants as ops

@@ -1,12 +1,10 @@
 -- Tokens as the grammar sees them: what each says, and its line.
-use Rattle.std.specs.Prelude.{ℕ, ℤ, Bool, ◌==◌, List, [], ◌∷◌, map, slice_range}
+use Rattle.std.specs.Prelude.{ℕ, ℤ, List, [], ◌∷◌, map, slice_range}
 use Rattle.oc_tree.specs.Names.{Text}
 use Rattle.oc_lex.specs.declared.token.Kind.{Kind}
 use Rattle.oc_lex.specs.declared.token.Kind.TheVariants as kinds
 use Rattle.oc_lex.specs.declared.token.Word.{Word}
-use Rattle.oc_lex.specs.declared.token.Word.TheVariants as words
 use Rattle.oc_lex.specs.declared.token.Mark.{Mark}
-use Rattle.oc_lex.specs.declared.token.Mark.TheVariants as marks
 use Rattle.oc_lex.specs.declared.token.Token.{Token}
 
 pub data Lexeme : Type 0 where

@@ -1,14 +1,14 @@
 -- Reading expressions.
-use Rattle.std.specs.Prelude.{ℕ, zero, suc, Bool, true, false, List, [], ◌∷◌, length, Option, Some, None, Result, Ok, Err, ◌==◌, if◌then◌else◌}
+use Rattle.std.specs.Prelude.{ℕ, zero, suc, Bool, true, false, List, length, Result, Ok, ◌==◌, if◌then◌else◌}
 use Rattle.oc_tree.specs.Names.{Text}
-use Rattle.oc_tree.specs.Tree.{TExpr, number, truth, variable, index, deref, unary, binary, sensed, called, TArg, value, shared, mutable, TCall, call, TArgs}
+use Rattle.oc_tree.specs.Tree.{TExpr, number, truth, variable, index, deref, unary, binary, sensed, called, TArg, value, shared, mutable, call}
 use Rattle.oc_tree.specs.View.{args_of}
 use Rattle.oc_tree.specs.declared.tree.UnaryOp.{UnaryOp}
 use Rattle.oc_tree.specs.declared.tree.UnaryOp.TheVariants as prefixes
 use Rattle.oc_lex.specs.declared.token.Word.TheVariants as words
 use Rattle.oc_lex.specs.declared.token.Mark.TheVariants as marks
 use Rattle.oc_grammar.specs.Lexemes.{Lexeme, Lexemes, named, numeral, keyword, sign}
-use Rattle.oc_grammar.specs.Reading.{Fault, Read, ◌>>=◌, with_some, refuse, refuse_last, too_deep, next_at, strip_mark, expect_mark, name_at, take_word, operator_front, listed_by}
+use Rattle.oc_grammar.specs.Reading.{Fault, Read, ◌>>=◌, with_some, refuse_last, too_deep, next_at, strip_mark, expect_mark, name_at, take_word, operator_front, listed_by}
 
 -- the tree, how many more binary operators the whole expression may have, and the tokens behind
 abbrev pub ReadExpr : Type 0

@@ -1,5 +1,5 @@
 -- Reading programs.
-use Rattle.std.specs.Prelude.{ℕ, zero, suc, ℤ, Bool, true, false, List, [], ◌∷◌, length, Option, Some, None, Result, Ok, Err}
+use Rattle.std.specs.Prelude.{ℕ, zero, suc, Bool, true, false, List, [], ◌∷◌, length, Option, Some, None, Result, Ok}
 use Rattle.oc_tree.specs.Names.{Text}
 use Rattle.oc_tree.specs.Tree.{TFunction, TProgram}
 use Rattle.oc_tree.specs.declared.tree.Scalar.{Scalar}
@@ -10,10 +10,10 @@ use Rattle.oc_tree.specs.declared.tree.Param.{Param}
 use Rattle.oc_tree.specs.declared.tree.NvDecl.{NvDecl}
 use Rattle.oc_lex.specs.declared.token.Word.TheVariants as words
 use Rattle.oc_lex.specs.declared.token.Mark.TheVariants as marks
-use Rattle.oc_grammar.specs.Lexemes.{Lexeme, Lexemes, named, numeral, keyword, sign, line_of, last_line}
+use Rattle.oc_grammar.specs.Lexemes.{Lexeme, Lexemes, keyword, sign, last_line}
 use Rattle.oc_grammar.specs.Reading.{Fault, Read, ◌>>=◌, with_some, refuse, refuse_last, next_at, strip_mark, expect_mark, name_at, take_word, listed_by}
 use Rattle.oc_grammar.specs.Programs.{with_sensor, with_port, with_nv, with_function, empty_program}
-use Rattle.oc_grammar.specs.ReadingStatements.{array_at, type_at, const_at, ReadNumbered, Reader, block_at}
+use Rattle.oc_grammar.specs.ReadingStatements.{array_at, type_at, const_at, Reader, block_at}
 
 -- ---- functions
 

@@ -1,15 +1,13 @@
 -- Reading statements.
-use Rattle.std.specs.Prelude.{ℕ, zero, suc, ℤ, unsigned_abs, Bool, true, false, List, [], ◌∷◌, length, Option, Some, None, Result, Ok, Err}
+use Rattle.std.specs.Prelude.{ℕ, zero, suc, ℤ, unsigned_abs, Bool, List, [], ◌∷◌, length, Option, Some, None, Result, Ok, Err}
 use Rattle.oc_tree.specs.Names.{Text}
-use Rattle.oc_tree.specs.Tree.{TExpr, TCall, call, TRight, TKind, let_to, let_array, assign, assign_index, assign_deref, if_else, for_in, while_do, call_only, sense_only, emit, fresh, consistent, return, TElse, no_else, else_do, TStmt, stmt, TBlock, block, TStmts, no_stmts, more}
+use Rattle.oc_tree.specs.Tree.{call, TRight, TKind, let_to, let_array, assign, assign_index, assign_deref, if_else, for_in, while_do, call_only, sense_only, emit, fresh, consistent, return, TElse, no_else, else_do, TStmt, stmt, TBlock, block, no_stmts, more}
 use Rattle.oc_tree.specs.View.{args_of, stmts_of}
-use Rattle.oc_tree.specs.declared.tree.Scalar.{Scalar}
-use Rattle.oc_tree.specs.declared.tree.Scalar.TheVariants as scalars
 use Rattle.oc_tree.specs.declared.tree.ValueKind.{ValueKind}
 use Rattle.oc_tree.specs.declared.tree.ValueKind.TheVariants as types
 use Rattle.oc_lex.specs.declared.token.Word.TheVariants as words
 use Rattle.oc_lex.specs.declared.token.Mark.TheVariants as marks
-use Rattle.oc_grammar.specs.Lexemes.{Lexeme, Lexemes, named, numeral, keyword, sign, line_of}
+use Rattle.oc_grammar.specs.Lexemes.{Lexeme, Lexemes, named, keyword, sign, line_of}
 use Rattle.oc_grammar.specs.Reading.{Fault, depth_fault, Read, ◌>>=◌, with_some, refuse, refuse_last, too_deep, next_at, strip_mark, strip_word, expect_mark, expect_word, name_at, number_at, take_word}
 use Rattle.oc_grammar.specs.ReadingExpressions.{args_at, whole_at}
 use Rattle.oc_grammar.specs.Statements.{opposite, right_of}

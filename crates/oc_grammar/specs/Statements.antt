@@ -1,8 +1,8 @@
 -- Which statements the tokens spell.
-use Rattle.std.specs.Prelude.{ℕ, zero, suc, ℤ, unsigned_abs, Bool, true, false, Option, Some, None}
+use Rattle.std.specs.Prelude.{ℕ, suc, ℤ, unsigned_abs, Bool, true, false, Option, Some, None}
 use Rattle.std.specs.Int.{w32, int_wrapping_neg}
 use Rattle.oc_tree.specs.Names.{Text}
-use Rattle.oc_tree.specs.Tree.{TExpr, sensed, called, TCall, call, TArgs, TRight, right_value, right_sense, right_call, TKind, let_to, let_array, assign, assign_index, assign_deref, if_else, for_in, while_do, call_only, sense_only, emit, fresh, consistent, return, TElse, no_else, else_do, TStmt, stmt, TBlock, block, TStmts, no_stmts, more}
+use Rattle.oc_tree.specs.Tree.{TExpr, sensed, called, call, TArgs, TRight, right_value, right_sense, right_call, TKind, let_to, let_array, assign, assign_index, assign_deref, if_else, for_in, while_do, call_only, sense_only, emit, fresh, consistent, return, TElse, no_else, else_do, TStmt, stmt, TBlock, block, TStmts, no_stmts, more}
 use Rattle.oc_tree.specs.declared.tree.Scalar.{Scalar}
 use Rattle.oc_tree.specs.declared.tree.Scalar.TheVariants as scalars
 use Rattle.oc_tree.specs.declared.tree.ValueKind.{ValueKind}

@@ -1,12 +1,10 @@
 -- The loop over the items of a program, one turn at a time.
-use Rattle.std.proofs.Common.{◌≡◌, ℕ, zero, suc, ◌+◌, ◌-◌, ◌<◌, ◌≤◌, List, [], ◌∷◌, length, Option, Some, None, Result, Ok, Err, refl, sym, ap, subst, ◌∙◌, arith}
+use Rattle.std.proofs.Common.{◌≡◌, ℕ, zero, suc, ◌<◌, [], ◌∷◌, length, Result, Ok, refl, sym, ◌∙◌, arith}
 use Rattle.oc_tree.specs.Tree.{TProgram}
-use Rattle.oc_tree.specs.declared.tree.Param.{Param}
-use Rattle.oc_grammar.specs.Lexemes.{Lexeme, Lexemes}
-use Rattle.oc_grammar.specs.Reading.{Fault, Read, ◌>>=◌}
-use Rattle.oc_grammar.specs.ReadingPrograms.{param_at, params_at, item_at, items_by, items_at}
+use Rattle.oc_grammar.specs.Lexemes.{Lexemes}
+use Rattle.oc_grammar.specs.Reading.{Fault, ◌>>=◌}
+use Rattle.oc_grammar.specs.ReadingPrograms.{item_at, items_by, items_at}
 use Rattle.oc_grammar.proofs.FrontLaws.{bind_same}
-use Rattle.oc_grammar.proofs.ListLaws.{listed_at}
 use Rattle.oc_grammar.proofs.ProgramLaws.{item_sound, item_shorter}
 use Rattle.oc_parse.specs.declared.stop.Stop.{Stop}
 use Rattle.oc_parse.specs.Steps.{Stopped}

@@ -1,12 +1,12 @@
 -- The line of the last token, and how many are left.
-use Rattle.std.proofs.Common.{◌≡◌, ℕ, zero, suc, ◌+◌, ◌-◌, ◌<◌, ◌≤◌, List, [], ◌∷◌, length, get_or, refl, ◌∙◌, arith}
+use Rattle.std.proofs.Common.{◌≡◌, ℕ, suc, ◌-◌, ◌≤◌, List, [], ◌∷◌, length, get_or, refl, arith}
 use Rattle.std.proofs.lemmas.List.{length-map}
 use Rattle.oc_lex.specs.declared.token.Kind.{Kind}
 use Rattle.oc_lex.specs.declared.token.Kind.TheVariants as kinds
 use Rattle.oc_lex.specs.declared.token.Token.{Token}
 use Rattle.oc_parse.specs.declared.reader.Reader.{Reader}
 use Rattle.oc_parse.specs.Steps.{left}
-use Rattle.oc_grammar.specs.Lexemes.{Lexeme, line_of, lexeme_by, lexeme_of, lexemes_of, last_line}
+use Rattle.oc_grammar.specs.Lexemes.{line_of, lexeme_by, lexemes_of, last_line}
 
 line_by : (line : ℕ) (text : List ℕ) (k : Kind) → line ≡ line_of (lexeme_by line text k)
 line_by line text kinds.Name = refl

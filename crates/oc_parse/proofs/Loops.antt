@@ -1,16 +1,16 @@
 -- The loops of the code, one turn at a time.
-use Rattle.std.proofs.Common.{◌≡◌, ◌≢◌, ℕ, zero, suc, ◌+◌, ◌-◌, ◌<◌, ◌≤◌, List, [], ◌∷◌, ◌++◌, length, map, Option, Some, None, Result, Ok, Err, refl, sym, ap, subst, ◌∙◌, arith, append_assoc}
+use Rattle.std.proofs.Common.{◌≡◌, ℕ, zero, suc, ◌-◌, ◌<◌, List, [], ◌∷◌, ◌++◌, length, Some, None, Result, Ok, Err, refl, sym, ap, subst, ◌∙◌, arith, append_assoc}
 use Rattle.std.proofs.lemmas.List.{append-nil}
-use Rattle.oc_tree.specs.Tree.{TExpr, binary, TArg}
+use Rattle.oc_tree.specs.Tree.{TExpr, binary}
 use Rattle.oc_tree.specs.declared.tree.UnaryOp.{UnaryOp}
 use Rattle.oc_tree.specs.declared.tree.BinaryOp.{BinaryOp}
 use Rattle.oc_lex.specs.declared.token.Mark.TheVariants as marks
 use Rattle.oc_grammar.specs.Lexemes.{Lexemes}
-use Rattle.oc_grammar.specs.Reading.{Fault, syntax_fault, depth_fault, Read, ◌>>=◌, with_some, strip_mark, expect_mark, operator_front, listed_by}
-use Rattle.oc_grammar.specs.ReadingExpressions.{ReadExpr, prefix_by, prefixed_at, spend_at, chain, most, levels, unary_here, level_at, arg_by, arg_at, args_at}
+use Rattle.oc_grammar.specs.Reading.{Fault, Read, ◌>>=◌, strip_mark, expect_mark, operator_front}
+use Rattle.oc_grammar.specs.ReadingExpressions.{ReadExpr, prefix_by, prefixed_at, spend_at, chain, levels, unary_here, level_at, arg_at, args_at}
 use Rattle.oc_grammar.proofs.ListLaws.{Shortens, listed_at, behind, listed_turn, listed_closed}
 use Rattle.oc_grammar.proofs.UnaryLaws.{unary_is, prefixed_is}
-use Rattle.oc_grammar.proofs.ExpressionLaws.{arg_shorter, most_other, spent}
+use Rattle.oc_grammar.proofs.ExpressionLaws.{arg_shorter, spent}
 use Rattle.oc_grammar.proofs.ExpressionsRead.{chain_turn, chain_stopped, no_front}
 use Rattle.oc_parse.specs.declared.stop.Stop.{Stop}
 use Rattle.oc_parse.specs.declared.stop.Stop.TheVariants as stops

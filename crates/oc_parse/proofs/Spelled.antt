@@ -1,8 +1,8 @@
 -- Where the tokens spell a program, reading stops for want of memory alone.
-use Rattle.std.proofs.Common.{◌≡◌, Result, Ok, Err, refl, sym, ◌∙◌}
+use Rattle.std.proofs.Common.{◌≡◌, Err, refl, sym, ◌∙◌}
 use Rattle.oc_tree.specs.Tree.{TProgram}
 use Rattle.oc_grammar.specs.Lexemes.{Lexemes}
-use Rattle.oc_grammar.specs.Reading.{Fault, syntax_fault, depth_fault}
+use Rattle.oc_grammar.specs.Reading.{syntax_fault, depth_fault}
 use Rattle.oc_grammar.specs.Programs.{SpellsProgram}
 use Rattle.oc_grammar.specs.ReadingPrograms.{program_at}
 use Rattle.oc_grammar.proofs.FrontLaws.{done}

@@ -1,12 +1,12 @@
 -- The loop over the statements of a block, one turn at a time.
-use Rattle.std.proofs.Common.{◌≡◌, ℕ, zero, suc, ◌+◌, ◌-◌, ◌<◌, ◌≤◌, List, [], ◌∷◌, ◌++◌, length, map, Bool, true, false, Option, Some, None, Result, Ok, Err, refl, sym, ap, subst, ◌∙◌, arith, append_assoc}
+use Rattle.std.proofs.Common.{◌≡◌, ℕ, zero, suc, ◌+◌, ◌-◌, ◌<◌, List, [], ◌∷◌, ◌++◌, length, Some, None, Ok, Err, refl, sym, ap, ◌∙◌, arith, append_assoc}
 use Rattle.std.proofs.lemmas.List.{append-nil}
-use Rattle.oc_tree.specs.Tree.{TStmt, TBlock, block, no_stmts, more}
+use Rattle.oc_tree.specs.Tree.{TStmt, block, no_stmts, more}
 use Rattle.oc_tree.specs.View.{stmts_of}
 use Rattle.oc_lex.specs.declared.token.Mark.TheVariants as marks
 use Rattle.oc_grammar.specs.Lexemes.{Lexemes}
-use Rattle.oc_grammar.specs.Reading.{Fault, depth_fault, ◌>>=◌, with_some, strip_mark, expect_mark}
-use Rattle.oc_grammar.specs.ReadingStatements.{ReadNumbered, Reader, stmts_by, stmt_at, stmts_at, stmt_here, block_at, chained_at}
+use Rattle.oc_grammar.specs.Reading.{depth_fault, ◌>>=◌, strip_mark, expect_mark}
+use Rattle.oc_grammar.specs.ReadingStatements.{ReadNumbered, stmts_by, stmt_at, stmts_at, stmt_here, block_at, chained_at}
 use Rattle.oc_grammar.proofs.FrontLaws.{bind_same, with_some_same}
 use Rattle.oc_grammar.proofs.StatementLaws.{stmt_sound, stmt_shorter}
 use Rattle.oc_grammar.proofs.StatementsRead.{stmt_is}

@@ -8,7 +8,7 @@ use Rattle.oc_tree.specs.declared.tree.BinaryOp.{BinaryOp}
 use Rattle.oc_tree.specs.declared.tree.Expr.{Expr, the_lemmas}
 use Rattle.oc_tree.specs.declared.tree.Expr as code
 use Rattle.oc_tree.specs.declared.tree.Call.{Call, roll-Call, fold-roll-Call}
-use Rattle.oc_tree.specs.declared.tree.Block.{Block, roll-Block, fold-roll-Block}
+use Rattle.oc_tree.specs.declared.tree.Block.{roll-Block, fold-roll-Block}
 
 pub view_binary : (op : BinaryOp) (p q : _) → expr_view (code.Binary op p q) ≡ binary op (expr_view p.value) (expr_view q.value)
 view_binary op p q = search (rules, the_lemmas)

@@ -2,7 +2,7 @@ use Rattle.std.proofs.Common.{rules, ◌≡◌, ◌<◌, length, refl, arith}
 use Rattle.std.proofs.lemmas.Result.{err_from_is_err_and}
 use Rattle.oc_tree.specs.View.{program_view}
 use Rattle.oc_grammar.specs.Lexemes.{lexemes_of}
-use Rattle.oc_grammar.specs.ReadingPrograms.{items_at, program_at}
+use Rattle.oc_grammar.specs.ReadingPrograms.{program_at}
 use Rattle.oc_parse.specs.Steps.{left}
 use Rattle.oc_parse.proofs.Lines.{count_left}
 use Rattle.oc_parse.proofs.ItemLoops.{items_go_on, items_stop, items_end}

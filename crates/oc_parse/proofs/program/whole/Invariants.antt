@@ -1,4 +1,4 @@
-use Rattle.std.proofs.Common.{◌≡◌, ℕ, length}
+use Rattle.std.proofs.Common.{◌≡◌, length}
 use Rattle.oc_tree.specs.View.{program_view}
 use Rattle.oc_grammar.specs.Lexemes.{lexemes_of}
 use Rattle.oc_grammar.specs.ReadingPrograms.{items_at, program_at}

@@ -1,4 +1,4 @@
-use Rattle.std.proofs.Common.{◌≡◌, ℕ, length, ◌+◌, ◌-◌, ◌*◌, ◌<◌, ◌≤◌, map}
+use Rattle.std.proofs.Common.{◌≡◌, length, ◌+◌, ◌-◌, ◌*◌, ◌<◌, ◌≤◌, map}
 use Rattle.oc_tree.specs.View.{arg_view, expr_view}
 use Rattle.oc_grammar.specs.ReadingExpressions.{chain, level_at, args_at}
 use Rattle.oc_parse.specs.Steps.{left}

@@ -1,4 +1,4 @@
-use Rattle.std.proofs.Common.{◌≡◌, List, [], ◌∷◌, ◌++◌, Some, None, Ok, arith}
+use Rattle.std.proofs.Common.{arith}
 use Rattle.std.proofs.lemmas.Result.{err_from_is_err_and}
 use Rattle.oc_grammar.specs.ReadingPrograms.{param_at, params_at}
 use Rattle.oc_grammar.proofs.ProgramLaws.{param_at_shorter}

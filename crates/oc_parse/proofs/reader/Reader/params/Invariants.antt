@@ -1,4 +1,4 @@
-use Rattle.std.proofs.Common.{◌≡◌, ℕ, length, ◌≤◌}
+use Rattle.std.proofs.Common.{◌≡◌, length, ◌≤◌}
 use Rattle.oc_grammar.specs.ReadingPrograms.{params_at}
 use Rattle.oc_parse.specs.Steps.{left}
 use Rattle.oc_parse.proofs.Loops.{after}

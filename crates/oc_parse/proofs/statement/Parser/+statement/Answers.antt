@@ -1,9 +1,8 @@
-use Rattle.std.proofs.Common.{◌≡◌, ◌+◌, ◌-◌, ◌<◌, List, [], ◌∷◌, ◌++◌, length, map, Some, None, Ok, refl, sym, ap, ◌∙◌, arith}
+use Rattle.std.proofs.Common.{◌≡◌, [], ◌∷◌, ◌++◌, length, map, refl, arith}
 use Rattle.std.proofs.lemmas.Result.{err_from_is_err_and}
 use Rattle.std.proofs.lemmas.List.{map_push, length-map}
-use Rattle.oc_tree.specs.View.{stmt_view, block_view}
-use Rattle.oc_grammar.specs.Lexemes.{lexeme_of}
-use Rattle.oc_grammar.specs.ReadingStatements.{stmts_at, block_at, chained_at}
+use Rattle.oc_tree.specs.View.{stmt_view}
+use Rattle.oc_grammar.specs.ReadingStatements.{stmts_at}
 use Rattle.oc_parse.specs.Steps.{from, left}
 use Rattle.oc_parse.proofs.Views.{view_block}
 use Rattle.oc_parse.proofs.StatementLoops.{block_goes_on, block_stops, block_ends, expect_stops, block_too_deep, inside_stops, block_is, chained_too_deep, chained_stops, chained_is}

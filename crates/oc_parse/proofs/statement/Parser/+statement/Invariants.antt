@@ -1,4 +1,4 @@
-use Rattle.std.proofs.Common.{◌≡◌, ℕ, length, ◌+◌, ◌*◌, ◌≤◌, map}
+use Rattle.std.proofs.Common.{◌≡◌, length, ◌+◌, ◌*◌, ◌≤◌, map}
 use Rattle.oc_tree.specs.View.{stmt_view}
 use Rattle.oc_grammar.specs.ReadingStatements.{stmts_at}
 use Rattle.oc_parse.specs.Steps.{Fits, from}

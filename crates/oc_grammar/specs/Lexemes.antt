@@ -1,0 +1,47 @@
+-- Tokens as the grammar sees them: what each says, and its line.
+use Rattle.std.specs.Prelude.{ℕ, ℤ, List, [], ◌∷◌, map, slice_range}
+use Rattle.oc_tree.specs.Names.{Text}
+use Rattle.oc_lex.specs.declared.token.Kind.{Kind}
+use Rattle.oc_lex.specs.declared.token.Kind.TheVariants as kinds
+use Rattle.oc_lex.specs.declared.token.Word.{Word}
+use Rattle.oc_lex.specs.declared.token.Mark.{Mark}
+use Rattle.oc_lex.specs.declared.token.Token.{Token}
+
+pub data Lexeme : Type 0 where
+  named : (line : ℕ) → Text → Lexeme
+  numeral : (line : ℕ) → ℤ → Lexeme
+  keyword : (line : ℕ) → Word → Lexeme
+  sign : (line : ℕ) → Mark → Lexeme
+
+abbrev pub Lexemes : Type 0
+Lexemes = List Lexeme
+
+abbrev pub lexeme_by : ℕ → Text → Kind → Lexeme
+lexeme_by line text kinds.Name = named line text
+lexeme_by line text (kinds.Number v) = numeral line v
+lexeme_by line text (kinds.Word w) = keyword line w
+lexeme_by line text (kinds.Mark m) = sign line m
+
+-- a token of a source
+abbrev pub lexeme_of : List ℕ → Token → Lexeme
+lexeme_of source t = lexeme_by t.line (slice_range source t.start t.end) t.kind
+
+abbrev pub lexemes_of : List ℕ → List Token → Lexemes
+lexemes_of source tokens = map (lexeme_of source) tokens
+
+abbrev pub line_of : Lexeme → ℕ
+line_of (named line x) = line
+line_of (numeral line v) = line
+line_of (keyword line w) = line
+line_of (sign line m) = line
+
+-- the line of the token in front
+abbrev pub front_line : Lexemes → ℕ
+front_line [] = 1
+front_line (t ∷ ts) = line_of t
+
+-- the line of the last token, or 1 where there is none
+abbrev pub last_line : Lexemes → ℕ
+last_line [] = 1
+last_line (t ∷ []) = line_of t
+last_line (t ∷ ts) = last_line ts

@@ -1,0 +1,9 @@
+pub mod Lexemes
+pub mod Fronts
+pub mod Expressions
+pub mod Reading
+pub mod ReadingExpressions
+pub mod Statements
+pub mod ReadingStatements
+pub mod Programs
+pub mod ReadingPrograms

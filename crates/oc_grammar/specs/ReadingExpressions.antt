@@ -1,0 +1,146 @@
+-- Reading expressions.
+use Rattle.std.specs.Prelude.{ℕ, zero, suc, Bool, true, false, List, length, Result, Ok, ◌==◌, if◌then◌else◌}
+use Rattle.oc_tree.specs.Names.{Text}
+use Rattle.oc_tree.specs.Tree.{TExpr, number, truth, variable, index, deref, unary, binary, sensed, called, TArg, value, shared, mutable, call}
+use Rattle.oc_tree.specs.View.{args_of}
+use Rattle.oc_tree.specs.declared.tree.UnaryOp.{UnaryOp}
+use Rattle.oc_tree.specs.declared.tree.UnaryOp.TheVariants as prefixes
+use Rattle.oc_lex.specs.declared.token.Word.TheVariants as words
+use Rattle.oc_lex.specs.declared.token.Mark.TheVariants as marks
+use Rattle.oc_grammar.specs.Lexemes.{Lexeme, Lexemes, named, numeral, keyword, sign}
+use Rattle.oc_grammar.specs.Reading.{Fault, Read, ◌>>=◌, with_some, refuse_last, too_deep, next_at, strip_mark, expect_mark, name_at, take_word, operator_front, listed_by}
+
+-- the tree, how many more binary operators the whole expression may have, and the tokens behind
+abbrev pub ReadExpr : Type 0
+ReadExpr = Result (TExpr × ℕ × Lexemes) Fault
+
+-- one operator less, or a fault at the operator before
+unfoldable pub spend_at : ℕ → Lexemes → Result ℕ Fault
+spend_at zero ts = too_deep ts
+spend_at (suc n) ts = Ok n
+
+-- what goes on behind a tree of this level, at most k operators
+unfoldable pub chain : ℕ → (ℕ → Lexemes → ReadExpr) → ℕ → TExpr → ℕ → Lexemes → ReadExpr
+chain level part zero e n ts = Ok (e, n, ts)
+chain level part (suc k) e n ts =
+    with_some (operator_front level ts) (Ok (e, n, ts))
+    (λ o. spend_at n o.1 >>= λ m. part m o.1 >>= λ x. chain level part k (binary o.0 e x.0) x.1 x.2)
+
+-- a comparison goes on once, another level as long as there are operators
+abbrev pub most : ℕ → Lexemes → ℕ
+most level ts = if level == 3 then 1 else length ts
+
+unfoldable pub levels : ℕ → (ℕ → Lexemes → ReadExpr) → ℕ → Lexemes → ReadExpr
+levels zero lowest n ts = lowest n ts
+levels (suc level) lowest n ts =
+    levels level lowest n ts >>= λ x. chain (suc level) (levels level lowest) (most (suc level) x.2) x.0 x.1 x.2
+
+-- ---- a unary, where the readings of what is inside are given
+
+abbrev pub prefix_by : (ℕ → Lexemes → ReadExpr) → UnaryOp → ℕ → Lexemes → ReadExpr
+prefix_by inner op n ts = inner n ts >>= λ x. Ok (unary op x.0, x.1, x.2)
+
+abbrev pub parens_by : (ℕ → Lexemes → ReadExpr) → ℕ → Lexemes → ReadExpr
+parens_by inner n ts = inner n ts >>= λ x. expect_mark marks.CloseRound x.2 >>= λ us. Ok (x.0, x.1, us)
+
+abbrev pub element_by : (ℕ → Lexemes → ReadExpr) → Text → ℕ → Lexemes → ReadExpr
+element_by inner a n ts = inner n ts >>= λ x. expect_mark marks.CloseSquare x.2 >>= λ us. Ok (index a x.0, x.1, us)
+
+abbrev pub result_by : (Lexemes → Read (List TArg)) → Text → ℕ → Lexemes → ReadExpr
+result_by args f n ts = args ts >>= λ x. Ok (called (call f (args_of x.0)), n, x.1)
+
+abbrev pub named_by : (ℕ → Lexemes → ReadExpr) → (Lexemes → Read (List TArg)) → Text → ℕ → Lexemes → ReadExpr
+named_by inner args x n ts =
+    with_some (strip_mark marks.OpenRound ts)
+    (with_some (strip_mark marks.OpenSquare ts) (Ok (variable x, n, ts)) (element_by inner x n))
+    (result_by args x n)
+
+abbrev pub input_by : (Lexemes → Read Text) → ℕ → Lexemes → ReadExpr
+input_by sensor n ts = expect_mark marks.OpenRound ts >>= λ us. sensor us >>= λ x. Ok (sensed x.0, n, x.1)
+
+-- a unary that begins with this token
+abbrev pub unary_by : (prefixed inner : ℕ → Lexemes → ReadExpr) → (Lexemes → Read (List TArg)) → (Lexemes → Read Text) → Lexeme → ℕ → Lexemes → ReadExpr
+unary_by prefixed inner args sensor (numeral line v) n ts = Ok (number v, n, ts)
+unary_by prefixed inner args sensor (named line x) n ts = named_by inner args x n ts
+unary_by prefixed inner args sensor (keyword line words.True) n ts = Ok (truth true, n, ts)
+unary_by prefixed inner args sensor (keyword line words.False) n ts = Ok (truth false, n, ts)
+unary_by prefixed inner args sensor (keyword line words.Sense) n ts = input_by sensor n ts
+unary_by prefixed inner args sensor (sign line marks.Star) n ts = name_at ts >>= λ x. Ok (deref x.0, n, x.1)
+unary_by prefixed inner args sensor (sign line marks.OpenRound) n ts = parens_by inner n ts
+unary_by prefixed inner args sensor (sign line marks.Minus) n ts = prefix_by prefixed prefixes.Neg n ts
+unary_by prefixed inner args sensor (sign line marks.Not) n ts = prefix_by prefixed prefixes.Not n ts
+unary_by prefixed inner args sensor _ n ts = refuse_last ts
+
+-- a whole expression, which may have 255 binary operators
+abbrev pub whole_by : (ℕ → Lexemes → ReadExpr) → Lexemes → Read TExpr
+whole_by inner ts = inner 255 ts >>= λ x. Ok (x.0, x.2)
+
+abbrev pub reference : Bool → Text → TArg
+reference true x = mutable x
+reference false x = shared x
+
+abbrev pub reference_by : Bool × Lexemes → Read TArg
+reference_by m = name_at m.1 >>= λ x. Ok (reference m.0 x.0, x.1)
+
+abbrev pub arg_by : (ℕ → Lexemes → ReadExpr) → Lexemes → Read TArg
+arg_by inner ts =
+    with_some (strip_mark marks.Ampersand ts)
+    (whole_by inner ts >>= λ x. Ok (value x.0, x.1))
+    (λ us. reference_by (take_word words.Mutable us))
+
+abbrev pub args_by : (ℕ → Lexemes → ReadExpr) → Lexemes → Read (List TArg)
+args_by inner ts = listed_by (arg_by inner) (suc (length ts)) ts
+
+-- the sensor's name, behind the `(` and up to the `)`
+unfoldable pub sensor_at : Lexemes → Read Text
+sensor_at ts = name_at ts >>= λ x. expect_mark marks.CloseRound x.1 >>= λ us. Ok (x.0, us)
+
+-- ---- with this room for brackets and prefix operators
+
+unfoldable pub unary_at : ℕ → ℕ → Lexemes → ReadExpr
+unary_at zero n ts =
+    next_at ts >>= λ x. unary_by (λ n us. too_deep us) (λ n us. too_deep us) (λ us. too_deep us) (λ us. too_deep us) x.0 n x.1
+unary_at (suc room) n ts =
+    next_at ts >>= λ x. unary_by (unary_at room) (levels 5 (unary_at room)) (args_by (levels 5 (unary_at room))) sensor_at x.0 n x.1
+
+abbrev pub level_at : ℕ → ℕ → ℕ → Lexemes → ReadExpr
+level_at level room n ts = levels level (unary_at room) n ts
+
+-- a whole expression inside brackets that leave so much room
+unfoldable pub part_at : ℕ → Lexemes → Read TExpr
+part_at room ts = whole_by (level_at 5 room) ts
+
+unfoldable pub whole_at : Lexemes → Read TExpr
+whole_at ts = part_at 33 ts
+
+-- ---- the parts of a unary
+
+unfoldable pub prefixed_at : ℕ → ℕ → Lexemes → ReadExpr
+prefixed_at zero n ts = too_deep ts
+prefixed_at (suc room) n ts = unary_at room n ts
+
+unfoldable pub inner_at : ℕ → ℕ → Lexemes → ReadExpr
+inner_at zero n ts = too_deep ts
+inner_at (suc room) n ts = level_at 5 room n ts
+
+unfoldable pub args_at : ℕ → Lexemes → Read (List TArg)
+args_at room ts = args_by (level_at 5 room) ts
+
+unfoldable pub arg_at : ℕ → Lexemes → Read TArg
+arg_at room ts = arg_by (level_at 5 room) ts
+
+unfoldable pub inner_args_at : ℕ → Lexemes → Read (List TArg)
+inner_args_at zero ts = too_deep ts
+inner_args_at (suc room) ts = args_at room ts
+
+unfoldable pub inner_sensor_at : ℕ → Lexemes → Read Text
+inner_sensor_at zero ts = too_deep ts
+inner_sensor_at (suc room) ts = sensor_at ts
+
+unfoldable pub named_at : ℕ → Text → ℕ → Lexemes → ReadExpr
+named_at room x n ts = named_by (inner_at room) (inner_args_at room) x n ts
+
+-- the reading of a unary, by its first token
+unfoldable pub unary_here : ℕ → ℕ → Lexemes → ReadExpr
+unary_here room n ts =
+    next_at ts >>= λ x. unary_by (prefixed_at room) (inner_at room) (inner_args_at room) (inner_sensor_at room) x.0 n x.1

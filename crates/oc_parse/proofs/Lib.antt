@@ -1,0 +1,6 @@
+pub mod ItemLoops
+pub mod Lines
+pub mod Loops
+pub mod Spelled
+pub mod StatementLoops
+pub mod Views

@@ -1,0 +1,26 @@
+-- The trees of expressions that the code makes.
+use Rattle.std.proofs.Common.{rules, ◌≡◌, ℕ, map}
+use Rattle.oc_tree.specs.Tree.{TExpr, TArg, TCall, unary, binary, called, call, TKind, TStmt, TBlock, block}
+use Rattle.oc_tree.specs.View.{expr_view, arg_view, call_view, args_of, arg_step, expr_step, call_step, block_view, stmt_view, stmts_of, kind_step, block_step, stmt_step}
+use Rattle.oc_tree.specs.Names.{Text}
+use Rattle.oc_tree.specs.declared.tree.UnaryOp.{UnaryOp}
+use Rattle.oc_tree.specs.declared.tree.BinaryOp.{BinaryOp}
+use Rattle.oc_tree.specs.declared.tree.Expr.{Expr, the_lemmas}
+use Rattle.oc_tree.specs.declared.tree.Expr as code
+use Rattle.oc_tree.specs.declared.tree.Call.{Call, roll-Call, fold-roll-Call}
+use Rattle.oc_tree.specs.declared.tree.Block.{roll-Block, fold-roll-Block}
+
+pub view_binary : (op : BinaryOp) (p q : _) → expr_view (code.Binary op p q) ≡ binary op (expr_view p.value) (expr_view q.value)
+view_binary op p q = search (rules, the_lemmas)
+
+pub view_unary : (op : UnaryOp) (p : _) → expr_view (code.Unary op p) ≡ unary op (expr_view p.value)
+view_unary op p = search (rules, the_lemmas)
+
+pub view_called : (c : Call) → expr_view (code.Call c) ≡ called (call_view c)
+view_called c = search (rules, the_lemmas)
+
+pub view_call : (f : Text) (args : _) → call_view (roll-Call (record { function = f; args = args })) ≡ call f (args_of (map arg_view args.items))
+view_call f args = fold-roll-Call TArg TExpr TCall arg_step expr_step call_step (record { function = f; args = args })
+
+pub view_block : (b : ℕ) (ss : _) → block_view (roll-Block (record { id = b; statements = ss })) ≡ block b (stmts_of (map stmt_view ss.items))
+view_block b ss = fold-roll-Block TKind TBlock TStmt kind_step block_step stmt_step (record { id = b; statements = ss })

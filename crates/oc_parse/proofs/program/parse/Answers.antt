@@ -1,0 +1,42 @@
+use Rattle.std.proofs.Common.{◌≡◌, length, sym, ◌∙◌, arith}
+use Rattle.std.proofs.lemmas.List.{length-map}
+use Rattle.oc_tree.specs.View.{program_view}
+use Rattle.oc_lex.proofs.StandsLaws.{tokens_count}
+use Rattle.oc_grammar.specs.Lexemes.{lexemes_of}
+use Rattle.oc_grammar.proofs.ProgramLaws.{program_sound, program_read}
+use Rattle.oc_grammar.proofs.NodeLaws.{nodes_within}
+use Rattle.oc_grammar.proofs.FrontLaws.{ok_is}
+use Rattle.oc_parse.specs.declared.stop.Stop.TheVariants as stops
+use Rattle.oc_parse.proofs.Spelled.{only_memory}
+use Rattle.oc_parse.proofs.program.parse.Goals as goal
+
+pub whole-requires : goal.whole-requires
+whole-requires c =
+    let h = tokens_count c.args.source.now c.args.tokens.now c.requires.tokens in
+    let g = c.requires.small in
+    omega arith
+
+pub returns-in-Ok-clause-found : goal.returns-in-Ok-clause-found
+returns-in-Ok-clause-found c = program_sound (lexemes_of c.args.source.now c.args.tokens.now) (program_view c.in-Ok.program) c.in-Ok.ensures
+
+pub returns-in-Ok-clause-only : goal.returns-in-Ok-clause-only
+returns-in-Ok-clause-only c = λ p d. ok_is (program_view c.in-Ok.program) p (sym c.in-Ok.ensures ∙ program_read (lexemes_of c.args.source.now c.args.tokens.now) p d)
+
+pub returns-in-Err-Syntax-clause-only : goal.returns-in-Err-Syntax-clause-only
+returns-in-Err-Syntax-clause-only c = λ p d.
+    let m = only_memory (lexemes_of c.args.source.now c.args.tokens.now) p c.in-Err-Syntax.field-0 c.in-Err-Syntax.ensures d in
+    let k : stops.Syntax c.in-Err-Syntax.left ≡ stops.Memory = sym c.in-Err-Syntax.field-0-is ∙ m in
+    absurd cc
+
+pub returns-in-Err-Depth-clause-only : goal.returns-in-Err-Depth-clause-only
+returns-in-Err-Depth-clause-only c = λ p d.
+    let m = only_memory (lexemes_of c.args.source.now c.args.tokens.now) p c.in-Err-Depth.field-0 c.in-Err-Depth.ensures d in
+    let k : stops.Depth c.in-Err-Depth.left ≡ stops.Memory = sym c.in-Err-Depth.field-0-is ∙ m in
+    absurd cc
+
+pub returns-in-Ok-clause-nodes : goal.returns-in-Ok-clause-nodes
+returns-in-Ok-clause-nodes c =
+    let ts = lexemes_of c.args.source.now c.args.tokens.now in
+    let n = nodes_within ts (program_view c.in-Ok.program) (program_sound ts (program_view c.in-Ok.program) c.in-Ok.ensures) in
+    let k : length ts ≡ length c.args.tokens.now = length-map c.args.tokens.now _ in
+    omega (arith, n, k)

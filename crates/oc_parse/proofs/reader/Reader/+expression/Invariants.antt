@@ -1,0 +1,48 @@
+use Rattle.std.proofs.Common.{◌≡◌, length, ◌+◌, ◌-◌, ◌*◌, ◌<◌, ◌≤◌, map}
+use Rattle.oc_tree.specs.View.{arg_view, expr_view}
+use Rattle.oc_grammar.specs.ReadingExpressions.{chain, level_at, args_at}
+use Rattle.oc_parse.specs.Steps.{left}
+use Rattle.oc_parse.proofs.Loops.{after}
+use Rattle.oc_parse.proofs.reader.Reader.+expression.Given as goal
+
+abbrev pub decreases-unary : goal.decreases-unary
+decreases-unary l = 32 * l.room + 4
+
+abbrev pub decreases-named : goal.decreases-named
+decreases-named l = 32 * l.room + 3
+
+abbrev pub decreases-prefixed : goal.decreases-prefixed
+decreases-prefixed l = 32 * l.room + 2
+
+abbrev pub decreases-inner : goal.decreases-inner
+decreases-inner l = 32 * l.room + 2
+
+abbrev pub decreases-inner_args : goal.decreases-inner_args
+decreases-inner_args l = 32 * l.room + 2
+
+abbrev pub decreases-level : goal.decreases-level
+decreases-level l = 32 * l.room + 2 * l.level + 5
+
+abbrev pub decreases-comparison : goal.decreases-comparison
+decreases-comparison l = 32 * l.room + 10
+
+abbrev pub decreases-part : goal.decreases-part
+decreases-part l = 32 * l.room + 16
+
+abbrev pub decreases-arg : goal.decreases-arg
+decreases-arg l = 32 * l.room + 17
+
+abbrev pub decreases-args : goal.decreases-args
+decreases-args l = 32 * l.room + 18
+
+abbrev pub invariant-args-loop-args : goal.invariant-args-loop-args
+invariant-args-loop-args l = (after (map arg_view l.args.items) (args_at l.room (left l.self)) ≡ args_at l.room (left l.fn.self)) × (length l.self.rest.now ≤ length l.fn.self.rest.now)
+
+abbrev pub decreases-args-loop-args : goal.decreases-args-loop-args
+decreases-args-loop-args l = length l.self.rest.now
+
+abbrev pub invariant-level-loop-op : goal.invariant-level-loop-op
+invariant-level-loop-op l = (chain l.level (level_at (l.level - 1) l.room) (length (left l.self)) (expr_view l.left) l.operators (left l.self) ≡ level_at l.level l.room l.fn.operators (left l.fn.self)) × (length l.self.rest.now < length l.fn.self.rest.now)
+
+abbrev pub decreases-level-loop-op : goal.decreases-level-loop-op
+decreases-level-loop-op l = length l.self.rest.now

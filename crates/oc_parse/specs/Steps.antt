@@ -1,0 +1,87 @@
+-- What the code reads, against the reading.
+use Rattle.std.specs.Prelude.{◌≡◌, ℕ, ◌+◌, ◌≤◌, length, Result, Ok, Err}
+use Rattle.oc_tree.specs.Tree.{TExpr}
+use Rattle.oc_grammar.specs.Lexemes.{Lexemes, lexemes_of}
+use Rattle.oc_grammar.specs.Reading.{Fault, syntax_fault, depth_fault, Read}
+use Rattle.oc_grammar.specs.ReadingExpressions.{ReadExpr}
+use Rattle.std.specs.Prelude.{Bool, false}
+use Rattle.oc_lex.specs.declared.token.Kind.{Kind}
+use Rattle.oc_lex.specs.declared.token.Kind.TheVariants as kinds
+use Rattle.oc_lex.specs.declared.token.Mark.{Mark}
+use Rattle.std.specs.Prelude.{Option, None}
+use Rattle.oc_lex.specs.declared.token.Word.{Word}
+use Rattle.oc_tree.specs.declared.tree.BinaryOp.{BinaryOp}
+use Rattle.oc_grammar.specs.Fronts.{mark_operator}
+use Rattle.oc_grammar.specs.Reading.{same_mark, same_word, at_level}
+use Rattle.oc_parse.specs.declared.stop.Stop.{Stop}
+use Rattle.oc_parse.specs.declared.stop.Stop.TheVariants as stops
+use Rattle.oc_parse.specs.declared.reader.Reader.{Reader}
+use Rattle.oc_parse.specs.declared.statement.Parser.{Parser}
+use Rattle.oc_grammar.specs.ReadingStatements.{ReadNumbered}
+use Rattle.std.specs.Prelude.{◌-◌}
+use Rattle.oc_tree.specs.Tree.{TProgram}
+use Rattle.oc_tree.specs.View.{program_view}
+use Rattle.oc_tree.specs.declared.tree.Program.{Program}
+use Rattle.oc_parse.specs.declared.program.ParseError.{ParseError}
+use Rattle.oc_parse.specs.declared.program.ParseError.TheVariants as errors
+use Rattle.oc_grammar.specs.ReadingStatements as reading
+
+-- the tokens that are left
+abbrev pub left : Reader → Lexemes
+left r = lexemes_of r.source.now r.rest.now
+
+-- reading stops with the same fault, or for want of memory
+abbrev pub Stopped : {Y : Type 0} → Stop → Result Y Fault → Type 0
+Stopped stops.Memory read = Unit {0}
+Stopped (stops.Syntax n) read = read ≡ Err (syntax_fault n)
+Stopped (stops.Depth n) read = read ≡ Err (depth_fault n)
+
+-- the same is read, and the same tokens are left
+abbrev pub Reads : {X Y : Type 0} → (X → Y) → Result X Stop → Lexemes → Read Y → Type 0
+Reads view (Ok x) rest read = read ≡ Ok (view x, rest)
+Reads view (Err e) rest read = Stopped e read
+
+abbrev pub ReadsOver : {X : Type 0} → Result X Stop → Lexemes → Result Lexemes Fault → Type 0
+ReadsOver (Ok x) rest read = read ≡ Ok rest
+ReadsOver (Err e) rest read = Stopped e read
+
+abbrev pub ReadsExpr : {X : Type 0} → (X → TExpr) → Result X Stop → ℕ → Lexemes → ReadExpr → Type 0
+ReadsExpr view (Ok x) n rest read = read ≡ Ok (view x, n, rest)
+ReadsExpr view (Err e) n rest read = Stopped e read
+
+abbrev pub mark_is : Mark → Kind → Bool
+mark_is m (kinds.Mark k) = same_mark k m
+mark_is m _ = false
+
+abbrev pub word_is : Word → Kind → Bool
+word_is w (kinds.Word k) = same_word k w
+word_is w _ = false
+
+abbrev pub kind_operator : ℕ → Kind → Option BinaryOp
+kind_operator level (kinds.Mark m) = at_level level (mark_operator m)
+kind_operator level _ = None
+
+-- a reading, from where the parser is
+abbrev pub from : {A : Type 0} → reading.Reader A → Parser → ReadNumbered A
+from read p = read p.statements p.blocks (left p.reader)
+
+-- the same is read, up to where the parser is
+abbrev pub ReadsTo : {X Y : Type 0} → (X → Y) → Result X Stop → Parser → ReadNumbered Y → Type 0
+ReadsTo view (Ok x) p read = read ≡ Ok (view x, p.statements, p.blocks, left p.reader)
+ReadsTo view (Err e) p read = Stopped e read
+
+-- the numbers of what may still come are below 2^32
+abbrev pub Fits : Parser → Type 0
+Fits p = (p.statements + length p.reader.rest.now ≤ 4294967295) × (p.blocks + length p.reader.rest.now ≤ 4294967295)
+
+-- the same program is read, or reading stops with the same fault or for want of memory
+abbrev pub Whole : Result Program Stop → Result TProgram Fault → Type 0
+Whole (Ok p) read = read ≡ Ok (program_view p)
+Whole (Err e) read = Stopped e read
+
+-- a fault stands at its token, in a list of so many tokens
+abbrev pub Parses : Result Program ParseError → ℕ → Result TProgram Fault → Type 0
+Parses (Ok p) count read = read ≡ Ok (program_view p)
+Parses (Err errors.Memory) count read = Unit {0}
+Parses (Err (errors.Syntax token)) count read = (n : ℕ) × (read ≡ Err (syntax_fault n)) × (token ≡ count - n)
+Parses (Err (errors.Depth token)) count read = (n : ℕ) × (read ≡ Err (depth_fault n)) × (token ≡ count - n)

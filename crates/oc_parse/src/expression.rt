@@ -1,0 +1,259 @@
+//! Expressions.
+ghost use Rattle.std.specs.Prelude.{◌≡◌, ◌+◌, ◌<◌, ◌≤◌, length, map, OnOk};
+ghost use Rattle.oc_tree.specs.View.{arg_view, expr_view};
+ghost use Rattle.oc_grammar.specs.ReadingExpressions.{prefix_by, unary_here, named_at, prefixed_at, inner_at, inner_args_at, inner_sensor_at, sensor_at, args_at, arg_at, part_at, level_at, whole_at};
+ghost use Rattle.oc_parse.specs.Steps.{Reads, ReadsExpr, left};
+
+use crate::reader::Reader;
+use crate::stop::Stop;
+use oc_lex::{Kind, Mark, Word};
+use oc_tree::name::Name;
+use oc_tree::tree::{Arg, Call, Expr, UnaryOp};
+
+/// How many brackets and prefix operators of a whole expression may be in one another.
+pub const BRACKETS: u32 = 33;
+
+/// How many binary operators a whole expression may have.
+const OPERATORS: u32 = 255;
+
+/// The level of unaries.
+const UNARY: u32 = 0;
+
+/// The level of comparisons.
+const COMPARISON: u32 = 3;
+
+/// The level of all expressions.
+const ALL: u32 = 5;
+
+impl Reader<'_> {
+    /// Takes a number, truth value, name, input, call, element or target, an expression in
+    /// parentheses, or a prefix operator with what it stands before.
+    #[cycle(expression)]
+    #[tactic(auto, unfolding(oc_grammar::specs::ReadingExpressions::unary_here, oc_grammar::specs::ReadingExpressions::named_at))]
+    fn unary(&mut self, room: u32, operators: &mut u32) -> Result<Expr, Stop>
+        ensures exact { ReadsExpr expr_view result operators.new (left self.new) (unary_here room operators.old (left self.old)) }
+        ensures shorter { OnOk result (length self.new.rest.now < length self.old.rest.now) }
+    {
+        let token = self.next()?;
+        match token.kind {
+            Kind::Number { value } => Ok(Expr::Number { value }),
+            Kind::Name => {
+                let name = self.name_of(token)?;
+                self.named(room, operators, name)
+            }
+            Kind::Word(Word::True) => Ok(Expr::Truth { value: true }),
+            Kind::Word(Word::False) => Ok(Expr::Truth { value: false }),
+            Kind::Word(Word::Sense) => {
+                self.expect(Mark::OpenRound)?;
+                let sensor = self.inner_sensor(room)?;
+                Ok(Expr::Sense { sensor })
+            }
+            Kind::Mark(Mark::Star) => {
+                let name = self.name()?;
+                Ok(Expr::Deref { name })
+            }
+            Kind::Mark(Mark::OpenRound) => {
+                let inner = self.inner(room, operators)?;
+                self.expect(Mark::CloseRound)?;
+                Ok(inner)
+            }
+            Kind::Mark(Mark::Minus) => self.prefixed(room, operators, UnaryOp::Neg),
+            Kind::Mark(Mark::Not) => self.prefixed(room, operators, UnaryOp::Not),
+            _ => Err(self.refuse_last()),
+        }
+    }
+
+    /// Takes what may follow a name: the arguments of a call or an index.
+    #[cycle(expression)]
+    #[tactic(auto, unfolding(oc_grammar::specs::ReadingExpressions::named_at))]
+    fn named(&mut self, room: u32, operators: &mut u32, name: Name) -> Result<Expr, Stop>
+        ensures exact { ReadsExpr expr_view result operators.new (left self.new) (named_at room name operators.old (left self.old)) }
+        ensures shorter { OnOk result (length self.new.rest.now ≤ length self.old.rest.now) }
+    {
+        if self.take(Mark::OpenRound) {
+            let args = self.inner_args(room)?;
+            let call = Call {
+                function: name,
+                args,
+            };
+            return Ok(Expr::Call { call });
+        }
+        if !self.take(Mark::OpenSquare) {
+            return Ok(Expr::Variable { name });
+        }
+        let index = self.inner(room, operators)?;
+        self.expect(Mark::CloseSquare)?;
+        Ok(Expr::Index {
+            array: name,
+            index: Box::new(self.alloc, index)?,
+        })
+    }
+
+    /// Takes what a prefix operator stands before.
+    #[cycle(expression)]
+    #[tactic(auto, unfolding(oc_grammar::specs::ReadingExpressions::prefixed_at))]
+    fn prefixed(&mut self, room: u32, operators: &mut u32, op: UnaryOp) -> Result<Expr, Stop>
+        ensures exact { ReadsExpr expr_view result operators.new (left self.new) (prefix_by (prefixed_at room) op operators.old (left self.old)) }
+        ensures shorter { OnOk result (length self.new.rest.now < length self.old.rest.now) }
+    {
+        if room == 0 {
+            return Err(self.too_deep());
+        }
+        let inner = self.unary(room - 1, operators)?;
+        Ok(Expr::Unary {
+            op,
+            inner: Box::new(self.alloc, inner)?,
+        })
+    }
+
+    /// Takes the expression behind the bracket just taken.
+    #[cycle(expression)]
+    #[tactic(auto, unfolding(oc_grammar::specs::ReadingExpressions::inner_at))]
+    fn inner(&mut self, room: u32, operators: &mut u32) -> Result<Expr, Stop>
+        ensures exact { ReadsExpr expr_view result operators.new (left self.new) (inner_at room operators.old (left self.old)) }
+        ensures shorter { OnOk result (length self.new.rest.now < length self.old.rest.now) }
+    {
+        if room == 0 {
+            return Err(self.too_deep());
+        }
+        self.level(room - 1, operators, ALL)
+    }
+
+    /// Takes the arguments behind the `(` just taken, in an expression.
+    #[cycle(expression)]
+    #[tactic(auto, unfolding(oc_grammar::specs::ReadingExpressions::inner_args_at))]
+    fn inner_args(&mut self, room: u32) -> Result<Vec<Arg>, Stop>
+        ensures exact { Reads (λ args. map arg_view args.items) result (left self.new) (inner_args_at room (left self.old)) }
+        ensures shorter { OnOk result (length self.new.rest.now < length self.old.rest.now) }
+    {
+        if room == 0 {
+            return Err(self.too_deep());
+        }
+        self.args(room - 1)
+    }
+
+    /// Takes the sensor and the `)` behind the `(` just taken, in an expression.
+    #[tactic(auto, unfolding(oc_grammar::specs::ReadingExpressions::inner_sensor_at))]
+    fn inner_sensor(&mut self, room: u32) -> Result<Name, Stop>
+        ensures exact { Reads (λ x. x) result (left self.new) (inner_sensor_at room (left self.old)) }
+        ensures shorter { OnOk result (length self.new.rest.now < length self.old.rest.now) }
+    {
+        if room == 0 {
+            return Err(self.too_deep());
+        }
+        self.sensor()
+    }
+
+    /// Takes a sensor's name and the `)`.
+    #[tactic(auto, unfolding(oc_grammar::specs::ReadingExpressions::sensor_at))]
+    pub fn sensor(&mut self) -> Result<Name, Stop>
+        ensures exact { Reads (λ x. x) result (left self.new) (sensor_at (left self.old)) }
+        ensures shorter { OnOk result (length self.new.rest.now < length self.old.rest.now) }
+    {
+        let sensor = self.name()?;
+        self.expect(Mark::CloseRound)?;
+        Ok(sensor)
+    }
+
+    /// Takes the arguments of a call up to its `)`, where brackets have this room.
+    #[cycle(expression)]
+    pub fn args(&mut self, room: u32) -> Result<Vec<Arg>, Stop>
+        ensures exact { Reads (λ args. map arg_view args.items) result (left self.new) (args_at room (left self.old)) }
+        ensures shorter { OnOk result (length self.new.rest.now < length self.old.rest.now) }
+    {
+        let mut args = Vec::new(self.alloc);
+        while !self.take(Mark::CloseRound) {
+            args.push(self.arg(room)?)?;
+            if !self.take(Mark::Comma) {
+                self.expect(Mark::CloseRound)?;
+                return Ok(args);
+            }
+        }
+        Ok(args)
+    }
+
+    #[cycle(expression)]
+    #[tactic(auto, unfolding(oc_grammar::specs::ReadingExpressions::arg_at, oc_grammar::specs::ReadingExpressions::part_at, oc_grammar::specs::Reading::take_word))]
+    fn arg(&mut self, room: u32) -> Result<Arg, Stop>
+        ensures exact { Reads arg_view result (left self.new) (arg_at room (left self.old)) }
+        ensures shorter { OnOk result (length self.new.rest.now < length self.old.rest.now) }
+    {
+        if !self.take(Mark::Ampersand) {
+            let value = self.part(room)?;
+            return Ok(Arg::Value { value });
+        }
+        if self.take_word(Word::Mutable) {
+            let name = self.name()?;
+            return Ok(Arg::Mutable { name });
+        }
+        let name = self.name()?;
+        Ok(Arg::Shared { name })
+    }
+
+    /// Takes an expression that is a whole one for its binary operators.
+    #[cycle(expression)]
+    #[tactic(auto, unfolding(oc_grammar::specs::ReadingExpressions::part_at))]
+    fn part(&mut self, room: u32) -> Result<Expr, Stop>
+        ensures exact { Reads expr_view result (left self.new) (part_at room (left self.old)) }
+        ensures shorter { OnOk result (length self.new.rest.now < length self.old.rest.now) }
+    {
+        let mut operators = OPERATORS;
+        self.level(room, &mut operators, ALL)
+    }
+
+    /// Takes an expression of this level: 0 a unary, 1 a product, 2 a sum, 3 a comparison, 4 joined
+    /// by `&&`, 5 joined by `||`.
+    #[cycle(expression)]
+    #[tactic(auto, unfolding(oc_grammar::specs::ReadingExpressions::levels))]
+    fn level(&mut self, room: u32, operators: &mut u32, level: u32) -> Result<Expr, Stop>
+        requires { level ≤ 5 }
+        ensures exact { ReadsExpr expr_view result operators.new (left self.new) (level_at level room operators.old (left self.old)) }
+        ensures shorter { OnOk result (length self.new.rest.now < length self.old.rest.now) }
+    {
+        if level == UNARY {
+            return self.unary(room, operators);
+        }
+        if level == COMPARISON {
+            return self.comparison(room, operators);
+        }
+        let mut left = self.level(room, operators, level - 1)?;
+        while let Some(op) = self.operator(level) {
+            self.spend(operators)?;
+            let right = self.level(room, operators, level - 1)?;
+            left = Expr::Binary {
+                op,
+                left: Box::new(self.alloc, left)?,
+                right: Box::new(self.alloc, right)?,
+            };
+        }
+        Ok(left)
+    }
+
+    #[cycle(expression)]
+    #[tactic(auto, unfolding(oc_grammar::specs::ReadingExpressions::levels, oc_grammar::specs::ReadingExpressions::chain))]
+    fn comparison(&mut self, room: u32, operators: &mut u32) -> Result<Expr, Stop>
+        ensures exact { ReadsExpr expr_view result operators.new (left self.new) (level_at 3 room operators.old (left self.old)) }
+        ensures shorter { OnOk result (length self.new.rest.now < length self.old.rest.now) }
+    {
+        let left = self.level(room, operators, COMPARISON - 1)?;
+        let Some(op) = self.operator(COMPARISON) else {
+            return Ok(left);
+        };
+        self.spend(operators)?;
+        let right = self.level(room, operators, COMPARISON - 1)?;
+        Ok(Expr::Binary {
+            op,
+            left: Box::new(self.alloc, left)?,
+            right: Box::new(self.alloc, right)?,
+        })
+    }
+
+    /// Takes a whole expression.
+    #[tactic(auto, unfolding(oc_grammar::specs::ReadingExpressions::whole_at))]
+    pub fn expression(&mut self) -> Result<Expr, Stop>
+        ensures exact { Reads expr_view result (left self.new) (whole_at (left self.old)) }
+        ensures shorter { OnOk result (length self.new.rest.now < length self.old.rest.now) }
+    {
+        self.part(BRACKETS)
+    }
+}

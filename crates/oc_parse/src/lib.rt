@@ -1,0 +1,14 @@
+//! From tokens to the tree of a program.
+#![tactic(auto)]
+
+mod expression;
+mod item;
+mod program;
+mod reader;
+mod simple;
+mod statement;
+mod stop;
+#[cfg(test)]
+mod tests;
+
+pub use program::{ParseError, parse};

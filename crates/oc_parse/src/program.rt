@@ -1,0 +1,107 @@
+//! Whole programs.
+ghost use Rattle.std.specs.Prelude.{◌≡◌, ◌≤◌, ℕ, List, length, IfOk, MatchResult};
+ghost use Rattle.oc_tree.specs.Tree.{TProgram};
+ghost use Rattle.oc_tree.specs.Nodes.{program_nodes};
+ghost use Rattle.oc_tree.specs.View.{program_view};
+ghost use Rattle.oc_lex.specs.Tokens.{AreTokens};
+ghost use Rattle.oc_grammar.specs.Lexemes.{last_line as last_line_of, lexemes_of};
+ghost use Rattle.oc_grammar.specs.Programs.{SpellsProgram, empty_program};
+ghost use Rattle.oc_grammar.specs.ReadingPrograms.{program_at};
+ghost use Rattle.oc_parse.specs.Steps.{Whole, Parses};
+
+use crate::reader::Reader;
+use crate::statement::Parser;
+use crate::stop::Stop;
+use oc_lex::Token;
+use oc_tree::name::Names;
+use oc_tree::tree::Program;
+use std::alloc::Global;
+use thiserror::Error;
+
+/// Why tokens spell no program within the depths.
+#[derive(Clone, Copy, Debug, PartialEq, Eq, Error)]
+pub enum ParseError {
+    /// No program goes on with this token, or with the end where it is the number of tokens.
+    #[error("no program goes on at the token {token}")]
+    Syntax { token: usize },
+    /// This token passes a depth.
+    #[error("the token {token} passes a depth")]
+    Depth { token: usize },
+    #[error("out of memory")]
+    Memory,
+}
+
+/// The tree of the program that the tokens of a source of at most 1 MiB spell: at most 32 blocks in
+/// one another, and in a whole expression at most 33 brackets and prefix operators in one another
+/// and at most 255 binary operators.
+pub fn parse(alloc: Global, source: &[u8], tokens: &[Token]) -> Result<Program, ParseError>
+    requires tokens { AreTokens source.now tokens.now }
+    requires small { length source.now ≤ 1048576 }
+    // What comes with Ok is spelled by the tokens.
+    ensures found { IfOk result (λ p. SpellsProgram (program_view p) (lexemes_of source.now tokens.now)) }
+    // What the tokens spell comes, unless memory runs out.
+    ensures only { (p : TProgram) → SpellsProgram p (lexemes_of source.now tokens.now) → MatchResult result (λ q. program_view q ≡ p) (λ e. e ≡ ParseError.Memory) }
+    // Its expressions have no more nodes than there are tokens.
+    ensures nodes { IfOk result (λ p. program_nodes (program_view p) ≤ length tokens.now) }
+    // A fault is the first that reading from left to right comes to.
+    ensures fault { Parses result (length tokens.now) (program_at (lexemes_of source.now tokens.now)) }
+{
+    match whole(alloc, source, tokens) {
+        Ok(program) => Ok(program),
+        Err(Stop::Memory) => Err(ParseError::Memory),
+        Err(Stop::Syntax { left }) => Err(ParseError::Syntax {
+            token: tokens.len().saturating_sub(left),
+        }),
+        Err(Stop::Depth { left }) => Err(ParseError::Depth {
+            token: tokens.len().saturating_sub(left),
+        }),
+    }
+}
+
+fn whole(alloc: Global, source: &[u8], tokens: &[Token]) -> Result<Program, Stop>
+    requires { length tokens.now ≤ 1048576 }
+    ensures { Whole result (program_at (lexemes_of source.now tokens.now)) }
+{
+    let mut program = empty(alloc, last_line(tokens));
+    let reader = Reader {
+        alloc,
+        source,
+        rest: tokens,
+    };
+    let mut parser = Parser {
+        reader,
+        statements: 1,
+        blocks: 1,
+    };
+    while !parser.reader.rest.is_empty() {
+        parser.item(&mut program)?;
+    }
+    Ok(program)
+}
+
+/// The line of the last token, or 1 where there is none.
+fn last_line(tokens: &[Token]) -> u32
+    ensures { (source : List ℕ) → result ≡ last_line_of (lexemes_of source tokens.now) }
+{
+    match tokens {
+        [] => 1,
+        [.., last] => last.line,
+    }
+}
+
+/// A program without declarations.
+fn empty(alloc: Global, last_line: u32) -> Program
+    ensures { program_view result ≡ empty_program last_line }
+{
+    Program {
+        names: Names {
+            sensors: Vec::new(alloc),
+            ports: Vec::new(alloc),
+            nvs: Vec::new(alloc),
+        },
+        nv: Vec::new(alloc),
+        functions: Vec::new(alloc),
+        order: Vec::new(alloc),
+        last_line,
+    }
+}

@@ -1,0 +1,265 @@
+//! The tokens that are left.
+ghost use Rattle.std.specs.Prelude.{◌≡◌, suc, ◌+◌, length, Ok, Some, None, is_some, MatchBool, MatchOption, MatchResult, OnOk, IfNone, IfSome, slice_range};
+ghost use Rattle.oc_grammar.specs.Reading.{next_at, strip_mark, strip_word, expect_mark, expect_word, name_at, number_at, take_word, operator_front};
+ghost use Rattle.oc_grammar.specs.ReadingExpressions.{spend_at};
+ghost use Rattle.std.specs.Bool.{OnFalse};
+ghost use Rattle.oc_grammar.specs.Lexemes.{lexeme_of};
+ghost use Rattle.oc_parse.specs.Steps.{Reads, ReadsOver, Stopped, left, mark_is, word_is, kind_operator};
+
+use crate::stop::Stop;
+use oc_lex::{Kind, Mark, Token, Word};
+use oc_tree::name::Name;
+use oc_tree::tree::BinaryOp;
+use std::alloc::Global;
+
+/// A source and those of its tokens that are left.
+#[derive(Drop)]
+pub struct Reader<'a> {
+    pub alloc: Global,
+    pub source: &'a [u8],
+    pub rest: &'a [Token],
+}
+
+/// The operator that a token is, if it is one of this level.
+fn operator_in(level: u32, token: Token) -> Option<BinaryOp>
+    ensures { result ≡ kind_operator level token.kind }
+{
+    let (op, at) = match token.kind {
+        Kind::Mark(Mark::Star) => (BinaryOp::Mul, 1),
+        Kind::Mark(Mark::Slash) => (BinaryOp::Div, 1),
+        Kind::Mark(Mark::Percent) => (BinaryOp::Rem, 1),
+        Kind::Mark(Mark::Plus) => (BinaryOp::Add, 2),
+        Kind::Mark(Mark::Minus) => (BinaryOp::Sub, 2),
+        Kind::Mark(Mark::Equal) => (BinaryOp::Eq, 3),
+        Kind::Mark(Mark::NotEqual) => (BinaryOp::Ne, 3),
+        Kind::Mark(Mark::Less) => (BinaryOp::Lt, 3),
+        Kind::Mark(Mark::LessEqual) => (BinaryOp::Le, 3),
+        Kind::Mark(Mark::Greater) => (BinaryOp::Gt, 3),
+        Kind::Mark(Mark::GreaterEqual) => (BinaryOp::Ge, 3),
+        Kind::Mark(Mark::And) => (BinaryOp::And, 4),
+        Kind::Mark(Mark::Or) => (BinaryOp::Or, 5),
+        _ => return None,
+    };
+    if at == level { Some(op) } else { None }
+}
+
+fn is_mark(token: Token, mark: Mark) -> bool
+    ensures { result ≡ mark_is mark token.kind }
+{
+    match token.kind {
+        Kind::Mark(found) => found == mark,
+        _ => false,
+    }
+}
+
+fn is_word(token: Token, word: Word) -> bool
+    ensures { result ≡ word_is word token.kind }
+{
+    match token.kind {
+        Kind::Word(found) => found == word,
+        _ => false,
+    }
+}
+
+impl Reader<'_> {
+    /// The fault that no form goes on with the token in front.
+    pub fn refuse(&self) -> Stop
+        ensures { result ≡ Stop.Syntax (length self.now.rest.now) }
+    {
+        Stop::Syntax {
+            left: self.rest.len(),
+        }
+    }
+
+    /// Takes the token in front.
+    #[tactic(auto, unfolding(oc_grammar::specs::Reading::next_at))]
+    pub fn next(&mut self) -> Result<Token, Stop>
+        ensures exact { Reads (lexeme_of self.new.source.now) result (left self.new) (next_at (left self.old)) }
+        ensures shorter { OnOk result (length self.new.rest.now + 1 ≡ length self.old.rest.now) }
+    {
+        match self.rest {
+            [] => Err(self.refuse()),
+            [token, rest @ ..] => {
+                self.rest = rest;
+                Ok(*token)
+            }
+        }
+    }
+
+    /// Takes this mark, if it is in front.
+    #[tactic(auto, unfolding(oc_grammar::specs::Reading::strip_mark))]
+    pub fn take(&mut self, mark: Mark) -> bool
+        ensures exact { MatchBool result (strip_mark mark (left self.old) ≡ Some (left self.new)) (strip_mark mark (left self.old) ≡ None) }
+        ensures kept { OnFalse result (left self.new ≡ left self.old) }
+        ensures shorter { MatchBool result (length self.new.rest.now + 1 ≡ length self.old.rest.now) (length self.new.rest.now ≡ length self.old.rest.now) }
+    {
+        let [token, rest @ ..] = self.rest else {
+            return false;
+        };
+        let found = is_mark(*token, mark);
+        if found {
+            self.rest = rest;
+        }
+        found
+    }
+
+    /// Takes this word, if it is in front.
+    #[tactic(auto, unfolding(oc_grammar::specs::Reading::strip_word, oc_grammar::specs::Reading::take_word))]
+    pub fn take_word(&mut self, word: Word) -> bool
+        ensures pair { (result, left self.new) ≡ take_word word (left self.old) }
+        ensures exact { MatchBool result (strip_word word (left self.old) ≡ Some (left self.new)) (strip_word word (left self.old) ≡ None) }
+        ensures kept { OnFalse result (left self.new ≡ left self.old) }
+        ensures shorter { MatchBool result (length self.new.rest.now + 1 ≡ length self.old.rest.now) (length self.new.rest.now ≡ length self.old.rest.now) }
+    {
+        let [token, rest @ ..] = self.rest else {
+            return false;
+        };
+        let found = is_word(*token, word);
+        if found {
+            self.rest = rest;
+        }
+        found
+    }
+
+    /// Takes this mark.
+    #[tactic(auto, unfolding(oc_grammar::specs::Reading::expect_mark))]
+    pub fn expect(&mut self, mark: Mark) -> Result<(), Stop>
+        ensures exact { ReadsOver result (left self.new) (expect_mark mark (left self.old)) }
+        ensures shorter { OnOk result (length self.new.rest.now + 1 ≡ length self.old.rest.now) }
+    {
+        if self.take(mark) {
+            Ok(())
+        } else {
+            Err(self.refuse())
+        }
+    }
+
+    /// Takes this word.
+    #[tactic(auto, unfolding(oc_grammar::specs::Reading::expect_word))]
+    pub fn expect_word(&mut self, word: Word) -> Result<(), Stop>
+        ensures exact { ReadsOver result (left self.new) (expect_word word (left self.old)) }
+        ensures shorter { OnOk result (length self.new.rest.now + 1 ≡ length self.old.rest.now) }
+    {
+        if self.take_word(word) {
+            Ok(())
+        } else {
+            Err(self.refuse())
+        }
+    }
+
+    /// Takes a number.
+    #[tactic(auto, unfolding(oc_grammar::specs::Reading::number_at))]
+    pub fn number(&mut self) -> Result<i32, Stop>
+        ensures exact { Reads (λ v. v) result (left self.new) (number_at (left self.old)) }
+        ensures shorter { OnOk result (length self.new.rest.now + 1 ≡ length self.old.rest.now) }
+    {
+        let [token, rest @ ..] = self.rest else {
+            return Err(self.refuse());
+        };
+        let Kind::Number { value } = token.kind else {
+            return Err(self.refuse());
+        };
+        self.rest = rest;
+        Ok(value)
+    }
+
+    /// The text of a token.
+    fn text(&self, token: Token) -> &[u8]
+        ensures { result.now ≡ slice_range self.now.source.now token.start token.end }
+    {
+        let end = token.end.min(self.source.len());
+        let start = token.start.min(end);
+        &self.source[start..end]
+    }
+
+    /// The name that a token is.
+    pub fn name_of(&self, token: Token) -> Result<Name, Stop>
+        ensures { MatchResult result (λ name. name ≡ slice_range self.now.source.now token.start token.end) (λ e. e ≡ Stop.Memory) }
+    {
+        let bytes = self.text(token).iter().copied().collect(self.alloc)?;
+        Ok(Name::new(bytes))
+    }
+
+    /// Takes a name.
+    #[tactic(auto, unfolding(oc_grammar::specs::Reading::name_at))]
+    pub fn name(&mut self) -> Result<Name, Stop>
+        ensures exact { Reads (λ x. x) result (left self.new) (name_at (left self.old)) }
+        ensures shorter { OnOk result (length self.new.rest.now + 1 ≡ length self.old.rest.now) }
+    {
+        let [token, rest @ ..] = self.rest else {
+            return Err(self.refuse());
+        };
+        let Kind::Name = token.kind else {
+            return Err(self.refuse());
+        };
+        let name = self.name_of(*token)?;
+        self.rest = rest;
+        Ok(name)
+    }
+
+    /// Takes an operator of this level, if one is in front.
+    #[tactic(auto, unfolding(oc_grammar::specs::Reading::operator_front))]
+    pub fn operator(&mut self, level: u32) -> Option<BinaryOp>
+        ensures exact { MatchOption result (operator_front level (left self.old) ≡ None) (λ op. operator_front level (left self.old) ≡ Some (op, left self.new)) }
+        ensures kept { IfNone result (left self.new ≡ left self.old) }
+        ensures shorter { IfSome result (λ op. length self.new.rest.now + 1 ≡ length self.old.rest.now) }
+    {
+        let [token, rest @ ..] = self.rest else {
+            return None;
+        };
+        let op = operator_in(level, *token)?;
+        self.rest = rest;
+        Some(op)
+    }
+
+    /// The fault that no form goes on with the token just taken.
+    pub fn refuse_last(&self) -> Stop
+        ensures { result ≡ Stop.Syntax (suc (length self.now.rest.now)) }
+    {
+        Stop::Syntax {
+            left: self.rest.len() + 1,
+        }
+    }
+
+    /// The fault that the token just taken passes a depth.
+    pub fn too_deep(&self) -> Stop
+        ensures { result ≡ Stop.Depth (suc (length self.now.rest.now)) }
+    {
+        Stop::Depth {
+            left: self.rest.len() + 1,
+        }
+    }
+
+    /// The fault that the token in front passes a depth.
+    pub fn too_deep_here(&self) -> Stop
+        ensures { result ≡ Stop.Depth (length self.now.rest.now) }
+    {
+        Stop::Depth {
+            left: self.rest.len(),
+        }
+    }
+
+    /// Whether this word is in front.
+    #[tactic(auto, unfolding(oc_grammar::specs::Reading::strip_word))]
+    pub fn stands(&self, word: Word) -> bool
+        ensures { result ≡ is_some (strip_word word (left self.now)) }
+    {
+        let [token, ..] = self.rest else {
+            return false;
+        };
+        is_word(*token, word)
+    }
+
+    /// Takes one from the binary operators that an expression may still have, for the operator just
+    /// taken.
+    #[tactic(auto, unfolding(oc_grammar::specs::ReadingExpressions::spend_at))]
+    pub fn spend(&self, operators: &mut u32) -> Result<(), Stop>
+        ensures { MatchResult result (λ x. spend_at operators.old (left self.now) ≡ Ok operators.new) (λ e. Stopped e (spend_at operators.old (left self.now))) }
+    {
+        if *operators == 0 {
+            return Err(self.too_deep());
+        }
+        *operators -= 1;
+        Ok(())
+    }
+}

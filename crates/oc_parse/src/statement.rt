@@ -1,0 +1,196 @@
+//! Statements and blocks.
+ghost use Rattle.std.specs.Prelude.{◌≡◌, ◌+◌, ◌<◌, ◌≤◌, length, map, OnOk};
+ghost use Rattle.oc_tree.specs.View.{block_view, else_view, kind_view, stmt_view, stmts_view};
+ghost use Rattle.oc_grammar.specs.Lexemes.{lexeme_of};
+ghost use Rattle.oc_grammar.specs.ReadingStatements.{kind_by, if_by, for_by, while_by, stmt_here, stmt_at, stmts_at, block_at, chained_at, else_at};
+ghost use Rattle.oc_parse.specs.Steps.{Fits, ReadsTo, from, left};
+
+use crate::reader::Reader;
+use crate::stop::Stop;
+use oc_lex::{Kind, Mark, Token, Word};
+use oc_tree::tree::{Block, Stmt, StmtKind};
+
+/// How many blocks may be in one another.
+pub const BLOCKS: u32 = 32;
+
+/// The tokens that are left, and the numbers of the next statement and block.
+#[derive(Drop)]
+pub struct Parser<'a> {
+    pub reader: Reader<'a>,
+    pub statements: u32,
+    pub blocks: u32,
+}
+
+impl Parser<'_> {
+    /// Takes a statement, in which so many more blocks may be in one another.
+    #[cycle(statement)]
+    #[tactic(auto, unfolding(oc_grammar::specs::ReadingStatements::stmt_here))]
+    fn statement(&mut self, room: u32) -> Result<Stmt, Stop>
+        requires { Fits self.old }
+        ensures exact { ReadsTo stmt_view result self.new (from (stmt_here room) self.old) }
+        ensures fits { OnOk result (Fits self.new) }
+        ensures shorter { OnOk result (length self.new.reader.rest.now < length self.old.reader.rest.now) }
+    {
+        let token = self.reader.next()?;
+        let id = self.statements;
+        self.statements += 1;
+        let kind = self.kind(room, token)?;
+        Ok(Stmt {
+            id,
+            line: token.line,
+            kind,
+        })
+    }
+
+    /// Takes what a statement does, whose first token was just taken.
+    #[cycle(statement)]
+    fn kind(&mut self, room: u32, token: Token) -> Result<StmtKind, Stop>
+        requires { Fits self.old }
+        ensures exact { ReadsTo kind_view result self.new (from (kind_by (block_at room) (else_at room) (lexeme_of self.old.reader.source.now token)) self.old) }
+        ensures fits { OnOk result (Fits self.new) }
+        ensures shorter { OnOk result (length self.new.reader.rest.now < length self.old.reader.rest.now) }
+    {
+        match token.kind {
+            Kind::Word(Word::If) => self.if_statement(room),
+            Kind::Word(Word::For) => self.for_statement(room),
+            Kind::Word(Word::While) => self.while_statement(room),
+            _ => {
+                let kind = self.reader.simple(token)?;
+                Ok(kind)
+            }
+        }
+    }
+
+    #[cycle(statement)]
+    #[tactic(auto, unfolding(oc_grammar::specs::ReadingStatements::if_by))]
+    fn if_statement(&mut self, room: u32) -> Result<StmtKind, Stop>
+        requires { Fits self.old }
+        ensures exact { ReadsTo kind_view result self.new (from (if_by (block_at room) (else_at room)) self.old) }
+        ensures fits { OnOk result (Fits self.new) }
+        ensures shorter { OnOk result (length self.new.reader.rest.now < length self.old.reader.rest.now) }
+    {
+        let condition = self.reader.expression()?;
+        let then = self.block(room)?;
+        let otherwise = self.otherwise(room)?;
+        Ok(StmtKind::If {
+            condition,
+            then,
+            otherwise,
+        })
+    }
+
+    #[cycle(statement)]
+    #[tactic(auto, unfolding(oc_grammar::specs::ReadingStatements::for_by))]
+    fn for_statement(&mut self, room: u32) -> Result<StmtKind, Stop>
+        requires { Fits self.old }
+        ensures exact { ReadsTo kind_view result self.new (from (for_by (block_at room)) self.old) }
+        ensures fits { OnOk result (Fits self.new) }
+        ensures shorter { OnOk result (length self.new.reader.rest.now < length self.old.reader.rest.now) }
+    {
+        let name = self.reader.name()?;
+        self.reader.expect_word(Word::In)?;
+        let from = self.reader.constant()?;
+        self.reader.expect(Mark::Range)?;
+        let to = self.reader.constant()?;
+        let body = self.block(room)?;
+        Ok(StmtKind::For {
+            name,
+            from,
+            to,
+            body,
+        })
+    }
+
+    #[cycle(statement)]
+    #[tactic(auto, unfolding(oc_grammar::specs::ReadingStatements::while_by))]
+    fn while_statement(&mut self, room: u32) -> Result<StmtKind, Stop>
+        requires { Fits self.old }
+        ensures exact { ReadsTo kind_view result self.new (from (while_by (block_at room)) self.old) }
+        ensures fits { OnOk result (Fits self.new) }
+        ensures shorter { OnOk result (length self.new.reader.rest.now < length self.old.reader.rest.now) }
+    {
+        let condition = self.reader.expression()?;
+        self.reader.expect_word(Word::Bound)?;
+        let bound = self.reader.number()?;
+        let body = self.block(room)?;
+        Ok(StmtKind::While {
+            condition,
+            bound: bound.unsigned_abs(),
+            body,
+        })
+    }
+
+    /// Takes an `else` with its block or `if`, if there is one.
+    #[cycle(statement)]
+    #[tactic(auto, unfolding(oc_grammar::specs::ReadingStatements::else_at))]
+    fn otherwise(&mut self, room: u32) -> Result<Option<Block>, Stop>
+        requires { Fits self.old }
+        ensures exact { ReadsTo else_view result self.new (from (else_at room) self.old) }
+        ensures fits { OnOk result (Fits self.new) }
+        ensures shorter { OnOk result (length self.new.reader.rest.now ≤ length self.old.reader.rest.now) }
+    {
+        if !self.reader.take_word(Word::Else) {
+            return Ok(None);
+        }
+        let block = if self.reader.stands(Word::If) {
+            self.chained(room)?
+        } else {
+            self.block(room)?
+        };
+        Ok(Some(block))
+    }
+
+    /// Takes the `if` in front as the only statement of a block that it opens.
+    #[cycle(statement)]
+    fn chained(&mut self, room: u32) -> Result<Block, Stop>
+        requires fits { Fits self.old }
+        requires more { self.old.blocks + length self.old.reader.rest.now < 4294967295 }
+        ensures exact { ReadsTo block_view result self.new (from (chained_at room) self.old) }
+        ensures fits { OnOk result (Fits self.new) }
+        ensures shorter { OnOk result (length self.new.reader.rest.now < length self.old.reader.rest.now) }
+    {
+        if room == 0 {
+            return Err(self.reader.too_deep_here());
+        }
+        let id = self.blocks;
+        self.blocks += 1;
+        let statement = self.statement(room - 1)?;
+        let mut statements = Vec::new(self.reader.alloc);
+        statements.push(statement)?;
+        Ok(Block { id, statements })
+    }
+
+    /// Takes a block.
+    #[cycle(statement)]
+    pub fn block(&mut self, room: u32) -> Result<Block, Stop>
+        requires { Fits self.old }
+        ensures exact { ReadsTo block_view result self.new (from (block_at room) self.old) }
+        ensures fits { OnOk result (Fits self.new) }
+        ensures shorter { OnOk result (length self.new.reader.rest.now < length self.old.reader.rest.now) }
+    {
+        self.reader.expect(Mark::OpenCurly)?;
+        if room == 0 {
+            return Err(self.reader.too_deep());
+        }
+        let id = self.blocks;
+        self.blocks += 1;
+        let statements = self.statements(room - 1)?;
+        Ok(Block { id, statements })
+    }
+
+    /// Takes the statements of a block up to its `}`.
+    #[cycle(statement)]
+    fn statements(&mut self, room: u32) -> Result<Vec<Stmt>, Stop>
+        requires { Fits self.old }
+        ensures exact { ReadsTo (λ ss. map stmt_view ss.items) result self.new (from (stmts_at room) self.old) }
+        ensures fits { OnOk result (Fits self.new) }
+        ensures shorter { OnOk result (length self.new.reader.rest.now < length self.old.reader.rest.now) }
+    {
+        let mut statements = Vec::new(self.reader.alloc);
+        while !self.reader.take(Mark::CloseCurly) {
+            let statement = self.statement(room)?;
+            statements.push(statement)?;
+        }
+        Ok(statements)
+    }
+}

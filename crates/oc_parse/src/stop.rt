@@ -1,0 +1,29 @@
+//! Why reading stops.
+ghost use Rattle.std.specs.Prelude.{◌≡◌};
+ghost use Rattle.oc_parse.specs.declared.stop.Stop.TheVariants.{Memory};
+
+use std::alloc::{AllocError, AllocFailed};
+
+/// Why reading stops: memory, or the token with which so many tokens are left.
+#[derive(Clone, Copy, Debug, PartialEq, Eq)]
+pub enum Stop {
+    Memory,
+    Syntax { left: usize },
+    Depth { left: usize },
+}
+
+impl From<AllocError> for Stop {
+    ghost from_gives = { λ _ e. e ≡ Memory };
+
+    fn from(_failed: AllocError) -> Stop {
+        Stop::Memory
+    }
+}
+
+impl<T: Drop> From<AllocFailed<T>> for Stop {
+    ghost from_gives = { λ _ e. e ≡ Memory };
+
+    fn from(_failed: AllocFailed<T>) -> Stop {
+        Stop::Memory
+    }
+}

@@ -1,5 +1,5 @@
 -- The steps before the first byte is written.
-use Rattle.std.specs.Prelude.{ℕ, ◌<◌, ◌^◌, ◌≡◌, ◌⊎◌, true, List, length}
+use Rattle.std.specs.Prelude.{ℕ, ◌<◌, ◌^◌, ◌≡◌, ◌⊎◌, true, false, List, length}
 use Rattle.oc_io.specs.declared.period.Period.{Period}
 use Rattle.oc_power.specs.Power.{Power, power_file}
 use Rattle.oc_power.specs.Power as power_rows
@@ -23,7 +23,7 @@ use Rattle.oc_small.specs.Meant.{RunsAs}
 use Rattle.oc_top.specs.Commands.{Plan}
 use Rattle.oc_top.specs.Files.{Files}
 use Rattle.oc_top.specs.Sources.{Reading, ReadsAs, faulty, other, program}
-use Rattle.oc_top.specs.Verdict.{verdict, refuses}
+use Rattle.oc_top.specs.Verdict.{verdict, is_of_run, refuses}
 use Rattle.oc_top.specs.declared.answer.Answer.{Answer}
 use Rattle.oc_top.specs.declared.answer.Answer.TheVariants as answer
 
@@ -74,4 +74,4 @@ pub record IsReady (files : Files) (plan : Plan) (machine : Running) (sensors : 
 -- the files are refused with this answer, or there was no memory
 pub data IsTurnedDown (files : Files) (plan : Plan) (end : Answer) : Type 0 where
   by_memory : end ≡ answer.Memory → IsTurnedDown files plan end
-  by_files : (reading : Reading) → ReadsAs files.source reading → verdict reading files plan ≡ refuses end → IsTurnedDown files plan end
+  by_files : (reading : Reading) → ReadsAs files.source reading → is_of_run end ≡ false → verdict reading files plan ≡ refuses end → IsTurnedDown files plan end

@@ -1,9 +1,8 @@
 //! The top call.
-ghost use Rattle.std.specs.Prelude.{◌≡◌, ◌+◌, ◌<◌, ◌⊎◌, map, length, option_map, Some};
+ghost use Rattle.std.specs.Prelude.{◌≡◌, ◌+◌, ◌<◌, ◌⊎◌, map, length, Some};
 ghost use Rattle.std.specs.String.{string_bytes};
 ghost use Rattle.oc_io.specs.Faults.{Rose, TookPart};
-ghost use Rattle.oc_power.specs.Choice.{first_with};
-ghost use Rattle.oc_top.specs.Commands.{command_of};
+ghost use Rattle.oc_top.specs.Commands.{command_of, plans_of};
 ghost use Rattle.oc_top.specs.Answers.{Comes, Outcome, line_of, status_of};
 
 use crate::answer::{Answer, put_line, status};
@@ -63,7 +62,7 @@ fn obey<F: Shelf, O: Sink>(
     supplies: Vec<Box<dyn Supply>>,
 ) -> Answer
     requires { command_of (map string_bytes words.now) ≡ Some command }
-    ensures { Comes (F.holds shelf.old) (λ k. option_map (λ b. plan b) (first_with (λ b. number b) k supplies.items)) (map string_bytes words.now) (Rose (F.faults shelf.old) (F.faults shelf.new)) O.took O.faults out.old out.new result }
+    ensures { Comes (F.holds shelf.old) (plans_of (λ b. number b) (λ b. plan b) supplies.items) (map string_bytes words.now) (Rose (F.faults shelf.old) (F.faults shelf.new)) O.took O.faults out.old out.new result }
 {
     match choose(supplies, command.supply) {
         Some(supply) => run_with(alloc, words, command.first, shelf, out, supply),
@@ -79,7 +78,7 @@ fn answer_words<F: Shelf, O: Sink>(
     out: &mut O,
     supplies: Vec<Box<dyn Supply>>,
 ) -> Answer
-    ensures { Comes (F.holds shelf.old) (λ k. option_map (λ b. plan b) (first_with (λ b. number b) k supplies.items)) (map string_bytes words.now) (Rose (F.faults shelf.old) (F.faults shelf.new)) O.took O.faults out.old out.new result }
+    ensures { Comes (F.holds shelf.old) (plans_of (λ b. number b) (λ b. plan b) supplies.items) (map string_bytes words.now) (Rose (F.faults shelf.old) (F.faults shelf.new)) O.took O.faults out.old out.new result }
 {
     match read_command(words) {
         Some(command) => obey(alloc, words, command, shelf, out, supplies),
@@ -97,7 +96,7 @@ pub fn ocelot<F: Shelf, O: Sink, E: Sink>(
     supplies: Vec<Box<dyn Supply>>,
 ) -> u8
     ensures { (answer : SomeAnswer) × (result ≡ status_of answer)
-        × Comes (F.holds shelf.old) (λ k. option_map (λ b. plan b) (first_with (λ b. number b) k supplies.items)) (map string_bytes words.now) (Rose (F.faults shelf.old) (F.faults shelf.new)) O.took O.faults out.old out.new answer
+        × Comes (F.holds shelf.old) (plans_of (λ b. number b) (λ b. plan b) supplies.items) (map string_bytes words.now) (Rose (F.faults shelf.old) (F.faults shelf.new)) O.took O.faults out.old out.new answer
         × (E.took err.old (line_of (map string_bytes words.now) answer) err.new ⊎ (Rose (E.faults err.old) (E.faults err.new) × TookPart E.took err.old (line_of (map string_bytes words.now) answer) err.new)) }
 {
     let answer = answer_words(alloc, words, shelf, out, supplies);

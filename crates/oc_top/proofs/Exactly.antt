@@ -136,3 +136,133 @@ module _ {S : Type 0} (holds : List ℕ → Held) (words : List (List ℕ)) (tas
   exactly files reading h reads quiet silent (refused other f apart j t) = inl (judged_same files other reading (refuses end) (same_files holds words task.first files other h f) reads j)
   exactly files reading h reads quiet silent (ran other f run r w) =
       inl (written_answer run silent w ∙ judged_same files other reading run (same_files holds words task.first files other h f) reads (run_judged other run r))
+
+-- ---- commands
+
+some_same : (s t : Task) → ◌≡◌ {A = Option Task} (Some s) (Some t) → s ≡ t
+some_same s t e = cc
+
+abbrev is_usage : Answer → Bool
+is_usage answer.Usage = true
+is_usage other = false
+
+usage_is : (end : Answer) → status_of end ≡ 1 → end ≡ answer.Usage
+usage_is answer.Usage e = refl
+usage_is (answer.Unreadable word) e = absurd (omega (arith, e))
+usage_is (answer.TooLong word) e = absurd (omega (arith, e))
+usage_is (answer.Syntax line) e = absurd (omega (arith, e))
+usage_is answer.NotBuilt e = absurd (omega (arith, e))
+usage_is (answer.BadSensors row) e = absurd (omega (arith, e))
+usage_is (answer.BadPower row) e = absurd (omega (arith, e))
+usage_is answer.WriteFault e = absurd (omega (arith, e))
+usage_is answer.End e = absurd (omega (arith, e))
+usage_is answer.Trapped e = absurd (omega (arith, e))
+usage_is answer.Dark e = absurd (omega (arith, e))
+usage_is answer.Memory e = absurd (omega (arith, e))
+usage_is answer.Cut e = absurd (omega (arith, e))
+
+no_usage_last : (last : Option Said) → is_usage (answer_by last) ≡ false
+no_usage_last (Some (Ended Halted)) = refl
+no_usage_last (Some (Ended (Trapped kind stmt))) = refl
+no_usage_last last = refl
+
+no_usage_run : (b : Bool) (last : Option Said) → is_usage (cond b answer.Cut (answer_by last)) ≡ false
+no_usage_run true last = refl
+no_usage_run false last = no_usage_last last
+
+module _ (parts : Parts) (plan : Plan) where
+  no_usage_power : (rows : List Row) (power : Power) → is_usage (with_power parts rows power plan).answer ≡ false
+  no_usage_power rows (power_rows.bad row why) = refl
+  no_usage_power rows (power_rows.periods ps) = no_usage_run (loses_checkpoint (device_of parts) (history rows) (plan ps) (first_world (device_of parts))) _
+
+  no_usage_sensors : (said : Readings) (power : Power) → is_usage (with_sensors parts said power plan).answer ≡ false
+  no_usage_sensors (sensor_rows.bad row why) power = refl
+  no_usage_sensors (sensor_rows.readings rows) power = no_usage_power rows power
+
+no_usage_verdict : (reading : Reading) (files : Files) (plan : Plan) → is_usage (verdict reading files plan).answer ≡ false
+no_usage_verdict (faulty line) files plan = refl
+no_usage_verdict source.other files plan = refl
+no_usage_verdict (program p) files plan = no_usage_sensors (small_code p) plan (sensor_file (small_code p).names.sensors files.sensors) (power_file files.power)
+
+no_usage_refused : (held : Held) (limit word : ℕ) (unread : Type 0) (end : Answer) → IsRefused held limit word unread end → is_usage end ≡ false
+no_usage_refused held limit word unread answer.Usage r = absurd r
+no_usage_refused held limit word unread end r = refl
+
+no_usage_of_run : (end : Answer) → is_of_run end ≡ true → is_usage end ≡ false
+no_usage_of_run answer.Usage e = cc e
+no_usage_of_run end e = refl
+
+module _ {S : Type 0} (holds : List ℕ → Held) (plans : Plans) (words : List (List ℕ)) (unread : Type 0) (took : S → List ℕ → S → Type 0) (faults : S → ℕ) (old new : S) (end : Answer) where
+  no_usage_outcome : (task : Task) → Outcome holds words task unread took faults old new end → is_usage end ≡ false
+  no_usage_outcome task (not_fetched n t) = no_usage_refused _ _ _ unread end n.refused
+  no_usage_outcome task (no_memory e t) = ap is_usage e
+  no_usage_outcome task (refused files f apart j t) = sym (ap (λ (v : Verdict). is_usage v.answer) j.is_verdict) ∙ no_usage_verdict j.reading files task.plan
+  no_usage_outcome task (ran files f run r (whole e t)) = ap is_usage e ∙ no_usage_of_run run.answer (run_answer files task.plan run r)
+  no_usage_outcome task (ran files f run r (in_part e rose p)) = ap is_usage e
+
+  other_status : is_usage end ≡ false → status_of end ≡ 1 → ⊥
+  other_status e s = cc (sym (ap is_usage (usage_is end s)) ∙ e)
+
+  -- a usage is answered only where nothing is asked for, and there always
+  pub no_task : Comes holds plans words unread took faults old new end → status_of end ≡ 1 → task_of plans words ≡ None
+  no_task (no_command none e t) s = none
+  no_task (for_task task asked o) s = absurd (other_status (no_usage_outcome task o) s)
+
+  pub usage : Comes holds plans words unread took faults old new end → task_of plans words ≡ None → status_of end ≡ 1
+  usage (no_command none e t) n = ap status_of e
+  usage (for_task task asked o) n = cc (sym asked ∙ n)
+
+  -- how the answer to what is asked for comes
+  pub outcome_of : (task : Task) → Comes holds plans words unread took faults old new end → task_of plans words ≡ Some task → Outcome holds words task unread took faults old new end
+  outcome_of task (no_command none e t) a = cc (sym none ∙ a)
+  outcome_of task (for_task other asked o) a = let same : other ≡ task = some_same other task (sym asked ∙ a) in subst (λ (t : Task). Outcome holds words t unread took faults old new end) same o
+
+-- ---- files that aren't there, or are too long
+
+module _ {S : Type 0} (holds : List ℕ → Held) (words : List (List ℕ)) (task : Task) (unread : Type 0) (took : S → List ℕ → S → Type 0) (faults : S → ℕ) (old new : S) (end : Answer) where
+  file_at : (files : Files) → AreFiles holds words task.first files → (place : ℕ) → place < 3 → (bytes : List ℕ) × IsFile (holds (word_at words (task.first + place))) (limit_at place) bytes
+  file_at files f zero l = let e : task.first ≡ task.first + 0 = omega arith in (files.source, subst (λ (n : ℕ). IsFile (holds (word_at words n)) (limit_at 0) files.source) e f.source)
+  file_at files f (suc zero) l = (files.sensors, f.sensors)
+  file_at files f (suc (suc zero)) l = (files.power, f.power)
+  file_at files f (suc (suc (suc k))) l = absurd (omega arith)
+
+  gives_something : (held : Held) (bytes : List ℕ) → held ≡ nothing → Gives held bytes → ⊥
+  gives_something untold bytes e g = cc e
+  gives_something nothing bytes e g = g
+  gives_something (content x) bytes e g = cc e
+
+  refused_status : (held : Held) (limit word : ℕ) (end : Answer) → IsRefused held limit word unread end → (status_of end ≡ 2) ⊎ ((status_of end ≡ 3) ⊎ (status_of end ≡ 11))
+  refused_status held limit word (answer.Unreadable w) r = inl refl
+  refused_status held limit word (answer.TooLong w) r = inr (inl refl)
+  refused_status held limit word answer.Memory r = inr (inr refl)
+  refused_status held limit word end r = absurd r
+
+  pub missing : (place : ℕ) → place < 3 → holds (word_at words (task.first + place)) ≡ nothing → Outcome holds words task unread took faults old new end → (status_of end ≡ 2) ⊎ ((status_of end ≡ 3) ⊎ (status_of end ≡ 11))
+  missing place l gone (not_fetched n t) = refused_status _ _ _ end n.refused
+  missing place l gone (no_memory e t) = inr (inr (ap status_of e))
+  missing place l gone (refused files f apart j t) = let g = file_at files f place l in absurd (gives_something _ g.0 gone g.1.gives)
+  missing place l gone (ran files f run r w) = let g = file_at files f place l in absurd (gives_something _ g.0 gone g.1.gives)
+
+  -- ---- what is written
+
+  written_of_run : (x : Answer) → is_of_run x ≡ true → is_written (status_of x) ≡ true
+  written_of_run answer.End e = refl
+  written_of_run answer.Trapped e = refl
+  written_of_run answer.Dark e = refl
+  written_of_run answer.Cut e = refl
+  written_of_run x e = cc e
+
+  written_status : (run : Verdict) → is_of_run run.answer ≡ true → IsWritten took faults old new run end → is_written (status_of end) ≡ true
+  written_status run e (whole i t) = ap (λ (x : Answer). is_written (status_of x)) i ∙ written_of_run run.answer e
+  written_status run e (in_part i rose p) = ap (λ (x : Answer). is_written (status_of x)) i
+
+  pub quiet_outcome : is_written (status_of end) ≡ false → Outcome holds words task unread took faults old new end → took old [] new
+  quiet_outcome e (not_fetched n t) = t
+  quiet_outcome e (no_memory i t) = t
+  quiet_outcome e (refused files f apart j t) = t
+  quiet_outcome e (ran files f run r w) = cc (sym (written_status run (run_answer files task.plan run r) w) ∙ e)
+
+pub quiet : {S : Type 0} (holds : List ℕ → Held) (plans : Plans) (words : List (List ℕ)) (unread : Type 0) (took : S → List ℕ → S → Type 0) (faults : S → ℕ) (old new : S) (end : Answer)
+    → Comes holds plans words unread took faults old new end → is_written (status_of end) ≡ false → took old [] new
+quiet holds plans words unread took faults old new end (no_command none e t) w = t
+quiet holds plans words unread took faults old new end (for_task task asked o) w = quiet_outcome holds words task unread took faults old new end w o

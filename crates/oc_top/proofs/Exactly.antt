@@ -24,7 +24,7 @@ use Rattle.oc_small.specs.Rules.{IsSmall}
 use Rattle.oc_small.specs.Code.{small_code}
 use Rattle.oc_small.proofs.SpellingLaws.{same_small}
 use Rattle.oc_top.specs.Commands.{Plan, Plans, Task, task_of, word_at}
-use Rattle.oc_top.specs.Files.{Files, limit_at, IsFile, AreFiles, IsHeld, AreHeld, IsRefused, NotFetched}
+use Rattle.oc_top.specs.Files.{Files, limit_at, IsFile, AreFiles, IsHeld, AreHeld, AreHeldBefore, IsRefused, NotFetched}
 use Rattle.oc_top.specs.Sources.{Reading, faulty, program, ReadsAs, place_of, line_at}
 use Rattle.oc_top.specs.Sources as source
 use Rattle.oc_top.specs.Reports.{answer_by, answer_of, last_said}
@@ -219,6 +219,12 @@ module _ {S : Type 0} (holds : List ℕ → Held) (plans : Plans) (words : List 
 
 -- ---- files that aren't there, or are too long
 
+order : (m n : ℕ) → (m < n) ⊎ ((m ≡ n) ⊎ (n < m))
+order zero zero = inr (inl refl)
+order zero (suc n) = inl (omega arith)
+order (suc m) zero = inr (inr (omega arith))
+order (suc m) (suc n) = elim (order m n) [ inl h ↦ inl (omega (arith, h)) | inr h ↦ inr (elim h [ inl e ↦ inl (ap suc e) | inr g ↦ inr (omega (arith, g)) ]) ]
+
 module _ {S : Type 0} (holds : List ℕ → Held) (words : List (List ℕ)) (task : Task) (unread : Type 0) (took : S → List ℕ → S → Type 0) (faults : S → ℕ) (old new : S) (end : Answer) where
   file_at : (files : Files) → AreFiles holds words task.first files → (place : ℕ) → place < 3 → (bytes : List ℕ) × IsFile (holds (word_at words (task.first + place))) (limit_at place) bytes
   file_at files f zero l = let e : task.first ≡ task.first + 0 = omega arith in (files.source, subst (λ (n : ℕ). IsFile (holds (word_at words n)) (limit_at 0) files.source) e f.source)
@@ -242,6 +248,31 @@ module _ {S : Type 0} (holds : List ℕ → Held) (words : List (List ℕ)) (tas
   missing place l gone (no_memory e t) = inr (inr (ap status_of e))
   missing place l gone (refused files f apart j t) = let g = file_at files f place l in absurd (gives_something _ g.0 gone g.1.gives)
   missing place l gone (ran files f run r w) = let g = file_at files f place l in absurd (gives_something _ g.0 gone g.1.gives)
+
+  file_fits : (held : Held) (limit : ℕ) (bytes x : List ℕ) → held ≡ content bytes → limit < length bytes → IsFile held limit x → ⊥
+  file_fits held limit bytes x e l f = let same = gives_same held bytes x e f.gives in let within = f.within in omega (arith, ap length same)
+
+  long_here : (held : Held) (limit word : ℕ) (bytes : List ℕ) (end : Answer) → held ≡ content bytes → (unread → ⊥) → IsRefused held limit word unread end → (status_of end ≡ 3) ⊎ (status_of end ≡ 11)
+  long_here held limit word bytes (answer.Unreadable w) e quiet r = elim r.1 [ inl f ↦ absurd (quiet f) | inr gone ↦ cc (sym e ∙ gone) ]
+  long_here held limit word bytes (answer.TooLong w) e quiet r = inl refl
+  long_here held limit word bytes answer.Memory e quiet r = inr refl
+  long_here held limit word bytes end e quiet r = absurd r
+
+  long_fetch : (n : NotFetched holds words task.first unread end) (place : ℕ) (bytes : List ℕ) → AreHeldBefore holds words task.first place → holds (word_at words (task.first + place)) ≡ content bytes → limit_at place < length bytes → (unread → ⊥)
+      → (n.place < place) ⊎ ((n.place ≡ place) ⊎ (place < n.place)) → (status_of end ≡ 3) ⊎ (status_of end ≡ 11)
+  long_fetch n place bytes before e l quiet (inl earlier) =
+      let held = before n.place earlier in
+      inr (ap status_of (by_memory_alone holds words task.first (record { source = []; sensors = []; power = [] }) _ _ _ unread end held.0 held.1 quiet n.refused))
+  long_fetch n place bytes before e l quiet (inr (inl here)) =
+      long_here _ _ _ bytes end (ap (λ (k : ℕ). holds (word_at words (task.first + k))) here ∙ e) quiet n.refused
+  long_fetch n place bytes before e l quiet (inr (inr later)) = let f = n.before place later in absurd (file_fits _ _ bytes f.0 e l f.1)
+
+  pub long : (place : ℕ) → place < 3 → (bytes : List ℕ) → AreHeldBefore holds words task.first place → holds (word_at words (task.first + place)) ≡ content bytes → limit_at place < length bytes → (unread → ⊥)
+      → Outcome holds words task unread took faults old new end → (status_of end ≡ 3) ⊎ (status_of end ≡ 11)
+  long place among bytes before e l quiet (not_fetched n t) = long_fetch n place bytes before e l quiet (order n.place place)
+  long place among bytes before e l quiet (no_memory i t) = inr (ap status_of i)
+  long place among bytes before e l quiet (refused files f apart j t) = let g = file_at files f place among in absurd (file_fits _ _ bytes g.0 e l g.1)
+  long place among bytes before e l quiet (ran files f run r w) = let g = file_at files f place among in absurd (file_fits _ _ bytes g.0 e l g.1)
 
   -- ---- what is written
 

@@ -1,10 +1,10 @@
 //! The top call.
-ghost use Rattle.std.specs.Prelude.{◌≡◌, ◌↔◌, ◌+◌, ◌<◌, ◌⊎◌, ℕ, false, [], map, length, Some, None};
+ghost use Rattle.std.specs.Prelude.{◌≡◌, ◌↔◌, ◌+◌, ◌<◌, ◌⊎◌, ℕ, false, List, [], map, length, Some, None};
 ghost use Rattle.std.specs.String.{string_bytes};
 ghost use Rattle.oc_io.specs.Faults.{Rose, TookPart};
-ghost use Rattle.oc_io.specs.Held.{nothing};
+ghost use Rattle.oc_io.specs.Held.{content, nothing};
 ghost use Rattle.oc_top.specs.Commands.{Task, command_of, plans_of, task_of, word_at};
-ghost use Rattle.oc_top.specs.Files.{Files, AreHeld};
+ghost use Rattle.oc_top.specs.Files.{Files, AreHeld, AreHeldBefore, limit_at};
 ghost use Rattle.oc_top.specs.Sources.{Reading, ReadsAs};
 ghost use Rattle.oc_top.specs.Verdict.{verdict};
 ghost use Rattle.oc_top.specs.declared.answer.Answer.{Answer as SomeAnswer};
@@ -118,6 +118,12 @@ pub fn ocelot<F: Shelf, O: Sink, E: Sink>(
     ensures missing { (task : Task) (place : ℕ) → task_of (plans_of (λ b. number b) (λ b. plan b) supplies.items) (map string_bytes words.now) ≡ Some task
         → place < 3 → F.holds shelf.old (word_at (map string_bytes words.now) (task.first + place)) ≡ nothing
         → (result ≡ 2) ⊎ ((result ≡ 3) ⊎ (result ≡ 11)) }
+    // Where the files before it are held and no fault of the shelf rose, a file that is too long gives 3, or there was no memory.
+    ensures long { (task : Task) (place : ℕ) (bytes : List ℕ) → task_of (plans_of (λ b. number b) (λ b. plan b) supplies.items) (map string_bytes words.now) ≡ Some task
+        → place < 3 → AreHeldBefore (F.holds shelf.old) (map string_bytes words.now) task.first place
+        → F.holds shelf.old (word_at (map string_bytes words.now) (task.first + place)) ≡ content bytes → limit_at place < length bytes
+        → ¬ Rose (F.faults shelf.old) (F.faults shelf.new)
+        → (result ≡ 3) ⊎ (result ≡ 11) }
     // With a status that is no run's, nothing was written on `out`.
     ensures quiet { is_written result ≡ false → O.took out.old [] out.new }
 {

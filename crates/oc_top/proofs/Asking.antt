@@ -1,11 +1,9 @@
 -- How an answer to a task comes of its steps.
-use Rattle.std.proofs.Common.{ℕ, ◌<◌, ◌≡◌, ◌∙◌, sym, ap, refl, subst, List, [], Option, Some, None}
+use Rattle.std.proofs.Common.{ℕ, ◌≡◌, ◌∙◌, sym, ap, subst, List, [], Option, Some, None}
 use Rattle.oc_io.specs.declared.period.Period.{Period}
 use Rattle.oc_io.specs.Held.{Held}
 use Rattle.std.specs.Prelude.{option_map}
 use Rattle.oc_power.specs.Choice.{first_with}
-use Rattle.oc_power.specs.Power.{power_file}
-use Rattle.oc_sensors.specs.declared.sensors.Row.{Row}
 use Rattle.oc_sensors.specs.File.{sensor_file}
 use Rattle.oc_sensors.specs.File as sensor_rows
 use Rattle.oc_sensors.specs.History.{Told, history}
@@ -14,10 +12,10 @@ use Rattle.oc_isa.specs.Power.{power_run}
 use Rattle.oc_isa.specs.Table.{device_of}
 use Rattle.oc_machine.specs.Kept.{Running}
 use Rattle.oc_small.specs.Code.{small_code}
-use Rattle.oc_top.specs.Commands.{Plan, Plans, Task, command_of, task_of, task_for, with_plan, plans_of}
+use Rattle.oc_top.specs.Commands.{Plan, Task, command_of, task_of, task_for, with_plan, plans_of}
 use Rattle.oc_top.specs.declared.command.Command.{Command}
 use Rattle.oc_top.specs.Files.{Files, AreFiles}
-use Rattle.oc_top.specs.Verdict.{Verdict, runs}
+use Rattle.oc_top.specs.Verdict.{runs}
 use Rattle.oc_top.specs.Headline.{IsHonestThroughout, IsRun}
 use Rattle.oc_top.specs.Steps.{IsReady, IsTurnedDown, by_memory, by_files}
 use Rattle.oc_top.specs.Answers.{IsWritten, Outcome, no_memory, refused, ran, Comes, no_command, for_task}
@@ -39,7 +37,7 @@ ready_run files plan machine sensors left r =
       powered = r.powered;
       is_run = ap (λ (i : Parts). runs i sensors.rows left) b.is_code ∙ ap (λ (ps : List Period). runs (small_code b.small) sensors.rows ps) r.planned;
       honest = subst (λ (ps : List Period). IsHonestThroughout b.small (history sensors.rows) ((power_run (device_of (small_code b.small)) (history sensors.rows) ps).report)) r.planned
-        (subst (λ (i : Parts). IsHonestThroughout b.small (history sensors.rows) ((power_run (device_of i) (history sensors.rows) left).report)) b.is_code honest);
+          (subst (λ (i : Parts). IsHonestThroughout b.small (history sensors.rows) ((power_run (device_of i) (history sensors.rows) left).report)) b.is_code honest);
     }
 
 module _ {S : Type 0} (holds : List ℕ → Held) (words : List (List ℕ)) (task : Task) (unread : Type 0) (took : S → List ℕ → S → Type 0) (faults : S → ℕ) (old new : S) (end : Answer) (files : Files) (fetched : AreFiles holds words task.first files) where

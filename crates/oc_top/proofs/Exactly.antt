@@ -1,5 +1,6 @@
 -- Answers come exactly where their causes hold.
-use Rattle.std.proofs.Common.{ℕ, zero, suc, ◌+◌, ◌<◌, ◌≤◌, ◌≡◌, ◌⊎◌, ◌∙◌, sym, ap, refl, subst, arith, inl, inr, ℤ, List, [], ◌∷◌, length, Bool, true, false, cond, Option, Some, None}
+use Rattle.std.proofs.Common.{ℕ, zero, suc, ◌+◌, ◌<◌, ◌≤◌, ◌≡◌, ◌⊎◌, ◌∙◌, sym, ap, refl, subst, arith, inl, inr, ℤ, List, [], length, Bool, true, false, cond, Option, Some, None}
+use Rattle.std.proofs.lemmas.Bool.{cases_order}
 use Rattle.oc_io.specs.declared.period.Period.{Period}
 use Rattle.oc_io.specs.Faults.{Rose}
 use Rattle.oc_io.specs.Held.{Held, untold, nothing, content, Gives, Longer}
@@ -28,7 +29,7 @@ use Rattle.oc_top.specs.Files.{Files, limit_at, IsFile, AreFiles, IsHeld, AreHel
 use Rattle.oc_top.specs.Sources.{Reading, faulty, program, ReadsAs, place_of, line_at}
 use Rattle.oc_top.specs.Sources as source
 use Rattle.oc_top.specs.Reports.{answer_by, answer_of, last_said}
-use Rattle.oc_top.specs.Verdict.{Verdict, verdict, is_of_run, refuses, runs, with_parts, with_sensors, with_power}
+use Rattle.oc_top.specs.Verdict.{Verdict, verdict, is_of_run, refuses, with_sensors, with_power}
 use Rattle.oc_top.specs.Headline.{IsRun}
 use Rattle.oc_top.specs.Answers.{status_of, is_written, IsJudged, IsWritten, whole, in_part, Outcome, not_fetched, no_memory, refused, ran, Comes, no_command, for_task}
 use Rattle.oc_top.specs.declared.answer.Answer.{Answer}
@@ -219,12 +220,6 @@ module _ {S : Type 0} (holds : List ℕ → Held) (plans : Plans) (words : List 
 
 -- ---- files that aren't there, or are too long
 
-order : (m n : ℕ) → (m < n) ⊎ ((m ≡ n) ⊎ (n < m))
-order zero zero = inr (inl refl)
-order zero (suc n) = inl (omega arith)
-order (suc m) zero = inr (inr (omega arith))
-order (suc m) (suc n) = elim (order m n) [ inl h ↦ inl (omega (arith, h)) | inr h ↦ inr (elim h [ inl e ↦ inl (ap suc e) | inr g ↦ inr (omega (arith, g)) ]) ]
-
 module _ {S : Type 0} (holds : List ℕ → Held) (words : List (List ℕ)) (task : Task) (unread : Type 0) (took : S → List ℕ → S → Type 0) (faults : S → ℕ) (old new : S) (end : Answer) where
   file_at : (files : Files) → AreFiles holds words task.first files → (place : ℕ) → place < 3 → (bytes : List ℕ) × IsFile (holds (word_at words (task.first + place))) (limit_at place) bytes
   file_at files f zero l = let e : task.first ≡ task.first + 0 = omega arith in (files.source, subst (λ (n : ℕ). IsFile (holds (word_at words n)) (limit_at 0) files.source) e f.source)
@@ -259,17 +254,17 @@ module _ {S : Type 0} (holds : List ℕ → Held) (words : List (List ℕ)) (tas
   long_here held limit word bytes end e quiet r = absurd r
 
   long_fetch : (n : NotFetched holds words task.first unread end) (place : ℕ) (bytes : List ℕ) → AreHeldBefore holds words task.first place → holds (word_at words (task.first + place)) ≡ content bytes → limit_at place < length bytes → (unread → ⊥)
-      → (n.place < place) ⊎ ((n.place ≡ place) ⊎ (place < n.place)) → (status_of end ≡ 3) ⊎ (status_of end ≡ 11)
-  long_fetch n place bytes before e l quiet (inl earlier) =
+      → (n.place ≡ place) ⊎ ((n.place < place) ⊎ (place < n.place)) → (status_of end ≡ 3) ⊎ (status_of end ≡ 11)
+  long_fetch n place bytes before e l quiet (inr (inl earlier)) =
       let held = before n.place earlier in
       inr (ap status_of (by_memory_alone holds words task.first (record { source = []; sensors = []; power = [] }) _ _ _ unread end held.0 held.1 quiet n.refused))
-  long_fetch n place bytes before e l quiet (inr (inl here)) =
+  long_fetch n place bytes before e l quiet (inl here) =
       long_here _ _ _ bytes end (ap (λ (k : ℕ). holds (word_at words (task.first + k))) here ∙ e) quiet n.refused
   long_fetch n place bytes before e l quiet (inr (inr later)) = let f = n.before place later in absurd (file_fits _ _ bytes f.0 e l f.1)
 
   pub long : (place : ℕ) → place < 3 → (bytes : List ℕ) → AreHeldBefore holds words task.first place → holds (word_at words (task.first + place)) ≡ content bytes → limit_at place < length bytes → (unread → ⊥)
       → Outcome holds words task unread took faults old new end → (status_of end ≡ 3) ⊎ (status_of end ≡ 11)
-  long place among bytes before e l quiet (not_fetched n t) = long_fetch n place bytes before e l quiet (order n.place place)
+  long place among bytes before e l quiet (not_fetched n t) = long_fetch n place bytes before e l quiet (cases_order n.place place)
   long place among bytes before e l quiet (no_memory i t) = inr (ap status_of i)
   long place among bytes before e l quiet (refused files f apart j t) = let g = file_at files f place among in absurd (file_fits _ _ bytes g.0 e l g.1)
   long place among bytes before e l quiet (ran files f run r w) = let g = file_at files f place among in absurd (file_fits _ _ bytes g.0 e l g.1)

@@ -1,20 +1,17 @@
 -- Reports of small programs are honest.
-use Rattle.std.proofs.Common.{ℕ, ◌+◌, ◌≤◌, ◌≡◌, ◌∙◌, sym, ap, refl, subst, ℤ, List, [], ◌∷◌, ◌++◌, Bool, true, false, cond, arith, max, append-nil}
-use Rattle.std.proofs.lemmas.List.Elements.{All-cons, All-nil}
+use Rattle.std.proofs.Common.{ℕ, ◌≤◌, ◌≡◌, ◌∙◌, sym, subst, ℤ, List, ◌++◌, true, arith, max}
 use Rattle.oc_io.specs.declared.period.Period.{Period}
 use Rattle.oc_tree.specs.Said.{Told}
 use Rattle.oc_tree.specs.Word.{is_word}
 use Rattle.oc_tree.specs.declared.said.Said.{Said}
-use Rattle.oc_tree.specs.declared.said.Said.TheVariants.{Sensed, Showed, Entered, Committed, Aborted, Off, Dark, Ended}
+use Rattle.oc_tree.specs.declared.said.Said.TheVariants.{Ended}
 use Rattle.oc_tree.specs.declared.said.Ending.{Ending}
 use Rattle.oc_isa.specs.Image.{Parts}
-use Rattle.oc_isa.specs.Next.{Device}
 use Rattle.oc_isa.specs.Power.{power_run}
-use Rattle.oc_isa.specs.Run.{IsSound, AreWords, continuous_run}
+use Rattle.oc_isa.specs.Run.{IsSound}
 use Rattle.oc_isa.specs.Table.{device_of}
-use Rattle.oc_items.specs.Erase.{erase, erase_from, begins_stretch, goes_on, next_mark, marked, without_off, without_offs, without_mark, without_marks, kept, sampled, samples_of, kept_samples}
-use Rattle.oc_outage.specs.Honest as outage
-use Rattle.oc_outage.specs.Honest.{IsPrefixOf, AreRead, IsRead, IsWhole, EndsWith, all_on}
+use Rattle.oc_items.specs.Erase.{marked, kept_samples}
+use Rattle.oc_outage.specs.Honest.{IsPrefixOf, EndsWith, all_on}
 use Rattle.oc_outage.proofs.Enters.{device_fit}
 use Rattle.oc_outage.proofs.Lasting.{over_exactly}
 use Rattle.oc_outage.proofs.Runs.{every_prefix_later, over_is_whole}

@@ -1,5 +1,5 @@
 -- Why files are turned down.
-use Rattle.std.proofs.Common.{ℕ, ◌<◌, ◌^◌, ◌≡◌, ◌∙◌, sym, ap, refl, subst, List, length}
+use Rattle.std.proofs.Common.{◌<◌, ◌^◌, ◌≡◌, ◌∙◌, sym, ap, refl, subst, List, length}
 use Rattle.oc_power.specs.Power.{Power, power_file}
 use Rattle.oc_power.specs.Power as power_rows
 use Rattle.oc_power.specs.declared.power.PowerError.{PowerError}
@@ -20,7 +20,7 @@ use Rattle.oc_top.proofs.Readings.{shown_words}
 use Rattle.oc_top.specs.Commands.{Plan}
 use Rattle.oc_top.specs.Files.{Files}
 use Rattle.oc_top.specs.Sources.{faulty, other, program}
-use Rattle.oc_top.specs.Verdict.{verdict, refuses, with_parts, with_sensors, with_power}
+use Rattle.oc_top.specs.Verdict.{verdict, with_parts, with_sensors, with_power}
 use Rattle.oc_top.specs.Steps.{IsBuilt, IsNotBuilt, IsReady, IsTurnedDown, by_memory, by_files, for_sensors, for_power}
 use Rattle.oc_top.specs.declared.answer.Answer.{Answer}
 use Rattle.oc_top.specs.declared.answer.Answer.TheVariants as answer

@@ -1,20 +1,18 @@
 -- How a run is left, and its answer.
-use Rattle.std.proofs.Common.{◌≡◌, ℕ, ℤ, List, [], ◌∷◌, ◌++◌, map, Option, Some, None, Bool, true, false, ap, sym, ◌∙◌, refl, subst, append-nil, append_assoc, ◌≤◌, cond}
+use Rattle.std.proofs.Common.{◌≡◌, ℕ, ℤ, List, [], ◌∷◌, ◌++◌, map, Some, Bool, true, false, ap, sym, ◌∙◌, refl, subst, append-nil, append_assoc, ◌≤◌, cond}
 use Rattle.oc_io.specs.declared.period.Period.{Period}
 use Rattle.oc_tree.specs.Said.{Told}
 use Rattle.oc_tree.specs.declared.said.Said.{Said}
 use Rattle.oc_tree.specs.declared.said.Said.TheVariants.{Off, Dark, Ended}
-use Rattle.oc_tree.specs.declared.said.Ending.{Ending}
 use Rattle.oc_tree.specs.declared.said.Ending.TheVariants.{Halted, Trapped}
 use Rattle.oc_tree.specs.declared.said.TrapKind.{TrapKind}
 use Rattle.oc_isa.specs.declared.phase.Phase.{Phase}
-use Rattle.oc_isa.specs.declared.phase.Phase.TheVariants.{Waking, Undoing, Restoring, Running, Entering, Over, Lost}
+use Rattle.oc_isa.specs.declared.phase.Phase.TheVariants.{Over, Lost}
 use Rattle.oc_isa.specs.Image.{Parts}
 use Rattle.oc_isa.specs.Power.{World, first_world, power_run}
 use Rattle.oc_isa.specs.Table.{device_of}
-use Rattle.oc_items.specs.Text.{report_text, full_text, nv_lines, is_over, ends}
+use Rattle.oc_items.specs.Text.{report_text, nv_lines, is_over, ends}
 use Rattle.oc_items.specs.Told.{item_of}
-use Rattle.oc_items.specs.declared.item.Item.{Item}
 use Rattle.oc_machine.specs.Telling.{stop_of}
 use Rattle.oc_machine.specs.declared.stop.Stop.{Stop}
 use Rattle.oc_machine.specs.declared.stop.Stop.TheVariants as stops
@@ -134,7 +132,7 @@ module _ {S : Type 0} (took : S → List ℕ → S → Type 0) (faults : S → �
   verdict_at : (x : Answer) → x ≡ answer_at parts (history rows) periods run.state.phase
       → ◌≡◌ {A = Verdict} (record { answer = x; text = text ++ cond (is_over_with parts (history rows) periods x) (variables parts (history rows) periods) [] }) (runs parts rows periods)
   verdict_at x e = same_verdict x _ _ _ (e ∙ sym (answer_is parts (history rows) periods))
-    (ap (λ (z : Answer). text ++ cond (is_over_with parts (history rows) periods z) (variables parts (history rows) periods) []) e ∙ sym (text_is parts (history rows) periods))
+      (ap (λ (z : Answer). text ++ cond (is_over_with parts (history rows) periods z) (variables parts (history rows) periods) []) e ∙ sym (text_is parts (history rows) periods))
 
   as_run : (a c : S) (x end : Answer) → x ≡ answer_at parts (history rows) periods run.state.phase
       → IsWritten took faults a c (record { answer = x; text = text ++ cond (is_over_with parts (history rows) periods x) (variables parts (history rows) periods) [] }) end → IsWritten took faults a c (runs parts rows periods) end

@@ -1,6 +1,6 @@
 -- Reports that were written.
-use Rattle.std.proofs.Common.{ℕ, ◌≤◌, ◌≡◌, ◌⊎◌, List, [], ◌++◌, ap, sym, ◌∙◌, subst, append_assoc, append-nil, arith, inl, inr}
-use Rattle.oc_io.specs.Faults.{Rose, TookPart}
+use Rattle.std.proofs.Common.{ℕ, ◌≤◌, ◌≡◌, ◌⊎◌, List, [], ◌++◌, ap, sym, ◌∙◌, append_assoc, append-nil, arith, inl, inr}
+use Rattle.oc_io.specs.Faults.{Rose}
 use Rattle.oc_io.proofs.Going.{Both}
 use Rattle.oc_top.specs.Verdict.{Verdict}
 use Rattle.oc_top.specs.Answers.{IsWritten, whole, in_part}
@@ -11,7 +11,6 @@ use Rattle.oc_top.proofs.Taking.{took_flushed}
 -- the answer stays, or a fault rose
 abbrev pub Stays : Answer → Answer → Type 0 → Type 0
 Stays before after rose = (after ≡ before) ⊎ ((after ≡ answer.WriteFault) × rose)
-
 
 module _ {S : Type 0} (took : S → List ℕ → S → Type 0) (faults : S → ℕ) (both : Both took) where
   -- a text was taken and then flushed

@@ -105,11 +105,7 @@ fn sensors_for(alloc: Global, bytes: &[u8], image: &Image) -> Result<Sensors, Se
 
 /// A machine with the source's image, the sensors of the sensor file, and the supply fed with the
 /// rows of the power file. The first file that is refused, in this order, decides the answer.
-pub fn prepare(
-    alloc: Global,
-    files: &Fetched,
-    supply: &mut dyn Supply,
-) -> Result<Prepared, Answer>
+pub fn prepare(alloc: Global, files: &Fetched, supply: &mut dyn Supply) -> Result<Prepared, Answer>
     requires { length files.now.source.items ≤ 1048576 }
     ensures ready { IfOk result (λ p. IsReady (bytes_of files.now) (plan supply.old) p.machine p.sensors (left supply.new)) }
     ensures refused { IfErr result (λ a. IsTurnedDown (bytes_of files.now) (plan supply.old) a) }

@@ -39,9 +39,7 @@ fn answer(rt: &HostRuntime, words: &[String]) -> Result<u8, AllocError> {
     let mut shelf = DiskShelf::new(rt);
     let mut out = StdSink::out(rt);
     let mut err = StdSink::err(rt);
-    Ok(ocelot(
-        alloc, words, &mut shelf, &mut out, &mut err, supplies,
-    ))
+    Ok(ocelot(alloc, words, &mut shelf, &mut out, &mut err, supplies))
 }
 
 fn main(rt: HostRuntime) -> ExitCode {

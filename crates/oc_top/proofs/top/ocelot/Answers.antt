@@ -12,9 +12,10 @@ returns-clause-exactly g c = λ task files reading asked held reads still calm.
     ]
 
 pub returns-clause-usage : goal.returns-clause-usage
-returns-clause-usage g c =
-    (λ e. no_task _ _ _ _ g.O.Sink.took g.O.Sink.faults _ _ _ c.answer_words-answer.ensures (sym c.status.ensures ∙ e),
-    λ n. c.status.ensures ∙ usage _ _ _ _ g.O.Sink.took g.O.Sink.faults _ _ _ c.answer_words-answer.ensures n)
+returns-clause-usage g c = (
+  λ e. no_task _ _ _ _ g.O.Sink.took g.O.Sink.faults _ _ _ c.answer_words-answer.ensures (sym c.status.ensures ∙ e),
+  λ n. c.status.ensures ∙ usage _ _ _ _ g.O.Sink.took g.O.Sink.faults _ _ _ c.answer_words-answer.ensures n,
+)
 
 pub returns-clause-missing : goal.returns-clause-missing
 returns-clause-missing g c = λ task place asked among gone.

@@ -1,5 +1,5 @@
 -- Why a file of three wasn't fetched.
-use Rattle.std.proofs.Common.{ℕ, zero, suc, ◌+◌, ◌<◌, ◌≤◌, ◌≡◌, ◌⊎◌, List, sym, subst, arith, inl, inr}
+use Rattle.std.proofs.Common.{ℕ, zero, suc, ◌+◌, ◌≡◌, List, subst, arith, inl, inr}
 use Rattle.oc_io.specs.Held.{Held}
 use Rattle.oc_top.specs.Commands.{word_at}
 use Rattle.oc_top.specs.Files.{IsFile, IsRefused, NotFetched, WereFetched, limit_at}

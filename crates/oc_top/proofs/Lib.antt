@@ -7,3 +7,4 @@ pub mod Variables
 pub mod Writing
 pub mod Stopping
 pub mod Asking
+pub mod Exactly

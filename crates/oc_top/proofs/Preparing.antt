@@ -1,5 +1,5 @@
 -- Why files are turned down.
-use Rattle.std.proofs.Common.{ℕ, ◌<◌, ◌^◌, ◌≡◌, ◌∙◌, sym, ap, refl, subst, List, length}
+use Rattle.std.proofs.Common.{◌<◌, ◌^◌, ◌≡◌, ◌∙◌, sym, ap, refl, subst, List, length}
 use Rattle.oc_power.specs.Power.{Power, power_file}
 use Rattle.oc_power.specs.Power as power_rows
 use Rattle.oc_power.specs.declared.power.PowerError.{PowerError}
@@ -20,15 +20,15 @@ use Rattle.oc_top.proofs.Readings.{shown_words}
 use Rattle.oc_top.specs.Commands.{Plan}
 use Rattle.oc_top.specs.Files.{Files}
 use Rattle.oc_top.specs.Sources.{faulty, other, program}
-use Rattle.oc_top.specs.Verdict.{verdict, refuses, with_parts, with_sensors, with_power}
+use Rattle.oc_top.specs.Verdict.{verdict, with_parts, with_sensors, with_power}
 use Rattle.oc_top.specs.Steps.{IsBuilt, IsNotBuilt, IsReady, IsTurnedDown, by_memory, by_files, for_sensors, for_power}
 use Rattle.oc_top.specs.declared.answer.Answer.{Answer}
 use Rattle.oc_top.specs.declared.answer.Answer.TheVariants as answer
 
 module _ (files : Files) (plan : Plan) where
   pub not_built : (end : Answer) → IsNotBuilt files.source end → IsTurnedDown files plan end
-  not_built (answer.Syntax line) r = by_files (faulty line) r refl
-  not_built answer.NotBuilt r = by_files other r refl
+  not_built (answer.Syntax line) r = by_files (faulty line) r refl refl
+  not_built answer.NotBuilt r = by_files other r refl refl
   not_built answer.Memory r = by_memory refl
   not_built end r = absurd r
 
@@ -38,7 +38,7 @@ module _ (files : Files) (plan : Plan) where
 
   sensors_by : (e : SensorError) (parts : Parts) → IsBuilt files.source parts → sensor_rows.Explains (sensor_file parts.names.sensors files.sensors) e → IsTurnedDown files plan (for_sensors e)
   sensors_by (sensor_error.Row row what) parts b x =
-      by_files (program b.small) b.reads (is_verdict parts b ∙ ap (λ (r : Readings). with_sensors parts r (power_file files.power) plan) x)
+      by_files (program b.small) b.reads refl (is_verdict parts b ∙ ap (λ (r : Readings). with_sensors parts r (power_file files.power) plan) x)
   sensors_by sensor_error.Memory parts b x = by_memory refl
 
   pub no_sensors : (end : Answer) (e : SensorError) (parts : Parts) → end ≡ for_sensors e → IsBuilt files.source parts → sensor_rows.Explains (sensor_file parts.names.sensors files.sensors) e → IsTurnedDown files plan end
@@ -46,7 +46,7 @@ module _ (files : Files) (plan : Plan) where
 
   power_by : (e : PowerError) (parts : Parts) (rows : List Row) → IsBuilt files.source parts → sensor_file parts.names.sensors files.sensors ≡ sensor_rows.readings rows → power_rows.Explains (power_file files.power) e → IsTurnedDown files plan (for_power e)
   power_by (power_error.Row row what) parts rows b s x =
-      by_files (program b.small) b.reads (is_verdict parts b ∙ ap (λ (r : Readings). with_sensors parts r (power_file files.power) plan) s ∙ ap (λ (p : Power). with_power parts rows p plan) x)
+      by_files (program b.small) b.reads refl (is_verdict parts b ∙ ap (λ (r : Readings). with_sensors parts r (power_file files.power) plan) s ∙ ap (λ (p : Power). with_power parts rows p plan) x)
   power_by power_error.Memory parts rows b s x = by_memory refl
 
   pub no_power : (end : Answer) (e : PowerError) (parts : Parts) (rows : List Row) → end ≡ for_power e → IsBuilt files.source parts → sensor_file parts.names.sensors files.sensors ≡ sensor_rows.readings rows → power_rows.Explains (power_file files.power) e → IsTurnedDown files plan end

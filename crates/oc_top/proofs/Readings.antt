@@ -1,6 +1,6 @@
 -- The values that a sensor file tells are words.
-use Rattle.std.proofs.Common.{ℕ, zero, suc, ℤ, pos, negsuc, ◌+◌, ◌^◌, ◌<◌, ◌≤◌, ◌==◌, ◌≡◌, ◌∙◌, sym, ap, refl, Bool, true, false, cond, List, [], ◌∷◌, Option, Some, None, Result, Ok, Err, arith, subst, get_or, length}
-use Rattle.std.specs.Prelude.{nat_lt, nat_le, int_le, ◌&&◌, neg_ℤ, option_and_then, if◌then◌else◌}
+use Rattle.std.proofs.Common.{ℕ, zero, suc, ℤ, pos, ◌+◌, ◌^◌, ◌==◌, ◌≡◌, refl, Bool, true, false, cond, List, [], ◌∷◌, Option, Some, None, Result, Ok, Err, arith, subst, get_or, length}
+use Rattle.std.specs.Prelude.{nat_lt, nat_le, ◌&&◌, neg_ℤ, option_and_then}
 use Rattle.std.proofs.lemmas.Bool.{le-leb, ltb-true, leb-true}
 use Rattle.oc_tree.specs.Word.{is_word}
 use Rattle.oc_rows.specs.Numbers.{number_of}

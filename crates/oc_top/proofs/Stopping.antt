@@ -1,20 +1,18 @@
 -- How a run is left, and its answer.
-use Rattle.std.proofs.Common.{◌≡◌, ℕ, ℤ, List, [], ◌∷◌, ◌++◌, map, Option, Some, None, Bool, true, false, ap, sym, ◌∙◌, refl, subst, append-nil, append_assoc, ◌≤◌, cond}
+use Rattle.std.proofs.Common.{◌≡◌, ℕ, ℤ, List, [], ◌∷◌, ◌++◌, map, Some, Bool, true, false, ap, sym, ◌∙◌, refl, subst, append-nil, append_assoc, ◌≤◌, cond}
 use Rattle.oc_io.specs.declared.period.Period.{Period}
 use Rattle.oc_tree.specs.Said.{Told}
 use Rattle.oc_tree.specs.declared.said.Said.{Said}
 use Rattle.oc_tree.specs.declared.said.Said.TheVariants.{Off, Dark, Ended}
-use Rattle.oc_tree.specs.declared.said.Ending.{Ending}
 use Rattle.oc_tree.specs.declared.said.Ending.TheVariants.{Halted, Trapped}
 use Rattle.oc_tree.specs.declared.said.TrapKind.{TrapKind}
 use Rattle.oc_isa.specs.declared.phase.Phase.{Phase}
-use Rattle.oc_isa.specs.declared.phase.Phase.TheVariants.{Waking, Undoing, Restoring, Running, Entering, Over, Lost}
+use Rattle.oc_isa.specs.declared.phase.Phase.TheVariants.{Over, Lost}
 use Rattle.oc_isa.specs.Image.{Parts}
 use Rattle.oc_isa.specs.Power.{World, first_world, power_run}
 use Rattle.oc_isa.specs.Table.{device_of}
-use Rattle.oc_items.specs.Text.{report_text, full_text, nv_lines, is_over, ends}
+use Rattle.oc_items.specs.Text.{report_text, nv_lines, is_over, ends}
 use Rattle.oc_items.specs.Told.{item_of}
-use Rattle.oc_items.specs.declared.item.Item.{Item}
 use Rattle.oc_machine.specs.Telling.{stop_of}
 use Rattle.oc_machine.specs.declared.stop.Stop.{Stop}
 use Rattle.oc_machine.specs.declared.stop.Stop.TheVariants as stops

@@ -1,5 +1,5 @@
 -- Texts that were taken.
-use Rattle.std.proofs.Common.{ℕ, List, [], ◌++◌, subst}
+use Rattle.std.proofs.Common.{ℕ, List, [], subst}
 use Rattle.std.proofs.lemmas.List.{append-nil}
 use Rattle.oc_io.proofs.Going.{Both}
 

@@ -1,5 +1,5 @@
 -- The lines of nonvolatile variables, one after the other.
-use Rattle.std.proofs.Common.{ℕ, ◌+◌, ◌<◌, ◌≡◌, ◌∙◌, ℤ, List, [], ◌∷◌, ◌++◌, length, map, get_or, take, drop, min, ap, refl, subst, sym, arith}
+use Rattle.std.proofs.Common.{ℕ, ◌+◌, ◌<◌, ◌≡◌, ◌∙◌, ℤ, List, [], ◌++◌, length, map, get_or, take, drop, min, ap, refl, arith}
 use Rattle.std.proofs.lemmas.List.{drop_more, drop_min, take_min}
 use Rattle.oc_io.specs.Faults.{TookPart}
 use Rattle.oc_io.proofs.Going.{Going, Both, go_on, stop}

@@ -1,6 +1,6 @@
 -- Reports that were written.
-use Rattle.std.proofs.Common.{ℕ, ◌≤◌, ◌≡◌, ◌⊎◌, List, [], ◌++◌, ap, sym, ◌∙◌, subst, append_assoc, append-nil, arith, inl, inr}
-use Rattle.oc_io.specs.Faults.{Rose, TookPart}
+use Rattle.std.proofs.Common.{ℕ, ◌≤◌, ◌≡◌, ◌⊎◌, List, [], ◌++◌, ap, sym, ◌∙◌, append_assoc, append-nil, arith, inl, inr}
+use Rattle.oc_io.specs.Faults.{Rose}
 use Rattle.oc_io.proofs.Going.{Both}
 use Rattle.oc_top.specs.Verdict.{Verdict}
 use Rattle.oc_top.specs.Answers.{IsWritten, whole, in_part}

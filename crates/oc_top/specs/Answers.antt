@@ -1,11 +1,11 @@
 -- What is answered, and why.
-use Rattle.std.specs.Prelude.{ℕ, ◌+◌, ◌<◌, ◌≡◌, ◌⊎◌, ◌++◌, Bool, true, false, List, [], codes, decimal, Some, None}
+use Rattle.std.specs.Prelude.{ℕ, ◌≡◌, ◌==◌, ◌||◌, ◌++◌, Bool, false, List, [], codes, decimal, Some, None}
 use Rattle.oc_io.specs.Faults.{Rose, TookPart}
 use Rattle.oc_io.specs.Held.{Held}
 use Rattle.oc_top.specs.Commands.{Plan, Plans, Task, task_of, word_at}
 use Rattle.oc_top.specs.Files.{Files, AreFiles, NotFetched}
 use Rattle.oc_top.specs.Sources.{Reading, ReadsAs}
-use Rattle.oc_top.specs.Verdict.{Verdict, verdict, refuses}
+use Rattle.oc_top.specs.Verdict.{Verdict, verdict, is_of_run, refuses}
 use Rattle.oc_top.specs.Headline.{IsRun}
 use Rattle.oc_top.specs.declared.answer.Answer.{Answer}
 use Rattle.oc_top.specs.declared.answer.Answer.TheVariants as answer
@@ -25,6 +25,10 @@ status_of answer.Trapped = 8
 status_of answer.Dark = 9
 status_of answer.Memory = 11
 status_of answer.Cut = 12
+
+-- with these statuses a report was written, or a part of it
+abbrev pub is_written : ℕ → Bool
+is_written status = (status == 0) || (status == 8) || (status == 9) || (status == 10) || (status == 12)
 
 -- the line of an answer on the standard error, or none
 abbrev pub line_of : List (List ℕ) → Answer → List ℕ
@@ -58,7 +62,7 @@ pub data IsWritten {S : Type 0} (took : S → List ℕ → S → Type 0) (faults
 pub data Outcome {S : Type 0} (holds : List ℕ → Held) (words : List (List ℕ)) (task : Task) (unread : Type 0) (took : S → List ℕ → S → Type 0) (faults : S → ℕ) (old new : S) (end : Answer) : Type 0 where
   not_fetched : NotFetched holds words task.first unread end → took old [] new → Outcome holds words task unread took faults old new end
   no_memory : end ≡ answer.Memory → took old [] new → Outcome holds words task unread took faults old new end
-  refused : (files : Files) → AreFiles holds words task.first files → IsJudged files task.plan (refuses end) → took old [] new → Outcome holds words task unread took faults old new end
+  refused : (files : Files) → AreFiles holds words task.first files → is_of_run end ≡ false → IsJudged files task.plan (refuses end) → took old [] new → Outcome holds words task unread took faults old new end
   ran : (files : Files) → AreFiles holds words task.first files → (run : Verdict) → IsRun files task.plan run → IsWritten took faults old new run end → Outcome holds words task unread took faults old new end
 
 -- how an answer comes of the words, the supplies, what the shelf holds, and faults of shelf and sink that rose in this

@@ -1,7 +1,8 @@
 -- The command lines.
-use Rattle.std.specs.Prelude.{ℕ, ◌==◌, ◌&&◌, Bool, false, not, List, [], ◌∷◌, length, get_or, codes, Option, Some, None, option_and_then, nat_le, nat_lt, if◌then◌else◌}
+use Rattle.std.specs.Prelude.{ℕ, ◌==◌, ◌&&◌, Bool, false, not, List, [], ◌∷◌, length, get_or, codes, Option, Some, None, option_and_then, option_map, nat_le, nat_lt, if◌then◌else◌}
 use Rattle.std.specs.Str.{bytes_eq}
 use Rattle.oc_io.specs.declared.period.Period.{Period}
+use Rattle.oc_power.specs.Choice.{first_with}
 use Rattle.oc_rows.specs.Numbers.{number_of}
 use Rattle.oc_top.specs.declared.command.Command.{Command}
 
@@ -42,6 +43,10 @@ Plan = List Period → List Period
 -- what the first supply with each number tells, where there is one
 abbrev pub Plans : Type 0
 Plans = ℕ → Option Plan
+
+-- what the first box with each number tells
+abbrev pub plans_of : {B : Type 0} → (B → ℕ) → (B → Plan) → List B → Plans
+plans_of number plan boxes = λ k. option_map plan (first_with number k boxes)
 
 -- a run is asked for: the word of its first file, and what its supply tells
 pub record Task : Type 0 where

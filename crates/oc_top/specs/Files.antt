@@ -41,6 +41,11 @@ pub record AreHeld (holds : List ℕ → Held) (words : List (List ℕ)) (first 
   pub sensors : IsHeld (holds (word_at words (first + 1))) (limit_at 1) files.sensors
   pub power : IsHeld (holds (word_at words (first + 2))) (limit_at 2) files.power
 
+-- the shelf has the files before this one, of the three, each no more than its limit
+abbrev pub AreHeldBefore : (List ℕ → Held) → List (List ℕ) → ℕ → ℕ → Type 0
+AreHeldBefore holds words first place =
+    (k : ℕ) → k < place → (bytes : List ℕ) × IsHeld (holds (word_at words (first + k))) (limit_at k) bytes
+
 -- the files before this one, of the three, were fetched
 abbrev pub WereFetched : (List ℕ → Held) → List (List ℕ) → ℕ → ℕ → Type 0
 WereFetched holds words first place =

@@ -1,5 +1,5 @@
 -- The steps before the first byte is written.
-use Rattle.std.specs.Prelude.{ℕ, ℤ, ◌≤◌, ◌<◌, ◌^◌, ◌≡◌, ◌⊎◌, true, List, length}
+use Rattle.std.specs.Prelude.{ℕ, ◌<◌, ◌^◌, ◌≡◌, true, false, List, length}
 use Rattle.oc_io.specs.declared.period.Period.{Period}
 use Rattle.oc_power.specs.Power.{Power, power_file}
 use Rattle.oc_power.specs.Power as power_rows
@@ -14,16 +14,16 @@ use Rattle.oc_sensors.specs.declared.file.SensorError.{SensorError}
 use Rattle.oc_sensors.specs.declared.file.SensorError.TheVariants as sensor_error
 use Rattle.oc_isa.specs.Image.{Parts}
 use Rattle.oc_isa.specs.Power.{first_state}
-use Rattle.oc_isa.specs.Run.{IsSound, AreWords, continuous_run}
+use Rattle.oc_isa.specs.Run.{IsSound}
 use Rattle.oc_isa.specs.Table.{device_of}
 use Rattle.oc_machine.specs.Kept.{Running}
 use Rattle.oc_small.specs.Small.{Small}
 use Rattle.oc_small.specs.Code.{small_code}
-use Rattle.oc_small.specs.Runs.{small_run}
+use Rattle.oc_small.specs.Meant.{RunsAs}
 use Rattle.oc_top.specs.Commands.{Plan}
 use Rattle.oc_top.specs.Files.{Files}
 use Rattle.oc_top.specs.Sources.{Reading, ReadsAs, faulty, other, program}
-use Rattle.oc_top.specs.Verdict.{verdict, refuses}
+use Rattle.oc_top.specs.Verdict.{verdict, is_of_run, refuses}
 use Rattle.oc_top.specs.declared.answer.Answer.{Answer}
 use Rattle.oc_top.specs.declared.answer.Answer.TheVariants as answer
 
@@ -36,17 +36,13 @@ abbrev pub for_power : PowerError → Answer
 for_power (power_error.Row row what) = answer.BadPower row
 for_power power_error.Memory = answer.Memory
 
--- over any samples, and in enough instructions, the image's run without outages says what the program says
-abbrev pub RunsSo : Parts → Small → Type 0
-RunsSo parts p = (samples : List ℤ) → AreWords samples → (n : ℕ) × ((more : ℕ) → n ≤ more → (continuous_run (device_of parts) samples more).out ≡ small_run p samples)
-
 -- the image of the small program that a source spells
 pub record IsBuilt (source : List ℕ) (parts : Parts) : Type 0 where
   pub small : Small
   pub reads : ReadsAs source (program small)
   pub is_code : parts ≡ small_code small
   pub sound : IsSound (device_of parts)
-  pub runs : RunsSo parts small
+  pub runs : RunsAs parts small
 
 -- why there is no image of a source
 abbrev pub IsNotBuilt : List ℕ → Answer → Type 0
@@ -78,4 +74,4 @@ pub record IsReady (files : Files) (plan : Plan) (machine : Running) (sensors : 
 -- the files are refused with this answer, or there was no memory
 pub data IsTurnedDown (files : Files) (plan : Plan) (end : Answer) : Type 0 where
   by_memory : end ≡ answer.Memory → IsTurnedDown files plan end
-  by_files : (reading : Reading) → ReadsAs files.source reading → verdict reading files plan ≡ refuses end → IsTurnedDown files plan end
+  by_files : (reading : Reading) → ReadsAs files.source reading → is_of_run end ≡ false → verdict reading files plan ≡ refuses end → IsTurnedDown files plan end

@@ -1,5 +1,5 @@
 -- What a run answers and writes, by what its files say.
-use Rattle.std.specs.Prelude.{ℕ, List, []}
+use Rattle.std.specs.Prelude.{ℕ, Bool, true, false, List, []}
 use Rattle.oc_io.specs.declared.period.Period.{Period}
 use Rattle.oc_power.specs.Power.{Power, power_file}
 use Rattle.oc_power.specs.Power as power_rows
@@ -13,7 +13,8 @@ use Rattle.oc_isa.specs.Table.{device_of}
 use Rattle.oc_small.specs.Code.{small_code}
 use Rattle.oc_top.specs.Commands.{Plan}
 use Rattle.oc_top.specs.Files.{Files}
-use Rattle.oc_top.specs.Sources.{Reading, faulty, other, program}
+use Rattle.oc_top.specs.Sources.{Reading, faulty, program}
+use Rattle.oc_top.specs.Sources as source
 use Rattle.oc_top.specs.Reports.{answer_of, text_of}
 use Rattle.oc_top.specs.declared.answer.Answer.{Answer}
 use Rattle.oc_top.specs.declared.answer.Answer.TheVariants as answer
@@ -22,6 +23,14 @@ use Rattle.oc_top.specs.declared.answer.Answer.TheVariants as answer
 pub record Verdict : Type 0 where
   pub answer : Answer
   pub text : List ℕ
+
+-- the answer to a run, and not to files that are refused
+abbrev pub is_of_run : Answer → Bool
+is_of_run answer.End = true
+is_of_run answer.Trapped = true
+is_of_run answer.Dark = true
+is_of_run answer.Cut = true
+is_of_run other = false
 
 abbrev pub refuses : Answer → Verdict
 refuses end = record { answer = end; text = [] }
@@ -48,5 +57,5 @@ with_parts parts files plan = with_sensors parts (sensor_file parts.names.sensor
 -- sensors and the power that can't be read, or the run
 abbrev pub verdict : Reading → Files → Plan → Verdict
 verdict (faulty line) files plan = refuses (answer.Syntax line)
-verdict other files plan = refuses answer.NotBuilt
+verdict source.other files plan = refuses answer.NotBuilt
 verdict (program p) files plan = with_parts (small_code p) files plan

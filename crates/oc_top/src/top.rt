@@ -1,10 +1,14 @@
 //! The top call.
-ghost use Rattle.std.specs.Prelude.{◌≡◌, ◌+◌, ◌<◌, ◌⊎◌, map, length, option_map, Some};
+ghost use Rattle.std.specs.Prelude.{◌≡◌, ◌↔◌, ◌+◌, ◌<◌, ◌⊎◌, ℕ, false, List, [], map, length, Some, None};
 ghost use Rattle.std.specs.String.{string_bytes};
 ghost use Rattle.oc_io.specs.Faults.{Rose, TookPart};
-ghost use Rattle.oc_power.specs.Choice.{first_with};
-ghost use Rattle.oc_top.specs.Commands.{command_of};
-ghost use Rattle.oc_top.specs.Answers.{Comes, Outcome, line_of, status_of};
+ghost use Rattle.oc_io.specs.Held.{content, nothing};
+ghost use Rattle.oc_top.specs.Commands.{Task, command_of, plans_of, task_of, word_at};
+ghost use Rattle.oc_top.specs.Files.{Files, AreHeld, AreHeldBefore, limit_at};
+ghost use Rattle.oc_top.specs.Sources.{Reading, ReadsAs};
+ghost use Rattle.oc_top.specs.Verdict.{verdict};
+ghost use Rattle.oc_top.specs.declared.answer.Answer.{Answer as SomeAnswer};
+ghost use Rattle.oc_top.specs.Answers.{Comes, Outcome, is_written, line_of, status_of};
 
 use crate::answer::{Answer, put_line, status};
 use crate::command::{Command, read_command};
@@ -63,7 +67,7 @@ fn obey<F: Shelf, O: Sink>(
     supplies: Vec<Box<dyn Supply>>,
 ) -> Answer
     requires { command_of (map string_bytes words.now) ≡ Some command }
-    ensures { Comes (F.holds shelf.old) (λ k. option_map (λ b. plan b) (first_with (λ b. number b) k supplies.items)) (map string_bytes words.now) (Rose (F.faults shelf.old) (F.faults shelf.new)) O.took O.faults out.old out.new result }
+    ensures { Comes (F.holds shelf.old) (plans_of (λ b. number b) (λ b. plan b) supplies.items) (map string_bytes words.now) (Rose (F.faults shelf.old) (F.faults shelf.new)) O.took O.faults out.old out.new result }
 {
     match choose(supplies, command.supply) {
         Some(supply) => run_with(alloc, words, command.first, shelf, out, supply),
@@ -79,7 +83,7 @@ fn answer_words<F: Shelf, O: Sink>(
     out: &mut O,
     supplies: Vec<Box<dyn Supply>>,
 ) -> Answer
-    ensures { Comes (F.holds shelf.old) (λ k. option_map (λ b. plan b) (first_with (λ b. number b) k supplies.items)) (map string_bytes words.now) (Rose (F.faults shelf.old) (F.faults shelf.new)) O.took O.faults out.old out.new result }
+    ensures { Comes (F.holds shelf.old) (plans_of (λ b. number b) (λ b. plan b) supplies.items) (map string_bytes words.now) (Rose (F.faults shelf.old) (F.faults shelf.new)) O.took O.faults out.old out.new result }
 {
     match read_command(words) {
         Some(command) => obey(alloc, words, command, shelf, out, supplies),
@@ -88,6 +92,10 @@ fn answer_words<F: Shelf, O: Sink>(
 }
 
 /// Does what a line of words asks for, and answers its status.
+///
+/// It reads from the shelf, writes a report on `out` and a line on `err`, and draws the periods of
+/// power from the first of the supplies that has the number asked for. Files are fetched in the
+/// order of their words, and the first that is refused decides the status.
 pub fn ocelot<F: Shelf, O: Sink, E: Sink>(
     alloc: Global,
     words: &[String],
@@ -96,13 +104,30 @@ pub fn ocelot<F: Shelf, O: Sink, E: Sink>(
     err: &mut E,
     supplies: Vec<Box<dyn Supply>>,
 ) -> u8
-    ensures { (answer : SomeAnswer) × (result ≡ status_of answer)
-        × Comes (F.holds shelf.old) (λ k. option_map (λ b. plan b) (first_with (λ b. number b) k supplies.items)) (map string_bytes words.now) (Rose (F.faults shelf.old) (F.faults shelf.new)) O.took O.faults out.old out.new answer
+    // The status is that of an answer with its cause, and the line of the answer is on `err`.
+    ensures comes { (answer : SomeAnswer) × (result ≡ status_of answer)
+        × Comes (F.holds shelf.old) (plans_of (λ b. number b) (λ b. plan b) supplies.items) (map string_bytes words.now) (Rose (F.faults shelf.old) (F.faults shelf.new)) O.took O.faults out.old out.new answer
         × (E.took err.old (line_of (map string_bytes words.now) answer) err.new ⊎ (Rose (E.faults err.old) (E.faults err.new) × TookPart E.took err.old (line_of (map string_bytes words.now) answer) err.new)) }
+    // Where the three files are held and no fault rose, it is the status of the verdict on them, or there was no memory.
+    ensures exactly { (task : Task) (files : Files) (reading : Reading) → task_of (plans_of (λ b. number b) (λ b. plan b) supplies.items) (map string_bytes words.now) ≡ Some task
+        → AreHeld (F.holds shelf.old) (map string_bytes words.now) task.first files → ReadsAs files.source reading
+        → ¬ Rose (F.faults shelf.old) (F.faults shelf.new) → ¬ Rose (O.faults out.old) (O.faults out.new)
+        → (result ≡ status_of (verdict reading files task.plan).answer) ⊎ (result ≡ 11) }
+    ensures usage { (result ≡ 1) ↔ (task_of (plans_of (λ b. number b) (λ b. plan b) supplies.items) (map string_bytes words.now) ≡ None) }
+    // Where the shelf tells that there is nothing under a file's word, the status is 2, 3 or 11.
+    ensures missing { (task : Task) (place : ℕ) → task_of (plans_of (λ b. number b) (λ b. plan b) supplies.items) (map string_bytes words.now) ≡ Some task
+        → place < 3 → F.holds shelf.old (word_at (map string_bytes words.now) (task.first + place)) ≡ nothing
+        → (result ≡ 2) ⊎ ((result ≡ 3) ⊎ (result ≡ 11)) }
+    // Where the files before it are held and no fault of the shelf rose, a file that is too long gives 3, or there was no memory.
+    ensures long { (task : Task) (place : ℕ) (bytes : List ℕ) → task_of (plans_of (λ b. number b) (λ b. plan b) supplies.items) (map string_bytes words.now) ≡ Some task
+        → place < 3 → AreHeldBefore (F.holds shelf.old) (map string_bytes words.now) task.first place
+        → F.holds shelf.old (word_at (map string_bytes words.now) (task.first + place)) ≡ content bytes → limit_at place < length bytes
+        → ¬ Rose (F.faults shelf.old) (F.faults shelf.new)
+        → (result ≡ 3) ⊎ (result ≡ 11) }
+    // With a status that is no run's, nothing was written on `out`.
+    ensures quiet { is_written result ≡ false → O.took out.old [] out.new }
 {
     let answer = answer_words(alloc, words, shelf, out, supplies);
     put_line(answer, words, err);
     status(answer)
 }
-
-ghost use Rattle.oc_top.specs.declared.answer.Answer.{Answer as SomeAnswer};

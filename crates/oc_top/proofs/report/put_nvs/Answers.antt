@@ -1,5 +1,5 @@
-use Rattle.std.proofs.Common.{◌+◌, ◌<◌, ◌≡◌, length, arith}
-use Rattle.oc_io.proofs.Going.{begin, finish}
+use Rattle.std.proofs.Common.{arith}
+use Rattle.oc_io.proofs.Going.{begin}
 use Rattle.oc_top.proofs.Variables.{variable_on, variable_stop}
 use Rattle.oc_top.proofs.report.put_nvs.Goals as goal
 

@@ -10,4 +10,6 @@ pub mod command;
 pub mod files;
 pub mod prepare;
 pub mod report;
+#[cfg(test)]
+mod tests;
 pub mod top;

@@ -1,0 +1,442 @@
+use crate::top::ocelot;
+use oc_io::memory_shelf::MemoryShelf;
+use oc_io::memory_sink::MemorySink;
+use oc_power::cutter::Cutter;
+use oc_power::looped::Looped;
+use oc_power::recorded::Recorded;
+use oc_power::supply::Supply;
+use std::alloc::{AllocError, Global};
+use std::test::Fail;
+
+/// Takes a sample and emits it.
+const SAMPLE: &str = "sensor t; port r; fn main() { let x = sense(t); emit(r, x); }";
+
+/// Emits four numbers.
+const COUNT: &str = "port r; fn main() { emit(r, 1); emit(r, 2); emit(r, 3); emit(r, 4); }";
+
+const READINGS: &str = "time,sensor,value\n0,t,21\n";
+
+const NO_READINGS: &str = "time,sensor,value\n";
+
+const REPORT: &str = "1 sense t 21\n4 emit r 21\n5 end\n";
+
+/// The words of a call, what the shelf holds under `s`, `h` and `p`, and what is to come.
+#[derive(Drop)]
+struct Case {
+    words: &'static str,
+    source: &'static str,
+    sensors: &'static str,
+    power: &'static str,
+    status: u8,
+    out: &'static str,
+    err: &'static str,
+}
+
+/// A run that ends with this status and report.
+fn ran(
+    source: &'static str,
+    sensors: &'static str,
+    power: &'static str,
+    status: u8,
+    out: &'static str,
+) -> Case {
+    Case {
+        words: "run s h p",
+        source,
+        sensors,
+        power,
+        status,
+        out,
+        err: "",
+    }
+}
+
+/// Files that are refused with this status and line.
+fn refused(
+    source: &'static str,
+    sensors: &'static str,
+    power: &'static str,
+    status: u8,
+    err: &'static str,
+) -> Case {
+    Case {
+        words: "run s h p",
+        source,
+        sensors,
+        power,
+        status,
+        out: "",
+        err,
+    }
+}
+
+/// Words over the files of the first report.
+fn asked(words: &'static str, status: u8, out: &'static str, err: &'static str) -> Case {
+    Case {
+        words,
+        source: SAMPLE,
+        sensors: READINGS,
+        power: "on,off\n6,0\n",
+        status,
+        out,
+        err,
+    }
+}
+
+/// Which fetches fail, and which calls of the sinks after how many bytes.
+#[derive(Drop)]
+struct Faults {
+    fetches: Vec<u64>,
+    puts: Vec<(u64, usize)>,
+    lines: Vec<(u64, usize)>,
+}
+
+fn no_faults(alloc: Global) -> Faults {
+    Faults {
+        fetches: Vec::new(alloc),
+        puts: Vec::new(alloc),
+        lines: Vec::new(alloc),
+    }
+}
+
+/// What came of a call.
+#[derive(Drop)]
+struct Called {
+    status: u8,
+    out: Vec<u8>,
+    err: Vec<u8>,
+}
+
+fn words_of(alloc: Global, line: &str) -> Result<Vec<String>, AllocError> {
+    let mut words = Vec::new(alloc);
+    for word in line.split(' ') {
+        words.push(String::from_str(alloc, word)?)?;
+    }
+    Ok(words)
+}
+
+fn call(
+    alloc: Global,
+    line: &str,
+    source: &[u8],
+    sensors: &[u8],
+    power: &[u8],
+    faults: Faults,
+) -> Result<Called, Fail> {
+    let mut files = Vec::new(alloc);
+    files.push((
+        String::from_str(alloc, "s")?,
+        Vec::from_slice(alloc, source)?,
+    ))?;
+    files.push((
+        String::from_str(alloc, "h")?,
+        Vec::from_slice(alloc, sensors)?,
+    ))?;
+    files.push((
+        String::from_str(alloc, "p")?,
+        Vec::from_slice(alloc, power)?,
+    ))?;
+    let mut shelf = MemoryShelf::new(files, faults.fetches);
+    let mut out = MemorySink::new(alloc, 10000, faults.puts)?;
+    let mut err = MemorySink::new(alloc, 1000, faults.lines)?;
+    let words = words_of(alloc, line)?;
+    let mut supplies: Vec<Box<dyn Supply>> = Vec::new(alloc);
+    supplies.push(Box::new(alloc, Recorded::new(alloc))?)?;
+    supplies.push(Box::new(alloc, Looped::new(alloc, 64))?)?;
+    supplies.push(Box::new(alloc, Cutter::new(alloc, 3))?)?;
+    let status = ocelot(alloc, &words, &mut shelf, &mut out, &mut err, supplies);
+    let out = Vec::from_slice(alloc, out.bytes())?;
+    let err = Vec::from_slice(alloc, err.bytes())?;
+    Ok(Called { status, out, err })
+}
+
+fn call_case(alloc: Global, case: &Case, faults: Faults) -> Result<Called, Fail> {
+    call(
+        alloc,
+        case.words,
+        case.source.as_bytes(),
+        case.sensors.as_bytes(),
+        case.power.as_bytes(),
+        faults,
+    )
+}
+
+/// Refused words, files and sources.
+fn refusals() -> [Case; 15] {
+    let fine = "on,off\n6,0\n";
+    let syntax = "ocelot: syntax error in line 1\n";
+    let not_built = "ocelot: not built in line 1\n";
+    [
+        refused("fn main() { let x = 1 @ 2; }", NO_READINGS, fine, 4, syntax),
+        refused(
+            "fn main() { let x = 2147483648; }",
+            NO_READINGS,
+            fine,
+            4,
+            syntax,
+        ),
+        refused(
+            "port r;\n\nfn main() { emit(r, 3x); }",
+            NO_READINGS,
+            fine,
+            4,
+            "ocelot: syntax error in line 3\n",
+        ),
+        refused(
+            "fn main() { let x = 1 < 2 < 3; }",
+            NO_READINGS,
+            fine,
+            13,
+            not_built,
+        ),
+        refused("", NO_READINGS, fine, 13, not_built),
+        refused(
+            SAMPLE,
+            "time,sensor,value\n5,t,1\n4,t,2\n",
+            fine,
+            6,
+            "ocelot: bad row 3 in sensors\n",
+        ),
+        refused(
+            SAMPLE,
+            "time,sensor,value\n0,q,1\n",
+            fine,
+            6,
+            "ocelot: bad row 2 in sensors\n",
+        ),
+        refused(
+            SAMPLE,
+            "time,sensor,value\n0,t,2147483648\n",
+            fine,
+            6,
+            "ocelot: bad row 2 in sensors\n",
+        ),
+        refused(
+            SAMPLE,
+            READINGS,
+            "on,off\n6,x\n",
+            7,
+            "ocelot: bad row 2 in power\n",
+        ),
+        refused(
+            SAMPLE,
+            READINGS,
+            "on,off\n9223372036854775807,1\n",
+            7,
+            "ocelot: bad row 2 in power\n",
+        ),
+        refused(
+            SAMPLE,
+            READINGS,
+            "on,off\n6,0,x\n",
+            7,
+            "ocelot: bad row 2 in power\n",
+        ),
+        refused(SAMPLE, READINGS, "on,of", 7, "ocelot: bad row 1 in power\n"),
+        asked("run s", 1, "", "ocelot: not a command\n"),
+        asked("run --supply 9 s h p", 1, "", "ocelot: not a command\n"),
+        asked("run q h p", 2, "", "ocelot: cannot read q\n"),
+    ]
+}
+
+/// Runs with their reports.
+fn runs() -> [Case; 18] {
+    let short = "2 emit r 1\n4 emit r 2\n6 emit r 3\n7 off 3\n10 dark\n";
+    let long = "2 emit r 1\n4 emit r 2\n6 emit r 3\n7 off 3\n16 emit r 4\n17 off 3\n25 end\n";
+    let cut = "1 sense t 21\n4 emit r 21\n5 off 100\n";
+    [
+        ran(SAMPLE, READINGS, "on,off\n6,0\n", 0, REPORT),
+        ran(
+            SAMPLE,
+            READINGS,
+            "on,off\n5,100\n",
+            9,
+            "1 sense t 21\n4 emit r 21\n5 off 100\n105 dark\n",
+        ),
+        ran(SAMPLE, READINGS, "on,off", 9, "0 dark\n"),
+        ran("fn main() { }", NO_READINGS, "on,off\n2,0\n", 0, "1 end\n"),
+        ran(
+            SAMPLE,
+            READINGS,
+            "on,off\n9223372036854775807,0\n",
+            0,
+            REPORT,
+        ),
+        ran(SAMPLE, READINGS, "on,off\n0,7\n", 9, "0 off 7\n7 dark\n"),
+        ran(
+            SAMPLE,
+            READINGS,
+            "on,off\n3,10\n3,10\n9,0\n",
+            0,
+            "1 sense t 21\n3 off 10\n16 off 10\n33 emit r 21\n34 end\n",
+        ),
+        ran(
+            SAMPLE,
+            "\u{feff}time,sensor,value\r\n\"0\",t,\"21\"\r\n",
+            "on,off\n6,0\n",
+            0,
+            REPORT,
+        ),
+        ran(
+            SAMPLE,
+            READINGS,
+            "on,off\n0,5,cut\n6,0\n",
+            0,
+            "0 off 5\n6 sense t 21\n9 emit r 21\n10 end\n",
+        ),
+        ran(SAMPLE, READINGS, "on,off\n6,0,cut\n", 0, REPORT),
+        Case {
+            words: "run s h p",
+            source: SAMPLE,
+            sensors: READINGS,
+            power: "on,off\n5,100,cut\n6,0\n",
+            status: 12,
+            out: cut,
+            err: "ocelot: checkpoint lost\n",
+        },
+        Case {
+            words: "run --supply 0 s h p",
+            source: COUNT,
+            sensors: NO_READINGS,
+            power: "on,off\n7,3\n",
+            status: 9,
+            out: short,
+            err: "",
+        },
+        Case {
+            words: "run --supply 1 s h p",
+            source: COUNT,
+            sensors: NO_READINGS,
+            power: "on,off\n7,3\n",
+            status: 0,
+            out: long,
+            err: "",
+        },
+        Case {
+            words: "run --supply 002 s h p",
+            source: COUNT,
+            sensors: NO_READINGS,
+            power: "on,off\n7,3\n",
+            status: 9,
+            out: "2 emit r 1\n3 off 0\n6 off 0\n7 off 3\n10 dark\n",
+            err: "",
+        },
+        asked("run --supply 000 s h p", 0, REPORT, ""),
+        asked("run --supply 256 s h p", 1, "", "ocelot: not a command\n"),
+        asked("run s -h p", 1, "", "ocelot: not a command\n"),
+        asked("--help", 1, "", "ocelot: not a command\n"),
+    ]
+}
+
+#[test]
+fn each_run(rt: HostRuntime) -> Result<(), Fail> {
+    for case in &runs() {
+        let called = call_case(rt.alloc(), case, no_faults(rt.alloc()))?;
+        assert_eq!(rt; called.out.as_slice(), case.out.as_bytes());
+        assert_eq!(rt; called.err.as_slice(), case.err.as_bytes());
+        assert_eq!(rt; called.status, case.status);
+    }
+    Ok(())
+}
+
+#[test]
+fn each_refusal(rt: HostRuntime) -> Result<(), Fail> {
+    for case in &refusals() {
+        let called = call_case(rt.alloc(), case, no_faults(rt.alloc()))?;
+        assert_eq!(rt; called.out.as_slice(), b"".as_slice());
+        assert_eq!(rt; called.err.as_slice(), case.err.as_bytes());
+        assert_eq!(rt; called.status, case.status);
+        let mut faults = no_faults(rt.alloc());
+        faults.lines.push((0, 0))?;
+        let called = call_case(rt.alloc(), case, faults)?;
+        assert_eq!(rt; called.err.as_slice(), b"".as_slice());
+        assert_eq!(rt; called.status, case.status);
+    }
+    Ok(())
+}
+
+#[test]
+fn each_fetch_fails(rt: HostRuntime) -> Result<(), Fail> {
+    let lines = [
+        "ocelot: cannot read s\n",
+        "ocelot: cannot read h\n",
+        "ocelot: cannot read p\n",
+    ];
+    for (number, line) in (0u64..).zip(lines) {
+        let mut faults = no_faults(rt.alloc());
+        faults.fetches.push(number)?;
+        let case = asked("run s h p", 2, "", line);
+        let called = call_case(rt.alloc(), &case, faults)?;
+        assert_eq!(rt; called.out.as_slice(), b"".as_slice());
+        assert_eq!(rt; called.err.as_slice(), line.as_bytes());
+        assert_eq!(rt; called.status, 2);
+    }
+    Ok(())
+}
+
+/// A call whose sink fails at this put after so many bytes.
+fn call_with_fault(alloc: Global, put: u64, taken: usize) -> Result<Called, Fail> {
+    let mut faults = no_faults(alloc);
+    faults.puts.push((put, taken))?;
+    let case = asked("run s h p", 0, REPORT, "");
+    call_case(alloc, &case, faults)
+}
+
+/// Whether a call wrote the whole report, or a front part of it and the line of a fault.
+fn is_front(called: &Called) -> bool {
+    let out = called.out.as_slice();
+    let err = called.err.as_slice();
+    match called.status {
+        0 => out == REPORT.as_bytes() && err.is_empty(),
+        10 => REPORT.as_bytes().starts_with(out) && err == b"ocelot: cannot write\n".as_slice(),
+        _ => false,
+    }
+}
+
+#[test]
+fn each_put_fails(rt: HostRuntime) -> Result<(), Fail> {
+    for put in 0..60 {
+        let none = call_with_fault(rt.alloc(), put, 0)?;
+        let one = call_with_fault(rt.alloc(), put, 1)?;
+        assert!(rt; is_front(&none));
+        assert!(rt; is_front(&one));
+        assert_eq!(rt; none.status, one.status);
+    }
+    let first = call_with_fault(rt.alloc(), 0, 1)?;
+    assert_eq!(rt; first.out.as_slice(), b"1".as_slice());
+    let after = call_with_fault(rt.alloc(), 60, 0)?;
+    assert_eq!(rt; after.status, 0);
+    Ok(())
+}
+
+/// The source with spaces up to this length.
+fn padded(alloc: Global, length: usize) -> Result<Vec<u8>, AllocError> {
+    let mut source = Vec::from_slice(alloc, SAMPLE.as_bytes())?;
+    for _ in SAMPLE.len()..length {
+        source.push(b' ')?;
+    }
+    Ok(source)
+}
+
+#[test]
+fn the_longest_source(rt: HostRuntime) -> Result<(), Fail> {
+    let alloc = rt.alloc();
+    for (length, status, out, err) in [
+        (1_048_576, 0, REPORT, ""),
+        (1_048_577, 3, "", "ocelot: too long s\n"),
+    ] {
+        let source = padded(alloc, length)?;
+        let called = call(
+            alloc,
+            "run s h p",
+            &source,
+            READINGS.as_bytes(),
+            b"on,off\n6,0\n",
+            no_faults(alloc),
+        )?;
+        assert_eq!(rt; called.out.as_slice(), out.as_bytes());
+        assert_eq!(rt; called.err.as_slice(), err.as_bytes());
+        assert_eq!(rt; called.status, status);
+    }
+    Ok(())
+}

@@ -8,3 +8,6 @@ pub mod StatementLaws
 pub mod StatementsRead
 pub mod ProgramLaws
 pub mod NodeLaws
+pub mod LexemeLaws
+pub mod FormLaws
+pub mod NumberLaws

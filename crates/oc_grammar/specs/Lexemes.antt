@@ -6,6 +6,8 @@ use Rattle.oc_lex.specs.declared.token.Kind.TheVariants as kinds
 use Rattle.oc_lex.specs.declared.token.Word.{Word}
 use Rattle.oc_lex.specs.declared.token.Mark.{Mark}
 use Rattle.oc_lex.specs.declared.token.Token.{Token}
+use Rattle.oc_lex.specs.Stands.{IsName}
+use Rattle.oc_grammar.specs.Form.{IsNumeral}
 
 pub data Lexeme : Type 0 where
   named : (line : ℕ) → Text → Lexeme
@@ -28,6 +30,16 @@ lexeme_of source t = lexeme_by t.line (slice_range source t.start t.end) t.kind
 
 abbrev pub lexemes_of : List ℕ → List Token → Lexemes
 lexemes_of source tokens = map (lexeme_of source) tokens
+
+-- a name of the language, or a number that it can say
+abbrev pub LexemeInForm : Lexeme → Type 0
+LexemeInForm (named line x) = IsName x
+LexemeInForm (numeral line z) = IsNumeral z
+LexemeInForm _ = Unit {0}
+
+abbrev pub LexemesInForm : Lexemes → Type 0
+LexemesInForm [] = Unit {0}
+LexemesInForm (t ∷ ts) = LexemeInForm t × LexemesInForm ts
 
 abbrev pub line_of : Lexeme → ℕ
 line_of (named line x) = line

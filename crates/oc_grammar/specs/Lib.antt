@@ -1,3 +1,5 @@
+pub mod Numbers
+pub mod Form
 pub mod Lexemes
 pub mod Fronts
 pub mod Expressions

@@ -4,6 +4,7 @@ ghost use Rattle.oc_tree.specs.Tree.{TProgram};
 ghost use Rattle.oc_tree.specs.Nodes.{program_nodes};
 ghost use Rattle.oc_tree.specs.View.{program_view};
 ghost use Rattle.oc_lex.specs.Tokens.{AreTokens};
+ghost use Rattle.oc_grammar.specs.Form.{InForm};
 ghost use Rattle.oc_grammar.specs.Lexemes.{last_line as last_line_of, lexemes_of};
 ghost use Rattle.oc_grammar.specs.Programs.{SpellsProgram, empty_program};
 ghost use Rattle.oc_grammar.specs.ReadingPrograms.{program_at};
@@ -41,6 +42,9 @@ pub fn parse(alloc: Global, source: &[u8], tokens: &[Token]) -> Result<Program, 
     ensures found { IfOk result (λ p. SpellsProgram (program_view p) (lexemes_of source.now tokens.now)) }
     // What the tokens spell comes, unless memory runs out.
     ensures only { (p : TProgram) → SpellsProgram p (lexemes_of source.now tokens.now) → MatchResult result (λ q. program_view q ≡ p) (λ e. e ≡ ParseError.Memory) }
+    // It is in form: names, numbers and the places of declarations are those of the language, and
+    // statements and blocks are numbered in source order.
+    ensures form { IfOk result (λ p. InForm (program_view p)) }
     // Its expressions have no more nodes than there are tokens.
     ensures nodes { IfOk result (λ p. program_nodes (program_view p) ≤ length tokens.now) }
     // A fault is the first that reading from left to right comes to.

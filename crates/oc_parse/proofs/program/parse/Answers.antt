@@ -6,6 +6,8 @@ use Rattle.oc_grammar.specs.Lexemes.{lexemes_of}
 use Rattle.oc_grammar.proofs.ProgramLaws.{program_sound, program_read}
 use Rattle.oc_grammar.proofs.NodeLaws.{nodes_within}
 use Rattle.oc_grammar.proofs.FrontLaws.{ok_is}
+use Rattle.oc_grammar.proofs.LexemeLaws.{lexemes_in_form}
+use Rattle.oc_grammar.proofs.NumberLaws.{in_form}
 use Rattle.oc_parse.specs.declared.stop.Stop.TheVariants as stops
 use Rattle.oc_parse.proofs.Spelled.{only_memory}
 use Rattle.oc_parse.proofs.program.parse.Goals as goal
@@ -40,3 +42,13 @@ returns-in-Ok-clause-nodes c =
     let n = nodes_within ts (program_view c.in-Ok.program) (program_sound ts (program_view c.in-Ok.program) c.in-Ok.ensures) in
     let k : length ts ≡ length c.args.tokens.now = length-map c.args.tokens.now _ in
     omega (arith, n, k)
+
+pub returns-in-Ok-clause-form : goal.returns-in-Ok-clause-form
+returns-in-Ok-clause-form c =
+    let source = c.args.source.now in
+    let tokens = c.args.tokens.now in
+    let ts = lexemes_of source tokens in
+    let k : length ts ≡ length tokens = length-map tokens _ in
+    let few = tokens_count source tokens c.requires.tokens in
+    let small = c.requires.small in
+    in_form ts (program_view c.in-Ok.program) (program_sound ts (program_view c.in-Ok.program) c.in-Ok.ensures) (lexemes_in_form source tokens c.requires.tokens) (omega (arith, k, few, small))

@@ -1,5 +1,6 @@
 pub mod Lexemes
 pub mod Fronts
+pub mod Limits
 pub mod Expressions
 pub mod Reading
 pub mod ReadingExpressions

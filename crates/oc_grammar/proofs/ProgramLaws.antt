@@ -9,6 +9,7 @@ use Rattle.oc_tree.specs.declared.tree.Param.{Param}
 use Rattle.oc_tree.specs.declared.tree.NvDecl.{NvDecl}
 use Rattle.oc_lex.specs.declared.token.Word.TheVariants as words
 use Rattle.oc_lex.specs.declared.token.Mark.TheVariants as marks
+use Rattle.oc_grammar.specs.Limits.{Limits}
 use Rattle.oc_grammar.specs.Lexemes.{Lexeme, Lexemes, keyword, sign, front_line, last_line}
 use Rattle.oc_grammar.specs.Fronts.{Named, a_name, Keyword, a_keyword, Sign, a_sign}
 use Rattle.oc_grammar.specs.Reading.{with_some, next_at, strip_mark, strip_word, expect_mark, name_at, take_word, listed_by}
@@ -75,17 +76,6 @@ result_sound ts y e =
           subst (λ (q : Option Scalar × Lexemes). SpellsResult q.0 ts q.1) (ok_is _ y a.2) (a_result (strip_mark_ok marks.Arrow ts w.0 w.1) (scalar_sound w.0 a.0 a.1))
     ]
 
-function_sound : (n b : ℕ) (from ts : Lexemes) (y : TFunction × ℕ × ℕ × Lexemes) → Keyword words.Function from ts → function_at (front_line from) n b ts ≡ Ok y → SpellsFunction y.0 (n, b, from) (y.1, y.2, y.3)
-unfolding function_at
-function_sound n b from ts y w e =
-    let f = bind_ok (name_at ts) _ y e in
-    let o = bind_ok (expect_mark marks.OpenRound f.0.1) _ y f.2 in
-    let ps = bind_ok (params_at o.0) _ y o.2 in
-    let r = bind_ok (result_at ps.0.1) _ y ps.2 in
-    let t = bind_ok (block_at 32 n b r.0.1) _ y r.2 in
-    subst (λ (q : TFunction × ℕ × ℕ × Lexemes). SpellsFunction q.0 (n, b, from) (q.1, q.2, q.3)) (ok_is _ y t.2)
-    (a_function w (name_ok ts f.0.0 f.0.1 f.1) (expect_mark_ok marks.OpenRound f.0.1 o.0 o.1) (params_sound o.0 ps.0 ps.1) (result_sound ps.0.1 r.0 r.1) (block_sound 32 n b r.0.1 t.0 t.1))
-
 -- ---- declarations
 
 cells_from_sound : (t : Lexeme) (ts : Lexemes) (y : (ℕ × Bool) × Lexemes) → cells_from t ts ≡ Ok y → SpellsCells y.0.0 y.0.1 (t ∷ ts) y.1
@@ -124,46 +114,6 @@ declared_sound ts y e =
     let b = bind_ok (expect_mark marks.Semicolon a.0.1) _ y a.2 in
     subst (λ (q : Text × Lexemes). IsDeclared q.0 ts q.1) (ok_is _ y b.2) (a.0.1, name_ok ts a.0.0 a.0.1 a.1, expect_mark_ok marks.Semicolon a.0.1 b.0 b.1)
 
--- ---- items
-
-abbrev pub Grows : TProgram → Place → TProgram × ℕ × ℕ × Lexemes → Type 0
-Grows p x y = SpellsItem p x y.0 (y.1, y.2, y.3)
-
-item_by_sound : (p : TProgram) (t : Lexeme) (n b : ℕ) (ts : Lexemes) (y : TProgram × ℕ × ℕ × Lexemes) → item_by p t n b ts ≡ Ok y → Grows p (n, b, t ∷ ts) y
-item_by_sound p (keyword line words.Sensor) n b ts y e =
-    let x = bind_ok (declared_at ts) _ y e in
-    let d = declared_sound ts x.0 x.1 in
-    subst (Grows p (n, b, keyword line words.Sensor ∷ ts)) (ok_is _ y x.2) (sensor_item a_keyword d.1 d.2)
-item_by_sound p (keyword line words.Port) n b ts y e =
-    let x = bind_ok (declared_at ts) _ y e in
-    let d = declared_sound ts x.0 x.1 in
-    subst (Grows p (n, b, keyword line words.Port ∷ ts)) (ok_is _ y x.2) (port_item a_keyword d.1 d.2)
-item_by_sound p (keyword line words.Nonvolatile) n b ts y e =
-    let x = bind_ok (nv_at ts) _ y e in
-    subst (Grows p (n, b, keyword line words.Nonvolatile ∷ ts)) (ok_is _ y x.2) (nv_item (nv_sound _ ts x.0 a_keyword x.1))
-item_by_sound p (keyword line words.Function) n b ts y e =
-    let f = bind_ok (function_at line n b ts) _ y e in
-    subst (Grows p (n, b, keyword line words.Function ∷ ts)) (ok_is _ y f.2) (function_item (function_sound n b (keyword line words.Function ∷ ts) ts f.0 a_keyword f.1))
-item_by_sound p _ n b ts y e = absurd cc
-
-pub item_sound : (p : TProgram) (n b : ℕ) (ts : Lexemes) (y : TProgram × ℕ × ℕ × Lexemes) → item_at p n b ts ≡ Ok y → Grows p (n, b, ts) y
-unfolding item_at
-item_sound p n b ts y e =
-    let x = bind_ok (next_at ts) _ y e in
-    rw (next_ok ts x.0 x.1) (item_by_sound p x.0.0 n b x.0.1 y x.2)
-
-items_sound : (k : ℕ) (p : TProgram) (n b : ℕ) (ts : Lexemes) (r : TProgram) → items_by k p n b ts ≡ Ok r → SpellsItems p (n, b, ts) r
-unfolding items_by
-items_sound zero p n b ts r e = absurd cc
-items_sound (suc k) p n b [] r e = subst (λ (q : TProgram). SpellsItems p (n, b, []) q) (ok_is p r e) no_item
-items_sound (suc k) p n b (t ∷ ts) r e =
-    let x = bind_ok (item_at p n b (t ∷ ts)) _ r e in
-    an_item (item_sound p n b (t ∷ ts) x.0 x.1) (items_sound k x.0.0 x.0.1 x.0.2 x.0.3 r x.2)
-
-pub program_sound : (ts : Lexemes) (p : TProgram) → program_at ts ≡ Ok p → SpellsProgram p ts
-unfolding program_at items_at
-program_sound ts p e = items_sound (suc (length ts)) (empty_program (last_line ts)) 1 1 ts p e
-
 -- ---- what is left is shorter
 
 passing_shorter : {p : Passing} {from rest : Lexemes} → SpellsPassing p from rest → length rest ≤ length from
@@ -187,21 +137,12 @@ result_shorter no_result = omega arith
 result_shorter (a_result s (int_scalar k)) = let a = sign_shorter s in let b = keyword_shorter k in omega arith
 result_shorter (a_result s (bool_scalar k)) = let a = sign_shorter s in let b = keyword_shorter k in omega arith
 
-function_shorter : {f : TFunction} {p q : Place} → SpellsFunction f p q → length q.2 < length p.2
-function_shorter (a_function w i o ps r t) = let a = keyword_shorter w in let b = name_shorter i in let c = sign_shorter o in let d = params_shorter ps in let e = result_shorter r in let f = block_shorter t in omega arith
-
 cells_shorter : {n : ℕ} {array : Bool} {from rest : Lexemes} → SpellsCells n array from rest → length rest < length from
 cells_shorter (one_cell k) = let a = keyword_shorter k in omega arith
 cells_shorter (array_cells d) = type_shorter (array_type d)
 
 nv_shorter : {x : Text} {d : NvDecl} {from rest : Lexemes} → SpellsNv x d from rest → length rest < length from
 nv_shorter (an_nv w i c d s z e) = let a = keyword_shorter w in let b = name_shorter i in let f = sign_shorter c in let g = cells_shorter d in let h = sign_shorter s in let l = const_shorter z in let m = sign_shorter e in omega arith
-
-pub item_shorter : {p q : TProgram} {x y : Place} → SpellsItem p x q y → length y.2 < length x.2
-item_shorter (sensor_item w i s) = let a = keyword_shorter w in let b = name_shorter i in let c = sign_shorter s in omega arith
-item_shorter (port_item w i s) = let a = keyword_shorter w in let b = name_shorter i in let c = sign_shorter s in omega arith
-item_shorter (nv_item d) = nv_shorter d
-item_shorter (function_item d) = function_shorter d
 
 -- ---- what is spelled so is read
 
@@ -246,55 +187,116 @@ unfolding scalar_at next_at
 scalar_read (int_scalar a_keyword) = refl
 scalar_read (bool_scalar a_keyword) = refl
 
-block_no_arrow : {room : ℕ} {t : TBlock} {p q : Place} → SpellsBlock room t p q → strip_mark marks.Arrow p.2 ≡ None
-unfolding strip_mark
-block_no_arrow (braces a_sign d) = refl
-
-result_read : {r : Option Scalar} {room : ℕ} {t : TBlock} {from : Lexemes} {p q : Place} → SpellsResult r from p.2 → SpellsBlock room t p q → result_at from ≡ Ok (r, p.2)
-unfolding result_at
-result_read no_result t = rw (block_no_arrow t) refl
-result_read (a_result s d) t = rw (sign_strip s, scalar_read d) refl
-
-function_read : (line n b : ℕ) {ts c d e g : Lexemes} {f : Text} {ps : List Param} {r : Option Scalar} {t : TBlock} {q : Place} → Named f ts c → Sign marks.OpenRound c d → SpellsParams ps d e → SpellsResult r e g → SpellsBlock 32 t (n, b, g) q → function_at line n b ts ≡ Ok (record { name = f; line = line; params = ps; result = r; body = t }, q.0, q.1, q.2)
-unfolding function_at
-function_read line n b i o ps r t = rw (name_read i, sign_expect o, params_at_read ps, result_read r t, block_read t) refl
-
 cells_read : {n : ℕ} {array : Bool} {from rest : Lexemes} → SpellsCells n array from rest → cells_at from ≡ Ok ((n, array), rest)
 unfolding cells_at next_at array_at
 cells_read (one_cell a_keyword) = refl
 cells_read (array_cells (an_array a_sign k s i c)) = rw (keyword_expect k, sign_expect s, number_read i, sign_expect c) refl
 
-abbrev ItemRead : TProgram → Place → TProgram → Place → Type 0
-ItemRead p x q y = item_at p x.0 x.1 x.2 ≡ Ok (q, y.0, y.1, y.2)
+module _ (limits : Limits) where
+  function_sound : (n b : ℕ) (from ts : Lexemes) (y : TFunction × ℕ × ℕ × Lexemes) → Keyword words.Function from ts → function_at limits (front_line from) n b ts ≡ Ok y → SpellsFunction limits y.0 (n, b, from) (y.1, y.2, y.3)
+  unfolding function_at
+  function_sound n b from ts y w e =
+      let f = bind_ok (name_at ts) _ y e in
+      let o = bind_ok (expect_mark marks.OpenRound f.0.1) _ y f.2 in
+      let ps = bind_ok (params_at o.0) _ y o.2 in
+      let r = bind_ok (result_at ps.0.1) _ y ps.2 in
+      let t = bind_ok (block_at limits limits.blocks n b r.0.1) _ y r.2 in
+      subst (λ (q : TFunction × ℕ × ℕ × Lexemes). SpellsFunction limits q.0 (n, b, from) (q.1, q.2, q.3)) (ok_is _ y t.2)
+      (a_function w (name_ok ts f.0.0 f.0.1 f.1) (expect_mark_ok marks.OpenRound f.0.1 o.0 o.1) (params_sound o.0 ps.0 ps.1) (result_sound ps.0.1 r.0 r.1) (block_sound limits limits.blocks n b r.0.1 t.0 t.1))
 
-item_read : {p q : TProgram} {x y : Place} → SpellsItem p x q y → ItemRead p x q y
-unfolding item_at next_at declared_at nv_at
-item_read (sensor_item a_keyword i s) = rw (name_read i, sign_expect s) refl
-item_read (port_item a_keyword i s) = rw (name_read i, sign_expect s) refl
-item_read (nv_item (an_nv a_keyword i c d s z e)) = rw (name_read i, sign_expect c, cells_read d, sign_expect s, const_read z, sign_expect e) refl
-item_read (function_item (a_function {n = n} {b = b} (a_keyword {line = line}) i o ps r t)) = rw (function_read line n b i o ps r t) refl
+  -- ---- items
 
-items_more : (k : ℕ) (p q : TProgram) (x y : Place) → SpellsItem p x q y → items_by (suc k) p x.0 x.1 x.2 ≡ items_by k q y.0 y.1 y.2
-unfolding items_by
-items_more k p q x y d = by_front x.2 (item_shorter d) (item_read d)
-  where
-    by_front : (ts : Lexemes) → length y.2 < length ts → item_at p x.0 x.1 ts ≡ Ok (q, y.0, y.1, y.2) → items_by (suc k) p x.0 x.1 ts ≡ items_by k q y.0 y.1 y.2
-    by_front [] h e = absurd (omega arith)
-    by_front (t ∷ ts) h e = rw e refl
+  abbrev pub Grows : TProgram → Place → TProgram × ℕ × ℕ × Lexemes → Type 0
+  Grows p x y = SpellsItem limits p x y.0 (y.1, y.2, y.3)
 
-items_read : {p r : TProgram} {x : Place} → SpellsItems p x r → (k : ℕ) → length x.2 < k → items_by k p x.0 x.1 x.2 ≡ Ok r
-unfolding items_by
-items_read no_item zero h = absurd (omega arith)
-items_read no_item (suc k) h = refl
-items_read (an_item d e) zero h = absurd (omega arith)
-items_read (an_item {p = p} {q = q} {x = x} {y = y} d e) (suc k) h =
-    let g = item_shorter d in
-    items_more k p q x y d ∙ items_read e k (omega arith)
+  item_by_sound : (p : TProgram) (t : Lexeme) (n b : ℕ) (ts : Lexemes) (y : TProgram × ℕ × ℕ × Lexemes) → item_by limits p t n b ts ≡ Ok y → Grows p (n, b, t ∷ ts) y
+  item_by_sound p (keyword line words.Sensor) n b ts y e =
+      let x = bind_ok (declared_at ts) _ y e in
+      let d = declared_sound ts x.0 x.1 in
+      subst (Grows p (n, b, keyword line words.Sensor ∷ ts)) (ok_is _ y x.2) (sensor_item a_keyword d.1 d.2)
+  item_by_sound p (keyword line words.Port) n b ts y e =
+      let x = bind_ok (declared_at ts) _ y e in
+      let d = declared_sound ts x.0 x.1 in
+      subst (Grows p (n, b, keyword line words.Port ∷ ts)) (ok_is _ y x.2) (port_item a_keyword d.1 d.2)
+  item_by_sound p (keyword line words.Nonvolatile) n b ts y e =
+      let x = bind_ok (nv_at ts) _ y e in
+      subst (Grows p (n, b, keyword line words.Nonvolatile ∷ ts)) (ok_is _ y x.2) (nv_item (nv_sound _ ts x.0 a_keyword x.1))
+  item_by_sound p (keyword line words.Function) n b ts y e =
+      let f = bind_ok (function_at limits line n b ts) _ y e in
+      subst (Grows p (n, b, keyword line words.Function ∷ ts)) (ok_is _ y f.2) (function_item (function_sound n b (keyword line words.Function ∷ ts) ts f.0 a_keyword f.1))
+  item_by_sound p _ n b ts y e = absurd cc
 
-pub program_read : (ts : Lexemes) (p : TProgram) → SpellsProgram p ts → program_at ts ≡ Ok p
-unfolding program_at items_at
-program_read ts p d = items_read d (suc (length ts)) (omega arith)
+  pub item_sound : (p : TProgram) (n b : ℕ) (ts : Lexemes) (y : TProgram × ℕ × ℕ × Lexemes) → item_at limits p n b ts ≡ Ok y → Grows p (n, b, ts) y
+  unfolding item_at
+  item_sound p n b ts y e =
+      let x = bind_ok (next_at ts) _ y e in
+      rw (next_ok ts x.0 x.1) (item_by_sound p x.0.0 n b x.0.1 y x.2)
 
--- no two programs
-pub one_program : (ts : Lexemes) (p q : TProgram) → SpellsProgram p ts → SpellsProgram q ts → p ≡ q
-one_program ts p q d e = ok_is p q (sym (program_read ts p d) ∙ program_read ts q e)
+  items_sound : (k : ℕ) (p : TProgram) (n b : ℕ) (ts : Lexemes) (r : TProgram) → items_by limits k p n b ts ≡ Ok r → SpellsItems limits p (n, b, ts) r
+  unfolding items_by
+  items_sound zero p n b ts r e = absurd cc
+  items_sound (suc k) p n b [] r e = subst (λ (q : TProgram). SpellsItems limits p (n, b, []) q) (ok_is p r e) no_item
+  items_sound (suc k) p n b (t ∷ ts) r e =
+      let x = bind_ok (item_at limits p n b (t ∷ ts)) _ r e in
+      an_item (item_sound p n b (t ∷ ts) x.0 x.1) (items_sound k x.0.0 x.0.1 x.0.2 x.0.3 r x.2)
+
+  pub program_sound : (ts : Lexemes) (p : TProgram) → program_at limits ts ≡ Ok p → SpellsProgram limits p ts
+  unfolding program_at items_at
+  program_sound ts p e = items_sound (suc (length ts)) (empty_program (last_line ts)) 1 1 ts p e
+
+  function_shorter : {f : TFunction} {p q : Place} → SpellsFunction limits f p q → length q.2 < length p.2
+  function_shorter (a_function w i o ps r t) = let a = keyword_shorter w in let b = name_shorter i in let c = sign_shorter o in let d = params_shorter ps in let e = result_shorter r in let f = block_shorter limits t in omega arith
+
+  pub item_shorter : {p q : TProgram} {x y : Place} → SpellsItem limits p x q y → length y.2 < length x.2
+  item_shorter (sensor_item w i s) = let a = keyword_shorter w in let b = name_shorter i in let c = sign_shorter s in omega arith
+  item_shorter (port_item w i s) = let a = keyword_shorter w in let b = name_shorter i in let c = sign_shorter s in omega arith
+  item_shorter (nv_item d) = nv_shorter d
+  item_shorter (function_item d) = function_shorter d
+
+  block_no_arrow : {room : ℕ} {t : TBlock} {p q : Place} → SpellsBlock limits room t p q → strip_mark marks.Arrow p.2 ≡ None
+  unfolding strip_mark
+  block_no_arrow (braces a_sign d) = refl
+
+  result_read : {r : Option Scalar} {room : ℕ} {t : TBlock} {from : Lexemes} {p q : Place} → SpellsResult r from p.2 → SpellsBlock limits room t p q → result_at from ≡ Ok (r, p.2)
+  unfolding result_at
+  result_read no_result t = rw (block_no_arrow t) refl
+  result_read (a_result s d) t = rw (sign_strip s, scalar_read d) refl
+
+  function_read : (line n b : ℕ) {ts c d e g : Lexemes} {f : Text} {ps : List Param} {r : Option Scalar} {t : TBlock} {q : Place} → Named f ts c → Sign marks.OpenRound c d → SpellsParams ps d e → SpellsResult r e g → SpellsBlock limits limits.blocks t (n, b, g) q → function_at limits line n b ts ≡ Ok (record { name = f; line = line; params = ps; result = r; body = t }, q.0, q.1, q.2)
+  unfolding function_at
+  function_read line n b i o ps r t = rw (name_read i, sign_expect o, params_at_read ps, result_read r t, block_read limits t) refl
+
+  abbrev ItemRead : TProgram → Place → TProgram → Place → Type 0
+  ItemRead p x q y = item_at limits p x.0 x.1 x.2 ≡ Ok (q, y.0, y.1, y.2)
+
+  item_read : {p q : TProgram} {x y : Place} → SpellsItem limits p x q y → ItemRead p x q y
+  unfolding item_at next_at declared_at nv_at
+  item_read (sensor_item a_keyword i s) = rw (name_read i, sign_expect s) refl
+  item_read (port_item a_keyword i s) = rw (name_read i, sign_expect s) refl
+  item_read (nv_item (an_nv a_keyword i c d s z e)) = rw (name_read i, sign_expect c, cells_read d, sign_expect s, const_read z, sign_expect e) refl
+  item_read (function_item (a_function {n = n} {b = b} (a_keyword {line = line}) i o ps r t)) = rw (function_read line n b i o ps r t) refl
+
+  items_more : (k : ℕ) (p q : TProgram) (x y : Place) → SpellsItem limits p x q y → items_by limits (suc k) p x.0 x.1 x.2 ≡ items_by limits k q y.0 y.1 y.2
+  unfolding items_by
+  items_more k p q x y d = by_front x.2 (item_shorter d) (item_read d)
+    where
+      by_front : (ts : Lexemes) → length y.2 < length ts → item_at limits p x.0 x.1 ts ≡ Ok (q, y.0, y.1, y.2) → items_by limits (suc k) p x.0 x.1 ts ≡ items_by limits k q y.0 y.1 y.2
+      by_front [] h e = absurd (omega arith)
+      by_front (t ∷ ts) h e = rw e refl
+
+  items_read : {p r : TProgram} {x : Place} → SpellsItems limits p x r → (k : ℕ) → length x.2 < k → items_by limits k p x.0 x.1 x.2 ≡ Ok r
+  unfolding items_by
+  items_read no_item zero h = absurd (omega arith)
+  items_read no_item (suc k) h = refl
+  items_read (an_item d e) zero h = absurd (omega arith)
+  items_read (an_item {p = p} {q = q} {x = x} {y = y} d e) (suc k) h =
+      let g = item_shorter d in
+      items_more k p q x y d ∙ items_read e k (omega arith)
+
+  pub program_read : (ts : Lexemes) (p : TProgram) → SpellsProgram limits p ts → program_at limits ts ≡ Ok p
+  unfolding program_at items_at
+  program_read ts p d = items_read d (suc (length ts)) (omega arith)
+
+  -- no two programs
+  pub one_program : (ts : Lexemes) (p q : TProgram) → SpellsProgram limits p ts → SpellsProgram limits q ts → p ≡ q
+  one_program ts p q d e = ok_is p q (sym (program_read ts p d) ∙ program_read ts q e)

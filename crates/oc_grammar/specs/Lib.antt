@@ -2,6 +2,7 @@ pub mod Numbers
 pub mod Form
 pub mod Lexemes
 pub mod Fronts
+pub mod Limits
 pub mod Expressions
 pub mod Reading
 pub mod ReadingExpressions

@@ -13,6 +13,7 @@ use Rattle.oc_tree.specs.declared.tree.DeclKind.TheVariants as decls
 use Rattle.oc_tree.specs.declared.tree.Decl.{Decl}
 use Rattle.oc_lex.specs.declared.token.Word.TheVariants as words
 use Rattle.oc_lex.specs.declared.token.Mark.TheVariants as marks
+use Rattle.oc_grammar.specs.Limits.{Limits}
 use Rattle.oc_grammar.specs.Lexemes.{Lexemes, front_line, last_line}
 use Rattle.oc_grammar.specs.Fronts.{Named, Keyword, Sign}
 use Rattle.oc_grammar.specs.Statements.{SpellsScalar, SpellsArray, SpellsType, SpellsConst, Place, SpellsBlock}
@@ -37,9 +38,9 @@ pub data SpellsResult : Option Scalar → Lexemes → Lexemes → Type 0 where
   no_result : {rest : Lexemes} → SpellsResult None rest rest
   a_result : {s : Scalar} {from a rest : Lexemes} → Sign marks.Arrow from a → SpellsScalar s a rest → SpellsResult (Some s) from rest
 
--- the body's block is inside none, and 32 blocks may be in one another
-pub data SpellsFunction : TFunction → Place → Place → Type 0 where
-  a_function : {n b : ℕ} {f : Text} {ps : List Param} {r : Option Scalar} {t : TBlock} {from a c d e g : Lexemes} {q : Place} → Keyword words.Function from a → Named f a c → Sign marks.OpenRound c d → SpellsParams ps d e → SpellsResult r e g → SpellsBlock 32 t (n, b, g) q → SpellsFunction (record { name = f; line = front_line from; params = ps; result = r; body = t }) (n, b, from) q
+-- the body's block is inside none
+pub data SpellsFunction (limits : Limits) : TFunction → Place → Place → Type 0 where
+  a_function : {n b : ℕ} {f : Text} {ps : List Param} {r : Option Scalar} {t : TBlock} {from a c d e g : Lexemes} {q : Place} → Keyword words.Function from a → Named f a c → Sign marks.OpenRound c d → SpellsParams ps d e → SpellsResult r e g → SpellsBlock limits limits.blocks t (n, b, g) q → SpellsFunction limits (record { name = f; line = front_line from; params = ps; result = r; body = t }) (n, b, from) q
 
 -- ---- declarations
 
@@ -94,16 +95,16 @@ with_function f p = record {
 }
 
 -- the item between two places makes the one program the other
-pub data SpellsItem : TProgram → Place → TProgram → Place → Type 0 where
-  sensor_item : {p : TProgram} {n b : ℕ} {x : Text} {from a c rest : Lexemes} → Keyword words.Sensor from a → Named x a c → Sign marks.Semicolon c rest → SpellsItem p (n, b, from) (with_sensor (front_line from) x p) (n, b, rest)
-  port_item : {p : TProgram} {n b : ℕ} {x : Text} {from a c rest : Lexemes} → Keyword words.Port from a → Named x a c → Sign marks.Semicolon c rest → SpellsItem p (n, b, from) (with_port (front_line from) x p) (n, b, rest)
-  nv_item : {p : TProgram} {n b : ℕ} {x : Text} {d : NvDecl} {from rest : Lexemes} → SpellsNv x d from rest → SpellsItem p (n, b, from) (with_nv (front_line from) x d p) (n, b, rest)
-  function_item : {p : TProgram} {f : TFunction} {x y : Place} → SpellsFunction f x y → SpellsItem p x (with_function f p) y
+pub data SpellsItem (limits : Limits) : TProgram → Place → TProgram → Place → Type 0 where
+  sensor_item : {p : TProgram} {n b : ℕ} {x : Text} {from a c rest : Lexemes} → Keyword words.Sensor from a → Named x a c → Sign marks.Semicolon c rest → SpellsItem limits p (n, b, from) (with_sensor (front_line from) x p) (n, b, rest)
+  port_item : {p : TProgram} {n b : ℕ} {x : Text} {from a c rest : Lexemes} → Keyword words.Port from a → Named x a c → Sign marks.Semicolon c rest → SpellsItem limits p (n, b, from) (with_port (front_line from) x p) (n, b, rest)
+  nv_item : {p : TProgram} {n b : ℕ} {x : Text} {d : NvDecl} {from rest : Lexemes} → SpellsNv x d from rest → SpellsItem limits p (n, b, from) (with_nv (front_line from) x d p) (n, b, rest)
+  function_item : {p : TProgram} {f : TFunction} {x y : Place} → SpellsFunction limits f x y → SpellsItem limits p x (with_function f p) y
 
 -- the items from a place up to the end make the one program the other
-pub data SpellsItems : TProgram → Place → TProgram → Type 0 where
-  no_item : {p : TProgram} {n b : ℕ} → SpellsItems p (n, b, []) p
-  an_item : {p q r : TProgram} {x y : Place} → SpellsItem p x q y → SpellsItems q y r → SpellsItems p x r
+pub data SpellsItems (limits : Limits) : TProgram → Place → TProgram → Type 0 where
+  no_item : {p : TProgram} {n b : ℕ} → SpellsItems limits p (n, b, []) p
+  an_item : {p q r : TProgram} {x y : Place} → SpellsItem limits p x q y → SpellsItems limits q y r → SpellsItems limits p x r
 
 -- nothing but the line of the last token
 abbrev pub empty_program : ℕ → TProgram
@@ -115,6 +116,6 @@ empty_program line = record {
   last_line = line;
 }
 
--- the tokens spell the program, within the depths
-abbrev pub SpellsProgram : TProgram → Lexemes → Type 0
-SpellsProgram p tokens = SpellsItems (empty_program (last_line tokens)) (1, 1, tokens) p
+-- the tokens spell the program, within the limits
+abbrev pub SpellsProgram : Limits → TProgram → Lexemes → Type 0
+SpellsProgram limits p tokens = SpellsItems limits (empty_program (last_line tokens)) (1, 1, tokens) p

@@ -6,13 +6,14 @@ use Rattle.oc_lex.specs.declared.token.Word.{Word}
 use Rattle.oc_lex.specs.declared.token.Word.TheVariants as words
 use Rattle.oc_lex.specs.declared.token.Mark.{Mark}
 use Rattle.oc_lex.specs.declared.token.Mark.TheVariants as marks
+use Rattle.oc_grammar.specs.Limits.{Depth}
 use Rattle.oc_grammar.specs.Lexemes.{Lexeme, Lexemes, named, numeral, keyword, sign}
 use Rattle.oc_grammar.specs.Fronts.{infix_of}
 
 -- a fault, at the token with which so many tokens are left
 pub data Fault : Type 0 where
   syntax_fault : (left : ℕ) → Fault
-  depth_fault : (left : ℕ) → Fault
+  depth_fault : (depth : Depth) → (left : ℕ) → Fault
 
 -- what is read, and the tokens behind it
 abbrev pub Read : Type 0 → Type 0
@@ -35,9 +36,9 @@ refuse ts = Err (syntax_fault (length ts))
 abbrev pub refuse_last : {A : Type 0} → Lexemes → Result A Fault
 refuse_last ts = Err (syntax_fault (suc (length ts)))
 
--- the token before passes a depth
-abbrev pub too_deep : {A : Type 0} → Lexemes → Result A Fault
-too_deep ts = Err (depth_fault (suc (length ts)))
+-- the token before passes this depth
+abbrev pub too_deep : {A : Type 0} → Depth → Lexemes → Result A Fault
+too_deep depth ts = Err (depth_fault depth (suc (length ts)))
 
 -- marks and words, which a number tells apart
 abbrev pub mark_number : Mark → ℕ

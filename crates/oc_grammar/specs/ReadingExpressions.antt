@@ -7,6 +7,7 @@ use Rattle.oc_tree.specs.declared.tree.UnaryOp.{UnaryOp}
 use Rattle.oc_tree.specs.declared.tree.UnaryOp.TheVariants as prefixes
 use Rattle.oc_lex.specs.declared.token.Word.TheVariants as words
 use Rattle.oc_lex.specs.declared.token.Mark.TheVariants as marks
+use Rattle.oc_grammar.specs.Limits.{Limits, operators_depth, brackets_depth}
 use Rattle.oc_grammar.specs.Lexemes.{Lexeme, Lexemes, named, numeral, keyword, sign}
 use Rattle.oc_grammar.specs.Reading.{Fault, Read, ◌>>=◌, with_some, refuse_last, too_deep, next_at, strip_mark, expect_mark, name_at, take_word, operator_front, listed_by}
 
@@ -16,7 +17,7 @@ ReadExpr = Result (TExpr × ℕ × Lexemes) Fault
 
 -- one operator less, or a fault at the operator before
 unfoldable pub spend_at : ℕ → Lexemes → Result ℕ Fault
-spend_at zero ts = too_deep ts
+spend_at zero ts = too_deep operators_depth ts
 spend_at (suc n) ts = Ok n
 
 -- what goes on behind a tree of this level, at most k operators
@@ -71,9 +72,9 @@ unary_by prefixed inner args sensor (sign line marks.Minus) n ts = prefix_by pre
 unary_by prefixed inner args sensor (sign line marks.Not) n ts = prefix_by prefixed prefixes.Not n ts
 unary_by prefixed inner args sensor _ n ts = refuse_last ts
 
--- a whole expression, which may have 255 binary operators
-abbrev pub whole_by : (ℕ → Lexemes → ReadExpr) → Lexemes → Read TExpr
-whole_by inner ts = inner 255 ts >>= λ x. Ok (x.0, x.2)
+-- an expression that is a whole one for its binary operators
+abbrev pub whole_by : Limits → (ℕ → Lexemes → ReadExpr) → Lexemes → Read TExpr
+whole_by limits inner ts = inner limits.operators ts >>= λ x. Ok (x.0, x.2)
 
 abbrev pub reference : Bool → Text → TArg
 reference true x = mutable x
@@ -82,14 +83,14 @@ reference false x = shared x
 abbrev pub reference_by : Bool × Lexemes → Read TArg
 reference_by m = name_at m.1 >>= λ x. Ok (reference m.0 x.0, x.1)
 
-abbrev pub arg_by : (ℕ → Lexemes → ReadExpr) → Lexemes → Read TArg
-arg_by inner ts =
+abbrev pub arg_by : Limits → (ℕ → Lexemes → ReadExpr) → Lexemes → Read TArg
+arg_by limits inner ts =
     with_some (strip_mark marks.Ampersand ts)
-    (whole_by inner ts >>= λ x. Ok (value x.0, x.1))
+    (whole_by limits inner ts >>= λ x. Ok (value x.0, x.1))
     (λ us. reference_by (take_word words.Mutable us))
 
-abbrev pub args_by : (ℕ → Lexemes → ReadExpr) → Lexemes → Read (List TArg)
-args_by inner ts = listed_by (arg_by inner) (suc (length ts)) ts
+abbrev pub args_by : Limits → (ℕ → Lexemes → ReadExpr) → Lexemes → Read (List TArg)
+args_by limits inner ts = listed_by (arg_by limits inner) (suc (length ts)) ts
 
 -- the sensor's name, behind the `(` and up to the `)`
 unfoldable pub sensor_at : Lexemes → Read Text
@@ -97,50 +98,50 @@ sensor_at ts = name_at ts >>= λ x. expect_mark marks.CloseRound x.1 >>= λ us. 
 
 -- ---- with this room for brackets and prefix operators
 
-unfoldable pub unary_at : ℕ → ℕ → Lexemes → ReadExpr
-unary_at zero n ts =
-    next_at ts >>= λ x. unary_by (λ n us. too_deep us) (λ n us. too_deep us) (λ us. too_deep us) (λ us. too_deep us) x.0 n x.1
-unary_at (suc room) n ts =
-    next_at ts >>= λ x. unary_by (unary_at room) (levels 5 (unary_at room)) (args_by (levels 5 (unary_at room))) sensor_at x.0 n x.1
+unfoldable pub unary_at : Limits → ℕ → ℕ → Lexemes → ReadExpr
+unary_at limits zero n ts =
+    next_at ts >>= λ x. unary_by (λ n us. too_deep brackets_depth us) (λ n us. too_deep brackets_depth us) (λ us. too_deep brackets_depth us) (λ us. too_deep brackets_depth us) x.0 n x.1
+unary_at limits (suc room) n ts =
+    next_at ts >>= λ x. unary_by (unary_at limits room) (levels 5 (unary_at limits room)) (args_by limits (levels 5 (unary_at limits room))) sensor_at x.0 n x.1
 
-abbrev pub level_at : ℕ → ℕ → ℕ → Lexemes → ReadExpr
-level_at level room n ts = levels level (unary_at room) n ts
+abbrev pub level_at : Limits → ℕ → ℕ → ℕ → Lexemes → ReadExpr
+level_at limits level room n ts = levels level (unary_at limits room) n ts
 
 -- a whole expression inside brackets that leave so much room
-unfoldable pub part_at : ℕ → Lexemes → Read TExpr
-part_at room ts = whole_by (level_at 5 room) ts
+unfoldable pub part_at : Limits → ℕ → Lexemes → Read TExpr
+part_at limits room ts = whole_by limits (level_at limits 5 room) ts
 
-unfoldable pub whole_at : Lexemes → Read TExpr
-whole_at ts = part_at 33 ts
+unfoldable pub whole_at : Limits → Lexemes → Read TExpr
+whole_at limits ts = part_at limits limits.brackets ts
 
 -- ---- the parts of a unary
 
-unfoldable pub prefixed_at : ℕ → ℕ → Lexemes → ReadExpr
-prefixed_at zero n ts = too_deep ts
-prefixed_at (suc room) n ts = unary_at room n ts
+unfoldable pub prefixed_at : Limits → ℕ → ℕ → Lexemes → ReadExpr
+prefixed_at limits zero n ts = too_deep brackets_depth ts
+prefixed_at limits (suc room) n ts = unary_at limits room n ts
 
-unfoldable pub inner_at : ℕ → ℕ → Lexemes → ReadExpr
-inner_at zero n ts = too_deep ts
-inner_at (suc room) n ts = level_at 5 room n ts
+unfoldable pub inner_at : Limits → ℕ → ℕ → Lexemes → ReadExpr
+inner_at limits zero n ts = too_deep brackets_depth ts
+inner_at limits (suc room) n ts = level_at limits 5 room n ts
 
-unfoldable pub args_at : ℕ → Lexemes → Read (List TArg)
-args_at room ts = args_by (level_at 5 room) ts
+unfoldable pub args_at : Limits → ℕ → Lexemes → Read (List TArg)
+args_at limits room ts = args_by limits (level_at limits 5 room) ts
 
-unfoldable pub arg_at : ℕ → Lexemes → Read TArg
-arg_at room ts = arg_by (level_at 5 room) ts
+unfoldable pub arg_at : Limits → ℕ → Lexemes → Read TArg
+arg_at limits room ts = arg_by limits (level_at limits 5 room) ts
 
-unfoldable pub inner_args_at : ℕ → Lexemes → Read (List TArg)
-inner_args_at zero ts = too_deep ts
-inner_args_at (suc room) ts = args_at room ts
+unfoldable pub inner_args_at : Limits → ℕ → Lexemes → Read (List TArg)
+inner_args_at limits zero ts = too_deep brackets_depth ts
+inner_args_at limits (suc room) ts = args_at limits room ts
 
 unfoldable pub inner_sensor_at : ℕ → Lexemes → Read Text
-inner_sensor_at zero ts = too_deep ts
+inner_sensor_at zero ts = too_deep brackets_depth ts
 inner_sensor_at (suc room) ts = sensor_at ts
 
-unfoldable pub named_at : ℕ → Text → ℕ → Lexemes → ReadExpr
-named_at room x n ts = named_by (inner_at room) (inner_args_at room) x n ts
+unfoldable pub named_at : Limits → ℕ → Text → ℕ → Lexemes → ReadExpr
+named_at limits room x n ts = named_by (inner_at limits room) (inner_args_at limits room) x n ts
 
 -- the reading of a unary, by its first token
-unfoldable pub unary_here : ℕ → ℕ → Lexemes → ReadExpr
-unary_here room n ts =
-    next_at ts >>= λ x. unary_by (prefixed_at room) (inner_at room) (inner_args_at room) (inner_sensor_at room) x.0 n x.1
+unfoldable pub unary_here : Limits → ℕ → ℕ → Lexemes → ReadExpr
+unary_here limits room n ts =
+    next_at ts >>= λ x. unary_by (prefixed_at limits room) (inner_at limits room) (inner_args_at limits room) (inner_sensor_at room) x.0 n x.1

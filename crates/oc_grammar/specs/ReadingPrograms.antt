@@ -10,6 +10,7 @@ use Rattle.oc_tree.specs.declared.tree.Param.{Param}
 use Rattle.oc_tree.specs.declared.tree.NvDecl.{NvDecl}
 use Rattle.oc_lex.specs.declared.token.Word.TheVariants as words
 use Rattle.oc_lex.specs.declared.token.Mark.TheVariants as marks
+use Rattle.oc_grammar.specs.Limits.{Limits}
 use Rattle.oc_grammar.specs.Lexemes.{Lexeme, Lexemes, keyword, sign, last_line}
 use Rattle.oc_grammar.specs.Reading.{Fault, Read, ◌>>=◌, with_some, refuse, refuse_last, next_at, strip_mark, expect_mark, name_at, take_word, listed_by}
 use Rattle.oc_grammar.specs.Programs.{with_sensor, with_port, with_nv, with_function, empty_program}
@@ -51,13 +52,13 @@ unfoldable pub result_at : Lexemes → Read (Option Scalar)
 result_at ts = with_some (strip_mark marks.Arrow ts) (Ok (None, ts)) (λ us. scalar_at us >>= λ s. Ok (Some s.0, s.1))
 
 -- behind the `fn`, which has this line
-unfoldable pub function_at : ℕ → Reader TFunction
-function_at line n b ts = do
+unfoldable pub function_at : Limits → ℕ → Reader TFunction
+function_at limits line n b ts = do
   f ← name_at ts
   us ← expect_mark marks.OpenRound f.1
   ps ← params_at us
   r ← result_at ps.1
-  t ← block_at 32 n b r.1
+  t ← block_at limits limits.blocks n b r.1
   Ok (record { name = f.0; line = line; params = ps.0; result = r.0; body = t.0 }, t.1, t.2, t.3)
 
 -- ---- declarations
@@ -91,24 +92,24 @@ declared_at ts = do
 -- ---- programs
 
 -- the program with the item that begins with this token
-abbrev pub item_by : TProgram → Lexeme → Reader TProgram
-item_by p (keyword line words.Sensor) n b ts = declared_at ts >>= λ x. Ok (with_sensor line x.0 p, n, b, x.1)
-item_by p (keyword line words.Port) n b ts = declared_at ts >>= λ x. Ok (with_port line x.0 p, n, b, x.1)
-item_by p (keyword line words.Nonvolatile) n b ts = nv_at ts >>= λ x. Ok (with_nv line x.0.0 x.0.1 p, n, b, x.1)
-item_by p (keyword line words.Function) n b ts = function_at line n b ts >>= λ f. Ok (with_function f.0 p, f.1, f.2, f.3)
-item_by p _ n b ts = refuse_last ts
+abbrev pub item_by : Limits → TProgram → Lexeme → Reader TProgram
+item_by limits p (keyword line words.Sensor) n b ts = declared_at ts >>= λ x. Ok (with_sensor line x.0 p, n, b, x.1)
+item_by limits p (keyword line words.Port) n b ts = declared_at ts >>= λ x. Ok (with_port line x.0 p, n, b, x.1)
+item_by limits p (keyword line words.Nonvolatile) n b ts = nv_at ts >>= λ x. Ok (with_nv line x.0.0 x.0.1 p, n, b, x.1)
+item_by limits p (keyword line words.Function) n b ts = function_at limits line n b ts >>= λ f. Ok (with_function f.0 p, f.1, f.2, f.3)
+item_by limits p _ n b ts = refuse_last ts
 
-unfoldable pub item_at : TProgram → Reader TProgram
-item_at p n b ts = next_at ts >>= λ x. item_by p x.0 n b x.1
+unfoldable pub item_at : Limits → TProgram → Reader TProgram
+item_at limits p n b ts = next_at ts >>= λ x. item_by limits p x.0 n b x.1
 
 -- at most so many items
-unfoldable pub items_by : ℕ → TProgram → ℕ → ℕ → Lexemes → Result TProgram Fault
-items_by zero p n b ts = refuse ts
-items_by (suc k) p n b [] = Ok p
-items_by (suc k) p n b (t ∷ ts) = item_at p n b (t ∷ ts) >>= λ x. items_by k x.0 x.1 x.2 x.3
+unfoldable pub items_by : Limits → ℕ → TProgram → ℕ → ℕ → Lexemes → Result TProgram Fault
+items_by limits zero p n b ts = refuse ts
+items_by limits (suc k) p n b [] = Ok p
+items_by limits (suc k) p n b (t ∷ ts) = item_at limits p n b (t ∷ ts) >>= λ x. items_by limits k x.0 x.1 x.2 x.3
 
-unfoldable pub items_at : TProgram → ℕ → ℕ → Lexemes → Result TProgram Fault
-items_at p n b ts = items_by (suc (length ts)) p n b ts
+unfoldable pub items_at : Limits → TProgram → ℕ → ℕ → Lexemes → Result TProgram Fault
+items_at limits p n b ts = items_by limits (suc (length ts)) p n b ts
 
-unfoldable pub program_at : Lexemes → Result TProgram Fault
-program_at tokens = items_at (empty_program (last_line tokens)) 1 1 tokens
+unfoldable pub program_at : Limits → Lexemes → Result TProgram Fault
+program_at limits tokens = items_at limits (empty_program (last_line tokens)) 1 1 tokens

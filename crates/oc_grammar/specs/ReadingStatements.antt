@@ -7,6 +7,7 @@ use Rattle.oc_tree.specs.declared.tree.ValueKind.{ValueKind}
 use Rattle.oc_tree.specs.declared.tree.ValueKind.TheVariants as types
 use Rattle.oc_lex.specs.declared.token.Word.TheVariants as words
 use Rattle.oc_lex.specs.declared.token.Mark.TheVariants as marks
+use Rattle.oc_grammar.specs.Limits.{Limits, blocks_depth}
 use Rattle.oc_grammar.specs.Lexemes.{Lexeme, Lexemes, named, keyword, sign, line_of}
 use Rattle.oc_grammar.specs.Reading.{Fault, depth_fault, Read, ◌>>=◌, with_some, refuse, refuse_last, too_deep, next_at, strip_mark, strip_word, expect_mark, expect_word, name_at, number_at, take_word}
 use Rattle.oc_grammar.specs.ReadingExpressions.{args_at, whole_at}
@@ -37,9 +38,9 @@ const_at ts = with_some (strip_mark marks.Minus ts) (number_at ts) (λ us. numbe
 
 -- ---- statements without blocks
 
-unfoldable pub right_at : Lexemes → Read TRight
-right_at ts = do
-  e ← whole_at ts
+unfoldable pub right_at : Limits → Lexemes → Read TRight
+right_at limits ts = do
+  e ← whole_at limits ts
   us ← expect_mark marks.Semicolon e.1
   Ok (right_of e.0, us)
 
@@ -55,29 +56,29 @@ fill_at m x k ts = do
   us ← expect_mark marks.Semicolon us
   Ok (let_array m x k i.0 (unsigned_abs n.0), us)
 
-unfoldable pub assign_at : Text → Lexemes → Read TKind
-assign_at x ts = do
-  r ← right_at ts
+unfoldable pub assign_at : Limits → Text → Lexemes → Read TKind
+assign_at limits x ts = do
+  r ← right_at limits ts
   Ok (assign x r.0, r.1)
 
-unfoldable pub element_to_at : Text → Lexemes → Read TKind
-element_to_at x ts = do
-  j ← whole_at ts
+unfoldable pub element_to_at : Limits → Text → Lexemes → Read TKind
+element_to_at limits x ts = do
+  j ← whole_at limits ts
   us ← expect_mark marks.CloseSquare j.1
   us ← expect_mark marks.Assign us
-  r ← right_at us
+  r ← right_at limits us
   Ok (assign_index x j.0 r.0, r.1)
 
-unfoldable pub target_at : Lexemes → Read TKind
-target_at ts = do
+unfoldable pub target_at : Limits → Lexemes → Read TKind
+target_at limits ts = do
   x ← name_at ts
   us ← expect_mark marks.Assign x.1
-  r ← right_at us
+  r ← right_at limits us
   Ok (assign_deref x.0 r.0, r.1)
 
-unfoldable pub call_at : Text → Lexemes → Read TKind
-call_at f ts = do
-  q ← args_at 33 ts
+unfoldable pub call_at : Limits → Text → Lexemes → Read TKind
+call_at limits f ts = do
+  q ← args_at limits limits.brackets ts
   us ← expect_mark marks.Semicolon q.1
   Ok (call_only (call f (args_of q.0)), us)
 
@@ -89,12 +90,12 @@ sense_at ts = do
   us ← expect_mark marks.Semicolon us
   Ok (sense_only s.0, us)
 
-unfoldable pub emit_at : Lexemes → Read TKind
-emit_at ts = do
+unfoldable pub emit_at : Limits → Lexemes → Read TKind
+emit_at limits ts = do
   us ← expect_mark marks.OpenRound ts
   p ← name_at us
   us ← expect_mark marks.Comma p.1
-  v ← whole_at us
+  v ← whole_at limits us
   us ← expect_mark marks.CloseRound v.1
   us ← expect_mark marks.Semicolon us
   Ok (emit p.0 v.0, us)
@@ -117,46 +118,46 @@ consistent_at ts = do
   us ← expect_mark marks.Semicolon us
   Ok (consistent x.0 n.0, us)
 
-unfoldable pub return_at : Lexemes → Read TKind
-return_at ts = do
-  v ← whole_at ts
+unfoldable pub return_at : Limits → Lexemes → Read TKind
+return_at limits ts = do
+  v ← whole_at limits ts
   us ← expect_mark marks.Semicolon v.1
   Ok (return v.0, us)
 
 -- behind the `=`
-unfoldable pub bind_at : Bool → Text → Option ValueKind → Lexemes → Read TKind
-bind_at m x k ts = with_some (strip_mark marks.OpenSquare ts) (right_at ts >>= λ r. Ok (let_to m x k r.0, r.1)) (fill_at m x k)
+unfoldable pub bind_at : Limits → Bool → Text → Option ValueKind → Lexemes → Read TKind
+bind_at limits m x k ts = with_some (strip_mark marks.OpenSquare ts) (right_at limits ts >>= λ r. Ok (let_to m x k r.0, r.1)) (fill_at m x k)
 
 -- behind the `mut` that may stand there
-unfoldable pub let_from : Bool × Lexemes → Read TKind
-let_from m = do
+unfoldable pub let_from : Limits → Bool × Lexemes → Read TKind
+let_from limits m = do
   x ← name_at m.1
   k ← note_at x.1
   us ← expect_mark marks.Assign k.1
-  bind_at m.0 x.0 k.0 us
+  bind_at limits m.0 x.0 k.0 us
 
-unfoldable pub let_at : Lexemes → Read TKind
-let_at ts = let_from (take_word words.Mutable ts)
+unfoldable pub let_at : Limits → Lexemes → Read TKind
+let_at limits ts = let_from limits (take_word words.Mutable ts)
 
-unfoldable pub set_at : Text → Lexemes → Read TKind
-set_at x ts =
+unfoldable pub set_at : Limits → Text → Lexemes → Read TKind
+set_at limits x ts =
     with_some (strip_mark marks.OpenRound ts)
     (with_some (strip_mark marks.OpenSquare ts)
-    (expect_mark marks.Assign ts >>= assign_at x)
-    (element_to_at x))
-    (call_at x)
+    (expect_mark marks.Assign ts >>= assign_at limits x)
+    (element_to_at limits x))
+    (call_at limits x)
 
 -- a statement without blocks that begins with this token
-abbrev pub simple_from : Lexeme → Lexemes → Read TKind
-simple_from (keyword line words.Let) ts = let_at ts
-simple_from (named line x) ts = set_at x ts
-simple_from (sign line marks.Star) ts = target_at ts
-simple_from (keyword line words.Sense) ts = sense_at ts
-simple_from (keyword line words.Emit) ts = emit_at ts
-simple_from (keyword line words.Fresh) ts = fresh_at ts
-simple_from (keyword line words.Consistent) ts = consistent_at ts
-simple_from (keyword line words.Return) ts = return_at ts
-simple_from _ ts = refuse_last ts
+abbrev pub simple_from : Limits → Lexeme → Lexemes → Read TKind
+simple_from limits (keyword line words.Let) ts = let_at limits ts
+simple_from limits (named line x) ts = set_at limits x ts
+simple_from limits (sign line marks.Star) ts = target_at limits ts
+simple_from limits (keyword line words.Sense) ts = sense_at ts
+simple_from limits (keyword line words.Emit) ts = emit_at limits ts
+simple_from limits (keyword line words.Fresh) ts = fresh_at ts
+simple_from limits (keyword line words.Consistent) ts = consistent_at ts
+simple_from limits (keyword line words.Return) ts = return_at limits ts
+simple_from limits _ ts = refuse_last ts
 
 -- ---- statements and blocks
 
@@ -167,9 +168,9 @@ ReadNumbered A = Result (A × ℕ × ℕ × Lexemes) Fault
 abbrev pub Reader : Type 0 → Type 0
 Reader A = ℕ → ℕ → Lexemes → ReadNumbered A
 
-unfoldable pub if_by : Reader TBlock → Reader TElse → Reader TKind
-if_by body other n b ts = do
-  c ← whole_at ts
+unfoldable pub if_by : Limits → Reader TBlock → Reader TElse → Reader TKind
+if_by limits body other n b ts = do
+  c ← whole_at limits ts
   t ← body n b c.1
   o ← other t.1 t.2 t.3
   Ok (if_else c.0 t.0 o.0, o.1, o.2, o.3)
@@ -184,9 +185,9 @@ for_by body n b ts = do
   t ← body n b j.1
   Ok (for_in x.0 i.0 j.0 t.0, t.1, t.2, t.3)
 
-unfoldable pub while_by : Reader TBlock → Reader TKind
-while_by body n b ts = do
-  c ← whole_at ts
+unfoldable pub while_by : Limits → Reader TBlock → Reader TKind
+while_by limits body n b ts = do
+  c ← whole_at limits ts
   us ← expect_word words.Bound c.1
   z ← number_at us
   t ← body n b z.1
@@ -195,16 +196,16 @@ while_by body n b ts = do
 abbrev pub simple_by : ℕ → ℕ → Read TKind → ReadNumbered TKind
 simple_by n b read = read >>= λ k. Ok (k.0, n, b, k.1)
 
-abbrev pub kind_by : Reader TBlock → Reader TElse → Lexeme → Reader TKind
-kind_by body other (keyword line words.If) n b ts = if_by body other n b ts
-kind_by body other (keyword line words.For) n b ts = for_by body n b ts
-kind_by body other (keyword line words.While) n b ts = while_by body n b ts
-kind_by body other t n b ts = simple_by n b (simple_from t ts)
+abbrev pub kind_by : Limits → Reader TBlock → Reader TElse → Lexeme → Reader TKind
+kind_by limits body other (keyword line words.If) n b ts = if_by limits body other n b ts
+kind_by limits body other (keyword line words.For) n b ts = for_by body n b ts
+kind_by limits body other (keyword line words.While) n b ts = while_by limits body n b ts
+kind_by limits body other t n b ts = simple_by n b (simple_from limits t ts)
 
-abbrev pub stmt_by : Reader TBlock → Reader TElse → Reader TStmt
-stmt_by body other n b ts = do
+abbrev pub stmt_by : Limits → Reader TBlock → Reader TElse → Reader TStmt
+stmt_by limits body other n b ts = do
   x ← next_at ts
-  k ← kind_by body other x.0 (suc n) b x.1
+  k ← kind_by limits body other x.0 (suc n) b x.1
   Ok (stmt n (line_of x.0) k.0, k.1, k.2, k.3)
 
 -- behind the `{` and up to the `}`, at most so many
@@ -223,14 +224,14 @@ braces_by one n b ts = do
 
 -- a block where none may stand
 abbrev pub no_block : Reader TBlock
-no_block n b ts = expect_mark marks.OpenCurly ts >>= λ us. too_deep us
+no_block n b ts = expect_mark marks.OpenCurly ts >>= λ us. too_deep blocks_depth us
 
 -- the block that an `else if` opens, at the `if`
 abbrev pub chained_by : Reader TStmt → Reader TBlock
 chained_by one n b ts = one n (suc b) ts >>= λ s. Ok (block b (more s.0 no_stmts), s.1, s.2, s.3)
 
 abbrev pub no_chained : Reader TBlock
-no_chained n b ts = Err (depth_fault (length ts))
+no_chained n b ts = Err (depth_fault blocks_depth (length ts))
 
 abbrev pub else_by : Reader TBlock → Reader TBlock → Reader TElse
 else_by body chained n b ts =
@@ -239,25 +240,25 @@ else_by body chained n b ts =
     (λ us. with_some (strip_word words.If us) (body n b us) (λ _. chained n b us) >>= λ t. Ok (else_do t.0, t.1, t.2, t.3))
 
 -- with room for so many more blocks in one another
-unfoldable pub stmt_at : ℕ → Reader TStmt
-stmt_at zero n b ts = stmt_by no_block (else_by no_block no_chained) n b ts
-stmt_at (suc room) n b ts = stmt_by (braces_by (stmt_at room)) (else_by (braces_by (stmt_at room)) (chained_by (stmt_at room))) n b ts
+unfoldable pub stmt_at : Limits → ℕ → Reader TStmt
+stmt_at limits zero n b ts = stmt_by limits no_block (else_by no_block no_chained) n b ts
+stmt_at limits (suc room) n b ts = stmt_by limits (braces_by (stmt_at limits room)) (else_by (braces_by (stmt_at limits room)) (chained_by (stmt_at limits room))) n b ts
 
 -- ---- the parts of a statement
 
-unfoldable pub block_at : ℕ → Reader TBlock
-block_at zero n b ts = no_block n b ts
-block_at (suc room) n b ts = braces_by (stmt_at room) n b ts
+unfoldable pub block_at : Limits → ℕ → Reader TBlock
+block_at limits zero n b ts = no_block n b ts
+block_at limits (suc room) n b ts = braces_by (stmt_at limits room) n b ts
 
-unfoldable pub chained_at : ℕ → Reader TBlock
-chained_at zero n b ts = no_chained n b ts
-chained_at (suc room) n b ts = chained_by (stmt_at room) n b ts
+unfoldable pub chained_at : Limits → ℕ → Reader TBlock
+chained_at limits zero n b ts = no_chained n b ts
+chained_at limits (suc room) n b ts = chained_by (stmt_at limits room) n b ts
 
-unfoldable pub else_at : ℕ → Reader TElse
-else_at room n b ts = else_by (block_at room) (chained_at room) n b ts
+unfoldable pub else_at : Limits → ℕ → Reader TElse
+else_at limits room n b ts = else_by (block_at limits room) (chained_at limits room) n b ts
 
-unfoldable pub stmt_here : ℕ → Reader TStmt
-stmt_here room n b ts = stmt_by (block_at room) (else_at room) n b ts
+unfoldable pub stmt_here : Limits → ℕ → Reader TStmt
+stmt_here limits room n b ts = stmt_by limits (block_at limits room) (else_at limits room) n b ts
 
-unfoldable pub stmts_at : ℕ → Reader (List TStmt)
-stmts_at room n b ts = stmts_by (stmt_at room) (suc (length ts)) n b ts
+unfoldable pub stmts_at : Limits → ℕ → Reader (List TStmt)
+stmts_at limits room n b ts = stmts_by (stmt_at limits room) (suc (length ts)) n b ts

@@ -9,6 +9,7 @@ use Rattle.oc_tree.specs.declared.tree.ValueKind.{ValueKind}
 use Rattle.oc_tree.specs.declared.tree.ValueKind.TheVariants as types
 use Rattle.oc_lex.specs.declared.token.Word.TheVariants as words
 use Rattle.oc_lex.specs.declared.token.Mark.TheVariants as marks
+use Rattle.oc_grammar.specs.Limits.{Limits}
 use Rattle.oc_grammar.specs.Lexemes.{Lexemes, front_line}
 use Rattle.oc_grammar.specs.Fronts.{Named, Numeral, Keyword, Sign}
 use Rattle.oc_grammar.specs.Expressions.{SpellsArgs, SpellsWhole}
@@ -44,8 +45,8 @@ right_of (called c) = right_call c
 right_of e = right_value e
 
 -- a right side, up to and with the `;`
-pub data SpellsRight : TRight → Lexemes → Lexemes → Type 0 where
-  a_right : {e : TExpr} {from a rest : Lexemes} → SpellsWhole e from a → Sign marks.Semicolon a rest → SpellsRight (right_of e) from rest
+pub data SpellsRight (limits : Limits) : TRight → Lexemes → Lexemes → Type 0 where
+  a_right : {e : TExpr} {from a rest : Lexemes} → SpellsWhole limits e from a → Sign marks.Semicolon a rest → SpellsRight limits (right_of e) from rest
 
 -- `mut` may stand there
 pub data SpellsMut : Bool → Lexemes → Lexemes → Type 0 where
@@ -61,19 +62,19 @@ pub data SpellsNote : Option ValueKind → Lexemes → Lexemes → Type 0 where
 pub data LetHead : Bool → Text → Option ValueKind → Lexemes → Lexemes → Type 0 where
   let_head : {m : Bool} {x : Text} {k : Option ValueKind} {from a b c d rest : Lexemes} → Keyword words.Let from a → SpellsMut m a b → Named x b c → SpellsNote k c d → Sign marks.Assign d rest → LetHead m x k from rest
 
-pub data SpellsSimple : TKind → Lexemes → Lexemes → Type 0 where
-  let_right : {m : Bool} {x : Text} {k : Option ValueKind} {r : TRight} {from a rest : Lexemes} → LetHead m x k from a → SpellsRight r a rest → SpellsSimple (let_to m x k r) from rest
-  let_fill : {m : Bool} {x : Text} {k : Option ValueKind} {i n : ℤ} {from a b c d e f rest : Lexemes} → LetHead m x k from a → Sign marks.OpenSquare a b → SpellsConst i b c → Sign marks.Semicolon c d → Numeral n d e → Sign marks.CloseSquare e f → Sign marks.Semicolon f rest → SpellsSimple (let_array m x k i (unsigned_abs n)) from rest
-  assigns : {x : Text} {r : TRight} {from a b rest : Lexemes} → Named x from a → Sign marks.Assign a b → SpellsRight r b rest → SpellsSimple (assign x r) from rest
-  assigns_index : {x : Text} {i : TExpr} {r : TRight} {from a b c d e rest : Lexemes} → Named x from a → Sign marks.OpenSquare a b → SpellsWhole i b c → Sign marks.CloseSquare c d → Sign marks.Assign d e → SpellsRight r e rest → SpellsSimple (assign_index x i r) from rest
-  assigns_deref : {x : Text} {r : TRight} {from a b c rest : Lexemes} → Sign marks.Star from a → Named x a b → Sign marks.Assign b c → SpellsRight r c rest → SpellsSimple (assign_deref x r) from rest
+pub data SpellsSimple (limits : Limits) : TKind → Lexemes → Lexemes → Type 0 where
+  let_right : {m : Bool} {x : Text} {k : Option ValueKind} {r : TRight} {from a rest : Lexemes} → LetHead m x k from a → SpellsRight limits r a rest → SpellsSimple limits (let_to m x k r) from rest
+  let_fill : {m : Bool} {x : Text} {k : Option ValueKind} {i n : ℤ} {from a b c d e f rest : Lexemes} → LetHead m x k from a → Sign marks.OpenSquare a b → SpellsConst i b c → Sign marks.Semicolon c d → Numeral n d e → Sign marks.CloseSquare e f → Sign marks.Semicolon f rest → SpellsSimple limits (let_array m x k i (unsigned_abs n)) from rest
+  assigns : {x : Text} {r : TRight} {from a b rest : Lexemes} → Named x from a → Sign marks.Assign a b → SpellsRight limits r b rest → SpellsSimple limits (assign x r) from rest
+  assigns_index : {x : Text} {i : TExpr} {r : TRight} {from a b c d e rest : Lexemes} → Named x from a → Sign marks.OpenSquare a b → SpellsWhole limits i b c → Sign marks.CloseSquare c d → Sign marks.Assign d e → SpellsRight limits r e rest → SpellsSimple limits (assign_index x i r) from rest
+  assigns_deref : {x : Text} {r : TRight} {from a b c rest : Lexemes} → Sign marks.Star from a → Named x a b → Sign marks.Assign b c → SpellsRight limits r c rest → SpellsSimple limits (assign_deref x r) from rest
   -- here each argument is a whole expression
-  calls : {f : Text} {args : TArgs} {from a b c rest : Lexemes} → Named f from a → Sign marks.OpenRound a b → SpellsArgs 33 args b c → Sign marks.Semicolon c rest → SpellsSimple (call_only (call f args)) from rest
-  senses : {s : Text} {from a b c d rest : Lexemes} → Keyword words.Sense from a → Sign marks.OpenRound a b → Named s b c → Sign marks.CloseRound c d → Sign marks.Semicolon d rest → SpellsSimple (sense_only s) from rest
-  emits : {p : Text} {v : TExpr} {from a b c d e f rest : Lexemes} → Keyword words.Emit from a → Sign marks.OpenRound a b → Named p b c → Sign marks.Comma c d → SpellsWhole v d e → Sign marks.CloseRound e f → Sign marks.Semicolon f rest → SpellsSimple (emit p v) from rest
-  marks_fresh : {x : Text} {from a b c d rest : Lexemes} → Keyword words.Fresh from a → Sign marks.OpenRound a b → Named x b c → Sign marks.CloseRound c d → Sign marks.Semicolon d rest → SpellsSimple (fresh x) from rest
-  marks_consistent : {x : Text} {n : ℤ} {from a b c d e f rest : Lexemes} → Keyword words.Consistent from a → Sign marks.OpenRound a b → Named x b c → Sign marks.Comma c d → Numeral n d e → Sign marks.CloseRound e f → Sign marks.Semicolon f rest → SpellsSimple (consistent x n) from rest
-  returns : {v : TExpr} {from a b rest : Lexemes} → Keyword words.Return from a → SpellsWhole v a b → Sign marks.Semicolon b rest → SpellsSimple (return v) from rest
+  calls : {f : Text} {args : TArgs} {from a b c rest : Lexemes} → Named f from a → Sign marks.OpenRound a b → SpellsArgs limits limits.brackets args b c → Sign marks.Semicolon c rest → SpellsSimple limits (call_only (call f args)) from rest
+  senses : {s : Text} {from a b c d rest : Lexemes} → Keyword words.Sense from a → Sign marks.OpenRound a b → Named s b c → Sign marks.CloseRound c d → Sign marks.Semicolon d rest → SpellsSimple limits (sense_only s) from rest
+  emits : {p : Text} {v : TExpr} {from a b c d e f rest : Lexemes} → Keyword words.Emit from a → Sign marks.OpenRound a b → Named p b c → Sign marks.Comma c d → SpellsWhole limits v d e → Sign marks.CloseRound e f → Sign marks.Semicolon f rest → SpellsSimple limits (emit p v) from rest
+  marks_fresh : {x : Text} {from a b c d rest : Lexemes} → Keyword words.Fresh from a → Sign marks.OpenRound a b → Named x b c → Sign marks.CloseRound c d → Sign marks.Semicolon d rest → SpellsSimple limits (fresh x) from rest
+  marks_consistent : {x : Text} {n : ℤ} {from a b c d e f rest : Lexemes} → Keyword words.Consistent from a → Sign marks.OpenRound a b → Named x b c → Sign marks.Comma c d → Numeral n d e → Sign marks.CloseRound e f → Sign marks.Semicolon f rest → SpellsSimple limits (consistent x n) from rest
+  returns : {v : TExpr} {from a b rest : Lexemes} → Keyword words.Return from a → SpellsWhole limits v a b → Sign marks.Semicolon b rest → SpellsSimple limits (return v) from rest
 
 -- ---- statements and blocks
 
@@ -83,26 +84,26 @@ Place = ℕ × ℕ × Lexemes
 
 -- With at most `room` more blocks in one another, the tokens spell this from one place to another.
 mutual
-  pub data SpellsKind : ℕ → TKind → Place → Place → Type 0 where
-    simple : {room n b : ℕ} {k : TKind} {from rest : Lexemes} → SpellsSimple k from rest → SpellsKind room k (n, b, from) (n, b, rest)
-    if_form : {room n b : ℕ} {c : TExpr} {t : TBlock} {o : TElse} {from a d : Lexemes} {p q : Place} → Keyword words.If from a → SpellsWhole c a d → SpellsBlock room t (n, b, d) p → SpellsElse room o p q → SpellsKind room (if_else c t o) (n, b, from) q
-    for_form : {room n b : ℕ} {x : Text} {i j : ℤ} {t : TBlock} {from a c d e f g : Lexemes} {p : Place} → Keyword words.For from a → Named x a c → Keyword words.In c d → SpellsConst i d e → Sign marks.Range e f → SpellsConst j f g → SpellsBlock room t (n, b, g) p → SpellsKind room (for_in x i j t) (n, b, from) p
-    while_form : {room n b : ℕ} {c : TExpr} {z : ℤ} {t : TBlock} {from a d e f : Lexemes} {p : Place} → Keyword words.While from a → SpellsWhole c a d → Keyword words.Bound d e → Numeral z e f → SpellsBlock room t (n, b, f) p → SpellsKind room (while_do c (unsigned_abs z) t) (n, b, from) p
+  pub data SpellsKind (limits : Limits) : ℕ → TKind → Place → Place → Type 0 where
+    simple : {room n b : ℕ} {k : TKind} {from rest : Lexemes} → SpellsSimple limits k from rest → SpellsKind limits room k (n, b, from) (n, b, rest)
+    if_form : {room n b : ℕ} {c : TExpr} {t : TBlock} {o : TElse} {from a d : Lexemes} {p q : Place} → Keyword words.If from a → SpellsWhole limits c a d → SpellsBlock limits room t (n, b, d) p → SpellsElse limits room o p q → SpellsKind limits room (if_else c t o) (n, b, from) q
+    for_form : {room n b : ℕ} {x : Text} {i j : ℤ} {t : TBlock} {from a c d e f g : Lexemes} {p : Place} → Keyword words.For from a → Named x a c → Keyword words.In c d → SpellsConst i d e → Sign marks.Range e f → SpellsConst j f g → SpellsBlock limits room t (n, b, g) p → SpellsKind limits room (for_in x i j t) (n, b, from) p
+    while_form : {room n b : ℕ} {c : TExpr} {z : ℤ} {t : TBlock} {from a d e f : Lexemes} {p : Place} → Keyword words.While from a → SpellsWhole limits c a d → Keyword words.Bound d e → Numeral z e f → SpellsBlock limits room t (n, b, f) p → SpellsKind limits room (while_do c (unsigned_abs z) t) (n, b, from) p
 
-  pub data SpellsElse : ℕ → TElse → Place → Place → Type 0 where
-    without : {room : ℕ} {p : Place} → SpellsElse room no_else p p
-    otherwise : {room n b : ℕ} {t : TBlock} {from a : Lexemes} {p : Place} → Keyword words.Else from a → SpellsBlock room t (n, b, a) p → SpellsElse room (else_do t) (n, b, from) p
+  pub data SpellsElse (limits : Limits) : ℕ → TElse → Place → Place → Type 0 where
+    without : {room : ℕ} {p : Place} → SpellsElse limits room no_else p p
+    otherwise : {room n b : ℕ} {t : TBlock} {from a : Lexemes} {p : Place} → Keyword words.Else from a → SpellsBlock limits room t (n, b, a) p → SpellsElse limits room (else_do t) (n, b, from) p
     -- an `else if` is an `else` whose block holds that `if`
-    else_if : {room n b : ℕ} {s : TStmt} {from a c : Lexemes} {p : Place} → Keyword words.Else from a → Keyword words.If a c → SpellsStmt room s (n, suc b, a) p → SpellsElse (suc room) (else_do (block b (more s no_stmts))) (n, b, from) p
+    else_if : {room n b : ℕ} {s : TStmt} {from a c : Lexemes} {p : Place} → Keyword words.Else from a → Keyword words.If a c → SpellsStmt limits room s (n, suc b, a) p → SpellsElse limits (suc room) (else_do (block b (more s no_stmts))) (n, b, from) p
 
   -- a statement has the next number and the line of its first token
-  pub data SpellsStmt : ℕ → TStmt → Place → Place → Type 0 where
-    statement : {room n b : ℕ} {k : TKind} {from : Lexemes} {p : Place} → SpellsKind room k (suc n, b, from) p → SpellsStmt room (stmt n (front_line from) k) (n, b, from) p
+  pub data SpellsStmt (limits : Limits) : ℕ → TStmt → Place → Place → Type 0 where
+    statement : {room n b : ℕ} {k : TKind} {from : Lexemes} {p : Place} → SpellsKind limits room k (suc n, b, from) p → SpellsStmt limits room (stmt n (front_line from) k) (n, b, from) p
 
-  pub data SpellsBlock : ℕ → TBlock → Place → Place → Type 0 where
-    braces : {room n b : ℕ} {ss : TStmts} {from a : Lexemes} {p : Place} → Sign marks.OpenCurly from a → SpellsStmts room ss (n, suc b, a) p → SpellsBlock (suc room) (block b ss) (n, b, from) p
+  pub data SpellsBlock (limits : Limits) : ℕ → TBlock → Place → Place → Type 0 where
+    braces : {room n b : ℕ} {ss : TStmts} {from a : Lexemes} {p : Place} → Sign marks.OpenCurly from a → SpellsStmts limits room ss (n, suc b, a) p → SpellsBlock limits (suc room) (block b ss) (n, b, from) p
 
   -- behind the `{`, up to and with the `}`
-  pub data SpellsStmts : ℕ → TStmts → Place → Place → Type 0 where
-    end : {room n b : ℕ} {from rest : Lexemes} → Sign marks.CloseCurly from rest → SpellsStmts room no_stmts (n, b, from) (n, b, rest)
-    first : {room : ℕ} {s : TStmt} {ss : TStmts} {p q r : Place} → SpellsStmt room s p q → SpellsStmts room ss q r → SpellsStmts room (more s ss) p r
+  pub data SpellsStmts (limits : Limits) : ℕ → TStmts → Place → Place → Type 0 where
+    end : {room n b : ℕ} {from rest : Lexemes} → Sign marks.CloseCurly from rest → SpellsStmts limits room no_stmts (n, b, from) (n, b, rest)
+    first : {room : ℕ} {s : TStmt} {ss : TStmts} {p q r : Place} → SpellsStmt limits room s p q → SpellsStmts limits room ss q r → SpellsStmts limits room (more s ss) p r

@@ -4,9 +4,10 @@
 ghost use Rattle.std.specs.Prelude.{◌≡◌};
 ghost use Rattle.oc_tree.specs.Tree.{TProgram};
 ghost use Rattle.oc_grammar.specs.Lexemes.{Lexemes};
+ghost use Rattle.oc_grammar.specs.Limits.{Limits};
 ghost use Rattle.oc_grammar.specs.Programs.{SpellsProgram};
 
 /// No two trees spell one list of tokens.
 pub fn one_tree()
-    ensures { (tokens : Lexemes) (p q : TProgram) → SpellsProgram p tokens → SpellsProgram q tokens → p ≡ q }
+    ensures { (limits : Limits) (tokens : Lexemes) (p q : TProgram) → SpellsProgram limits p tokens → SpellsProgram limits q tokens → p ≡ q }
 {}

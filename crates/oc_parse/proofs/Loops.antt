@@ -5,6 +5,7 @@ use Rattle.oc_tree.specs.Tree.{TExpr, binary}
 use Rattle.oc_tree.specs.declared.tree.UnaryOp.{UnaryOp}
 use Rattle.oc_tree.specs.declared.tree.BinaryOp.{BinaryOp}
 use Rattle.oc_lex.specs.declared.token.Mark.TheVariants as marks
+use Rattle.oc_grammar.specs.Limits.{the_depths}
 use Rattle.oc_grammar.specs.Lexemes.{Lexemes}
 use Rattle.oc_grammar.specs.Reading.{Fault, Read, ◌>>=◌, strip_mark, expect_mark, operator_front}
 use Rattle.oc_grammar.specs.ReadingExpressions.{ReadExpr, prefix_by, prefixed_at, spend_at, chain, levels, unary_here, level_at, arg_at, args_at}
@@ -21,7 +22,9 @@ use Rattle.oc_parse.specs.Steps.{Stopped}
 pub stopped_bind : {A B : Type 0} (s : Stop) (r : Result A Fault) (f : A → Result B Fault) → Stopped s r → Stopped s (r >>= f)
 stopped_bind stops.Memory r f h = tt
 stopped_bind (stops.Syntax n) r f h = rw h refl
-stopped_bind (stops.Depth n) r f h = rw h refl
+stopped_bind (stops.Blocks n) r f h = rw h refl
+stopped_bind (stops.Brackets n) r f h = rw h refl
+stopped_bind (stops.Operators n) r f h = rw h refl
 
 pub stopped_along : {A : Type 0} (s : Stop) (a b : Result A Fault) → a ≡ b → Stopped s a → Stopped s b
 stopped_along s a b e h = subst (λ (r : Result _ Fault). Stopped s r) e h
@@ -63,19 +66,19 @@ list_close_stops part short front ts x us s total none e comma h so_far =
 
 -- ---- arguments
 
-pub args_are : (room : ℕ) (ts : Lexemes) → args_at room ts ≡ listed_at (arg_at room) ts
+pub args_are : (room : ℕ) (ts : Lexemes) → args_at the_depths room ts ≡ listed_at (arg_at the_depths room) ts
 unfolding args_at arg_at
 args_are room ts = refl
 
-pub args_shorten : (room : ℕ) → Shortens (arg_at room)
+pub args_shorten : (room : ℕ) → Shortens (arg_at the_depths room)
 unfolding arg_at
-args_shorten room = arg_shorter room
+args_shorten room = arg_shorter the_depths room
 
 -- ---- operators of one level
 
-pub level_zero : (level room n : ℕ) (ts : Lexemes) → level ≡ 0 → level_at level room n ts ≡ unary_here room n ts
+pub level_zero : (level room n : ℕ) (ts : Lexemes) → level ≡ 0 → level_at the_depths level room n ts ≡ unary_here the_depths room n ts
 unfolding levels
-level_zero zero room n ts e = unary_is room n ts
+level_zero zero room n ts e = unary_is the_depths room n ts
 level_zero (suc level) room n ts e = absurd (omega arith)
 
 chain_here : (level : ℕ) (part : ℕ → Lexemes → ReadExpr) (e : TExpr) (n : ℕ) (ts : Lexemes) (op : BinaryOp) (mid : Lexemes) → operator_front level ts ≡ Some (op, mid) → (k : ℕ) × (chain level part (length ts) e n ts ≡ (spend_at n mid >>= λ m. part m mid >>= λ x. chain level part k (binary op e x.0) x.1 x.2))
@@ -83,13 +86,13 @@ unfolding chain
 chain_here level part e n [] op mid o = absurd (no_front level (op, mid) o)
 chain_here level part e n (t ∷ ts) op mid o = (length ts, rw o refl)
 
-pub level_turn : (room level : ℕ) (e : TExpr) (n : ℕ) (ts : Lexemes) (op : BinaryOp) (mid : Lexemes) (m : ℕ) (r : TExpr) (k : ℕ) (rest : Lexemes) → 0 < level → operator_front level ts ≡ Some (op, mid) → spend_at n mid ≡ Ok m → level_at (level - 1) room m mid ≡ Ok (r, k, rest)
-    → chain level (level_at (level - 1) room) (length ts) e n ts ≡ chain level (level_at (level - 1) room) (length rest) (binary op e r) k rest
+pub level_turn : (room level : ℕ) (e : TExpr) (n : ℕ) (ts : Lexemes) (op : BinaryOp) (mid : Lexemes) (m : ℕ) (r : TExpr) (k : ℕ) (rest : Lexemes) → 0 < level → operator_front level ts ≡ Some (op, mid) → spend_at n mid ≡ Ok m → level_at the_depths (level - 1) room m mid ≡ Ok (r, k, rest)
+    → chain level (level_at the_depths (level - 1) room) (length ts) e n ts ≡ chain level (level_at the_depths (level - 1) room) (length rest) (binary op e r) k rest
 level_turn room zero e n ts op mid m r k rest h o s p = absurd (omega arith)
 level_turn room (suc level) e n ts op mid m r k rest h o s p =
     let q : suc level - 1 ≡ level = omega arith in
-    let p' : level_at level room m mid ≡ Ok (r, k, rest) = rw q at p in
-    rw (q, spent n mid m s) (chain_turn room level e m op ts mid (r, k, rest) o p')
+    let p' : level_at the_depths level room m mid ≡ Ok (r, k, rest) = rw q at p in
+    rw (q, spent n mid m s) (chain_turn the_depths room level e m op ts mid (r, k, rest) o p')
 
 pub spend_stops : (level : ℕ) (part : ℕ → Lexemes → ReadExpr) (e : TExpr) (n : ℕ) (ts : Lexemes) (op : BinaryOp) (mid : Lexemes) (s : Stop) (total : ReadExpr) → operator_front level ts ≡ Some (op, mid) → Stopped s (spend_at n mid) → chain level part (length ts) e n ts ≡ total → Stopped s total
 spend_stops level part e n ts op mid s total o h so_far =
@@ -108,5 +111,5 @@ level_ends level part e n ts h = chain_stopped level part (length ts) e n ts h
 
 -- ---- prefix operators
 
-pub prefixed_stops : (room : ℕ) (op : UnaryOp) (n : ℕ) (ts : Lexemes) (s : Stop) → 0 < room → Stopped s (unary_here (room - 1) n ts) → Stopped s (prefix_by (prefixed_at room) op n ts)
-prefixed_stops room op n ts s h d = stopped_bind s (prefixed_at room n ts) _ (stopped_along s (unary_here (room - 1) n ts) (prefixed_at room n ts) (sym (prefixed_is room n ts h)) d)
+pub prefixed_stops : (room : ℕ) (op : UnaryOp) (n : ℕ) (ts : Lexemes) (s : Stop) → 0 < room → Stopped s (unary_here the_depths (room - 1) n ts) → Stopped s (prefix_by (prefixed_at the_depths room) op n ts)
+prefixed_stops room op n ts s h d = stopped_bind s (prefixed_at the_depths room n ts) _ (stopped_along s (unary_here the_depths (room - 1) n ts) (prefixed_at the_depths room n ts) (sym (prefixed_is the_depths room n ts h)) d)

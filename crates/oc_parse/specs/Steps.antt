@@ -1,6 +1,7 @@
 -- What the code reads, against the reading.
 use Rattle.std.specs.Prelude.{◌≡◌, ℕ, ◌+◌, ◌≤◌, length, Result, Ok, Err}
 use Rattle.oc_tree.specs.Tree.{TExpr}
+use Rattle.oc_grammar.specs.Limits.{operators_depth, brackets_depth, blocks_depth, Depth}
 use Rattle.oc_grammar.specs.Lexemes.{Lexemes, lexemes_of}
 use Rattle.oc_grammar.specs.Reading.{Fault, syntax_fault, depth_fault, Read}
 use Rattle.oc_grammar.specs.ReadingExpressions.{ReadExpr}
@@ -34,7 +35,9 @@ left r = lexemes_of r.source.now r.rest.now
 abbrev pub Stopped : {Y : Type 0} → Stop → Result Y Fault → Type 0
 Stopped stops.Memory read = Unit {0}
 Stopped (stops.Syntax n) read = read ≡ Err (syntax_fault n)
-Stopped (stops.Depth n) read = read ≡ Err (depth_fault n)
+Stopped (stops.Blocks n) read = read ≡ Err (depth_fault blocks_depth n)
+Stopped (stops.Brackets n) read = read ≡ Err (depth_fault brackets_depth n)
+Stopped (stops.Operators n) read = read ≡ Err (depth_fault operators_depth n)
 
 -- the same is read, and the same tokens are left
 abbrev pub Reads : {X Y : Type 0} → (X → Y) → Result X Stop → Lexemes → Read Y → Type 0
@@ -84,4 +87,4 @@ abbrev pub Parses : Result Program ParseError → ℕ → Result TProgram Fault 
 Parses (Ok p) count read = read ≡ Ok (program_view p)
 Parses (Err errors.Memory) count read = Unit {0}
 Parses (Err (errors.Syntax token)) count read = (n : ℕ) × (read ≡ Err (syntax_fault n)) × (token ≡ count - n)
-Parses (Err (errors.Depth token)) count read = (n : ℕ) × (read ≡ Err (depth_fault n)) × (token ≡ count - n)
+Parses (Err (errors.Depth token)) count read = (d : Depth) × (n : ℕ) × (read ≡ Err (depth_fault d n)) × (token ≡ count - n)

@@ -1,6 +1,7 @@
 //! Expressions.
 ghost use Rattle.std.specs.Prelude.{◌≡◌, ◌+◌, ◌<◌, ◌≤◌, length, map, OnOk};
 ghost use Rattle.oc_tree.specs.View.{arg_view, expr_view};
+ghost use Rattle.oc_grammar.specs.Limits.{the_depths};
 ghost use Rattle.oc_grammar.specs.ReadingExpressions.{prefix_by, unary_here, named_at, prefixed_at, inner_at, inner_args_at, inner_sensor_at, sensor_at, args_at, arg_at, part_at, level_at, whole_at};
 ghost use Rattle.oc_parse.specs.Steps.{Reads, ReadsExpr, left};
 
@@ -31,7 +32,7 @@ impl Reader<'_> {
     #[cycle(expression)]
     #[tactic(auto, unfolding(oc_grammar::specs::ReadingExpressions::unary_here, oc_grammar::specs::ReadingExpressions::named_at))]
     fn unary(&mut self, room: u32, operators: &mut u32) -> Result<Expr, Stop>
-        ensures exact { ReadsExpr expr_view result operators.new (left self.new) (unary_here room operators.old (left self.old)) }
+        ensures exact { ReadsExpr expr_view result operators.new (left self.new) (unary_here the_depths room operators.old (left self.old)) }
         ensures shorter { OnOk result (length self.new.rest.now < length self.old.rest.now) }
     {
         let token = self.next()?;
@@ -67,7 +68,7 @@ impl Reader<'_> {
     #[cycle(expression)]
     #[tactic(auto, unfolding(oc_grammar::specs::ReadingExpressions::named_at))]
     fn named(&mut self, room: u32, operators: &mut u32, name: Name) -> Result<Expr, Stop>
-        ensures exact { ReadsExpr expr_view result operators.new (left self.new) (named_at room name operators.old (left self.old)) }
+        ensures exact { ReadsExpr expr_view result operators.new (left self.new) (named_at the_depths room name operators.old (left self.old)) }
         ensures shorter { OnOk result (length self.new.rest.now ≤ length self.old.rest.now) }
     {
         if self.take(Mark::OpenRound) {
@@ -93,11 +94,11 @@ impl Reader<'_> {
     #[cycle(expression)]
     #[tactic(auto, unfolding(oc_grammar::specs::ReadingExpressions::prefixed_at))]
     fn prefixed(&mut self, room: u32, operators: &mut u32, op: UnaryOp) -> Result<Expr, Stop>
-        ensures exact { ReadsExpr expr_view result operators.new (left self.new) (prefix_by (prefixed_at room) op operators.old (left self.old)) }
+        ensures exact { ReadsExpr expr_view result operators.new (left self.new) (prefix_by (prefixed_at the_depths room) op operators.old (left self.old)) }
         ensures shorter { OnOk result (length self.new.rest.now < length self.old.rest.now) }
     {
         if room == 0 {
-            return Err(self.too_deep());
+            return Err(self.too_many_brackets());
         }
         let inner = self.unary(room - 1, operators)?;
         Ok(Expr::Unary {
@@ -110,11 +111,11 @@ impl Reader<'_> {
     #[cycle(expression)]
     #[tactic(auto, unfolding(oc_grammar::specs::ReadingExpressions::inner_at))]
     fn inner(&mut self, room: u32, operators: &mut u32) -> Result<Expr, Stop>
-        ensures exact { ReadsExpr expr_view result operators.new (left self.new) (inner_at room operators.old (left self.old)) }
+        ensures exact { ReadsExpr expr_view result operators.new (left self.new) (inner_at the_depths room operators.old (left self.old)) }
         ensures shorter { OnOk result (length self.new.rest.now < length self.old.rest.now) }
     {
         if room == 0 {
-            return Err(self.too_deep());
+            return Err(self.too_many_brackets());
         }
         self.level(room - 1, operators, ALL)
     }
@@ -123,11 +124,11 @@ impl Reader<'_> {
     #[cycle(expression)]
     #[tactic(auto, unfolding(oc_grammar::specs::ReadingExpressions::inner_args_at))]
     fn inner_args(&mut self, room: u32) -> Result<Vec<Arg>, Stop>
-        ensures exact { Reads (λ args. map arg_view args.items) result (left self.new) (inner_args_at room (left self.old)) }
+        ensures exact { Reads (λ args. map arg_view args.items) result (left self.new) (inner_args_at the_depths room (left self.old)) }
         ensures shorter { OnOk result (length self.new.rest.now < length self.old.rest.now) }
     {
         if room == 0 {
-            return Err(self.too_deep());
+            return Err(self.too_many_brackets());
         }
         self.args(room - 1)
     }
@@ -139,7 +140,7 @@ impl Reader<'_> {
         ensures shorter { OnOk result (length self.new.rest.now < length self.old.rest.now) }
     {
         if room == 0 {
-            return Err(self.too_deep());
+            return Err(self.too_many_brackets());
         }
         self.sensor()
     }
@@ -158,7 +159,7 @@ impl Reader<'_> {
     /// Takes the arguments of a call up to its `)`, where brackets have this room.
     #[cycle(expression)]
     pub fn args(&mut self, room: u32) -> Result<Vec<Arg>, Stop>
-        ensures exact { Reads (λ args. map arg_view args.items) result (left self.new) (args_at room (left self.old)) }
+        ensures exact { Reads (λ args. map arg_view args.items) result (left self.new) (args_at the_depths room (left self.old)) }
         ensures shorter { OnOk result (length self.new.rest.now < length self.old.rest.now) }
     {
         let mut args = Vec::new(self.alloc);
@@ -175,7 +176,7 @@ impl Reader<'_> {
     #[cycle(expression)]
     #[tactic(auto, unfolding(oc_grammar::specs::ReadingExpressions::arg_at, oc_grammar::specs::ReadingExpressions::part_at, oc_grammar::specs::Reading::take_word))]
     fn arg(&mut self, room: u32) -> Result<Arg, Stop>
-        ensures exact { Reads arg_view result (left self.new) (arg_at room (left self.old)) }
+        ensures exact { Reads arg_view result (left self.new) (arg_at the_depths room (left self.old)) }
         ensures shorter { OnOk result (length self.new.rest.now < length self.old.rest.now) }
     {
         if !self.take(Mark::Ampersand) {
@@ -194,7 +195,7 @@ impl Reader<'_> {
     #[cycle(expression)]
     #[tactic(auto, unfolding(oc_grammar::specs::ReadingExpressions::part_at))]
     fn part(&mut self, room: u32) -> Result<Expr, Stop>
-        ensures exact { Reads expr_view result (left self.new) (part_at room (left self.old)) }
+        ensures exact { Reads expr_view result (left self.new) (part_at the_depths room (left self.old)) }
         ensures shorter { OnOk result (length self.new.rest.now < length self.old.rest.now) }
     {
         let mut operators = OPERATORS;
@@ -207,7 +208,7 @@ impl Reader<'_> {
     #[tactic(auto, unfolding(oc_grammar::specs::ReadingExpressions::levels))]
     fn level(&mut self, room: u32, operators: &mut u32, level: u32) -> Result<Expr, Stop>
         requires { level ≤ 5 }
-        ensures exact { ReadsExpr expr_view result operators.new (left self.new) (level_at level room operators.old (left self.old)) }
+        ensures exact { ReadsExpr expr_view result operators.new (left self.new) (level_at the_depths level room operators.old (left self.old)) }
         ensures shorter { OnOk result (length self.new.rest.now < length self.old.rest.now) }
     {
         if level == UNARY {
@@ -232,7 +233,7 @@ impl Reader<'_> {
     #[cycle(expression)]
     #[tactic(auto, unfolding(oc_grammar::specs::ReadingExpressions::levels, oc_grammar::specs::ReadingExpressions::chain))]
     fn comparison(&mut self, room: u32, operators: &mut u32) -> Result<Expr, Stop>
-        ensures exact { ReadsExpr expr_view result operators.new (left self.new) (level_at 3 room operators.old (left self.old)) }
+        ensures exact { ReadsExpr expr_view result operators.new (left self.new) (level_at the_depths 3 room operators.old (left self.old)) }
         ensures shorter { OnOk result (length self.new.rest.now < length self.old.rest.now) }
     {
         let left = self.level(room, operators, COMPARISON - 1)?;
@@ -251,7 +252,7 @@ impl Reader<'_> {
     /// Takes a whole expression.
     #[tactic(auto, unfolding(oc_grammar::specs::ReadingExpressions::whole_at))]
     pub fn expression(&mut self) -> Result<Expr, Stop>
-        ensures exact { Reads expr_view result (left self.new) (whole_at (left self.old)) }
+        ensures exact { Reads expr_view result (left self.new) (whole_at the_depths (left self.old)) }
         ensures shorter { OnOk result (length self.new.rest.now < length self.old.rest.now) }
     {
         self.part(BRACKETS)

@@ -2,6 +2,7 @@
 ghost use Rattle.std.specs.Prelude.{◌≡◌, ◌<◌, ◌≤◌, length, map, OnOk, MatchResult};
 ghost use Rattle.oc_tree.specs.Names.{Text};
 ghost use Rattle.oc_tree.specs.View.{function_view, program_view};
+ghost use Rattle.oc_grammar.specs.Limits.{the_depths};
 ghost use Rattle.oc_grammar.specs.Programs.{with_sensor, with_port, with_nv, with_function};
 ghost use Rattle.oc_grammar.specs.ReadingPrograms.{passing_at, param_at, params_at, scalar_at, result_at, function_at, cells_at, nv_at, declared_at, item_at};
 ghost use Rattle.oc_parse.specs.Steps.{Fits, Reads, ReadsTo, from, left};
@@ -180,7 +181,7 @@ impl Parser<'_> {
     #[tactic(auto, unfolding(oc_grammar::specs::ReadingPrograms::function_at))]
     fn function(&mut self, line: u32) -> Result<Function, Stop>
         requires { Fits self.old }
-        ensures exact { ReadsTo function_view result self.new (from (function_at line) self.old) }
+        ensures exact { ReadsTo function_view result self.new (from (function_at the_depths line) self.old) }
         ensures fits { OnOk result (Fits self.new) }
         ensures shorter { OnOk result (length self.new.reader.rest.now < length self.old.reader.rest.now) }
     {
@@ -202,7 +203,7 @@ impl Parser<'_> {
     #[tactic(auto, unfolding(oc_grammar::specs::ReadingPrograms::item_at))]
     pub fn item(&mut self, program: &mut Program) -> Result<(), Stop>
         requires { Fits self.old }
-        ensures exact { ReadsTo (λ x. program_view program.new) result self.new (from (item_at (program_view program.old)) self.old) }
+        ensures exact { ReadsTo (λ x. program_view program.new) result self.new (from (item_at the_depths (program_view program.old)) self.old) }
         ensures fits { OnOk result (Fits self.new) }
         ensures shorter { OnOk result (length self.new.reader.rest.now < length self.old.reader.rest.now) }
     {

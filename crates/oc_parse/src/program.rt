@@ -1,10 +1,11 @@
 //! Whole programs.
-ghost use Rattle.std.specs.Prelude.{◌≡◌, ◌≤◌, ℕ, List, length, IfOk, MatchResult};
+ghost use Rattle.std.specs.Prelude.{◌≡◌, ◌≤◌, ◌-◌, ℕ, List, length, IfOk, MatchResult};
 ghost use Rattle.oc_tree.specs.Tree.{TProgram};
 ghost use Rattle.oc_tree.specs.Nodes.{program_nodes};
 ghost use Rattle.oc_tree.specs.View.{program_view};
 ghost use Rattle.oc_lex.specs.Tokens.{AreTokens};
 ghost use Rattle.oc_grammar.specs.Form.{InForm};
+ghost use Rattle.oc_grammar.specs.Limits.{the_depths};
 ghost use Rattle.oc_grammar.specs.Lexemes.{last_line as last_line_of, lexemes_of};
 ghost use Rattle.oc_grammar.specs.Programs.{SpellsProgram, empty_program};
 ghost use Rattle.oc_grammar.specs.ReadingPrograms.{program_at};
@@ -39,32 +40,45 @@ pub fn parse(alloc: Global, source: &[u8], tokens: &[Token]) -> Result<Program, 
     requires tokens { AreTokens source.now tokens.now }
     requires small { length source.now ≤ 1048576 }
     // What comes with Ok is spelled by the tokens.
-    ensures found { IfOk result (λ p. SpellsProgram (program_view p) (lexemes_of source.now tokens.now)) }
+    ensures found { IfOk result (λ p. SpellsProgram the_depths (program_view p) (lexemes_of source.now tokens.now)) }
     // What the tokens spell comes, unless memory runs out.
-    ensures only { (p : TProgram) → SpellsProgram p (lexemes_of source.now tokens.now) → MatchResult result (λ q. program_view q ≡ p) (λ e. e ≡ ParseError.Memory) }
+    ensures only { (p : TProgram) → SpellsProgram the_depths p (lexemes_of source.now tokens.now) → MatchResult result (λ q. program_view q ≡ p) (λ e. e ≡ ParseError.Memory) }
     // It is in form: names, numbers and the places of declarations are those of the language, and
     // statements and blocks are numbered in source order.
     ensures form { IfOk result (λ p. InForm (program_view p)) }
     // Its expressions have no more nodes than there are tokens.
     ensures nodes { IfOk result (λ p. program_nodes (program_view p) ≤ length tokens.now) }
     // A fault is the first that reading from left to right comes to.
-    ensures fault { Parses result (length tokens.now) (program_at (lexemes_of source.now tokens.now)) }
+    ensures fault { Parses result (length tokens.now) (program_at the_depths (lexemes_of source.now tokens.now)) }
 {
     match whole(alloc, source, tokens) {
         Ok(program) => Ok(program),
         Err(Stop::Memory) => Err(ParseError::Memory),
         Err(Stop::Syntax { left }) => Err(ParseError::Syntax {
-            token: tokens.len().saturating_sub(left),
+            token: place(tokens, left),
         }),
-        Err(Stop::Depth { left }) => Err(ParseError::Depth {
-            token: tokens.len().saturating_sub(left),
+        Err(Stop::Blocks { left }) => Err(ParseError::Depth {
+            token: place(tokens, left),
+        }),
+        Err(Stop::Brackets { left }) => Err(ParseError::Depth {
+            token: place(tokens, left),
+        }),
+        Err(Stop::Operators { left }) => Err(ParseError::Depth {
+            token: place(tokens, left),
         }),
     }
 }
 
+/// The number of the token with which so many tokens are left.
+fn place(tokens: &[Token], left: usize) -> usize
+    ensures { result ≡ length tokens.now - left }
+{
+    tokens.len().saturating_sub(left)
+}
+
 fn whole(alloc: Global, source: &[u8], tokens: &[Token]) -> Result<Program, Stop>
     requires { length tokens.now ≤ 1048576 }
-    ensures { Whole result (program_at (lexemes_of source.now tokens.now)) }
+    ensures { Whole result (program_at the_depths (lexemes_of source.now tokens.now)) }
 {
     let mut program = empty(alloc, last_line(tokens));
     let reader = Reader {

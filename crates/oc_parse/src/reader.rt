@@ -221,21 +221,30 @@ impl Reader<'_> {
         }
     }
 
-    /// The fault that the token just taken passes a depth.
-    pub fn too_deep(&self) -> Stop
-        ensures { result ≡ Stop.Depth (suc (length self.now.rest.now)) }
+    /// The fault that the `{` just taken is one block too many.
+    pub fn too_many_blocks(&self) -> Stop
+        ensures { result ≡ Stop.Blocks (suc (length self.now.rest.now)) }
     {
-        Stop::Depth {
+        Stop::Blocks {
             left: self.rest.len() + 1,
         }
     }
 
-    /// The fault that the token in front passes a depth.
-    pub fn too_deep_here(&self) -> Stop
-        ensures { result ≡ Stop.Depth (length self.now.rest.now) }
+    /// The fault that the `if` in front opens one block too many.
+    pub fn too_many_chained(&self) -> Stop
+        ensures { result ≡ Stop.Blocks (length self.now.rest.now) }
     {
-        Stop::Depth {
+        Stop::Blocks {
             left: self.rest.len(),
+        }
+    }
+
+    /// The fault that the token just taken is one bracket or prefix operator too many.
+    pub fn too_many_brackets(&self) -> Stop
+        ensures { result ≡ Stop.Brackets (suc (length self.now.rest.now)) }
+    {
+        Stop::Brackets {
+            left: self.rest.len() + 1,
         }
     }
 
@@ -257,7 +266,9 @@ impl Reader<'_> {
         ensures { MatchResult result (λ x. spend_at operators.old (left self.now) ≡ Ok operators.new) (λ e. Stopped e (spend_at operators.old (left self.now))) }
     {
         if *operators == 0 {
-            return Err(self.too_deep());
+            return Err(Stop::Operators {
+                left: self.rest.len() + 1,
+            });
         }
         *operators -= 1;
         Ok(())

@@ -1,6 +1,7 @@
 //! Types, constants, and statements without blocks.
 ghost use Rattle.std.specs.Prelude.{◌≡◌, ◌<◌, ◌≤◌, length, OnOk};
 ghost use Rattle.oc_tree.specs.View.{expr_view, kind_view, right_view};
+ghost use Rattle.oc_grammar.specs.Limits.{the_depths};
 ghost use Rattle.oc_grammar.specs.Lexemes.{lexeme_of};
 ghost use Rattle.oc_grammar.specs.Statements.{right_of as right_of_tree};
 ghost use Rattle.oc_grammar.specs.ReadingStatements.{array_at, type_at, const_at, right_at, note_at, fill_at, assign_at, element_to_at, target_at, call_at, sense_at, emit_at, fresh_at, consistent_at, return_at, bind_at, let_at, set_at, simple_from};
@@ -72,7 +73,7 @@ impl Reader<'_> {
     /// Takes a right side and the `;`.
     #[tactic(auto, unfolding(oc_grammar::specs::ReadingStatements::right_at))]
     fn right(&mut self) -> Result<Right, Stop>
-        ensures exact { Reads right_view result (left self.new) (right_at (left self.old)) }
+        ensures exact { Reads right_view result (left self.new) (right_at the_depths (left self.old)) }
         ensures shorter { OnOk result (length self.new.rest.now < length self.old.rest.now) }
     {
         let value = self.expression()?;
@@ -96,7 +97,7 @@ impl Reader<'_> {
     /// Takes a `let` behind its word.
     #[tactic(auto, unfolding(oc_grammar::specs::ReadingStatements::let_at, oc_grammar::specs::ReadingStatements::let_from))]
     fn let_statement(&mut self) -> Result<StmtKind, Stop>
-        ensures exact { Reads kind_view result (left self.new) (let_at (left self.old)) }
+        ensures exact { Reads kind_view result (left self.new) (let_at the_depths (left self.old)) }
         ensures shorter { OnOk result (length self.new.rest.now < length self.old.rest.now) }
     {
         let mutable = self.take_word(Word::Mutable);
@@ -114,7 +115,7 @@ impl Reader<'_> {
         name: Name,
         kind: Option<ValueKind>,
     ) -> Result<StmtKind, Stop>
-        ensures exact { Reads kind_view result (left self.new) (bind_at mutable name kind (left self.old)) }
+        ensures exact { Reads kind_view result (left self.new) (bind_at the_depths mutable name kind (left self.old)) }
         ensures shorter { OnOk result (length self.new.rest.now < length self.old.rest.now) }
     {
         if self.take(Mark::OpenSquare) {
@@ -152,7 +153,7 @@ impl Reader<'_> {
     /// Takes a call or an assignment behind its name.
     #[tactic(auto, unfolding(oc_grammar::specs::ReadingStatements::set_at))]
     fn named_statement(&mut self, name: Name) -> Result<StmtKind, Stop>
-        ensures exact { Reads kind_view result (left self.new) (set_at name (left self.old)) }
+        ensures exact { Reads kind_view result (left self.new) (set_at the_depths name (left self.old)) }
         ensures shorter { OnOk result (length self.new.rest.now < length self.old.rest.now) }
     {
         if self.take(Mark::OpenRound) {
@@ -167,7 +168,7 @@ impl Reader<'_> {
 
     #[tactic(auto, unfolding(oc_grammar::specs::ReadingStatements::call_at))]
     fn call_statement(&mut self, function: Name) -> Result<StmtKind, Stop>
-        ensures exact { Reads kind_view result (left self.new) (call_at function (left self.old)) }
+        ensures exact { Reads kind_view result (left self.new) (call_at the_depths function (left self.old)) }
         ensures shorter { OnOk result (length self.new.rest.now < length self.old.rest.now) }
     {
         let args = self.args(BRACKETS)?;
@@ -178,7 +179,7 @@ impl Reader<'_> {
 
     #[tactic(auto, unfolding(oc_grammar::specs::ReadingStatements::element_to_at))]
     fn element_assignment(&mut self, name: Name) -> Result<StmtKind, Stop>
-        ensures exact { Reads kind_view result (left self.new) (element_to_at name (left self.old)) }
+        ensures exact { Reads kind_view result (left self.new) (element_to_at the_depths name (left self.old)) }
         ensures shorter { OnOk result (length self.new.rest.now < length self.old.rest.now) }
     {
         let index = self.expression()?;
@@ -190,7 +191,7 @@ impl Reader<'_> {
 
     #[tactic(auto, unfolding(oc_grammar::specs::ReadingStatements::assign_at))]
     fn assignment(&mut self, name: Name) -> Result<StmtKind, Stop>
-        ensures exact { Reads kind_view result (left self.new) (assign_at name (left self.old)) }
+        ensures exact { Reads kind_view result (left self.new) (assign_at the_depths name (left self.old)) }
         ensures shorter { OnOk result (length self.new.rest.now < length self.old.rest.now) }
     {
         let right = self.right()?;
@@ -200,7 +201,7 @@ impl Reader<'_> {
     /// Takes an assignment through a reference behind its `*`.
     #[tactic(auto, unfolding(oc_grammar::specs::ReadingStatements::target_at))]
     fn target_assignment(&mut self) -> Result<StmtKind, Stop>
-        ensures exact { Reads kind_view result (left self.new) (target_at (left self.old)) }
+        ensures exact { Reads kind_view result (left self.new) (target_at the_depths (left self.old)) }
         ensures shorter { OnOk result (length self.new.rest.now < length self.old.rest.now) }
     {
         let name = self.name()?;
@@ -223,7 +224,7 @@ impl Reader<'_> {
 
     #[tactic(auto, unfolding(oc_grammar::specs::ReadingStatements::emit_at))]
     fn emit_statement(&mut self) -> Result<StmtKind, Stop>
-        ensures exact { Reads kind_view result (left self.new) (emit_at (left self.old)) }
+        ensures exact { Reads kind_view result (left self.new) (emit_at the_depths (left self.old)) }
         ensures shorter { OnOk result (length self.new.rest.now < length self.old.rest.now) }
     {
         self.expect(Mark::OpenRound)?;
@@ -263,7 +264,7 @@ impl Reader<'_> {
 
     #[tactic(auto, unfolding(oc_grammar::specs::ReadingStatements::return_at))]
     fn return_statement(&mut self) -> Result<StmtKind, Stop>
-        ensures exact { Reads kind_view result (left self.new) (return_at (left self.old)) }
+        ensures exact { Reads kind_view result (left self.new) (return_at the_depths (left self.old)) }
         ensures shorter { OnOk result (length self.new.rest.now < length self.old.rest.now) }
     {
         let value = self.expression()?;
@@ -273,7 +274,7 @@ impl Reader<'_> {
 
     /// Takes a statement without blocks, whose first token was just taken.
     pub fn simple(&mut self, token: Token) -> Result<StmtKind, Stop>
-        ensures exact { Reads kind_view result (left self.new) (simple_from (lexeme_of self.old.source.now token) (left self.old)) }
+        ensures exact { Reads kind_view result (left self.new) (simple_from the_depths (lexeme_of self.old.source.now token) (left self.old)) }
         ensures shorter { OnOk result (length self.new.rest.now < length self.old.rest.now) }
     {
         match token.kind {

@@ -1,6 +1,7 @@
 //! Statements and blocks.
 ghost use Rattle.std.specs.Prelude.{◌≡◌, ◌+◌, ◌<◌, ◌≤◌, length, map, OnOk};
 ghost use Rattle.oc_tree.specs.View.{block_view, else_view, kind_view, stmt_view, stmts_view};
+ghost use Rattle.oc_grammar.specs.Limits.{the_depths};
 ghost use Rattle.oc_grammar.specs.Lexemes.{lexeme_of};
 ghost use Rattle.oc_grammar.specs.ReadingStatements.{kind_by, if_by, for_by, while_by, stmt_here, stmt_at, stmts_at, block_at, chained_at, else_at};
 ghost use Rattle.oc_parse.specs.Steps.{Fits, ReadsTo, from, left};
@@ -27,7 +28,7 @@ impl Parser<'_> {
     #[tactic(auto, unfolding(oc_grammar::specs::ReadingStatements::stmt_here))]
     fn statement(&mut self, room: u32) -> Result<Stmt, Stop>
         requires { Fits self.old }
-        ensures exact { ReadsTo stmt_view result self.new (from (stmt_here room) self.old) }
+        ensures exact { ReadsTo stmt_view result self.new (from (stmt_here the_depths room) self.old) }
         ensures fits { OnOk result (Fits self.new) }
         ensures shorter { OnOk result (length self.new.reader.rest.now < length self.old.reader.rest.now) }
     {
@@ -46,7 +47,7 @@ impl Parser<'_> {
     #[cycle(statement)]
     fn kind(&mut self, room: u32, token: Token) -> Result<StmtKind, Stop>
         requires { Fits self.old }
-        ensures exact { ReadsTo kind_view result self.new (from (kind_by (block_at room) (else_at room) (lexeme_of self.old.reader.source.now token)) self.old) }
+        ensures exact { ReadsTo kind_view result self.new (from (kind_by the_depths (block_at the_depths room) (else_at the_depths room) (lexeme_of self.old.reader.source.now token)) self.old) }
         ensures fits { OnOk result (Fits self.new) }
         ensures shorter { OnOk result (length self.new.reader.rest.now < length self.old.reader.rest.now) }
     {
@@ -65,7 +66,7 @@ impl Parser<'_> {
     #[tactic(auto, unfolding(oc_grammar::specs::ReadingStatements::if_by))]
     fn if_statement(&mut self, room: u32) -> Result<StmtKind, Stop>
         requires { Fits self.old }
-        ensures exact { ReadsTo kind_view result self.new (from (if_by (block_at room) (else_at room)) self.old) }
+        ensures exact { ReadsTo kind_view result self.new (from (if_by the_depths (block_at the_depths room) (else_at the_depths room)) self.old) }
         ensures fits { OnOk result (Fits self.new) }
         ensures shorter { OnOk result (length self.new.reader.rest.now < length self.old.reader.rest.now) }
     {
@@ -83,7 +84,7 @@ impl Parser<'_> {
     #[tactic(auto, unfolding(oc_grammar::specs::ReadingStatements::for_by))]
     fn for_statement(&mut self, room: u32) -> Result<StmtKind, Stop>
         requires { Fits self.old }
-        ensures exact { ReadsTo kind_view result self.new (from (for_by (block_at room)) self.old) }
+        ensures exact { ReadsTo kind_view result self.new (from (for_by (block_at the_depths room)) self.old) }
         ensures fits { OnOk result (Fits self.new) }
         ensures shorter { OnOk result (length self.new.reader.rest.now < length self.old.reader.rest.now) }
     {
@@ -105,7 +106,7 @@ impl Parser<'_> {
     #[tactic(auto, unfolding(oc_grammar::specs::ReadingStatements::while_by))]
     fn while_statement(&mut self, room: u32) -> Result<StmtKind, Stop>
         requires { Fits self.old }
-        ensures exact { ReadsTo kind_view result self.new (from (while_by (block_at room)) self.old) }
+        ensures exact { ReadsTo kind_view result self.new (from (while_by the_depths (block_at the_depths room)) self.old) }
         ensures fits { OnOk result (Fits self.new) }
         ensures shorter { OnOk result (length self.new.reader.rest.now < length self.old.reader.rest.now) }
     {
@@ -125,7 +126,7 @@ impl Parser<'_> {
     #[tactic(auto, unfolding(oc_grammar::specs::ReadingStatements::else_at))]
     fn otherwise(&mut self, room: u32) -> Result<Option<Block>, Stop>
         requires { Fits self.old }
-        ensures exact { ReadsTo else_view result self.new (from (else_at room) self.old) }
+        ensures exact { ReadsTo else_view result self.new (from (else_at the_depths room) self.old) }
         ensures fits { OnOk result (Fits self.new) }
         ensures shorter { OnOk result (length self.new.reader.rest.now ≤ length self.old.reader.rest.now) }
     {
@@ -145,12 +146,12 @@ impl Parser<'_> {
     fn chained(&mut self, room: u32) -> Result<Block, Stop>
         requires fits { Fits self.old }
         requires more { self.old.blocks + length self.old.reader.rest.now < 4294967295 }
-        ensures exact { ReadsTo block_view result self.new (from (chained_at room) self.old) }
+        ensures exact { ReadsTo block_view result self.new (from (chained_at the_depths room) self.old) }
         ensures fits { OnOk result (Fits self.new) }
         ensures shorter { OnOk result (length self.new.reader.rest.now < length self.old.reader.rest.now) }
     {
         if room == 0 {
-            return Err(self.reader.too_deep_here());
+            return Err(self.reader.too_many_chained());
         }
         let id = self.blocks;
         self.blocks += 1;
@@ -164,13 +165,13 @@ impl Parser<'_> {
     #[cycle(statement)]
     pub fn block(&mut self, room: u32) -> Result<Block, Stop>
         requires { Fits self.old }
-        ensures exact { ReadsTo block_view result self.new (from (block_at room) self.old) }
+        ensures exact { ReadsTo block_view result self.new (from (block_at the_depths room) self.old) }
         ensures fits { OnOk result (Fits self.new) }
         ensures shorter { OnOk result (length self.new.reader.rest.now < length self.old.reader.rest.now) }
     {
         self.reader.expect(Mark::OpenCurly)?;
         if room == 0 {
-            return Err(self.reader.too_deep());
+            return Err(self.reader.too_many_blocks());
         }
         let id = self.blocks;
         self.blocks += 1;
@@ -182,7 +183,7 @@ impl Parser<'_> {
     #[cycle(statement)]
     fn statements(&mut self, room: u32) -> Result<Vec<Stmt>, Stop>
         requires { Fits self.old }
-        ensures exact { ReadsTo (λ ss. map stmt_view ss.items) result self.new (from (stmts_at room) self.old) }
+        ensures exact { ReadsTo (λ ss. map stmt_view ss.items) result self.new (from (stmts_at the_depths room) self.old) }
         ensures fits { OnOk result (Fits self.new) }
         ensures shorter { OnOk result (length self.new.reader.rest.now < length self.old.reader.rest.now) }
     {

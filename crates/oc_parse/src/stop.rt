@@ -8,8 +8,14 @@ use std::alloc::{AllocError, AllocFailed};
 #[derive(Clone, Copy, Debug, PartialEq, Eq)]
 pub enum Stop {
     Memory,
+    /// No form goes on with the token.
     Syntax { left: usize },
-    Depth { left: usize },
+    /// The token opens one block too many.
+    Blocks { left: usize },
+    /// The token is one bracket or prefix operator too many.
+    Brackets { left: usize },
+    /// The token is one binary operator too many.
+    Operators { left: usize },
 }
 
 impl From<AllocError> for Stop {

@@ -2,6 +2,7 @@ use Rattle.std.proofs.Common.{◌≡◌, length, sym, ◌∙◌, arith}
 use Rattle.std.proofs.lemmas.List.{length-map}
 use Rattle.oc_tree.specs.View.{program_view}
 use Rattle.oc_lex.proofs.StandsLaws.{tokens_count}
+use Rattle.oc_grammar.specs.Limits.{the_depths}
 use Rattle.oc_grammar.specs.Lexemes.{lexemes_of}
 use Rattle.oc_grammar.proofs.ProgramLaws.{program_sound, program_read}
 use Rattle.oc_grammar.proofs.NodeLaws.{nodes_within}
@@ -19,10 +20,10 @@ whole-requires c =
     omega arith
 
 pub returns-in-Ok-clause-found : goal.returns-in-Ok-clause-found
-returns-in-Ok-clause-found c = program_sound (lexemes_of c.args.source.now c.args.tokens.now) (program_view c.in-Ok.program) c.in-Ok.ensures
+returns-in-Ok-clause-found c = program_sound the_depths (lexemes_of c.args.source.now c.args.tokens.now) (program_view c.in-Ok.program) c.in-Ok.ensures
 
 pub returns-in-Ok-clause-only : goal.returns-in-Ok-clause-only
-returns-in-Ok-clause-only c = λ p d. ok_is (program_view c.in-Ok.program) p (sym c.in-Ok.ensures ∙ program_read (lexemes_of c.args.source.now c.args.tokens.now) p d)
+returns-in-Ok-clause-only c = λ p d. ok_is (program_view c.in-Ok.program) p (sym c.in-Ok.ensures ∙ program_read the_depths (lexemes_of c.args.source.now c.args.tokens.now) p d)
 
 pub returns-in-Err-Syntax-clause-only : goal.returns-in-Err-Syntax-clause-only
 returns-in-Err-Syntax-clause-only c = λ p d.
@@ -30,16 +31,28 @@ returns-in-Err-Syntax-clause-only c = λ p d.
     let k : stops.Syntax c.in-Err-Syntax.left ≡ stops.Memory = sym c.in-Err-Syntax.field-0-is ∙ m in
     absurd cc
 
-pub returns-in-Err-Depth-clause-only : goal.returns-in-Err-Depth-clause-only
-returns-in-Err-Depth-clause-only c = λ p d.
-    let m = only_memory (lexemes_of c.args.source.now c.args.tokens.now) p c.in-Err-Depth.field-0 c.in-Err-Depth.ensures d in
-    let k : stops.Depth c.in-Err-Depth.left ≡ stops.Memory = sym c.in-Err-Depth.field-0-is ∙ m in
+pub returns-in-Err-Blocks-clause-only : goal.returns-in-Err-Blocks-clause-only
+returns-in-Err-Blocks-clause-only c = λ p d.
+    let m = only_memory (lexemes_of c.args.source.now c.args.tokens.now) p c.in-Err-Blocks.field-0 c.in-Err-Blocks.ensures d in
+    let k : stops.Blocks c.in-Err-Blocks.left ≡ stops.Memory = sym c.in-Err-Blocks.field-0-is ∙ m in
+    absurd cc
+
+pub returns-in-Err-Brackets-clause-only : goal.returns-in-Err-Brackets-clause-only
+returns-in-Err-Brackets-clause-only c = λ p d.
+    let m = only_memory (lexemes_of c.args.source.now c.args.tokens.now) p c.in-Err-Brackets.field-0 c.in-Err-Brackets.ensures d in
+    let k : stops.Brackets c.in-Err-Brackets.left ≡ stops.Memory = sym c.in-Err-Brackets.field-0-is ∙ m in
+    absurd cc
+
+pub returns-in-Err-Operators-clause-only : goal.returns-in-Err-Operators-clause-only
+returns-in-Err-Operators-clause-only c = λ p d.
+    let m = only_memory (lexemes_of c.args.source.now c.args.tokens.now) p c.in-Err-Operators.field-0 c.in-Err-Operators.ensures d in
+    let k : stops.Operators c.in-Err-Operators.left ≡ stops.Memory = sym c.in-Err-Operators.field-0-is ∙ m in
     absurd cc
 
 pub returns-in-Ok-clause-nodes : goal.returns-in-Ok-clause-nodes
 returns-in-Ok-clause-nodes c =
     let ts = lexemes_of c.args.source.now c.args.tokens.now in
-    let n = nodes_within ts (program_view c.in-Ok.program) (program_sound ts (program_view c.in-Ok.program) c.in-Ok.ensures) in
+    let n = nodes_within the_depths ts (program_view c.in-Ok.program) (program_sound the_depths ts (program_view c.in-Ok.program) c.in-Ok.ensures) in
     let k : length ts ≡ length c.args.tokens.now = length-map c.args.tokens.now _ in
     omega (arith, n, k)
 

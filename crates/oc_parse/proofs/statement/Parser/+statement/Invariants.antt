@@ -1,5 +1,6 @@
 use Rattle.std.proofs.Common.{◌≡◌, length, ◌+◌, ◌*◌, ◌≤◌, map}
 use Rattle.oc_tree.specs.View.{stmt_view}
+use Rattle.oc_grammar.specs.Limits.{the_depths}
 use Rattle.oc_grammar.specs.ReadingStatements.{stmts_at}
 use Rattle.oc_parse.specs.Steps.{Fits, from}
 use Rattle.oc_parse.proofs.StatementLoops.{afterwards}
@@ -33,7 +34,7 @@ abbrev pub decreases-block : goal.decreases-block
 decreases-block l = 8 * l.room + 1
 
 abbrev pub invariant-statements-loop-self : goal.invariant-statements-loop-self
-invariant-statements-loop-self l = (afterwards (map stmt_view l.statements.items) (from (stmts_at l.room) l.self) ≡ from (stmts_at l.room) l.fn.self) × Fits l.self × (length l.self.reader.rest.now ≤ length l.fn.self.reader.rest.now)
+invariant-statements-loop-self l = (afterwards (map stmt_view l.statements.items) (from (stmts_at the_depths l.room) l.self) ≡ from (stmts_at the_depths l.room) l.fn.self) × Fits l.self × (length l.self.reader.rest.now ≤ length l.fn.self.reader.rest.now)
 
 abbrev pub decreases-statements-loop-self : goal.decreases-statements-loop-self
 decreases-statements-loop-self l = length l.self.reader.rest.now

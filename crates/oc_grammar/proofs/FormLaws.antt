@@ -15,6 +15,7 @@ use Rattle.oc_tree.specs.declared.tree.NvDecl.{NvDecl}
 use Rattle.oc_lex.specs.declared.token.Word.{Word}
 use Rattle.oc_lex.specs.declared.token.Mark.{Mark}
 use Rattle.oc_lex.specs.Stands.{IsName}
+use Rattle.oc_grammar.specs.Limits.{Limits}
 use Rattle.oc_grammar.specs.Lexemes.{Lexeme, Lexemes, LexemesInForm}
 use Rattle.oc_grammar.specs.Fronts.{Named, a_name, Numeral, a_numeral, Keyword, a_keyword, Sign, a_sign, Infix, an_operator}
 use Rattle.oc_grammar.specs.Expressions.{Spells, literal, yes, no, name, element, target, parens, minus, negation, input, result, one, more, compare, SpellsArg, by_value, by_shared, by_mutable, SpellsArgs, closed, last, further}
@@ -76,7 +77,7 @@ note_in untyped h = (tt, h)
 -- ---- expressions
 
 mutual
-  expr_in : {room level : ℕ} {e : TExpr} {from rest : Lexemes} → Spells room level e from rest → LexemesInForm from → ExprInForm e × LexemesInForm rest
+  expr_in : {limits : Limits} {room level : ℕ} {e : TExpr} {from rest : Lexemes} → Spells limits room level e from rest → LexemesInForm from → ExprInForm e × LexemesInForm rest
   expr_in (literal i) h = number_in i h
   expr_in (yes k) h = (tt, keyword_in k h)
   expr_in (no k) h = (tt, keyword_in k h)
@@ -92,12 +93,12 @@ mutual
   expr_in (more ne d o e) h = let a = expr_in d h in let b = expr_in e (infix_in o a.1) in ((a.0, b.0), b.1)
   expr_in (compare d o e) h = let a = expr_in d h in let b = expr_in e (infix_in o a.1) in ((a.0, b.0), b.1)
 
-  arg_in : {room : ℕ} {arg : TArg} {from rest : Lexemes} → SpellsArg room arg from rest → LexemesInForm from → ArgInForm arg × LexemesInForm rest
+  arg_in : {limits : Limits} {room : ℕ} {arg : TArg} {from rest : Lexemes} → SpellsArg limits room arg from rest → LexemesInForm from → ArgInForm arg × LexemesInForm rest
   arg_in (by_value d few) h = expr_in d h
   arg_in (by_shared s i) h = name_in i (sign_in s h)
   arg_in (by_mutable s k i) h = name_in i (keyword_in k (sign_in s h))
 
-  args_in : {room : ℕ} {args : TArgs} {from rest : Lexemes} → SpellsArgs room args from rest → LexemesInForm from → ArgsInForm args × LexemesInForm rest
+  args_in : {limits : Limits} {room : ℕ} {args : TArgs} {from rest : Lexemes} → SpellsArgs limits room args from rest → LexemesInForm from → ArgsInForm args × LexemesInForm rest
   args_in (closed s) h = (tt, sign_in s h)
   args_in (last d s) h = let a = arg_in d h in ((a.0, tt), sign_in s a.1)
   args_in (further d s e) h = let a = arg_in d h in let b = args_in e (sign_in s a.1) in ((a.0, b.0), b.1)
@@ -115,7 +116,7 @@ right_form (deref x) h = (tt, h)
 right_form (unary op e) h = (tt, h)
 right_form (binary op a b) h = (tt, h)
 
-right_in : {r : TRight} {from rest : Lexemes} → SpellsRight r from rest → LexemesInForm from → RightInForm r × LexemesInForm rest
+right_in : {limits : Limits} {r : TRight} {from rest : Lexemes} → SpellsRight limits r from rest → LexemesInForm from → RightInForm r × LexemesInForm rest
 right_in (a_right {e = e} d s) h = let a = expr_in d.spelled h in (right_form e a.0, sign_in s a.1)
 
 mut_in : {m : Bool} {from rest : Lexemes} → SpellsMut m from rest → LexemesInForm from → LexemesInForm rest
@@ -125,7 +126,7 @@ mut_in without_mut h = h
 head_in : {m : Bool} {x : Text} {k : Option ValueKind} {from rest : Lexemes} → LetHead m x k from rest → LexemesInForm from → IsName x × NoteInForm k × LexemesInForm rest
 head_in (let_head w m i t s) h = let a = name_in i (mut_in m (keyword_in w h)) in let b = note_in t a.1 in (a.0, b.0, sign_in s b.1)
 
-simple_in : {k : TKind} {from rest : Lexemes} → SpellsSimple k from rest → LexemesInForm from → KindInForm k × LexemesInForm rest
+simple_in : {limits : Limits} {k : TKind} {from rest : Lexemes} → SpellsSimple limits k from rest → LexemesInForm from → KindInForm k × LexemesInForm rest
 simple_in (let_right d r) h = let a = head_in d h in let b = right_in r a.2 in ((a.0, a.1, b.0), b.1)
 simple_in (let_fill {n = z} d o i s n c t) h =
     let a = head_in d h in
@@ -153,7 +154,7 @@ simple_in (marks_consistent k o i m n c s) h =
 simple_in (returns k w s) h = let a = expr_in w.spelled (keyword_in k h) in (a.0, sign_in s a.1)
 
 mutual
-  kind_in : {room : ℕ} {k : TKind} {p q : Place} → SpellsKind room k p q → LexemesInForm p.2 → KindInForm k × LexemesInForm q.2
+  kind_in : {limits : Limits} {room : ℕ} {k : TKind} {p q : Place} → SpellsKind limits room k p q → LexemesInForm p.2 → KindInForm k × LexemesInForm q.2
   kind_in (simple d) h = simple_in d h
   kind_in (if_form k c t o) h =
       let a = expr_in c.spelled (keyword_in k h) in
@@ -172,18 +173,18 @@ mutual
       let d = block_in t b.1 in
       ((a.0, count_of z b.0, d.0), d.1)
 
-  else_in : {room : ℕ} {o : TElse} {p q : Place} → SpellsElse room o p q → LexemesInForm p.2 → ElseInForm o × LexemesInForm q.2
+  else_in : {limits : Limits} {room : ℕ} {o : TElse} {p q : Place} → SpellsElse limits room o p q → LexemesInForm p.2 → ElseInForm o × LexemesInForm q.2
   else_in without h = (tt, h)
   else_in (otherwise k t) h = block_in t (keyword_in k h)
   else_in (else_if k l d) h = let a = stmt_in d (keyword_in k h) in ((a.0, tt), a.1)
 
-  stmt_in : {room : ℕ} {s : TStmt} {p q : Place} → SpellsStmt room s p q → LexemesInForm p.2 → StmtInForm s × LexemesInForm q.2
+  stmt_in : {limits : Limits} {room : ℕ} {s : TStmt} {p q : Place} → SpellsStmt limits room s p q → LexemesInForm p.2 → StmtInForm s × LexemesInForm q.2
   stmt_in (statement d) h = kind_in d h
 
-  block_in : {room : ℕ} {t : TBlock} {p q : Place} → SpellsBlock room t p q → LexemesInForm p.2 → BlockInForm t × LexemesInForm q.2
+  block_in : {limits : Limits} {room : ℕ} {t : TBlock} {p q : Place} → SpellsBlock limits room t p q → LexemesInForm p.2 → BlockInForm t × LexemesInForm q.2
   block_in (braces s d) h = stmts_in d (sign_in s h)
 
-  stmts_in : {room : ℕ} {ss : TStmts} {p q : Place} → SpellsStmts room ss p q → LexemesInForm p.2 → StmtsInForm ss × LexemesInForm q.2
+  stmts_in : {limits : Limits} {room : ℕ} {ss : TStmts} {p q : Place} → SpellsStmts limits room ss p q → LexemesInForm p.2 → StmtsInForm ss × LexemesInForm q.2
   stmts_in (end s) h = (tt, sign_in s h)
   stmts_in (first d e) h = let a = stmt_in d h in let b = stmts_in e a.1 in ((a.0, b.0), b.1)
 
@@ -210,7 +211,7 @@ result_in : {r : Option Scalar} {from rest : Lexemes} → SpellsResult r from re
 result_in no_result h = h
 result_in (a_result s d) h = scalar_in d (sign_in s h)
 
-function_in : {f : TFunction} {p q : Place} → SpellsFunction f p q → LexemesInForm p.2 → FunctionInForm f × LexemesInForm q.2
+function_in : {limits : Limits} {f : TFunction} {p q : Place} → SpellsFunction limits f p q → LexemesInForm p.2 → FunctionInForm f × LexemesInForm q.2
 function_in (a_function w i o ps r t) h =
     let a = name_in i (keyword_in w h) in
     let b = params_in ps (sign_in o a.1) in
@@ -230,7 +231,7 @@ nv_in (an_nv w i s c e z t) h =
 
 -- ---- programs
 
-item_in : {p q : TProgram} {x y : Place} → SpellsItem p x q y → LexemesInForm x.2 → Spellable p → Spellable q × LexemesInForm y.2
+item_in : {limits : Limits} {p q : TProgram} {x y : Place} → SpellsItem limits p x q y → LexemesInForm x.2 → Spellable p → Spellable q × LexemesInForm y.2
 item_in (sensor_item {p = p} {x = x} w i s) h g =
     let a = name_in i (keyword_in w h) in
     (record { sensors = All-push IsName p.names.sensors x g.sensors a.0; ports = g.ports; nvs = g.nvs; nv = g.nv; functions = g.functions }, sign_in s a.1)
@@ -244,12 +245,12 @@ item_in (function_item {p = p} {f = f} d) h g =
     let a = function_in d h in
     (record { sensors = g.sensors; ports = g.ports; nvs = g.nvs; nv = g.nv; functions = All-push FunctionInForm p.functions f g.functions a.0 }, a.1)
 
-items_in : {p r : TProgram} {x : Place} → SpellsItems p x r → LexemesInForm x.2 → Spellable p → Spellable r
+items_in : {limits : Limits} {p r : TProgram} {x : Place} → SpellsItems limits p x r → LexemesInForm x.2 → Spellable p → Spellable r
 items_in no_item h g = g
 items_in (an_item d e) h g = let a = item_in d h g in items_in e a.1 a.0
 
 empty_spellable : (line : ℕ) → Spellable (empty_program line)
 empty_spellable line = record { sensors = All-nil IsName; ports = All-nil IsName; nvs = All-nil IsName; nv = All-nil NvInForm; functions = All-nil FunctionInForm }
 
-pub program_spellable : (ts : Lexemes) (p : TProgram) → SpellsProgram p ts → LexemesInForm ts → Spellable p
-program_spellable ts p d h = items_in d h (empty_spellable _)
+pub program_spellable : (limits : Limits) (ts : Lexemes) (p : TProgram) → SpellsProgram limits p ts → LexemesInForm ts → Spellable p
+program_spellable limits ts p d h = items_in d h (empty_spellable _)

@@ -64,4 +64,4 @@ returns-in-Ok-clause-form c =
     let k : length ts ≡ length tokens = length-map tokens _ in
     let few = tokens_count source tokens c.requires.tokens in
     let small = c.requires.small in
-    in_form ts (program_view c.in-Ok.program) (program_sound ts (program_view c.in-Ok.program) c.in-Ok.ensures) (lexemes_in_form source tokens c.requires.tokens) (omega (arith, k, few, small))
+    in_form the_depths ts (program_view c.in-Ok.program) (program_sound the_depths ts (program_view c.in-Ok.program) c.in-Ok.ensures) (lexemes_in_form source tokens c.requires.tokens) (omega (arith, k, few, small))

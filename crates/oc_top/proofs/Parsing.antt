@@ -1,5 +1,5 @@
 -- Sources that are no program.
-use Rattle.std.proofs.Common.{ℕ, zero, suc, ◌-◌, ◌≡◌, ◌⊎◌, ◌∙◌, sym, ap, refl, List, [], ◌∷◌, length, min, drop, Some, None, Err, inl, inr}
+use Rattle.std.proofs.Common.{ℕ, zero, suc, ◌-◌, ◌≡◌, ◌⊎◌, ◌∙◌, sym, ap, refl, List, [], ◌∷◌, length, min, drop, Some, Err, inl, inr}
 use Rattle.std.specs.Prelude.{slice_get}
 use Rattle.std.proofs.lemmas.List.{length-map}
 use Rattle.oc_tree.specs.Names.{Text}
@@ -36,20 +36,11 @@ module _ (source : List ℕ) where
   line_there (u ∷ ts) zero t h = let e : u ≡ t = cc in line_by u.line _ u.kind ∙ ap (λ x. x.line) e
   line_there (u ∷ ts) (suc n) t h = line_there ts n t h
 
-  line_nowhere : (ts : List Token) (n : ℕ) → slice_get ts n ≡ None → front_line (drop n (lexemes_of source ts)) ≡ 1
-  line_nowhere [] zero h = refl
-  line_nowhere [] (suc n) h = refl
-  line_nowhere (u ∷ ts) zero h = cc
-  line_nowhere (u ∷ ts) (suc n) h = line_nowhere ts n h
-
   same_count : (ts : List Token) (token : ℕ) → token_line (lexemes_of source ts) token ≡ front_line (drop (min token (length ts - 1)) (lexemes_of source ts))
   same_count ts token = ap (λ (n : ℕ). front_line (drop (min token (n - 1)) (lexemes_of source ts))) (length-map ts _)
 
   pub token_line_there : (ts : List Token) (token : ℕ) (t : Token) → slice_get ts (min token (length ts - 1)) ≡ Some t → t.line ≡ token_line (lexemes_of source ts) token
   token_line_there ts token t h = sym (same_count ts token ∙ line_there ts _ t h)
-
-  pub token_line_nowhere : (ts : List Token) (token : ℕ) → slice_get ts (min token (length ts - 1)) ≡ None → 1 ≡ token_line (lexemes_of source ts) token
-  token_line_nowhere ts token h = sym (same_count ts token ∙ line_nowhere ts _ h)
 
 -- ---- why a source is no program
 

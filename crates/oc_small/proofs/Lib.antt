@@ -1,5 +1,3 @@
-pub mod ReadingLaws
-pub mod SpellingLaws
 pub mod MadeLaws
 pub mod RunLaws
-pub mod WholeLaws
+pub mod Turns

@@ -1,6 +1,7 @@
 -- The continuous run of a small program's image is the program's run.
 use Rattle.std.proofs.Common.{◌≡◌, ℕ, zero, suc, ◌+◌, ◌-◌, ◌<◌, ◌≤◌, ℤ, pos, List, [], ◌∷◌, ◌++◌, length, map, reverse, drop, replicate, Option, Some, None, refl, ap, sym, subst, ◌∙◌, Bool, true, false, arith, append_assoc, length-append, zero-add, add-one}
-use Rattle.std.specs.Prelude.{slice_get, ◌||◌, ◌&&◌, if◌then◌else◌, ◌==◌}
+use Rattle.std.specs.Prelude.{slice_get, ◌||◌, ◌&&◌, not, if◌then◌else◌}
+use Rattle.std.specs.Option.{is_none}
 use Rattle.std.specs.Str.{bytes_eq}
 use Rattle.std.proofs.lemmas.Bool.{and_parts, lt-ltb}
 use Rattle.std.proofs.lemmas.Bool.Decides.{nat_tests}
@@ -20,12 +21,14 @@ use Rattle.oc_isa.specs.Image.{Parts}
 use Rattle.oc_isa.specs.Levels.{at_level, set_level}
 use Rattle.oc_isa.specs.Next.{Regs, Next, Goes, Senses, Ends, pushed}
 use Rattle.oc_isa.specs.Table.{on, check, moves, pushes, act, next_of, device_of}
-use Rattle.oc_isa.specs.Run.{Core, core_at, start_of, follow, then_shown, run_on, continuous_run, Safe, safe_next, IsSound}
-use Rattle.oc_small.specs.Small.{Operand, constant, variable, Sum, Statement, let_input, let_sum, emit, Small}
-use Rattle.oc_small.specs.Rules.{variables_of, variables_in, is_among, operand_named, operands_named, sum_named, statements_named, keeps_rules}
-use Rattle.oc_small.specs.Code.{place_of, placed, operand_code, more_code, sum_code, statement_code, statements_code, sum_depth, statements_depth, small_code}
-use Rattle.oc_small.specs.Runs.{Bound, value_of, operand_value, added, sum_value, bind, statements_run, small_run}
-use Rattle.oc_small.proofs.MadeLaws.{place_within, kept}
+use Rattle.oc_isa.specs.Run.{Core, core_at, start_of, follow, then_shown, run_on, Safe, safe_next, IsSound}
+use Rattle.oc_tree.specs.Tree.{TExpr, number, variable, binary, right_value, right_sense, right_call, let_to, emit, stmt, TStmts, no_stmts, more, TProgram}
+use Rattle.oc_small.specs.Form.{is_operand, is_plus, is_sum, other_statement, body_of}
+use Rattle.oc_small.specs.Rules.{variables_of, variables_in, is_among, sum_named, statements_named, is_small}
+use Rattle.oc_small.specs.Code.{place_of, placed, sum_code, statements_code, sum_depth, statements_depth, small_code}
+use Rattle.oc_small.specs.Meant.{RunsAs}
+use Rattle.oc_small.specs.Runs.{Bound, value_of, sum_value, bind, statements_run, small_run}
+use Rattle.oc_small.proofs.MadeLaws.{of_form, place_within, sum_depth_low, kept}
 
 -- ---- code from an address on
 
@@ -243,57 +246,35 @@ then_reach i pc v u w out said spoken stack top last between rest r q = record {
 }
 
 -- the variables' words are below what is above
-operand_act : (i : Parts) (pc site free : ℕ) (above : List ℤ) (bound : List Bound) (o : Operand) → operand_named (names bound) o ≡ true → length (above ++ frame free bound) < i.stack → act i site (operand_code site (names bound) o).instr (regs pc (above ++ frame free bound)) [] ≡ Goes (regs (pc + 1) (operand_value bound o ∷ (above ++ frame free bound))) None None
-operand_act i pc site free above bound (constant n) h l = push_next i pc site (above ++ frame free bound) n l
-operand_act i pc site free above bound (variable x) h l =
-    load_next i pc site (above ++ frame free bound) (place_of (names bound) x) (value_of bound x)
-    (ap (λ s. at_level s (place_of (names bound) x)) (sym (append_assoc above (replicate free (pos 0)) (reverse (values bound)))) ∙ loaded (above ++ replicate free (pos 0)) bound x h) l
+operand_reach : (i : Parts) (pc site free : ℕ) (v : List ℤ) (out : List Said) (above : List ℤ) (bound : List Bound) (e : TExpr) (rest : List Placed) → is_operand e ≡ true → sum_named (names bound) e ≡ true → length (above ++ frame free bound) < i.stack → drop pc i.code ≡ sum_code site (names bound) e ++ rest → Reaches i pc v out (above ++ frame free bound) v out (sum_value bound e ∷ (above ++ frame free bound)) rest
+operand_reach i pc site free v out above bound (number n) rest f h l d =
+    reach_one i pc v out (above ++ frame free bound) (n ∷ (above ++ frame free bound)) None (placed site (Push n)) rest d (push_next i pc site (above ++ frame free bound) n l) (omega arith)
+operand_reach i pc site free v out above bound (variable x) rest f h l d =
+    reach_one i pc v out (above ++ frame free bound) (value_of bound x ∷ (above ++ frame free bound)) None (placed site (Load (place_of (names bound) x))) rest d
+    (load_next i pc site (above ++ frame free bound) (place_of (names bound) x) (value_of bound x)
+    (ap (λ s. at_level s (place_of (names bound) x)) (sym (append_assoc above (replicate free (pos 0)) (reverse (values bound)))) ∙ loaded (above ++ replicate free (pos 0)) bound x h) l) (omega arith)
+operand_reach i pc site free v out above bound e rest f h l d = cc f
 
-operand_site : (site : ℕ) (visible : List Text) (o : Operand) → (operand_code site visible o).site ≡ site
-operand_site site visible (constant n) = refl
-operand_site site visible (variable x) = refl
+sum_reach : (n : ℕ) (i : Parts) (pc site free : ℕ) (v : List ℤ) (out : List Said) (bound : List Bound) (e : TExpr) (rest : List Placed) → is_sum n e ≡ true → sum_named (names bound) e ≡ true → length (frame free bound) + sum_depth e ≤ i.stack → drop pc i.code ≡ sum_code site (names bound) e ++ rest → Reaches i pc v out (frame free bound) v out (sum_value bound e ∷ frame free bound) rest
+sum_reach zero i pc site free v out bound e rest f h l d = cc f
+sum_reach (suc n) i pc site free v out bound (binary op a b) rest f h l d =
+    let p = and_parts (is_plus op && is_sum n a) (is_operand b) f in
+    let q = and_parts (is_plus op) (is_sum n a) p.0 in
+    let k = and_parts (sum_named (names bound) a) (sum_named (names bound) b) h in
+    let x = sum_value bound a in
+    let y = sum_value bound b in
+    let add = placed site (Bin Add) in
+    let code = d ∙ append_assoc (sum_code site (names bound) a) (sum_code site (names bound) b ++ add ∷ []) rest ∙ ap (λ c. sum_code site (names bound) a ++ c) (append_assoc (sum_code site (names bound) b) (add ∷ []) rest) in
+    let low : length (frame free bound) + sum_depth a ≤ i.stack = omega (arith, sum_depth_low a) in
+    let r = sum_reach n i pc site free v out bound a (sum_code site (names bound) b ++ (add ∷ rest)) q.1 k.0 low code in
+    let s = operand_reach i r.to site free v out (x ∷ []) bound b (add ∷ rest) p.1 k.1 (omega arith) r.left in
+    let t = reach_one i s.to v out (y ∷ (x ∷ frame free bound)) (sum_of x y ∷ frame free bound) None add rest s.left (add_next i s.to site (frame free bound) y x (omega arith)) (omega arith) in
+    then_reach i pc v v v out out out _ _ _ _ _ r (then_reach i r.to v v v out out out _ _ _ _ _ s t)
+sum_reach (suc n) i pc site free v out bound e rest f h l d = operand_reach i pc site free v out [] bound e rest f h (omega arith) d
 
-operand_reach : (i : Parts) (pc site free : ℕ) (v : List ℤ) (out : List Said) (above : List ℤ) (bound : List Bound) (o : Operand) (rest : List Placed) → operand_named (names bound) o ≡ true → length (above ++ frame free bound) < i.stack → drop pc i.code ≡ operand_code site (names bound) o ∷ rest → Reaches i pc v out (above ++ frame free bound) v out (operand_value bound o ∷ (above ++ frame free bound)) rest
-operand_reach i pc site free v out above bound o rest h l d =
-    reach_one i pc v out (above ++ frame free bound) (operand_value bound o ∷ (above ++ frame free bound)) None (operand_code site (names bound) o) rest d
-    (ap (λ s. act i s (operand_code site (names bound) o).instr (regs pc (above ++ frame free bound)) []) (operand_site site (names bound) o) ∙ operand_act i pc site free above bound o h l) (omega arith)
-
--- there is room for a second operand, where there is one
-abbrev Roomy : List Operand → ℕ → ℕ → Type 0
-Roomy [] n room = Unit {0}
-Roomy (o ∷ os) n room = n + 2 ≤ room
-
-roomy : (os : List Operand) (n room : ℕ) → n + 2 ≤ room → Roomy os n room
-roomy [] n room h = tt
-roomy (o ∷ os) n room h = h
-
-more_reach : (i : Parts) (pc site free : ℕ) (v : List ℤ) (out : List Said) (total : ℤ) (bound : List Bound) (os : List Operand) (rest : List Placed) → operands_named (names bound) os ≡ true → length (frame free bound) < i.stack → Roomy os (length (frame free bound)) i.stack → drop pc i.code ≡ more_code site (names bound) os ++ rest → Reaches i pc v out (total ∷ frame free bound) v out (added bound total os ∷ frame free bound) rest
-more_reach i pc site free v out total bound [] rest h l r d = record {
-  count = 0;
-  to = pc;
-  steps = record { runs = λ k. ap (λ n. run_on (device_of i) n v (core pc (total ∷ frame free bound)) out) (zero-add k); safe = λ s. s };
-  left = d;
-}
-more_reach i pc site free v out total bound (o ∷ os) rest h l r d =
-    let p = and_parts (operand_named (names bound) o) (operands_named (names bound) os) h in
-    let a = operand_reach i pc site free v out (total ∷ []) bound o (placed site (Bin Add) ∷ (more_code site (names bound) os ++ rest)) p.0 (omega arith) d in
-    let b = reach_one i a.to v out (operand_value bound o ∷ (total ∷ frame free bound)) (sum_of total (operand_value bound o) ∷ frame free bound) None (placed site (Bin Add)) (more_code site (names bound) os ++ rest) a.left (add_next i a.to site (frame free bound) (operand_value bound o) total l) (omega arith) in
-    let e = more_reach i b.to site free v out (sum_of total (operand_value bound o)) bound os rest p.1 l (roomy os (length (frame free bound)) i.stack r) b.left in
-    then_reach i pc v v v out out out _ _ _ _ _ a (then_reach i a.to v v v out out out _ _ _ _ _ b e)
-
-sum_reach : (i : Parts) (pc site free : ℕ) (v : List ℤ) (out : List Said) (bound : List Bound) (s : Sum) (rest : List Placed) → sum_named (names bound) s ≡ true → length (frame free bound) + sum_depth s ≤ i.stack → drop pc i.code ≡ sum_code site (names bound) s ++ rest → Reaches i pc v out (frame free bound) v out (sum_value bound s ∷ frame free bound) rest
-sum_reach i pc site free v out bound s rest h l d =
-    let p = and_parts (operand_named (names bound) s.first) (operands_named (names bound) s.more) h in
-    let low = first_fits s (length (frame free bound)) i.stack l in
-    let a = operand_reach i pc site free v out [] bound s.first (more_code site (names bound) s.more ++ rest) p.0 low d in
-    then_reach i pc v v v out out out _ _ _ _ _ a (more_reach i a.to site free v out (operand_value bound s.first) bound s.more rest p.1 low (more_fits s.more (length (frame free bound)) i.stack l) a.left)
-  where
-    more_fits : (os : List Operand) (n room : ℕ) → n + (if length os == 0 then 1 else 2) ≤ room → Roomy os n room
-    more_fits [] n room h = tt
-    more_fits (o ∷ os) n room h = grind (arith, nat_tests)
-
-    first_fits : (s : Sum) (n room : ℕ) → n + sum_depth s ≤ room → n < room
-    first_fits s n room h = grind arith
+sum_room : (e : TExpr) (n room : ℕ) → n + sum_depth e ≤ room → n < room
+sum_room (binary op a b) n room h = omega arith
+sum_room e n room h = omega arith
 
 -- ---- statements
 
@@ -304,15 +285,12 @@ store_reach i pc site free v out bound x w rest l d =
     (store_next i pc site (frame (suc free) bound) w (length (names bound)) (omega (arith, length-frame (suc free) bound))
     ∙ ap (λ l. moves (pc + 1) 0 l) (ap (λ k. set_level (frame (suc free) bound) k w) n ∙ stored free bound x w)) (omega arith)
 
-let_reach : (i : Parts) (pc site free : ℕ) (v : List ℤ) (out : List Said) (bound : List Bound) (x : Text) (s : Sum) (rest : List Placed) → sum_named (names bound) s ≡ true → length (frame (suc free) bound) + sum_depth s ≤ i.stack → drop pc i.code ≡ statement_code site i.names.sensors i.names.ports (names bound) (let_sum x s) ++ rest → Reaches i pc v out (frame (suc free) bound) v out (frame free (bind bound x (sum_value bound s))) rest
-let_reach i pc site free v out bound x s rest h l d =
-    let a = sum_reach i pc site (suc free) v out bound s (placed site (Store (length (names bound))) ∷ rest) h l (d ∙ append_assoc (sum_code site (names bound) s) (placed site (Store (length (names bound))) ∷ []) rest) in
-    then_reach i pc v v v out out out _ _ _ _ _ a (store_reach i a.to site free v out bound x (sum_value bound s) rest (enough s (length (frame (suc free) bound)) i.stack l) a.left)
-  where
-    enough : (s : Sum) (n room : ℕ) → n + sum_depth s ≤ room → n < room
-    enough s n room h = grind arith
+let_reach : (i : Parts) (pc site free : ℕ) (v : List ℤ) (out : List Said) (bound : List Bound) (x : Text) (e : TExpr) (rest : List Placed) → is_sum 8 e ≡ true → sum_named (names bound) e ≡ true → length (frame (suc free) bound) + sum_depth e ≤ i.stack → drop pc i.code ≡ (sum_code site (names bound) e ++ placed site (Store (length (names bound))) ∷ []) ++ rest → Reaches i pc v out (frame (suc free) bound) v out (frame free (bind bound x (sum_value bound e))) rest
+let_reach i pc site free v out bound x e rest f h l d =
+    let a = sum_reach 8 i pc site (suc free) v out bound e (placed site (Store (length (names bound))) ∷ rest) f h l (d ∙ append_assoc (sum_code site (names bound) e) (placed site (Store (length (names bound))) ∷ []) rest) in
+    then_reach i pc v v v out out out _ _ _ _ _ a (store_reach i a.to site free v out bound x (sum_value bound e) rest (sum_room e (length (frame (suc free) bound)) i.stack l) a.left)
 
-input_reach : (i : Parts) (pc site free : ℕ) (w : ℤ) (v : List ℤ) (out : List Said) (bound : List Bound) (x s : Text) (rest : List Placed) → length (frame (suc free) bound) < i.stack → drop pc i.code ≡ statement_code site i.names.sensors i.names.ports (names bound) (let_input x s) ++ rest → Reaches i pc (w ∷ v) out (frame (suc free) bound) v (out ++ Sensed (place_of i.names.sensors s) w ∷ []) (frame free (bind bound x w)) rest
+input_reach : (i : Parts) (pc site free : ℕ) (w : ℤ) (v : List ℤ) (out : List Said) (bound : List Bound) (x s : Text) (rest : List Placed) → length (frame (suc free) bound) < i.stack → drop pc i.code ≡ placed site (Sense (place_of i.names.sensors s)) ∷ (placed site (Store (length (names bound))) ∷ rest) → Reaches i pc (w ∷ v) out (frame (suc free) bound) v (out ++ Sensed (place_of i.names.sensors s) w ∷ []) (frame free (bind bound x w)) rest
 input_reach i pc site free w v out bound x s rest l d =
     let k = place_of i.names.sensors s in
     let a : Reaches i pc (w ∷ v) out (frame (suc free) bound) v (out ++ Sensed k w ∷ []) (w ∷ frame (suc free) bound) (placed site (Store (length (names bound))) ∷ rest) = record {
@@ -323,71 +301,86 @@ input_reach i pc site free w v out bound x s rest l d =
     } in
     then_reach i pc (w ∷ v) v v out (out ++ Sensed k w ∷ []) (out ++ Sensed k w ∷ []) _ _ _ _ _ a (store_reach i (pc + 1) site free v (out ++ Sensed k w ∷ []) bound x w rest l a.left)
 
-emit_reach : (i : Parts) (pc site free : ℕ) (v : List ℤ) (out : List Said) (bound : List Bound) (p : Text) (s : Sum) (rest : List Placed) → sum_named (names bound) s ≡ true → length (frame free bound) + sum_depth s ≤ i.stack → drop pc i.code ≡ statement_code site i.names.sensors i.names.ports (names bound) (emit p s) ++ rest → Reaches i pc v out (frame free bound) v (out ++ Showed (Emitted (place_of i.names.ports p) (sum_value bound s)) ∷ []) (frame free bound) rest
-emit_reach i pc site free v out bound p s rest h l d =
-    let a = sum_reach i pc site free v out bound s (placed site (Emit (place_of i.names.ports p)) ∷ rest) h l (d ∙ append_assoc (sum_code site (names bound) s) (placed site (Emit (place_of i.names.ports p)) ∷ []) rest) in
-    then_reach i pc v v v out out (out ++ Showed (Emitted (place_of i.names.ports p) (sum_value bound s)) ∷ []) _ _ _ _ _ a
-    (reach_one i a.to v out (sum_value bound s ∷ frame free bound) (frame free bound) (Some (Emitted (place_of i.names.ports p) (sum_value bound s))) (placed site (Emit (place_of i.names.ports p))) rest a.left (emit_next i a.to site (frame free bound) (sum_value bound s) (place_of i.names.ports p)) (enough s (length (frame free bound)) i.stack l))
-  where
-    enough : (s : Sum) (n room : ℕ) → n + sum_depth s ≤ room → suc n ≤ room
-    enough s n room h = grind arith
+emit_reach : (i : Parts) (pc site free : ℕ) (v : List ℤ) (out : List Said) (bound : List Bound) (p : Text) (e : TExpr) (rest : List Placed) → is_sum 8 e ≡ true → sum_named (names bound) e ≡ true → length (frame free bound) + sum_depth e ≤ i.stack → drop pc i.code ≡ (sum_code site (names bound) e ++ placed site (Emit (place_of i.names.ports p)) ∷ []) ++ rest → Reaches i pc v out (frame free bound) v (out ++ Showed (Emitted (place_of i.names.ports p) (sum_value bound e)) ∷ []) (frame free bound) rest
+emit_reach i pc site free v out bound p e rest f h l d =
+    let a = sum_reach 8 i pc site free v out bound e (placed site (Emit (place_of i.names.ports p)) ∷ rest) f h l (d ∙ append_assoc (sum_code site (names bound) e) (placed site (Emit (place_of i.names.ports p)) ∷ []) rest) in
+    then_reach i pc v v v out out (out ++ Showed (Emitted (place_of i.names.ports p) (sum_value bound e)) ∷ []) _ _ _ _ _ a
+    (reach_one i a.to v out (sum_value bound e ∷ frame free bound) (frame free bound) (Some (Emitted (place_of i.names.ports p) (sum_value bound e))) (placed site (Emit (place_of i.names.ports p))) rest a.left (emit_next i a.to site (frame free bound) (sum_value bound e) (place_of i.names.ports p)) (sum_room e (length (frame free bound)) i.stack l))
 
 -- ---- all statements
 
+-- the code of what follows a statement
+abbrev following : Parts → List Text → TStmts → List Placed
+following i visible ss = statements_code i.names.sensors i.names.ports visible ss ++ placed 0 Halt ∷ []
+
 -- what the rest says follows from a statement's steps
-statements_finish : (i : Parts) (site pc : ℕ) (bound : List Bound) (ss : List Statement) (v : List ℤ) (out : List Said) → statements_named i.names.sensors i.names.ports (names bound) ss ≡ true → length bound + length (variables_in ss) + statements_depth ss ≤ i.stack → drop pc i.code ≡ statements_code site i.names.sensors i.names.ports (names bound) ss ++ placed 0 Halt ∷ [] → Finishes i v out (core pc (frame (length (variables_in ss)) bound)) (statements_run i.names.sensors i.names.ports bound ss v)
-statements_finish i site pc bound [] v out h l d = halts i v out pc 0 (frame 0 bound) [] d (omega (arith, length-frame 0 bound))
-statements_finish i site pc bound (let_input x s ∷ ss) [] out h l d =
+statements_finish : (i : Parts) (pc : ℕ) (bound : List Bound) (ss : TStmts) (v : List ℤ) (out : List Said) → other_statement ss ≡ None → statements_named i.names.sensors i.names.ports (names bound) ss ≡ true → length bound + length (variables_in ss) + statements_depth ss ≤ i.stack → drop pc i.code ≡ following i (names bound) ss → Finishes i v out (core pc (frame (length (variables_in ss)) bound)) (statements_run i.names.sensors i.names.ports bound ss v)
+statements_finish i pc bound no_stmts v out f h l d = halts i v out pc 0 (frame 0 bound) [] d (omega (arith, length-frame 0 bound))
+statements_finish i pc bound (more (stmt id line (let_to mut x kind (right_sense s))) ss) [] out f h l d =
     let k = place_of i.names.sensors s in
-    dries i out pc (pc + 1) (frame (suc (length (variables_in ss))) bound) k (next_is i pc (frame (suc (length (variables_in ss))) bound) (placed site (Sense k)) _ d ∙ sense_next i pc site (frame (suc (length (variables_in ss))) bound) k (omega (arith, length-frame (suc (length (variables_in ss))) bound))) (omega (arith, length-frame (suc (length (variables_in ss))) bound))
-statements_finish i site pc bound (let_input x s ∷ ss) (w ∷ v) out h l d =
+    dries i out pc (pc + 1) (frame (suc (length (variables_in ss))) bound) k (next_is i pc (frame (suc (length (variables_in ss))) bound) (placed id (Sense k)) _ d ∙ sense_next i pc id (frame (suc (length (variables_in ss))) bound) k (omega (arith, length-frame (suc (length (variables_in ss))) bound))) (omega (arith, length-frame (suc (length (variables_in ss))) bound))
+statements_finish i pc bound (more (stmt id line (let_to mut x kind (right_sense s))) ss) (w ∷ v) out f h l d =
+    let t = of_form (not mut && is_none kind && true) line (other_statement ss) f in
     let p = and_parts (is_among i.names.sensors s) (statements_named i.names.sensors i.names.ports (names bound ++ x ∷ []) ss) h in
     let said = Sensed (place_of i.names.sensors s) w in
     let rest = statements_run i.names.sensors i.names.ports (bind bound x w) ss v in
-    let a = input_reach i pc site (length (variables_in ss)) w v out bound x s (statements_code (site + 1) i.names.sensors i.names.ports (names bound ++ x ∷ []) ss ++ placed 0 Halt ∷ []) (omega (arith, length-frame (suc (length (variables_in ss))) bound)) d in
+    let a = input_reach i pc id (length (variables_in ss)) w v out bound x s (following i (names bound ++ x ∷ []) ss) (omega (arith, length-frame (suc (length (variables_in ss))) bound)) d in
     let e = names-bind bound x w in
-    let f = statements_finish i (site + 1) a.to (bind bound x w) ss v (out ++ said ∷ [])
+    let g = statements_finish i a.to (bind bound x w) ss v (out ++ said ∷ []) t.1
     (ap (λ l. statements_named i.names.sensors i.names.ports l ss) e ∙ p.1)
     (omega (arith, length-append bound (record { name = x; value = w } ∷ [])))
-    (a.left ∙ ap (λ l. statements_code (site + 1) i.names.sensors i.names.ports l ss ++ placed 0 Halt ∷ []) (sym e)) in
-    then_finish i a.count (w ∷ v) v out (out ++ said ∷ []) (core pc (frame (suc (length (variables_in ss))) bound)) (core a.to (frame (length (variables_in ss)) (bind bound x w))) (said ∷ rest) rest a.steps (append_assoc out (said ∷ []) rest) f
-statements_finish i site pc bound (let_sum x s ∷ ss) v out h l d =
+    (a.left ∙ ap (λ l. following i l ss) (sym e)) in
+    then_finish i a.count (w ∷ v) v out (out ++ said ∷ []) (core pc (frame (suc (length (variables_in ss))) bound)) (core a.to (frame (length (variables_in ss)) (bind bound x w))) (said ∷ rest) rest a.steps (append_assoc out (said ∷ []) rest) g
+statements_finish i pc bound (more (stmt id line (let_to mut x kind (right_value s))) ss) v out f h l d =
+    let t = of_form (not mut && is_none kind && is_sum 8 s) line (other_statement ss) f in
     let p = and_parts (sum_named (names bound) s) (statements_named i.names.sensors i.names.ports (names bound ++ x ∷ []) ss) h in
     let w = sum_value bound s in
     let said = statements_run i.names.sensors i.names.ports (bind bound x w) ss v in
-    let a = let_reach i pc site (length (variables_in ss)) v out bound x s (statements_code (site + 1) i.names.sensors i.names.ports (names bound ++ x ∷ []) ss ++ placed 0 Halt ∷ []) p.0 (omega (arith, length-frame (suc (length (variables_in ss))) bound))
-    (d ∙ append_assoc (statement_code site i.names.sensors i.names.ports (names bound) (let_sum x s)) (statements_code (site + 1) i.names.sensors i.names.ports (names bound ++ x ∷ []) ss) (placed 0 Halt ∷ [])) in
+    let a = let_reach i pc id (length (variables_in ss)) v out bound x s (following i (names bound ++ x ∷ []) ss) (and_parts (not mut && is_none kind) (is_sum 8 s) t.0).1 p.0 (omega (arith, length-frame (suc (length (variables_in ss))) bound))
+    (d ∙ append_assoc (sum_code id (names bound) s ++ placed id (Store (length (names bound))) ∷ []) (statements_code i.names.sensors i.names.ports (names bound ++ x ∷ []) ss) (placed 0 Halt ∷ [])) in
     let e = names-bind bound x w in
-    let f = statements_finish i (site + 1) a.to (bind bound x w) ss v out
+    let g = statements_finish i a.to (bind bound x w) ss v out t.1
     (ap (λ l. statements_named i.names.sensors i.names.ports l ss) e ∙ p.1)
     (omega (arith, length-append bound (record { name = x; value = w } ∷ [])))
-    (a.left ∙ ap (λ l. statements_code (site + 1) i.names.sensors i.names.ports l ss ++ placed 0 Halt ∷ []) (sym e)) in
-    then_finish i a.count v v out out (core pc (frame (suc (length (variables_in ss))) bound)) (core a.to (frame (length (variables_in ss)) (bind bound x w))) said said a.steps refl f
-statements_finish i site pc bound (emit p s ∷ ss) v out h l d =
+    (a.left ∙ ap (λ l. following i l ss) (sym e)) in
+    then_finish i a.count v v out out (core pc (frame (suc (length (variables_in ss))) bound)) (core a.to (frame (length (variables_in ss)) (bind bound x w))) said said a.steps refl g
+statements_finish i pc bound (more (stmt id line (let_to mut x kind (right_call c))) ss) v out f h l d =
+    let t = of_form (not mut && is_none kind && false) line (other_statement ss) f in
+    cc ((and_parts (not mut && is_none kind) false t.0).1)
+statements_finish i pc bound (more (stmt id line (emit p s)) ss) v out f h l d =
+    let t = of_form (is_sum 8 s) line (other_statement ss) f in
     let q = and_parts (is_among i.names.ports p && sum_named (names bound) s) (statements_named i.names.sensors i.names.ports (names bound ++ []) ss) h in
     let said = Showed (Emitted (place_of i.names.ports p) (sum_value bound s)) in
     let rest = statements_run i.names.sensors i.names.ports bound ss v in
-    let a = emit_reach i pc site (length (variables_in ss)) v out bound p s (statements_code (site + 1) i.names.sensors i.names.ports (names bound ++ []) ss ++ placed 0 Halt ∷ []) (and_parts (is_among i.names.ports p) (sum_named (names bound) s) q.0).1 (omega (arith, length-frame (length (variables_in ss)) bound))
-    (d ∙ append_assoc (statement_code site i.names.sensors i.names.ports (names bound) (emit p s)) (statements_code (site + 1) i.names.sensors i.names.ports (names bound ++ []) ss) (placed 0 Halt ∷ [])) in
+    let a = emit_reach i pc id (length (variables_in ss)) v out bound p s (following i (names bound ++ []) ss) t.0 (and_parts (is_among i.names.ports p) (sum_named (names bound) s) q.0).1 (omega (arith, length-frame (length (variables_in ss)) bound))
+    (d ∙ append_assoc (sum_code id (names bound) s ++ placed id (Emit (place_of i.names.ports p)) ∷ []) (statements_code i.names.sensors i.names.ports (names bound ++ []) ss) (placed 0 Halt ∷ [])) in
     let e = append_nil (names bound) in
-    let f = statements_finish i (site + 1) a.to bound ss v (out ++ said ∷ [])
+    let g = statements_finish i a.to bound ss v (out ++ said ∷ []) t.1
     (ap (λ l. statements_named i.names.sensors i.names.ports l ss) (sym e) ∙ q.1)
     (omega arith)
-    (a.left ∙ ap (λ l. statements_code (site + 1) i.names.sensors i.names.ports l ss ++ placed 0 Halt ∷ []) e) in
-    then_finish i a.count v v out (out ++ said ∷ []) (core pc (frame (length (variables_in ss)) bound)) (core a.to (frame (length (variables_in ss)) bound)) (said ∷ rest) rest a.steps (append_assoc out (said ∷ []) rest) f
+    (a.left ∙ ap (λ l. following i l ss) e) in
+    then_finish i a.count v v out (out ++ said ∷ []) (core pc (frame (length (variables_in ss)) bound)) (core a.to (frame (length (variables_in ss)) bound)) (said ∷ rest) rest a.steps (append_assoc out (said ∷ []) rest) g
+statements_finish i pc bound (more (stmt id line k) ss) v out f h l d = cc f
 
 -- ---- the whole program
 
-start_is : (p : Small) → start_of (device_of (small_code p)) ≡ core 0 (frame (length (variables_of p)) [])
+start_is : (p : TProgram) → start_of (device_of (small_code p)) ≡ core 0 (frame (length (variables_of p)) [])
 start_is p = ap (λ l. core 0 l) (sym (append_nil (replicate (length (variables_of p)) (pos 0))))
 
-small_finish : (p : Small) (v : List ℤ) → keeps_rules p ≡ true → Finishes (small_code p) v [] (start_of (device_of (small_code p))) (small_run p v)
+small_finish : (p : TProgram) (v : List ℤ) → is_small p ≡ true → Finishes (small_code p) v [] (start_of (device_of (small_code p))) (small_run p v)
 small_finish p v h =
+    let k = kept p h in
     let F : Core → Type 0 = λ c. Finishes (small_code p) v [] c (small_run p v) in
-    subst F (sym (start_is p)) (statements_finish (small_code p) 1 0 [] p.body v [] (kept p h).named (omega arith) refl)
+    subst F (sym (start_is p)) (statements_finish (small_code p) 0 [] (body_of p) v [] k.form k.named (omega arith) refl)
 
-pub small_sound : (p : Small) → keeps_rules p ≡ true → IsSound (device_of (small_code p))
-small_sound p h = record { safe = λ n v w. (small_finish p v h).safe n }
+-- ---- an image with a small program's code
 
-pub small_runs : (p : Small) (v : List ℤ) → keeps_rules p ≡ true → (n : ℕ) × ((k : ℕ) → n ≤ k → (continuous_run (device_of (small_code p)) v k).out ≡ small_run p v)
-small_runs p v h = let f = small_finish p v h in (f.count, f.runs)
+pub small_sound : (image : Parts) (p : TProgram) → is_small p ≡ true → image ≡ small_code p → IsSound (device_of image)
+small_sound image p h e =
+    let P : Parts → Type 0 = λ i. IsSound (device_of i) in
+    subst P (sym e) (record { safe = λ n v w. (small_finish p v h).safe n })
+
+pub small_runs : (image : Parts) (p : TProgram) → is_small p ≡ true → image ≡ small_code p → RunsAs image p
+small_runs image p h e =
+    let P : Parts → Type 0 = λ i. RunsAs i p in
+    subst P (sym e) (λ v. let f = small_finish p v h in (f.count, f.runs))

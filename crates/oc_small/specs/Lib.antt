@@ -1,8 +1,6 @@
-pub mod Lexeme
-pub mod Small
+pub mod Form
 pub mod Rules
 pub mod Code
 pub mod Runs
 pub mod Meant
 pub mod View
-pub mod Reading

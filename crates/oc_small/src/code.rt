@@ -1,14 +1,15 @@
 //! The code of a small program.
-ghost use Rattle.std.specs.Prelude.{◌≡◌, ◌≤◌, ◌+◌, ◌++◌, ◌∷◌, [], false, true, length, map, IfOk, IfErr, OnOk, ◌&&◌, nat_le};
-ghost use Rattle.oc_small.specs.declared.read.Refused.TheVariants.{NotSmall};
-ghost use Rattle.oc_small.specs.Rules.{operand_named, sum_named, statement_named, statements_named, variable_in, variables_in, sum_fits, statement_fits, statements_fit};
-ghost use Rattle.oc_small.specs.Code.{placed, operand_code, sum_code, statement_code, statements_code, sum_depth, statement_depth, statements_depth};
-ghost use Rattle.oc_small.specs.View.{names_view, operand_view, sum_view, statement_view};
+ghost use Rattle.std.specs.Prelude.{◌≡◌, ◌≤◌, ◌+◌, ◌++◌, ◌∷◌, [], false, true, length, IfOk, IfErr, OnOk, ◌&&◌, nat_le};
+ghost use Rattle.oc_tree.specs.View.{expr_view, right_view, kind_view, stmts_view};
+ghost use Rattle.oc_small.specs.declared.refused.Refused.TheVariants.{NotSmall};
+ghost use Rattle.oc_small.specs.Rules.{sum_named, right_named, statement_named, statements_named, statement_count, variable_in, variables_in};
+ghost use Rattle.oc_small.specs.Code.{placed, sum_code, right_code, statement_code, statements_code, sum_depth, right_depth, statement_depth, statements_depth};
+ghost use Rattle.oc_small.specs.View.{names_view};
 
-use crate::program::{Operand, Statement, Sum};
-use crate::read::Refused;
+use crate::refused::Refused;
 use crate::scope::{Scope, place, variable};
 use oc_isa::instr::{BinOp, Instr, Placed};
+use oc_tree::tree::{Expr, Right, Stmt, StmtKind};
 use std::alloc::Global;
 
 const SENSORS: usize = 64;
@@ -19,45 +20,21 @@ const VARIABLES: usize = 256;
 
 const STATEMENTS: usize = 8192;
 
-/// How many operands follow the first one at most.
-const MORE: usize = 7;
-
-fn sum_fits(sum: &Sum) -> bool
-    ensures { result ≡ sum_fits (sum_view sum.now) }
+#[tactic(auto, using(crate::proofs::MadeLaws::count_is))]
+fn are_few(body: &[Stmt]) -> bool
+    ensures { result ≡ nat_le (statement_count (stmts_view body.now)) 8192 }
 {
-    sum.more.len() <= MORE
+    body.len() <= STATEMENTS
 }
 
-fn statement_fits(statement: &Statement) -> bool
-    ensures { result ≡ statement_fits (statement_view statement.now) }
-{
-    match statement {
-        Statement::LetInput { .. } => true,
-        Statement::LetSum { sum, .. } | Statement::Emit { sum, .. } => sum_fits(sum),
-    }
-}
-
-fn statements_fit(body: &[Statement]) -> bool
-    ensures { result ≡ statements_fit (map statement_view body.now) }
-{
-    for statement in body {
-        if !statement_fits(statement) {
-            return false;
-        }
-    }
-    true
-}
-
-/// Whether the limits hold: 64 sensors, 64 ports, 256 variables, 8,192 statements, and 8 operands
-/// of a sum.
-pub fn fits(scope: &Scope, body: &[Statement]) -> bool
-    ensures { result ≡ (nat_le (length (names_view scope.now.sensors.items)) 64 && nat_le (length (names_view scope.now.ports.items)) 64 && nat_le (length (names_view scope.now.variables.items)) 256 && nat_le (length (map statement_view body.now)) 8192 && statements_fit (map statement_view body.now)) }
+/// Whether the limits hold: 64 sensors, 64 ports, 256 variables and 8,192 statements.
+pub fn fits(scope: &Scope, body: &[Stmt]) -> bool
+    ensures { result ≡ (nat_le (length (names_view scope.now.sensors.items)) 64 && nat_le (length (names_view scope.now.ports.items)) 64 && nat_le (length (names_view scope.now.variables.items)) 256 && nat_le (statement_count (stmts_view body.now)) 8192) }
 {
     scope.sensors.len() <= SENSORS
         && scope.ports.len() <= PORTS
         && scope.variables.len() <= VARIABLES
-        && body.len() <= STATEMENTS
-        && statements_fit(body)
+        && are_few(body)
 }
 
 fn put(code: &mut Vec<Placed>, site: u32, instr: Instr) -> Result<(), Refused>
@@ -68,38 +45,48 @@ fn put(code: &mut Vec<Placed>, site: u32, instr: Instr) -> Result<(), Refused>
     Ok(())
 }
 
-fn operand(
-    code: &mut Vec<Placed>,
-    visible: &[&[u8]],
-    site: u32,
-    operand: &Operand,
-) -> Result<(), Refused>
+fn sum(code: &mut Vec<Placed>, visible: &[&[u8]], site: u32, expr: &Expr) -> Result<(), Refused>
     requires { length visible.now ≤ 256 }
-    ensures code { OnOk result (code.new.items ≡ code.old.items ++ operand_code site (names_view visible.now) (operand_view operand.now) ∷ []) }
-    ensures named { OnOk result (operand_named (names_view visible.now) (operand_view operand.now) ≡ true) }
-    ensures only { IfErr result (λ e. e ≡ NotSmall → operand_named (names_view visible.now) (operand_view operand.now) ≡ false) }
+    ensures code { OnOk result (code.new.items ≡ code.old.items ++ sum_code site (names_view visible.now) (expr_view expr.now)) }
+    ensures named { OnOk result (sum_named (names_view visible.now) (expr_view expr.now) ≡ true) }
+    ensures only { IfErr result (λ e. e ≡ NotSmall → sum_named (names_view visible.now) (expr_view expr.now) ≡ false) }
 {
-    match *operand {
-        Operand::Number(value) => put(code, site, Instr::Push { c: value }),
-        Operand::Variable(name) => {
-            let slot = place(visible, name)?;
+    match expr {
+        Expr::Number { value } => put(code, site, Instr::Push { c: *value }),
+        Expr::Variable { name } => {
+            let slot = place(visible, name.bytes())?;
             put(code, site, Instr::Load { s: slot })
         }
+        Expr::Binary { left, right, .. } => {
+            sum(code, visible, site, left)?;
+            sum(code, visible, site, right)?;
+            put(code, site, Instr::Bin { op: BinOp::Add })
+        }
+        _ => Ok(()),
     }
 }
 
-fn sum(code: &mut Vec<Placed>, visible: &[&[u8]], site: u32, sum: &Sum) -> Result<(), Refused>
-    requires { length visible.now ≤ 256 }
-    ensures code { OnOk result (code.new.items ≡ code.old.items ++ sum_code site (names_view visible.now) (sum_view sum.now)) }
-    ensures named { OnOk result (sum_named (names_view visible.now) (sum_view sum.now) ≡ true) }
-    ensures only { IfErr result (λ e. e ≡ NotSmall → sum_named (names_view visible.now) (sum_view sum.now) ≡ false) }
+fn right_side(
+    code: &mut Vec<Placed>,
+    sensors: &[&[u8]],
+    visible: &[&[u8]],
+    site: u32,
+    right: &Right,
+) -> Result<(), Refused>
+    requires visible { length visible.now ≤ 256 }
+    requires sensors { length sensors.now ≤ 64 }
+    ensures code { OnOk result (code.new.items ≡ code.old.items ++ right_code site (names_view sensors.now) (names_view visible.now) (right_view right.now)) }
+    ensures named { OnOk result (right_named (names_view sensors.now) (names_view visible.now) (right_view right.now) ≡ true) }
+    ensures only { IfErr result (λ e. e ≡ NotSmall → right_named (names_view sensors.now) (names_view visible.now) (right_view right.now) ≡ false) }
 {
-    operand(code, visible, site, &sum.first)?;
-    for next in &sum.more {
-        operand(code, visible, site, next)?;
-        put(code, site, Instr::Bin { op: BinOp::Add })?;
+    match right {
+        Right::Value { value } => sum(code, visible, site, value),
+        Right::Sense { sensor } => {
+            let sensor = place(sensors, sensor.bytes())?;
+            put(code, site, Instr::Sense { s: sensor })
+        }
+        Right::Call { .. } => Ok(()),
     }
-    Ok(())
 }
 
 fn statement(
@@ -107,39 +94,35 @@ fn statement(
     scope: &Scope,
     visible: &[&[u8]],
     site: u32,
-    statement: &Statement,
+    kind: &StmtKind,
 ) -> Result<(), Refused>
     requires visible { length visible.now ≤ 256 }
     requires sensors { length scope.now.sensors.items ≤ 64 }
     requires ports { length scope.now.ports.items ≤ 64 }
-    ensures code { OnOk result (code.new.items ≡ code.old.items ++ statement_code site (names_view scope.now.sensors.items) (names_view scope.now.ports.items) (names_view visible.now) (statement_view statement.now)) }
-    ensures named { OnOk result (statement_named (names_view scope.now.sensors.items) (names_view scope.now.ports.items) (names_view visible.now) (statement_view statement.now) ≡ true) }
-    ensures only { IfErr result (λ e. e ≡ NotSmall → statement_named (names_view scope.now.sensors.items) (names_view scope.now.ports.items) (names_view visible.now) (statement_view statement.now) ≡ false) }
+    ensures code { OnOk result (code.new.items ≡ code.old.items ++ statement_code site (names_view scope.now.sensors.items) (names_view scope.now.ports.items) (names_view visible.now) (kind_view kind.now)) }
+    ensures named { OnOk result (statement_named (names_view scope.now.sensors.items) (names_view scope.now.ports.items) (names_view visible.now) (kind_view kind.now) ≡ true) }
+    ensures only { IfErr result (λ e. e ≡ NotSmall → statement_named (names_view scope.now.sensors.items) (names_view scope.now.ports.items) (names_view visible.now) (kind_view kind.now) ≡ false) }
 {
-    let slot = visible.len() as u32;
-    match statement {
-        Statement::LetInput { sensor, .. } => {
-            let sensor = place(&scope.sensors, sensor)?;
-            put(code, site, Instr::Sense { s: sensor })?;
+    match kind {
+        StmtKind::Let { right, .. } => {
+            let slot = visible.len() as u32;
+            right_side(code, &scope.sensors, visible, site, right)?;
             put(code, site, Instr::Store { s: slot })
         }
-        Statement::LetSum { sum: value, .. } => {
-            sum(code, visible, site, value)?;
-            put(code, site, Instr::Store { s: slot })
-        }
-        Statement::Emit { port, sum: value } => {
-            let port = place(&scope.ports, port)?;
+        StmtKind::Emit { port, value } => {
+            let port = place(&scope.ports, port.bytes())?;
             sum(code, visible, site, value)?;
             put(code, site, Instr::Emit { p: port })
         }
+        _ => Ok(()),
     }
 }
 
-fn see<'a>(visible: &mut Vec<&'a [u8]>, statement: &Statement<'a>) -> Result<(), Refused>
-    ensures seen { OnOk result (names_view visible.new.items ≡ names_view visible.old.items ++ variable_in (statement_view statement.now)) }
+fn see<'a>(visible: &mut Vec<&'a [u8]>, kind: &'a StmtKind) -> Result<(), Refused>
+    ensures seen { OnOk result (names_view visible.new.items ≡ names_view visible.old.items ++ variable_in (kind_view kind.now)) }
     ensures only { IfErr result (λ e. e ≡ Refused.Memory) }
 {
-    if let Some(name) = variable(statement) {
+    if let Some(name) = variable(kind) {
         visible.push(name)?;
     }
     Ok(())
@@ -147,48 +130,61 @@ fn see<'a>(visible: &mut Vec<&'a [u8]>, statement: &Statement<'a>) -> Result<(),
 
 /// The code of the statements, and the closing `halt`. `NotSmall` is for a name that is used and
 /// isn't declared.
-pub fn code(alloc: Global, scope: &Scope, body: &[Statement]) -> Result<Vec<Placed>, Refused>
+pub fn code(alloc: Global, scope: &Scope, body: &[Stmt]) -> Result<Vec<Placed>, Refused>
     requires sensors { length scope.now.sensors.items ≤ 64 }
     requires ports { length scope.now.ports.items ≤ 64 }
-    requires variables { length (variables_in (map statement_view body.now)) ≤ 256 }
-    requires statements { length body.now ≤ 8192 }
-    ensures code { IfOk result (λ code. code.items ≡ statements_code 1 (names_view scope.now.sensors.items) (names_view scope.now.ports.items) [] (map statement_view body.now) ++ placed 0 Instr.Halt ∷ []) }
-    ensures named { OnOk result (statements_named (names_view scope.now.sensors.items) (names_view scope.now.ports.items) [] (map statement_view body.now) ≡ true) }
-    ensures only { IfErr result (λ e. e ≡ NotSmall → statements_named (names_view scope.now.sensors.items) (names_view scope.now.ports.items) [] (map statement_view body.now) ≡ false) }
+    requires variables { length (variables_in (stmts_view body.now)) ≤ 256 }
+    ensures code { IfOk result (λ code. code.items ≡ statements_code (names_view scope.now.sensors.items) (names_view scope.now.ports.items) [] (stmts_view body.now) ++ placed 0 Instr.Halt ∷ []) }
+    ensures named { OnOk result (statements_named (names_view scope.now.sensors.items) (names_view scope.now.ports.items) [] (stmts_view body.now) ≡ true) }
+    ensures only { IfErr result (λ e. e ≡ NotSmall → statements_named (names_view scope.now.sensors.items) (names_view scope.now.ports.items) [] (stmts_view body.now) ≡ false) }
 {
     let mut code = Vec::new(alloc);
     let mut visible = Vec::new(alloc);
-    for (index, next) in body.iter().enumerate() {
-        statement(&mut code, scope, &visible, index as u32 + 1, next)?;
-        see(&mut visible, next)?;
+    for next in body {
+        statement(&mut code, scope, &visible, next.id, &next.kind)?;
+        see(&mut visible, &next.kind)?;
     }
     put(&mut code, 0, Instr::Halt)?;
     Ok(code)
 }
 
-fn sum_depth(sum: &Sum) -> u32
-    ensures { result ≡ sum_depth (sum_view sum.now) }
+fn sum_depth(expr: &Expr) -> u32
+    ensures { result ≡ sum_depth (expr_view expr.now) }
 {
-    if sum.more.is_empty() { 1 } else { 2 }
+    match expr {
+        Expr::Binary { .. } => 2,
+        _ => 1,
+    }
 }
 
-fn statement_depth(statement: &Statement) -> u32
-    ensures { result ≡ statement_depth (statement_view statement.now) }
+fn right_depth(right: &Right) -> u32
+    ensures { result ≡ right_depth (right_view right.now) }
 {
-    match statement {
-        Statement::LetInput { .. } => 1,
-        Statement::LetSum { sum, .. } | Statement::Emit { sum, .. } => sum_depth(sum),
+    match right {
+        Right::Value { value } => sum_depth(value),
+        _ => 1,
+    }
+}
+
+fn statement_depth(kind: &StmtKind) -> u32
+    ensures { result ≡ statement_depth (kind_view kind.now) }
+{
+    match kind {
+        StmtKind::Let { right, .. } => right_depth(right),
+        StmtKind::Emit { value, .. } => sum_depth(value),
+        _ => 0,
     }
 }
 
 /// The greatest number of operands that stand on the stack at once.
-pub fn depth(body: &[Statement]) -> u32
-    ensures exact { result ≡ statements_depth (map statement_view body.now) }
+#[tactic(auto, using(crate::proofs::MadeLaws::statements_depth_low))]
+pub fn depth(body: &[Stmt]) -> u32
+    ensures exact { result ≡ statements_depth (stmts_view body.now) }
     ensures low { result ≤ 2 }
 {
     let mut depth = 0;
     for statement in body {
-        depth = depth.max(statement_depth(statement));
+        depth = depth.max(statement_depth(&statement.kind));
     }
     depth
 }

@@ -19,70 +19,51 @@
 //! sensors and ports are visible everywhere. There are at most 64 sensors, 64 ports, 256 variables
 //! and 8,192 statements.
 //!
-//! [`compile`] answers the image of a small program, or that the tokens are none.
+//! [`compile`] answers the image of a small program, or a line where a program is none.
 #![tactic(auto)]
 
-ghost use Rattle.std.specs.Prelude.{◌≡◌, ◌≤◌, ℕ, List, length, All, Some, IfOk, IfErr, IfSome, IfNone};
-ghost use Rattle.oc_lex.specs.declared.token.Token.{Token as SomeToken};
-ghost use Rattle.oc_lex.specs.Tokens.{AreTokens};
-ghost use Rattle.oc_lex.specs.Stands.{StandsIn};
+ghost use Rattle.std.specs.Prelude.{◌≡◌, true, IfOk, IfErr, OnOk, MatchResult};
+ghost use Rattle.oc_tree.specs.View.{program_view};
 ghost use Rattle.oc_isa.specs.Run.{IsSound};
 ghost use Rattle.oc_isa.specs.Table.{device_of};
-ghost use Rattle.oc_small.specs.declared.read.Refused.TheVariants.{NotSmall};
-ghost use Rattle.oc_small.specs.Small.{Small};
-ghost use Rattle.oc_small.specs.Rules.{IsSmall};
+ghost use Rattle.oc_small.specs.Rules.{is_small};
 ghost use Rattle.oc_small.specs.Code.{small_code};
-ghost use Rattle.oc_small.specs.Meant.{IsNoSmall, IsCodeOf, RunsAs};
+ghost use Rattle.oc_small.specs.Meant.{HasNoImage, RunsAs};
 
 mod code;
-mod lexeme;
+mod form;
 mod making;
-mod program;
-mod read;
+mod refused;
 mod scope;
 #[cfg(test)]
 mod tests;
 
-use lexeme::lexemes;
+use form::other_line;
 use making::image;
-use oc_io::Memory;
 use oc_isa::image::Image;
-use oc_lex::Token;
-use read::{Refused, read};
+use oc_tree::tree::Program;
+pub use refused::CompileError;
+use refused::Refused;
 use std::alloc::Global;
 
-/// The image of the small program that these tokens are, or None where they are none. The tokens
-/// are those of the source, which has at most 1 MiB.
-pub fn compile(alloc: Global, source: &[u8], tokens: &[Token]) -> Result<Option<Image>, Memory>
-    requires tokens { AreTokens source.now tokens.now }
-    requires short { length source.now ≤ 1048576 }
-    // None comes only where the tokens are no small program, and an image only of one.
-    ensures none { IfOk result (λ o. IfNone o (IsNoSmall source.now tokens.now)) }
-    ensures found { IfOk result (λ o. IfSome o (IsCodeOf source.now tokens.now)) }
-    // Where they are one, the image is its code.
-    ensures only { (p : Small) → IsSmall source.now tokens.now p → IfOk result (λ o. o ≡ Some (small_code p)) }
+/// The image of a small program, or why there is none.
+pub fn compile(alloc: Global, program: &Program) -> Result<Image, CompileError>
+    // There is an image only of a small program, and it is its code.
+    ensures small { OnOk result (is_small (program_view program.now) ≡ true) }
+    ensures code { IfOk result (λ image. image ≡ small_code (program_view program.now)) }
+    // A program that isn't small is told by its line.
+    ensures refused { IfErr result (λ e. HasNoImage (program_view program.now) e) }
+    // A small program has an image, unless memory runs out.
+    ensures only { is_small (program_view program.now) ≡ true → IfErr result (λ e. e ≡ CompileError.Memory) }
     // No run of the image meets an undefined step, and it says what the program says.
-    ensures sound { IfOk result (λ o. IfSome o (λ image. IsSound (device_of image))) }
-    ensures runs { (p : Small) → IsSmall source.now tokens.now p → IfOk result (λ o. IfSome o (λ image. RunsAs image p)) }
+    ensures sound { IfOk result (λ image. IsSound (device_of image)) }
+    ensures runs { IfOk result (λ image. RunsAs image (program_view program.now)) }
 {
-    match image_of(alloc, source, tokens) {
-        Ok(image) => Ok(Some(image)),
-        Err(Refused::NotSmall) => Ok(None),
-        Err(Refused::Memory) => Err(Memory),
+    match image(alloc, program) {
+        Ok(image) => Ok(image),
+        Err(Refused::NotSmall) => Err(CompileError::NotSmall {
+            line: other_line(program),
+        }),
+        Err(Refused::Memory) => Err(CompileError::Memory),
     }
 }
-
-fn image_of(alloc: Global, source: &[u8], tokens: &[Token]) -> Result<Image, Refused>
-    requires { All (StandsIn source.now) tokens.now }
-    ensures found { IfOk result (λ image. IsCodeOf source.now tokens.now image) }
-    ensures only { IfErr result (λ e. e ≡ NotSmall → IsNoSmall source.now tokens.now) }
-{
-    let lexemes = lexemes(alloc, source, tokens)?;
-    let program = read(alloc, &lexemes)?;
-    image(alloc, &program)
-}
-
-/// No tokens are two small programs.
-pub fn one_small()
-    ensures { (source : List ℕ) (tokens : List SomeToken) (p q : Small) → IsSmall source tokens p → IsSmall source tokens q → p ≡ q }
-{}

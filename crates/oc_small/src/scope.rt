@@ -1,12 +1,14 @@
 //! The names of a small program.
 ghost use Rattle.std.specs.Prelude.{◌≡◌, ◌≤◌, ◌++◌, ◌∷◌, [], length, codes, map, IfOk, IfErr, OnOk, IsTrue, false};
-ghost use Rattle.oc_small.specs.declared.read.Refused.TheVariants.{NotSmall};
-ghost use Rattle.oc_small.specs.Rules.{sensors_in, ports_in, sensors_of, ports_of, variables_of, variables_in, variable_in, declared_names, is_among, are_distinct, fits, statements_fit, statement_fits};
+ghost use Rattle.oc_tree.specs.View.{kind_view, stmts_view};
+ghost use Rattle.oc_small.specs.declared.refused.Refused.TheVariants.{NotSmall};
+ghost use Rattle.oc_small.specs.Rules.{variables_in, variable_in, is_among, are_distinct};
 ghost use Rattle.oc_small.specs.Code.{place_of};
-ghost use Rattle.oc_small.specs.View.{names_view, name_view, declaration_view, statement_view, program_view};
+ghost use Rattle.oc_small.specs.View.{names_view, name_view};
 
-use crate::program::{Declaration, Program, Statement};
-use crate::read::Refused;
+use crate::refused::Refused;
+use oc_tree::name::{Name, Names};
+use oc_tree::tree::{Stmt, StmtKind};
 use std::alloc::Global;
 
 /// The names that a program declares, each kind in order of declaration.
@@ -17,64 +19,52 @@ pub struct Scope<'a> {
     pub variables: Vec<&'a [u8]>,
 }
 
-fn add_declarations<'a>(
-    scope: &mut Scope<'a>,
-    declarations: &[Declaration<'a>],
-) -> Result<(), Refused>
-    ensures sensors { OnOk result (names_view scope.new.sensors.items ≡ names_view scope.old.sensors.items ++ sensors_in (map declaration_view declarations.now)) }
-    ensures ports { OnOk result (names_view scope.new.ports.items ≡ names_view scope.old.ports.items ++ ports_in (map declaration_view declarations.now)) }
-    ensures variables { OnOk result (names_view scope.new.variables.items ≡ names_view scope.old.variables.items) }
+fn texts<'a>(alloc: Global, names: &'a [Name]) -> Result<Vec<&'a [u8]>, Refused>
+    ensures exact { IfOk result (λ texts. names_view texts.items ≡ names.now) }
     ensures only { IfErr result (λ e. e ≡ Refused.Memory) }
 {
-    for declaration in declarations {
-        match *declaration {
-            Declaration::Sensor(name) => scope.sensors.push(name)?,
-            Declaration::Port(name) => scope.ports.push(name)?,
-        }
+    let mut texts = Vec::new(alloc);
+    for name in names {
+        texts.push(name.bytes())?;
     }
-    Ok(())
+    Ok(texts)
 }
 
 /// The variable that a statement declares, if it is a `let`.
-pub fn variable<'a>(statement: &Statement<'a>) -> Option<&'a [u8]>
-    ensures { name_view result ≡ variable_in (statement_view statement.now) }
+pub fn variable(kind: &StmtKind) -> Option<&[u8]>
+    ensures { name_view result ≡ variable_in (kind_view kind.now) }
 {
-    match statement {
-        Statement::LetInput { name, .. } | Statement::LetSum { name, .. } => Some(*name),
-        Statement::Emit { .. } => None,
+    match kind {
+        StmtKind::Let { name, .. } => Some(name.bytes()),
+        _ => None,
     }
 }
 
-fn add_variables<'a>(scope: &mut Scope<'a>, body: &[Statement<'a>]) -> Result<(), Refused>
-    ensures sensors { OnOk result (names_view scope.new.sensors.items ≡ names_view scope.old.sensors.items) }
-    ensures ports { OnOk result (names_view scope.new.ports.items ≡ names_view scope.old.ports.items) }
-    ensures variables { OnOk result (names_view scope.new.variables.items ≡ names_view scope.old.variables.items ++ variables_in (map statement_view body.now)) }
+fn variables<'a>(alloc: Global, body: &'a [Stmt]) -> Result<Vec<&'a [u8]>, Refused>
+    ensures exact { IfOk result (λ texts. names_view texts.items ≡ variables_in (stmts_view body.now)) }
     ensures only { IfErr result (λ e. e ≡ Refused.Memory) }
 {
+    let mut variables = Vec::new(alloc);
     for statement in body {
-        if let Some(name) = variable(statement) {
-            scope.variables.push(name)?;
+        if let Some(name) = variable(&statement.kind) {
+            variables.push(name)?;
         }
     }
-    Ok(())
+    Ok(variables)
 }
 
-/// The names that a program declares.
-pub fn scope_of<'a>(alloc: Global, program: &Program<'a>) -> Result<Scope<'a>, Refused>
-    ensures sensors { IfOk result (λ s. names_view s.sensors.items ≡ sensors_of (program_view program.now)) }
-    ensures ports { IfOk result (λ s. names_view s.ports.items ≡ ports_of (program_view program.now)) }
-    ensures variables { IfOk result (λ s. names_view s.variables.items ≡ variables_of (program_view program.now)) }
+/// The names that a program with these statements declares.
+pub fn scope_of<'a>(alloc: Global, names: &'a Names, body: &'a [Stmt]) -> Result<Scope<'a>, Refused>
+    ensures sensors { IfOk result (λ s. names_view s.sensors.items ≡ names.now.sensors.items) }
+    ensures ports { IfOk result (λ s. names_view s.ports.items ≡ names.now.ports.items) }
+    ensures variables { IfOk result (λ s. names_view s.variables.items ≡ variables_in (stmts_view body.now)) }
     ensures only { IfErr result (λ e. e ≡ Refused.Memory) }
 {
-    let mut scope = Scope {
-        sensors: Vec::new(alloc),
-        ports: Vec::new(alloc),
-        variables: Vec::new(alloc),
-    };
-    add_declarations(&mut scope, &program.before)?;
-    add_declarations(&mut scope, &program.after)?;
-    add_variables(&mut scope, &program.body)?;
-    Ok(scope)
+    Ok(Scope {
+        sensors: texts(alloc, &names.sensors)?,
+        ports: texts(alloc, &names.ports)?,
+        variables: variables(alloc, body)?,
+    })
 }
 
 /// The place of a name among these, counted from 0.

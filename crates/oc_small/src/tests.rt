@@ -1,178 +1,124 @@
-//! Small programs with their code, and sources that are none.
+//! One small program with its code, and trees that are none. Programs by their sources are tried
+//! where sources are parsed.
 
-use crate::compile;
-use oc_isa::image::Image;
-use oc_isa::instr::{BinOp, Instr, Placed};
-use oc_lex::lex;
-use std::alloc::Global;
-use std::process::Abort;
+use crate::{CompileError, compile};
+use oc_isa::instr::{Instr, Placed};
+use oc_tree::name::{Name, Names};
+use oc_tree::tree::{
+    Block, Decl, DeclKind, Expr, Function, NvDecl, Program, Right, Stmt, StmtKind,
+};
+use std::alloc::{AllocError, Global};
 use std::test::Fail;
 
-const ADD: Instr = Instr::Bin { op: BinOp::Add };
-
-const fn at(site: u32, instr: Instr) -> Placed {
-    Placed { instr, site }
+fn name(alloc: Global, text: &str) -> Result<Name, AllocError> {
+    Ok(Name::new(Vec::from_slice(alloc, text.as_bytes())?))
 }
 
-fn image_of(rt: &impl Abort, alloc: Global, source: &str) -> Result<Option<Image>, Fail> {
-    let source = source.as_bytes();
-    assert!(rt; source.len() <= 1048576);
-    let tokens = lex(alloc, source)?;
-    Ok(compile(alloc, source, &tokens)?)
+/// `let x = sense(t);`, or with `mut`, in a line.
+fn input(alloc: Global, id: u32, line: u32, mutable: bool) -> Result<Stmt, AllocError> {
+    let right = Right::Sense {
+        sensor: name(alloc, "t")?,
+    };
+    let kind = StmtKind::Let {
+        mutable,
+        name: name(alloc, "x")?,
+        kind: None,
+        right,
+    };
+    Ok(Stmt { id, line, kind })
 }
 
-fn expect_code(
-    rt: &impl Abort,
-    alloc: Global,
-    source: &str,
-    code: &[Placed],
-    frame: u32,
-    stack: u32,
-) -> Result<(), Fail> {
-    let image = image_of(rt, alloc, source)?.ok_or("no small program")?;
+/// `emit(r, x);`
+fn emission(alloc: Global, id: u32, line: u32) -> Result<Stmt, AllocError> {
+    let value = Expr::Variable {
+        name: name(alloc, "x")?,
+    };
+    let port = name(alloc, "r")?;
+    Ok(Stmt {
+        id,
+        line,
+        kind: StmtKind::Emit { port, value },
+    })
+}
+
+/// A sensor `t`, a port `r` and a function of this name, which takes an input and emits it, each
+/// in a line of its own from 1.
+fn program(alloc: Global, function: &str, mutable: bool) -> Result<Program, AllocError> {
+    let mut sensors = Vec::new(alloc);
+    sensors.push(name(alloc, "t")?)?;
+    let mut ports = Vec::new(alloc);
+    ports.push(name(alloc, "r")?)?;
+    let mut statements = Vec::new(alloc);
+    statements.push(input(alloc, 1, 4, mutable)?)?;
+    statements.push(emission(alloc, 2, 5)?)?;
+    let mut functions = Vec::new(alloc);
+    functions.push(Function {
+        name: name(alloc, function)?,
+        line: 3,
+        params: Vec::new(alloc),
+        result: None,
+        body: Block { id: 1, statements },
+    })?;
+    let mut order = Vec::new(alloc);
+    for (kind, line) in [
+        (DeclKind::Sensor, 1),
+        (DeclKind::Port, 2),
+        (DeclKind::Function, 3),
+    ] {
+        order.push(Decl { kind, line })?;
+    }
+    Ok(Program {
+        names: Names {
+            sensors,
+            ports,
+            nvs: Vec::new(alloc),
+        },
+        nv: Vec::new(alloc),
+        functions,
+        order,
+        last_line: 6,
+    })
+}
+
+#[test]
+fn code_of_a_tree(rt: HostRuntime) -> Result<(), Fail> {
+    let image = compile(rt.alloc(), &program(rt.alloc(), "main", false)?)?;
     let raw = image.raw();
-    assert_eq!(rt; raw.code.as_slice(), code, "{source}");
-    assert_eq!(rt; raw.stack, stack, "{source}");
-    assert_eq!(rt; raw.functions.len(), 1);
-    let main = raw.functions.first().ok_or("no function")?;
-    assert_eq!(rt; main.name.bytes(), b"main".as_slice());
-    assert_eq!(rt;
-        (main.entry, main.params, main.frame),
-        (0, 0, frame),
-        "{source}"
-    );
-    assert!(rt; raw.targets.is_empty() && raw.nv.is_empty() && raw.names.nvs.is_empty());
+    let code = [
+        (1, Instr::Sense { s: 0 }),
+        (1, Instr::Store { s: 0 }),
+        (2, Instr::Load { s: 0 }),
+        (2, Instr::Emit { p: 0 }),
+        (0, Instr::Halt),
+    ];
+    assert_eq!(rt; raw.code.len(), code.len());
+    for (placed, (site, instr)) in raw.code.iter().zip(code) {
+        assert_eq!(rt; *placed, Placed { instr, site });
+    }
+    assert_eq!(rt; raw.stack, 2);
     Ok(())
 }
 
 #[test]
-fn codes(rt: HostRuntime) -> Result<(), Fail> {
+fn lines_of_no_small_programs(rt: HostRuntime) -> Result<(), Fail> {
     let alloc = rt.alloc();
-    expect_code(&rt, alloc, "fn main() {}", &[at(0, Instr::Halt)], 0, 0)?;
-    expect_code(
-        &rt,
-        alloc,
-        "sensor t; port r; fn main() { let x = sense(t); emit(r, x); }",
-        &[
-            at(1, Instr::Sense { s: 0 }),
-            at(1, Instr::Store { s: 0 }),
-            at(2, Instr::Load { s: 0 }),
-            at(2, Instr::Emit { p: 0 }),
-            at(0, Instr::Halt),
-        ],
-        1,
-        2,
-    )?;
-    expect_code(
-        &rt,
-        alloc,
-        "port p; port q; fn main() { let a = 7; let b = a + 2 + a; emit(q, b + a + b); } sensor s;",
-        &[
-            at(1, Instr::Push { c: 7 }),
-            at(1, Instr::Store { s: 0 }),
-            at(2, Instr::Load { s: 0 }),
-            at(2, Instr::Push { c: 2 }),
-            at(2, ADD),
-            at(2, Instr::Load { s: 0 }),
-            at(2, ADD),
-            at(2, Instr::Store { s: 1 }),
-            at(3, Instr::Load { s: 1 }),
-            at(3, Instr::Load { s: 0 }),
-            at(3, ADD),
-            at(3, Instr::Load { s: 1 }),
-            at(3, ADD),
-            at(3, Instr::Emit { p: 1 }),
-            at(0, Instr::Halt),
-        ],
-        2,
-        4,
-    )
-}
-
-#[test]
-fn names_in_order(rt: HostRuntime) -> Result<(), Fail> {
-    let source = "sensor a; port b; sensor c; fn main() { let x = sense(e); } port d; sensor e;";
-    let image = image_of(&rt, rt.alloc(), source)?.ok_or("no small program")?;
-    let names = &image.raw().names;
-    let cases = [
-        (&names.sensors, 0, b"a"),
-        (&names.sensors, 1, b"c"),
-        (&names.sensors, 2, b"e"),
-        (&names.ports, 0, b"b"),
-        (&names.ports, 1, b"d"),
-    ];
-    for (list, place, text) in cases {
-        let name = list.get(place).ok_or("too few")?;
-        assert_eq!(rt; name.bytes(), text.as_slice());
+    let mutable = program(alloc, "main", true)?;
+    let other = program(alloc, "other", false)?;
+    let mut nonvolatile = program(alloc, "main", false)?;
+    nonvolatile.nv.push(NvDecl {
+        words: 1,
+        array: false,
+        initial: 0,
+    })?;
+    nonvolatile.order.push(Decl {
+        kind: DeclKind::Nv,
+        line: 7,
+    })?;
+    let mut unnamed = program(alloc, "main", false)?;
+    unnamed.names.ports = Vec::new(alloc);
+    for (tree, line) in [(mutable, 4), (other, 3), (nonvolatile, 7), (unnamed, 6)] {
+        let refused = compile(alloc, &tree).err();
+        assert_eq!(rt; refused, Some(CompileError::NotSmall { line }));
     }
-    assert_eq!(rt; (names.sensors.len(), names.ports.len()), (3, 2));
-    Ok(())
-}
-
-#[test]
-fn no_small_programs(rt: HostRuntime) -> Result<(), Fail> {
-    let cases = [
-        "",
-        "sensor s;",
-        "fn main() {",
-        "fn main() {} }",
-        "fn main() {} fn main() {}",
-        "fn other() {}",
-        "sensor ; fn main() {}",
-        "sensor s, t; fn main() {}",
-        "nv n: i32 = 0; fn main() {}",
-        "sensor s; sensor s; fn main() {}",
-        "sensor s; fn main() {} port s;",
-        "port main; fn main() {}",
-        "fn main() { let main = 1; }",
-        "fn main() { let x = 1; let x = 2; }",
-        "fn main() { let x = 1; } sensor x;",
-        "fn main() { let x = x; }",
-        "fn main() { let y = x; let x = 1; }",
-        "sensor s; fn main() { let x = s; }",
-        "port p; fn main() { let x = sense(p); }",
-        "sensor s; fn main() { emit(s, 1); }",
-        "fn main() { let x = 1; emit(x, x); }",
-        "sensor s; fn main() { sense(s); }",
-        "sensor s; fn main() { let x = sense(s) + 1; }",
-        "fn main() { let mut x = 1; }",
-        "fn main() { let x = 1 - 2; }",
-        "fn main() { let x = 1 +; }",
-        "fn main() { let x = ; }",
-        "fn main() { let x = 1 }",
-        "fn main() { let x = 1+1+1+1+1+1+1+1+1; }",
-    ];
-    for source in cases {
-        assert!(rt; image_of(&rt, rt.alloc(), source)?.is_none(), "{source}");
-    }
-    Ok(())
-}
-
-/// 64 sensors and ports, 256 variables, and emissions of eight operands up to so many statements.
-fn large(alloc: Global, statements: u32) -> Result<String, Fail> {
-    let mut source = String::from_str(alloc, "")?;
-    for k in 0..64u32 {
-        write!(source, "sensor s{k};port p{k};")?;
-    }
-    source.push_str("fn main(){")?;
-    for k in 0..256u32 {
-        write!(source, "let variable{k:03}=sense(s63);")?;
-    }
-    let sum = "variable252+variable253+variable255+variable255";
-    for _ in 256..statements {
-        write!(source, "emit(p63,{sum}+{sum});")?;
-    }
-    source.push_str("}")?;
-    Ok(source)
-}
-
-#[test]
-fn limits(rt: HostRuntime) -> Result<(), Fail> {
-    let largest = large(rt.alloc(), 8192)?;
-    let image = image_of(&rt, rt.alloc(), &largest)?.ok_or("no small program")?;
-    assert_eq!(rt; image.raw().code.len(), 2 * 256 + 16 * 7936 + 1);
-    assert_eq!(rt; image.raw().stack, 258);
-    let larger = large(rt.alloc(), 8193)?;
-    assert!(rt; image_of(&rt, rt.alloc(), &larger)?.is_none());
     Ok(())
 }

@@ -13,45 +13,22 @@ use Rattle.oc_sensors.specs.History.{history}
 use Rattle.oc_tree.specs.declared.said.Said.{Said}
 use Rattle.oc_tree.specs.declared.said.Said.TheVariants.{Ended}
 use Rattle.oc_tree.specs.declared.said.Ending.TheVariants.{Halted, Trapped}
-use Rattle.oc_lex.specs.Tokens.{AreTokens}
-use Rattle.oc_lex.specs.declared.token.Token.{Token}
-use Rattle.oc_lex.proofs.TokenLaws.{tokens_same, not_both, faults_same}
 use Rattle.oc_isa.specs.Image.{Parts}
 use Rattle.oc_isa.specs.Power.{first_world, power_run}
 use Rattle.oc_isa.specs.Table.{device_of}
 use Rattle.oc_outage.specs.Honest.{loses_checkpoint}
-use Rattle.oc_small.specs.Small.{Small}
-use Rattle.oc_small.specs.Rules.{IsSmall}
 use Rattle.oc_small.specs.Code.{small_code}
-use Rattle.oc_small.proofs.SpellingLaws.{same_small}
 use Rattle.oc_top.specs.Commands.{Plan, Plans, Task, task_of, word_at}
 use Rattle.oc_top.specs.Files.{Files, limit_at, IsFile, AreFiles, IsHeld, AreHeld, AreHeldBefore, IsRefused, NotFetched}
-use Rattle.oc_top.specs.Sources.{Reading, faulty, program, ReadsAs, place_of, line_at}
+use Rattle.oc_top.specs.Sources.{Reading, faulty, program, ReadsAs}
 use Rattle.oc_top.specs.Sources as source
+use Rattle.oc_top.proofs.OneReading.{one_reading}
 use Rattle.oc_top.specs.Reports.{answer_by, answer_of, last_said}
 use Rattle.oc_top.specs.Verdict.{Verdict, verdict, is_of_run, refuses, with_sensors, with_power}
 use Rattle.oc_top.specs.Headline.{IsRun}
 use Rattle.oc_top.specs.Answers.{status_of, is_written, IsJudged, IsWritten, whole, in_part, Outcome, not_fetched, no_memory, refused, ran, Comes, no_command, for_task}
 use Rattle.oc_top.specs.declared.answer.Answer.{Answer}
 use Rattle.oc_top.specs.declared.answer.Answer.TheVariants as answer
-
--- ---- a source reads in one way
-
-same_program : (text : List ℕ) (p q : Small) (ts us : List Token) → AreTokens text ts → IsSmall text ts p → AreTokens text us → IsSmall text us q → p ≡ q
-same_program text p q ts us a s b t =
-    let s' = subst (λ (vs : List Token). IsSmall text vs p) (sym (tokens_same text ts us a b)) s in
-    same_small p q (sym s'.spelled ∙ t.spelled)
-
-pub one_reading : (text : List ℕ) (r s : Reading) → ReadsAs text r → ReadsAs text s → r ≡ s
-one_reading text (faulty m) (faulty n) a b = ap faulty (a.2 ∙ ap (λ f. line_at text (place_of f)) (faults_same text a.0 b.0 a.1 b.1) ∙ sym b.2)
-one_reading text (faulty m) source.other a b = absurd (not_both text b.0 a.0 b.1 a.1)
-one_reading text (faulty m) (program q) a b = absurd (not_both text b.0 a.0 b.1 a.1)
-one_reading text source.other (faulty n) a b = absurd (not_both text a.0 b.0 a.1 b.1)
-one_reading text source.other source.other a b = refl
-one_reading text source.other (program q) a b = absurd (a.2 q (subst (λ (ts : List Token). IsSmall text ts q) (tokens_same text a.0 b.0 a.1 b.1) b.2))
-one_reading text (program p) (faulty n) a b = absurd (not_both text a.0 b.0 a.1 b.1)
-one_reading text (program p) source.other a b = absurd (b.2 p (subst (λ (ts : List Token). IsSmall text ts p) (tokens_same text b.0 a.0 b.1 a.1) a.2))
-one_reading text (program p) (program q) a b = ap program (same_program text p q a.0 b.0 a.1 a.2 b.1 b.2)
 
 -- ---- the answer to a run
 
@@ -152,7 +129,7 @@ usage_is answer.Usage e = refl
 usage_is (answer.Unreadable word) e = absurd (omega (arith, e))
 usage_is (answer.TooLong word) e = absurd (omega (arith, e))
 usage_is (answer.Syntax line) e = absurd (omega (arith, e))
-usage_is answer.NotBuilt e = absurd (omega (arith, e))
+usage_is (answer.NotBuilt line) e = absurd (omega (arith, e))
 usage_is (answer.BadSensors row) e = absurd (omega (arith, e))
 usage_is (answer.BadPower row) e = absurd (omega (arith, e))
 usage_is answer.WriteFault e = absurd (omega (arith, e))
@@ -182,7 +159,7 @@ module _ (parts : Parts) (plan : Plan) where
 
 no_usage_verdict : (reading : Reading) (files : Files) (plan : Plan) → is_usage (verdict reading files plan).answer ≡ false
 no_usage_verdict (faulty line) files plan = refl
-no_usage_verdict source.other files plan = refl
+no_usage_verdict (source.other line) files plan = refl
 no_usage_verdict (program p) files plan = no_usage_sensors (small_code p) plan (sensor_file (small_code p).names.sensors files.sensors) (power_file files.power)
 
 no_usage_refused : (held : Held) (limit word : ℕ) (unread : Type 0) (end : Answer) → IsRefused held limit word unread end → is_usage end ≡ false

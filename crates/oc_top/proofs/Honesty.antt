@@ -1,6 +1,7 @@
 -- Reports of small programs are honest.
 use Rattle.std.proofs.Common.{ℕ, ◌≤◌, ◌≡◌, ◌∙◌, sym, subst, ℤ, List, ◌++◌, true, arith, max}
 use Rattle.oc_io.specs.declared.period.Period.{Period}
+use Rattle.oc_tree.specs.Tree.{TProgram}
 use Rattle.oc_tree.specs.Said.{Told}
 use Rattle.oc_tree.specs.Word.{is_word}
 use Rattle.oc_tree.specs.declared.said.Said.{Said}
@@ -15,7 +16,6 @@ use Rattle.oc_outage.specs.Honest.{IsPrefixOf, EndsWith, all_on}
 use Rattle.oc_outage.proofs.Enters.{device_fit}
 use Rattle.oc_outage.proofs.Lasting.{over_exactly}
 use Rattle.oc_outage.proofs.Runs.{every_prefix_later, over_is_whole}
-use Rattle.oc_small.specs.Small.{Small}
 use Rattle.oc_small.specs.Runs.{small_run}
 use Rattle.oc_small.specs.Meant.{RunsAs}
 use Rattle.oc_top.specs.Headline.{IsHonest, IsHonestThroughout}
@@ -26,7 +26,7 @@ later_left a b = omega arith
 later_right : (a b : ℕ) → b ≤ max a b
 later_right a b = omega arith
 
-module _ (parts : Parts) (p : Small) (h : ℕ → ℕ → ℤ) (periods : List Period) (sound : IsSound (device_of parts)) (runs_as : RunsAs parts p) (words : (sensor tick : ℕ) → is_word (h sensor tick) ≡ true) where
+module _ (parts : Parts) (p : TProgram) (h : ℕ → ℕ → ℤ) (periods : List Period) (sound : IsSound (device_of parts)) (runs_as : RunsAs parts p) (words : (sensor tick : ℕ) → is_word (h sensor tick) ≡ true) where
   front_honest : (front rest : List Told) → front ++ rest ≡ (power_run (device_of parts) h periods).report → IsHonest p h front
   front_honest front rest e =
       let run = runs_as (kept_samples front) in

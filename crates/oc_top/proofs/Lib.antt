@@ -7,4 +7,6 @@ pub mod Variables
 pub mod Writing
 pub mod Stopping
 pub mod Asking
+pub mod Parsing
+pub mod OneReading
 pub mod Exactly

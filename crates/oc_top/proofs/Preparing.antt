@@ -28,7 +28,7 @@ use Rattle.oc_top.specs.declared.answer.Answer.TheVariants as answer
 module _ (files : Files) (plan : Plan) where
   pub not_built : (end : Answer) → IsNotBuilt files.source end → IsTurnedDown files plan end
   not_built (answer.Syntax line) r = by_files (faulty line) r refl refl
-  not_built answer.NotBuilt r = by_files other r refl refl
+  not_built (answer.NotBuilt line) r = by_files (other line) r refl refl
   not_built answer.Memory r = by_memory refl
   not_built end r = absurd r
 

@@ -7,6 +7,7 @@ use Rattle.oc_sensors.specs.declared.sensors.Row.{Row}
 use Rattle.oc_sensors.specs.File.{sensor_file}
 use Rattle.oc_sensors.specs.File as sensor_rows
 use Rattle.oc_sensors.specs.History.{history}
+use Rattle.oc_tree.specs.Tree.{TProgram}
 use Rattle.oc_tree.specs.Said.{Told}
 use Rattle.oc_tree.specs.declared.said.Ending.{Ending}
 use Rattle.oc_tree.specs.declared.said.Said.TheVariants.{Ended}
@@ -14,7 +15,6 @@ use Rattle.oc_isa.specs.Power.{power_run}
 use Rattle.oc_isa.specs.Table.{device_of}
 use Rattle.oc_items.specs.Erase.{erase, marked, kept_samples, HasNoOffInside}
 use Rattle.oc_outage.specs.Honest.{IsPrefixOf, AreRead, EndsWith}
-use Rattle.oc_small.specs.Small.{Small}
 use Rattle.oc_small.specs.Rules.{sensors_of}
 use Rattle.oc_small.specs.Code.{small_code}
 use Rattle.oc_small.specs.Runs.{small_run}
@@ -25,20 +25,20 @@ use Rattle.oc_top.specs.Verdict.{Verdict, runs}
 
 -- without its aborted attempts, the report says what the program says over the kept samples, or a prefix of it; no outage
 -- lies in a region; and each input has what its sensor had at that tick
-pub record IsHonest (p : Small) (h : ℕ → ℕ → ℤ) (report : List Told) : Type 0 where
+pub record IsHonest (p : TProgram) (h : ℕ → ℕ → ℤ) (report : List Told) : Type 0 where
   pub said : IsPrefixOf (marked report) (small_run p (kept_samples report))
   pub outside : HasNoOffInside false (erase report)
   pub read : AreRead h report
 
 -- every prefix of a report is honest, and a report that ends is the whole run
-pub record IsHonestThroughout (p : Small) (h : ℕ → ℕ → ℤ) (report : List Told) : Type 0 where
+pub record IsHonestThroughout (p : TProgram) (h : ℕ → ℕ → ℤ) (report : List Told) : Type 0 where
   pub honest : (front rest : List Told) → front ++ rest ≡ report → IsHonest p h front
   pub whole : (how : Ending) → EndsWith report (Ended how) → marked report ≡ small_run p (kept_samples report)
 
 -- a run of the small program that a source spells, over what the sensors showed and the periods that the supply told:
 -- its answer and its text are those of the report, and the report is honest
 pub record IsRun (files : Files) (plan : Plan) (run : Verdict) : Type 0 where
-  pub small : Small
+  pub small : TProgram
   pub spelled : ReadsAs files.source (program small)
   pub rows : List Row
   pub sensed : sensor_file (sensors_of small) files.sensors ≡ sensor_rows.readings rows

@@ -1,5 +1,6 @@
 pub mod Commands
 pub mod Files
+pub mod Faults
 pub mod Sources
 pub mod Reports
 pub mod Verdict

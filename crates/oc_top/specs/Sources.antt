@@ -1,17 +1,22 @@
 -- What a source is.
-use Rattle.std.specs.Prelude.{ℕ, ◌+◌, ◌≡◌, List, take}
+use Rattle.std.specs.Prelude.{ℕ, ◌+◌, ◌≡◌, true, false, List, take}
+use Rattle.oc_tree.specs.Tree.{TProgram}
 use Rattle.oc_lex.specs.Tokens.{AreTokens, HasFault, line_feeds}
 use Rattle.oc_lex.specs.declared.token.Token.{Token}
 use Rattle.oc_lex.specs.declared.lexer.LexError.{LexError}
 use Rattle.oc_lex.specs.declared.lexer.LexError.TheVariants as fault
-use Rattle.oc_small.specs.Small.{Small}
-use Rattle.oc_small.specs.Rules.{IsSmall}
+use Rattle.oc_grammar.specs.Lexemes.{lexemes_of}
+use Rattle.oc_grammar.specs.Programs.{SpellsProgram}
+use Rattle.oc_small.specs.Form.{other_line}
+use Rattle.oc_small.specs.Rules.{is_small}
+use Rattle.oc_top.specs.Faults.{HasFaultAt, token_line}
 
--- no tokens: the first fault is in this line. Tokens that spell no small program. Or the program that they spell
+-- no program: the first fault is in this line. A program that isn't small, which is told by this line. Or the small
+-- program that it spells
 pub data Reading : Type 0 where
   faulty : (line : ℕ) → Reading
-  other : Reading
-  program : Small → Reading
+  other : (line : ℕ) → Reading
+  program : TProgram → Reading
 
 abbrev pub place_of : LexError → ℕ
 place_of (fault.Byte at) = at
@@ -22,8 +27,19 @@ place_of fault.Memory = 0
 abbrev pub line_at : List ℕ → ℕ → ℕ
 line_at source at = 1 + line_feeds (take at source)
 
+-- the source isn't tokens, or they spell no program within the depths; the fault is in this line
+pub data IsFaulty (source : List ℕ) (line : ℕ) : Type 0 where
+  no_tokens : (f : LexError) → HasFault source f → line ≡ line_at source (place_of f) → IsFaulty source line
+  no_tree : (tokens : List Token) → AreTokens source tokens → (token : ℕ) → HasFaultAt (lexemes_of source tokens) token → line ≡ token_line (lexemes_of source tokens) token → IsFaulty source line
+
+-- the tokens of the source spell this program, within the depths
+pub record Spells (source : List ℕ) (p : TProgram) : Type 0 where
+  pub tokens : List Token
+  pub are_tokens : AreTokens source tokens
+  pub spelled : SpellsProgram p (lexemes_of source tokens)
+
 -- this is how a source reads
 abbrev pub ReadsAs : List ℕ → Reading → Type 0
-ReadsAs source (faulty line) = (f : LexError) × HasFault source f × (line ≡ line_at source (place_of f))
-ReadsAs source other = (tokens : List Token) × AreTokens source tokens × ((p : Small) → IsSmall source tokens p → ⊥)
-ReadsAs source (program p) = (tokens : List Token) × AreTokens source tokens × IsSmall source tokens p
+ReadsAs source (faulty line) = IsFaulty source line
+ReadsAs source (other line) = (p : TProgram) × Spells source p × (is_small p ≡ false) × (line ≡ other_line p)
+ReadsAs source (program p) = Spells source p × (is_small p ≡ true)

@@ -9,23 +9,40 @@ use Rattle.oc_power.specs.declared.power.PowerError.TheVariants as power_error
 use Rattle.oc_sensors.specs.File.{sensor_file}
 use Rattle.oc_sensors.specs.File as sensor_rows
 use Rattle.oc_sensors.specs.History.{Told, history}
+use Rattle.oc_tree.specs.Tree.{TProgram}
 use Rattle.oc_tree.specs.Word.{is_word}
 use Rattle.oc_sensors.specs.declared.file.SensorError.{SensorError}
 use Rattle.oc_sensors.specs.declared.file.SensorError.TheVariants as sensor_error
+use Rattle.oc_lex.specs.declared.lexer.LexError.{LexError}
+use Rattle.oc_lex.specs.declared.lexer.LexError.TheVariants as lex_error
+use Rattle.oc_grammar.specs.Lexemes.{Lexemes}
+use Rattle.oc_parse.specs.declared.program.ParseError.{ParseError}
+use Rattle.oc_parse.specs.declared.program.ParseError.TheVariants as parse_error
 use Rattle.oc_isa.specs.Image.{Parts}
 use Rattle.oc_isa.specs.Power.{first_state}
 use Rattle.oc_isa.specs.Run.{IsSound}
 use Rattle.oc_isa.specs.Table.{device_of}
 use Rattle.oc_machine.specs.Kept.{Running}
-use Rattle.oc_small.specs.Small.{Small}
 use Rattle.oc_small.specs.Code.{small_code}
 use Rattle.oc_small.specs.Meant.{RunsAs}
 use Rattle.oc_top.specs.Commands.{Plan}
 use Rattle.oc_top.specs.Files.{Files}
-use Rattle.oc_top.specs.Sources.{Reading, ReadsAs, faulty, other, program}
+use Rattle.oc_top.specs.Faults.{token_line}
+use Rattle.oc_top.specs.Sources.{Reading, ReadsAs, faulty, other, program, line_at}
 use Rattle.oc_top.specs.Verdict.{verdict, is_of_run, refuses}
 use Rattle.oc_top.specs.declared.answer.Answer.{Answer}
 use Rattle.oc_top.specs.declared.answer.Answer.TheVariants as answer
+
+-- the answer to a source that isn't tokens, and to tokens that spell no program
+abbrev pub for_tokens : List ℕ → LexError → Answer
+for_tokens source (lex_error.Byte at) = answer.Syntax (line_at source at)
+for_tokens source (lex_error.Literal at) = answer.Syntax (line_at source at)
+for_tokens source lex_error.Memory = answer.Memory
+
+abbrev pub for_tree : Lexemes → ParseError → Answer
+for_tree tokens (parse_error.Syntax token) = answer.Syntax (token_line tokens token)
+for_tree tokens (parse_error.Depth token) = answer.Syntax (token_line tokens token)
+for_tree tokens parse_error.Memory = answer.Memory
 
 -- the answer to a sensor file that wasn't read, and to such a power file
 abbrev pub for_sensors : SensorError → Answer
@@ -38,7 +55,7 @@ for_power power_error.Memory = answer.Memory
 
 -- the image of the small program that a source spells
 pub record IsBuilt (source : List ℕ) (parts : Parts) : Type 0 where
-  pub small : Small
+  pub small : TProgram
   pub reads : ReadsAs source (program small)
   pub is_code : parts ≡ small_code small
   pub sound : IsSound (device_of parts)
@@ -47,7 +64,7 @@ pub record IsBuilt (source : List ℕ) (parts : Parts) : Type 0 where
 -- why there is no image of a source
 abbrev pub IsNotBuilt : List ℕ → Answer → Type 0
 IsNotBuilt source (answer.Syntax line) = ReadsAs source (faulty line)
-IsNotBuilt source answer.NotBuilt = ReadsAs source other
+IsNotBuilt source (answer.NotBuilt line) = ReadsAs source (other line)
 IsNotBuilt source answer.Memory = Unit {0}
 IsNotBuilt source end = ⊥
 

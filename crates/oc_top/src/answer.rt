@@ -18,10 +18,10 @@ pub enum Answer {
     Unreadable { word: usize },
     /// A file is longer than its limit.
     TooLong { word: usize },
-    /// The source isn't tokens.
+    /// The source isn't tokens that spell a program within the depths.
     Syntax { line: usize },
-    /// The source is tokens, and no small program.
-    NotBuilt,
+    /// The source is a program, and no small one.
+    NotBuilt { line: u32 },
     /// The first bad row of the sensor file.
     BadSensors { row: u64 },
     /// The first bad row of the power file.
@@ -57,7 +57,7 @@ pub fn status(answer: Answer) -> u8
         Answer::WriteFault => 10,
         Answer::Memory => 11,
         Answer::Cut => 12,
-        Answer::NotBuilt => 13,
+        Answer::NotBuilt { .. } => 13,
     }
 }
 
@@ -92,7 +92,10 @@ fn put_line_of<E: Sink>(answer: Answer, words: &[String], err: &mut E) -> Result
             let line = number.format(line).as_bytes();
             put_pieces(err, &[b"ocelot: syntax error in line ", line, b"\n"])
         }
-        Answer::NotBuilt => put_pieces(err, &[b"ocelot: not built in line 1\n"]),
+        Answer::NotBuilt { line } => {
+            let line = number.format(line).as_bytes();
+            put_pieces(err, &[b"ocelot: not built in line ", line, b"\n"])
+        }
         Answer::BadSensors { row } => {
             let row = number.format(row).as_bytes();
             put_pieces(err, &[b"ocelot: bad row ", row, b" in sensors\n"])

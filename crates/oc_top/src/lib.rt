@@ -11,5 +11,7 @@ pub mod files;
 pub mod prepare;
 pub mod report;
 #[cfg(test)]
+mod small_tests;
+#[cfg(test)]
 mod tests;
 pub mod top;

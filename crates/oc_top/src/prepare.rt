@@ -1,23 +1,28 @@
 //! The steps before the first byte is written.
-ghost use Rattle.std.specs.Prelude.{◌≡◌, ◌≤◌, length, IfOk, IfErr};
-ghost use Rattle.oc_lex.specs.Tokens.{line_feeds};
+ghost use Rattle.std.specs.Prelude.{◌≡◌, ◌≤◌, ℕ, List, length, IfOk, IfErr};
+ghost use Rattle.oc_tree.specs.View.{program_view};
+ghost use Rattle.oc_lex.specs.Tokens.{AreTokens, line_feeds};
+ghost use Rattle.oc_grammar.specs.Lexemes.{lexemes_of};
 ghost use Rattle.oc_sensors.specs.File.{Explains, readings, sensor_file};
 ghost use Rattle.oc_top.specs.Files.{bytes_of};
-ghost use Rattle.oc_top.specs.Sources.{line_at};
-ghost use Rattle.oc_top.specs.Steps.{IsBuilt, IsNotBuilt, IsReady, IsTurnedDown, for_power, for_sensors};
+ghost use Rattle.oc_top.specs.Faults.{token_line};
+ghost use Rattle.oc_top.specs.Sources.{Spells, line_at};
+ghost use Rattle.oc_top.specs.Steps.{IsBuilt, IsNotBuilt, IsReady, IsTurnedDown, for_power, for_sensors, for_tokens, for_tree};
 ghost use Rattle.oc_top.specs.declared.answer.Answer.TheVariants as answers;
 
 use crate::answer::Answer;
 use crate::files::Fetched;
 use oc_io::Memory;
 use oc_isa::image::Image;
-use oc_lex::{LexError, lex};
+use oc_lex::{LexError, Token, lex};
 use oc_machine::machine::Machine;
+use oc_parse::{ParseError, parse};
 use oc_power::power::{PowerError, read_power};
 use oc_power::supply::Supply;
 use oc_sensors::file::{SensorError, read_sensors};
 use oc_sensors::sensors::Sensors;
-use oc_small::compile;
+use oc_small::{CompileError, compile};
+use oc_tree::tree::Program;
 use std::alloc::Global;
 
 /// A newly loaded machine, and the sensors that it reads.
@@ -72,24 +77,75 @@ fn line_of(source: &[u8], at: usize) -> usize
     1 + count_feeds(&source[..at.min(source.len())])
 }
 
+/// The line of the token at a place, or of the last one; 1 where there is none.
+fn token_line(tokens: &[Token], token: usize) -> usize
+    ensures { (source : List ℕ) → result ≡ token_line (lexemes_of source tokens.now) token }
+{
+    match tokens.get(token.min(tokens.len().saturating_sub(1))) {
+        Some(token) => token.line as usize,
+        None => 1,
+    }
+}
+
+fn answer_without_tokens(source: &[u8], error: LexError) -> Answer
+    requires { length source.now ≤ 1048576 }
+    ensures { result ≡ for_tokens source.now error }
+{
+    match error {
+        LexError::Byte { at } | LexError::Literal { at } => Answer::Syntax {
+            line: line_of(source, at),
+        },
+        LexError::Memory => Answer::Memory,
+    }
+}
+
+fn answer_without_tree(tokens: &[Token], error: ParseError) -> Answer
+    ensures { (source : List ℕ) → result ≡ for_tree (lexemes_of source tokens.now) error }
+{
+    match error {
+        ParseError::Syntax { token } | ParseError::Depth { token } => Answer::Syntax {
+            line: token_line(tokens, token),
+        },
+        ParseError::Memory => Answer::Memory,
+    }
+}
+
+/// The tokens of a source.
+fn tokens_of(alloc: Global, source: &[u8]) -> Result<Vec<Token>, Answer>
+    requires { length source.now ≤ 1048576 }
+    ensures tokens { IfOk result (λ ts. AreTokens source.now ts.items) }
+    ensures refused { IfErr result (λ a. IsNotBuilt source.now a) }
+{
+    match lex(alloc, source) {
+        Ok(tokens) => Ok(tokens),
+        Err(error) => Err(answer_without_tokens(source, error)),
+    }
+}
+
+/// The program that a source spells.
+fn program_of(alloc: Global, source: &[u8]) -> Result<Program, Answer>
+    requires { length source.now ≤ 1048576 }
+    ensures spelled { IfOk result (λ p. Spells source.now (program_view p)) }
+    ensures refused { IfErr result (λ a. IsNotBuilt source.now a) }
+{
+    let tokens = tokens_of(alloc, source)?;
+    match parse(alloc, source, &tokens) {
+        Ok(program) => Ok(program),
+        Err(error) => Err(answer_without_tree(&tokens, error)),
+    }
+}
+
 /// The image of the small program that a source spells.
 fn build(alloc: Global, source: &[u8]) -> Result<Image, Answer>
     requires { length source.now ≤ 1048576 }
     ensures built { IfOk result (λ i. IsBuilt source.now i) }
     ensures refused { IfErr result (λ a. IsNotBuilt source.now a) }
 {
-    let tokens = match lex(alloc, source) {
-        Ok(tokens) => tokens,
-        Err(LexError::Byte { at }) | Err(LexError::Literal { at }) => {
-            return Err(Answer::Syntax {
-                line: line_of(source, at),
-            });
-        }
-        Err(LexError::Memory) => return Err(Answer::Memory),
-    };
-    match compile(alloc, source, &tokens)? {
-        Some(image) => Ok(image),
-        None => Err(Answer::NotBuilt),
+    let program = program_of(alloc, source)?;
+    match compile(alloc, &program) {
+        Ok(image) => Ok(image),
+        Err(CompileError::NotSmall { line }) => Err(Answer::NotBuilt { line }),
+        Err(CompileError::Memory) => Err(Answer::Memory),
     }
 }
 

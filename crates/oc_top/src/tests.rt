@@ -162,7 +162,7 @@ fn call_case(alloc: Global, case: &Case, faults: Faults) -> Result<Called, Fail>
 }
 
 /// Refused words, files and sources.
-fn refusals() -> [Case; 15] {
+fn refusals() -> [Case; 17] {
     let fine = "on,off\n6,0\n";
     let syntax = "ocelot: syntax error in line 1\n";
     let not_built = "ocelot: not built in line 1\n";
@@ -186,8 +186,22 @@ fn refusals() -> [Case; 15] {
             "fn main() { let x = 1 < 2 < 3; }",
             NO_READINGS,
             fine,
+            4,
+            "ocelot: syntax error in line 1\n",
+        ),
+        refused(
+            "fn main() {\n    emit(r, 1);\n\n",
+            NO_READINGS,
+            fine,
+            4,
+            "ocelot: syntax error in line 2\n",
+        ),
+        refused(
+            "port r;\nfn main() {\n    emit(r, 1 - 2);\n}",
+            NO_READINGS,
+            fine,
             13,
-            not_built,
+            "ocelot: not built in line 3\n",
         ),
         refused("", NO_READINGS, fine, 13, not_built),
         refused(

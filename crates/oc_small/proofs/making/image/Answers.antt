@@ -1,6 +1,6 @@
 use Rattle.std.proofs.Common.{rules, arith}
 use Rattle.std.proofs.lemmas.Grind.{common_steps}
-use Rattle.oc_small.specs.View.{program_view}
+use Rattle.oc_tree.specs.View.{program_view}
 use Rattle.oc_small.proofs.MadeLaws.{well_made_as}
 use Rattle.oc_small.proofs.making.image.Goals as goal
 

@@ -1,0 +1,53 @@
+-- A source reads in one way.
+use Rattle.std.proofs.Common.{ℕ, ◌-◌, ◌≡◌, ◌∙◌, sym, ap, subst, List, length, Result, Err}
+use Rattle.oc_tree.specs.Tree.{TProgram}
+use Rattle.oc_lex.specs.declared.token.Token.{Token}
+use Rattle.oc_lex.proofs.TokenLaws.{tokens_same, not_both, faults_same}
+use Rattle.oc_grammar.specs.Lexemes.{Lexemes, lexemes_of}
+use Rattle.oc_grammar.specs.Programs.{SpellsProgram}
+use Rattle.oc_grammar.specs.Reading.{Fault}
+use Rattle.oc_grammar.proofs.ProgramLaws.{one_program}
+use Rattle.oc_small.specs.Form.{other_line}
+use Rattle.oc_small.specs.Rules.{is_small}
+use Rattle.oc_top.specs.Faults.{HasFaultAt, tokens_left, token_line}
+use Rattle.oc_top.specs.Sources.{Reading, faulty, other, program, place_of, line_at, IsFaulty, no_tokens, no_tree, Spells, ReadsAs}
+
+same_fault : (f g : Fault) → ◌≡◌ {A = Result TProgram Fault} (Err f) (Err g) → f ≡ g
+same_fault f g e = cc
+
+-- tokens have one fault
+one_fault : (tokens : Lexemes) (a b : ℕ) → HasFaultAt tokens a → HasFaultAt tokens b → a ≡ b
+one_fault tokens a b f g =
+    f.place ∙ ap (λ (x : Fault). length tokens - tokens_left x) (same_fault f.fault g.fault (sym f.reads ∙ g.reads)) ∙ sym g.place
+
+module _ (text : List ℕ) where
+  one_line : (m n : ℕ) → IsFaulty text m → IsFaulty text n → m ≡ n
+  one_line m n (no_tokens f a i) (no_tokens g b j) = i ∙ ap (λ x. line_at text (place_of x)) (faults_same text f g a b) ∙ sym j
+  one_line m n (no_tokens f a i) (no_tree us b u d j) = absurd (not_both text us f b a)
+  one_line m n (no_tree ts a t c i) (no_tokens g b j) = absurd (not_both text ts g a b)
+  one_line m n (no_tree ts a t c i) (no_tree us b u d j) =
+      let same = tokens_same text ts us a b in
+      let d' = subst (λ (vs : List Token). HasFaultAt (lexemes_of text vs) u) same d in
+      i ∙ ap (λ k. token_line (lexemes_of text ts) k) (one_fault (lexemes_of text ts) t u c d') ∙ sym (ap (λ vs. token_line (lexemes_of text vs) u) same) ∙ sym j
+
+  not_faulty : (line : ℕ) (p : TProgram) → Spells text p → IsFaulty text line → ⊥
+  not_faulty line p s (no_tokens f a i) = not_both text s.tokens f s.are_tokens a
+  not_faulty line p s (no_tree ts a t c i) =
+      let same = tokens_same text ts s.tokens a s.are_tokens in
+      c.none p (subst (λ (vs : List Token). SpellsProgram p (lexemes_of text vs)) same s.spelled)
+
+  same_program : (p q : TProgram) → Spells text p → Spells text q → p ≡ q
+  same_program p q s t =
+      let same = tokens_same text s.tokens t.tokens s.are_tokens t.are_tokens in
+      one_program (lexemes_of text s.tokens) p q s.spelled (subst (λ (vs : List Token). SpellsProgram q (lexemes_of text vs)) same t.spelled)
+
+  pub one_reading : (r s : Reading) → ReadsAs text r → ReadsAs text s → r ≡ s
+  one_reading (faulty m) (faulty n) a b = ap faulty (one_line m n a b)
+  one_reading (faulty m) (other n) a b = absurd (not_faulty m b.0 b.1 a)
+  one_reading (faulty m) (program q) a b = absurd (not_faulty m q b.0 a)
+  one_reading (other m) (faulty n) a b = absurd (not_faulty n a.0 a.1 b)
+  one_reading (other m) (other n) a b = ap other (a.3 ∙ ap other_line (same_program a.0 b.0 a.1 b.1) ∙ sym b.3)
+  one_reading (other m) (program q) a b = let e = sym a.2 ∙ ap is_small (same_program a.0 q a.1 b.0) ∙ b.1 in cc e
+  one_reading (program p) (faulty n) a b = absurd (not_faulty n p a.0 b)
+  one_reading (program p) (other n) a b = let e = sym b.2 ∙ ap is_small (same_program b.0 p b.1 a.0) ∙ a.1 in cc e
+  one_reading (program p) (program q) a b = ap program (same_program p q a.0 b.0)

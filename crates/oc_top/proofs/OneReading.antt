@@ -3,6 +3,7 @@ use Rattle.std.proofs.Common.{ℕ, ◌-◌, ◌≡◌, ◌∙◌, sym, ap, subst
 use Rattle.oc_tree.specs.Tree.{TProgram}
 use Rattle.oc_lex.specs.declared.token.Token.{Token}
 use Rattle.oc_lex.proofs.TokenLaws.{tokens_same, not_both, faults_same}
+use Rattle.oc_grammar.specs.Limits.{the_depths}
 use Rattle.oc_grammar.specs.Lexemes.{Lexemes, lexemes_of}
 use Rattle.oc_grammar.specs.Programs.{SpellsProgram}
 use Rattle.oc_grammar.specs.Reading.{Fault}
@@ -34,12 +35,12 @@ module _ (text : List ℕ) where
   not_faulty line p s (no_tokens f a i) = not_both text s.tokens f s.are_tokens a
   not_faulty line p s (no_tree ts a t c i) =
       let same = tokens_same text ts s.tokens a s.are_tokens in
-      c.none p (subst (λ (vs : List Token). SpellsProgram p (lexemes_of text vs)) same s.spelled)
+      c.none p (subst (λ (vs : List Token). SpellsProgram the_depths p (lexemes_of text vs)) same s.spelled)
 
   same_program : (p q : TProgram) → Spells text p → Spells text q → p ≡ q
   same_program p q s t =
       let same = tokens_same text s.tokens t.tokens s.are_tokens t.are_tokens in
-      one_program (lexemes_of text s.tokens) p q s.spelled (subst (λ (vs : List Token). SpellsProgram q (lexemes_of text vs)) same t.spelled)
+      one_program the_depths (lexemes_of text s.tokens) p q s.spelled (subst (λ (vs : List Token). SpellsProgram the_depths q (lexemes_of text vs)) same t.spelled)
 
   pub one_reading : (r s : Reading) → ReadsAs text r → ReadsAs text s → r ≡ s
   one_reading (faulty m) (faulty n) a b = ap faulty (one_line m n a b)

@@ -10,6 +10,7 @@ use Rattle.oc_lex.specs.declared.lexer.LexError.TheVariants as lex_error
 use Rattle.oc_lex.specs.declared.token.Kind.{Kind}
 use Rattle.oc_lex.specs.declared.token.Kind.TheVariants as kinds
 use Rattle.oc_lex.specs.declared.token.Token.{Token}
+use Rattle.oc_grammar.specs.Limits.{the_depths}
 use Rattle.oc_grammar.specs.Lexemes.{lexeme_by, lexemes_of, line_of, front_line}
 use Rattle.oc_grammar.specs.Programs.{SpellsProgram}
 use Rattle.oc_grammar.specs.Reading.{Fault, syntax_fault, depth_fault}
@@ -52,7 +53,7 @@ without_tokens source (lex_error.Literal at) (inr f) = no_tokens (lex_error.Lite
 without_tokens source lex_error.Memory w = tt
 
 module _ (source : List ℕ) (ts : List Token) (a : AreTokens source ts) where
-  faulty_by : (token : ℕ) (f : Fault) → ((p : TProgram) → SpellsProgram p (lexemes_of source ts) → ⊥) → program_at (lexemes_of source ts) ≡ Err f → token ≡ length ts - tokens_left f → IsFaulty source (token_line (lexemes_of source ts) token)
+  faulty_by : (token : ℕ) (f : Fault) → ((p : TProgram) → SpellsProgram the_depths p (lexemes_of source ts) → ⊥) → program_at the_depths (lexemes_of source ts) ≡ Err f → token ≡ length ts - tokens_left f → IsFaulty source (token_line (lexemes_of source ts) token)
   faulty_by token f none reads place = no_tree ts a token (record {
     none = none;
     fault = f;
@@ -60,7 +61,7 @@ module _ (source : List ℕ) (ts : List Token) (a : AreTokens source ts) where
     place = place ∙ ap (λ (n : ℕ). n - tokens_left f) (sym (length-map ts _));
   }) refl
 
-  pub without_tree : (e : ParseError) → ((p : TProgram) → SpellsProgram p (lexemes_of source ts) → e ≡ parse_error.Memory) → Parses (Err e) (length ts) (program_at (lexemes_of source ts)) → IsNotBuilt source (for_tree (lexemes_of source ts) e)
+  pub without_tree : (e : ParseError) → ((p : TProgram) → SpellsProgram the_depths p (lexemes_of source ts) → e ≡ parse_error.Memory) → Parses (Err e) (length ts) (program_at the_depths (lexemes_of source ts)) → IsNotBuilt source (for_tree (lexemes_of source ts) e)
   without_tree (parse_error.Syntax token) only x = faulty_by token (syntax_fault x.0) (λ p s. let e = only p s in absurd cc) x.1 x.2
-  without_tree (parse_error.Depth token) only x = faulty_by token (depth_fault x.0) (λ p s. let e = only p s in absurd cc) x.1 x.2
+  without_tree (parse_error.Depth token) only x = faulty_by token (depth_fault x.0 x.1) (λ p s. let e = only p s in absurd cc) x.2 x.3
   without_tree parse_error.Memory only x = tt

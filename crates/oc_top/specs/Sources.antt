@@ -5,6 +5,7 @@ use Rattle.oc_lex.specs.Tokens.{AreTokens, HasFault, line_feeds}
 use Rattle.oc_lex.specs.declared.token.Token.{Token}
 use Rattle.oc_lex.specs.declared.lexer.LexError.{LexError}
 use Rattle.oc_lex.specs.declared.lexer.LexError.TheVariants as fault
+use Rattle.oc_grammar.specs.Limits.{the_depths}
 use Rattle.oc_grammar.specs.Lexemes.{lexemes_of}
 use Rattle.oc_grammar.specs.Programs.{SpellsProgram}
 use Rattle.oc_small.specs.Form.{other_line}
@@ -36,7 +37,7 @@ pub data IsFaulty (source : List ℕ) (line : ℕ) : Type 0 where
 pub record Spells (source : List ℕ) (p : TProgram) : Type 0 where
   pub tokens : List Token
   pub are_tokens : AreTokens source tokens
-  pub spelled : SpellsProgram p (lexemes_of source tokens)
+  pub spelled : SpellsProgram the_depths p (lexemes_of source tokens)
 
 -- this is how a source reads
 abbrev pub ReadsAs : List ℕ → Reading → Type 0

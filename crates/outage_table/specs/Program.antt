@@ -29,8 +29,9 @@ code =
 abbrev pub targets : List (List Target)
 targets = (Nv 0 1 ∷ (Nv 1 1 ∷ [])) ∷ []
 
-abbrev pub main_function : ImageFunction
-main_function = record { name = codes "main"; entry = 0; params = 0; frame = 1 }
+-- the function `main`, which begins at the first instruction, with a frame of so many words
+abbrev pub main_function : ℕ → ImageFunction
+main_function frame = record { name = codes "main"; entry = 0; params = 0; frame = frame }
 
 abbrev pub word : ℤ → ImageNv
 word initial = record { words = 1; initial = initial }
@@ -38,7 +39,7 @@ word initial = record { words = 1; initial = initial }
 abbrev pub program : Parts
 program = record {
   names = names;
-  functions = main_function ∷ [];
+  functions = main_function 1 ∷ [];
   targets = targets;
   nv = word (pos 7) ∷ (word (pos 9) ∷ []);
   code = code;

@@ -4,19 +4,26 @@
 //! In the table the power fails after each step from 0 to 24, and again after each step from 0 to 16 of
 //! the attempt after that. Then the program runs with an outage in its region, and with one more while
 //! the undo log is put back.
+//!
+//! At last a program without a region runs over what each supply tells of one row, and the number of
+//! periods that the supply has left is written.
 #![tactic(auto)]
 
 ghost use Rattle.std.specs.Prelude.{◌≡◌, ◌<◌, ◌^◌, false};
 ghost use Rattle.oc_power.specs.Total.{total};
 
+mod counting;
 mod program;
 
+use counting::counting;
 use oc_ckpt::{Area, AreaState};
 use oc_io::disk::StdSink;
 use oc_io::period::Period;
 use oc_io::sink::Sink;
 use oc_items::text::put_nv;
 use oc_machine::machine::Machine;
+use oc_power::cutter::Cutter;
+use oc_power::looped::Looped;
 use oc_power::recorded::Recorded;
 use oc_power::supply::Supply;
 use oc_sensors::file::read_sensors;
@@ -99,6 +106,32 @@ fn run_over<O: Sink>(
     put_kept(alloc, &machine, out)
 }
 
+/// Runs the program that counts over what a supply tells of these rows, and writes the report and how
+/// many periods the supply has left.
+fn count_over<O: Sink>(
+    alloc: Global,
+    supply: &mut dyn Supply,
+    rows: &[Period],
+    out: &mut O,
+) -> anyhow::Result<()>
+    requires { total rows.now < 2 ^ 63 }
+{
+    let number = format!(in alloc; "supply {}\n", supply.name())?;
+    out.put(number.as_bytes())?;
+    let mut sensors = read_sensors(alloc, b"time,sensor,value\n", &[])?;
+    supply.feed(rows)?;
+    let image = counting(alloc)?;
+    let mut machine = Machine::load(alloc, image)?;
+    machine.run(&mut sensors, supply, out);
+    let mut left: u64 = 0;
+    while supply.next().is_some() {
+        left = left.saturating_add(1);
+    }
+    let left = format!(in alloc; "left {left}\n")?;
+    out.put(left.as_bytes())?;
+    Ok(())
+}
+
 fn main(rt: HostRuntime) -> anyhow::Result<()> {
     let alloc = rt.alloc();
     let mut out = StdSink::out(&rt);
@@ -117,6 +150,10 @@ fn main(rt: HostRuntime) -> anyhow::Result<()> {
         &[period(18, 10), period(2, 10)],
         &mut out,
     )?;
+    let rows = [period(7, 3)];
+    count_over(alloc, &mut Recorded::new(alloc), &rows, &mut out)?;
+    count_over(alloc, &mut Looped::new(alloc, 64), &rows, &mut out)?;
+    count_over(alloc, &mut Cutter::new(alloc, 3), &rows, &mut out)?;
     out.flush()?;
     Ok(())
 }

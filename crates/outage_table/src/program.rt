@@ -15,7 +15,8 @@ use oc_tree::name::{Name, Names};
 use oc_tree::said::Target;
 use std::alloc::{AllocError, Global};
 
-fn name(alloc: Global, bytes: &[u8]) -> Result<Name, AllocError>
+/// A name of these bytes.
+pub fn name(alloc: Global, bytes: &[u8]) -> Result<Name, AllocError>
     ensures { IfOk result (λ name. name ≡ bytes.now) }
 {
     Ok(Name::new(Vec::from_slice(alloc, bytes)?))
@@ -32,7 +33,8 @@ pub fn names(alloc: Global) -> Result<Names, AllocError>
     })
 }
 
-fn placed(site: u32, instr: Instr) -> Placed
+/// An instruction of a statement.
+pub fn placed(site: u32, instr: Instr) -> Placed
     ensures { result ≡ specs.placed site instr }
 {
     Placed { instr, site }
@@ -81,14 +83,15 @@ fn targets(alloc: Global) -> Result<Vec<Vec<Target>>, AllocError>
     Ok(vec![in alloc; region]?)
 }
 
-fn main_function(alloc: Global) -> Result<ImageFunction, AllocError>
-    ensures { IfOk result (λ function. function ≡ specs.main_function) }
+/// The function `main`, which begins at the first instruction, with a frame of so many words.
+pub fn main_function(alloc: Global, frame: u32) -> Result<ImageFunction, AllocError>
+    ensures { IfOk result (λ function. function ≡ specs.main_function frame) }
 {
     Ok(ImageFunction {
         name: name(alloc, b"main")?,
         entry: 0,
         params: 0,
-        frame: 1,
+        frame,
     })
 }
 
@@ -104,7 +107,7 @@ pub fn program(alloc: Global) -> Result<Image, AllocError>
 {
     Ok(Image::new(RawImage {
         names: names(alloc)?,
-        functions: vec![in alloc; main_function(alloc)?]?,
+        functions: vec![in alloc; main_function(alloc, 1)?]?,
         targets: targets(alloc)?,
         nv: vec![in alloc; word(7), word(9)]?,
         code: code(alloc)?,

@@ -1,0 +1,153 @@
+//! Calls each function that takes memory, with enough of it, and writes what came: a body that always
+//! answers that there is no memory meets its contract, and shows only so. The program of the table of
+//! outages calls `Machine::load`, and the tests of the top call the rest.
+#![tactic(auto)]
+
+ghost use Rattle.std.specs.Prelude.{◌≤◌, length};
+
+use oc_ckpt::Area;
+use oc_io::disk::{DiskShelf, StdSink};
+use oc_io::memory_shelf::MemoryShelf;
+use oc_io::memory_sink::MemorySink;
+use oc_io::period::Period;
+use oc_io::shelf::Shelf;
+use oc_io::sink::Sink;
+use oc_lex::lex;
+use oc_nvm::Nvm;
+use oc_parse::parse;
+use oc_power::cutter::Cutter;
+use oc_power::looped::Looped;
+use oc_power::power::read_power;
+use oc_power::recorded::Recorded;
+use oc_power::supply::Supply;
+use oc_rows::rows::Rows;
+use oc_sensors::file::read_sensors;
+use oc_tree::name::Name;
+use oc_undo::log::UndoLog;
+use std::alloc::{AllocError, Global};
+
+/// Takes a sample and emits it.
+const SOURCE: &[u8] = b"sensor t; port r; fn main() { let x = sense(t); emit(r, x); }";
+
+const SENSORS: &[u8] = b"time,sensor,value\n0,t,21\n";
+
+const POWER: &[u8] = b"on,off\n7,4\n3,1\n0,2\n";
+
+/// Writes that a call gave its result.
+fn fine<O: Sink>(call: &str, out: &mut O) -> anyhow::Result<()> {
+    out.put(b"ok ")?;
+    out.put(call.as_bytes())?;
+    out.put(b"\n")?;
+    Ok(())
+}
+
+/// The parts of a machine.
+fn parts<O: Sink>(alloc: Global, out: &mut O) -> anyhow::Result<()> {
+    Nvm::new(alloc, &[7, 9])?;
+    fine("Nvm::new", out)?;
+    UndoLog::new(alloc, 2)?;
+    fine("UndoLog::new", out)?;
+    Area::new(alloc, 5)?;
+    fine("Area::new", out)
+}
+
+/// The tokens and the tree of a source.
+fn tree<O: Sink>(alloc: Global, source: &[u8], out: &mut O) -> anyhow::Result<()>
+    requires { length source.now ≤ 1048576 }
+{
+    let tokens = lex(alloc, source)?;
+    fine("lex", out)?;
+    parse(alloc, source, &tokens)?;
+    fine("parse", out)
+}
+
+/// The sensor file.
+fn sensors<O: Sink>(alloc: Global, out: &mut O) -> anyhow::Result<()> {
+    let names = vec![in alloc; Name::new(Vec::from_slice(alloc, b"t")?)]?;
+    read_sensors(alloc, SENSORS, &names)?;
+    fine("read_sensors", out)
+}
+
+/// Writes the periods that a supply tells of these rows.
+fn put_told<O: Sink>(
+    alloc: Global,
+    supply: &mut dyn Supply,
+    rows: &[Period],
+    out: &mut O,
+) -> anyhow::Result<()> {
+    supply.feed(rows)?;
+    let number = format!(in alloc; "ok feed {}:", supply.name())?;
+    out.put(number.as_bytes())?;
+    while let Some(period) = supply.next() {
+        let text = format!(in alloc; " {},{}", period.on, period.off)?;
+        out.put(text.as_bytes())?;
+    }
+    out.put(b"\n")?;
+    Ok(())
+}
+
+/// The power file, and what each supply tells of it.
+fn power<O: Sink>(alloc: Global, out: &mut O) -> anyhow::Result<()> {
+    let mut rows = Rows::new(alloc, POWER);
+    rows.step_on()?;
+    fine("Rows::step_on", out)?;
+    let periods = read_power(alloc, POWER)?;
+    fine("read_power", out)?;
+    put_told(alloc, &mut Recorded::new(alloc), &periods, out)?;
+    put_told(alloc, &mut Looped::new(alloc, 2), &periods, out)?;
+    put_told(alloc, &mut Cutter::new(alloc, 3), &periods, out)
+}
+
+/// A shelf in memory that holds the sensor file under `h`.
+fn shelf(alloc: Global) -> Result<MemoryShelf, AllocError> {
+    let mut held = Vec::new(alloc);
+    held.push((
+        String::from_str(alloc, "h")?,
+        Vec::from_slice(alloc, SENSORS)?,
+    ))?;
+    Ok(MemoryShelf::new(held, Vec::new(alloc)))
+}
+
+/// A sink in memory, and what it took.
+fn sink<O: Sink>(alloc: Global, out: &mut O) -> anyhow::Result<()> {
+    let mut sink = MemorySink::new(alloc, 100, Vec::new(alloc))?;
+    fine("MemorySink::new", &mut sink)?;
+    out.put(sink.bytes())?;
+    Ok(())
+}
+
+/// Writes what a shelf gives under a name.
+fn put_held<F: Shelf, O: Sink>(
+    alloc: Global,
+    name: &str,
+    shelf: &mut F,
+    out: &mut O,
+) -> anyhow::Result<()> {
+    out.put(name.as_bytes())?;
+    out.put(b": ")?;
+    match shelf.fetch(alloc, name, 100) {
+        Ok(bytes) => out.put(&bytes)?,
+        Err(error) => {
+            let text = format!(in alloc; "{error}\n")?;
+            out.put(text.as_bytes())?;
+        }
+    }
+    Ok(())
+}
+
+fn main(rt: HostRuntime) -> anyhow::Result<()> {
+    let alloc = rt.alloc();
+    let mut out = StdSink::out(&rt);
+    parts(alloc, &mut out)?;
+    tree(alloc, SOURCE, &mut out)?;
+    sensors(alloc, &mut out)?;
+    power(alloc, &mut out)?;
+    sink(alloc, &mut out)?;
+    let mut disk = DiskShelf::new(&rt);
+    put_held(alloc, "held", &mut disk, &mut out)?;
+    put_held(alloc, "absent", &mut disk, &mut out)?;
+    put_held(alloc, "h", &mut shelf(alloc)?, &mut out)?;
+    put_held(alloc, "absent", &mut shelf(alloc)?, &mut out)?;
+    out.flush()?;
+    Ok(())
+}

@@ -8,3 +8,12 @@ pub mod StatementLaws
 pub mod StatementsRead
 pub mod ProgramLaws
 pub mod NodeLaws
+pub mod Online
+pub mod Together
+pub mod TogetherLists
+pub mod TogetherExpressions
+pub mod TogetherSimple
+pub mod TogetherStatements
+pub mod TogetherPrograms
+pub mod Outcomes
+pub mod FaultLaws

@@ -8,3 +8,4 @@ pub mod Statements
 pub mod ReadingStatements
 pub mod Programs
 pub mod ReadingPrograms
+pub mod Depths

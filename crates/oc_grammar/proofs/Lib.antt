@@ -17,3 +17,4 @@ pub mod TogetherStatements
 pub mod TogetherPrograms
 pub mod Outcomes
 pub mod FaultLaws
+pub mod OneFault

@@ -22,7 +22,7 @@ spent zero ts m e = absurd cc
 spent (suc n) ts m e = ap (λ (k : ℕ). suc k) (ok_is n m e)
 
 -- whether a level is that of comparisons
-is_three : (level : ℕ) → (level ≡ 3) ⊎ (level ≢ 3)
+pub is_three : (level : ℕ) → (level ≡ 3) ⊎ (level ≢ 3)
 is_three level = by_flag (eqb level 3) refl
   where
     by_flag : (b : Bool) → eqb level 3 ≡ b → (level ≡ 3) ⊎ (level ≢ 3)

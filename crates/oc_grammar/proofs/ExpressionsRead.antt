@@ -22,7 +22,7 @@ use Rattle.oc_grammar.proofs.ExpressionLaws.{level_sound, shorter, shorter_arg}
 abbrev pub ShortensExpr : (ℕ → Lexemes → ReadExpr) → Type 0
 ShortensExpr part = (n : ℕ) (ts : Lexemes) (x : TExpr × ℕ × Lexemes) → part n ts ≡ Ok x → length x.2 < length ts
 
-chain_enough : (level : ℕ) (part : ℕ → Lexemes → ReadExpr) → ShortensExpr part → (k j : ℕ) (e : TExpr) (n : ℕ) (ts : Lexemes) → length ts ≤ k → length ts ≤ j → chain level part k e n ts ≡ chain level part j e n ts
+pub chain_enough : (level : ℕ) (part : ℕ → Lexemes → ReadExpr) → ShortensExpr part → (k j : ℕ) (e : TExpr) (n : ℕ) (ts : Lexemes) → length ts ≤ k → length ts ≤ j → chain level part k e n ts ≡ chain level part j e n ts
 unfolding chain operator_front
 chain_enough level part short zero zero e n ts h g = refl
 chain_enough level part short zero (suc j) e n [] h g = refl
@@ -188,7 +188,7 @@ module _ (limits : Limits) where
 
   -- ---- one unary
 
-  unary_literal : (room n line : ℕ) (v : _) (rest : Lexemes) → unary_at limits room n (numeral line v ∷ rest) ≡ Ok (number v, n, rest)
+  pub unary_literal : (room n line : ℕ) (v : _) (rest : Lexemes) → unary_at limits room n (numeral line v ∷ rest) ≡ Ok (number v, n, rest)
   unfolding unary_at next_at
   unary_literal zero n line v rest = refl
   unary_literal (suc room) n line v rest = refl

@@ -112,10 +112,10 @@ word_back words.Bool = refl
 word_back words.Atomic = refl
 word_back words.Underscore = refl
 
-one_mark : (a b : Mark) → mark_number a ≡ mark_number b → a ≡ b
+pub one_mark : (a b : Mark) → mark_number a ≡ mark_number b → a ≡ b
 one_mark a b e = sym (mark_back a) ∙ ap mark_of e ∙ mark_back b
 
-one_word : (a b : Word) → word_number a ≡ word_number b → a ≡ b
+pub one_word : (a b : Word) → word_number a ≡ word_number b → a ≡ b
 one_word a b e = sym (word_back a) ∙ ap word_of e ∙ word_back b
 
 -- ---- what is read in front stands there
@@ -222,7 +222,7 @@ before_some ts (Some op) x e =
     let p = some_is (op, ts) x e in
     (ap (λ (y : BinaryOp × Lexemes). Some y.0) p, ap (λ (y : BinaryOp × Lexemes). y.1) p)
 
-at_level_some : (level : ℕ) (o : Option (BinaryOp × ℕ)) (op : BinaryOp) → at_level level o ≡ Some op → o ≡ Some (op, level)
+pub at_level_some : (level : ℕ) (o : Option (BinaryOp × ℕ)) (op : BinaryOp) → at_level level o ≡ Some op → o ≡ Some (op, level)
 at_level_some level None op e = absurd cc
 at_level_some level (Some x) op e =
     elim (chosen (eqb x.1 level) (Some x.0) None (Some op) e) [

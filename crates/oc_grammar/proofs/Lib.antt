@@ -11,3 +11,13 @@ pub mod NodeLaws
 pub mod LexemeLaws
 pub mod FormLaws
 pub mod NumberLaws
+pub mod Online
+pub mod Together
+pub mod TogetherLists
+pub mod TogetherExpressions
+pub mod TogetherSimple
+pub mod TogetherStatements
+pub mod TogetherPrograms
+pub mod Outcomes
+pub mod FaultLaws
+pub mod OneFault

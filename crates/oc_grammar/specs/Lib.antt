@@ -10,3 +10,4 @@ pub mod Statements
 pub mod ReadingStatements
 pub mod Programs
 pub mod ReadingPrograms
+pub mod Depths

@@ -19,7 +19,7 @@ use Rattle.oc_parse.specs.declared.stop.Stop.TheVariants as stops
 use Rattle.oc_parse.specs.declared.reader.Reader.{Reader}
 use Rattle.oc_parse.specs.declared.statement.Parser.{Parser}
 use Rattle.oc_grammar.specs.ReadingStatements.{ReadNumbered}
-use Rattle.std.specs.Prelude.{◌-◌}
+use Rattle.oc_grammar.specs.Depths.{IsDepth, IsSyntax}
 use Rattle.oc_tree.specs.Tree.{TProgram}
 use Rattle.oc_tree.specs.View.{program_view}
 use Rattle.oc_tree.specs.declared.tree.Program.{Program}
@@ -82,9 +82,9 @@ abbrev pub Whole : Result Program Stop → Result TProgram Fault → Type 0
 Whole (Ok p) read = read ≡ Ok (program_view p)
 Whole (Err e) read = Stopped e read
 
--- a fault stands at its token, in a list of so many tokens
-abbrev pub Parses : Result Program ParseError → ℕ → Result TProgram Fault → Type 0
-Parses (Ok p) count read = read ≡ Ok (program_view p)
-Parses (Err errors.Memory) count read = Unit {0}
-Parses (Err (errors.Syntax token)) count read = (n : ℕ) × (read ≡ Err (syntax_fault n)) × (token ≡ count - n)
-Parses (Err (errors.Depth token)) count read = (d : Depth) × (n : ℕ) × (read ≡ Err (depth_fault d n)) × (token ≡ count - n)
+-- a fault is where the tokens have it
+abbrev pub Faults : Result Program ParseError → Lexemes → Type 0
+Faults (Ok p) tokens = Unit {0}
+Faults (Err errors.Memory) tokens = Unit {0}
+Faults (Err (errors.Syntax token)) tokens = IsSyntax tokens token
+Faults (Err (errors.Depth token)) tokens = IsDepth tokens token

@@ -9,7 +9,7 @@ ghost use Rattle.oc_grammar.specs.Limits.{the_depths};
 ghost use Rattle.oc_grammar.specs.Lexemes.{last_line as last_line_of, lexemes_of};
 ghost use Rattle.oc_grammar.specs.Programs.{SpellsProgram, empty_program};
 ghost use Rattle.oc_grammar.specs.ReadingPrograms.{program_at};
-ghost use Rattle.oc_parse.specs.Steps.{Whole, Parses};
+ghost use Rattle.oc_parse.specs.Steps.{Whole, Faults};
 
 use crate::reader::Reader;
 use crate::statement::Parser;
@@ -48,8 +48,10 @@ pub fn parse(alloc: Global, source: &[u8], tokens: &[Token]) -> Result<Program, 
     ensures form { IfOk result (λ p. InForm (program_view p)) }
     // Its expressions have no more nodes than there are tokens.
     ensures nodes { IfOk result (λ p. program_nodes (program_view p) ≤ length tokens.now) }
-    // A fault is the first that reading from left to right comes to.
-    ensures fault { Parses result (length tokens.now) (program_at the_depths (lexemes_of source.now tokens.now)) }
+    // `Syntax` names the first token up to and with which no program begins, or the number of tokens
+    // where they begin one and spell none, with no depth passed before; `Depth` the first token that
+    // passes a depth while a program begins up to and with it.
+    ensures fault { Faults result (lexemes_of source.now tokens.now) }
 {
     match whole(alloc, source, tokens) {
         Ok(program) => Ok(program),

@@ -1,25 +1,28 @@
 -- A source reads in one way.
-use Rattle.std.proofs.Common.{ℕ, ◌-◌, ◌≡◌, ◌∙◌, sym, ap, subst, List, length, Result, Err}
+use Rattle.std.proofs.Common.{ℕ, ◌≡◌, ◌∙◌, sym, ap, subst, List, inl, inr}
 use Rattle.oc_tree.specs.Tree.{TProgram}
 use Rattle.oc_lex.specs.declared.token.Token.{Token}
 use Rattle.oc_lex.proofs.TokenLaws.{tokens_same, not_both, faults_same}
 use Rattle.oc_grammar.specs.Limits.{the_depths}
 use Rattle.oc_grammar.specs.Lexemes.{Lexemes, lexemes_of}
 use Rattle.oc_grammar.specs.Programs.{SpellsProgram}
-use Rattle.oc_grammar.specs.Reading.{Fault}
 use Rattle.oc_grammar.proofs.ProgramLaws.{one_program}
+use Rattle.oc_grammar.proofs.OneFault.{spelled_no_syntax, spelled_no_depth, one_syntax, syntax_or_depth, one_depth}
 use Rattle.oc_small.specs.Form.{other_line}
 use Rattle.oc_small.specs.Rules.{is_small}
-use Rattle.oc_top.specs.Faults.{HasFaultAt, tokens_left, token_line}
+use Rattle.oc_top.specs.Faults.{HasFaultAt, token_line}
 use Rattle.oc_top.specs.Sources.{Reading, faulty, other, program, place_of, line_at, IsFaulty, no_tokens, no_tree, Spells, ReadsAs}
 
-same_fault : (f g : Fault) → ◌≡◌ {A = Result TProgram Fault} (Err f) (Err g) → f ≡ g
-same_fault f g e = cc
-
--- tokens have one fault
+-- tokens have one fault, and none where they spell a program
 one_fault : (tokens : Lexemes) (a b : ℕ) → HasFaultAt tokens a → HasFaultAt tokens b → a ≡ b
-one_fault tokens a b f g =
-    f.place ∙ ap (λ (x : Fault). length tokens - tokens_left x) (same_fault f.fault g.fault (sym f.reads ∙ g.reads)) ∙ sym g.place
+one_fault tokens a b (inl f) (inl g) = one_syntax tokens a b f g
+one_fault tokens a b (inl f) (inr g) = absurd (syntax_or_depth tokens a b f g)
+one_fault tokens a b (inr f) (inl g) = absurd (syntax_or_depth tokens b a g f)
+one_fault tokens a b (inr f) (inr g) = one_depth tokens a b f g
+
+no_fault : (tokens : Lexemes) (p : TProgram) (a : ℕ) → SpellsProgram the_depths p tokens → HasFaultAt tokens a → ⊥
+no_fault tokens p a s (inl f) = spelled_no_syntax tokens p a s f
+no_fault tokens p a s (inr f) = spelled_no_depth tokens p a s f
 
 module _ (text : List ℕ) where
   one_line : (m n : ℕ) → IsFaulty text m → IsFaulty text n → m ≡ n
@@ -34,8 +37,8 @@ module _ (text : List ℕ) where
   not_faulty : (line : ℕ) (p : TProgram) → Spells text p → IsFaulty text line → ⊥
   not_faulty line p s (no_tokens f a i) = not_both text s.tokens f s.are_tokens a
   not_faulty line p s (no_tree ts a t c i) =
-      let same = tokens_same text ts s.tokens a s.are_tokens in
-      c.none p (subst (λ (vs : List Token). SpellsProgram the_depths p (lexemes_of text vs)) same s.spelled)
+      let same = tokens_same text s.tokens ts s.are_tokens a in
+      no_fault (lexemes_of text ts) p t (subst (λ (vs : List Token). SpellsProgram the_depths p (lexemes_of text vs)) same s.spelled) c
 
   same_program : (p q : TProgram) → Spells text p → Spells text q → p ≡ q
   same_program p q s t =

@@ -8,6 +8,7 @@ pub mod StatementLaws
 pub mod StatementsRead
 pub mod ProgramLaws
 pub mod NodeLaws
+pub mod Turns
 pub mod Online
 pub mod Together
 pub mod TogetherLists

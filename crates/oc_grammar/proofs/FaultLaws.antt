@@ -1,5 +1,5 @@
 -- The first fault of a reading is where the tokens stop to begin a program, or pass a depth.
-use Rattle.std.proofs.Common.{◌≡◌, ℕ, zero, suc, ◌+◌, ◌-◌, ◌<◌, ◌≤◌, Bool, true, false, eqb, List, [], ◌∷◌, ◌++◌, length, Result, Ok, Err, refl, sym, ap, subst, ◌∙◌, arith, append_assoc, append-nil, inl, inr, ◌⊎◌}
+use Rattle.std.proofs.Common.{◌≡◌, ℕ, zero, suc, ◌+◌, ◌-◌, ◌<◌, ◌≤◌, Bool, true, false, eqb, [], ◌∷◌, ◌++◌, length, Result, Ok, Err, refl, sym, ap, subst, ◌∙◌, arith, append_assoc, append-nil, inl, inr, ◌⊎◌}
 use Rattle.std.proofs.lemmas.Bool.{eqb-true, eq-eqb}
 use Rattle.std.proofs.lemmas.List.{length-append}
 use Rattle.oc_tree.specs.Tree.{TProgram}
@@ -8,14 +8,14 @@ use Rattle.oc_lex.specs.declared.token.Word.TheVariants as words
 use Rattle.oc_grammar.specs.Limits.{Limits, the_depths, Depth, blocks_depth, brackets_depth, operators_depth, limit}
 use Rattle.oc_grammar.specs.Lexemes.{Lexeme, Lexemes, keyword, sign, last_line}
 use Rattle.oc_grammar.specs.Reading.{Fault, syntax_fault, depth_fault}
-use Rattle.oc_grammar.specs.Programs.{SpellsProgram, empty_program, no_item}
+use Rattle.oc_grammar.specs.Programs.{empty_program, no_item}
 use Rattle.oc_grammar.specs.ReadingPrograms.{items_at, program_at}
 use Rattle.oc_grammar.specs.Depths.{BeginsWithin, Begins, Opens, curly, round, square, before_minus, before_not, between, Passes, InDepth, IsDepth, IsSyntax, wrong, ended}
 use Rattle.oc_grammar.proofs.ProgramLaws.{program_sound, program_read}
 use Rattle.oc_grammar.proofs.Online.{Positive, is_curly, Online}
 use Rattle.oc_grammar.proofs.TogetherExpressions.{Above, base, up, whole_good, call_args_good}
-use Rattle.oc_grammar.proofs.TogetherPrograms.{programs, items_online, items_end}
-use Rattle.oc_grammar.proofs.Outcomes.{left_of, Completes, within, never_at_end, reads_too, refuses_too, waits_too, Deeper, deep_too, goes_on}
+use Rattle.oc_grammar.proofs.TogetherPrograms.{programs, items_online}
+use Rattle.oc_grammar.proofs.Outcomes.{left_of, Completes, within, never_at_end, reads_too, refuses_too, waits_too, deep_too, goes_on}
 
 -- ---- limits beside limits
 

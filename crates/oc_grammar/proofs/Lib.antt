@@ -11,6 +11,7 @@ pub mod NodeLaws
 pub mod LexemeLaws
 pub mod FormLaws
 pub mod NumberLaws
+pub mod Turns
 pub mod Online
 pub mod Together
 pub mod TogetherLists

@@ -1,12 +1,12 @@
 -- Tokens spell a program, or have one place where they stop, or one where they pass a depth.
-use Rattle.std.proofs.Common.{◌≡◌, ℕ, List, [], ◌∷◌, ◌++◌, length, Result, Ok, Err, refl, sym, ap, subst, ◌∙◌, append_assoc, inl, inr, ◌⊎◌}
+use Rattle.std.proofs.Common.{◌≡◌, ℕ, [], ◌∷◌, ◌++◌, length, Result, Ok, Err, refl, sym, ap, subst, ◌∙◌, append_assoc, inl, inr, ◌⊎◌}
 use Rattle.oc_tree.specs.Tree.{TProgram}
-use Rattle.oc_grammar.specs.Limits.{Limits, the_depths, Depth}
+use Rattle.oc_grammar.specs.Limits.{the_depths}
 use Rattle.oc_grammar.specs.Lexemes.{Lexeme, Lexemes}
 use Rattle.oc_grammar.specs.Reading.{Fault, syntax_fault, depth_fault}
 use Rattle.oc_grammar.specs.Programs.{SpellsProgram}
 use Rattle.oc_grammar.specs.ReadingPrograms.{program_at}
-use Rattle.oc_grammar.specs.Depths.{BeginsWithin, Begins, Passes, InDepth, IsDepth, IsSyntax, wrong, ended}
+use Rattle.oc_grammar.specs.Depths.{BeginsWithin, Begins, IsDepth, IsSyntax, wrong, ended}
 use Rattle.oc_grammar.proofs.ProgramLaws.{program_sound}
 use Rattle.oc_grammar.proofs.FaultLaws.{syntax_there, depth_there}
 

@@ -1,9 +1,8 @@
 -- The fronts of the tokens, read together.
-use Rattle.std.proofs.Common.{◌≡◌, ℕ, zero, suc, ℤ, pos, Bool, true, false, eqb, List, [], ◌∷◌, ◌++◌, length, Option, Some, None, Result, Ok, Err, refl, sym, ap, ◌∙◌, arith, inl, inr, ◌⊎◌}
+use Rattle.std.proofs.Common.{◌≡◌, ℕ, zero, suc, ℤ, pos, Bool, true, false, eqb, [], ◌∷◌, ◌++◌, length, Option, Some, None, Result, Ok, Err, refl, ap, inl, inr, ◌⊎◌}
 use Rattle.std.proofs.lemmas.Bool.{eqb-true}
 use Rattle.oc_tree.specs.Names.{Text}
 use Rattle.oc_lex.specs.declared.token.Word.{Word}
-use Rattle.oc_lex.specs.declared.token.Word.TheVariants as words
 use Rattle.oc_lex.specs.declared.token.Mark.{Mark}
 use Rattle.oc_lex.specs.declared.token.Mark.TheVariants as marks
 use Rattle.oc_grammar.specs.Limits.{Depth}
@@ -12,7 +11,7 @@ use Rattle.oc_grammar.specs.Fronts.{a_sign, a_keyword, mark_operator}
 use Rattle.oc_grammar.specs.Reading.{Fault, depth_fault, next_at, ◌>>=◌, with_some, refuse, mark_number, word_number, strip_mark, strip_word, expect_mark, expect_word, name_at, number_at, operator_front}
 use Rattle.oc_grammar.specs.Depths.{Opens}
 use Rattle.oc_grammar.proofs.FrontLaws.{one_mark, one_word, sign_expect, keyword_expect}
-use Rattle.oc_grammar.proofs.Online.{Reading, Shape, shaped, shape, Positive, lead_bind, is_curly, Takes, Plain, Follows, Live, Ready, live_same, ready_same, live_bind, ready_bind, widen, End, waits, ends, Online, far, near, Step, refused, gives, both_deep, one_deep, taken, same, same_end, same_step, wider, step_of, end_of, bind, fewer}
+use Rattle.oc_grammar.proofs.Online.{Reading, Shape, shaped, shape, Positive, lead_bind, is_curly, Takes, Plain, Live, Ready, live_same, ready_same, live_bind, ready_bind, widen, waits, ends, Online, far, near, Step, refused, gives, both_deep, one_deep, taken, same, same_end, same_step, wider, step_of, end_of, bind}
 
 -- ---- what may be in front
 

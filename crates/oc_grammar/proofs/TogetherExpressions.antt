@@ -1,5 +1,5 @@
 -- Expressions, read together.
-use Rattle.std.proofs.Common.{◌≡◌, ◌≢◌, ℕ, zero, suc, ℤ, pos, ◌<◌, ◌≤◌, Bool, true, false, cond, eqb, List, [], ◌∷◌, ◌++◌, length, Option, Some, None, Result, Ok, Err, refl, sym, ap, subst, ◌∙◌, arith, inl, inr, ◌⊎◌}
+use Rattle.std.proofs.Common.{◌≡◌, ℕ, zero, suc, pos, Bool, true, false, List, [], ◌∷◌, length, Option, Some, None, Ok, refl, sym, ap, subst, arith, inl, inr, ◌⊎◌}
 use Rattle.oc_tree.specs.Names.{Text}
 use Rattle.oc_tree.specs.Tree.{TExpr, number, truth, variable, index, deref, unary, binary, sensed, called, TArg, value, call}
 use Rattle.oc_tree.specs.View.{args_of}
@@ -12,17 +12,16 @@ use Rattle.oc_lex.specs.declared.token.Mark.TheVariants as marks
 use Rattle.oc_grammar.specs.Limits.{Limits, Depth, brackets_depth, operators_depth}
 use Rattle.oc_grammar.specs.Lexemes.{Lexeme, Lexemes, named, numeral, keyword, sign}
 use Rattle.oc_grammar.specs.Fronts.{infix_of}
-use Rattle.oc_grammar.specs.Depths.{Opens, round, square, before_minus, before_not, between}
-use Rattle.oc_grammar.specs.Reading.{Fault, syntax_fault, depth_fault, Read, ◌>>=◌, with_some, refuse, next_at, strip_mark, strip_word, expect_mark, name_at, take_word, at_level, operator_of, before, operator_front, listed_by}
-use Rattle.oc_grammar.specs.ReadingExpressions.{ReadExpr, spend_at, chain, most, levels, unary_by, prefix_by, parens_by, element_by, result_by, named_by, input_by, whole_by, reference, reference_by, arg_by, sensor_at, unary_at, level_at, part_at, whole_at, prefixed_at, inner_at, args_at, arg_at, inner_args_at, inner_sensor_at, unary_here}
+use Rattle.oc_grammar.specs.Depths.{round, square, before_minus, before_not, between}
+use Rattle.oc_grammar.specs.Reading.{◌>>=◌, with_some, refuse, strip_mark, strip_word, expect_mark, name_at, take_word, operator_of, operator_front, listed_by}
+use Rattle.oc_grammar.specs.ReadingExpressions.{ReadExpr, spend_at, chain, most, levels, unary_by, prefix_by, parens_by, element_by, result_by, named_by, input_by, whole_by, reference, reference_by, arg_by, sensor_at, unary_at, level_at, part_at, whole_at, prefixed_at, inner_at, args_at, inner_args_at, inner_sensor_at, unary_here}
 use Rattle.oc_grammar.proofs.FrontLaws.{bind_same, with_some_same, at_level_some, front_ok, infix_shorter}
-use Rattle.oc_grammar.proofs.ListLaws.{Shortens, listed_at}
 use Rattle.oc_grammar.proofs.UnaryLaws.{unary_is}
 use Rattle.oc_grammar.proofs.ExpressionLaws.{is_three, most_other, arg_shorter}
 use Rattle.oc_grammar.proofs.ExpressionsRead.{ShortensExpr, level_shorter, chain_enough, chain_stopped, unary_literal}
-use Rattle.oc_grammar.proofs.Online.{Reading, Shape, shaped, shape, Positive, is_curly, Takes, Plain, Live, Ready, live_bind, ready_bind, ready_same, ready_given, End, waits, Online, far, near, Step, refused, gives, taken, same, bind}
-use Rattle.oc_grammar.proofs.Together.{over, reads, rest_of, IsMark, IsWord, AtFront, Fronts, mark_fronts, word_fronts, Fair, Good, fair, given, good_same, fair_same, good_bind, fair_bind, go, choose, optional, calm_word, with_some_apply, dispatch, refused_at, close_round, closing_round, close_square, open_round, name_good, plain_number, plain_mark, Opened, opened, deep_both, deep_one, opened_step, opened_into}
-use Rattle.oc_grammar.proofs.TogetherLists.{list_good, list_live}
+use Rattle.oc_grammar.proofs.Online.{Shape, shaped, Positive, is_curly, Live, Ready, live_bind, ready_bind, ready_given, Online, far, Step, refused, taken, same, bind}
+use Rattle.oc_grammar.proofs.Together.{reads, rest_of, IsMark, IsWord, AtFront, Fronts, mark_fronts, word_fronts, Fair, Good, fair, given, good_same, good_bind, go, choose, optional, calm_word, with_some_apply, dispatch, refused_at, close_round, close_square, name_good, plain_number, Opened, opened, deep_both, deep_one, opened_step, opened_into}
+use Rattle.oc_grammar.proofs.TogetherLists.{list_good}
 
 -- what the second may still use is so much more
 pub data Above (d : ℕ) : ℕ → ℕ → Type 0 where

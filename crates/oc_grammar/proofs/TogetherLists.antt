@@ -1,14 +1,12 @@
 -- Things with commas between them, read together.
-use Rattle.std.proofs.Common.{◌≡◌, ◌≢◌, ℕ, zero, suc, ℤ, pos, ◌<◌, ◌≤◌, Bool, true, false, cond, eqb, List, [], ◌∷◌, ◌++◌, length, Option, Some, None, Result, Ok, Err, refl, sym, ap, subst, ◌∙◌, arith, inl, inr, ◌⊎◌}
-use Rattle.std.specs.Prelude.{unsigned_abs}
-use Rattle.oc_tree.specs.Names.{Text}
+use Rattle.std.proofs.Common.{◌≡◌, ℕ, zero, suc, false, List, [], ◌∷◌, Option, Some, None, Ok, refl, sym, arith}
 use Rattle.oc_lex.specs.declared.token.Mark.TheVariants as marks
 use Rattle.oc_grammar.specs.Limits.{Depth}
 use Rattle.oc_grammar.specs.Lexemes.{Lexeme, Lexemes, sign}
-use Rattle.oc_grammar.specs.Reading.{Fault, Read, ◌>>=◌, with_some, strip_mark, expect_mark, listed_by}
+use Rattle.oc_grammar.specs.Reading.{Read, ◌>>=◌, with_some, strip_mark, expect_mark, listed_by}
 use Rattle.oc_grammar.proofs.ListLaws.{Shortens, listed_at, behind, listed_turn, listed_closed}
-use Rattle.oc_grammar.proofs.Online.{Reading, is_curly, Live, Ready, ready_given, Online, far, same, bind, later, live_bind, taken}
-use Rattle.oc_grammar.proofs.Together.{reads, rest_of, IsMark, mark_fronts, Fair, Good, fair, given, good_bind, go, choose, close_round, closing_round, plain_mark}
+use Rattle.oc_grammar.proofs.Online.{is_curly, Live, Ready, ready_given, Online, far, same, bind, later, live_bind, taken}
+use Rattle.oc_grammar.proofs.Together.{reads, rest_of, IsMark, mark_fronts, Good, fair, given, good_bind, go, choose, close_round, closing_round, plain_mark}
 
 pub listed_go : {A : Type 0} (part : Lexemes → Read A) → Shortens part → (ts : Lexemes) → listed_at part ts ≡ with_some (strip_mark marks.CloseRound ts) (part ts >>= behind (listed_at part)) (λ us. Ok ([], us))
 listed_go part short ts = by_front (strip_mark marks.CloseRound ts) refl

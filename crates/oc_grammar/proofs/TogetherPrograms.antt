@@ -1,5 +1,5 @@
 -- Functions, declarations and programs, read together.
-use Rattle.std.proofs.Common.{◌≡◌, ℕ, zero, suc, ◌<◌, Bool, true, false, List, [], ◌∷◌, length, Option, Some, None, Result, Ok, refl, sym, subst, ◌∙◌, arith, ◌⊎◌}
+use Rattle.std.proofs.Common.{◌≡◌, ℕ, zero, suc, Bool, true, false, List, [], ◌∷◌, Option, Some, None, Ok, refl, sym, arith, ◌⊎◌}
 use Rattle.oc_tree.specs.Names.{Text}
 use Rattle.oc_tree.specs.Tree.{TExpr, TArg, TFunction, TProgram}
 use Rattle.oc_tree.specs.declared.tree.Scalar.{Scalar}
@@ -12,48 +12,18 @@ use Rattle.oc_lex.specs.declared.token.Word.TheVariants as words
 use Rattle.oc_lex.specs.declared.token.Mark.TheVariants as marks
 use Rattle.oc_grammar.specs.Limits.{Depth, blocks_depth, Limits}
 use Rattle.oc_grammar.specs.Lexemes.{Lexeme, Lexemes, keyword, sign}
-use Rattle.oc_grammar.specs.Reading.{Fault, Read, ◌>>=◌, with_some, next_at, strip_mark, strip_word, expect_mark, name_at, take_word}
+use Rattle.oc_grammar.specs.Reading.{◌>>=◌, next_at, strip_mark, strip_word, expect_mark, take_word}
 use Rattle.oc_grammar.specs.ReadingExpressions.{args_at, whole_at}
-use Rattle.oc_grammar.specs.ReadingStatements.{array_at, const_at, type_at, block_at}
 use Rattle.oc_grammar.specs.Programs.{with_sensor, with_port, with_nv, with_function}
 use Rattle.oc_grammar.specs.ReadingPrograms.{reference_to, passing_at, param_from, param_at, params_at, scalar_from, scalar_at, result_at, function_at, cells_from, cells_at, nv_at, declared_at, item_by, item_at, items_by, items_at}
-use Rattle.oc_grammar.proofs.FrontLaws.{bind_same}
-use Rattle.oc_grammar.proofs.ProgramLaws.{param_at_shorter, item_sound, item_shorter}
-use Rattle.oc_grammar.proofs.Online.{Reading, Shape, shaped, shape, Positive, is_curly, Plain, Live, Ready, Online, far, near, Step, refused, taken, ends, same_step, step_of, bind, later, live_bind, ready_given}
-use Rattle.oc_grammar.proofs.Together.{over, reads, rest_of, IsMark, IsWord, mark_fronts, word_fronts, plain_end, plain_word, Fair, Good, Mostly, Lately, fair, fair_wide, good_wide, given, good_same, good_bind, fair_bind, mostly_bind, lately_bind, lately, mostly_good, name_then, name_then_good, go, optional, calm_word, with_some_apply, dispatch, mark_fair, name_good, open_round, semicolon, assign_mark}
+use Rattle.oc_grammar.proofs.ProgramLaws.{param_at_shorter}
+use Rattle.oc_grammar.proofs.Turns.{item_at_shorter, next_items, items_end, items_go}
+use Rattle.oc_grammar.proofs.Online.{Shape, shaped, Positive, is_curly, Ready, Online, far, near, Step, refused, taken, ends, same_step, step_of, bind, later, live_bind, ready_given}
+use Rattle.oc_grammar.proofs.Together.{over, reads, rest_of, IsMark, IsWord, mark_fronts, word_fronts, plain_end, plain_word, Fair, Good, Mostly, fair, fair_wide, given, good_same, good_bind, fair_bind, mostly_bind, lately_bind, name_then, name_then_good, go, optional, calm_word, with_some_apply, dispatch, mark_fair, name_good, open_round, semicolon, assign_mark}
 use Rattle.oc_grammar.proofs.TogetherLists.{list_good}
 use Rattle.oc_grammar.proofs.TogetherExpressions.{Above}
 use Rattle.oc_grammar.proofs.TogetherSimple.{int_starts, array_good, type_good, const_good}
 use Rattle.oc_grammar.proofs.TogetherStatements.{numbered, with_numbers, body_mostly}
-
--- ---- any number of items that is enough
-
-pub item_at_shorter : (limits : Limits) (p : TProgram) (n b : ℕ) (ts : Lexemes) (x : TProgram × ℕ × ℕ × Lexemes) → item_at limits p n b ts ≡ Ok x → length x.3 < length ts
-item_at_shorter limits p n b ts x e = item_shorter limits (item_sound limits p n b ts x e)
-
-pub items_enough : (limits : Limits) (k j : ℕ) (p : TProgram) (n b : ℕ) (ts : Lexemes) → length ts < k → length ts < j → items_by limits k p n b ts ≡ items_by limits j p n b ts
-unfolding items_by
-items_enough limits zero j p n b ts h g = absurd (omega arith)
-items_enough limits (suc k) zero p n b ts h g = absurd (omega arith)
-items_enough limits (suc k) (suc j) p n b [] h g = refl
-items_enough limits (suc k) (suc j) p n b (t ∷ ts) h g =
-    bind_same (item_at limits p n b (t ∷ ts)) _ _ (λ x e.
-    let l = item_at_shorter limits p n b (t ∷ ts) x e in
-    items_enough limits k j x.0 x.1 x.2 x.3 (omega arith) (omega arith))
-
-abbrev pub next_items : Limits → TProgram × ℕ × ℕ × Lexemes → Result TProgram Fault
-next_items limits x = items_at limits x.0 x.1 x.2 x.3
-
-pub items_go : (limits : Limits) (p : TProgram) (n b : ℕ) (t : Lexeme) (ts : Lexemes) → items_at limits p n b (t ∷ ts) ≡ (item_at limits p n b (t ∷ ts) >>= next_items limits)
-unfolding items_by items_at
-items_go limits p n b t ts =
-    bind_same (item_at limits p n b (t ∷ ts)) _ _ (λ x e.
-    let l = item_at_shorter limits p n b (t ∷ ts) x e in
-    items_enough limits (suc (length ts)) (suc (length x.3)) x.0 x.1 x.2 x.3 (omega arith) (omega arith))
-
-pub items_end : (limits : Limits) (p : TProgram) (n b : ℕ) → items_at limits p n b [] ≡ Ok p
-unfolding items_by items_at
-items_end limits p n b = refl
 
 -- two programs that grow together
 abbrev pub grown : Shape (TProgram × TProgram × ℕ × ℕ) (TProgram × ℕ × ℕ) (TProgram × ℕ × ℕ × Lexemes) (TProgram × ℕ × ℕ × Lexemes)

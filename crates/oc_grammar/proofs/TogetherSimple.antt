@@ -15,7 +15,7 @@ use Rattle.oc_grammar.specs.ReadingExpressions.{args_at, whole_at}
 use Rattle.oc_grammar.specs.Statements.{opposite, right_of}
 use Rattle.oc_grammar.specs.ReadingStatements.{array_at, type_from, type_at, const_at, right_at, note_at, fill_at, assign_at, element_to_at, target_at, call_at, sense_at, emit_at, fresh_at, consistent_at, return_at, bind_at, let_from, let_at, set_at, simple_from}
 use Rattle.oc_grammar.proofs.Online.{Online, far, Step, refused}
-use Rattle.oc_grammar.proofs.Together.{over, reads, rest_of, IsMark, IsWord, mark_fronts, word_fronts, Starting, plain_word, plain_number, Fair, Good, fair, given, good_same, good_bind, fair_bind, go, choose, optional, calm_word, with_some_apply, dispatch, word_good, name_good, number_good, open_round, close_round, close_square, semicolon, assign_mark, comma}
+use Rattle.oc_grammar.proofs.Together.{reads, rest_of, IsMark, IsWord, mark_fronts, word_fronts, Starting, plain_word, plain_number, Fair, Good, fair, given, good_same, good_bind, fair_bind, go, choose, optional, calm_word, with_some_apply, dispatch, word_good, name_good, number_good, open_round, close_round, close_square, semicolon, assign_mark, comma}
 
 abbrev pub int_starts : Starting words.Int
 int_starts = record { other_mutable = refl; other_else = refl; other_if = refl }

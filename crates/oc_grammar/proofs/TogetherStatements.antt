@@ -1,22 +1,21 @@
 -- Statements and blocks, read together.
-use Rattle.std.proofs.Common.{◌≡◌, ℕ, zero, suc, ◌<◌, Bool, true, false, List, [], ◌∷◌, length, Option, Some, None, Result, Ok, Err, refl, sym, ap, subst, ◌∙◌, arith, inl, inr, ◌⊎◌}
+use Rattle.std.proofs.Common.{◌≡◌, ℕ, zero, suc, true, false, List, [], ◌∷◌, length, Result, Ok, refl, sym, subst, ◌∙◌, arith, inl, inr, ◌⊎◌}
 use Rattle.std.specs.Prelude.{unsigned_abs}
-use Rattle.oc_tree.specs.Names.{Text}
 use Rattle.oc_tree.specs.Tree.{TExpr, TArg, TKind, if_else, for_in, while_do, TElse, no_else, else_do, TStmt, stmt, TBlock, block, no_stmts, more}
 use Rattle.oc_tree.specs.View.{stmts_of}
 use Rattle.oc_lex.specs.declared.token.Word.TheVariants as words
 use Rattle.oc_lex.specs.declared.token.Mark.TheVariants as marks
 use Rattle.oc_grammar.specs.Limits.{Depth, blocks_depth, Limits}
 use Rattle.oc_grammar.specs.Depths.{curly}
-use Rattle.oc_grammar.specs.Lexemes.{Lexeme, Lexemes, named, numeral, keyword, sign, line_of}
-use Rattle.oc_grammar.specs.Reading.{Fault, ◌>>=◌, with_some, refuse, too_deep, next_at, strip_mark, strip_word, expect_mark, expect_word, name_at, number_at}
+use Rattle.oc_grammar.specs.Lexemes.{Lexeme, Lexemes, keyword, sign, line_of}
+use Rattle.oc_grammar.specs.Reading.{Fault, ◌>>=◌, with_some, refuse, too_deep, strip_mark, strip_word, expect_mark}
 use Rattle.oc_grammar.specs.ReadingExpressions.{args_at, whole_at}
-use Rattle.oc_grammar.specs.ReadingStatements.{const_at, simple_from, ReadNumbered, if_by, for_by, while_by, simple_by, kind_by, stmt_by, stmts_by, stmt_at, stmts_at, stmt_here, block_at, chained_at, else_at}
-use Rattle.oc_grammar.proofs.FrontLaws.{bind_ok, bind_same, with_some_same}
-use Rattle.oc_grammar.proofs.StatementLaws.{stmt_sound, stmt_shorter}
+use Rattle.oc_grammar.specs.ReadingStatements.{simple_from, ReadNumbered, if_by, for_by, while_by, simple_by, kind_by, stmts_by, stmt_at, stmts_at, stmt_here, block_at, chained_at, else_at}
+use Rattle.oc_grammar.proofs.FrontLaws.{bind_ok}
 use Rattle.oc_grammar.proofs.StatementsRead.{stmt_is}
-use Rattle.oc_grammar.proofs.Online.{Reading, Shape, shape, Positive, is_curly, Plain, Live, Ready, ready_given, live_bind, ready_bind, Online, far, near, Step, refused, taken, both_deep, one_deep, same, same_step, bind, bind_step, later, cut}
-use Rattle.oc_grammar.proofs.Together.{over, reads, rest_of, IsMark, IsWord, mark_fronts, word_fronts, Closing, plain_mark, Fair, Good, Mostly, fair, good_wide, fair_wide, given, good_bind, fair_bind, mostly_bind, go, choose, optional, calm_word, dispatch, expect_bind, peek_online, refused_at, mark_good, word_good, name_good, number_good}
+use Rattle.oc_grammar.proofs.Turns.{stmt_at_shorter, onward, stmts_go}
+use Rattle.oc_grammar.proofs.Online.{Reading, Shape, shape, Positive, is_curly, Live, Ready, ready_given, live_bind, ready_bind, Online, far, Step, refused, taken, both_deep, one_deep, same, bind, bind_step, later, cut}
+use Rattle.oc_grammar.proofs.Together.{reads, rest_of, IsMark, IsWord, mark_fronts, word_fronts, Closing, plain_mark, Good, Mostly, fair, fair_wide, given, good_bind, fair_bind, mostly_bind, go, choose, optional, dispatch, expect_bind, peek_online, refused_at, mark_good, word_good, name_good, number_good}
 use Rattle.oc_grammar.proofs.TogetherExpressions.{Above, base, up}
 use Rattle.oc_grammar.proofs.TogetherSimple.{const_good, Simply, simply}
 
@@ -25,35 +24,6 @@ numbered A = shape (λ i ts. (i.0, i.1, i.2, ts)) (λ i ts. (i.0, i.1, i.2, ts))
 
 abbrev pub with_numbers : {A : Type 0} → A × ℕ × ℕ → Lexemes → A × ℕ × ℕ × Lexemes
 with_numbers i ts = (i.0, i.1, i.2, ts)
-
--- ---- any number of statements that is enough
-
-pub stmt_at_shorter : (limits : Limits) (room n b : ℕ) (ts : Lexemes) (x : TStmt × ℕ × ℕ × Lexemes) → stmt_at limits room n b ts ≡ Ok x → length x.3 < length ts
-stmt_at_shorter limits room n b ts x e = stmt_shorter limits (stmt_sound limits room n b ts x e)
-
-pub stmts_enough : (limits : Limits) (room k j n b : ℕ) (ts : Lexemes) → length ts < k → length ts < j → stmts_by (stmt_at limits room) k n b ts ≡ stmts_by (stmt_at limits room) j n b ts
-unfolding stmts_by
-stmts_enough limits room zero j n b ts h g = absurd (omega arith)
-stmts_enough limits room (suc k) zero n b ts h g = absurd (omega arith)
-stmts_enough limits room (suc k) (suc j) n b ts h g =
-    with_some_same (strip_mark marks.CloseCurly ts) _ _ _ _
-    (λ _. bind_same (stmt_at limits room n b ts) _ _ (λ s e.
-    let l = stmt_at_shorter limits room n b ts s e in
-    ap (λ (r : ReadNumbered (List TStmt)). r >>= λ x. Ok (s.0 ∷ x.0, x.1, x.2, x.3)) (stmts_enough limits room k j s.1 s.2 s.3 (omega arith) (omega arith))))
-    (λ us _. refl)
-
--- behind one statement
-abbrev pub onward : Limits → ℕ → TStmt × ℕ × ℕ × Lexemes → ReadNumbered (List TStmt)
-onward limits room s = stmts_at limits room s.1 s.2 s.3 >>= λ x. Ok (s.0 ∷ x.0, x.1, x.2, x.3)
-
-pub stmts_go : (limits : Limits) (room n b : ℕ) (ts : Lexemes) → stmts_at limits room n b ts ≡ with_some (strip_mark marks.CloseCurly ts) (stmt_at limits room n b ts >>= onward limits room) (λ us. Ok ([], n, b, us))
-unfolding stmts_by stmts_at
-stmts_go limits room n b ts =
-    with_some_same (strip_mark marks.CloseCurly ts) _ _ _ _
-    (λ _. bind_same (stmt_at limits room n b ts) _ _ (λ s e.
-    let l = stmt_at_shorter limits room n b ts s e in
-    ap (λ (r : ReadNumbered (List TStmt)). r >>= λ x. Ok (s.0 ∷ x.0, x.1, x.2, x.3)) (stmts_enough limits room (length ts) (suc (length s.3)) s.1 s.2 s.3 (omega arith) (omega arith))))
-    (λ us _. refl)
 
 -- no block is read where none may stand
 no_block_read : (limits : Limits) (n b : ℕ) (ts : Lexemes) (x : TBlock × ℕ × ℕ × Lexemes) → block_at limits 0 n b ts ≡ Ok x → ⊥

@@ -1,5 +1,5 @@
 -- Where the tokens stop to begin a program, and where they pass a depth.
-use Rattle.std.specs.Prelude.{◌≡◌, ℕ, List, [], ◌∷◌, ◌++◌, length, Some}
+use Rattle.std.specs.Prelude.{◌≡◌, ℕ, [], ◌∷◌, ◌++◌, length, Some}
 use Rattle.oc_tree.specs.Tree.{TProgram}
 use Rattle.oc_tree.specs.declared.tree.BinaryOp.{BinaryOp}
 use Rattle.oc_lex.specs.declared.token.Mark.TheVariants as marks
@@ -19,8 +19,8 @@ pub record Begins (tokens : Lexemes) : Type 0 where
   pub limits : Limits
   pub within : BeginsWithin limits tokens
 
--- the tokens that can pass each depth; the `if` of an `else if` opens a block too, but it comes too
--- late to be the first: the `{` before that `else` stands in the same blocks
+-- the tokens that can pass each depth first; the `if` of an `else if` opens a block too, but where it is
+-- one too many, the block before its `else` was one too many already
 pub data Opens : Depth → Lexeme → Type 0 where
   curly : {line : ℕ} → Opens blocks_depth (sign line marks.OpenCurly)
   round : {line : ℕ} → Opens brackets_depth (sign line marks.OpenRound)

@@ -8,40 +8,18 @@ use Rattle.oc_grammar.specs.Limits.{blocks_depth, the_depths}
 use Rattle.oc_grammar.specs.Lexemes.{Lexemes}
 use Rattle.oc_grammar.specs.Reading.{depth_fault, ◌>>=◌, strip_mark, expect_mark}
 use Rattle.oc_grammar.specs.ReadingStatements.{ReadNumbered, stmts_by, stmt_at, stmts_at, stmt_here, block_at, chained_at}
-use Rattle.oc_grammar.proofs.FrontLaws.{bind_same, with_some_same}
-use Rattle.oc_grammar.proofs.StatementLaws.{stmt_sound, stmt_shorter}
 use Rattle.oc_grammar.proofs.StatementsRead.{stmt_is}
+use Rattle.oc_grammar.proofs.Turns.{onward, stmts_go}
 use Rattle.oc_parse.specs.declared.stop.Stop.{Stop}
 use Rattle.oc_parse.specs.Steps.{Stopped}
 use Rattle.oc_parse.proofs.Loops.{stopped_bind, stopped_along}
-
-stmt_at_shorter : (room n b : ℕ) (ts : Lexemes) (x : TStmt × ℕ × ℕ × Lexemes) → stmt_at the_depths room n b ts ≡ Ok x → length x.3 < length ts
-stmt_at_shorter room n b ts x e = stmt_shorter the_depths (stmt_sound the_depths room n b ts x e)
-
-stmts_enough : (room k j n b : ℕ) (ts : Lexemes) → length ts < k → length ts < j → stmts_by (stmt_at the_depths room) k n b ts ≡ stmts_by (stmt_at the_depths room) j n b ts
-unfolding stmts_by
-stmts_enough room zero j n b ts h g = absurd (omega arith)
-stmts_enough room (suc k) zero n b ts h g = absurd (omega arith)
-stmts_enough room (suc k) (suc j) n b ts h g =
-    with_some_same (strip_mark marks.CloseCurly ts) _ _ _ _
-    (λ _. bind_same (stmt_at the_depths room n b ts) _ _ (λ s e.
-    let l = stmt_at_shorter room n b ts s e in
-    ap (λ (r : ReadNumbered (List TStmt)). r >>= λ x. Ok (s.0 ∷ x.0, x.1, x.2, x.3)) (stmts_enough room k j s.1 s.2 s.3 (omega arith) (omega arith))))
-    (λ us _. refl)
 
 -- what was read before, and then what is read
 abbrev pub afterwards : List TStmt → ReadNumbered (List TStmt) → ReadNumbered (List TStmt)
 afterwards front read = read >>= λ x. Ok (front ++ x.0, x.1, x.2, x.3)
 
-abbrev onward : ℕ → TStmt × ℕ × ℕ × Lexemes → ReadNumbered (List TStmt)
-onward room s = stmts_at the_depths room s.1 s.2 s.3 >>= λ x. Ok (s.0 ∷ x.0, x.1, x.2, x.3)
-
-stmts_turn : (room n b : ℕ) (ts : Lexemes) → strip_mark marks.CloseCurly ts ≡ None → stmts_at the_depths room n b ts ≡ (stmt_at the_depths room n b ts >>= onward room)
-unfolding stmts_by stmts_at
-stmts_turn room n b ts none =
-    rw none (bind_same (stmt_at the_depths room n b ts) _ _ (λ s e.
-    let l = stmt_at_shorter room n b ts s e in
-    ap (λ (r : ReadNumbered (List TStmt)). r >>= λ x. Ok (s.0 ∷ x.0, x.1, x.2, x.3)) (stmts_enough room (length ts) (suc (length s.3)) s.1 s.2 s.3 (omega arith) (omega arith))))
+stmts_turn : (room n b : ℕ) (ts : Lexemes) → strip_mark marks.CloseCurly ts ≡ None → stmts_at the_depths room n b ts ≡ (stmt_at the_depths room n b ts >>= onward the_depths room)
+stmts_turn room n b ts none = stmts_go the_depths room n b ts ∙ rw none refl
 
 afterwards_more : (front : List TStmt) (s : TStmt) (read : ReadNumbered (List TStmt)) → afterwards front (read >>= λ x. Ok (s ∷ x.0, x.1, x.2, x.3)) ≡ afterwards (front ++ s ∷ []) read
 afterwards_more front s (Ok y) = ap (λ (l : List TStmt). Ok (l, y.1, y.2, y.3)) (sym (append_assoc front (s ∷ []) y.0))
@@ -56,7 +34,7 @@ block_goes_on room front n b ts s n' b' us total none e so_far =
 pub block_stops : (room : ℕ) (front : List TStmt) (n b : ℕ) (ts : Lexemes) (s : Stop) (total : ReadNumbered (List TStmt)) → strip_mark marks.CloseCurly ts ≡ None → Stopped s (stmt_here the_depths room n b ts) → afterwards front (stmts_at the_depths room n b ts) ≡ total → Stopped s total
 block_stops room front n b ts s total none h so_far =
     stopped_along s _ total (sym (ap (λ (r : ReadNumbered (List TStmt)). afterwards front r) (stmts_turn room n b ts none)) ∙ so_far)
-    (stopped_bind s (stmt_at the_depths room n b ts >>= onward room) _ (stopped_bind s (stmt_at the_depths room n b ts) (onward room) (stopped_along s (stmt_here the_depths room n b ts) (stmt_at the_depths room n b ts) (sym (stmt_is the_depths room n b ts)) h)))
+    (stopped_bind s (stmt_at the_depths room n b ts >>= onward the_depths room) _ (stopped_bind s (stmt_at the_depths room n b ts) (onward the_depths room) (stopped_along s (stmt_here the_depths room n b ts) (stmt_at the_depths room n b ts) (sym (stmt_is the_depths room n b ts)) h)))
 
 pub block_ends : (room : ℕ) (front : List TStmt) (n b : ℕ) (ts us : Lexemes) (total : ReadNumbered (List TStmt)) → strip_mark marks.CloseCurly ts ≡ Some us → afterwards front (stmts_at the_depths room n b ts) ≡ total → total ≡ Ok (front, n, b, us)
 unfolding stmts_by stmts_at

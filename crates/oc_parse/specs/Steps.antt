@@ -1,7 +1,7 @@
 -- What the code reads, against the reading.
 use Rattle.std.specs.Prelude.{◌≡◌, ℕ, ◌+◌, ◌≤◌, length, Result, Ok, Err}
 use Rattle.oc_tree.specs.Tree.{TExpr}
-use Rattle.oc_grammar.specs.Limits.{operators_depth, brackets_depth, blocks_depth, Depth}
+use Rattle.oc_grammar.specs.Limits.{operators_depth, brackets_depth, blocks_depth}
 use Rattle.oc_grammar.specs.Lexemes.{Lexemes, lexemes_of}
 use Rattle.oc_grammar.specs.Reading.{Fault, syntax_fault, depth_fault, Read}
 use Rattle.oc_grammar.specs.ReadingExpressions.{ReadExpr}

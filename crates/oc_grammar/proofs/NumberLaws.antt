@@ -97,9 +97,10 @@ item_between (nv_item d) h = h
 item_between (function_item {p = p} {f = f} {x = x} {y = y} d) h =
     let a = function_between d in
     let b = run_then 1 (program_statements p) x.0 (block_statements f.body) y.0 h.0 a.0 in
-    let c = run_then 1 (program_blocks p) x.1 (block_blocks f.body) y.1 h.1 a.1 in
-    (subst (λ (ns : List ℕ). Run 1 ns y.0) (flat_map-last (λ (g : TFunction). block_statements g.body) p.functions f) b,
-    subst (λ (ns : List ℕ). Run 1 ns y.1) (flat_map-last (λ (g : TFunction). block_blocks g.body) p.functions f) c)
+    let c = run_then 1 (program_blocks p) x.1 (block_blocks f.body) y.1 h.1 a.1 in (
+      subst (λ (ns : List ℕ). Run 1 ns y.0) (flat_map-last (λ (g : TFunction). block_statements g.body) p.functions f) b,
+      subst (λ (ns : List ℕ). Run 1 ns y.1) (flat_map-last (λ (g : TFunction). block_blocks g.body) p.functions f) c,
+    )
 
 items_numbered : {limits : Limits} {p r : TProgram} {x : Place} → SpellsItems limits p x r → ProgramBetween p x → Numbered r
 items_numbered (no_item {p = p} {n = n} {b = b}) h = record { statements = run_numbers 1 (program_statements p) n h.0; blocks = run_numbers 1 (program_blocks p) b h.1 }

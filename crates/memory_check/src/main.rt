@@ -1,6 +1,7 @@
 //! Calls each function that takes memory, with enough of it, and writes what came: a body that always
-//! answers that there is no memory meets its contract, and shows only so. The program of the table of
-//! outages calls `Machine::load`, and the tests of the top call the rest.
+//! answers that there is no memory meets its contract, and shows only so. What isn't called by itself
+//! (`compile`, `Machine::load`) is called by the top call, which is asked with each supply, and at last
+//! with none.
 #![tactic(auto)]
 
 ghost use Rattle.std.specs.Prelude.{◌≤◌, length};
@@ -22,6 +23,7 @@ use oc_power::recorded::Recorded;
 use oc_power::supply::Supply;
 use oc_rows::rows::Rows;
 use oc_sensors::file::read_sensors;
+use oc_top::top::ocelot;
 use oc_tree::name::Name;
 use oc_undo::log::UndoLog;
 use std::alloc::{AllocError, Global};
@@ -98,13 +100,16 @@ fn power<O: Sink>(alloc: Global, out: &mut O) -> anyhow::Result<()> {
     put_told(alloc, &mut Cutter::new(alloc, 3), &periods, out)
 }
 
-/// A shelf in memory that holds the sensor file under `h`.
+/// A shelf in memory that holds the files of a run.
 fn shelf(alloc: Global) -> Result<MemoryShelf, AllocError> {
+    let files = [("s", SOURCE), ("h", SENSORS), ("p", POWER)];
     let mut held = Vec::new(alloc);
-    held.push((
-        String::from_str(alloc, "h")?,
-        Vec::from_slice(alloc, SENSORS)?,
-    ))?;
+    for (name, bytes) in files {
+        held.push((
+            String::from_str(alloc, name)?,
+            Vec::from_slice(alloc, bytes)?,
+        ))?;
+    }
     Ok(MemoryShelf::new(held, Vec::new(alloc)))
 }
 
@@ -113,6 +118,56 @@ fn sink<O: Sink>(alloc: Global, out: &mut O) -> anyhow::Result<()> {
     let mut sink = MemorySink::new(alloc, 100, Vec::new(alloc))?;
     fine("MemorySink::new", &mut sink)?;
     out.put(sink.bytes())?;
+    Ok(())
+}
+
+/// Writes what the top call answers and writes for a line of words, with these supplies.
+fn put_called<O: Sink>(
+    alloc: Global,
+    line: &str,
+    supplies: Vec<Box<dyn Supply>>,
+    out: &mut O,
+) -> anyhow::Result<()> {
+    let mut words = Vec::new(alloc);
+    for word in line.split(' ') {
+        words.push(String::from_str(alloc, word)?)?;
+    }
+    let mut shelf = shelf(alloc)?;
+    let mut report = MemorySink::new(alloc, 1000, Vec::new(alloc))?;
+    let mut errors = MemorySink::new(alloc, 1000, Vec::new(alloc))?;
+    let status = ocelot(
+        alloc,
+        &words,
+        &mut shelf,
+        &mut report,
+        &mut errors,
+        supplies,
+    );
+    let head = format!(in alloc; "{line}: status {status}\n")?;
+    out.put(head.as_bytes())?;
+    out.put(report.bytes())?;
+    out.put(errors.bytes())?;
+    Ok(())
+}
+
+/// The top call with each supply, and with none.
+fn top<O: Sink>(alloc: Global, out: &mut O) -> anyhow::Result<()> {
+    let lines = [
+        "run s h p",
+        "run --supply 0 s h p",
+        "run --supply 1 s h p",
+        "run --supply 2 s h p",
+    ];
+    for line in lines {
+        let mut supplies: Vec<Box<dyn Supply>> = Vec::new(alloc);
+        supplies.push(Box::new(alloc, Recorded::new(alloc))?)?;
+        supplies.push(Box::new(alloc, Looped::new(alloc, 64))?)?;
+        supplies.push(Box::new(alloc, Cutter::new(alloc, 3))?)?;
+        put_called(alloc, line, supplies, out)?;
+    }
+    for line in lines {
+        put_called(alloc, line, Vec::new(alloc), out)?;
+    }
     Ok(())
 }
 
@@ -148,6 +203,7 @@ fn main(rt: HostRuntime) -> anyhow::Result<()> {
     put_held(alloc, "absent", &mut disk, &mut out)?;
     put_held(alloc, "h", &mut shelf(alloc)?, &mut out)?;
     put_held(alloc, "absent", &mut shelf(alloc)?, &mut out)?;
+    top(alloc, &mut out)?;
     out.flush()?;
     Ok(())
 }

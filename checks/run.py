@@ -2,7 +2,8 @@
 """Runs the built program over worked cases: run.py
 
 Each line of cases.jsonl is one case: its words, its files, and the status and both outputs that must come.
-A file is a text, bytes in hexadecimal, or a text filled up with spaces to a length. Ends with 1 if a case differs.
+A file is a text, bytes in hexadecimal, a text filled up with spaces to a length, or a list of such contents, each
+with how often it stands there. Ends with 1 if a case differs.
 """
 import json
 import os
@@ -18,6 +19,8 @@ def content(value):
     """Returns the bytes of a file of a case."""
     if isinstance(value, str):
         return value.encode()
+    if isinstance(value, list):
+        return b"".join(content(part) * count for part, count in value)
     if "hex" in value:
         return bytes.fromhex(value["hex"])
     return value["text"].encode().ljust(value["pad_to"])

@@ -1,0 +1,5 @@
+pub mod Pulls
+pub mod Mentions
+pub mod Reach
+pub mod Calls
+pub mod Assigned

@@ -1,0 +1,5 @@
+//! The rules of a source, its expansion and the weight of its functions, as definitions over the
+//! tree in `specs/`, and their laws.
+#![tactic(auto)]
+
+pub mod laws;

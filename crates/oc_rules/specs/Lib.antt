@@ -3,3 +3,9 @@ pub mod Mentions
 pub mod Reach
 pub mod Calls
 pub mod Assigned
+pub mod Scope
+pub mod Types
+pub mod Elements
+pub mod Rules
+pub mod Limits
+pub mod Broken

@@ -2,4 +2,7 @@
 //! tree in `specs/`, and their laws.
 #![tactic(auto)]
 
+pub mod before;
+pub mod broken;
 pub mod laws;
+pub mod scope;

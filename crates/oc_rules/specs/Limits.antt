@@ -1,5 +1,5 @@
 -- What is counted, and the limits.
-use Rattle.std.specs.Prelude.{ℕ, ℤ, ◌+◌, Bool, true, false, ◌&&◌, ◌||◌, ◌==◌, List, [], ◌∷◌, ◌++◌, length, Option, Some, None, cond, nat_lt}
+use Rattle.std.specs.Prelude.{ℕ, ℤ, ◌+◌, Bool, true, false, ◌&&◌, ◌||◌, ◌==◌, List, [], ◌∷◌, ◌++◌, length, Option, Some, None, cond, nat_lt, nat_le}
 use Rattle.std.specs.Ordering.{int_eq}
 use Rattle.std.specs.List.{list_any}
 use Rattle.oc_tree.specs.Tree.{TKind, let_to, let_array, assign, assign_index, assign_deref, if_else, for_in, while_do, call_only, sense_only, emit, fresh, consistent, return}
@@ -41,13 +41,13 @@ same_policy _ _ = false
 abbrev pub with_policy : List Policy → Policy → List Policy
 with_policy ps q = cond (list_any (same_policy q) ps) ps (ps ++ q ∷ [])
 
+abbrev pub with_let : List Policy → Origin → List Policy
+with_let ps (origins.Let mut id _) = with_policy ps (policies.Fresh id)
+with_let ps _ = ps
+
 abbrev pub with_fresh : List Policy → Option Var → List Policy
 with_fresh ps None = ps
-with_fresh ps (Some v) = by v.origin
-  where
-    by : Origin → List Policy
-    by (origins.Let mut id _) = with_policy ps (policies.Fresh id)
-    by _ = ps
+with_fresh ps (Some v) = with_let ps v.origin
 
 -- the policies with those of a statement
 abbrev pub policies_after : List Policy → Here → TKind → List Policy
@@ -74,12 +74,12 @@ counted n (declared b line i) = with_item n i
 counted n (statement h id line k) = with_statement n h k
 counted n (ending line) = n
 
--- a declaration passes a limit
+-- a declaration passes a limit, being one too many or bringing too much
 abbrev pub item_passes : Tally → Before → Item → Bool
-item_passes n b (sensor_item x) = nat_lt 64 (b.sensors + 1)
-item_passes n b (port_item x) = nat_lt 64 (b.ports + 1)
-item_passes n b (nv_item x d) = nat_lt 64 (b.nvs + 1) || nat_lt 65536 n.words
-item_passes n b (function_item f) = nat_lt 128 (b.functions + 1) || (nat_lt 8 (length f.params) || nat_lt 256 n.variables)
+item_passes n b (sensor_item x) = nat_le 64 b.sensors
+item_passes n b (port_item x) = nat_le 64 b.ports
+item_passes n b (nv_item x d) = nat_le 64 b.nvs || nat_lt 65536 n.words
+item_passes n b (function_item f) = nat_le 128 b.functions || (nat_lt 8 (length f.params) || nat_lt 256 n.variables)
 
 -- a statement passes a limit
 abbrev pub statement_passes : Tally → Bool

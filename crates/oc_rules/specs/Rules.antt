@@ -26,7 +26,7 @@ use Rattle.oc_rules.specs.Mentions.{own_mentions, args_mentions}
 use Rattle.oc_rules.specs.Calls.{place, function_place, callee, args_of_call, args_calls, own_calls, calls, reaches_mention}
 use Rattle.oc_rules.specs.Assigned.{reaches_assign}
 use Rattle.oc_rules.specs.Scope.{Scope, variable_in, variable_of, is_variable, is_among, is_taken, takes_param, function_named}
-use Rattle.oc_rules.specs.Types.{is_reference, scalar_of, is_int, is_bool, is_same, is_same_kind, value_type, pointed_type, has_elements, type_of, right_type, call_type}
+use Rattle.oc_rules.specs.Types.{is_by_reference, is_reference, is_array, scalar_of, is_int, is_bool, is_same, is_same_kind, value_type, pointed_type, has_elements, type_of, right_type, call_type}
 use Rattle.oc_rules.specs.Elements.{Item, sensor_item, port_item, nv_item, function_item, Here, Element, declared, statement, ending, line_of, is_end, program_elements}
 
 -- ---- names
@@ -212,33 +212,40 @@ abbrev pub has_kind : ValueKind → Option Var → Bool
 has_kind kind None = false
 has_kind kind (Some v) = is_same_kind v.kind kind
 
-abbrev pub is_mutable_reference : Option Var → Bool
-is_mutable_reference None = false
-is_mutable_reference (Some v) = by v.origin
-  where
-    by : Origin → Bool
-    by (origins.Param passings.Mutable) = true
-    by _ = false
+abbrev pub origin_is : (Origin → Bool) → Option Var → Bool
+origin_is test None = false
+origin_is test (Some v) = test v.origin
+
+abbrev pub is_mutable_passing : Passing → Bool
+is_mutable_passing passings.Mutable = true
+is_mutable_passing _ = false
+
+-- a parameter by `&mut`
+abbrev pub is_mutable_param : Origin → Bool
+is_mutable_param (origins.Param passing) = is_mutable_passing passing
+is_mutable_param _ = false
 
 -- an argument that is an expression
 abbrev pub value_meets : TProgram → Scope → Passing → ValueKind → TExpr → Bool
 value_meets p scope passings.Value kind e = is_same (scalar_of kind) (type_of p scope e)
 value_meets p scope passings.Shared kind e = has_kind kind (passed_on p scope e)
-value_meets p scope passings.Mutable kind e = is_mutable_reference (passed_on p scope e) && has_kind kind (passed_on p scope e)
+value_meets p scope passings.Mutable kind e = origin_is is_mutable_param (passed_on p scope e) && has_kind kind (passed_on p scope e)
+
+-- `&x` goes to a parameter by `&` of its kind
+abbrev pub shared_meets : Passing → ValueKind → Option Var → Bool
+shared_meets passings.Shared kind v = has_kind kind v
+shared_meets _ kind v = false
+
+-- `&mut x` goes to a parameter by `&mut` of its kind
+abbrev pub mutable_meets : Passing → ValueKind → Option Var → Bool
+mutable_meets passings.Mutable kind v = has_kind kind v
+mutable_meets _ kind v = false
 
 -- an argument is of its parameter's form and type
 abbrev pub arg_meets : TProgram → Scope → Param → TArg → Bool
 arg_meets p scope q (value e) = value_meets p scope q.passing q.kind e
-arg_meets p scope q (shared x) = by q.passing
-  where
-    by : Passing → Bool
-    by passings.Shared = has_kind q.kind (variable_of p scope x)
-    by _ = false
-arg_meets p scope q (mutable x) = by q.passing
-  where
-    by : Passing → Bool
-    by passings.Mutable = has_kind q.kind (variable_of p scope x)
-    by _ = false
+arg_meets p scope q (shared x) = shared_meets q.passing q.kind (variable_of p scope x)
+arg_meets p scope q (mutable x) = mutable_meets q.passing q.kind (variable_of p scope x)
 
 abbrev pub args_meet : TProgram → Scope → List Param → TArgs → Bool
 args_meet p scope [] no_args = true
@@ -289,17 +296,9 @@ let_bad_length _ = false
 
 -- an array by value
 abbrev pub is_array_value : Param → Bool
-is_array_value q = by q.passing q.kind
-  where
-    by : Passing → ValueKind → Bool
-    by passings.Value (kinds.Array words) = true
-    by _ _ = false
+is_array_value q = not (is_by_reference q.passing) && is_array q.kind
 
 -- ---- what may be written to, and by which form
-
-abbrev pub origin_is : (Origin → Bool) → Option Var → Bool
-origin_is test None = false
-origin_is test (Some v) = test v.origin
 
 -- a `let mut`, or a nonvolatile variable
 abbrev pub is_writable : Origin → Bool
@@ -307,16 +306,20 @@ is_writable (origins.Let mut id _) = mut
 is_writable origins.Nv = true
 is_writable _ = false
 
-abbrev pub is_mutable_param : Origin → Bool
-is_mutable_param (origins.Param passings.Mutable) = true
-is_mutable_param _ = false
+-- of arrays, also a parameter by `&mut`
+abbrev pub is_writable_array : Origin → Bool
+is_writable_array o = is_writable o || is_mutable_param o
+
+-- no reference
+abbrev pub is_own : Origin → Bool
+is_own o = not (is_reference o)
 
 abbrev pub target_fixed : TProgram → Scope → TKind → Bool
 target_fixed p scope (assign x r) = not (origin_is is_writable (variable_of p scope x))
 target_fixed p scope _ = false
 
 abbrev pub array_fixed : TProgram → Scope → TKind → Bool
-array_fixed p scope (assign_index x i r) = not (origin_is (λ o. is_writable o || is_mutable_param o) (variable_of p scope x))
+array_fixed p scope (assign_index x i r) = not (origin_is is_writable_array (variable_of p scope x))
 array_fixed p scope _ = false
 
 abbrev pub pointee_fixed : TProgram → Scope → TKind → Bool
@@ -328,7 +331,7 @@ pointee_fixed p scope _ = false
 -- `&mut` is taken of what may be written, and `&` of what is no reference
 abbrev pub arg_lends : TProgram → Scope → TArg → Bool
 arg_lends p scope (value e) = true
-arg_lends p scope (shared x) = origin_is (λ o. not (is_reference o)) (variable_of p scope x)
+arg_lends p scope (shared x) = origin_is is_own (variable_of p scope x)
 arg_lends p scope (mutable x) = origin_is is_writable (variable_of p scope x)
 
 abbrev pub args_list : TArgs → List TArg
@@ -341,33 +344,33 @@ call_args c = args_list (args_of_call c)
 abbrev pub lends_fixed : TProgram → Scope → TKind → Bool
 lends_fixed p scope k = not (list_all (λ c. list_all (arg_lends p scope) (call_args c)) (own_calls k))
 
--- the name that stands alone in an expression
-abbrev pub lone_name : TExpr → List Text
-lone_name (variable x) = x ∷ []
-lone_name _ = []
+-- the name that stands alone in an expression passes the test
+abbrev pub lone_is : (Text → Bool) → TExpr → Bool
+lone_is test (variable x) = test x
+lone_is test _ = true
 
--- the name that an argument passes by `&mut`, if any
-abbrev pub arg_lent : Param → TArg → List Text
-arg_lent q (mutable x) = x ∷ []
-arg_lent q (shared x) = []
-arg_lent q (value e) = by q.passing
-  where
-    by : Passing → List Text
-    by passings.Mutable = lone_name e
-    by _ = []
+abbrev pub value_lent_is : (Text → Bool) → Passing → TExpr → Bool
+value_lent_is test passings.Mutable e = lone_is test e
+value_lent_is test _ e = true
 
-abbrev pub args_lent : List Param → TArgs → List Text
-args_lent [] args = []
-args_lent (q ∷ qs) no_args = []
-args_lent (q ∷ qs) (more_args a rest) = arg_lent q a ++ args_lent qs rest
+-- the name that an argument passes by `&mut`, if any, passes the test
+abbrev pub lent_is : (Text → Bool) → Param → TArg → Bool
+lent_is test q (value e) = value_lent_is test q.passing e
+lent_is test q (shared x) = true
+lent_is test q (mutable x) = test x
 
--- the names that a call passes by `&mut`
-abbrev pub call_lent : TProgram → TCall → List Text
-call_lent p c = args_lent (callee_params p c) (args_of_call c)
+abbrev pub all_lent : (Text → Bool) → List Param → TArgs → Bool
+all_lent test [] args = true
+all_lent test (q ∷ qs) no_args = true
+all_lent test (q ∷ qs) (more_args a rest) = lent_is test q a && all_lent test qs rest
+
+-- the names that a call passes by `&mut` pass the test
+abbrev pub call_lends : (Text → Bool) → TProgram → TCall → Bool
+call_lends test p c = all_lent test (callee_params p c) (args_of_call c)
 
 -- what a call passes by `&mut` stands in its arguments just there
 abbrev pub lends_alone : TProgram → TCall → Bool
-lends_alone p c = list_all (λ x. args_mentions x (args_of_call c) == 1) (call_lent p c)
+lends_alone p c = call_lends (λ x. args_mentions x (args_of_call c) == 1) p c
 
 abbrev pub lent_twice : TProgram → TKind → Bool
 lent_twice p k = not (list_all (lends_alone p) (own_calls k))
@@ -444,7 +447,7 @@ calls_back p h k = list_any (callee_is (λ u. (u == h.number) || calls p.functio
 
 -- what a call passes by `&mut` stands just there in the statement
 abbrev pub lends_apart : TProgram → TKind → TCall → Bool
-lends_apart p k c = list_all (λ x. own_mentions x k == 1) (call_lent p c)
+lends_apart p k c = call_lends (λ x. own_mentions x k == 1) p c
 
 -- a nonvolatile variable stands in a statement that calls a function which assigns it, or calls one that does
 abbrev pub nv_disturbed : TProgram → TKind → Text → Bool

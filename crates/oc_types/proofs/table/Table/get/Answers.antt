@@ -1,0 +1,21 @@
+use Rattle.std.proofs.Common.{◌≡◌, ap, sym, ◌∙◌, subst, Some, None}
+use Rattle.oc_types.proofs.Entries.{lookup-seen, seen, place-beside}
+use Rattle.oc_types.proofs.table.Table.get.Goals as goal
+
+pub returns-in-Some : goal.returns-in-Some
+returns-in-Some c =
+    let e = lookup-seen c.bytes.result.now c.self.inside.places.entries in
+    let f = place-beside (seen c.self.inside.places.entries) c.bytes.result.now in
+    let v = c.in-Some.ensures.value in
+    let d = c.bytes.ensures in
+    let b = c.self.view_is in
+    cc
+
+pub returns-in-None : goal.returns-in-None
+returns-in-None c =
+    let e = lookup-seen c.bytes.result.now c.self.inside.places.entries in
+    let f = place-beside (seen c.self.inside.places.entries) c.bytes.result.now in
+    let v = c.in-None.ensures.value in
+    let d = c.bytes.ensures in
+    let b = c.self.view_is in
+    cc

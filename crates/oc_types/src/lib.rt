@@ -1,0 +1,6 @@
+//! The checker of the rules.
+#![tactic(auto)]
+
+mod scope;
+mod table;
+mod top;

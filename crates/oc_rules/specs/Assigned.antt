@@ -8,7 +8,6 @@ use Rattle.oc_tree.specs.Tree.{variable, TArg, value, mutable, TCall, TArgs, no_
 use Rattle.oc_tree.specs.declared.tree.Passing.{Passing}
 use Rattle.oc_tree.specs.declared.tree.Passing.TheVariants.{Value, Shared, Mutable}
 use Rattle.oc_rules.specs.Reach.{Links, reaches_some}
-use Rattle.oc_rules.specs.Mentions.{block_any}
 use Rattle.oc_rules.specs.Calls.{place, function_names, callee, args_of_call, own_calls, block_kinds, body_calls, call_links, has_param, test_at}
 
 abbrev pub is_mutable : Passing → Bool
@@ -67,7 +66,7 @@ written_through _ = []
 
 -- the parameters that a function writes through itself
 abbrev pub function_writes : (first : ℕ) → TFunction → List ℕ
-function_writes first f = flat_map (λ x. map (λ j. first + j) (option_to_list (place (param_names f) x))) (flat_map written_through (block_kinds f.body))
+function_writes first f = flat_map (λ x. map (λ j. first + j) (option_to_list (place (param_names f) x))) (flat_map written_through (block_kinds None f.body))
 
 abbrev pub writes_from : List TFunction → (u : ℕ) → List TFunction → List ℕ
 writes_from all u [] = []
@@ -108,7 +107,7 @@ own_assigns fs x k = is_target x k || list_any (call_assigns fs x) (own_calls k)
 
 -- a function assigns the nonvolatile variable `x`
 abbrev pub function_assigns : List TFunction → Text → TFunction → Bool
-function_assigns fs x f = not (has_param x f.params) && block_any (own_assigns fs x) x f.body
+function_assigns fs x f = not (has_param x f.params) && list_any (own_assigns fs x) (block_kinds (Some x) f.body)
 
 -- the function `u`, or one that it calls directly or through others, assigns the nonvolatile variable `x`
 abbrev pub reaches_assign : List TFunction → Text → ℕ → Bool

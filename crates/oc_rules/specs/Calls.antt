@@ -4,10 +4,10 @@ use Rattle.std.specs.Str.{bytes_eq}
 use Rattle.std.specs.List.{list_any, flat_map}
 use Rattle.std.proofs.Math.ListN.{get_or}
 use Rattle.oc_tree.specs.Names.{Text}
-use Rattle.oc_tree.specs.Tree.{TExpr, number, truth, variable, index, deref, unary, binary, sensed, called, TArg, value, shared, mutable, TCall, call, TArgs, no_args, more_args, TRight, right_value, right_sense, right_call, TKind, let_to, let_array, assign, assign_index, assign_deref, if_else, for_in, while_do, call_only, sense_only, emit, fresh, consistent, return, TElse, no_else, else_do, TStmt, stmt, TBlock, block, TStmts, no_stmts, more, TFunction}
+use Rattle.oc_tree.specs.Tree.{TExpr, number, truth, variable, index, deref, unary, binary, sensed, called, TArg, value, shared, mutable, TCall, call, TArgs, no_args, more_args, TRight, right_value, right_sense, right_call, TKind, let_to, let_array, assign, assign_index, assign_deref, if_else, for_in, while_do, call_only, sense_only, emit, fresh, consistent, return, TElse, no_else, else_do, stmt, TBlock, block, TStmts, no_stmts, more, TFunction}
 use Rattle.oc_tree.specs.declared.tree.Param.{Param}
 use Rattle.oc_rules.specs.Reach.{Links, leads, reaches_some}
-use Rattle.oc_rules.specs.Mentions.{own_names, block_any}
+use Rattle.oc_rules.specs.Mentions.{own_names}
 
 -- the place of the first name of that spelling, where the first of the list has the place `n`
 abbrev pub place_from : ℕ → List Text → Text → Option ℕ
@@ -77,31 +77,39 @@ own_calls (fresh x) = []
 own_calls (consistent x n) = []
 own_calls (return e) = expr_calls e
 
--- the statements of a block and those inside them, in source order
+-- a variable of this name hides the one that is asked for
+abbrev pub hides : Option Text → Text → Bool
+hides None y = false
+hides (Some x) y = bytes_eq x y
+
+-- a `let` makes a variable that hides the one that is asked for in the rest of its block
+abbrev pub kind_hides : Option Text → TKind → Bool
+kind_hides of (let_to m y k r) = hides of y
+kind_hides of (let_array m y k i n) = hides of y
+kind_hides of _ = false
+
+-- The statements of a block and those inside them, in source order; of a name, those where no variable hides it.
 abbrev mutual
-  pub kind_kinds : TKind → List TKind
-  kind_kinds (if_else c a b) = if_else c a b ∷ (block_kinds a ++ else_kinds b)
-  kind_kinds (for_in x m n b) = for_in x m n b ∷ block_kinds b
-  kind_kinds (while_do c n b) = while_do c n b ∷ block_kinds b
-  kind_kinds k = k ∷ []
+  pub kind_kinds : Option Text → TKind → List TKind
+  kind_kinds of (if_else c a b) = if_else c a b ∷ (block_kinds of a ++ else_kinds of b)
+  kind_kinds of (for_in x m n b) = for_in x m n b ∷ cond (hides of x) [] (block_kinds of b)
+  kind_kinds of (while_do c n b) = while_do c n b ∷ block_kinds of b
+  kind_kinds of k = k ∷ []
 
-  pub else_kinds : TElse → List TKind
-  else_kinds no_else = []
-  else_kinds (else_do b) = block_kinds b
+  pub else_kinds : Option Text → TElse → List TKind
+  else_kinds of no_else = []
+  else_kinds of (else_do b) = block_kinds of b
 
-  pub stmt_kinds : TStmt → List TKind
-  stmt_kinds (stmt id line k) = kind_kinds k
+  pub block_kinds : Option Text → TBlock → List TKind
+  block_kinds of (block id ss) = stmts_kinds of ss
 
-  pub block_kinds : TBlock → List TKind
-  block_kinds (block id ss) = stmts_kinds ss
-
-  pub stmts_kinds : TStmts → List TKind
-  stmts_kinds no_stmts = []
-  stmts_kinds (more s ss) = stmt_kinds s ++ stmts_kinds ss
+  pub stmts_kinds : Option Text → TStmts → List TKind
+  stmts_kinds of no_stmts = []
+  stmts_kinds of (more (stmt id line k) ss) = kind_kinds of k ++ cond (kind_hides of k) [] (stmts_kinds of ss)
 
 -- all calls of a function
 abbrev pub body_calls : TFunction → List TCall
-body_calls f = flat_map own_calls (block_kinds f.body)
+body_calls f = flat_map own_calls (block_kinds None f.body)
 
 -- the places of the functions that calls name
 abbrev pub called_places : List Text → List TCall → List ℕ
@@ -124,7 +132,7 @@ has_param x ps = list_any (λ p. bytes_eq x p.name) ps
 
 -- a function names the nonvolatile variable `x`
 abbrev pub function_mentions : Text → TFunction → Bool
-function_mentions x f = not (has_param x f.params) && block_any (own_names x) x f.body
+function_mentions x f = not (has_param x f.params) && list_any (own_names x) (block_kinds (Some x) f.body)
 
 -- what a test says of the function at a place
 abbrev pub test_at : (TFunction → Bool) → List TFunction → ℕ → Bool

@@ -9,3 +9,6 @@ pub mod Elements
 pub mod Rules
 pub mod Limits
 pub mod Broken
+pub mod Expansion
+pub mod Weight
+pub mod Stack

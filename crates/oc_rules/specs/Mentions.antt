@@ -1,8 +1,8 @@
 -- How often a name stands in expressions and arguments, as a variable.
-use Rattle.std.specs.Prelude.{ℕ, ◌+◌, Bool, true, false, ◌||◌, ◌&&◌, not, nat_lt}
+use Rattle.std.specs.Prelude.{ℕ, ◌+◌, Bool, true, false, ◌||◌, nat_lt}
 use Rattle.std.specs.Str.{bytes_eq}
 use Rattle.oc_tree.specs.Names.{Text}
-use Rattle.oc_tree.specs.Tree.{TExpr, number, truth, variable, index, deref, unary, binary, sensed, called, TArg, value, shared, mutable, TCall, call, TArgs, no_args, more_args, TRight, right_value, right_sense, right_call, TKind, let_to, let_array, assign, assign_index, assign_deref, if_else, for_in, while_do, call_only, sense_only, emit, fresh, consistent, return, TElse, no_else, else_do, TStmt, stmt, TBlock, block, TStmts, no_stmts, more}
+use Rattle.oc_tree.specs.Tree.{TExpr, number, truth, variable, index, deref, unary, binary, sensed, called, TArg, value, shared, mutable, TCall, call, TArgs, no_args, more_args, TRight, right_value, right_sense, right_call, TKind, let_to, let_array, assign, assign_index, assign_deref, if_else, for_in, while_do, call_only, sense_only, emit, fresh, consistent, return}
 
 abbrev pub once : Bool → ℕ
 once true = 1
@@ -70,31 +70,3 @@ annotates x _ = false
 -- anywhere in a statement itself: in an expression, an argument, a target or an annotation
 abbrev pub own_names : Text → TKind → Bool
 own_names x k = nat_lt 0 (own_mentions x k) || targets x k || annotates x k
-
--- a `let` makes a variable of this name, which hides a nonvolatile one in the rest of its block
-abbrev pub declares : Text → TStmt → Bool
-declares x (stmt id line (let_to m y k r)) = bytes_eq x y
-declares x (stmt id line (let_array m y k i n)) = bytes_eq x y
-declares x _ = false
-
--- Whether a statement passes the test, among those where no variable hides the nonvolatile variable `x`.
-abbrev mutual
-  pub kind_any : (TKind → Bool) → Text → TKind → Bool
-  kind_any test x (if_else c a b) = test (if_else c a b) || block_any test x a || else_any test x b
-  kind_any test x (for_in y m n b) = test (for_in y m n b) || (not (bytes_eq x y) && block_any test x b)
-  kind_any test x (while_do c n b) = test (while_do c n b) || block_any test x b
-  kind_any test x k = test k
-
-  pub else_any : (TKind → Bool) → Text → TElse → Bool
-  else_any test x no_else = false
-  else_any test x (else_do b) = block_any test x b
-
-  pub stmt_any : (TKind → Bool) → Text → TStmt → Bool
-  stmt_any test x (stmt id line k) = kind_any test x k
-
-  pub block_any : (TKind → Bool) → Text → TBlock → Bool
-  block_any test x (block id ss) = stmts_any test x ss
-
-  pub stmts_any : (TKind → Bool) → Text → TStmts → Bool
-  stmts_any test x no_stmts = false
-  stmts_any test x (more s ss) = stmt_any test x s || (not (declares x s) && stmts_any test x ss)

@@ -1,0 +1,11 @@
+//! Which functions of a program lead to which, and which of them name or assign a nonvolatile
+//! variable, directly or through others. Each question is answered in one pass over the program's
+//! calls.
+#![tactic(auto)]
+
+pub mod calls;
+pub mod marks;
+pub mod mentions;
+pub mod parts;
+pub mod reach;
+pub mod table;

@@ -113,8 +113,9 @@ named_element item b line (Some x) = declared b line (item x) ∷ []
 named_element item b line None = []
 
 abbrev pub nv_element : Before → (line : ℕ) → Option Text → Option NvDecl → List Element
+nv_element b line None d = []
+nv_element b line (Some x) None = []
 nv_element b line (Some x) (Some d) = declared b line (nv_item x d) ∷ []
-nv_element b line _ _ = []
 
 abbrev pub function_elements : TProgram → Before → (line : ℕ) → Option TFunction → List Element
 function_elements p b line (Some f) = declared b line (function_item f) ∷ block_elements p (in_function f b.functions) f.body

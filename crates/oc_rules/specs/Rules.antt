@@ -22,7 +22,7 @@ use Rattle.oc_rules.specs.declared.scope.Policy.{Policy}
 use Rattle.oc_rules.specs.declared.scope.Policy.TheVariants as policies
 use Rattle.oc_rules.specs.declared.scope.Var.{Var}
 use Rattle.oc_rules.specs.Pulls.{own_pulls, own_skips}
-use Rattle.oc_rules.specs.Mentions.{own_mentions, args_mentions}
+use Rattle.oc_rules.specs.Mentions.{own_mentions, call_mentions}
 use Rattle.oc_rules.specs.Calls.{place, function_place, callee, args_of_call, args_calls, own_calls, calls, reaches_mention}
 use Rattle.oc_rules.specs.Assigned.{reaches_assign}
 use Rattle.oc_rules.specs.Scope.{Scope, variable_in, variable_of, is_variable, is_among, is_taken, takes_param, function_named}
@@ -110,7 +110,7 @@ abbrev pub calls_main : TKind → Bool
 calls_main k = list_any (λ c. is_main (callee c)) (own_calls k)
 
 abbrev pub main_missing : TProgram → Bool
-main_missing p = not (is_some (function_place p.functions main))
+main_missing p = not (list_any (λ f. is_main f.name) p.functions)
 
 -- ---- types
 
@@ -248,10 +248,16 @@ arg_meets p scope q (shared x) = shared_meets q.passing q.kind (variable_of p sc
 arg_meets p scope q (mutable x) = mutable_meets q.passing q.kind (variable_of p scope x)
 
 abbrev pub args_meet : TProgram → Scope → List Param → TArgs → Bool
-args_meet p scope [] no_args = true
-args_meet p scope [] (more_args a rest) = false
-args_meet p scope (q ∷ qs) no_args = false
+args_meet p scope qs no_args = true
+args_meet p scope [] (more_args a rest) = true
 args_meet p scope (q ∷ qs) (more_args a rest) = arg_meets p scope q a && args_meet p scope qs rest
+
+abbrev pub args_list : TArgs → List TArg
+args_list no_args = []
+args_list (more_args a rest) = a ∷ args_list rest
+
+abbrev pub call_args : TCall → List TArg
+call_args c = args_list (args_of_call c)
 
 abbrev pub params_of : Option TFunction → List Param
 params_of None = []
@@ -263,7 +269,7 @@ callee_params p c = params_of (function_named p (callee c))
 
 -- as many arguments as parameters, each of its form and type
 abbrev pub call_meets : TProgram → Scope → TCall → Bool
-call_meets p scope c = args_meet p scope (callee_params p c) (args_of_call c)
+call_meets p scope c = (length (callee_params p c) == length (call_args c)) && args_meet p scope (callee_params p c) (args_of_call c)
 
 abbrev pub args_differ : TProgram → Scope → TKind → Bool
 args_differ p scope k = not (list_all (call_meets p scope) (own_calls k))
@@ -334,13 +340,6 @@ arg_lends p scope (value e) = true
 arg_lends p scope (shared x) = origin_is is_own (variable_of p scope x)
 arg_lends p scope (mutable x) = origin_is is_writable (variable_of p scope x)
 
-abbrev pub args_list : TArgs → List TArg
-args_list no_args = []
-args_list (more_args a rest) = a ∷ args_list rest
-
-abbrev pub call_args : TCall → List TArg
-call_args c = args_list (args_of_call c)
-
 abbrev pub lends_fixed : TProgram → Scope → TKind → Bool
 lends_fixed p scope k = not (list_all (λ c. list_all (arg_lends p scope) (call_args c)) (own_calls k))
 
@@ -360,8 +359,8 @@ lent_is test q (shared x) = true
 lent_is test q (mutable x) = test x
 
 abbrev pub all_lent : (Text → Bool) → List Param → TArgs → Bool
-all_lent test [] args = true
-all_lent test (q ∷ qs) no_args = true
+all_lent test qs no_args = true
+all_lent test [] (more_args a rest) = true
 all_lent test (q ∷ qs) (more_args a rest) = lent_is test q a && all_lent test qs rest
 
 -- the names that a call passes by `&mut` pass the test
@@ -370,7 +369,7 @@ call_lends test p c = all_lent test (callee_params p c) (args_of_call c)
 
 -- what a call passes by `&mut` stands in its arguments just there
 abbrev pub lends_alone : TProgram → TCall → Bool
-lends_alone p c = call_lends (λ x. args_mentions x (args_of_call c) == 1) p c
+lends_alone p c = call_lends (λ x. call_mentions x c == 1) p c
 
 abbrev pub lent_twice : TProgram → TKind → Bool
 lent_twice p k = not (list_all (lends_alone p) (own_calls k))

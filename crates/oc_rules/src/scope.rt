@@ -29,5 +29,5 @@ pub struct Var {
 #[derive(Clone, Copy, Debug, PartialEq, Eq)]
 pub enum Policy {
     Fresh { stmt: StmtId },
-    Consistent { function: u64, id: i32 },
+    Consistent { function: usize, id: i32 },
 }

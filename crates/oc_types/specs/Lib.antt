@@ -1,1 +1,4 @@
-pub mod Tables
+pub mod Lent
+pub mod Standing
+pub mod Small
+pub mod Walk

@@ -1,16 +1,17 @@
 //! What the names of the top level stand for.
-ghost use Rattle.std.specs.Prelude.{◌≡◌, option_map, IfOk};
+ghost use Rattle.std.specs.Prelude.{◌≡◌, ◌≤◌, option_map, slice_get, IfOk, IfSome};
 ghost use Rattle.std.specs.Coded.{codes};
 ghost use Rattle.oc_tree.specs.declared.tree.Program.{Program};
 ghost use Rattle.oc_tree.specs.contracts.tree.Block as b;
-ghost use Rattle.oc_tree.specs.View.{call_view, function_view, program_view};
-ghost use Rattle.oc_rules.specs.Calls.{function_names, function_place, place};
+ghost use Rattle.oc_tree.specs.Nodes.{block_nodes, program_nodes};
+ghost use Rattle.oc_tree.specs.View.{block_view, call_view, function_view, program_view};
+ghost use Rattle.oc_rules.specs.Calls.{function_place, place};
 ghost use Rattle.oc_rules.specs.Scope.{function_named, is_declared, is_taken, nv_kind, nv_named, variable_of};
 ghost use Rattle.oc_rules.specs.Rules.{callee_params, declared_before, stands_before};
-ghost use Rattle.oc_types.specs.Tables.{IsTableOf};
 
 use crate::scope::Scope;
-use crate::table::{Table, functions_table, names_table};
+use oc_reach::calls::Calls;
+use oc_reach::table::Table;
 use oc_rules::before::Before;
 use oc_rules::scope::{Origin, Var};
 use oc_tree::name::Name;
@@ -25,7 +26,7 @@ pub struct TopLevel<'a> {
     sensors: Table<'a>,
     ports: Table<'a>,
     nvs: Table<'a>,
-    functions: Table<'a>,
+    calls: Calls<'a>,
 }
 
 impl<'a> Model for TopLevel<'a> {
@@ -36,10 +37,10 @@ impl<'a> Model for TopLevel<'a> {
     ghost view = { λ t. t.program.now };
 
     ghost invariant = { λ t.
-        IsTableOf t.sensors (program_view t.program.now).names.sensors
-            × IsTableOf t.ports (program_view t.program.now).names.ports
-            × IsTableOf t.nvs (program_view t.program.now).names.nvs
-            × IsTableOf t.functions (function_names (program_view t.program.now).functions) };
+        (t.sensors ≡ (program_view t.program.now).names.sensors)
+        × (t.ports ≡ (program_view t.program.now).names.ports)
+        × (t.nvs ≡ (program_view t.program.now).names.nvs)
+        × (t.calls ≡ t.program.now.functions.items) };
 }
 
 /// The kind of a nonvolatile variable.
@@ -51,6 +52,16 @@ pub fn nv_kind(nv: NvDecl) -> ValueKind
     } else {
         ValueKind::Int
     }
+}
+
+fn names_table<'a>(alloc: Global, names: &'a [Name]) -> Result<Table<'a>, AllocError>
+    ensures { IfOk result (λ t. t ≡ names.now) }
+{
+    let mut seen = Vec::new(alloc);
+    for name in names {
+        seen.push(name)?;
+    }
+    Table::new(alloc, seen)
 }
 
 fn stands_before(place: Option<usize>, count: usize) -> bool
@@ -69,13 +80,13 @@ impl<'a> TopLevel<'a> {
         let sensors = names_table(alloc, program.names.sensors.as_slice())?;
         let ports = names_table(alloc, program.names.ports.as_slice())?;
         let nvs = names_table(alloc, program.names.nvs.as_slice())?;
-        let functions = functions_table(alloc, program.functions.as_slice())?;
+        let calls = Calls::new(alloc, program.functions.as_slice())?;
         Ok(TopLevel {
             program,
             sensors,
             ports,
             nvs,
-            functions,
+            calls,
         })
     }
 
@@ -88,25 +99,25 @@ impl<'a> TopLevel<'a> {
     pub fn sensor_place(&self, name: &Name) -> Option<usize>
         ensures { result ≡ place (program_view self.now).names.sensors name.now }
     {
-        self.sensors.get(name)
+        self.sensors.place(name)
     }
 
     pub fn port_place(&self, name: &Name) -> Option<usize>
         ensures { result ≡ place (program_view self.now).names.ports name.now }
     {
-        self.ports.get(name)
+        self.ports.place(name)
     }
 
     pub fn nv_place(&self, name: &Name) -> Option<usize>
         ensures { result ≡ place (program_view self.now).names.nvs name.now }
     {
-        self.nvs.get(name)
+        self.nvs.place(name)
     }
 
     pub fn function_place(&self, name: &Name) -> Option<usize>
         ensures { result ≡ function_place (program_view self.now).functions name.now }
     {
-        self.functions.get(name)
+        self.calls.place(name)
     }
 
     /// The first function of that name.
@@ -118,6 +129,21 @@ impl<'a> TopLevel<'a> {
             Some(i) => functions.get(i),
             None => None,
         }
+    }
+
+    fn nth(&self, number: usize) -> Option<&'a Function>
+        ensures { option_map (λ f. function_view f.now) result ≡ slice_get (program_view self.now).functions number }
+    {
+        let functions = self.program().functions.as_slice();
+        functions.get(number)
+    }
+
+    /// The function with that number.
+    pub fn function_at(&self, number: usize) -> Option<&'a Function>
+        ensures found { option_map (λ f. function_view f.now) result ≡ slice_get (program_view self.now).functions number }
+        ensures nodes { IfSome result (λ f. block_nodes (block_view f.now.body) ≤ program_nodes (program_view self.now)) }
+    {
+        self.nth(number)
     }
 
     /// The parameters of the called function.

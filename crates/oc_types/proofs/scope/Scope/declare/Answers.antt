@@ -1,5 +1,6 @@
 use Rattle.std.proofs.Common.{◌≡◌, ap, sym, ◌∙◌, subst, None}
-use Rattle.oc_types.proofs.Entries.{beside, insert-seen, seen, variable-beside}
+use Rattle.oc_rules.specs.Scope.{variable_in}
+use Rattle.oc_types.proofs.Entries.{insert-seen, seen}
 use Rattle.oc_types.proofs.scope.Scope.declare.Goals as goal
 
 pub returns : goal.returns
@@ -7,8 +8,7 @@ returns c =
     let b = c.self.view_is in
     let d = c.bytes.ensures in
     let r = c.requires in
-    let v = variable-beside (seen c.self.inside.variables.entries) c.bytes.result.now in
-    let h : beside (seen c.self.inside.variables.entries) c.bytes.result.now ≡ None = cc in
+    let h : variable_in (seen c.self.inside.variables.entries) c.bytes.result.now ≡ None = cc in
     let e = insert-seen c.self.inside.variables.entries c.bytes.result c.args.variable h in
     let f = c.in_ok-insert.ensures.entries in
     cc

@@ -6,3 +6,4 @@ pub mod Assigned
 pub mod Expansion
 pub mod Weight
 pub mod Stack
+pub mod Numbered

@@ -1,14 +1,14 @@
 -- Which nonvolatile variables a function assigns, itself or through references that it passes.
-use Rattle.std.specs.Prelude.{ℕ, ◌+◌, Bool, true, false, ◌&&◌, ◌||◌, not, List, [], ◌∷◌, ◌++◌, map, length, take, Option, Some, None, cond, sum_by, nat_eq, option_to_list}
+use Rattle.std.specs.Prelude.{ℕ, ◌+◌, Bool, true, false, ◌&&◌, ◌||◌, not, List, [], ◌∷◌, ◌++◌, map, length, Option, Some, None, cond, sum_by, nat_eq, option_map, option_to_list}
 use Rattle.std.specs.Str.{bytes_eq}
 use Rattle.std.specs.List.{list_any, flat_map}
 use Rattle.std.proofs.Math.ListN.{get_or}
 use Rattle.oc_tree.specs.Names.{Text}
-use Rattle.oc_tree.specs.Tree.{variable, TArg, value, mutable, TCall, TArgs, no_args, more_args, TKind, assign, assign_index, assign_deref, TFunction}
+use Rattle.oc_tree.specs.Tree.{TExpr, variable, TArg, value, shared, mutable, TCall, call, TArgs, no_args, more_args, TKind, assign, assign_index, assign_deref, TFunction}
 use Rattle.oc_tree.specs.declared.tree.Passing.{Passing}
 use Rattle.oc_tree.specs.declared.tree.Passing.TheVariants.{Value, Shared, Mutable}
 use Rattle.oc_rules.specs.Reach.{Links, reaches_some}
-use Rattle.oc_rules.specs.Calls.{place, function_names, callee, args_of_call, own_calls, block_kinds, body_calls, call_links, has_param, test_at}
+use Rattle.oc_rules.specs.Calls.{place, function_place, own_calls, block_kinds, body_calls, call_links, has_param, test_at}
 
 abbrev pub is_mutable : Passing → Bool
 is_mutable Value = false
@@ -18,37 +18,62 @@ is_mutable Mutable = true
 abbrev pub param_names : TFunction → List Text
 param_names f = map (λ p. p.name) f.params
 
--- The parameters of all functions are numbered through, from 0: this is the number of the first of the function at `u`.
+-- The parameters of all functions are numbered through: the numbers of the first ones, where the very first is `n`.
+abbrev pub first_params : ℕ → List TFunction → List ℕ
+first_params n [] = []
+first_params n (f ∷ fs) = n ∷ first_params (n + length f.params) fs
+
+-- the number of the first parameter of the function at `u`
 abbrev pub first_param : List TFunction → ℕ → ℕ
-first_param fs u = sum_by (λ f. length f.params) (take u fs)
+first_param fs u = get_or (first_params 0 fs) u 0
 
 abbrev pub param_count : List TFunction → ℕ
 param_count fs = sum_by (λ f. length f.params) fs
 
+abbrev pub mutable_params : TFunction → List Bool
+mutable_params f = map (λ p. is_mutable p.passing) f.params
+
 -- the parameter `i` of the function at `u` is a `&mut` one
 abbrev pub takes_mutable : List TFunction → ℕ → ℕ → Bool
-takes_mutable fs u i = get_or (get_or (map (λ f. map (λ p. is_mutable p.passing) f.params) fs) u []) i false
+takes_mutable fs u i = get_or (get_or (map mutable_params fs) u []) i false
 
--- a reference that is passed on, by its name alone, as argument `i` of a call of `v`: the parameter that it goes to,
--- where that takes `&mut`. `params` are the names of the caller's parameters, the first of which has the number `first`
-abbrev pub pass_link : (first : ℕ) → (to : ℕ) → Option ℕ → Links
-pass_link first to None = []
-pass_link first to (Some j) = (first + j, to) ∷ []
+-- its number, where it is one
+abbrev pub mutable_param : List TFunction → ℕ → ℕ → Option ℕ
+mutable_param fs u i = cond (takes_mutable fs u i) (Some (first_param fs u + i)) None
 
-abbrev pub arg_links : List TFunction → (first : ℕ) → (params : List Text) → (v i : ℕ) → TArg → Links
-arg_links fs first params v i (value (variable x)) = cond (takes_mutable fs v i) (pass_link first (first_param fs v + i) (place params x)) []
-arg_links fs first params v i _ = []
+-- the number of the parameter of that name, of a function whose first parameter has the number `first`
+abbrev pub own_param : (first : ℕ) → List Text → Option Text → Option ℕ
+own_param first params None = None
+own_param first params (Some x) = option_map (λ j. first + j) (place params x)
 
-abbrev pub args_links : List TFunction → (first : ℕ) → (params : List Text) → (v i : ℕ) → TArgs → Links
+-- a variable's name alone
+abbrev pub alone : TExpr → Option Text
+alone (variable x) = Some x
+alone _ = None
+
+abbrev pub link_of : Option ℕ → Option ℕ → Links
+link_of (Some a) (Some b) = (a, b) ∷ []
+link_of _ _ = []
+
+-- a reference that is passed on, by its name alone, as argument `i` of a call of `v`, to a parameter that takes `&mut`
+abbrev pub arg_links : List TFunction → (first : ℕ) → List Text → (v i : ℕ) → TArg → Links
+arg_links fs first params v i (value e) = link_of (own_param first params (alone e)) (mutable_param fs v i)
+arg_links fs first params v i (shared x) = []
+arg_links fs first params v i (mutable x) = []
+
+abbrev pub args_links : List TFunction → (first : ℕ) → List Text → (v i : ℕ) → TArgs → Links
 args_links fs first params v i no_args = []
 args_links fs first params v i (more_args a rest) = arg_links fs first params v i a ++ args_links fs first params v (i + 1) rest
 
-abbrev pub to_links : List TFunction → (first : ℕ) → (params : List Text) → TArgs → Option ℕ → Links
+abbrev pub to_links : List TFunction → (first : ℕ) → List Text → TArgs → Option ℕ → Links
 to_links fs first params args None = []
 to_links fs first params args (Some v) = args_links fs first params v 0 args
 
+abbrev pub pass_call : List TFunction → (first : ℕ) → List Text → TCall → Links
+pass_call fs first params (call f args) = to_links fs first params args (function_place fs f)
+
 abbrev pub function_links : List TFunction → (first : ℕ) → TFunction → Links
-function_links fs first f = flat_map (λ c. to_links fs first (param_names f) (args_of_call c) (place (function_names fs) (callee c))) (body_calls f)
+function_links fs first f = flat_map (pass_call fs first (param_names f)) (body_calls f)
 
 -- which parameters are passed on to which, where the first of the functions has the place `u`
 abbrev pub pass_links_from : List TFunction → (u : ℕ) → List TFunction → Links
@@ -66,7 +91,7 @@ written_through _ = []
 
 -- the parameters that a function writes through itself
 abbrev pub function_writes : (first : ℕ) → TFunction → List ℕ
-function_writes first f = flat_map (λ x. map (λ j. first + j) (option_to_list (place (param_names f) x))) (flat_map written_through (block_kinds None f.body))
+function_writes first f = flat_map (λ x. option_to_list (own_param first (param_names f) (Some x))) (flat_map written_through (block_kinds None f.body))
 
 abbrev pub writes_from : List TFunction → (u : ℕ) → List TFunction → List ℕ
 writes_from all u [] = []
@@ -79,10 +104,15 @@ writes_through fs n = list_any (nat_eq n) (writes_from fs 0 fs)
 abbrev pub param_assigned : List TFunction → ℕ → Bool
 param_assigned fs n = reaches_some (pass_links fs) (param_count fs) (writes_through fs) n
 
+abbrev pub assigned_number : List TFunction → Option ℕ → Bool
+assigned_number fs None = false
+assigned_number fs (Some n) = param_assigned fs n
+
 -- `&mut x` as argument `i` of a call of `v`, for a parameter that is assigned through
 abbrev pub arg_assigns : List TFunction → Text → (v i : ℕ) → TArg → Bool
-arg_assigns fs x v i (mutable y) = bytes_eq x y && takes_mutable fs v i && param_assigned fs (first_param fs v + i)
-arg_assigns fs x v i _ = false
+arg_assigns fs x v i (value e) = false
+arg_assigns fs x v i (shared y) = false
+arg_assigns fs x v i (mutable y) = bytes_eq x y && assigned_number fs (mutable_param fs v i)
 
 abbrev pub args_assign : List TFunction → Text → (v i : ℕ) → TArgs → Bool
 args_assign fs x v i no_args = false
@@ -94,7 +124,7 @@ callee_assigns fs x args (Some v) = args_assign fs x v 0 args
 
 -- a call passes the variable `x` by `&mut`, and it is assigned there
 abbrev pub call_assigns : List TFunction → Text → TCall → Bool
-call_assigns fs x c = callee_assigns fs x (args_of_call c) (place (function_names fs) (callee c))
+call_assigns fs x (call f args) = callee_assigns fs x args (function_place fs f)
 
 abbrev pub is_target : Text → TKind → Bool
 is_target x (assign y r) = bytes_eq x y

@@ -12,3 +12,4 @@ pub mod Broken
 pub mod Expansion
 pub mod Weight
 pub mod Stack
+pub mod Numbered

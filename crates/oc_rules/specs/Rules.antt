@@ -23,7 +23,8 @@ use Rattle.oc_rules.specs.declared.scope.Policy.TheVariants as policies
 use Rattle.oc_rules.specs.declared.scope.Var.{Var}
 use Rattle.oc_rules.specs.Pulls.{own_pulls, own_skips}
 use Rattle.oc_rules.specs.Mentions.{own_mentions, call_mentions}
-use Rattle.oc_rules.specs.Calls.{place, function_place, callee, args_of_call, args_calls, own_calls, calls, reaches_mention}
+use Rattle.oc_rules.specs.Calls.{place, function_place, callee, args_of_call, args_calls, own_calls, call_links, reaches_mention}
+use Rattle.oc_rules.specs.Reach.{reaches}
 use Rattle.oc_rules.specs.Assigned.{reaches_assign}
 use Rattle.oc_rules.specs.Scope.{Scope, variable_in, variable_of, is_variable, is_among, is_taken, takes_param, function_named}
 use Rattle.oc_rules.specs.Types.{is_by_reference, is_reference, is_array, scalar_of, is_int, is_bool, is_same, is_same_kind, value_type, pointed_type, has_elements, type_of, right_type, call_type}
@@ -440,9 +441,13 @@ call_exposes p scope c = callee_is (λ u. list_any (arg_exposes p scope u) (call
 abbrev pub exposes_nv : TProgram → Scope → TKind → Bool
 exposes_nv p scope k = list_any (call_exposes p scope) (own_calls k)
 
--- a called function is the caller, or calls it directly or through others
-abbrev pub calls_back : TProgram → Here → TKind → Bool
-calls_back p h k = list_any (callee_is (λ u. (u == h.number) || calls p.functions u h.number) p) (own_calls k)
+-- the function `u` is that with the number `n`, or calls it directly or through others
+abbrev pub back_to : TProgram → (n u : ℕ) → Bool
+back_to p n u = reaches (call_links p.functions) (length p.functions) u n
+
+-- a called function is the caller, which has the number `n`, or calls it directly or through others
+abbrev pub calls_back : TProgram → (n : ℕ) → TKind → Bool
+calls_back p n k = list_any (callee_is (back_to p n) p) (own_calls k)
 
 -- what a call passes by `&mut` stands just there in the statement
 abbrev pub lends_apart : TProgram → TKind → TCall → Bool

@@ -2,3 +2,4 @@ pub mod Lent
 pub mod Standing
 pub mod Small
 pub mod Walk
+pub mod Marks

@@ -1,5 +1,5 @@
 //! The first element of a program that breaks a rule.
-ghost use Rattle.std.specs.Prelude.{◌≡◌, ◌<◌, ◌≤◌, ◌^◌, [], ◌∷◌, false, None, Some, slice_get, IfOk};
+ghost use Rattle.std.specs.Prelude.{◌≡◌, ◌<◌, ◌≤◌, ◌^◌, [], ◌∷◌, false, None, Some, length, slice_get, IfOk};
 ghost use Rattle.oc_tree.specs.Nodes.{block_nodes, program_nodes};
 ghost use Rattle.oc_tree.specs.View.{block_view, function_view, program_view};
 ghost use Rattle.oc_rules.specs.Broken.{broken, end_rules, item_rules, lowest};
@@ -130,6 +130,7 @@ fn walk_body<'a>(
     function: &'a Function,
 ) -> Result<Option<Broken>, AllocError>
     requires nodes { block_nodes (block_view function.now.body) < 2 ^ 32 }
+    requires below { before.functions < length (program_view top.now).functions }
     requires counts { IsSmall counts.old }
     ensures found { IfOk result (λ r. outcome r counts.new ≡ function_walk (program_view top.now) before counts.old line (Some (function_view function.now))) }
     ensures small { IfOk result (λ r. r ≡ None → IsSmall counts.new) }
@@ -146,7 +147,16 @@ fn walk_body<'a>(
                 block: 0,
                 last: true,
             };
-            walk_block(alloc, top, place, &mut scope, counts, &function.body)
+            let callers = top.callers(alloc, before.functions)?;
+            walk_block(
+                alloc,
+                top,
+                place,
+                &callers,
+                &mut scope,
+                counts,
+                &function.body,
+            )
         }
     }
 }

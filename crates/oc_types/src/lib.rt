@@ -10,6 +10,7 @@ mod known;
 mod operands;
 mod place;
 mod pulls;
+mod reach;
 mod scope;
 mod sides;
 mod statement;

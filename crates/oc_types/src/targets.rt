@@ -1,7 +1,7 @@
 //! What may be written to, and lent.
 ghost use Rattle.std.specs.Prelude.{◌≡◌};
 ghost use Rattle.oc_tree.specs.View.{arg_view, kind_view, program_view};
-ghost use Rattle.oc_rules.specs.Rules.{arg_lends, array_fixed, is_mutable_param, is_mutable_passing, is_own, is_writable, is_writable_array, origin_is, pointee_fixed, target_fixed};
+ghost use Rattle.oc_rules.specs.Rules.{arg_lends, array_fixed, is_mutable_param, is_mutable_passing, is_nv, is_own, is_writable, is_writable_array, origin_is, pointee_fixed, target_fixed};
 
 use crate::scope::Scope;
 use crate::top::TopLevel;
@@ -63,6 +63,19 @@ pub fn is_mutable_reference(variable: Option<Var>) -> bool
 {
     match variable {
         Some(v) => is_mutable_param(v.origin),
+        None => false,
+    }
+}
+
+/// Whether it is a nonvolatile variable.
+pub fn is_nv(variable: Option<Var>) -> bool
+    ensures { result ≡ origin_is is_nv variable }
+{
+    match variable {
+        Some(v) => match v.origin {
+            Origin::Nv => true,
+            _ => false,
+        },
         None => false,
     }
 }

@@ -1,5 +1,5 @@
 //! What the names of the top level stand for.
-ghost use Rattle.std.specs.Prelude.{◌≡◌, ◌≤◌, option_map, slice_get, IfOk, IfSome};
+ghost use Rattle.std.specs.Prelude.{◌≡◌, ◌<◌, ◌≤◌, length, option_map, slice_get, IfOk, IfSome};
 ghost use Rattle.std.specs.Coded.{codes};
 ghost use Rattle.oc_tree.specs.declared.tree.Program.{Program};
 ghost use Rattle.oc_tree.specs.contracts.tree.Block as b;
@@ -7,10 +7,12 @@ ghost use Rattle.oc_tree.specs.Nodes.{block_nodes, program_nodes};
 ghost use Rattle.oc_tree.specs.View.{block_view, call_view, function_view, program_view};
 ghost use Rattle.oc_rules.specs.Calls.{function_place, place};
 ghost use Rattle.oc_rules.specs.Scope.{function_named, is_declared, is_taken, nv_kind, nv_named, variable_of};
+ghost use Rattle.oc_types.specs.Marks.{IsCallers, IsMentioning};
 ghost use Rattle.oc_rules.specs.Rules.{callee_params, declared_before, stands_before};
 
 use crate::scope::Scope;
 use oc_reach::calls::Calls;
+use oc_reach::marks::Marks;
 use oc_reach::table::Table;
 use oc_rules::before::Before;
 use oc_rules::scope::{Origin, Var};
@@ -115,9 +117,28 @@ impl<'a> TopLevel<'a> {
     }
 
     pub fn function_place(&self, name: &Name) -> Option<usize>
-        ensures { result ≡ function_place (program_view self.now).functions name.now }
+        ensures place { result ≡ function_place (program_view self.now).functions name.now }
+        ensures below { IfSome result (λ i. i < length (program_view self.now).functions) }
     {
         self.calls.place(name)
+    }
+
+    /// Marks a function, and those that call it, directly or through others.
+    pub fn callers(&self, alloc: Global, number: usize) -> Result<Marks, AllocError>
+        requires { number < length (program_view self.now).functions }
+        ensures { IfOk result (λ m. IsCallers (program_view self.now) number m) }
+    {
+        let marks = self.calls.callers(alloc, number)?;
+        Ok(marks)
+    }
+
+    /// Marks the functions that name a nonvolatile variable, and those that call one, directly or
+    /// through others.
+    pub fn mentioning(&self, alloc: Global, name: &Name) -> Result<Marks, AllocError>
+        ensures { IfOk result (λ m. IsMentioning (program_view self.now) name.now m) }
+    {
+        let marks = self.calls.mentioning(alloc, name)?;
+        Ok(marks)
     }
 
     /// The first function of that name.
@@ -141,6 +162,7 @@ impl<'a> TopLevel<'a> {
     /// The function with that number.
     pub fn function_at(&self, number: usize) -> Option<&'a Function>
         ensures found { option_map (λ f. function_view f.now) result ≡ slice_get (program_view self.now).functions number }
+        ensures below { IfSome result (λ f. number < length (program_view self.now).functions) }
         ensures nodes { IfSome result (λ f. block_nodes (block_view f.now.body) ≤ program_nodes (program_view self.now)) }
     {
         self.nth(number)

@@ -4,4 +4,6 @@ pub mod LinkLaws
 pub mod Lists
 pub mod Rows
 pub mod Tests
+pub mod PassLaws
 pub mod Walk
+pub mod WriteLaws

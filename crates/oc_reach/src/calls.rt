@@ -6,7 +6,7 @@ ghost use Rattle.oc_tree.specs.declared.tree.Function.{Function};
 ghost use Rattle.oc_tree.specs.View.{function_view};
 ghost use Rattle.oc_tree.specs.declared.tree.Param.{Param};
 ghost use Rattle.oc_rules.specs.Mentions.{own_names};
-ghost use Rattle.oc_rules.specs.Reach.{reaches};
+ghost use Rattle.oc_rules.specs.Reach.{reaches, reaches_some};
 ghost use Rattle.oc_rules.specs.Calls.{block_kinds, call_links, called_places, function_mentions, function_names, function_place, has_param, links_from, reaches_mention};
 ghost use Rattle.oc_reach.specs.Marked.{is_in};
 ghost use Rattle.oc_reach.specs.Views.{calls_seen, kinds_seen};
@@ -53,7 +53,8 @@ fn call_links(
     Ok(links)
 }
 
-fn has_param(params: &[Param], name: &Name) -> bool
+/// Whether a parameter has this name.
+pub fn has_param(params: &[Param], name: &Name) -> bool
     ensures { result ≡ has_param name.now params.now }
 {
     for param in params {
@@ -160,6 +161,16 @@ impl<'a> Calls<'a> {
         Ok(back)
     }
 
+    /// Marks the functions whose tests pass, and those that call one, directly or through others.
+    pub fn back_from(&self, alloc: Global, tests: &[bool]) -> Result<Marks, AllocError>
+        requires { length tests.now ≡ length self.now }
+        ensures bound { IfOk result (λ m. m.1 ≡ length self.now) }
+        ensures marked { IfOk result (λ m. (u : ℕ) → is_in m.0 u ≡ reaches_some (call_links (map function_view self.now)) (length self.now) (λ v. get_or tests.now v false) u) }
+    {
+        let _functions = self.functions;
+        self.reach.back_from(alloc, tests)
+    }
+
     /// Marks the functions that name a nonvolatile variable, and those that call one, directly or
     /// through others.
     pub fn mentioning(&self, alloc: Global, name: &Name) -> Result<Marks, AllocError>
@@ -167,6 +178,6 @@ impl<'a> Calls<'a> {
         ensures marked { IfOk result (λ m. (u : ℕ) → is_in m.0 u ≡ reaches_mention (map function_view self.now) name.now u) }
     {
         let tests = mention_tests(alloc, self.functions, name)?;
-        self.reach.back_from(alloc, tests.as_slice())
+        self.back_from(alloc, tests.as_slice())
     }
 }

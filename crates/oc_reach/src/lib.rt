@@ -3,9 +3,12 @@
 //! calls.
 #![tactic(auto)]
 
+pub mod assigned;
 pub mod calls;
 pub mod marks;
 pub mod mentions;
+pub mod params;
 pub mod parts;
+pub mod passes;
 pub mod reach;
 pub mod table;

@@ -84,21 +84,21 @@ abbrev pub pass_links : List TFunction → Links
 pass_links fs = pass_links_from fs 0 fs
 
 -- the reference that a statement writes through
-abbrev pub written_through : TKind → List Text
-written_through (assign_index x i r) = x ∷ []
-written_through (assign_deref x r) = x ∷ []
-written_through _ = []
+abbrev pub written_through : TKind → Option Text
+written_through (assign_index x i r) = Some x
+written_through (assign_deref x r) = Some x
+written_through _ = None
 
 -- the parameters that a function writes through itself
 abbrev pub function_writes : (first : ℕ) → TFunction → List ℕ
-function_writes first f = flat_map (λ x. option_to_list (own_param first (param_names f) (Some x))) (flat_map written_through (block_kinds None f.body))
+function_writes first f = flat_map (λ k. option_to_list (own_param first (param_names f) (written_through k))) (block_kinds None f.body)
 
 abbrev pub writes_from : List TFunction → (u : ℕ) → List TFunction → List ℕ
 writes_from all u [] = []
 writes_from all u (f ∷ fs) = function_writes (first_param all u) f ++ writes_from all (u + 1) fs
 
 abbrev pub writes_through : List TFunction → ℕ → Bool
-writes_through fs n = list_any (nat_eq n) (writes_from fs 0 fs)
+writes_through fs n = list_any (λ x. nat_eq x n) (writes_from fs 0 fs)
 
 -- a function assigns through its parameter of the number `n`, itself or through functions that it passes it on to
 abbrev pub param_assigned : List TFunction → ℕ → Bool

@@ -1,0 +1,5 @@
+pub mod Joins
+pub mod Lengths
+pub mod NoPulls
+pub mod NumberedLaws
+pub mod OwnExpansion

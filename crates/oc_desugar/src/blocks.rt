@@ -1,0 +1,270 @@
+//! The expansion of statements and blocks.
+ghost use Rattle.std.specs.Prelude.{◌≡◌, ◌<◌, ◌^◌, ◌+◌, ◌++◌, ◌∷◌, [], map, length, OnOk, IfOk};
+ghost use Rattle.oc_tree.specs.Tree.{stmt};
+ghost use Rattle.oc_tree.specs.View.{block_view, else_view, kind_view, right_view, stmt_view, stmts_view};
+ghost use Rattle.oc_rules.specs.Expansion.{block_size, else_size, expand_block, expand_else, expand_kind, expand_stmts, inner_size, pulled, stmts_size, temporaries};
+ghost use Rattle.oc_rules.specs.Pulls.{block_pulls, else_pulls, inner_pulls, own_pulls, stmts_pulls};
+
+use crate::copy::copy_name;
+use crate::parts::{left_call, left_expr, left_right, temporary};
+use crate::pulls::own_pulls;
+use oc_tree::tree::{Block, Right, Stmt, StmtKind};
+use std::alloc::{AllocError, Global};
+
+/// The numbers of the next pull and of the next statement.
+#[derive(Clone, Copy)]
+pub struct Numbers {
+    pub pull: u32,
+    pub stmt: u32,
+}
+
+// Adds the `let`s of the pulls.
+fn add_temporaries(
+    alloc: Global,
+    k: u32,
+    i: u32,
+    line: u32,
+    pulls: Vec<Right>,
+    out: &mut Vec<Stmt>,
+) -> Result<(), AllocError>
+    requires pulls { k + length (map right_view pulls.items) < 2 ^ 32 }
+    requires stmts { i + length (map right_view pulls.items) < 2 ^ 32 }
+    ensures { OnOk result (map stmt_view out.new.items ≡ map stmt_view out.old.items ++ temporaries k i line (map right_view pulls.items)) }
+{
+    let mut k = k;
+    let mut id = i;
+    for right in pulls {
+        let name = temporary(alloc, k)?;
+        out.push(Stmt {
+            id,
+            line,
+            kind: StmtKind::Let {
+                mutable: false,
+                name,
+                kind: None,
+                right,
+            },
+        })?;
+        k += 1;
+        id += 1;
+    }
+    Ok(())
+}
+
+/// The expansion of a block. The numbers count its pulls and its statements.
+#[cycle(expand)]
+pub fn expand_block(alloc: Global, n: &mut Numbers, block: &Block) -> Result<Block, AllocError>
+    requires pulls { n.old.pull + block_pulls (block_view block.now) < 2 ^ 32 }
+    requires stmts { n.old.stmt + block_size (block_view block.now) < 2 ^ 32 }
+    ensures expanded { IfOk result (λ r. block_view r ≡ expand_block n.old.pull n.old.stmt (block_view block.now)) }
+    ensures pull { OnOk result (n.new.pull ≡ n.old.pull + block_pulls (block_view block.now)) }
+    ensures stmt { OnOk result (n.new.stmt ≡ n.old.stmt + block_size (block_view block.now)) }
+{
+    let statements = expand_stmts(alloc, n, block.statements.as_slice())?;
+    Ok(Block {
+        id: block.id,
+        statements,
+    })
+}
+
+#[cycle(expand)]
+fn expand_else(
+    alloc: Global,
+    n: &mut Numbers,
+    otherwise: &Option<Block>,
+) -> Result<Option<Block>, AllocError>
+    requires pulls { n.old.pull + else_pulls (else_view otherwise.now) < 2 ^ 32 }
+    requires stmts { n.old.stmt + else_size (else_view otherwise.now) < 2 ^ 32 }
+    ensures expanded { IfOk result (λ r. else_view r ≡ expand_else n.old.pull n.old.stmt (else_view otherwise.now)) }
+    ensures pull { OnOk result (n.new.pull ≡ n.old.pull + else_pulls (else_view otherwise.now)) }
+    ensures stmt { OnOk result (n.new.stmt ≡ n.old.stmt + else_size (else_view otherwise.now)) }
+{
+    match otherwise {
+        Some(block) => Ok(Some(expand_block(alloc, n, block)?)),
+        None => Ok(None),
+    }
+}
+
+#[cycle(expand)]
+fn expand_stmts(
+    alloc: Global,
+    n: &mut Numbers,
+    statements: &[Stmt],
+) -> Result<Vec<Stmt>, AllocError>
+    requires pulls { n.old.pull + stmts_pulls (stmts_view statements.now) < 2 ^ 32 }
+    requires stmts { n.old.stmt + stmts_size (stmts_view statements.now) < 2 ^ 32 }
+    ensures expanded { IfOk result (λ r. stmts_view r.items ≡ expand_stmts n.old.pull n.old.stmt (stmts_view statements.now)) }
+    ensures pull { OnOk result (n.new.pull ≡ n.old.pull + stmts_pulls (stmts_view statements.now)) }
+    ensures stmt { OnOk result (n.new.stmt ≡ n.old.stmt + stmts_size (stmts_view statements.now)) }
+{
+    let mut out = Vec::new(alloc);
+    for statement in statements {
+        expand_stmt(alloc, n, statement, &mut out)?;
+    }
+    Ok(out)
+}
+
+// Adds the group of a statement.
+#[cycle(expand)]
+#[tactic(auto, using(crate::proofs::Lengths::length_pulled))]
+fn expand_stmt(
+    alloc: Global,
+    n: &mut Numbers,
+    statement: &Stmt,
+    out: &mut Vec<Stmt>,
+) -> Result<(), AllocError>
+    requires pulls { n.old.pull + (own_pulls (kind_view statement.now.kind) + inner_pulls (kind_view statement.now.kind)) < 2 ^ 32 }
+    requires stmts { n.old.stmt + (own_pulls (kind_view statement.now.kind) + 1 + inner_size (kind_view statement.now.kind)) < 2 ^ 32 }
+    ensures expanded { OnOk result (map stmt_view out.new.items ≡ map stmt_view out.old.items ++ (temporaries n.old.pull n.old.stmt statement.now.line (pulled n.old.pull (kind_view statement.now.kind)) ++ stmt (n.old.stmt + own_pulls (kind_view statement.now.kind)) statement.now.line (expand_kind n.old.pull (n.old.stmt + own_pulls (kind_view statement.now.kind) + 1) (kind_view statement.now.kind)) ∷ [])) }
+    ensures pull { OnOk result (n.new.pull ≡ n.old.pull + (own_pulls (kind_view statement.now.kind) + inner_pulls (kind_view statement.now.kind))) }
+    ensures stmt { OnOk result (n.new.stmt ≡ n.old.stmt + (own_pulls (kind_view statement.now.kind) + 1 + inner_size (kind_view statement.now.kind))) }
+{
+    let k = n.pull;
+    let i = n.stmt;
+    let id = i + own_pulls(&statement.kind);
+    n.stmt = id + 1;
+    let mut pulls = Vec::new(alloc);
+    let kind = expand_kind(alloc, n, &mut pulls, &statement.kind)?;
+    add_temporaries(alloc, k, i, statement.line, pulls, out)?;
+    out.push(Stmt {
+        id,
+        line: statement.line,
+        kind,
+    })?;
+    Ok(())
+}
+
+#[cycle(expand)]
+fn expand_kind(
+    alloc: Global,
+    n: &mut Numbers,
+    pulls: &mut Vec<Right>,
+    kind: &StmtKind,
+) -> Result<StmtKind, AllocError>
+    requires pulls { n.old.pull + (own_pulls (kind_view kind.now) + inner_pulls (kind_view kind.now)) < 2 ^ 32 }
+    requires stmts { n.old.stmt + inner_size (kind_view kind.now) < 2 ^ 32 }
+    ensures expanded { IfOk result (λ r. kind_view r ≡ expand_kind n.old.pull n.old.stmt (kind_view kind.now)) }
+    ensures pulled { OnOk result (map right_view pulls.new.items ≡ map right_view pulls.old.items ++ pulled n.old.pull (kind_view kind.now)) }
+    ensures pull { OnOk result (n.new.pull ≡ n.old.pull + (own_pulls (kind_view kind.now) + inner_pulls (kind_view kind.now))) }
+    ensures stmt { OnOk result (n.new.stmt ≡ n.old.stmt + inner_size (kind_view kind.now)) }
+{
+    match kind {
+        StmtKind::Let {
+            mutable,
+            name,
+            kind,
+            right,
+        } => {
+            let name = copy_name(alloc, name)?;
+            let right = left_right(alloc, &mut n.pull, pulls, right)?;
+            Ok(StmtKind::Let {
+                mutable: *mutable,
+                name,
+                kind: *kind,
+                right,
+            })
+        }
+        StmtKind::LetArray {
+            mutable,
+            name,
+            kind,
+            initial,
+            words,
+        } => {
+            Ok(StmtKind::LetArray {
+                mutable: *mutable,
+                name: copy_name(alloc, name)?,
+                kind: *kind,
+                initial: *initial,
+                words: *words,
+            })
+        }
+        StmtKind::Assign { name, right } => {
+            let name = copy_name(alloc, name)?;
+            let right = left_right(alloc, &mut n.pull, pulls, right)?;
+            Ok(StmtKind::Assign { name, right })
+        }
+        StmtKind::AssignIndex { name, index, right } => {
+            let name = copy_name(alloc, name)?;
+            let index = left_expr(alloc, &mut n.pull, pulls, index)?;
+            let right = left_right(alloc, &mut n.pull, pulls, right)?;
+            Ok(StmtKind::AssignIndex { name, index, right })
+        }
+        StmtKind::AssignDeref { name, right } => {
+            let name = copy_name(alloc, name)?;
+            let right = left_right(alloc, &mut n.pull, pulls, right)?;
+            Ok(StmtKind::AssignDeref { name, right })
+        }
+        StmtKind::If {
+            condition,
+            then,
+            otherwise,
+        } => {
+            let condition = left_expr(alloc, &mut n.pull, pulls, condition)?;
+            let then = expand_block(alloc, n, then)?;
+            let otherwise = expand_else(alloc, n, otherwise)?;
+            Ok(StmtKind::If {
+                condition,
+                then,
+                otherwise,
+            })
+        }
+        StmtKind::For {
+            name,
+            from,
+            to,
+            body,
+        } => {
+            let name = copy_name(alloc, name)?;
+            let body = expand_block(alloc, n, body)?;
+            Ok(StmtKind::For {
+                name,
+                from: *from,
+                to: *to,
+                body,
+            })
+        }
+        StmtKind::While {
+            condition,
+            bound,
+            body,
+        } => {
+            let condition = left_expr(alloc, &mut n.pull, pulls, condition)?;
+            let body = expand_block(alloc, n, body)?;
+            Ok(StmtKind::While {
+                condition,
+                bound: *bound,
+                body,
+            })
+        }
+        StmtKind::CallOnly { call } => {
+            let call = left_call(alloc, &mut n.pull, pulls, call)?;
+            Ok(StmtKind::CallOnly { call })
+        }
+        StmtKind::SenseOnly { sensor } => {
+            Ok(StmtKind::SenseOnly {
+                sensor: copy_name(alloc, sensor)?,
+            })
+        }
+        StmtKind::Emit { port, value } => {
+            let port = copy_name(alloc, port)?;
+            let value = left_expr(alloc, &mut n.pull, pulls, value)?;
+            Ok(StmtKind::Emit { port, value })
+        }
+        StmtKind::Fresh { name } => {
+            Ok(StmtKind::Fresh {
+                name: copy_name(alloc, name)?,
+            })
+        }
+        StmtKind::Consistent { name, id } => {
+            Ok(StmtKind::Consistent {
+                name: copy_name(alloc, name)?,
+                id: *id,
+            })
+        }
+        StmtKind::Return { value } => {
+            let value = left_expr(alloc, &mut n.pull, pulls, value)?;
+            Ok(StmtKind::Return { value })
+        }
+    }
+}

@@ -1,0 +1,67 @@
+-- A table whose keys are borrowed names, as the list that contracts see.
+use Rattle.std.proofs.Common.{◌≡◌, ◌<◌, ◌+◌, ℕ, Bool, true, false, cond, List, [], ◌∷◌, ◌++◌, Option, Some, None, IfSome, map, refl, ap, sym, ◌∙◌, Bor, length, rules, arith}
+use Rattle.std.specs.Str.{bytes_eq}
+use Rattle.std.specs.Map.{lookup}
+use Rattle.indexmap.specs.IndexMap.{insert_entry}
+use Rattle.std.proofs.lemmas.Slice.Eq.{bytes_eq-Decides}
+use Rattle.oc_tree.specs.Names.{Text}
+use Rattle.oc_rules.specs.Calls.{place_from}
+use Rattle.oc_reach.specs.Entries.{Entries, number_in, or_else}
+
+abbrev pub seen : List (Bor Text × ℕ) → Entries
+seen es = map (λ e. (e.0.now, e.1)) es
+
+pub lookup-seen : (x : Text) (es : List (Bor Text × ℕ)) → lookup (λ y. bytes_eq x y.now) es ≡ number_in (seen es) x
+lookup-seen x [] = refl
+lookup-seen x (e ∷ es) = ap (cond (bytes_eq x e.0.now) (Some e.1)) (lookup-seen x es)
+
+pub insert-seen : (es : List (Bor Text × ℕ)) (k : Bor Text) (v : ℕ) → number_in (seen es) k.now ≡ None → seen (insert_entry (λ x y. bytes_eq x.now y.now) es k v) ≡ seen es ++ (k.now, v) ∷ []
+insert-seen [] k v h = refl
+insert-seen (e ∷ es) k v h = by (bytes_eq k.now e.0.now) h (insert-seen es k v)
+  where
+    by : (b : Bool) → cond b (Some e.1) (number_in (seen es) k.now) ≡ None → (number_in (seen es) k.now ≡ None → seen (insert_entry (λ x y. bytes_eq x.now y.now) es k v) ≡ seen es ++ (k.now, v) ∷ []) → seen (cond b ((e.0, v) ∷ es) (e ∷ insert_entry (λ x y. bytes_eq x.now y.now) es k v)) ≡ seen (e ∷ es) ++ (k.now, v) ∷ []
+    by true none rest = absurd (cc)
+    by false none rest = ap (λ r. (e.0.now, e.1) ∷ r) (rest none)
+
+pub found_push : (m : Entries) (n x : Text) (i : ℕ) → number_in (m ++ (n, i) ∷ []) x ≡ or_else (number_in m x) (cond (bytes_eq x n) (Some i) None)
+found_push [] n x i = refl
+found_push (e ∷ m) n x i = by (bytes_eq x e.0) (found_push m n x i)
+  where
+    by : (b : Bool) → number_in (m ++ (n, i) ∷ []) x ≡ or_else (number_in m x) (cond (bytes_eq x n) (Some i) None) → cond b (Some e.1) (number_in (m ++ (n, i) ∷ []) x) ≡ or_else (cond b (Some e.1) (number_in m x)) (cond (bytes_eq x n) (Some i) None)
+    by true h = refl
+    by false h = h
+
+or_else_assoc : (a : Option ℕ) (b : Bool) (i : ℕ) (r : Option ℕ) → or_else (or_else a (cond b (Some i) None)) r ≡ or_else a (cond b (Some i) r)
+or_else_assoc (Some a) b i r = refl
+or_else_assoc None true i r = refl
+or_else_assoc None false i r = refl
+
+-- a name that is new is added
+pub table_new : (m new : Entries) (n x : Text) (i : ℕ) (rest : Option ℕ) → new ≡ m ++ (n, i) ∷ [] → or_else (number_in new x) rest ≡ or_else (number_in m x) (cond (bytes_eq x n) (Some i) rest)
+table_new m new n x i rest e = ap (λ l. or_else (number_in l x) rest) e ∙ ap (λ o. or_else o rest) (found_push m n x i) ∙ or_else_assoc (number_in m x) (bytes_eq x n) i rest
+
+bytes_eq_true : (xs ys : Text) → bytes_eq xs ys ≡ true → xs ≡ ys
+bytes_eq_true xs ys h = search (rules, bytes_eq-Decides xs ys)
+
+-- a name that is there keeps its number
+pub table_old : (m : Entries) (n x : Text) (i j : ℕ) (rest : Option ℕ) → number_in m n ≡ Some j → or_else (number_in m x) rest ≡ or_else (number_in m x) (cond (bytes_eq x n) (Some i) rest)
+table_old m n x i j rest h = by (bytes_eq x n) refl
+  where
+    by : (b : Bool) → bytes_eq x n ≡ b → or_else (number_in m x) rest ≡ or_else (number_in m x) (cond b (Some i) rest)
+    by true q =
+        let e : number_in m x ≡ Some j = ap (number_in m) (bytes_eq_true x n q) ∙ h in
+        ap (λ o. or_else o rest) e ∙ sym (ap (λ o. or_else o (Some i)) e)
+    by false q = refl
+
+-- a place lies in the list
+pub place_below : (n : ℕ) (xs : List Text) (x : Text) (i : ℕ) → place_from n xs x ≡ Some i → i < n + length xs
+place_below n [] x i h = absurd (cc)
+place_below n (y ∷ ys) x i h = by (bytes_eq x y) h (place_below (n + 1) ys x i)
+  where
+    by : (b : Bool) → cond b (Some n) (place_from (n + 1) ys x) ≡ Some i → (place_from (n + 1) ys x ≡ Some i → i < n + 1 + length ys) → i < n + length (y ∷ ys)
+    by true e rest = let q : n ≡ i = cc in omega (arith, q)
+    by false e rest = omega (arith, rest e)
+
+pub place_within : (r : Option ℕ) (xs : List Text) (x : Text) → r ≡ place_from 0 xs x → IfSome r (λ i. i < length xs)
+place_within None xs x e = tt
+place_within (Some i) xs x e = omega (arith, place_below 0 xs x i (sym e))

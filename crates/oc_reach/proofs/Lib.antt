@@ -1,0 +1,9 @@
+pub mod Bools
+pub mod Entries
+pub mod LinkLaws
+pub mod Lists
+pub mod Rows
+pub mod Tests
+pub mod PassLaws
+pub mod Walk
+pub mod WriteLaws

@@ -1,0 +1,7 @@
+use Rattle.std.proofs.Common.{◌≡◌, ◌++◌, drop, map}
+use Rattle.oc_reach.specs.Views.{names_seen}
+use Rattle.oc_reach.proofs.table.param_table.Given as goal
+
+abbrev pub invariant-loop-param : goal.invariant-loop-param
+invariant-loop-param l =
+    names_seen l.names.items ++ map (λ p. p.name) (drop l.param-index l.params) ≡ map (λ p. p.name) l.params

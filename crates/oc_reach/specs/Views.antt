@@ -1,0 +1,20 @@
+-- Lists of references to parts of a tree.
+use Rattle.std.specs.Prelude.{List, map, Option, option_map}
+use Rattle.std.proofs.Common.{Bor}
+use Rattle.oc_tree.specs.Names.{Text}
+use Rattle.oc_tree.specs.Tree.{TCall, TKind}
+use Rattle.oc_tree.specs.View.{call_view, kind_view}
+use Rattle.oc_tree.specs.declared.tree.Call.{Call}
+use Rattle.oc_tree.specs.declared.tree.StmtKind.{StmtKind}
+
+abbrev pub names_seen : List (Bor Text) → List Text
+names_seen ns = map (λ n. n.now) ns
+
+abbrev pub calls_seen : List (Bor Call) → List TCall
+calls_seen cs = map (λ c. call_view c.now) cs
+
+abbrev pub kinds_seen : List (Bor StmtKind) → List TKind
+kinds_seen ks = map (λ k. kind_view k.now) ks
+
+abbrev pub name_seen : Option (Bor Text) → Option Text
+name_seen n = option_map (λ x. x.now) n

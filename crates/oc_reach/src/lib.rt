@@ -1,0 +1,14 @@
+//! Which functions of a program lead to which, and which of them name or assign a nonvolatile
+//! variable, directly or through others. Each question is answered in one pass over the program's
+//! calls.
+#![tactic(auto)]
+
+pub mod assigned;
+pub mod calls;
+pub mod marks;
+pub mod mentions;
+pub mod params;
+pub mod parts;
+pub mod passes;
+pub mod reach;
+pub mod table;

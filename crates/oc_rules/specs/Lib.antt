@@ -1,0 +1,15 @@
+pub mod Pulls
+pub mod Mentions
+pub mod Reach
+pub mod Calls
+pub mod Assigned
+pub mod Scope
+pub mod Types
+pub mod Elements
+pub mod Rules
+pub mod Limits
+pub mod Broken
+pub mod Expansion
+pub mod Weight
+pub mod Stack
+pub mod Numbered

@@ -1,0 +1,86 @@
+-- What is counted, and the limits.
+use Rattle.std.specs.Prelude.{ℕ, ℤ, ◌+◌, Bool, true, false, ◌&&◌, ◌||◌, ◌==◌, List, [], ◌∷◌, ◌++◌, length, Option, Some, None, cond, nat_lt, nat_le}
+use Rattle.std.specs.Ordering.{int_eq}
+use Rattle.std.specs.List.{list_any}
+use Rattle.oc_tree.specs.Tree.{TKind, let_to, let_array, assign, assign_index, assign_deref, if_else, for_in, while_do, call_only, sense_only, emit, fresh, consistent, return}
+use Rattle.oc_rules.specs.declared.before.Before.{Before}
+use Rattle.oc_rules.specs.declared.scope.Origin.{Origin}
+use Rattle.oc_rules.specs.declared.scope.Origin.TheVariants as origins
+use Rattle.oc_rules.specs.declared.scope.Policy.{Policy}
+use Rattle.oc_rules.specs.declared.scope.Policy.TheVariants as policies
+use Rattle.oc_rules.specs.declared.scope.Var.{Var}
+use Rattle.oc_rules.specs.Pulls.{own_pulls}
+use Rattle.oc_rules.specs.Calls.{own_calls}
+use Rattle.oc_rules.specs.Scope.{variable_in}
+use Rattle.oc_rules.specs.Elements.{Item, sensor_item, port_item, nv_item, function_item, Here, Element, declared, statement, ending}
+
+-- the nonvolatile words so far, the variables of the function so far, and the statements, calls and policies so far.
+-- Each pull is a variable and a statement more.
+pub record Tally : Type 0 where
+  pub words : ℕ
+  pub variables : ℕ
+  pub statements : ℕ
+  pub calls : ℕ
+  pub policies : List Policy
+
+abbrev pub nothing_counted : Tally
+nothing_counted = record { words = 0; variables = 0; statements = 0; calls = 0; policies = [] }
+
+abbrev pub own_declares : TKind → ℕ
+own_declares (let_to m x k r) = 1
+own_declares (let_array m x k i n) = 1
+own_declares (for_in x m n b) = 1
+own_declares _ = 0
+
+abbrev pub same_policy : Policy → Policy → Bool
+same_policy (policies.Fresh m) (policies.Fresh n) = m == n
+same_policy (policies.Consistent f m) (policies.Consistent g n) = (f == g) && int_eq m n
+same_policy _ _ = false
+
+-- one policy more, unless it is there
+abbrev pub with_policy : List Policy → Policy → List Policy
+with_policy ps q = cond (list_any (same_policy q) ps) ps (ps ++ q ∷ [])
+
+abbrev pub with_let : List Policy → Origin → List Policy
+with_let ps (origins.Let mut id _) = with_policy ps (policies.Fresh id)
+with_let ps _ = ps
+
+abbrev pub with_fresh : List Policy → Option Var → List Policy
+with_fresh ps None = ps
+with_fresh ps (Some v) = with_let ps v.origin
+
+-- the policies with those of a statement
+abbrev pub policies_after : List Policy → Here → TKind → List Policy
+policies_after ps h (fresh x) = with_fresh ps (variable_in h.scope x)
+policies_after ps h (consistent x n) = with_policy ps (policies.Consistent h.number n)
+policies_after ps h _ = ps
+
+abbrev pub with_statement : Tally → Here → TKind → Tally
+with_statement n h k = record n {
+  variables = n.variables + (own_pulls k + own_declares k);
+  statements = n.statements + (own_pulls k + 1);
+  calls = n.calls + length (own_calls k);
+  policies = policies_after n.policies h k;
+}
+
+abbrev pub with_item : Tally → Item → Tally
+with_item n (nv_item x d) = record n { words = n.words + d.words }
+with_item n (function_item f) = record n { variables = length f.params }
+with_item n _ = n
+
+-- the counts with an element
+abbrev pub counted : Tally → Element → Tally
+counted n (declared b line i) = with_item n i
+counted n (statement h id line k) = with_statement n h k
+counted n (ending line) = n
+
+-- a declaration passes a limit, being one too many or bringing too much
+abbrev pub item_passes : Tally → Before → Item → Bool
+item_passes n b (sensor_item x) = nat_le 64 b.sensors
+item_passes n b (port_item x) = nat_le 64 b.ports
+item_passes n b (nv_item x d) = nat_le 64 b.nvs || nat_lt 65536 n.words
+item_passes n b (function_item f) = nat_le 128 b.functions || (nat_lt 8 (length f.params) || nat_lt 256 n.variables)
+
+-- a statement passes a limit
+abbrev pub statement_passes : Tally → Bool
+statement_passes n = nat_lt 256 n.variables || (nat_lt 8192 n.statements || (nat_lt 1024 n.calls || nat_lt 64 (length n.policies)))

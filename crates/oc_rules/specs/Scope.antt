@@ -1,0 +1,83 @@
+-- The variables in scope, and what names stand for.
+use Rattle.std.specs.Prelude.{ℕ, Bool, true, false, not, ◌||◌, List, [], ◌∷◌, ◌++◌, map, Option, Some, None, cond, is_some, slice_get, option_map, option_and_then}
+use Rattle.std.specs.Str.{bytes_eq}
+use Rattle.oc_tree.specs.Names.{Text}
+use Rattle.oc_tree.specs.Tree.{TFunction, TProgram}
+use Rattle.oc_tree.specs.declared.tree.NvDecl.{NvDecl}
+use Rattle.oc_tree.specs.declared.tree.Param.{Param}
+use Rattle.oc_tree.specs.declared.tree.Passing.{Passing}
+use Rattle.oc_tree.specs.declared.tree.Passing.TheVariants as passings
+use Rattle.oc_tree.specs.declared.tree.ValueKind.TheVariants as kinds
+use Rattle.oc_tree.specs.declared.tree.ValueKind.{ValueKind}
+use Rattle.oc_rules.specs.declared.scope.Origin.{Origin}
+use Rattle.oc_rules.specs.declared.scope.Origin.TheVariants as origins
+use Rattle.oc_rules.specs.declared.scope.Var.{Var}
+use Rattle.oc_rules.specs.Calls.{place, function_place, function_names}
+
+-- parameters, and `let` and `for` variables, in the order of their declarations
+abbrev pub Scope : Type 0
+Scope = List (Text × Var)
+
+-- the variable of that name among these
+abbrev pub variable_in : Scope → Text → Option Var
+variable_in [] x = None
+variable_in (v ∷ vs) x = cond (bytes_eq x v.0) (Some v.1) (variable_in vs x)
+
+abbrev pub is_in_scope : Scope → Text → Bool
+is_in_scope scope x = is_some (variable_in scope x)
+
+-- ---- names of the top level
+
+abbrev pub is_among : List Text → Text → Bool
+is_among xs x = is_some (place xs x)
+
+abbrev pub function_named : TProgram → Text → Option TFunction
+function_named p x = option_and_then (λ i. slice_get p.functions i) (function_place p.functions x)
+
+abbrev pub nv_kind : NvDecl → ValueKind
+nv_kind d = cond d.array (kinds.Array d.words) kinds.Int
+
+abbrev pub nv_var : NvDecl → Var
+nv_var d = record { origin = origins.Nv; kind = nv_kind d }
+
+abbrev pub nv_named : TProgram → Text → Option Var
+nv_named p x = option_map nv_var (option_and_then (λ i. slice_get p.nv i) (place p.names.nvs x))
+
+-- the name is declared somewhere at the top level
+abbrev pub is_declared : TProgram → Text → Bool
+is_declared p x = is_among p.names.sensors x || (is_among p.names.ports x || (is_among p.names.nvs x || is_some (function_place p.functions x)))
+
+-- a visible variable has that name already, or something at the top level has it
+abbrev pub is_taken : TProgram → Scope → Text → Bool
+is_taken p scope x = is_in_scope scope x || is_declared p x
+
+-- ---- what a name stands for
+
+abbrev pub or_nv : TProgram → Text → Option Var → Option Var
+or_nv p x (Some v) = Some v
+or_nv p x None = nv_named p x
+
+-- a variable in scope, or else a nonvolatile one
+abbrev pub variable_of : TProgram → Scope → Text → Option Var
+variable_of p scope x = or_nv p x (variable_in scope x)
+
+abbrev pub is_variable : TProgram → Scope → Text → Bool
+is_variable p scope x = is_some (variable_of p scope x)
+
+-- ---- parameters
+
+abbrev pub param_var : Param → Var
+param_var q = record { origin = origins.Param q.passing; kind = q.kind }
+
+abbrev pub with_param : Scope → Param → Scope
+with_param scope q = scope ++ (q.name, param_var q) ∷ []
+
+-- the scope at the start of a function's body
+abbrev pub with_params : Scope → List Param → Scope
+with_params scope [] = scope
+with_params scope (q ∷ qs) = with_params (with_param scope q) qs
+
+-- a parameter's name is taken, by an earlier parameter or at the top level
+abbrev pub takes_param : TProgram → Scope → List Param → Bool
+takes_param p scope [] = false
+takes_param p scope (q ∷ qs) = is_taken p scope q.name || takes_param p (with_param scope q) qs

@@ -1,0 +1,8 @@
+//! A rule that is broken.
+
+/// A rule's number, and the line of the element that breaks it.
+#[derive(Clone, Copy, Debug, PartialEq, Eq)]
+pub struct Broken {
+    pub line: u32,
+    pub rule: u8,
+}

@@ -1,0 +1,33 @@
+//! What a variable's name stands for.
+use oc_tree::tree::{BlockId, Passing, StmtId, ValueKind};
+
+/// How a variable came to be: by the `let` with this number, directly in this block, by a `for`,
+/// as a parameter, or as a nonvolatile variable.
+#[derive(Clone, Copy, Debug, PartialEq, Eq)]
+pub enum Origin {
+    Let {
+        mutable: bool,
+        stmt: StmtId,
+        block: BlockId,
+    },
+    For,
+    Param {
+        passing: Passing,
+    },
+    Nv,
+}
+
+/// A variable. A reference has the kind of what it refers to.
+#[derive(Clone, Copy, Debug, PartialEq, Eq)]
+pub struct Var {
+    pub origin: Origin,
+    pub kind: ValueKind,
+}
+
+/// A policy: that the variable of this `let` is fresh, or that the inputs of this function's
+/// annotations with this number are consistent.
+#[derive(Clone, Copy, Debug, PartialEq, Eq)]
+pub enum Policy {
+    Fresh { stmt: StmtId },
+    Consistent { function: usize, id: i32 },
+}

@@ -1,0 +1,7 @@
+pub mod Entries
+pub mod Args
+pub mod Counted
+pub mod InOrder
+pub mod Ends
+pub mod Sums
+pub mod SmallCounts

@@ -1,0 +1,19 @@
+use Rattle.std.proofs.Common.{◌≡◌, ap, sym, ◌∙◌, subst, Some, None}
+use Rattle.oc_types.proofs.Entries.{lookup-seen, seen}
+use Rattle.oc_types.proofs.scope.Scope.get.Goals as goal
+
+pub returns-in-Some : goal.returns-in-Some
+returns-in-Some c =
+    let e = lookup-seen c.bytes.result.now c.self.inside.variables.entries in
+    let v = c.in-Some.ensures.value in
+    let d = c.bytes.ensures in
+    let b = c.self.view_is in
+    cc
+
+pub returns-in-None : goal.returns-in-None
+returns-in-None c =
+    let e = lookup-seen c.bytes.result.now c.self.inside.variables.entries in
+    let v = c.in-None.ensures.value in
+    let d = c.bytes.ensures in
+    let b = c.self.view_is in
+    cc

@@ -1,0 +1,10 @@
+use Rattle.std.proofs.Common.{◌≡◌, ap, sym, ◌∙◌, subst}
+use Rattle.oc_types.proofs.Entries.{take-seen, seen}
+use Rattle.oc_types.proofs.scope.Scope.truncate.Goals as goal
+
+pub returns : goal.returns
+returns c =
+    let e = take-seen c.args.len c.self.inside.variables.entries in
+    let b = c.self.view_is in
+    let d = c.truncate.ensures.entries in
+    cc

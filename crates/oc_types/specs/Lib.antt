@@ -1,0 +1,5 @@
+pub mod Lent
+pub mod Standing
+pub mod Small
+pub mod Walk
+pub mod Marks

@@ -1,0 +1,112 @@
+//! Whether used names are visible, and of the kind that is needed.
+ghost use Rattle.std.specs.Prelude.{◌≡◌};
+ghost use Rattle.oc_tree.specs.View.{arg_view, call_view, expr_view, kind_view, program_view, right_view};
+ghost use Rattle.oc_rules.specs.Scope.{is_among, is_variable};
+ghost use Rattle.oc_rules.specs.Rules.{arg_known, call_known, expr_known, own_known, right_known, takes_name};
+
+use crate::scope::Scope;
+use crate::top::TopLevel;
+use oc_tree::name::Name;
+use oc_tree::tree::{Arg, Call, Expr, Right, StmtKind};
+
+/// Whether the name that a statement declares is taken.
+pub fn takes_name<'a>(top: &TopLevel<'a>, scope: &Scope<'a>, kind: &StmtKind) -> bool
+    ensures { result ≡ takes_name (program_view top.now) scope.now (kind_view kind.now) }
+{
+    match kind {
+        StmtKind::Let { name, .. } | StmtKind::LetArray { name, .. } | StmtKind::For { name, .. } =>
+            top.is_taken(scope, name),
+        _ => false,
+    }
+}
+
+fn is_variable<'a>(top: &TopLevel<'a>, scope: &Scope<'a>, name: &Name) -> bool
+    ensures { result ≡ is_variable (program_view top.now) scope.now name.now }
+{
+    top.variable(scope, name).is_some()
+}
+
+fn is_sensor(top: &TopLevel, name: &Name) -> bool
+    ensures { result ≡ is_among (program_view top.now).names.sensors name.now }
+{
+    top.sensor_place(name).is_some()
+}
+
+#[cycle(known)]
+fn expr_known<'a>(top: &TopLevel<'a>, scope: &Scope<'a>, expr: &Expr) -> bool
+    ensures { result ≡ expr_known (program_view top.now) scope.now (expr_view expr.now) }
+{
+    match expr {
+        Expr::Number { .. } | Expr::Truth { .. } => true,
+        Expr::Variable { name } | Expr::Deref { name } => is_variable(top, scope, name),
+        Expr::Index { array, index } => is_variable(top, scope, array)
+            && expr_known(top, scope, index),
+        Expr::Unary { inner, .. } => expr_known(top, scope, inner),
+        Expr::Binary { left, right, .. } => expr_known(top, scope, left)
+            && expr_known(top, scope, right),
+        Expr::Sense { sensor } => is_sensor(top, sensor),
+        Expr::Call { call } => call_known(top, scope, call),
+    }
+}
+
+#[cycle(known)]
+fn call_known<'a>(top: &TopLevel<'a>, scope: &Scope<'a>, call: &Call) -> bool
+    ensures { result ≡ call_known (program_view top.now) scope.now (call_view call.now) }
+{
+    if top.function_place(&call.function).is_none() {
+        return false;
+    }
+    for arg in &call.args {
+        if !arg_known(top, scope, arg) {
+            return false;
+        }
+    }
+    true
+}
+
+#[cycle(known)]
+fn arg_known<'a>(top: &TopLevel<'a>, scope: &Scope<'a>, arg: &Arg) -> bool
+    ensures { result ≡ arg_known (program_view top.now) scope.now (arg_view arg.now) }
+{
+    match arg {
+        Arg::Value { value } => expr_known(top, scope, value),
+        Arg::Shared { name } | Arg::Mutable { name } => is_variable(top, scope, name),
+    }
+}
+
+fn right_known<'a>(top: &TopLevel<'a>, scope: &Scope<'a>, right: &Right) -> bool
+    ensures { result ≡ right_known (program_view top.now) scope.now (right_view right.now) }
+{
+    match right {
+        Right::Value { value } => expr_known(top, scope, value),
+        Right::Sense { sensor } => is_sensor(top, sensor),
+        Right::Call { call } => call_known(top, scope, call),
+    }
+}
+
+/// Whether the names that a statement itself uses are known.
+pub fn own_known<'a>(top: &TopLevel<'a>, scope: &Scope<'a>, kind: &StmtKind) -> bool
+    ensures { result ≡ own_known (program_view top.now) scope.now (kind_view kind.now) }
+{
+    match kind {
+        StmtKind::Let { right, .. } => right_known(top, scope, right),
+        StmtKind::LetArray { .. } | StmtKind::For { .. } => true,
+        StmtKind::Assign { name, right } | StmtKind::AssignDeref { name, right } => is_variable(
+            top, scope, name,
+        ) && right_known(top, scope, right),
+        StmtKind::AssignIndex { name, index, right } => is_variable(top, scope, name)
+            && expr_known(top, scope, index)
+            && right_known(top, scope, right),
+        StmtKind::If { condition, .. } | StmtKind::While { condition, .. } => expr_known(
+            top, scope, condition,
+        ),
+        StmtKind::CallOnly { call } => call_known(top, scope, call),
+        StmtKind::SenseOnly { sensor } => is_sensor(top, sensor),
+        StmtKind::Emit { port, value } => top.port_place(port).is_some()
+            && expr_known(top, scope, value),
+        StmtKind::Fresh { name } | StmtKind::Consistent { name, .. } => is_variable(
+            top, scope, name,
+        ),
+        StmtKind::Return { value } => expr_known(top, scope, value),
+    }
+}

@@ -1,0 +1,62 @@
+//! The variables in scope.
+ghost use Rattle.oc_rules.specs.declared.scope.Var.{Var};
+ghost use Rattle.std.specs.Prelude.{◌≡◌, ◌++◌, List, ℕ, [], ◌∷◌, map, take, length, None, OnOk, IfOk};
+ghost use Rattle.oc_rules.specs.Scope.{Scope as Variables, variable_in};
+
+use indexmap::IndexMap;
+use oc_rules::scope::Var;
+use oc_tree::name::Name;
+use std::alloc::{AllocError, Global};
+use std::marker::Model;
+
+/// The visible variables of a function, in the order of their declarations.
+#[derive(Drop)]
+pub struct Scope<'a> {
+    variables: IndexMap<&'a [u8], Var>,
+}
+
+impl<'a> Model for Scope<'a> {
+    ghost Value = { List (List ℕ × Var) };
+
+    ghost view = { λ s. map (λ e. (e.0.now, e.1)) s.variables.entries };
+}
+
+impl<'a> Scope<'a> {
+    pub fn new(alloc: Global) -> Scope<'a>
+        ensures { result ≡ [] }
+    {
+        Scope {
+            variables: IndexMap::new(alloc),
+        }
+    }
+
+    pub fn len(&self) -> usize
+        ensures { result ≡ length self.now }
+    {
+        self.variables.len()
+    }
+
+    pub fn get(&self, name: &Name) -> Option<Var>
+        ensures { result ≡ variable_in self.now name.now }
+    {
+        let found = self.variables.get(&name.bytes());
+        match found {
+            Some(variable) => Some(*variable),
+            None => None,
+        }
+    }
+
+    pub fn declare(&mut self, name: &'a Name, variable: Var) -> Result<(), AllocError>
+        requires { variable_in self.old name.now ≡ None }
+        ensures { OnOk result (self.new ≡ self.old ++ (name.now, variable) ∷ []) }
+    {
+        self.variables.insert(name.bytes(), variable)?;
+        Ok(())
+    }
+
+    pub fn truncate(&mut self, len: usize)
+        ensures { self.new ≡ take len self.old }
+    {
+        self.variables.truncate(len);
+    }
+}

@@ -120,6 +120,14 @@ impl<'a> Assigned<'a> {
         })
     }
 
+    /// The functions with their calls.
+    pub fn calls(&self) -> &Calls<'a>
+        ensures { result.now ≡ self.now }
+    {
+        let _functions = self.functions;
+        &self.calls
+    }
+
     fn arg_assigns(&self, name: &Name, callee: usize, place: usize, arg: &Arg) -> bool
         requires { callee < length self.now }
         ensures { result ≡ arg_assigns (map function_view self.now) name.now callee place (arg_view arg.now) }

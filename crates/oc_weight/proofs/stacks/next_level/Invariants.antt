@@ -1,0 +1,9 @@
+use Rattle.std.proofs.Common.{◌≡◌, ◌++◌, drop, map}
+use Rattle.oc_tree.specs.View.{function_view}
+use Rattle.oc_rules.specs.Stack.{function_stack}
+use Rattle.oc_weight.specs.Capped.{capped}
+use Rattle.oc_weight.proofs.stacks.next_level.Given as goal
+
+abbrev pub invariant-loop-function : goal.invariant-loop-function
+invariant-loop-function l =
+    l.next.items ++ map (λ f. capped (function_stack (map function_view l.functions) l.stacks f)) (map function_view (drop l.function-index l.functions)) ≡ map (λ f. capped (function_stack (map function_view l.functions) l.stacks f)) (map function_view l.functions)

@@ -1,0 +1,9 @@
+//! The weights and the stacks of functions, each exactly or as one more than any weight that is
+//! allowed.
+#![tactic(auto)]
+
+pub mod caps;
+pub mod cost;
+pub mod stack;
+pub mod stacks;
+pub mod weights;

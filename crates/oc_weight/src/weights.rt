@@ -1,0 +1,41 @@
+//! The weights of all functions.
+ghost use Rattle.std.specs.Prelude.{◌≡◌, map, length, IfOk};
+ghost use Rattle.oc_tree.specs.View.{function_view};
+ghost use Rattle.oc_rules.specs.Calls.{function_names};
+ghost use Rattle.oc_rules.specs.Weight.{function_cost, weights_to};
+ghost use Rattle.oc_weight.specs.Capped.{capped};
+
+use crate::cost::function_cost;
+use oc_reach::table::{Table, function_table};
+use oc_tree::tree::Function;
+use std::alloc::{AllocError, Global};
+
+// The weights with one more level of calls.
+fn next_level(
+    alloc: Global,
+    functions: &[Function],
+    table: &Table,
+    weights: &[u64],
+) -> Result<Vec<u64>, AllocError>
+    requires { table.now ≡ function_names (map function_view functions.now) }
+    ensures { IfOk result (λ w. w.items ≡ map (λ f. capped (function_cost (map function_view functions.now) weights.now f)) (map function_view functions.now)) }
+{
+    let mut next = Vec::new(alloc);
+    for function in functions {
+        next.push(function_cost(functions, table, weights, function))?;
+    }
+    Ok(next)
+}
+
+/// The weights of the functions of an expansion, each exactly or as one more than any weight that
+/// is allowed.
+pub fn weights(alloc: Global, functions: &[Function]) -> Result<Vec<u64>, AllocError>
+    ensures { IfOk result (λ w. w.items ≡ map capped (weights_to (map function_view functions.now) (length functions.now))) }
+{
+    let table = function_table(alloc, functions)?;
+    let mut weights = Vec::new(alloc);
+    for _depth in 0..functions.len() {
+        weights = next_level(alloc, functions, &table, weights.as_slice())?;
+    }
+    Ok(weights)
+}

@@ -37,7 +37,7 @@ module _ (text : List ℕ) where
   not_faulty : (line : ℕ) (p : TProgram) → Spells text p → IsFaulty text line → ⊥
   not_faulty line p s (no_tokens f a i) = not_both text s.tokens f s.are_tokens a
   not_faulty line p s (no_tree ts a t c i) =
-      let same = tokens_same text s.tokens ts s.are_tokens a in
+      let same = tokens_same text ts s.tokens a s.are_tokens in
       no_fault (lexemes_of text ts) p t (subst (λ (vs : List Token). SpellsProgram the_depths p (lexemes_of text vs)) same s.spelled) c
 
   same_program : (p q : TProgram) → Spells text p → Spells text q → p ≡ q

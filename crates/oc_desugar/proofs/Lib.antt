@@ -3,3 +3,4 @@ pub mod Lengths
 pub mod NoPulls
 pub mod NumberedLaws
 pub mod OwnExpansion
+pub mod GroupLaws

@@ -5,6 +5,7 @@ ghost use Rattle.oc_tree.specs.View.{block_view, function_view, program_view};
 ghost use Rattle.oc_rules.specs.Expansion.{block_size, expand_function, expand_functions, expansion, program_groups, program_size};
 ghost use Rattle.oc_rules.specs.Numbered.{IsNumbered};
 ghost use Rattle.oc_rules.specs.Pulls.{block_pulls, program_pulls};
+ghost use Rattle.oc_desugar.specs.Numbers.{numbers, upward};
 
 use crate::blocks::{Numbers, expand_block};
 use crate::copy::{copy_name, copy_names, copy_params};
@@ -74,7 +75,8 @@ fn expand_program(
 }
 
 /// The expansion of a program and its groups, each by the numbers of its first and last statement.
-/// No pulls are left in it, and its statements are numbered in source order from 1.
+/// No pulls are left in it, its statements are numbered in source order from 1, and each number is
+/// in one group.
 pub fn expand(
     alloc: Global,
     program: &Program,
@@ -85,6 +87,7 @@ pub fn expand(
     ensures groups { IfOk result (λ r. r.1.items ≡ program_groups (program_view program.now)) }
     ensures plain { IfOk result (λ r. program_pulls (program_view r.0) ≡ 0) }
     ensures numbered { IfOk result (λ r. IsNumbered (program_view r.0)) }
+    ensures whole { IfOk result (λ r. numbers r.1.items ≡ upward 1 (program_size (program_view program.now))) }
 {
     let expanded = expand_program(alloc, program)?;
     Ok(expanded)

@@ -200,7 +200,7 @@ pub fn lends_fixed<'a>(top: &TopLevel<'a>, scope: &Scope<'a>, statement: &Statem
 }
 
 /// The name that an argument passes by `&mut`.
-fn lent<'b>(param: &Param, arg: &'b Arg) -> Option<&'b Name>
+pub fn lent<'b>(param: &Param, arg: &'b Arg) -> Option<&'b Name>
     ensures { (test : List ℕ → Bool) → lent_is test param.now (arg_view arg.now) ≡ passes test result }
 {
     match arg {

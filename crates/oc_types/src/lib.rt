@@ -5,6 +5,7 @@ mod annotations;
 mod calls;
 mod check;
 mod counts;
+mod disturbs;
 mod heads;
 mod known;
 mod operands;

@@ -7,10 +7,11 @@ ghost use Rattle.oc_tree.specs.Nodes.{block_nodes, program_nodes};
 ghost use Rattle.oc_tree.specs.View.{block_view, call_view, function_view, program_view};
 ghost use Rattle.oc_rules.specs.Calls.{function_place, place};
 ghost use Rattle.oc_rules.specs.Scope.{function_named, is_declared, is_taken, nv_kind, nv_named, variable_of};
-ghost use Rattle.oc_types.specs.Marks.{IsCallers, IsMentioning};
+ghost use Rattle.oc_types.specs.Marks.{IsAssigning, IsCallers, IsMentioning};
 ghost use Rattle.oc_rules.specs.Rules.{callee_params, declared_before, stands_before};
 
 use crate::scope::Scope;
+use oc_reach::assigned::Assigned;
 use oc_reach::calls::Calls;
 use oc_reach::marks::Marks;
 use oc_reach::table::Table;
@@ -29,6 +30,7 @@ pub struct TopLevel<'a> {
     ports: Table<'a>,
     nvs: Table<'a>,
     calls: Calls<'a>,
+    assigned: Assigned<'a>,
 }
 
 impl<'a> Model for TopLevel<'a> {
@@ -42,7 +44,8 @@ impl<'a> Model for TopLevel<'a> {
         (t.sensors ≡ (program_view t.program.now).names.sensors)
         × (t.ports ≡ (program_view t.program.now).names.ports)
         × (t.nvs ≡ (program_view t.program.now).names.nvs)
-        × (t.calls ≡ t.program.now.functions.items) };
+        × (t.calls ≡ t.program.now.functions.items)
+        × (t.assigned ≡ t.program.now.functions.items) };
 }
 
 /// The kind of a nonvolatile variable.
@@ -83,12 +86,14 @@ impl<'a> TopLevel<'a> {
         let ports = names_table(alloc, program.names.ports.as_slice())?;
         let nvs = names_table(alloc, program.names.nvs.as_slice())?;
         let calls = Calls::new(alloc, program.functions.as_slice())?;
+        let assigned = Assigned::new(alloc, program.functions.as_slice())?;
         Ok(TopLevel {
             program,
             sensors,
             ports,
             nvs,
             calls,
+            assigned,
         })
     }
 
@@ -138,6 +143,15 @@ impl<'a> TopLevel<'a> {
         ensures { IfOk result (λ m. IsMentioning (program_view self.now) name.now m) }
     {
         let marks = self.calls.mentioning(alloc, name)?;
+        Ok(marks)
+    }
+
+    /// Marks the functions that assign a nonvolatile variable, and those that call one, directly or
+    /// through others.
+    pub fn assigning(&self, alloc: Global, name: &Name) -> Result<Marks, AllocError>
+        ensures { IfOk result (λ m. IsAssigning (program_view self.now) name.now m) }
+    {
+        let marks = self.assigned.assigning(alloc, name)?;
         Ok(marks)
     }
 

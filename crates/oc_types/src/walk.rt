@@ -15,6 +15,7 @@ ghost use Rattle.oc_types.specs.Walk.{block_walk, kind_walk, outcome, stmt_walk}
 use crate::annotations::{annotates_other, has_many_turns, returns_elsewhere};
 use crate::calls::{args_differ, calls_main, lends_fixed, lent_twice, result_missing};
 use crate::counts::Counts;
+use crate::disturbs::pulls_disturb;
 use crate::known::{own_known, takes_name};
 use crate::operands::own_fits;
 use crate::place::Place;
@@ -112,6 +113,9 @@ fn statement_rule<'a>(
     }
     if own_skips(kind) {
         return Ok(Some(25));
+    }
+    if pulls_disturb(alloc, top, statement)? {
+        return Ok(Some(26));
     }
     Ok(None)
 }

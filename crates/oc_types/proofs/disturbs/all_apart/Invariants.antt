@@ -1,0 +1,10 @@
+use Rattle.std.proofs.Common.{◌≡◌, drop}
+use Rattle.oc_rules.specs.Mentions.{own_mentions}
+use Rattle.oc_rules.specs.Rules.{all_lent}
+use Rattle.oc_tree.specs.View.{args_view, kind_view}
+use Rattle.std.specs.Prelude.{◌==◌}
+use Rattle.oc_types.proofs.disturbs.all_apart.Given as goal
+
+abbrev pub invariant-loop-i : goal.invariant-loop-i
+invariant-loop-i l =
+    all_lent (λ x. own_mentions x (kind_view l.kind) == 1) (drop l.i l.params) (args_view (drop l.i l.args)) ≡ all_lent (λ x. own_mentions x (kind_view l.kind) == 1) l.params (args_view l.args)

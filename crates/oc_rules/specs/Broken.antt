@@ -82,5 +82,6 @@ abbrev pub first_broken : TProgram → Tally → List Element → Option Broken
 first_broken p n [] = None
 first_broken p n (e ∷ es) = or_later (line_of e) (lowest (rules_of p (counted n e) e)) (first_broken p (counted n e) es)
 
+-- of all rules but those on weight and stack, which are looked at where none of these is broken
 abbrev pub broken : TProgram → Option Broken
 broken p = first_broken p nothing_counted (program_elements p)

@@ -4,8 +4,8 @@ use Rattle.std.specs.List.{flat_map}
 use Rattle.std.proofs.lemmas.List.Sums.{sum_by-cons}
 use Rattle.std.proofs.lemmas.Grind.{flat_map-append}
 use Rattle.oc_tree.specs.Tree.{TKind, let_to, let_array, assign, assign_index, assign_deref, if_else, for_in, while_do, call_only, sense_only, emit, fresh, consistent, return, TElse, no_else, else_do, TStmt, stmt, TBlock, block, TStmts, no_stmts, more, TFunction, TProgram}
-use Rattle.oc_rules.specs.Pulls.{own_pulls}
-use Rattle.oc_rules.specs.Expansion.{inner_size, else_size, block_size, stmts_size, program_size, inner_groups, else_groups, block_groups, stmts_groups, functions_groups, program_groups}
+use Rattle.oc_tree.specs.Pulls.{own_pulls}
+use Rattle.oc_tree.specs.Expansion.{inner_size, else_size, block_size, stmts_size, program_size, inner_groups, else_groups, block_groups, stmts_groups, functions_groups, program_groups}
 use Rattle.oc_desugar.specs.Numbers.{upward, group_numbers, numbers}
 
 upward_add : (i m n : ℕ) → upward i (m + n) ≡ upward i m ++ upward (i + m) n

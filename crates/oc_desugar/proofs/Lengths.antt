@@ -2,8 +2,8 @@
 use Rattle.std.proofs.Common.{◌≡◌, ℕ, ◌+◌, List, [], ◌∷◌, ◌++◌, length, refl, ap, ◌∙◌, arith}
 use Rattle.std.proofs.lemmas.List.{length-append}
 use Rattle.oc_tree.specs.Tree.{TExpr, number, truth, variable, index, deref, unary, binary, sensed, called, TArg, value, shared, mutable, TCall, call, TArgs, no_args, more_args, TRight, right_value, right_sense, right_call, TKind, let_to, let_array, assign, assign_index, assign_deref, if_else, for_in, while_do, call_only, sense_only, emit, fresh, consistent, return}
-use Rattle.oc_rules.specs.Pulls.{expr_pulls, call_pulls, args_pulls, arg_pulls, right_pulls, own_pulls}
-use Rattle.oc_rules.specs.Expansion.{pulled_expr, pulled_call, pulled_args, pulled_arg, pulled_right, pulled, left_call}
+use Rattle.oc_tree.specs.Pulls.{expr_pulls, call_pulls, args_pulls, arg_pulls, right_pulls, own_pulls}
+use Rattle.oc_tree.specs.Expansion.{pulled_expr, pulled_call, pulled_args, pulled_arg, pulled_right, pulled, left_call}
 
 mutual
   pub length_expr : (k : ℕ) (e : TExpr) → length (pulled_expr k e) ≡ expr_pulls e

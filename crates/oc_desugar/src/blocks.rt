@@ -2,8 +2,8 @@
 ghost use Rattle.std.specs.Prelude.{◌≡◌, ◌<◌, ◌^◌, ◌+◌, ◌++◌, ◌∷◌, [], map, length, OnOk, IfOk};
 ghost use Rattle.oc_tree.specs.Tree.{stmt};
 ghost use Rattle.oc_tree.specs.View.{block_view, else_view, kind_view, right_view, stmt_view, stmts_view};
-ghost use Rattle.oc_rules.specs.Expansion.{block_size, else_size, expand_block, expand_else, expand_kind, expand_stmts, inner_size, pulled, stmts_size, temporaries};
-ghost use Rattle.oc_rules.specs.Pulls.{block_pulls, else_pulls, inner_pulls, own_pulls, stmts_pulls};
+ghost use Rattle.oc_tree.specs.Expansion.{block_size, else_size, expand_block, expand_else, expand_kind, expand_stmts, inner_size, pulled, stmts_size, temporaries};
+ghost use Rattle.oc_tree.specs.Pulls.{block_pulls, else_pulls, inner_pulls, own_pulls, stmts_pulls};
 
 use crate::copy::copy_name;
 use crate::parts::{left_call, left_expr, left_right, temporary};

@@ -1,7 +1,7 @@
 //! The groups of the expansion: a written statement with its temporaries.
 ghost use Rattle.std.specs.Prelude.{◌≡◌, ◌<◌, ◌^◌, ◌+◌, ◌++◌, OnOk, IfOk, map, sum_by};
 ghost use Rattle.oc_tree.specs.View.{block_view, else_view, function_view, kind_view};
-ghost use Rattle.oc_rules.specs.Expansion.{block_groups, block_size, else_groups, else_size, functions_groups, inner_groups, inner_size};
+ghost use Rattle.oc_tree.specs.Expansion.{block_groups, block_size, else_groups, else_size, functions_groups, inner_groups, inner_size};
 
 use crate::pulls::own_pulls;
 use oc_tree::tree::{Block, Function, StmtId, StmtKind};

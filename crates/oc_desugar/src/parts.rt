@@ -2,8 +2,8 @@
 ghost use Rattle.std.specs.Prelude.{◌≡◌, ◌<◌, ◌^◌, ◌+◌, ◌++◌, ◌∷◌, [], map, OnOk, IfOk};
 ghost use Rattle.oc_tree.specs.Tree.{variable};
 ghost use Rattle.oc_tree.specs.View.{arg_view, args_view, call_view, expr_view, right_view};
-ghost use Rattle.oc_rules.specs.Expansion.{left_arg, left_args, left_call, left_expr, left_right, pulled_arg, pulled_args, pulled_call, pulled_expr, pulled_right, temporary};
-ghost use Rattle.oc_rules.specs.Pulls.{arg_pulls, args_pulls, call_pulls, expr_pulls, right_pulls};
+ghost use Rattle.oc_tree.specs.Expansion.{left_arg, left_args, left_call, left_expr, left_right, pulled_arg, pulled_args, pulled_call, pulled_expr, pulled_right, temporary};
+ghost use Rattle.oc_tree.specs.Pulls.{arg_pulls, args_pulls, call_pulls, expr_pulls, right_pulls};
 
 use crate::copy::copy_name;
 use itoa::Buffer;

@@ -2,9 +2,9 @@
 ghost use Rattle.std.specs.Prelude.{◌≡◌, ◌<◌, ◌^◌, ◌+◌, map, sum_by, OnOk, IfOk};
 ghost use Rattle.oc_tree.specs.Tree.{TProgram};
 ghost use Rattle.oc_tree.specs.View.{block_view, function_view, program_view};
-ghost use Rattle.oc_rules.specs.Expansion.{block_size, expand_function, expand_functions, expansion, program_groups, program_size};
-ghost use Rattle.oc_rules.specs.Numbered.{IsNumbered};
-ghost use Rattle.oc_rules.specs.Pulls.{block_pulls, program_pulls};
+ghost use Rattle.oc_tree.specs.Expansion.{block_size, expand_function, expand_functions, expansion, program_groups, program_size};
+ghost use Rattle.oc_tree.specs.Numbered.{IsNumbered};
+ghost use Rattle.oc_tree.specs.Pulls.{block_pulls, program_pulls};
 ghost use Rattle.oc_desugar.specs.Numbers.{numbers, upward};
 
 use crate::blocks::{Numbers, expand_block};

@@ -1,7 +1,7 @@
 //! How many pulls a statement has.
 ghost use Rattle.std.specs.Prelude.{◌≡◌, ◌<◌, ◌^◌};
 ghost use Rattle.oc_tree.specs.View.{arg_view, call_view, expr_view, kind_view, right_view};
-ghost use Rattle.oc_rules.specs.Pulls.{arg_pulls, call_pulls, expr_pulls, own_pulls, right_pulls};
+ghost use Rattle.oc_tree.specs.Pulls.{arg_pulls, call_pulls, expr_pulls, own_pulls, right_pulls};
 
 use oc_tree::tree::{Arg, Call, Expr, Right, StmtKind};
 

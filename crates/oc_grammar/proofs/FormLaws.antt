@@ -5,7 +5,7 @@ use Rattle.std.proofs.lemmas.Int.{wrapping_neg_is, int_wrap_fits, fits_signed_fr
 use Rattle.std.proofs.lemmas.List.Elements.{All-nil, All-cons, All-push}
 use Rattle.oc_tree.specs.Names.{Text}
 use Rattle.oc_tree.specs.Tree.{TExpr, number, truth, variable, index, deref, unary, binary, sensed, called, TArg, TArgs, TRight, TKind, TElse, TStmt, TBlock, TStmts, TFunction, TProgram}
-use Rattle.oc_grammar.specs.Form.{IsNumeral, IsConst, IsCount, TypeInForm, NoteInForm, ExprInForm, ArgInForm, ArgsInForm, RightInForm, KindInForm, ElseInForm, StmtInForm, BlockInForm, StmtsInForm, ParamInForm, FunctionInForm, CellsInForm, NvInForm, Spellable}
+use Rattle.oc_tree.specs.Form.{IsNumeral, IsConst, IsCount, TypeInForm, NoteInForm, ExprInForm, ArgInForm, ArgsInForm, RightInForm, KindInForm, ElseInForm, StmtInForm, BlockInForm, StmtsInForm, ParamInForm, FunctionInForm, CellsInForm, NvInForm, Spellable}
 use Rattle.oc_tree.specs.declared.tree.ValueKind.{ValueKind}
 use Rattle.oc_tree.specs.declared.tree.Passing.{Passing}
 use Rattle.oc_tree.specs.declared.tree.Param.{Param}
@@ -77,7 +77,7 @@ note_in untyped h = (tt, h)
 -- ---- expressions
 
 mutual
-  expr_in : {limits : Limits} {room level : ℕ} {e : TExpr} {from rest : Lexemes} → Spells limits room level e from rest → LexemesInForm from → ExprInForm e × LexemesInForm rest
+  expr_in : {limits : Limits} {room level : ℕ} {e : TExpr} {from rest : Lexemes} → Spells limits room level e from rest → LexemesInForm from → ExprInForm IsName e × LexemesInForm rest
   expr_in (literal i) h = number_in i h
   expr_in (yes k) h = (tt, keyword_in k h)
   expr_in (no k) h = (tt, keyword_in k h)
@@ -93,19 +93,19 @@ mutual
   expr_in (more ne d o e) h = let a = expr_in d h in let b = expr_in e (infix_in o a.1) in ((a.0, b.0), b.1)
   expr_in (compare d o e) h = let a = expr_in d h in let b = expr_in e (infix_in o a.1) in ((a.0, b.0), b.1)
 
-  arg_in : {limits : Limits} {room : ℕ} {arg : TArg} {from rest : Lexemes} → SpellsArg limits room arg from rest → LexemesInForm from → ArgInForm arg × LexemesInForm rest
+  arg_in : {limits : Limits} {room : ℕ} {arg : TArg} {from rest : Lexemes} → SpellsArg limits room arg from rest → LexemesInForm from → ArgInForm IsName arg × LexemesInForm rest
   arg_in (by_value d few) h = expr_in d h
   arg_in (by_shared s i) h = name_in i (sign_in s h)
   arg_in (by_mutable s k i) h = name_in i (keyword_in k (sign_in s h))
 
-  args_in : {limits : Limits} {room : ℕ} {args : TArgs} {from rest : Lexemes} → SpellsArgs limits room args from rest → LexemesInForm from → ArgsInForm args × LexemesInForm rest
+  args_in : {limits : Limits} {room : ℕ} {args : TArgs} {from rest : Lexemes} → SpellsArgs limits room args from rest → LexemesInForm from → ArgsInForm IsName args × LexemesInForm rest
   args_in (closed s) h = (tt, sign_in s h)
   args_in (last d s) h = let a = arg_in d h in ((a.0, tt), sign_in s a.1)
   args_in (further d s e) h = let a = arg_in d h in let b = args_in e (sign_in s a.1) in ((a.0, b.0), b.1)
 
 -- ---- statements
 
-right_form : (e : TExpr) → ExprInForm e → RightInForm (right_of e)
+right_form : (e : TExpr) → ExprInForm IsName e → RightInForm IsName (right_of e)
 right_form (sensed s) h = h
 right_form (called c) h = h
 right_form (number n) h = (tt, h)
@@ -116,7 +116,7 @@ right_form (deref x) h = (tt, h)
 right_form (unary op e) h = (tt, h)
 right_form (binary op a b) h = (tt, h)
 
-right_in : {limits : Limits} {r : TRight} {from rest : Lexemes} → SpellsRight limits r from rest → LexemesInForm from → RightInForm r × LexemesInForm rest
+right_in : {limits : Limits} {r : TRight} {from rest : Lexemes} → SpellsRight limits r from rest → LexemesInForm from → RightInForm IsName r × LexemesInForm rest
 right_in (a_right {e = e} d s) h = let a = expr_in d.spelled h in (right_form e a.0, sign_in s a.1)
 
 mut_in : {m : Bool} {from rest : Lexemes} → SpellsMut m from rest → LexemesInForm from → LexemesInForm rest
@@ -126,7 +126,7 @@ mut_in without_mut h = h
 head_in : {m : Bool} {x : Text} {k : Option ValueKind} {from rest : Lexemes} → LetHead m x k from rest → LexemesInForm from → IsName x × NoteInForm k × LexemesInForm rest
 head_in (let_head w m i t s) h = let a = name_in i (mut_in m (keyword_in w h)) in let b = note_in t a.1 in (a.0, b.0, sign_in s b.1)
 
-simple_in : {limits : Limits} {k : TKind} {from rest : Lexemes} → SpellsSimple limits k from rest → LexemesInForm from → KindInForm k × LexemesInForm rest
+simple_in : {limits : Limits} {k : TKind} {from rest : Lexemes} → SpellsSimple limits k from rest → LexemesInForm from → KindInForm IsName k × LexemesInForm rest
 simple_in (let_right d r) h = let a = head_in d h in let b = right_in r a.2 in ((a.0, a.1, b.0), b.1)
 simple_in (let_fill {n = z} d o i s n c t) h =
     let a = head_in d h in
@@ -154,7 +154,7 @@ simple_in (marks_consistent k o i m n c s) h =
 simple_in (returns k w s) h = let a = expr_in w.spelled (keyword_in k h) in (a.0, sign_in s a.1)
 
 mutual
-  kind_in : {limits : Limits} {room : ℕ} {k : TKind} {p q : Place} → SpellsKind limits room k p q → LexemesInForm p.2 → KindInForm k × LexemesInForm q.2
+  kind_in : {limits : Limits} {room : ℕ} {k : TKind} {p q : Place} → SpellsKind limits room k p q → LexemesInForm p.2 → KindInForm IsName k × LexemesInForm q.2
   kind_in (simple d) h = simple_in d h
   kind_in (if_form k c t o) h =
       let a = expr_in c.spelled (keyword_in k h) in
@@ -173,18 +173,18 @@ mutual
       let d = block_in t b.1 in
       ((a.0, count_of z b.0, d.0), d.1)
 
-  else_in : {limits : Limits} {room : ℕ} {o : TElse} {p q : Place} → SpellsElse limits room o p q → LexemesInForm p.2 → ElseInForm o × LexemesInForm q.2
+  else_in : {limits : Limits} {room : ℕ} {o : TElse} {p q : Place} → SpellsElse limits room o p q → LexemesInForm p.2 → ElseInForm IsName o × LexemesInForm q.2
   else_in without h = (tt, h)
   else_in (otherwise k t) h = block_in t (keyword_in k h)
   else_in (else_if k l d) h = let a = stmt_in d (keyword_in k h) in ((a.0, tt), a.1)
 
-  stmt_in : {limits : Limits} {room : ℕ} {s : TStmt} {p q : Place} → SpellsStmt limits room s p q → LexemesInForm p.2 → StmtInForm s × LexemesInForm q.2
+  stmt_in : {limits : Limits} {room : ℕ} {s : TStmt} {p q : Place} → SpellsStmt limits room s p q → LexemesInForm p.2 → StmtInForm IsName s × LexemesInForm q.2
   stmt_in (statement d) h = kind_in d h
 
-  block_in : {limits : Limits} {room : ℕ} {t : TBlock} {p q : Place} → SpellsBlock limits room t p q → LexemesInForm p.2 → BlockInForm t × LexemesInForm q.2
+  block_in : {limits : Limits} {room : ℕ} {t : TBlock} {p q : Place} → SpellsBlock limits room t p q → LexemesInForm p.2 → BlockInForm IsName t × LexemesInForm q.2
   block_in (braces s d) h = stmts_in d (sign_in s h)
 
-  stmts_in : {limits : Limits} {room : ℕ} {ss : TStmts} {p q : Place} → SpellsStmts limits room ss p q → LexemesInForm p.2 → StmtsInForm ss × LexemesInForm q.2
+  stmts_in : {limits : Limits} {room : ℕ} {ss : TStmts} {p q : Place} → SpellsStmts limits room ss p q → LexemesInForm p.2 → StmtsInForm IsName ss × LexemesInForm q.2
   stmts_in (end s) h = (tt, sign_in s h)
   stmts_in (first d e) h = let a = stmt_in d h in let b = stmts_in e a.1 in ((a.0, b.0), b.1)
 
@@ -195,13 +195,13 @@ passing_in itself h = h
 passing_in (shared_ref s) h = sign_in s h
 passing_in (mutable_ref s k) h = keyword_in k (sign_in s h)
 
-param_in : {p : Param} {from rest : Lexemes} → SpellsParam p from rest → LexemesInForm from → ParamInForm p × LexemesInForm rest
+param_in : {p : Param} {from rest : Lexemes} → SpellsParam p from rest → LexemesInForm from → ParamInForm IsName p × LexemesInForm rest
 param_in (a_param i s g t) h = let a = name_in i h in let b = type_in t (passing_in g (sign_in s a.1)) in ((a.0, b.0), b.1)
 
-params_in : {ps : List Param} {from rest : Lexemes} → SpellsParams ps from rest → LexemesInForm from → All ParamInForm ps × LexemesInForm rest
-params_in (no_param s) h = (All-nil ParamInForm, sign_in s h)
-params_in (last_param {p = p} d s) h = let a = param_in d h in (All-cons ParamInForm p [] a.0 (All-nil ParamInForm), sign_in s a.1)
-params_in (further_params {p = p} {ps = ps} d s e) h = let a = param_in d h in let b = params_in e (sign_in s a.1) in (All-cons ParamInForm p ps a.0 b.0, b.1)
+params_in : {ps : List Param} {from rest : Lexemes} → SpellsParams ps from rest → LexemesInForm from → All (ParamInForm IsName) ps × LexemesInForm rest
+params_in (no_param s) h = (All-nil (ParamInForm IsName), sign_in s h)
+params_in (last_param {p = p} d s) h = let a = param_in d h in (All-cons (ParamInForm IsName) p [] a.0 (All-nil (ParamInForm IsName)), sign_in s a.1)
+params_in (further_params {p = p} {ps = ps} d s e) h = let a = param_in d h in let b = params_in e (sign_in s a.1) in (All-cons (ParamInForm IsName) p ps a.0 b.0, b.1)
 
 scalar_in : {s : Scalar} {from rest : Lexemes} → SpellsScalar s from rest → LexemesInForm from → LexemesInForm rest
 scalar_in (int_scalar k) h = keyword_in k h
@@ -211,7 +211,7 @@ result_in : {r : Option Scalar} {from rest : Lexemes} → SpellsResult r from re
 result_in no_result h = h
 result_in (a_result s d) h = scalar_in d (sign_in s h)
 
-function_in : {limits : Limits} {f : TFunction} {p q : Place} → SpellsFunction limits f p q → LexemesInForm p.2 → FunctionInForm f × LexemesInForm q.2
+function_in : {limits : Limits} {f : TFunction} {p q : Place} → SpellsFunction limits f p q → LexemesInForm p.2 → FunctionInForm IsName f × LexemesInForm q.2
 function_in (a_function w i o ps r t) h =
     let a = name_in i (keyword_in w h) in
     let b = params_in ps (sign_in o a.1) in
@@ -231,7 +231,7 @@ nv_in (an_nv w i s c e z t) h =
 
 -- ---- programs
 
-item_in : {limits : Limits} {p q : TProgram} {x y : Place} → SpellsItem limits p x q y → LexemesInForm x.2 → Spellable p → Spellable q × LexemesInForm y.2
+item_in : {limits : Limits} {p q : TProgram} {x y : Place} → SpellsItem limits p x q y → LexemesInForm x.2 → Spellable IsName p → Spellable IsName q × LexemesInForm y.2
 item_in (sensor_item {p = p} {x = x} w i s) h g =
     let a = name_in i (keyword_in w h) in
     (record { sensors = All-push IsName p.names.sensors x g.sensors a.0; ports = g.ports; nvs = g.nvs; nv = g.nv; functions = g.functions }, sign_in s a.1)
@@ -243,14 +243,14 @@ item_in (nv_item {p = p} {x = x} {d = d} n) h g =
     (record { sensors = g.sensors; ports = g.ports; nvs = All-push IsName p.names.nvs x g.nvs a.0; nv = All-push NvInForm p.nv d g.nv a.1; functions = g.functions }, a.2)
 item_in (function_item {p = p} {f = f} d) h g =
     let a = function_in d h in
-    (record { sensors = g.sensors; ports = g.ports; nvs = g.nvs; nv = g.nv; functions = All-push FunctionInForm p.functions f g.functions a.0 }, a.1)
+    (record { sensors = g.sensors; ports = g.ports; nvs = g.nvs; nv = g.nv; functions = All-push (FunctionInForm IsName) p.functions f g.functions a.0 }, a.1)
 
-items_in : {limits : Limits} {p r : TProgram} {x : Place} → SpellsItems limits p x r → LexemesInForm x.2 → Spellable p → Spellable r
+items_in : {limits : Limits} {p r : TProgram} {x : Place} → SpellsItems limits p x r → LexemesInForm x.2 → Spellable IsName p → Spellable IsName r
 items_in no_item h g = g
 items_in (an_item d e) h g = let a = item_in d h g in items_in e a.1 a.0
 
-empty_spellable : (line : ℕ) → Spellable (empty_program line)
-empty_spellable line = record { sensors = All-nil IsName; ports = All-nil IsName; nvs = All-nil IsName; nv = All-nil NvInForm; functions = All-nil FunctionInForm }
+empty_spellable : (line : ℕ) → Spellable IsName (empty_program line)
+empty_spellable line = record { sensors = All-nil IsName; ports = All-nil IsName; nvs = All-nil IsName; nv = All-nil NvInForm; functions = All-nil (FunctionInForm IsName) }
 
-pub program_spellable : (limits : Limits) (ts : Lexemes) (p : TProgram) → SpellsProgram limits p ts → LexemesInForm ts → Spellable p
+pub program_spellable : (limits : Limits) (ts : Lexemes) (p : TProgram) → SpellsProgram limits p ts → LexemesInForm ts → Spellable IsName p
 program_spellable limits ts p d h = items_in d h (empty_spellable _)

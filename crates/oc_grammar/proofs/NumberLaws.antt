@@ -2,8 +2,9 @@
 use Rattle.std.proofs.Common.{◌≡◌, ℕ, zero, suc, ◌+◌, ◌≤◌, List, [], ◌∷◌, ◌++◌, length, refl, sym, subst, ap, ◌∙◌, arith, flat_map, count_by, length-append, append_assoc, append-nil, Bool, true, false, cond}
 use Rattle.std.proofs.lemmas.List.Sums.{sum_by-append, sum_by-cons}
 use Rattle.oc_tree.specs.Tree.{TKind, TElse, TStmt, TBlock, TStmts, TFunction, TProgram}
-use Rattle.oc_grammar.specs.Numbers.{numbers_on, kind_statements, else_statements, stmt_statements, block_statements, stmts_statements, kind_blocks, else_blocks, stmt_blocks, block_blocks, stmts_blocks, program_statements, program_blocks}
-use Rattle.oc_grammar.specs.Form.{Numbered, DeclaredInOrder, InForm, is_sensor, is_port, is_nv, is_function}
+use Rattle.oc_tree.specs.Numbers.{numbers_on, kind_statements, else_statements, stmt_statements, block_statements, stmts_statements, kind_blocks, else_blocks, stmt_blocks, block_blocks, stmts_blocks, program_statements, program_blocks}
+use Rattle.oc_tree.specs.Form.{Numbered, DeclaredInOrder, InForm, is_sensor, is_port, is_nv, is_function}
+use Rattle.oc_lex.specs.Stands.{IsName}
 use Rattle.oc_tree.specs.declared.tree.Decl.{Decl}
 use Rattle.oc_grammar.specs.Limits.{Limits}
 use Rattle.oc_grammar.specs.Lexemes.{Lexemes, LexemesInForm}
@@ -168,7 +169,7 @@ items_declared (an_item d e) h = items_declared e (item_declared d h)
 empty_declared : (line : ℕ) → DeclaredInOrder (empty_program line)
 empty_declared line = record { sensors = refl; ports = refl; nvs = refl; functions = refl; each_nv = refl }
 
-pub in_form : (limits : Limits) (ts : Lexemes) (p : TProgram) → SpellsProgram limits p ts → LexemesInForm ts → length ts ≤ 2097152 → InForm p
+pub in_form : (limits : Limits) (ts : Lexemes) (p : TProgram) → SpellsProgram limits p ts → LexemesInForm ts → length ts ≤ 2097152 → InForm IsName p
 in_form limits ts p d h few =
     let n = nodes_within limits ts p d in
     record {

@@ -7,7 +7,7 @@ use Rattle.oc_lex.specs.declared.token.Word.{Word}
 use Rattle.oc_lex.specs.declared.token.Mark.{Mark}
 use Rattle.oc_lex.specs.declared.token.Token.{Token}
 use Rattle.oc_lex.specs.Stands.{IsName}
-use Rattle.oc_grammar.specs.Form.{IsNumeral}
+use Rattle.oc_tree.specs.Form.{IsNumeral}
 
 pub data Lexeme : Type 0 where
   named : (line : ℕ) → Text → Lexeme

@@ -1,5 +1,3 @@
-pub mod Numbers
-pub mod Form
 pub mod Lexemes
 pub mod Fronts
 pub mod Limits

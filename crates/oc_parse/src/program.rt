@@ -4,7 +4,8 @@ ghost use Rattle.oc_tree.specs.Tree.{TProgram};
 ghost use Rattle.oc_tree.specs.Nodes.{program_nodes};
 ghost use Rattle.oc_tree.specs.View.{program_view};
 ghost use Rattle.oc_lex.specs.Tokens.{AreTokens};
-ghost use Rattle.oc_grammar.specs.Form.{InForm};
+ghost use Rattle.oc_lex.specs.Stands.{IsName};
+ghost use Rattle.oc_tree.specs.Form.{InForm};
 ghost use Rattle.oc_grammar.specs.Limits.{the_depths};
 ghost use Rattle.oc_grammar.specs.Lexemes.{last_line as last_line_of, lexemes_of};
 ghost use Rattle.oc_grammar.specs.Programs.{SpellsProgram, empty_program};
@@ -45,7 +46,7 @@ pub fn parse(alloc: Global, source: &[u8], tokens: &[Token]) -> Result<Program, 
     ensures only { (p : TProgram) → SpellsProgram the_depths p (lexemes_of source.now tokens.now) → MatchResult result (λ q. program_view q ≡ p) (λ e. e ≡ ParseError.Memory) }
     // It is in form: names, numbers and the places of declarations are those of the language, and
     // statements and blocks are numbered in source order.
-    ensures form { IfOk result (λ p. InForm (program_view p)) }
+    ensures form { IfOk result (λ p. InForm IsName (program_view p)) }
     // Its expressions have no more nodes than there are tokens.
     ensures nodes { IfOk result (λ p. program_nodes (program_view p) ≤ length tokens.now) }
     // `Syntax` names the first token up to and with which no program begins, or the number of tokens

@@ -5,7 +5,7 @@ use Rattle.std.specs.Map.{lookup}
 use Rattle.indexmap.specs.IndexMap.{insert_entry}
 use Rattle.std.proofs.lemmas.Slice.Eq.{bytes_eq-Decides}
 use Rattle.oc_tree.specs.Names.{Text}
-use Rattle.oc_rules.specs.Calls.{place_from}
+use Rattle.oc_tree.specs.Calls.{place_from}
 use Rattle.oc_reach.specs.Entries.{Entries, number_in, or_else}
 
 abbrev pub seen : List (Bor Text × ℕ) → Entries

@@ -6,9 +6,9 @@ use Rattle.std.proofs.lemmas.List.{map-append, length-map}
 use Rattle.std.proofs.lemmas.Bool.{eqb-true}
 use Rattle.oc_tree.specs.Names.{Text}
 use Rattle.oc_tree.specs.Tree.{TCall, TFunction}
-use Rattle.oc_rules.specs.Reach.{Links, linked, is_link}
-use Rattle.oc_rules.specs.Calls.{place, callee, body_calls, called_places, links_from, function_names, call_links}
-use Rattle.oc_rules.proofs.ReachLaws.{or_elim}
+use Rattle.oc_tree.specs.Reach.{Links, linked, is_link}
+use Rattle.oc_tree.specs.Calls.{place, callee, body_calls, called_places, links_from, function_names, call_links}
+use Rattle.oc_tree.proofs.ReachLaws.{or_elim}
 use Rattle.oc_reach.specs.Within.{IsWithin}
 use Rattle.oc_reach.proofs.Bools.{or_assoc, and_first, and_second}
 use Rattle.oc_reach.proofs.Entries.{place_below}

@@ -7,7 +7,7 @@ use Rattle.std.proofs.lemmas.List.{get_or-set_same, get_or-set_other, length-app
 use Rattle.std.proofs.lemmas.Bool.{eqb-true, eq-eqb}
 use Rattle.std.proofs.lemmas.Bool.Decides.{eqb_tells, nat_tests}
 use mathlib.Core.Logic.{inl, inr}
-use Rattle.oc_rules.proofs.ReachLaws.{or_left, or_right, or_elim}
+use Rattle.oc_tree.proofs.ReachLaws.{or_left, or_right, or_elim}
 use Rattle.oc_reach.specs.Marked.{is_in, add, add_all}
 use Rattle.oc_reach.proofs.Bools.{or_assoc, or_false}
 

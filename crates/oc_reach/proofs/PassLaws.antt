@@ -11,10 +11,10 @@ use Rattle.oc_tree.specs.Tree.{TArg, value, shared, mutable, TCall, call, TArgs,
 use Rattle.oc_tree.specs.declared.tree.Param.{Param}
 use Rattle.oc_tree.specs.declared.tree.Function.{Function}
 use Rattle.oc_tree.specs.View.{function_view}
-use Rattle.oc_rules.specs.Reach.{Links, linked, is_link}
-use Rattle.oc_rules.specs.Calls.{place, function_place, body_calls}
-use Rattle.oc_rules.specs.Assigned.{is_mutable, alone, first_params, first_param, param_count, mutable_params, takes_mutable, mutable_param, own_param, link_of, arg_links, args_links, to_links, pass_call, function_links, pass_links_from, pass_links, param_names}
-use Rattle.oc_rules.proofs.ReachLaws.{or_elim}
+use Rattle.oc_tree.specs.Reach.{Links, linked, is_link}
+use Rattle.oc_tree.specs.Calls.{place, function_place, body_calls}
+use Rattle.oc_tree.specs.Assigned.{is_mutable, alone, first_params, first_param, param_count, mutable_params, takes_mutable, mutable_param, own_param, link_of, arg_links, args_links, to_links, pass_call, function_links, pass_links_from, pass_links, param_names}
+use Rattle.oc_tree.proofs.ReachLaws.{or_elim}
 use Rattle.oc_reach.specs.Within.{IsWithin}
 use Rattle.oc_reach.proofs.Bools.{and_first, and_second}
 use Rattle.oc_reach.proofs.Entries.{place_below}

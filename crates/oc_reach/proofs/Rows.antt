@@ -7,11 +7,11 @@ use Rattle.std.proofs.lemmas.List.{get_or-set_same, get_or-set_other, map-set, t
 use Rattle.std.proofs.lemmas.Bool.{eqb-true, eq-eqb}
 use Rattle.std.proofs.lemmas.Bool.Decides.{eqb_tells, nat_tests}
 use mathlib.Core.Logic.{inl, inr}
-use Rattle.oc_rules.specs.Reach.{Links, linked, is_link}
+use Rattle.oc_tree.specs.Reach.{Links, linked, is_link}
 use Rattle.oc_reach.specs.Marked.{is_in, rows}
 use Rattle.oc_reach.proofs.Bools.{or_assoc, or_false, and_both}
 use Rattle.oc_reach.proofs.Lists.{is_in_push}
-use Rattle.oc_rules.proofs.ReachLaws.{or_left, or_right}
+use Rattle.oc_tree.proofs.ReachLaws.{or_left, or_right}
 
 pub rows_at : (r : List (Vec ℕ Global)) (u : ℕ) (d : Vec ℕ Global) → u < length r → get_or (rows r) u [] ≡ (get_or r u d).items
 rows_at [] u d h = absurd (omega arith)

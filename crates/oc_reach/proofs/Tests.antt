@@ -5,8 +5,8 @@ use Rattle.std.proofs.Math.ListN.{get_or}
 use Rattle.std.proofs.lemmas.List.{take_all}
 use Rattle.std.proofs.lemmas.Bool.{eqb-true, eq-eqb}
 use Rattle.std.proofs.lemmas.Bool.Decides.{nat_tests}
-use Rattle.oc_rules.specs.Reach.{Links, reaches, some_below, reaches_some}
-use Rattle.oc_rules.proofs.ReachLaws.{or_right}
+use Rattle.oc_tree.specs.Reach.{Links, reaches, some_below, reaches_some}
+use Rattle.oc_tree.proofs.ReachLaws.{or_right}
 use Rattle.oc_reach.specs.Marked.{is_in, add}
 use Rattle.oc_reach.proofs.Bools.{or_false, and_both, and_first, and_second, both_ways}
 use Rattle.oc_reach.proofs.Lists.{in_add}

@@ -5,8 +5,8 @@ use Rattle.std.proofs.Math.ListN.{get_or}
 use Rattle.std.proofs.lemmas.Bool.{eqb-true, eq-eqb}
 use Rattle.std.proofs.lemmas.Bool.Decides.{eqb_tells}
 use mathlib.Core.Logic.{inl, inr}
-use Rattle.oc_rules.specs.Reach.{Links, linked, leads, reaches, some_below, reaches_some}
-use Rattle.oc_rules.proofs.ReachLaws.{or_left, or_right, or_elim, links_lead, leads_trans, least}
+use Rattle.oc_tree.specs.Reach.{Links, linked, leads, reaches, some_below, reaches_some}
+use Rattle.oc_tree.proofs.ReachLaws.{or_left, or_right, or_elim, links_lead, leads_trans, least}
 use Rattle.oc_reach.specs.Marked.{is_in}
 use Rattle.oc_reach.specs.Within.{IsWithin}
 use Rattle.oc_reach.proofs.Bools.{and_both, and_first, and_second, both_ways}

@@ -6,10 +6,10 @@ use Rattle.std.proofs.lemmas.List.{length-map}
 use Rattle.std.proofs.lemmas.Bool.{eqb-true}
 use Rattle.oc_tree.specs.Names.{Text}
 use Rattle.oc_tree.specs.Tree.{TKind, TFunction}
-use Rattle.oc_rules.specs.Calls.{block_kinds}
-use Rattle.oc_rules.specs.Reach.{Links, reaches_some}
-use Rattle.oc_rules.specs.Assigned.{first_param, param_count, param_names, param_assigned, own_param, written_through, function_writes, writes_from, writes_through, pass_links}
-use Rattle.oc_rules.proofs.ReachLaws.{or_elim}
+use Rattle.oc_tree.specs.Calls.{block_kinds}
+use Rattle.oc_tree.specs.Reach.{Links, reaches_some}
+use Rattle.oc_tree.specs.Assigned.{first_param, param_count, param_names, param_assigned, own_param, written_through, function_writes, writes_from, writes_through, pass_links}
+use Rattle.oc_tree.proofs.ReachLaws.{or_elim}
 use Rattle.oc_reach.specs.Marked.{is_in, add_all}
 use Rattle.oc_reach.proofs.Bools.{or_assoc}
 use Rattle.oc_reach.proofs.Lists.{in_all}

@@ -3,7 +3,7 @@ ghost use Rattle.std.specs.Prelude.{◌≡◌, ◌<◌, ◌+◌, ℕ, [], Some, 
 ghost use Rattle.std.specs.List.{list_any};
 ghost use Rattle.oc_tree.specs.View.{arg_view, args_view, call_view, function_view, kind_view};
 ghost use Rattle.oc_tree.specs.declared.tree.Function.{Function};
-ghost use Rattle.oc_rules.specs.Assigned.{arg_assigns, args_assign, call_assigns, function_assigns, is_target, own_assigns, param_assigned, param_count, pass_links, reaches_assign, writes_from};
+ghost use Rattle.oc_tree.specs.Assigned.{arg_assigns, args_assign, call_assigns, function_assigns, is_target, own_assigns, param_assigned, param_count, pass_links, reaches_assign, writes_from};
 ghost use Rattle.oc_reach.specs.Marked.{is_in, add_all};
 ghost use Rattle.oc_reach.specs.Views.{calls_seen, kinds_seen};
 
@@ -93,7 +93,7 @@ impl<'a> Model for Assigned<'a> {
     ghost use Rattle.oc_tree.specs.View.{function_view};
     ghost use Rattle.oc_tree.specs.contracts.tree.Block as blocks;
     ghost use Rattle.oc_tree.specs.declared.tree.Function.{Function};
-    ghost use Rattle.oc_rules.specs.Assigned.{param_assigned, param_count};
+    ghost use Rattle.oc_tree.specs.Assigned.{param_assigned, param_count};
     ghost use Rattle.oc_reach.specs.Marked.{is_in};
 
     ghost Value = { List Function };

@@ -5,9 +5,9 @@ ghost use Rattle.std.proofs.Math.ListN.{get_or};
 ghost use Rattle.oc_tree.specs.declared.tree.Function.{Function};
 ghost use Rattle.oc_tree.specs.View.{function_view};
 ghost use Rattle.oc_tree.specs.declared.tree.Param.{Param};
-ghost use Rattle.oc_rules.specs.Mentions.{own_names};
-ghost use Rattle.oc_rules.specs.Reach.{reaches, reaches_some};
-ghost use Rattle.oc_rules.specs.Calls.{block_kinds, call_links, called_places, function_mentions, function_names, function_place, has_param, links_from, reaches_mention};
+ghost use Rattle.oc_tree.specs.Mentions.{own_names};
+ghost use Rattle.oc_tree.specs.Reach.{reaches, reaches_some};
+ghost use Rattle.oc_tree.specs.Calls.{block_kinds, call_links, called_places, function_mentions, function_names, function_place, has_param, links_from, reaches_mention};
 ghost use Rattle.oc_reach.specs.Marked.{is_in};
 ghost use Rattle.oc_reach.specs.Views.{calls_seen, kinds_seen};
 
@@ -115,7 +115,7 @@ impl<'a> Model for Calls<'a> {
     ghost use Rattle.oc_tree.specs.View.{function_view};
     ghost use Rattle.oc_tree.specs.contracts.tree.Block as blocks;
     ghost use Rattle.oc_tree.specs.declared.tree.Function.{Function};
-    ghost use Rattle.oc_rules.specs.Calls.{call_links, function_names};
+    ghost use Rattle.oc_tree.specs.Calls.{call_links, function_names};
     ghost use Rattle.std.specs.Coded.{codes};
 
     ghost Value = { List Function };

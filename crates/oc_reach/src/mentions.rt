@@ -1,7 +1,7 @@
 //! Whether a name stands in a statement.
 ghost use Rattle.std.specs.Prelude.{◌≡◌, ◌≤◌, ◌+◌};
 ghost use Rattle.oc_tree.specs.View.{arg_view, call_view, expr_view, kind_view, right_view};
-ghost use Rattle.oc_rules.specs.Mentions.{annotates, arg_mentions, call_mentions, expr_mentions, once, own_mentions, own_names, right_mentions, targets};
+ghost use Rattle.oc_tree.specs.Mentions.{annotates, arg_mentions, call_mentions, expr_mentions, once, own_mentions, own_names, right_mentions, targets};
 ghost use Rattle.oc_reach.specs.Few.{few};
 
 use oc_tree::name::Name;

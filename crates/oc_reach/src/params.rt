@@ -5,7 +5,7 @@ ghost use Rattle.oc_tree.specs.View.{function_view};
 ghost use Rattle.oc_tree.specs.declared.tree.Function.{Function};
 ghost use Rattle.oc_tree.specs.declared.tree.Passing.{Passing};
 ghost use Rattle.oc_reach.specs.Views.{name_seen};
-ghost use Rattle.oc_rules.specs.Assigned.{first_param, first_params, is_mutable, mutable_param, own_param, param_count, takes_mutable};
+ghost use Rattle.oc_tree.specs.Assigned.{first_param, first_params, is_mutable, mutable_param, own_param, param_count, takes_mutable};
 
 use crate::table::Table;
 use oc_tree::name::Name;
@@ -88,7 +88,7 @@ impl<'a> Model for Params<'a> {
     ghost use Rattle.oc_tree.specs.View.{function_view};
     ghost use Rattle.oc_tree.specs.contracts.tree.Block as blocks;
     ghost use Rattle.oc_tree.specs.declared.tree.Function.{Function};
-    ghost use Rattle.oc_rules.specs.Assigned.{first_params, param_count};
+    ghost use Rattle.oc_tree.specs.Assigned.{first_params, param_count};
 
     ghost Value = { List Function };
 

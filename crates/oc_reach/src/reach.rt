@@ -1,7 +1,7 @@
 //! What leads to what, where some numbers lead to others directly.
 ghost use Rattle.std.specs.Prelude.{◌≡◌, ◌<◌, ℕ, [], ◌||◌, ◌≤◌, true, false, length, replicate, vec_len, OnOk, IfOk};
 ghost use Rattle.std.proofs.Math.ListN.{get_or};
-ghost use Rattle.oc_rules.specs.Reach.{Links, linked, reaches_some};
+ghost use Rattle.oc_tree.specs.Reach.{Links, linked, reaches_some};
 ghost use Rattle.oc_reach.specs.Marked.{is_in, rows};
 ghost use Rattle.oc_reach.specs.Within.{IsWithin};
 

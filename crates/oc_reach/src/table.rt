@@ -4,7 +4,7 @@ ghost use Rattle.std.specs.Str.{bytes_eq};
 ghost use Rattle.oc_tree.specs.Names.{Text};
 ghost use Rattle.oc_tree.specs.View.{function_view};
 ghost use Rattle.oc_tree.specs.declared.tree.Param.{Param};
-ghost use Rattle.oc_rules.specs.Calls.{place, place_from, function_names};
+ghost use Rattle.oc_tree.specs.Calls.{place, place_from, function_names};
 ghost use Rattle.oc_reach.specs.Entries.{Entries, number_in, or_else};
 ghost use Rattle.oc_reach.specs.Views.{names_seen};
 

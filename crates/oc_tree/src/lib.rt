@@ -1,7 +1,12 @@
-//! The tree of a program, and the words that the layers share.
+//! The tree of a program and the words that the layers share; as definitions over it, in `specs/`,
+//! the rules of a source, its expansion and the weight of its functions, with their laws.
 #![tactic(auto)]
 
+pub mod before;
+pub mod broken;
+pub mod laws;
 pub mod name;
 pub mod nodes;
 pub mod said;
+pub mod scope;
 pub mod tree;

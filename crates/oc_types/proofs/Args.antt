@@ -7,7 +7,7 @@ use Rattle.oc_tree.specs.View.{args_of, arg_view, call_view, arg_step, expr_step
 use Rattle.oc_tree.specs.Tree.{TExpr, TCall}
 use Rattle.oc_tree.specs.declared.tree.Arg.{Arg}
 use Rattle.oc_tree.specs.declared.tree.Call.{Call, fold_out-Call}
-use Rattle.oc_rules.specs.Rules.{args_list, call_args}
+use Rattle.oc_tree.specs.Rules.{args_list, call_args}
 
 listed : (xs : List TArg) → args_list (args_of xs) ≡ xs
 listed [] = refl

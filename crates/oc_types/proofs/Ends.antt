@@ -4,8 +4,8 @@ use Rattle.std.proofs.lemmas.Bool.Decides.{nat_tests}
 use Rattle.std.specs.Prelude.{not}
 use Rattle.oc_tree.specs.declared.tree.Stmt.{Stmt}
 use Rattle.oc_tree.specs.View.{stmt_view, stmts_view}
-use Rattle.oc_rules.specs.Elements.{is_end}
-use Rattle.oc_rules.specs.Rules.{is_return, stmts_return}
+use Rattle.oc_tree.specs.Elements.{is_end}
+use Rattle.oc_tree.specs.Rules.{is_return, stmts_return}
 
 less : (m n : ℕ) → nat_lt m n ≡ nat_lt (suc m) (suc n)
 less m n = grind (arith, nat_tests)

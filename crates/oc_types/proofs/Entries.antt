@@ -4,8 +4,8 @@ use Rattle.std.specs.Str.{bytes_eq}
 use Rattle.std.specs.Map.{lookup}
 use Rattle.indexmap.specs.IndexMap.{insert_entry}
 use Rattle.oc_tree.specs.Names.{Text}
-use Rattle.oc_rules.specs.declared.scope.Var.{Var}
-use Rattle.oc_rules.specs.Scope.{Scope, variable_in}
+use Rattle.oc_tree.specs.declared.scope.Var.{Var}
+use Rattle.oc_tree.specs.Scope.{Scope, variable_in}
 
 abbrev pub seen : List (Bor Text × Var) → Scope
 seen es = map (λ e. (e.0.now, e.1)) es

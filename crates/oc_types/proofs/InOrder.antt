@@ -7,11 +7,11 @@ use Rattle.oc_tree.specs.declared.tree.NvDecl.{NvDecl}
 use Rattle.oc_tree.specs.declared.tree.Decl.{Decl}
 use Rattle.oc_tree.specs.declared.tree.DeclKind.{DeclKind}
 use Rattle.oc_tree.specs.declared.tree.DeclKind.TheVariants as decls
-use Rattle.oc_rules.specs.declared.before.Before.{Before}
-use Rattle.oc_rules.specs.declared.broken.Broken.{Broken}
-use Rattle.oc_rules.specs.Elements.{Item, sensor_item, port_item, nv_item, function_item, Here, Element, line_of, after_stmt, in_turn, inside, before_stmts, in_function, after_item, nothing_before, kind_elements, else_elements, stmt_elements, block_elements, stmts_elements, named_element, nv_element, function_elements, item_elements, order_elements, program_elements}
-use Rattle.oc_rules.specs.Limits.{Tally, nothing_counted, counted, with_item, with_statement}
-use Rattle.oc_rules.specs.Broken.{item_rules, statement_rules, end_rules, rules_of, lowest, or_later, first_broken, broken}
+use Rattle.oc_tree.specs.declared.before.Before.{Before}
+use Rattle.oc_tree.specs.declared.broken.Broken.{Broken}
+use Rattle.oc_tree.specs.Elements.{Item, sensor_item, port_item, nv_item, function_item, Here, Element, line_of, after_stmt, in_turn, inside, before_stmts, in_function, after_item, nothing_before, kind_elements, else_elements, stmt_elements, block_elements, stmts_elements, named_element, nv_element, function_elements, item_elements, order_elements, program_elements}
+use Rattle.oc_tree.specs.Limits.{Tally, nothing_counted, counted, with_item, with_statement}
+use Rattle.oc_tree.specs.Broken.{item_rules, statement_rules, end_rules, rules_of, lowest, or_later, first_broken, broken}
 use Rattle.oc_types.specs.Walk.{Walk, stop, go, and_then, found, element, kind_walk, else_walk, stmt_walk, block_walk, stmts_walk, declaration_walk, named_walk, nv_walk, function_walk, item_walk, order_walk, program_walk, list_walk}
 
 and_then_ext : (w : Walk) (f g : Tally → Walk) → ((n : Tally) → f n ≡ g n) → and_then w f ≡ and_then w g

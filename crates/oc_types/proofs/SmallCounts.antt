@@ -3,8 +3,8 @@ use Rattle.std.proofs.Common.{◌≡◌, ◌≤◌, ℕ}
 use Rattle.oc_tree.specs.Names.{Text}
 use Rattle.oc_tree.specs.Tree.{TFunction, TKind}
 use Rattle.oc_tree.specs.declared.tree.NvDecl.{NvDecl}
-use Rattle.oc_rules.specs.Elements.{nv_item, function_item, Here}
-use Rattle.oc_rules.specs.Limits.{Tally, with_item, with_statement}
+use Rattle.oc_tree.specs.Elements.{nv_item, function_item, Here}
+use Rattle.oc_tree.specs.Limits.{Tally, with_item, with_statement}
 use Rattle.oc_types.specs.Small.{IsSmall}
 
 pub with_nv : (n : Tally) (x : Text) (d : NvDecl) → IsSmall n → (with_item n (nv_item x d)).words ≤ 65536 → IsSmall (with_item n (nv_item x d))

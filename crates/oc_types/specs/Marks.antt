@@ -3,9 +3,9 @@ use Rattle.std.specs.Prelude.{◌≡◌, ℕ, List, length}
 use Rattle.oc_tree.specs.Names.{Text}
 use Rattle.oc_tree.specs.Tree.{TProgram}
 use Rattle.oc_reach.specs.Marked.{is_in}
-use Rattle.oc_rules.specs.Assigned.{reaches_assign}
-use Rattle.oc_rules.specs.Calls.{reaches_mention}
-use Rattle.oc_rules.specs.Rules.{back_to}
+use Rattle.oc_tree.specs.Assigned.{reaches_assign}
+use Rattle.oc_tree.specs.Calls.{reaches_mention}
+use Rattle.oc_tree.specs.Rules.{back_to}
 
 -- the function `n`, and those that call it, directly or through others
 pub record IsCallers (p : TProgram) (n : ℕ) (m : List ℕ × ℕ) : Type 0 where

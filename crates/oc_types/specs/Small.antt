@@ -1,6 +1,6 @@
 -- Counts that have passed no limit.
 use Rattle.std.specs.Prelude.{◌≤◌}
-use Rattle.oc_rules.specs.Limits.{Tally}
+use Rattle.oc_tree.specs.Limits.{Tally}
 
 pub record IsSmall (n : Tally) : Type 0 where
   pub words : n.words ≤ 65536

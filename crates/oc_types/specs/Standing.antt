@@ -3,8 +3,8 @@ use Rattle.std.specs.Prelude.{ℕ}
 use Rattle.oc_tree.specs.Tree.{TBlock, block}
 use Rattle.oc_tree.specs.View.{function_view}
 use Rattle.oc_types.specs.declared.place.Place.{Place}
-use Rattle.oc_rules.specs.Scope.{Scope}
-use Rattle.oc_rules.specs.Elements.{Here}
+use Rattle.oc_tree.specs.Scope.{Scope}
+use Rattle.oc_tree.specs.Elements.{Here}
 
 abbrev pub here_of : Place → Scope → Here
 here_of h scope = record { function = function_view h.function.now; number = h.number; scope = scope; block = h.block; last = h.last }

@@ -7,11 +7,11 @@ use Rattle.oc_tree.specs.declared.tree.NvDecl.{NvDecl}
 use Rattle.oc_tree.specs.declared.tree.Decl.{Decl}
 use Rattle.oc_tree.specs.declared.tree.DeclKind.{DeclKind}
 use Rattle.oc_tree.specs.declared.tree.DeclKind.TheVariants as decls
-use Rattle.oc_rules.specs.declared.before.Before.{Before}
-use Rattle.oc_rules.specs.declared.broken.Broken.{Broken}
-use Rattle.oc_rules.specs.Elements.{Item, sensor_item, port_item, nv_item, function_item, Here, Element, line_of, after_stmt, in_turn, inside, before_stmts, in_function, after_item, nothing_before}
-use Rattle.oc_rules.specs.Limits.{Tally, nothing_counted, counted, with_item, with_statement}
-use Rattle.oc_rules.specs.Broken.{item_rules, statement_rules, end_rules, rules_of, lowest}
+use Rattle.oc_tree.specs.declared.before.Before.{Before}
+use Rattle.oc_tree.specs.declared.broken.Broken.{Broken}
+use Rattle.oc_tree.specs.Elements.{Item, sensor_item, port_item, nv_item, function_item, Here, Element, line_of, after_stmt, in_turn, inside, before_stmts, in_function, after_item, nothing_before}
+use Rattle.oc_tree.specs.Limits.{Tally, nothing_counted, counted, with_item, with_statement}
+use Rattle.oc_tree.specs.Broken.{item_rules, statement_rules, end_rules, rules_of, lowest}
 
 pub data Walk : Type 0 where
   stop : Broken → Walk

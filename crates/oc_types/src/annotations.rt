@@ -1,14 +1,14 @@
 //! Annotations, returns and loops.
 ghost use Rattle.std.specs.Prelude.{◌≡◌};
 ghost use Rattle.oc_tree.specs.View.{kind_view, program_view};
-ghost use Rattle.oc_rules.specs.Rules.{annotates_other, has_many_turns, is_let_in, origin_is, returns_elsewhere};
+ghost use Rattle.oc_tree.specs.Rules.{annotates_other, has_many_turns, is_let_in, origin_is, returns_elsewhere};
 ghost use Rattle.oc_types.specs.Standing.{here_of};
 
 use crate::place::Place;
 use crate::scope::Scope;
 use crate::top::TopLevel;
 use crate::types::{is_same, type_of};
-use oc_rules::scope::{Origin, Var};
+use oc_tree::scope::{Origin, Var};
 use oc_tree::tree::{BlockId, StmtKind};
 
 fn is_let_in(block: BlockId, variable: Option<Var>) -> bool

@@ -3,11 +3,11 @@ ghost use Rattle.std.specs.Prelude.{◌≡◌, ◌==◌, ◌++◌, [], ◌∷◌
 ghost use Rattle.std.specs.List.{list_all, list_any};
 ghost use Rattle.oc_tree.specs.Tree.{TCall};
 ghost use Rattle.oc_tree.specs.View.{arg_view, args_view, call_view, expr_view, kind_view, program_view};
-ghost use Rattle.oc_rules.specs.Types.{call_type};
+ghost use Rattle.oc_tree.specs.Types.{call_type};
 ghost use Rattle.oc_reach.specs.Views.{calls_seen};
 ghost use Rattle.oc_types.specs.Lent.{passes};
-ghost use Rattle.oc_rules.specs.Mentions.{call_mentions};
-ghost use Rattle.oc_rules.specs.Rules.{all_lent, arg_lends, arg_meets, args_differ, args_meet, call_args, call_meets, calls_main, has_kind, is_main, lends_alone, lends_fixed, lent_is, lent_twice, lone_is, mutable_meets, result_missing, shared_meets, used_calls, value_lent_is, value_meets};
+ghost use Rattle.oc_tree.specs.Mentions.{call_mentions};
+ghost use Rattle.oc_tree.specs.Rules.{all_lent, arg_lends, arg_meets, args_differ, args_meet, call_args, call_meets, calls_main, has_kind, is_main, lends_alone, lends_fixed, lent_is, lent_twice, lone_is, mutable_meets, result_missing, shared_meets, used_calls, value_lent_is, value_meets};
 
 use crate::operands::passed_on;
 use crate::scope::Scope;
@@ -16,7 +16,7 @@ use crate::targets::{arg_lends, is_mutable_reference};
 use crate::top::TopLevel;
 use crate::types::{call_type, is_same, is_same_kind, scalar_of, type_of};
 use oc_reach::mentions::call_mentions;
-use oc_rules::scope::Var;
+use oc_tree::scope::Var;
 use oc_tree::name::Name;
 use oc_tree::tree::{Arg, Call, Expr, Param, Passing, StmtKind, ValueKind};
 

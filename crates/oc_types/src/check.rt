@@ -2,11 +2,11 @@
 ghost use Rattle.std.specs.Prelude.{◌≡◌, ◌<◌, ◌≤◌, ◌^◌, [], ◌∷◌, false, None, Some, length, slice_get, IfOk};
 ghost use Rattle.oc_tree.specs.Nodes.{block_nodes, program_nodes};
 ghost use Rattle.oc_tree.specs.View.{block_view, function_view, program_view};
-ghost use Rattle.oc_rules.specs.Broken.{broken, end_rules, item_rules, lowest};
-ghost use Rattle.oc_rules.specs.Elements.{after_item, function_item, nv_item};
-ghost use Rattle.oc_rules.specs.Limits.{Tally};
-ghost use Rattle.oc_rules.specs.Rules.{declared_before};
-ghost use Rattle.oc_rules.specs.Scope.{takes_param};
+ghost use Rattle.oc_tree.specs.Broken.{broken, end_rules, item_rules, lowest};
+ghost use Rattle.oc_tree.specs.Elements.{after_item, function_item, nv_item};
+ghost use Rattle.oc_tree.specs.Limits.{Tally};
+ghost use Rattle.oc_tree.specs.Rules.{declared_before};
+ghost use Rattle.oc_tree.specs.Scope.{takes_param};
 ghost use Rattle.oc_types.specs.Small.{IsSmall};
 ghost use Rattle.oc_types.specs.Walk.{Ends, declaration_walk, element, function_walk, item_walk, outcome, program_walk};
 
@@ -19,8 +19,8 @@ use crate::scope::Scope;
 use crate::sides::has_bad_length;
 use crate::top::{TopLevel, nv_kind};
 use crate::walk::walk_block;
-use oc_rules::before::Before;
-use oc_rules::broken::Broken;
+use oc_tree::before::Before;
+use oc_tree::broken::Broken;
 use oc_tree::name::Name;
 use oc_tree::tree::{Decl, DeclKind, Function, NvDecl, Program};
 use std::alloc::{AllocError, Global};

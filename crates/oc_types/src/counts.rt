@@ -3,8 +3,8 @@ ghost use Rattle.std.specs.Prelude.{◌≡◌, ◌<◌, ◌≤◌, ◌^◌, ◌+
 ghost use Rattle.std.specs.List.{list_any};
 ghost use Rattle.oc_tree.specs.Nodes.{kind_nodes};
 ghost use Rattle.oc_tree.specs.View.{function_view, kind_view};
-ghost use Rattle.oc_rules.specs.Limits.{Tally, item_passes, nothing_counted, own_declares, policies_after, same_policy, statement_passes, with_item, with_policy, with_statement};
-ghost use Rattle.oc_rules.specs.Elements.{nv_item, function_item};
+ghost use Rattle.oc_tree.specs.Limits.{Tally, item_passes, nothing_counted, own_declares, policies_after, same_policy, statement_passes, with_item, with_policy, with_statement};
+ghost use Rattle.oc_tree.specs.Elements.{nv_item, function_item};
 ghost use Rattle.oc_types.specs.Standing.{here_of};
 ghost use Rattle.oc_types.specs.Small.{IsSmall};
 
@@ -12,8 +12,8 @@ use crate::place::Place;
 use crate::pulls::own_pulls;
 use crate::scope::Scope;
 use crate::statement::Statement;
-use oc_rules::before::Before;
-use oc_rules::scope::{Origin, Policy};
+use oc_tree::before::Before;
+use oc_tree::scope::{Origin, Policy};
 use oc_tree::name::Name;
 use oc_tree::tree::{Function, NvDecl, StmtKind};
 use std::alloc::{AllocError, Global};

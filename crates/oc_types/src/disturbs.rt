@@ -2,11 +2,11 @@
 ghost use Rattle.std.specs.Prelude.{◌≡◌, ◌<◌, ◌^◌, ◌==◌, IfOk};
 ghost use Rattle.std.specs.List.{list_all, list_any};
 ghost use Rattle.oc_tree.specs.View.{args_view, call_view, kind_view, program_view};
-ghost use Rattle.oc_rules.specs.Assigned.{reaches_assign};
-ghost use Rattle.oc_rules.specs.Calls.{own_calls};
-ghost use Rattle.oc_rules.specs.Mentions.{own_mentions};
-ghost use Rattle.oc_rules.specs.Pulls.{own_pulls};
-ghost use Rattle.oc_rules.specs.Rules.{all_lent, callee_is, lends_apart, nv_disturbed, pulls_disturb};
+ghost use Rattle.oc_tree.specs.Assigned.{reaches_assign};
+ghost use Rattle.oc_tree.specs.Calls.{own_calls};
+ghost use Rattle.oc_tree.specs.Mentions.{own_mentions};
+ghost use Rattle.oc_tree.specs.Pulls.{own_pulls};
+ghost use Rattle.oc_tree.specs.Rules.{all_lent, callee_is, lends_apart, nv_disturbed, pulls_disturb};
 ghost use Rattle.oc_types.specs.Lent.{passes};
 ghost use Rattle.oc_types.specs.Marks.{IsAssigning};
 

@@ -2,14 +2,14 @@
 ghost use Rattle.std.specs.Prelude.{◌≡◌, false, map, not, IfOk};
 ghost use Rattle.std.specs.List.{list_any};
 ghost use Rattle.oc_tree.specs.View.{block_view, function_view, program_view, stmt_view, stmts_view};
-ghost use Rattle.oc_rules.specs.Scope.{takes_param, with_params};
-ghost use Rattle.oc_rules.specs.Rules.{block_returns, has_bad_length, is_array_value, is_main, is_return, main_head, return_missing, stmts_return};
+ghost use Rattle.oc_tree.specs.Scope.{takes_param, with_params};
+ghost use Rattle.oc_tree.specs.Rules.{block_returns, has_bad_length, is_array_value, is_main, is_return, main_head, return_missing, stmts_return};
 
 use crate::calls::is_main;
 use crate::scope::Scope;
 use crate::sides::{has_bad_length, is_array_value};
 use crate::top::TopLevel;
-use oc_rules::scope::{Origin, Var};
+use oc_tree::scope::{Origin, Var};
 use oc_tree::tree::{Block, Function, Param, Stmt, StmtKind};
 use std::alloc::AllocError;
 

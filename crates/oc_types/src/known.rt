@@ -1,8 +1,8 @@
 //! Whether used names are visible, and of the kind that is needed.
 ghost use Rattle.std.specs.Prelude.{◌≡◌};
 ghost use Rattle.oc_tree.specs.View.{arg_view, call_view, expr_view, kind_view, program_view, right_view};
-ghost use Rattle.oc_rules.specs.Scope.{is_among, is_variable};
-ghost use Rattle.oc_rules.specs.Rules.{arg_known, call_known, expr_known, own_known, right_known, takes_name};
+ghost use Rattle.oc_tree.specs.Scope.{is_among, is_variable};
+ghost use Rattle.oc_tree.specs.Rules.{arg_known, call_known, expr_known, own_known, right_known, takes_name};
 
 use crate::scope::Scope;
 use crate::top::TopLevel;

@@ -1,14 +1,14 @@
 //! Whether operands are of the types that their operators take.
 ghost use Rattle.std.specs.Prelude.{◌≡◌};
 ghost use Rattle.oc_tree.specs.View.{arg_view, call_view, expr_view, kind_view, program_view, right_view};
-ghost use Rattle.oc_rules.specs.Rules.{arg_fits, binary_fits, call_fits, expr_fits, only_reference, own_fits, passed_on, right_fits, unary_fits};
+ghost use Rattle.oc_tree.specs.Rules.{arg_fits, binary_fits, call_fits, expr_fits, only_reference, own_fits, passed_on, right_fits, unary_fits};
 
 use crate::scope::Scope;
 use crate::top::TopLevel;
 use crate::types::{
     has_elements, is_bool, is_int, is_reference, is_same, pointed_type, type_of, value_type,
 };
-use oc_rules::scope::Var;
+use oc_tree::scope::Var;
 use oc_tree::tree::{Arg, BinaryOp, Call, Expr, Right, Scalar, StmtKind, UnaryOp};
 
 fn only_reference(variable: Option<Var>) -> Option<Var>

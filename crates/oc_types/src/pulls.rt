@@ -1,7 +1,7 @@
 //! The inputs and calls inside a statement's expressions and arguments.
 ghost use Rattle.std.specs.Prelude.{◌≡◌, ◌<◌, ◌^◌};
 ghost use Rattle.oc_tree.specs.View.{arg_view, call_view, expr_view, kind_view, right_view};
-ghost use Rattle.oc_rules.specs.Pulls.{arg_pulls, arg_skips, call_pulls, call_skips, expr_pulls, expr_skips, may_skip, own_pulls, own_skips, right_pulls, right_skips};
+ghost use Rattle.oc_tree.specs.Pulls.{arg_pulls, arg_skips, call_pulls, call_skips, expr_pulls, expr_skips, may_skip, own_pulls, own_skips, right_pulls, right_skips};
 
 use oc_tree::tree::{Arg, BinaryOp, Call, Expr, Right, StmtKind};
 

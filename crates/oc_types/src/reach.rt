@@ -2,8 +2,8 @@
 ghost use Rattle.std.specs.Prelude.{◌≡◌, ◌<◌, ◌&&◌, length, IfOk};
 ghost use Rattle.std.specs.List.{list_any};
 ghost use Rattle.oc_tree.specs.View.{arg_view, args_view, call_view, kind_view, program_view};
-ghost use Rattle.oc_rules.specs.Calls.{reaches_mention};
-ghost use Rattle.oc_rules.specs.Rules.{arg_exposes, args_list, back_to, call_exposes, callee_is, calls_back, exposes_nv, passes_nv};
+ghost use Rattle.oc_tree.specs.Calls.{reaches_mention};
+ghost use Rattle.oc_tree.specs.Rules.{arg_exposes, args_list, back_to, call_exposes, callee_is, calls_back, exposes_nv, passes_nv};
 ghost use Rattle.oc_types.specs.Marks.{IsCallers};
 
 use crate::scope::Scope;

@@ -1,10 +1,10 @@
 //! The variables in scope.
-ghost use Rattle.oc_rules.specs.declared.scope.Var.{Var};
+ghost use Rattle.oc_tree.specs.declared.scope.Var.{Var};
 ghost use Rattle.std.specs.Prelude.{◌≡◌, ◌++◌, List, ℕ, [], ◌∷◌, map, take, length, None, OnOk, IfOk};
-ghost use Rattle.oc_rules.specs.Scope.{Scope as Variables, variable_in};
+ghost use Rattle.oc_tree.specs.Scope.{Scope as Variables, variable_in};
 
 use indexmap::IndexMap;
-use oc_rules::scope::Var;
+use oc_tree::scope::Var;
 use oc_tree::name::Name;
 use std::alloc::{AllocError, Global};
 use std::marker::Model;

@@ -1,7 +1,7 @@
 //! Whether right sides and conditions have the types that are wanted, and arrays their lengths.
 ghost use Rattle.std.specs.Prelude.{◌≡◌};
 ghost use Rattle.oc_tree.specs.View.{kind_view, program_view};
-ghost use Rattle.oc_rules.specs.Rules.{condition_is_number, has_bad_length, is_array_value, is_bad_length, let_bad_length, sides_differ, written_array_differs, written_bad_length, written_differs};
+ghost use Rattle.oc_tree.specs.Rules.{condition_is_number, has_bad_length, is_array_value, is_bad_length, let_bad_length, sides_differ, written_array_differs, written_bad_length, written_differs};
 
 use crate::scope::Scope;
 use crate::top::TopLevel;

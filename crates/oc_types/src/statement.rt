@@ -5,7 +5,7 @@ ghost use Rattle.oc_tree.specs.declared.tree.StmtKind.{StmtKind};
 ghost use Rattle.oc_tree.specs.contracts.tree.StmtKind as k;
 ghost use Rattle.oc_tree.specs.View.{kind_view};
 ghost use Rattle.oc_reach.specs.Views.{calls_seen};
-ghost use Rattle.oc_rules.specs.Calls.{own_calls};
+ghost use Rattle.oc_tree.specs.Calls.{own_calls};
 
 use oc_reach::parts::own_calls;
 use oc_tree::tree::{Call, StmtKind};

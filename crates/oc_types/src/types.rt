@@ -1,11 +1,11 @@
 //! The types of variables, expressions and right sides.
 ghost use Rattle.std.specs.Prelude.{◌≡◌};
 ghost use Rattle.oc_tree.specs.View.{call_view, expr_view, program_view, right_view};
-ghost use Rattle.oc_rules.specs.Types.{binary_type, call_type, has_elements, is_arithmetic, is_array, is_bool, is_by_reference, is_int, is_reference, is_same, is_same_kind, pointed_type, right_type, scalar_of, type_of, unary_type, value_type};
+ghost use Rattle.oc_tree.specs.Types.{binary_type, call_type, has_elements, is_arithmetic, is_array, is_bool, is_by_reference, is_int, is_reference, is_same, is_same_kind, pointed_type, right_type, scalar_of, type_of, unary_type, value_type};
 
 use crate::scope::Scope;
 use crate::top::TopLevel;
-use oc_rules::scope::{Origin, Var};
+use oc_tree::scope::{Origin, Var};
 use oc_tree::tree::{BinaryOp, Call, Expr, Passing, Right, Scalar, UnaryOp, ValueKind};
 
 pub fn is_by_reference(passing: Passing) -> bool

@@ -2,11 +2,11 @@
 ghost use Rattle.std.specs.Prelude.{◌≡◌, ◌<◌, ◌≤◌, ◌^◌, false, Some, None, OnOk, IfOk, take, drop, length};
 ghost use Rattle.oc_tree.specs.Nodes.{block_nodes, kind_nodes, stmt_nodes};
 ghost use Rattle.oc_tree.specs.View.{block_view, function_view, kind_view, program_view, stmt_view, stmts_view};
-ghost use Rattle.oc_rules.specs.Broken.{lowest, statement_rules};
-ghost use Rattle.oc_rules.specs.Elements.{in_turn, is_end, scope_after, kind_of};
-ghost use Rattle.oc_rules.specs.Rules.{takes_name};
-ghost use Rattle.oc_rules.specs.Pulls.{own_pulls};
-ghost use Rattle.oc_rules.specs.Limits.{with_statement};
+ghost use Rattle.oc_tree.specs.Broken.{lowest, statement_rules};
+ghost use Rattle.oc_tree.specs.Elements.{in_turn, is_end, scope_after, kind_of};
+ghost use Rattle.oc_tree.specs.Rules.{takes_name};
+ghost use Rattle.oc_tree.specs.Pulls.{own_pulls};
+ghost use Rattle.oc_tree.specs.Limits.{with_statement};
 ghost use Rattle.oc_types.specs.Marks.{IsCallers};
 ghost use Rattle.oc_types.specs.Small.{IsSmall};
 ghost use Rattle.oc_types.specs.Standing.{here_of};
@@ -28,8 +28,8 @@ use crate::targets::{array_fixed, pointee_fixed, target_fixed};
 use crate::top::TopLevel;
 use crate::types::right_type;
 use oc_reach::marks::Marks;
-use oc_rules::broken::Broken;
-use oc_rules::scope::{Origin, Var};
+use oc_tree::broken::Broken;
+use oc_tree::scope::{Origin, Var};
 use oc_tree::tree::{Block, Scalar, Stmt, StmtKind, ValueKind};
 use std::alloc::{AllocError, Global};
 

@@ -7,8 +7,8 @@ use Rattle.oc_tree.specs.View.{function_view}
 use Rattle.oc_tree.specs.declared.tree.Function.{Function}
 use Rattle.oc_tree.specs.declared.tree.BinaryOp.{BinaryOp}
 use Rattle.oc_tree.specs.declared.tree.BinaryOp.TheVariants.{Or, And, Eq, Ne, Lt, Le, Gt, Ge, Add, Sub, Mul, Div, Rem}
-use Rattle.oc_rules.specs.Calls.{function_place}
-use Rattle.oc_rules.specs.Weight.{known_of, binary_cost, expr_cost, arg_cost, args_cost, call_cost, right_cost, has_result, turns, kind_cost, else_cost, block_cost, stmts_cost, function_cost, weights_to}
+use Rattle.oc_tree.specs.Calls.{function_place}
+use Rattle.oc_tree.specs.Weight.{known_of, binary_cost, expr_cost, arg_cost, args_cost, call_cost, right_cost, has_result, turns, kind_cost, else_cost, block_cost, stmts_cost, function_cost, weights_to}
 use Rattle.oc_weight.specs.Capped.{capped}
 
 pub capped_times : (n a : ℕ) → capped (n * capped a) ≡ capped (n * a)

@@ -4,8 +4,8 @@ use Rattle.std.specs.Prelude.{min, max}
 use Rattle.oc_tree.specs.Tree.{TExpr, number, truth, variable, index, deref, unary, binary, sensed, called, TArg, value, shared, mutable, TCall, call, TArgs, no_args, more_args, TRight, right_value, right_sense, right_call, TKind, let_to, let_array, assign, assign_index, assign_deref, if_else, for_in, while_do, call_only, sense_only, emit, fresh, consistent, return, TElse, no_else, else_do, TStmt, stmt, TBlock, block, TStmts, no_stmts, more, TFunction, TProgram}
 use Rattle.oc_tree.specs.declared.tree.BinaryOp.{BinaryOp}
 use Rattle.oc_tree.specs.declared.tree.BinaryOp.TheVariants.{Or, And, Eq, Ne, Lt, Le, Gt, Ge, Add, Sub, Mul, Div, Rem}
-use Rattle.oc_rules.specs.Calls.{function_place}
-use Rattle.oc_rules.specs.Stack.{binary_depth, expr_depth, call_depth, right_depth, kind_depth, else_depth, block_depth, stmts_depth, function_stack, stacks_to}
+use Rattle.oc_tree.specs.Calls.{function_place}
+use Rattle.oc_tree.specs.Stack.{binary_depth, expr_depth, call_depth, right_depth, kind_depth, else_depth, block_depth, stmts_depth, function_stack, stacks_to}
 use Rattle.oc_weight.specs.Capped.{capped}
 use Rattle.oc_weight.proofs.CappedLaws.{known_place}
 

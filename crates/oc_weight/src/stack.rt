@@ -3,8 +3,8 @@
 ghost use Rattle.std.specs.Prelude.{◌≡◌, ◌≤◌, ◌+◌, map, max, length};
 ghost use Rattle.oc_tree.specs.View.{arg_view, args_view, block_view, call_view, else_view, expr_view, function_view, kind_view, right_view};
 ghost use Rattle.oc_tree.specs.declared.tree.BinaryOp.{BinaryOp};
-ghost use Rattle.oc_rules.specs.Calls.{function_names};
-ghost use Rattle.oc_rules.specs.Stack.{arg_depth, args_depth, binary_depth, block_depth, block_slots, call_depth, else_depth, else_slots, expr_depth, frame, function_stack, kind_depth, kind_slots, link_words, right_depth};
+ghost use Rattle.oc_tree.specs.Calls.{function_names};
+ghost use Rattle.oc_tree.specs.Stack.{arg_depth, args_depth, binary_depth, block_depth, block_slots, call_depth, else_depth, else_slots, expr_depth, frame, function_stack, kind_depth, kind_slots, link_words, right_depth};
 ghost use Rattle.oc_weight.specs.Capped.{capped};
 
 use crate::caps::{cap, greater, plus};

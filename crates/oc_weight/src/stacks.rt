@@ -1,8 +1,8 @@
 //! The stacks of all functions.
 ghost use Rattle.std.specs.Prelude.{◌≡◌, map, length, IfOk};
 ghost use Rattle.oc_tree.specs.View.{function_view};
-ghost use Rattle.oc_rules.specs.Calls.{function_names};
-ghost use Rattle.oc_rules.specs.Stack.{function_stack, stacks_to};
+ghost use Rattle.oc_tree.specs.Calls.{function_names};
+ghost use Rattle.oc_tree.specs.Stack.{function_stack, stacks_to};
 ghost use Rattle.oc_weight.specs.Capped.{capped};
 
 use crate::stack::function_stack;

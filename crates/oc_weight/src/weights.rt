@@ -1,8 +1,8 @@
 //! The weights of all functions.
 ghost use Rattle.std.specs.Prelude.{◌≡◌, map, length, IfOk};
 ghost use Rattle.oc_tree.specs.View.{function_view};
-ghost use Rattle.oc_rules.specs.Calls.{function_names};
-ghost use Rattle.oc_rules.specs.Weight.{function_cost, weights_to};
+ghost use Rattle.oc_tree.specs.Calls.{function_names};
+ghost use Rattle.oc_tree.specs.Weight.{function_cost, weights_to};
 ghost use Rattle.oc_weight.specs.Capped.{capped};
 
 use crate::cost::function_cost;

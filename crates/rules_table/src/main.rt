@@ -10,7 +10,7 @@ use oc_io::disk::StdSink;
 use oc_io::sink::Sink;
 use oc_lex::lex;
 use oc_parse::parse;
-use oc_rules::broken::Broken;
+use oc_tree::broken::Broken;
 use oc_types::first_broken;
 use sources::{long_sources, sources};
 use std::alloc::{AllocError, Global};

@@ -1,7 +1,7 @@
 use Rattle.std.proofs.Common.{◌≡◌, ◌+◌, ◌<◌, ◌^◌, drop, map}
 use Rattle.oc_tree.specs.View.{stmt_view, stmts_view}
-use Rattle.oc_rules.specs.Pulls.{stmts_pulls}
-use Rattle.oc_rules.specs.Expansion.{expand_stmts, stmts_size, join_stmts}
+use Rattle.oc_tree.specs.Pulls.{stmts_pulls}
+use Rattle.oc_tree.specs.Expansion.{expand_stmts, stmts_size, join_stmts}
 use Rattle.oc_desugar.proofs.blocks.+expand.Given as goal
 
 abbrev pub invariant-expand_stmts-loop-statement : goal.invariant-expand_stmts-loop-statement

@@ -1,7 +1,7 @@
 use Rattle.std.proofs.Common.{◌≡◌, ◌<◌, ◌^◌, ◌+◌, ◌++◌, map, length}
 use Rattle.std.specs.Vec.Iter.{into_iter_items}
 use Rattle.oc_tree.specs.View.{right_view, stmt_view}
-use Rattle.oc_rules.specs.Expansion.{temporaries}
+use Rattle.oc_tree.specs.Expansion.{temporaries}
 use Rattle.oc_desugar.proofs.blocks.add_temporaries.Given as goal
 
 abbrev pub invariant-loop-right : goal.invariant-loop-right

@@ -3,8 +3,8 @@ use Rattle.std.proofs.lemmas.Grind.{common_steps}
 use Rattle.oc_tree.specs.Tree.{TKind, TBlock, TStmt, stmt, more}
 use Rattle.oc_tree.specs.View.{kind_view, stmt_view, stmts_view, kind_step, block_step, stmt_step}
 use Rattle.oc_tree.specs.declared.tree.Stmt.{fold_out-Stmt}
-use Rattle.oc_rules.specs.Pulls.{own_pulls}
-use Rattle.oc_rules.specs.Expansion.{inner_groups, inner_size, stmts_groups, stmts_size}
+use Rattle.oc_tree.specs.Pulls.{own_pulls}
+use Rattle.oc_tree.specs.Expansion.{inner_groups, inner_size, stmts_groups, stmts_size}
 use Rattle.oc_desugar.proofs.Joins.{groups_more}
 use Rattle.oc_desugar.proofs.groups.+groups.Goals as goal
 

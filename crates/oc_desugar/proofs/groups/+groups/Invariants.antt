@@ -1,6 +1,6 @@
 use Rattle.std.proofs.Common.{◌≡◌, ◌+◌, ◌++◌, drop}
 use Rattle.oc_tree.specs.View.{block_view, stmts_view}
-use Rattle.oc_rules.specs.Expansion.{block_groups, block_size, stmts_groups, stmts_size}
+use Rattle.oc_tree.specs.Expansion.{block_groups, block_size, stmts_groups, stmts_size}
 use Rattle.oc_desugar.proofs.groups.+groups.Given as goal
 
 abbrev pub invariant-block_groups-loop-statement : goal.invariant-block_groups-loop-statement

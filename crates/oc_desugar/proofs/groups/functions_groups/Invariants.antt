@@ -1,6 +1,6 @@
 use Rattle.std.proofs.Common.{◌≡◌, ◌+◌, ◌++◌, drop, map, sum_by}
 use Rattle.oc_tree.specs.View.{function_view}
-use Rattle.oc_rules.specs.Expansion.{block_size, functions_groups}
+use Rattle.oc_tree.specs.Expansion.{block_size, functions_groups}
 use Rattle.oc_desugar.proofs.groups.functions_groups.Given as goal
 
 abbrev pub invariant-loop-function : goal.invariant-loop-function

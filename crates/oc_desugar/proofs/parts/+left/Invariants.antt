@@ -1,7 +1,7 @@
 use Rattle.std.proofs.Common.{◌≡◌, ◌+◌, ◌++◌, drop, map}
 use Rattle.oc_tree.specs.View.{arg_view, args_view, right_view}
-use Rattle.oc_rules.specs.Pulls.{args_pulls}
-use Rattle.oc_rules.specs.Expansion.{left_args, pulled_args}
+use Rattle.oc_tree.specs.Pulls.{args_pulls}
+use Rattle.oc_tree.specs.Expansion.{left_args, pulled_args}
 use Rattle.oc_desugar.specs.Joined.{join_args}
 use Rattle.oc_desugar.proofs.parts.+left.Given as goal
 

@@ -1,7 +1,7 @@
 use Rattle.std.proofs.Common.{◌≡◌, ap, sym, subst, ◌∙◌}
 use Rattle.oc_tree.specs.View.{program_view}
-use Rattle.oc_rules.specs.Pulls.{program_pulls}
-use Rattle.oc_rules.specs.Numbered.{IsNumbered}
+use Rattle.oc_tree.specs.Pulls.{program_pulls}
+use Rattle.oc_tree.specs.Numbered.{IsNumbered}
 use Rattle.oc_desugar.specs.Numbers.{numbers}
 use Rattle.oc_desugar.proofs.GroupLaws.{whole}
 use Rattle.oc_desugar.proofs.NoPulls.{none_left}

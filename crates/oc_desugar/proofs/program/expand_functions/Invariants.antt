@@ -1,7 +1,7 @@
 use Rattle.std.proofs.Common.{◌≡◌, ◌+◌, ◌++◌, drop, map, sum_by}
 use Rattle.oc_tree.specs.View.{function_view}
-use Rattle.oc_rules.specs.Expansion.{block_size, expand_functions}
-use Rattle.oc_rules.specs.Pulls.{block_pulls}
+use Rattle.oc_tree.specs.Expansion.{block_size, expand_functions}
+use Rattle.oc_tree.specs.Pulls.{block_pulls}
 use Rattle.oc_desugar.proofs.program.expand_functions.Given as goal
 
 abbrev pub invariant-loop-function : goal.invariant-loop-function

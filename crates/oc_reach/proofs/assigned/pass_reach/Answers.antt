@@ -1,6 +1,6 @@
 use Rattle.std.proofs.Common.{◌≡◌, map, ap, sym, subst, ◌∙◌}
 use Rattle.oc_tree.specs.View.{function_view}
-use Rattle.oc_rules.specs.Assigned.{param_count, pass_links}
+use Rattle.oc_tree.specs.Assigned.{param_count, pass_links}
 use Rattle.oc_reach.specs.Within.{IsWithin}
 use Rattle.oc_reach.proofs.PassLaws.{passes_within}
 use Rattle.oc_reach.proofs.assigned.pass_reach.Goals as goal

@@ -1,5 +1,5 @@
 use Rattle.std.proofs.Common.{◌≡◌, ◌++◌, drop, map}
-use Rattle.oc_rules.specs.Calls.{called_places}
+use Rattle.oc_tree.specs.Calls.{called_places}
 use Rattle.oc_reach.specs.Views.{calls_seen}
 use Rattle.oc_reach.proofs.calls.add_links.Given as goal
 

@@ -1,6 +1,6 @@
 use Rattle.std.proofs.Common.{◌≡◌, ◌++◌, drop, map}
 use Rattle.oc_tree.specs.View.{function_view}
-use Rattle.oc_rules.specs.Calls.{links_from}
+use Rattle.oc_tree.specs.Calls.{links_from}
 use Rattle.oc_reach.proofs.calls.call_links.Given as goal
 
 abbrev pub invariant-loop-i : goal.invariant-loop-i

@@ -1,5 +1,5 @@
 use Rattle.std.proofs.Common.{◌≡◌, drop}
-use Rattle.oc_rules.specs.Calls.{has_param}
+use Rattle.oc_tree.specs.Calls.{has_param}
 use Rattle.oc_reach.proofs.calls.has_param.Given as goal
 
 abbrev pub invariant-loop-param : goal.invariant-loop-param

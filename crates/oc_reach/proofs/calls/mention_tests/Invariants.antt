@@ -1,6 +1,6 @@
 use Rattle.std.proofs.Common.{◌≡◌, ◌++◌, drop, map}
 use Rattle.oc_tree.specs.View.{function_view}
-use Rattle.oc_rules.specs.Calls.{function_mentions}
+use Rattle.oc_tree.specs.Calls.{function_mentions}
 use Rattle.oc_reach.proofs.calls.mention_tests.Given as goal
 
 abbrev pub invariant-loop-function : goal.invariant-loop-function

@@ -1,6 +1,6 @@
 use Rattle.std.proofs.Common.{◌≡◌, drop}
 use Rattle.std.specs.List.{list_any}
-use Rattle.oc_rules.specs.Mentions.{own_names}
+use Rattle.oc_tree.specs.Mentions.{own_names}
 use Rattle.oc_reach.specs.Views.{kinds_seen}
 use Rattle.oc_reach.proofs.calls.some_names.Given as goal
 

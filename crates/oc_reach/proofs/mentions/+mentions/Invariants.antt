@@ -1,6 +1,6 @@
 use Rattle.std.proofs.Common.{◌≡◌, ◌≤◌, ◌+◌, drop}
 use Rattle.oc_tree.specs.View.{args_view, call_view}
-use Rattle.oc_rules.specs.Mentions.{args_mentions, call_mentions}
+use Rattle.oc_tree.specs.Mentions.{args_mentions, call_mentions}
 use Rattle.oc_reach.specs.Few.{few}
 use Rattle.oc_reach.proofs.mentions.+mentions.Given as goal
 

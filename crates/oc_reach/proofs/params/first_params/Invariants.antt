@@ -1,6 +1,6 @@
 use Rattle.std.proofs.Common.{◌≡◌, ◌+◌, ◌++◌, drop, map, vec_len}
 use Rattle.oc_tree.specs.View.{function_view}
-use Rattle.oc_rules.specs.Assigned.{first_params, param_count}
+use Rattle.oc_tree.specs.Assigned.{first_params, param_count}
 use Rattle.oc_reach.proofs.params.first_params.Given as goal
 
 abbrev pub invariant-loop-function : goal.invariant-loop-function

@@ -1,6 +1,6 @@
 use Rattle.std.proofs.Common.{◌≡◌, ◌++◌, drop}
 use Rattle.oc_tree.specs.View.{args_view}
-use Rattle.oc_rules.specs.Calls.{args_calls}
+use Rattle.oc_tree.specs.Calls.{args_calls}
 use Rattle.oc_reach.specs.Views.{calls_seen}
 use Rattle.oc_reach.proofs.parts.+calls.Given as goal
 

@@ -1,6 +1,6 @@
 use Rattle.std.proofs.Common.{◌≡◌, ◌++◌, drop}
 use Rattle.std.specs.List.{flat_map}
-use Rattle.oc_rules.specs.Calls.{own_calls}
+use Rattle.oc_tree.specs.Calls.{own_calls}
 use Rattle.oc_reach.specs.Views.{calls_seen, kinds_seen}
 use Rattle.oc_reach.proofs.parts.body_calls.Given as goal
 

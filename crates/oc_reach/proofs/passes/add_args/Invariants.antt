@@ -1,6 +1,6 @@
 use Rattle.std.proofs.Common.{◌≡◌, ◌++◌, drop, map}
 use Rattle.oc_tree.specs.View.{args_view, function_view}
-use Rattle.oc_rules.specs.Assigned.{args_links}
+use Rattle.oc_tree.specs.Assigned.{args_links}
 use Rattle.oc_reach.proofs.passes.add_args.Given as goal
 
 abbrev pub invariant-loop-place : goal.invariant-loop-place

@@ -1,7 +1,7 @@
 use Rattle.std.proofs.Common.{◌≡◌, ◌++◌, drop, map}
 use Rattle.std.specs.List.{flat_map}
 use Rattle.oc_tree.specs.View.{function_view}
-use Rattle.oc_rules.specs.Assigned.{pass_call}
+use Rattle.oc_tree.specs.Assigned.{pass_call}
 use Rattle.oc_reach.specs.Views.{calls_seen}
 use Rattle.oc_reach.proofs.passes.add_calls.Given as goal
 

@@ -1,6 +1,6 @@
 use Rattle.std.proofs.Common.{◌≡◌, ◌++◌, drop, option_to_list}
 use Rattle.std.specs.List.{flat_map}
-use Rattle.oc_rules.specs.Assigned.{own_param, written_through}
+use Rattle.oc_tree.specs.Assigned.{own_param, written_through}
 use Rattle.oc_reach.specs.Views.{kinds_seen}
 use Rattle.oc_reach.proofs.passes.add_written.Given as goal
 

@@ -2,7 +2,7 @@ use Rattle.std.proofs.Common.{◌≡◌, ◌<◌, ◌+◌, ◌∷◌, ◌++◌, 
 use Rattle.std.proofs.Math.ListN.{get_or}
 use Rattle.std.proofs.lemmas.Grind.{common_steps}
 use Rattle.oc_tree.specs.View.{function_view}
-use Rattle.oc_rules.specs.Assigned.{first_param, function_links, pass_links_from}
+use Rattle.oc_tree.specs.Assigned.{first_param, function_links, pass_links_from}
 use Rattle.oc_reach.proofs.PassLaws.{params_at, params_read, grown_by}
 use Rattle.oc_reach.proofs.passes.pass_links.Goals as goal
 

@@ -1,6 +1,6 @@
 use Rattle.std.proofs.Common.{◌≡◌, ◌++◌, drop, map}
 use Rattle.oc_tree.specs.View.{function_view}
-use Rattle.oc_rules.specs.Assigned.{pass_links, pass_links_from}
+use Rattle.oc_tree.specs.Assigned.{pass_links, pass_links_from}
 use Rattle.oc_reach.proofs.passes.pass_links.Given as goal
 
 abbrev pub invariant-loop-i : goal.invariant-loop-i

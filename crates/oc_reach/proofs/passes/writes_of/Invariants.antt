@@ -1,6 +1,6 @@
 use Rattle.std.proofs.Common.{◌≡◌, ◌++◌, drop, map}
 use Rattle.oc_tree.specs.View.{function_view}
-use Rattle.oc_rules.specs.Assigned.{writes_from}
+use Rattle.oc_tree.specs.Assigned.{writes_from}
 use Rattle.oc_reach.proofs.passes.writes_of.Given as goal
 
 abbrev pub invariant-loop-i : goal.invariant-loop-i

@@ -1,7 +1,7 @@
 use Rattle.std.proofs.Common.{rules, ◌≡◌, ◌<◌, ◌+◌, ◌∷◌, ◌++◌, ℕ, [], take, length, ap, sym, refl, ◌∙◌, arith}
 use Rattle.std.proofs.Math.ListN.{get_or}
 use Rattle.std.proofs.lemmas.List.{take_more}
-use Rattle.oc_rules.specs.Reach.{linked}
+use Rattle.oc_tree.specs.Reach.{linked}
 use Rattle.oc_reach.specs.Marked.{is_in, rows}
 use Rattle.oc_reach.proofs.Rows.{row_is, rows_length, rows_set, link_at, link_more}
 use Rattle.oc_reach.proofs.reach.leaders_of.Goals as goal

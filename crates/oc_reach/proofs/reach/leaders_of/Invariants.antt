@@ -1,6 +1,6 @@
 use Rattle.std.proofs.Common.{◌≡◌, ℕ, [], vec_len, take}
 use Rattle.std.proofs.Math.ListN.{get_or}
-use Rattle.oc_rules.specs.Reach.{linked}
+use Rattle.oc_tree.specs.Reach.{linked}
 use Rattle.oc_reach.specs.Marked.{is_in, rows}
 use Rattle.oc_reach.proofs.reach.leaders_of.Given as goal
 

@@ -1,6 +1,6 @@
 use Rattle.std.proofs.Common.{drop, ◌≡◌}
-use Rattle.oc_rules.specs.Mentions.{call_mentions}
-use Rattle.oc_rules.specs.Rules.{all_lent}
+use Rattle.oc_tree.specs.Mentions.{call_mentions}
+use Rattle.oc_tree.specs.Rules.{all_lent}
 use Rattle.oc_tree.specs.View.{args_view, call_view}
 use Rattle.std.specs.Prelude.{◌==◌}
 use Rattle.oc_types.proofs.calls.all_alone.Given as goal

@@ -1,5 +1,5 @@
 use Rattle.std.proofs.Common.{drop, ◌≡◌}
-use Rattle.oc_rules.specs.Rules.{args_meet}
+use Rattle.oc_tree.specs.Rules.{args_meet}
 use Rattle.oc_tree.specs.View.{args_view, program_view}
 use Rattle.oc_types.proofs.calls.args_meet.Given as goal
 

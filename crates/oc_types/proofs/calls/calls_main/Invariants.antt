@@ -1,6 +1,6 @@
 use Rattle.std.proofs.Common.{drop, ◌≡◌}
-use Rattle.oc_rules.specs.Calls.{callee}
-use Rattle.oc_rules.specs.Rules.{calls_main, is_main}
+use Rattle.oc_tree.specs.Calls.{callee}
+use Rattle.oc_tree.specs.Rules.{calls_main, is_main}
 use Rattle.oc_tree.specs.View.{kind_view}
 use Rattle.std.specs.List.{list_any}
 use Rattle.oc_reach.specs.Views.{calls_seen}

@@ -1,5 +1,5 @@
 use Rattle.std.proofs.Common.{drop, ◌≡◌}
-use Rattle.oc_rules.specs.Types.{call_type}
+use Rattle.oc_tree.specs.Types.{call_type}
 use Rattle.oc_tree.specs.View.{program_view}
 use Rattle.std.specs.List.{list_all}
 use Rattle.std.specs.Prelude.{is_some}

@@ -1,5 +1,5 @@
 use Rattle.std.proofs.Common.{drop, ◌≡◌}
-use Rattle.oc_rules.specs.Rules.{arg_lends, args_list, call_args}
+use Rattle.oc_tree.specs.Rules.{arg_lends, args_list, call_args}
 use Rattle.oc_tree.specs.View.{args_view, call_view, program_view}
 use Rattle.std.specs.List.{list_all}
 use Rattle.oc_types.proofs.calls.lends_rightly.Given as goal

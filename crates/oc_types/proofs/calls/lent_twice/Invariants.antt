@@ -1,5 +1,5 @@
 use Rattle.std.proofs.Common.{drop, ◌≡◌}
-use Rattle.oc_rules.specs.Rules.{lends_alone, lent_twice}
+use Rattle.oc_tree.specs.Rules.{lends_alone, lent_twice}
 use Rattle.oc_tree.specs.View.{kind_view, program_view}
 use Rattle.std.specs.List.{list_all}
 use Rattle.std.specs.Prelude.{not}

@@ -1,6 +1,6 @@
 use Rattle.std.proofs.Common.{◌≡◌, drop}
-use Rattle.oc_rules.specs.Mentions.{own_mentions}
-use Rattle.oc_rules.specs.Rules.{all_lent}
+use Rattle.oc_tree.specs.Mentions.{own_mentions}
+use Rattle.oc_tree.specs.Rules.{all_lent}
 use Rattle.oc_tree.specs.View.{args_view, kind_view}
 use Rattle.std.specs.Prelude.{◌==◌}
 use Rattle.oc_types.proofs.disturbs.all_apart.Given as goal

@@ -1,7 +1,7 @@
 use Rattle.std.proofs.Common.{◌≡◌, drop}
 use Rattle.oc_reach.specs.Views.{calls_seen}
-use Rattle.oc_rules.specs.Calls.{own_calls}
-use Rattle.oc_rules.specs.Rules.{lends_apart}
+use Rattle.oc_tree.specs.Calls.{own_calls}
+use Rattle.oc_tree.specs.Rules.{lends_apart}
 use Rattle.oc_tree.specs.View.{kind_view, program_view}
 use Rattle.std.specs.List.{list_all}
 use Rattle.oc_types.proofs.disturbs.all_lend_apart.Given as goal

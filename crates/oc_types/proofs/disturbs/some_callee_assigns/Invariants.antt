@@ -1,8 +1,8 @@
 use Rattle.std.proofs.Common.{◌≡◌, drop}
 use Rattle.oc_reach.specs.Views.{calls_seen}
-use Rattle.oc_rules.specs.Assigned.{reaches_assign}
-use Rattle.oc_rules.specs.Calls.{own_calls}
-use Rattle.oc_rules.specs.Rules.{callee_is}
+use Rattle.oc_tree.specs.Assigned.{reaches_assign}
+use Rattle.oc_tree.specs.Calls.{own_calls}
+use Rattle.oc_tree.specs.Rules.{callee_is}
 use Rattle.oc_tree.specs.View.{kind_view, program_view}
 use Rattle.std.specs.List.{list_any}
 use Rattle.oc_types.proofs.disturbs.some_callee_assigns.Given as goal

@@ -1,5 +1,5 @@
 use Rattle.std.proofs.Common.{◌≡◌, drop}
-use Rattle.oc_rules.specs.Rules.{nv_disturbed}
+use Rattle.oc_tree.specs.Rules.{nv_disturbed}
 use Rattle.oc_tree.specs.View.{kind_view, program_view}
 use Rattle.std.specs.List.{list_any}
 use Rattle.oc_types.proofs.disturbs.some_nv_disturbed.Given as goal

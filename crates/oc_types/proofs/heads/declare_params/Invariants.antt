@@ -1,6 +1,6 @@
 use Rattle.std.proofs.Common.{◌≡◌, drop}
 use Rattle.oc_tree.specs.View.{program_view}
-use Rattle.oc_rules.specs.Scope.{takes_param, with_params}
+use Rattle.oc_tree.specs.Scope.{takes_param, with_params}
 use Rattle.oc_types.proofs.heads.declare_params.Given as goal
 
 abbrev pub invariant-loop-param : goal.invariant-loop-param

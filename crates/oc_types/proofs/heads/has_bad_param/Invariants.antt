@@ -1,6 +1,6 @@
 use Rattle.std.proofs.Common.{◌≡◌, drop}
 use Rattle.std.specs.List.{list_any}
-use Rattle.oc_rules.specs.Rules.{has_bad_length}
+use Rattle.oc_tree.specs.Rules.{has_bad_length}
 use Rattle.oc_types.proofs.heads.has_bad_param.Given as goal
 
 abbrev pub invariant-loop-param : goal.invariant-loop-param

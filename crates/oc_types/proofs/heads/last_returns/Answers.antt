@@ -1,7 +1,7 @@
 use Rattle.std.proofs.Common.{◌≡◌, ◌-◌, ◌∙◌, ap, sym, suc, length, arith}
 use Rattle.oc_tree.specs.View.{stmt_view}
 use Rattle.oc_tree.specs.declared.tree.Stmt.{Stmt}
-use Rattle.oc_rules.specs.Rules.{is_return}
+use Rattle.oc_tree.specs.Rules.{is_return}
 use Rattle.oc_types.proofs.Ends.{returns_at}
 use Rattle.oc_types.proofs.heads.last_returns.Goals as goal
 

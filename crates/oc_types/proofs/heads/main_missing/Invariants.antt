@@ -2,7 +2,7 @@ use Rattle.std.proofs.Common.{◌≡◌, drop, map}
 use Rattle.std.specs.List.{list_any}
 use Rattle.std.specs.Prelude.{not}
 use Rattle.oc_tree.specs.View.{function_view}
-use Rattle.oc_rules.specs.Rules.{is_main}
+use Rattle.oc_tree.specs.Rules.{is_main}
 use Rattle.oc_types.proofs.heads.main_missing.Given as goal
 
 abbrev pub invariant-loop-function : goal.invariant-loop-function

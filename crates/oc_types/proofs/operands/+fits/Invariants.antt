@@ -1,6 +1,6 @@
 use Rattle.std.proofs.Common.{◌≡◌, drop}
 use Rattle.oc_tree.specs.View.{args_view, program_view}
-use Rattle.oc_rules.specs.Rules.{args_fit}
+use Rattle.oc_tree.specs.Rules.{args_fit}
 use Rattle.oc_types.proofs.operands.+fits.Given as goal
 
 abbrev pub invariant-call_fits-loop-arg : goal.invariant-call_fits-loop-arg

@@ -1,6 +1,6 @@
 use Rattle.std.proofs.Common.{◌≡◌, ◌+◌, drop}
 use Rattle.oc_tree.specs.View.{args_view}
-use Rattle.oc_rules.specs.Pulls.{args_pulls}
+use Rattle.oc_tree.specs.Pulls.{args_pulls}
 use Rattle.oc_types.proofs.pulls.+pulls.Given as goal
 
 abbrev pub invariant-call_pulls-loop-arg : goal.invariant-call_pulls-loop-arg

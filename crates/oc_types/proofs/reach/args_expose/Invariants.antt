@@ -1,7 +1,7 @@
 use Rattle.std.proofs.Common.{◌≡◌, drop}
 use Rattle.std.specs.List.{list_any}
 use Rattle.oc_tree.specs.View.{args_view, program_view}
-use Rattle.oc_rules.specs.Rules.{arg_exposes, args_list}
+use Rattle.oc_tree.specs.Rules.{arg_exposes, args_list}
 use Rattle.oc_types.proofs.reach.args_expose.Given as goal
 
 abbrev pub invariant-loop-arg : goal.invariant-loop-arg

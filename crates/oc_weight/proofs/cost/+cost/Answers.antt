@@ -5,7 +5,7 @@ use Rattle.oc_tree.specs.declared.tree.StmtKind.{StmtKind, fold-roll-StmtKind}
 use Rattle.oc_tree.specs.declared.tree.StmtKind.TheOpen.{StmtKind-F}
 use Rattle.oc_tree.specs.declared.tree.StmtKind as X
 use denote.Hole.Carrier
-use Rattle.oc_rules.specs.Weight.{expr_cost, kind_cost, block_cost, turns}
+use Rattle.oc_tree.specs.Weight.{expr_cost, kind_cost, block_cost, turns}
 use Rattle.oc_weight.specs.Capped.{capped}
 use Rattle.oc_weight.proofs.CappedLaws.{capped_for, capped_while}
 use Rattle.oc_weight.proofs.cost.+cost.Goals as goal

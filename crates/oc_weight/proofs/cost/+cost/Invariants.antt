@@ -1,6 +1,6 @@
 use Rattle.std.proofs.Common.{◌≡◌, ◌≤◌, ◌+◌, drop, map}
 use Rattle.oc_tree.specs.View.{block_view, function_view, stmts_view}
-use Rattle.oc_rules.specs.Weight.{block_cost, stmts_cost}
+use Rattle.oc_tree.specs.Weight.{block_cost, stmts_cost}
 use Rattle.oc_weight.specs.Capped.{capped}
 use Rattle.oc_weight.proofs.cost.+cost.Given as goal
 

@@ -5,7 +5,7 @@ use Rattle.oc_tree.specs.declared.tree.Expr.{Expr, fold-roll-Expr}
 use Rattle.oc_tree.specs.declared.tree.Arg.TheOpen.{Expr-F}
 use Rattle.oc_tree.specs.declared.tree.Expr as X
 use denote.Hole.Carrier
-use Rattle.oc_rules.specs.Weight.{expr_cost, binary_cost}
+use Rattle.oc_tree.specs.Weight.{expr_cost, binary_cost}
 use Rattle.oc_weight.specs.Capped.{capped}
 use Rattle.oc_weight.proofs.CappedLaws.{binary_capped}
 use Rattle.oc_weight.proofs.cost.+expr_cost.Goals as goal

@@ -1,6 +1,6 @@
 use Rattle.std.proofs.Common.{◌≡◌, ◌≤◌, ◌+◌, drop}
 use Rattle.oc_tree.specs.View.{args_view}
-use Rattle.oc_rules.specs.Weight.{args_cost}
+use Rattle.oc_tree.specs.Weight.{args_cost}
 use Rattle.oc_weight.specs.Capped.{capped}
 use Rattle.oc_weight.proofs.cost.args_cost.Given as goal
 

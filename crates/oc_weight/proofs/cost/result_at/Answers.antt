@@ -2,7 +2,7 @@ use Rattle.std.proofs.Common.{◌≡◌, map, ap, sym, ◌∙◌}
 use Rattle.std.specs.Prelude.{is_some}
 use Rattle.std.proofs.Math.ListN.{get_or}
 use Rattle.oc_tree.specs.View.{function_view}
-use Rattle.oc_rules.specs.Weight.{result_at}
+use Rattle.oc_tree.specs.Weight.{result_at}
 use Rattle.oc_weight.proofs.CappedLaws.{result_read}
 use Rattle.oc_weight.proofs.cost.result_at.Goals as goal
 

@@ -1,7 +1,7 @@
 use Rattle.std.proofs.Common.{◌≡◌, ◌≤◌, drop, map}
 use Rattle.std.specs.Prelude.{max}
 use Rattle.oc_tree.specs.View.{block_view, function_view, stmts_view}
-use Rattle.oc_rules.specs.Stack.{block_depth, stmts_depth}
+use Rattle.oc_tree.specs.Stack.{block_depth, stmts_depth}
 use Rattle.oc_weight.specs.Capped.{capped}
 use Rattle.oc_weight.proofs.stack.+depth.Given as goal
 

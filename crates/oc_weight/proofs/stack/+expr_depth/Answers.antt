@@ -5,7 +5,7 @@ use Rattle.oc_tree.specs.declared.tree.Expr.{Expr, fold-roll-Expr}
 use Rattle.oc_tree.specs.declared.tree.Arg.TheOpen.{Expr-F}
 use Rattle.oc_tree.specs.declared.tree.Expr as X
 use denote.Hole.Carrier
-use Rattle.oc_rules.specs.Stack.{expr_depth, binary_depth}
+use Rattle.oc_tree.specs.Stack.{expr_depth, binary_depth}
 use Rattle.oc_weight.specs.Capped.{capped}
 use Rattle.oc_weight.proofs.StackLaws.{binary_capped}
 use Rattle.oc_weight.proofs.stack.+expr_depth.Goals as goal

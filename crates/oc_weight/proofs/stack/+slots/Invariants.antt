@@ -1,6 +1,6 @@
 use Rattle.std.proofs.Common.{◌≡◌, ◌≤◌, ◌+◌, drop}
 use Rattle.oc_tree.specs.View.{block_view, stmts_view}
-use Rattle.oc_rules.specs.Stack.{block_slots, stmts_slots}
+use Rattle.oc_tree.specs.Stack.{block_slots, stmts_slots}
 use Rattle.oc_weight.specs.Capped.{capped}
 use Rattle.oc_weight.proofs.stack.+slots.Given as goal
 

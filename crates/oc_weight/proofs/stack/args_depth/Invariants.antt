@@ -1,7 +1,7 @@
 use Rattle.std.proofs.Common.{◌≡◌, ◌≤◌, ◌+◌, drop}
 use Rattle.std.specs.Prelude.{max}
 use Rattle.oc_tree.specs.View.{args_view}
-use Rattle.oc_rules.specs.Stack.{args_depth}
+use Rattle.oc_tree.specs.Stack.{args_depth}
 use Rattle.oc_weight.specs.Capped.{capped}
 use Rattle.oc_weight.proofs.stack.args_depth.Given as goal
 

@@ -1,6 +1,6 @@
 use Rattle.std.proofs.Common.{◌≡◌, ◌++◌, drop, map}
 use Rattle.oc_tree.specs.View.{function_view}
-use Rattle.oc_rules.specs.Stack.{function_stack}
+use Rattle.oc_tree.specs.Stack.{function_stack}
 use Rattle.oc_weight.specs.Capped.{capped}
 use Rattle.oc_weight.proofs.stacks.next_level.Given as goal
 

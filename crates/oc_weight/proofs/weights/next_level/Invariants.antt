@@ -1,6 +1,6 @@
 use Rattle.std.proofs.Common.{◌≡◌, ◌++◌, drop, map}
 use Rattle.oc_tree.specs.View.{function_view}
-use Rattle.oc_rules.specs.Weight.{function_cost}
+use Rattle.oc_tree.specs.Weight.{function_cost}
 use Rattle.oc_weight.specs.Capped.{capped}
 use Rattle.oc_weight.proofs.weights.next_level.Given as goal
 

@@ -1,6 +1,6 @@
 use Rattle.std.proofs.Common.{◌≡◌, map}
 use Rattle.oc_tree.specs.View.{function_view}
-use Rattle.oc_rules.specs.Weight.{weights_to}
+use Rattle.oc_tree.specs.Weight.{weights_to}
 use Rattle.oc_weight.specs.Capped.{capped}
 use Rattle.oc_weight.proofs.weights.weights.Given as goal
 

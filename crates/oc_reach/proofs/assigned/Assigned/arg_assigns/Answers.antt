@@ -1,6 +1,6 @@
 use Rattle.std.proofs.Common.{◌≡◌, ◌<◌, map, ap, sym, subst, ◌∙◌}
 use Rattle.oc_tree.specs.View.{function_view}
-use Rattle.oc_rules.specs.Assigned.{param_count}
+use Rattle.oc_tree.specs.Assigned.{param_count}
 use Rattle.oc_reach.proofs.PassLaws.{mutable_below}
 use Rattle.oc_reach.proofs.assigned.Assigned.arg_assigns.Goals as goal
 

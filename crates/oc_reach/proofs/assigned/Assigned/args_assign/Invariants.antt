@@ -1,6 +1,6 @@
 use Rattle.std.proofs.Common.{◌≡◌, drop, map}
 use Rattle.oc_tree.specs.View.{args_view, function_view}
-use Rattle.oc_rules.specs.Assigned.{args_assign}
+use Rattle.oc_tree.specs.Assigned.{args_assign}
 use Rattle.oc_reach.proofs.assigned.Assigned.args_assign.Given as goal
 
 abbrev pub invariant-loop-place : goal.invariant-loop-place

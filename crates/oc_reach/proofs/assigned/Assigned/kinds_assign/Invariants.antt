@@ -1,7 +1,7 @@
 use Rattle.std.proofs.Common.{◌≡◌, drop, map}
 use Rattle.std.specs.List.{list_any}
 use Rattle.oc_tree.specs.View.{function_view}
-use Rattle.oc_rules.specs.Assigned.{own_assigns}
+use Rattle.oc_tree.specs.Assigned.{own_assigns}
 use Rattle.oc_reach.specs.Views.{kinds_seen}
 use Rattle.oc_reach.proofs.assigned.Assigned.kinds_assign.Given as goal
 

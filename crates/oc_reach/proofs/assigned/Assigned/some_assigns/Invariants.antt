@@ -1,7 +1,7 @@
 use Rattle.std.proofs.Common.{◌≡◌, drop, map}
 use Rattle.std.specs.List.{list_any}
 use Rattle.oc_tree.specs.View.{function_view}
-use Rattle.oc_rules.specs.Assigned.{call_assigns}
+use Rattle.oc_tree.specs.Assigned.{call_assigns}
 use Rattle.oc_reach.specs.Views.{calls_seen}
 use Rattle.oc_reach.proofs.assigned.Assigned.some_assigns.Given as goal
 

@@ -1,6 +1,6 @@
 use Rattle.std.proofs.Common.{◌≡◌, ◌++◌, drop, map}
 use Rattle.oc_tree.specs.View.{function_view}
-use Rattle.oc_rules.specs.Assigned.{function_assigns}
+use Rattle.oc_tree.specs.Assigned.{function_assigns}
 use Rattle.oc_reach.proofs.assigned.Assigned.tests.Given as goal
 
 abbrev pub invariant-loop-function : goal.invariant-loop-function

@@ -1,7 +1,7 @@
 use Rattle.std.proofs.Common.{◌≡◌, ◌∷◌, [], map, length, ap, ◌∙◌}
 use Rattle.oc_tree.specs.View.{function_view}
-use Rattle.oc_rules.specs.Reach.{reaches_some}
-use Rattle.oc_rules.specs.Calls.{call_links}
+use Rattle.oc_tree.specs.Reach.{reaches_some}
+use Rattle.oc_tree.specs.Calls.{call_links}
 use Rattle.oc_reach.specs.Marked.{is_in, add}
 use Rattle.oc_reach.proofs.Tests.{only_one}
 use Rattle.oc_reach.proofs.calls.Calls.callers.Goals as goal

@@ -1,8 +1,8 @@
 use Rattle.std.proofs.Common.{◌≡◌, ◌<◌, map, length, ap, subst, ◌∙◌, true, arith}
 use Rattle.std.proofs.lemmas.List.{length-map}
 use Rattle.oc_tree.specs.View.{function_view}
-use Rattle.oc_rules.specs.Reach.{linked}
-use Rattle.oc_rules.specs.Calls.{call_links, links_from}
+use Rattle.oc_tree.specs.Reach.{linked}
+use Rattle.oc_tree.specs.Calls.{call_links, links_from}
 use Rattle.oc_reach.proofs.LinkLaws.{calls_within}
 use Rattle.oc_reach.proofs.calls.Calls.new.Goals as goal
 

@@ -2,7 +2,7 @@ use Rattle.std.proofs.Common.{◌≡◌, ◌<◌, map, length, ap, ◌∙◌, ar
 use Rattle.std.proofs.Math.ListN.{get_or}
 use Rattle.std.proofs.lemmas.List.{length-map, get_or_read}
 use Rattle.oc_tree.specs.View.{function_view}
-use Rattle.oc_rules.specs.Assigned.{first_params, param_count}
+use Rattle.oc_tree.specs.Assigned.{first_params, param_count}
 use Rattle.oc_reach.proofs.PassLaws.{first_room, firsts_length}
 use Rattle.oc_reach.proofs.params.Params.first.Goals as goal
 

@@ -1,7 +1,7 @@
 use Rattle.std.proofs.Common.{rules, ◌^◌, ◌≡◌, ◌<◌, ◌+◌, ℕ, Bool, true, false, [], map, length, cond, Some, None, ap, sym, subst, ◌∙◌, arith}
 use Rattle.std.proofs.Math.ListN.{get_or}
 use Rattle.oc_tree.specs.View.{function_view}
-use Rattle.oc_rules.specs.Assigned.{is_mutable, first_param, mutable_param, takes_mutable}
+use Rattle.oc_tree.specs.Assigned.{is_mutable, first_param, mutable_param, takes_mutable}
 use Rattle.oc_reach.proofs.PassLaws.{mutable_at, takes_below}
 use Rattle.oc_reach.proofs.params.Params.mutable.Goals as goal
 

@@ -1,5 +1,5 @@
 use Rattle.std.proofs.Common.{◌≡◌, ap, sym, ◌∙◌, subst, None}
-use Rattle.oc_rules.specs.Scope.{variable_in}
+use Rattle.oc_tree.specs.Scope.{variable_in}
 use Rattle.oc_types.proofs.Entries.{insert-seen, seen}
 use Rattle.oc_types.proofs.scope.Scope.declare.Goals as goal
 

@@ -14,21 +14,21 @@ use Rattle.oc_tree.specs.declared.tree.UnaryOp.{UnaryOp}
 use Rattle.oc_tree.specs.declared.tree.UnaryOp.TheVariants as unaries
 use Rattle.oc_tree.specs.declared.tree.BinaryOp.{BinaryOp}
 use Rattle.oc_tree.specs.declared.tree.BinaryOp.TheVariants as binaries
-use Rattle.oc_rules.specs.declared.before.Before.{Before}
-use Rattle.oc_rules.specs.declared.broken.Broken.{Broken}
-use Rattle.oc_rules.specs.declared.scope.Origin.{Origin}
-use Rattle.oc_rules.specs.declared.scope.Origin.TheVariants as origins
-use Rattle.oc_rules.specs.declared.scope.Policy.{Policy}
-use Rattle.oc_rules.specs.declared.scope.Policy.TheVariants as policies
-use Rattle.oc_rules.specs.declared.scope.Var.{Var}
-use Rattle.oc_rules.specs.Pulls.{own_pulls, own_skips}
-use Rattle.oc_rules.specs.Mentions.{own_mentions, call_mentions}
-use Rattle.oc_rules.specs.Calls.{place, function_place, callee, args_of_call, args_calls, own_calls, call_links, reaches_mention}
-use Rattle.oc_rules.specs.Reach.{reaches}
-use Rattle.oc_rules.specs.Assigned.{reaches_assign}
-use Rattle.oc_rules.specs.Scope.{Scope, variable_in, variable_of, is_variable, is_among, is_taken, takes_param, function_named}
-use Rattle.oc_rules.specs.Types.{is_by_reference, is_reference, is_array, scalar_of, is_int, is_bool, is_same, is_same_kind, value_type, pointed_type, has_elements, type_of, right_type, call_type}
-use Rattle.oc_rules.specs.Elements.{Item, sensor_item, port_item, nv_item, function_item, Here, Element, declared, statement, ending, line_of, is_end, program_elements}
+use Rattle.oc_tree.specs.declared.before.Before.{Before}
+use Rattle.oc_tree.specs.declared.broken.Broken.{Broken}
+use Rattle.oc_tree.specs.declared.scope.Origin.{Origin}
+use Rattle.oc_tree.specs.declared.scope.Origin.TheVariants as origins
+use Rattle.oc_tree.specs.declared.scope.Policy.{Policy}
+use Rattle.oc_tree.specs.declared.scope.Policy.TheVariants as policies
+use Rattle.oc_tree.specs.declared.scope.Var.{Var}
+use Rattle.oc_tree.specs.Pulls.{own_pulls, own_skips}
+use Rattle.oc_tree.specs.Mentions.{own_mentions, call_mentions}
+use Rattle.oc_tree.specs.Calls.{place, function_place, callee, args_of_call, args_calls, own_calls, call_links, reaches_mention}
+use Rattle.oc_tree.specs.Reach.{reaches}
+use Rattle.oc_tree.specs.Assigned.{reaches_assign}
+use Rattle.oc_tree.specs.Scope.{Scope, variable_in, variable_of, is_variable, is_among, is_taken, takes_param, function_named}
+use Rattle.oc_tree.specs.Types.{is_by_reference, is_reference, is_array, scalar_of, is_int, is_bool, is_same, is_same_kind, value_type, pointed_type, has_elements, type_of, right_type, call_type}
+use Rattle.oc_tree.specs.Elements.{Item, sensor_item, port_item, nv_item, function_item, Here, Element, declared, statement, ending, line_of, is_end, program_elements}
 
 -- ---- names
 

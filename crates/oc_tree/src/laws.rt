@@ -1,6 +1,6 @@
 //! Laws of the definitions.
 ghost use Rattle.std.specs.Prelude.{◌≡◌, ◌<◌, ℕ, Bool, true, false};
-ghost use Rattle.oc_rules.specs.Reach.{Links, linked, leads, rank};
+ghost use Rattle.oc_tree.specs.Reach.{Links, linked, leads, rank};
 
 /// What is linked leads; and leading goes on.
 pub fn calls_lead()

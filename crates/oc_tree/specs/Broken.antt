@@ -2,13 +2,13 @@
 use Rattle.std.specs.Prelude.{ℕ, Bool, not, List, [], ◌∷◌, ◌++◌, Option, Some, None, cond}
 use Rattle.std.specs.List.{list_any}
 use Rattle.oc_tree.specs.Tree.{TKind, TProgram}
-use Rattle.oc_rules.specs.declared.before.Before.{Before}
-use Rattle.oc_rules.specs.declared.broken.Broken.{Broken}
-use Rattle.oc_rules.specs.Pulls.{own_skips}
-use Rattle.oc_rules.specs.Scope.{nv_kind, takes_param}
-use Rattle.oc_rules.specs.Elements.{Item, sensor_item, port_item, nv_item, function_item, Here, Element, declared, statement, ending, line_of, program_elements}
-use Rattle.oc_rules.specs.Limits.{Tally, nothing_counted, counted, item_passes, statement_passes}
-use Rattle.oc_rules.specs.Rules.{declared_before, takes_name, own_known, main_head, calls_main, main_missing, own_fits, sides_differ, condition_is_number, args_differ, result_missing, has_bad_length, let_bad_length, is_array_value, target_fixed, array_fixed, pointee_fixed, lends_fixed, lent_twice, exposes_nv, annotates_other, calls_back, return_missing, returns_elsewhere, has_many_turns, pulls_disturb}
+use Rattle.oc_tree.specs.declared.before.Before.{Before}
+use Rattle.oc_tree.specs.declared.broken.Broken.{Broken}
+use Rattle.oc_tree.specs.Pulls.{own_skips}
+use Rattle.oc_tree.specs.Scope.{nv_kind, takes_param}
+use Rattle.oc_tree.specs.Elements.{Item, sensor_item, port_item, nv_item, function_item, Here, Element, declared, statement, ending, line_of, program_elements}
+use Rattle.oc_tree.specs.Limits.{Tally, nothing_counted, counted, item_passes, statement_passes}
+use Rattle.oc_tree.specs.Rules.{declared_before, takes_name, own_known, main_head, calls_main, main_missing, own_fits, sides_differ, condition_is_number, args_differ, result_missing, has_bad_length, let_bad_length, is_array_value, target_fixed, array_fixed, pointee_fixed, lends_fixed, lent_twice, exposes_nv, annotates_other, calls_back, return_missing, returns_elsewhere, has_many_turns, pulls_disturb}
 
 abbrev pub Table : Type 0
 Table = List (ℕ × Bool)

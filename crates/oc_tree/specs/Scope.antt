@@ -9,10 +9,10 @@ use Rattle.oc_tree.specs.declared.tree.Passing.{Passing}
 use Rattle.oc_tree.specs.declared.tree.Passing.TheVariants as passings
 use Rattle.oc_tree.specs.declared.tree.ValueKind.TheVariants as kinds
 use Rattle.oc_tree.specs.declared.tree.ValueKind.{ValueKind}
-use Rattle.oc_rules.specs.declared.scope.Origin.{Origin}
-use Rattle.oc_rules.specs.declared.scope.Origin.TheVariants as origins
-use Rattle.oc_rules.specs.declared.scope.Var.{Var}
-use Rattle.oc_rules.specs.Calls.{place, function_place, function_names}
+use Rattle.oc_tree.specs.declared.scope.Origin.{Origin}
+use Rattle.oc_tree.specs.declared.scope.Origin.TheVariants as origins
+use Rattle.oc_tree.specs.declared.scope.Var.{Var}
+use Rattle.oc_tree.specs.Calls.{place, function_place, function_names}
 
 -- parameters, and `let` and `for` variables, in the order of their declarations
 abbrev pub Scope : Type 0

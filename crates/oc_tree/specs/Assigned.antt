@@ -7,8 +7,8 @@ use Rattle.oc_tree.specs.Names.{Text}
 use Rattle.oc_tree.specs.Tree.{TExpr, variable, TArg, value, shared, mutable, TCall, call, TArgs, no_args, more_args, TKind, assign, assign_index, assign_deref, TFunction}
 use Rattle.oc_tree.specs.declared.tree.Passing.{Passing}
 use Rattle.oc_tree.specs.declared.tree.Passing.TheVariants.{Value, Shared, Mutable}
-use Rattle.oc_rules.specs.Reach.{Links, reaches_some}
-use Rattle.oc_rules.specs.Calls.{place, function_place, own_calls, block_kinds, body_calls, call_links, has_param, test_at}
+use Rattle.oc_tree.specs.Reach.{Links, reaches_some}
+use Rattle.oc_tree.specs.Calls.{place, function_place, own_calls, block_kinds, body_calls, call_links, has_param, test_at}
 
 abbrev pub is_mutable : Passing → Bool
 is_mutable Value = false

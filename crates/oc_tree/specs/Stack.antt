@@ -5,9 +5,9 @@ use Rattle.std.specs.Str.{bytes_eq}
 use Rattle.oc_tree.specs.Tree.{TExpr, number, truth, variable, index, deref, unary, binary, sensed, called, TArg, value, shared, mutable, TCall, call, TArgs, no_args, more_args, TRight, right_value, right_sense, right_call, TKind, let_to, let_array, assign, assign_index, assign_deref, if_else, for_in, while_do, call_only, sense_only, emit, fresh, consistent, return, TElse, no_else, else_do, stmt, TBlock, block, TStmts, no_stmts, more, TFunction, TProgram}
 use Rattle.oc_tree.specs.declared.tree.BinaryOp.{BinaryOp}
 use Rattle.oc_tree.specs.declared.tree.BinaryOp.TheVariants.{And, Or}
-use Rattle.oc_rules.specs.Calls.{function_place}
-use Rattle.oc_rules.specs.Expansion.{expansion}
-use Rattle.oc_rules.specs.Weight.{known_of}
+use Rattle.oc_tree.specs.Calls.{function_place}
+use Rattle.oc_tree.specs.Expansion.{expansion}
+use Rattle.oc_tree.specs.Weight.{known_of}
 
 -- the words of a variable or a counter that statements declare
 abbrev mutual

@@ -3,9 +3,9 @@ use Rattle.std.proofs.Common.{◌≡◌, [], ◌∷◌, false, None, refl}
 use Rattle.std.specs.Prelude.{pos, codes}
 use Rattle.oc_tree.specs.Tree.{TProgram, TBlock, no_stmts, more, stmt, block, let_to, for_in, emit, fresh, right_value, right_sense, variable, binary, sensed}
 use Rattle.oc_tree.specs.declared.tree.BinaryOp.TheVariants.{Add}
-use Rattle.oc_rules.specs.Expansion.{expansion, program_groups, temporary}
-use Rattle.oc_rules.specs.Weight.{weights, weights_to}
-use Rattle.oc_rules.specs.Stack.{stack_words, stacks_to}
+use Rattle.oc_tree.specs.Expansion.{expansion, program_groups, temporary}
+use Rattle.oc_tree.specs.Weight.{weights, weights_to}
+use Rattle.oc_tree.specs.Stack.{stack_words, stacks_to}
 
 abbrev only : TBlock → TProgram
 only b = record { names = record { sensors = []; ports = []; nvs = [] }; nv = []; functions = record { name = codes "main"; line = 1; params = []; result = None; body = b } ∷ []; order = []; last_line = 1 }

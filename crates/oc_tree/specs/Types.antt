@@ -12,11 +12,11 @@ use Rattle.oc_tree.specs.declared.tree.UnaryOp.{UnaryOp}
 use Rattle.oc_tree.specs.declared.tree.UnaryOp.TheVariants as unaries
 use Rattle.oc_tree.specs.declared.tree.BinaryOp.{BinaryOp}
 use Rattle.oc_tree.specs.declared.tree.BinaryOp.TheVariants as binaries
-use Rattle.oc_rules.specs.declared.scope.Origin.{Origin}
-use Rattle.oc_rules.specs.declared.scope.Origin.TheVariants as origins
-use Rattle.oc_rules.specs.declared.scope.Var.{Var}
-use Rattle.oc_rules.specs.Calls.{callee}
-use Rattle.oc_rules.specs.Scope.{Scope, variable_of, function_named}
+use Rattle.oc_tree.specs.declared.scope.Origin.{Origin}
+use Rattle.oc_tree.specs.declared.scope.Origin.TheVariants as origins
+use Rattle.oc_tree.specs.declared.scope.Var.{Var}
+use Rattle.oc_tree.specs.Calls.{callee}
+use Rattle.oc_tree.specs.Scope.{Scope, variable_of, function_named}
 
 abbrev pub is_by_reference : Passing → Bool
 is_by_reference passings.Value = false

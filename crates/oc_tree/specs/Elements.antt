@@ -11,11 +11,11 @@ use Rattle.oc_tree.specs.declared.tree.Scalar.{Scalar}
 use Rattle.oc_tree.specs.declared.tree.Scalar.TheVariants as scalars
 use Rattle.oc_tree.specs.declared.tree.ValueKind.{ValueKind}
 use Rattle.oc_tree.specs.declared.tree.ValueKind.TheVariants as kinds
-use Rattle.oc_rules.specs.declared.before.Before.{Before}
-use Rattle.oc_rules.specs.declared.scope.Origin.TheVariants as origins
-use Rattle.oc_rules.specs.declared.scope.Var.{Var}
-use Rattle.oc_rules.specs.Scope.{Scope, with_params}
-use Rattle.oc_rules.specs.Types.{right_type}
+use Rattle.oc_tree.specs.declared.before.Before.{Before}
+use Rattle.oc_tree.specs.declared.scope.Origin.TheVariants as origins
+use Rattle.oc_tree.specs.declared.scope.Var.{Var}
+use Rattle.oc_tree.specs.Scope.{Scope, with_params}
+use Rattle.oc_tree.specs.Types.{right_type}
 
 -- what stands at the top level
 pub data Item : Type 0 where

@@ -3,16 +3,16 @@ use Rattle.std.specs.Prelude.{ℕ, ℤ, ◌+◌, Bool, true, false, ◌&&◌, �
 use Rattle.std.specs.Ordering.{int_eq}
 use Rattle.std.specs.List.{list_any}
 use Rattle.oc_tree.specs.Tree.{TKind, let_to, let_array, assign, assign_index, assign_deref, if_else, for_in, while_do, call_only, sense_only, emit, fresh, consistent, return}
-use Rattle.oc_rules.specs.declared.before.Before.{Before}
-use Rattle.oc_rules.specs.declared.scope.Origin.{Origin}
-use Rattle.oc_rules.specs.declared.scope.Origin.TheVariants as origins
-use Rattle.oc_rules.specs.declared.scope.Policy.{Policy}
-use Rattle.oc_rules.specs.declared.scope.Policy.TheVariants as policies
-use Rattle.oc_rules.specs.declared.scope.Var.{Var}
-use Rattle.oc_rules.specs.Pulls.{own_pulls}
-use Rattle.oc_rules.specs.Calls.{own_calls}
-use Rattle.oc_rules.specs.Scope.{variable_in}
-use Rattle.oc_rules.specs.Elements.{Item, sensor_item, port_item, nv_item, function_item, Here, Element, declared, statement, ending}
+use Rattle.oc_tree.specs.declared.before.Before.{Before}
+use Rattle.oc_tree.specs.declared.scope.Origin.{Origin}
+use Rattle.oc_tree.specs.declared.scope.Origin.TheVariants as origins
+use Rattle.oc_tree.specs.declared.scope.Policy.{Policy}
+use Rattle.oc_tree.specs.declared.scope.Policy.TheVariants as policies
+use Rattle.oc_tree.specs.declared.scope.Var.{Var}
+use Rattle.oc_tree.specs.Pulls.{own_pulls}
+use Rattle.oc_tree.specs.Calls.{own_calls}
+use Rattle.oc_tree.specs.Scope.{variable_in}
+use Rattle.oc_tree.specs.Elements.{Item, sensor_item, port_item, nv_item, function_item, Here, Element, declared, statement, ending}
 
 -- the nonvolatile words so far, the variables of the function so far, and the statements, calls and policies so far.
 -- Each pull is a variable and a statement more.

@@ -3,7 +3,7 @@ use Rattle.std.proofs.Common.{◌≡◌, ◌<◌, ◌≤◌, ℕ, zero, suc, Boo
 use Rattle.std.specs.Prelude.{◌&&◌, ◌||◌}
 use Rattle.std.proofs.lemmas.Bool.Decides.{eqb_tells}
 use mathlib.Core.Logic.{inl, inr}
-use Rattle.oc_rules.specs.Reach.{Links, linked, leads_by, leads, one, count_below, rank}
+use Rattle.oc_tree.specs.Reach.{Links, linked, leads_by, leads, one, count_below, rank}
 
 pub or_left : (a b : Bool) → a ≡ true → a || b ≡ true
 or_left a b h = subst (λ x. x || b ≡ true) (sym h) refl

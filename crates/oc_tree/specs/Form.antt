@@ -1,9 +1,11 @@
--- Programs in form: what every tree that tokens spell keeps.
+-- Programs in form: what every tree that tokens spell keeps. What is asked of the names inside the tree is left open:
+-- those of a written program are names of the language, while its expansion has names of temporaries too.
 use Rattle.std.specs.Prelude.{◌≡◌, ℕ, ℤ, pos, neg_ℤ, ◌⊎◌, ◌≤◌, Bool, true, false, List, length, All, count_by, Option, Some, None}
 use Rattle.oc_lex.specs.Stands.{IsName}
+use Rattle.oc_tree.specs.Names.{Text}
 use Rattle.oc_tree.specs.Tree.{TExpr, number, truth, variable, index, deref, unary, binary, sensed, called, TArg, value, shared, mutable, TCall, call, TArgs, no_args, more_args, TRight, right_value, right_sense, right_call, TKind, let_to, let_array, assign, assign_index, assign_deref, if_else, for_in, while_do, call_only, sense_only, emit, fresh, consistent, return, TElse, no_else, else_do, TStmt, stmt, TBlock, block, TStmts, no_stmts, more, TFunction, TProgram}
 use Rattle.oc_tree.specs.Nodes.{program_nodes}
-use Rattle.oc_grammar.specs.Numbers.{numbers_on, program_statements, program_blocks}
+use Rattle.oc_tree.specs.Numbers.{numbers_on, program_statements, program_blocks}
 use Rattle.oc_tree.specs.declared.tree.ValueKind.{ValueKind}
 use Rattle.oc_tree.specs.declared.tree.ValueKind.TheVariants as types
 use Rattle.oc_tree.specs.declared.tree.Param.{Param}
@@ -39,28 +41,28 @@ NoteInForm (Some k) = TypeInForm k
 -- ---- expressions: their names are names, and their numbers are numerals
 
 abbrev mutual
-  pub ExprInForm : TExpr → Type 0
-  ExprInForm (number z) = IsNumeral z
-  ExprInForm (truth b) = Unit {0}
-  ExprInForm (variable x) = IsName x
-  ExprInForm (index x e) = IsName x × ExprInForm e
-  ExprInForm (deref x) = IsName x
-  ExprInForm (unary op e) = ExprInForm e
-  ExprInForm (binary op a b) = ExprInForm a × ExprInForm b
-  ExprInForm (sensed s) = IsName s
-  ExprInForm (called c) = CallInForm c
+  pub ExprInForm : (Text → Type 0) → TExpr → Type 0
+  ExprInForm N (number z) = IsNumeral z
+  ExprInForm N (truth b) = Unit {0}
+  ExprInForm N (variable x) = N x
+  ExprInForm N (index x e) = N x × ExprInForm N e
+  ExprInForm N (deref x) = N x
+  ExprInForm N (unary op e) = ExprInForm N e
+  ExprInForm N (binary op a b) = ExprInForm N a × ExprInForm N b
+  ExprInForm N (sensed s) = N s
+  ExprInForm N (called c) = CallInForm N c
 
-  pub ArgInForm : TArg → Type 0
-  ArgInForm (value e) = ExprInForm e
-  ArgInForm (shared x) = IsName x
-  ArgInForm (mutable x) = IsName x
+  pub ArgInForm : (Text → Type 0) → TArg → Type 0
+  ArgInForm N (value e) = ExprInForm N e
+  ArgInForm N (shared x) = N x
+  ArgInForm N (mutable x) = N x
 
-  pub CallInForm : TCall → Type 0
-  CallInForm (call f args) = IsName f × ArgsInForm args
+  pub CallInForm : (Text → Type 0) → TCall → Type 0
+  CallInForm N (call f args) = N f × ArgsInForm N args
 
-  pub ArgsInForm : TArgs → Type 0
-  ArgsInForm no_args = Unit {0}
-  ArgsInForm (more_args a rest) = ArgInForm a × ArgsInForm rest
+  pub ArgsInForm : (Text → Type 0) → TArgs → Type 0
+  ArgsInForm N no_args = Unit {0}
+  ArgsInForm N (more_args a rest) = ArgInForm N a × ArgsInForm N rest
 
 -- an expression that is a right side is neither just an input nor just a call, which are right
 -- sides of their own
@@ -69,53 +71,53 @@ IsNoPull (sensed s) = ⊥
 IsNoPull (called c) = ⊥
 IsNoPull _ = Unit {0}
 
-abbrev pub RightInForm : TRight → Type 0
-RightInForm (right_value e) = IsNoPull e × ExprInForm e
-RightInForm (right_sense s) = IsName s
-RightInForm (right_call c) = CallInForm c
+abbrev pub RightInForm : (Text → Type 0) → TRight → Type 0
+RightInForm N (right_value e) = IsNoPull e × ExprInForm N e
+RightInForm N (right_sense s) = N s
+RightInForm N (right_call c) = CallInForm N c
 
 -- ---- statements
 
 abbrev mutual
-  pub KindInForm : TKind → Type 0
-  KindInForm (let_to m x k r) = IsName x × NoteInForm k × RightInForm r
-  KindInForm (let_array m x k i n) = IsName x × NoteInForm k × IsConst i × IsCount n
-  KindInForm (assign x r) = IsName x × RightInForm r
-  KindInForm (assign_index x i r) = IsName x × ExprInForm i × RightInForm r
-  KindInForm (assign_deref x r) = IsName x × RightInForm r
-  KindInForm (if_else c a b) = ExprInForm c × BlockInForm a × ElseInForm b
-  KindInForm (for_in x c d b) = IsName x × IsConst c × IsConst d × BlockInForm b
-  KindInForm (while_do c n b) = ExprInForm c × IsCount n × BlockInForm b
-  KindInForm (call_only c) = CallInForm c
-  KindInForm (sense_only s) = IsName s
-  KindInForm (emit p e) = IsName p × ExprInForm e
-  KindInForm (fresh x) = IsName x
-  KindInForm (consistent x n) = IsName x × IsNumeral n
-  KindInForm (return e) = ExprInForm e
+  pub KindInForm : (Text → Type 0) → TKind → Type 0
+  KindInForm N (let_to m x k r) = N x × NoteInForm k × RightInForm N r
+  KindInForm N (let_array m x k i n) = N x × NoteInForm k × IsConst i × IsCount n
+  KindInForm N (assign x r) = N x × RightInForm N r
+  KindInForm N (assign_index x i r) = N x × ExprInForm N i × RightInForm N r
+  KindInForm N (assign_deref x r) = N x × RightInForm N r
+  KindInForm N (if_else c a b) = ExprInForm N c × BlockInForm N a × ElseInForm N b
+  KindInForm N (for_in x c d b) = N x × IsConst c × IsConst d × BlockInForm N b
+  KindInForm N (while_do c n b) = ExprInForm N c × IsCount n × BlockInForm N b
+  KindInForm N (call_only c) = CallInForm N c
+  KindInForm N (sense_only s) = N s
+  KindInForm N (emit p e) = N p × ExprInForm N e
+  KindInForm N (fresh x) = N x
+  KindInForm N (consistent x n) = N x × IsNumeral n
+  KindInForm N (return e) = ExprInForm N e
 
-  pub ElseInForm : TElse → Type 0
-  ElseInForm no_else = Unit {0}
-  ElseInForm (else_do b) = BlockInForm b
+  pub ElseInForm : (Text → Type 0) → TElse → Type 0
+  ElseInForm N no_else = Unit {0}
+  ElseInForm N (else_do b) = BlockInForm N b
 
-  pub StmtInForm : TStmt → Type 0
-  StmtInForm (stmt id line k) = KindInForm k
+  pub StmtInForm : (Text → Type 0) → TStmt → Type 0
+  StmtInForm N (stmt id line k) = KindInForm N k
 
-  pub BlockInForm : TBlock → Type 0
-  BlockInForm (block id ss) = StmtsInForm ss
+  pub BlockInForm : (Text → Type 0) → TBlock → Type 0
+  BlockInForm N (block id ss) = StmtsInForm N ss
 
-  pub StmtsInForm : TStmts → Type 0
-  StmtsInForm no_stmts = Unit {0}
-  StmtsInForm (more s ss) = StmtInForm s × StmtsInForm ss
+  pub StmtsInForm : (Text → Type 0) → TStmts → Type 0
+  StmtsInForm N no_stmts = Unit {0}
+  StmtsInForm N (more s ss) = StmtInForm N s × StmtsInForm N ss
 
 -- ---- functions and declarations
 
-abbrev pub ParamInForm : Param → Type 0
-ParamInForm p = IsName p.name × TypeInForm p.kind
+abbrev pub ParamInForm : (Text → Type 0) → Param → Type 0
+ParamInForm N p = N p.name × TypeInForm p.kind
 
-pub record FunctionInForm (f : TFunction) : Type 0 where
-  pub name : IsName f.name
-  pub params : All ParamInForm f.params
-  pub body : BlockInForm f.body
+pub record FunctionInForm (N : Text → Type 0) (f : TFunction) : Type 0 where
+  pub name : N f.name
+  pub params : All (ParamInForm N) f.params
+  pub body : BlockInForm N f.body
 
 -- what isn't an array has one word
 abbrev pub CellsInForm : (array : Bool) → ℕ → Type 0
@@ -152,20 +154,20 @@ pub record DeclaredInOrder (p : TProgram) : Type 0 where
   pub each_nv : length p.nv ≡ length p.names.nvs
 
 -- its names are names of the language and its numbers what tokens can say
-pub record Spellable (p : TProgram) : Type 0 where
+pub record Spellable (N : Text → Type 0) (p : TProgram) : Type 0 where
   pub sensors : All IsName p.names.sensors
   pub ports : All IsName p.names.ports
   pub nvs : All IsName p.names.nvs
   pub nv : All NvInForm p.nv
-  pub functions : All FunctionInForm p.functions
+  pub functions : All (FunctionInForm N) p.functions
 
 -- statements and blocks are numbered from 1 in source order
 pub record Numbered (p : TProgram) : Type 0 where
   pub statements : program_statements p ≡ numbers_on 1 (length (program_statements p))
   pub blocks : program_blocks p ≡ numbers_on 1 (length (program_blocks p))
 
-pub record InForm (p : TProgram) : Type 0 where
+pub record InForm (N : Text → Type 0) (p : TProgram) : Type 0 where
   pub numbered : Numbered p
-  pub spellable : Spellable p
+  pub spellable : Spellable N p
   pub declared : DeclaredInOrder p
   pub few_nodes : program_nodes p ≤ 2097152

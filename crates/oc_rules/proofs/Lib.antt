@@ -1,2 +1,0 @@
-pub mod ReachLaws
-pub mod Worked

@@ -1,5 +1,5 @@
 //! What a variable's name stands for.
-use oc_tree::tree::{BlockId, Passing, StmtId, ValueKind};
+use crate::tree::{BlockId, Passing, StmtId, ValueKind};
 
 /// How a variable came to be: by the `let` with this number, directly in this block, by a `for`,
 /// as a parameter, or as a nonvolatile variable.

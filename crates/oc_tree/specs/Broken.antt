@@ -1,5 +1,5 @@
 -- The rules by their numbers, and the first element that breaks one.
-use Rattle.std.specs.Prelude.{ℕ, Bool, not, List, [], ◌∷◌, ◌++◌, Option, Some, None, cond}
+use Rattle.std.specs.Prelude.{ℕ, Bool, not, List, [], ◌∷◌, Option, Some, None, cond, nat_lt}
 use Rattle.std.specs.List.{list_any}
 use Rattle.oc_tree.specs.Tree.{TKind, TProgram}
 use Rattle.oc_tree.specs.declared.before.Before.{Before}
@@ -8,6 +8,8 @@ use Rattle.oc_tree.specs.Pulls.{own_skips}
 use Rattle.oc_tree.specs.Scope.{nv_kind, takes_param}
 use Rattle.oc_tree.specs.Elements.{Item, sensor_item, port_item, nv_item, function_item, Here, Element, declared, statement, ending, line_of, program_elements}
 use Rattle.oc_tree.specs.Limits.{Tally, nothing_counted, counted, item_passes, statement_passes}
+use Rattle.oc_tree.specs.Weight.{weights}
+use Rattle.oc_tree.specs.Stack.{stack_words}
 use Rattle.oc_tree.specs.Rules.{declared_before, takes_name, own_known, main_head, calls_main, main_missing, own_fits, sides_differ, condition_is_number, args_differ, result_missing, has_bad_length, let_bad_length, is_array_value, target_fixed, array_fixed, pointee_fixed, lends_fixed, lent_twice, exposes_nv, annotates_other, calls_back, return_missing, returns_elsewhere, has_many_turns, pulls_disturb}
 
 abbrev pub Table : Type 0
@@ -82,6 +84,21 @@ abbrev pub first_broken : TProgram → Tally → List Element → Option Broken
 first_broken p n [] = None
 first_broken p n (e ∷ es) = or_later (line_of e) (lowest (rules_of p (counted n e) e)) (first_broken p (counted n e) es)
 
--- of all rules but those on weight and stack, which are looked at where none of these is broken
+-- of all rules but those on weight and stack
+abbrev pub broken_element : TProgram → Option Broken
+broken_element p = first_broken p nothing_counted (program_elements p)
+
+-- The rules on weight and stack, which are looked at where none of the others is broken: a function weighs more than
+-- 2^32, or `main` takes more than 65,536 words of stack.
+abbrev pub size_rules : TProgram → Table
+size_rules p =
+    (23, list_any (nat_lt 4294967296) (weights p)) ∷
+    (24, nat_lt 65536 (stack_words p)) ∷ []
+
+abbrev pub or_size : TProgram → Option Broken → Option Broken
+or_size p (Some b) = Some b
+or_size p None = or_later p.last_line (lowest (size_rules p)) None
+
+-- the first element that breaks a rule, and the lowest rule there
 abbrev pub broken : TProgram → Option Broken
-broken p = first_broken p nothing_counted (program_elements p)
+broken p = or_size p (broken_element p)

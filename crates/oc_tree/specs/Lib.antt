@@ -17,8 +17,10 @@ pub mod Types
 pub mod Elements
 pub mod Rules
 pub mod Limits
-pub mod Broken
 pub mod Expansion
 pub mod Weight
 pub mod Stack
+pub mod Broken
+pub mod Places
+pub mod Checked
 pub mod Numbered

@@ -1,9 +1,9 @@
 -- The rules, each as a test that says whether it is broken.
-use Rattle.std.specs.Prelude.{ℕ, ℤ, pos, ◌-ℤ◌, suc, ◌+◌, Bool, true, false, not, ◌&&◌, ◌||◌, ◌==◌, List, [], ◌∷◌, ◌++◌, length, map, Option, Some, None, cond, is_some, nat_lt, nat_le, int_lt, option_and_then}
+use Rattle.std.specs.Prelude.{ℕ, pos, ◌-ℤ◌, Bool, true, false, not, ◌&&◌, ◌||◌, ◌==◌, List, [], ◌∷◌, length, Option, Some, None, cond, is_some, nat_lt, int_lt}
 use Rattle.std.specs.Str.{bytes_eq}
 use Rattle.std.specs.List.{list_all, list_any}
 use Rattle.oc_tree.specs.Names.{Text}
-use Rattle.oc_tree.specs.Tree.{TExpr, number, truth, variable, index, deref, unary, binary, sensed, called, TArg, value, shared, mutable, TCall, call, TArgs, no_args, more_args, TRight, right_value, right_sense, right_call, TKind, let_to, let_array, assign, assign_index, assign_deref, if_else, for_in, while_do, call_only, sense_only, emit, fresh, consistent, return, TElse, no_else, else_do, TStmt, stmt, TBlock, block, TStmts, no_stmts, more, TFunction, TProgram}
+use Rattle.oc_tree.specs.Tree.{TExpr, number, truth, variable, index, deref, unary, binary, sensed, called, TArg, value, shared, mutable, TCall, call, TArgs, no_args, more_args, TRight, right_value, right_sense, right_call, TKind, let_to, let_array, assign, assign_index, assign_deref, if_else, for_in, while_do, call_only, sense_only, emit, fresh, consistent, return, TStmt, stmt, TBlock, block, TStmts, no_stmts, more, TFunction, TProgram}
 use Rattle.oc_tree.specs.declared.tree.Scalar.{Scalar}
 use Rattle.oc_tree.specs.declared.tree.ValueKind.{ValueKind}
 use Rattle.oc_tree.specs.declared.tree.ValueKind.TheVariants as kinds
@@ -15,20 +15,17 @@ use Rattle.oc_tree.specs.declared.tree.UnaryOp.TheVariants as unaries
 use Rattle.oc_tree.specs.declared.tree.BinaryOp.{BinaryOp}
 use Rattle.oc_tree.specs.declared.tree.BinaryOp.TheVariants as binaries
 use Rattle.oc_tree.specs.declared.before.Before.{Before}
-use Rattle.oc_tree.specs.declared.broken.Broken.{Broken}
 use Rattle.oc_tree.specs.declared.scope.Origin.{Origin}
 use Rattle.oc_tree.specs.declared.scope.Origin.TheVariants as origins
-use Rattle.oc_tree.specs.declared.scope.Policy.{Policy}
-use Rattle.oc_tree.specs.declared.scope.Policy.TheVariants as policies
 use Rattle.oc_tree.specs.declared.scope.Var.{Var}
-use Rattle.oc_tree.specs.Pulls.{own_pulls, own_skips}
+use Rattle.oc_tree.specs.Pulls.{own_pulls}
 use Rattle.oc_tree.specs.Mentions.{own_mentions, call_mentions}
 use Rattle.oc_tree.specs.Calls.{place, function_place, callee, args_of_call, args_calls, own_calls, call_links, reaches_mention}
 use Rattle.oc_tree.specs.Reach.{reaches}
 use Rattle.oc_tree.specs.Assigned.{reaches_assign}
-use Rattle.oc_tree.specs.Scope.{Scope, variable_in, variable_of, is_variable, is_among, is_taken, takes_param, function_named}
+use Rattle.oc_tree.specs.Scope.{Scope, variable_in, variable_of, is_variable, is_among, is_taken, function_named}
 use Rattle.oc_tree.specs.Types.{is_by_reference, is_reference, is_array, scalar_of, is_int, is_bool, is_same, is_same_kind, value_type, pointed_type, has_elements, type_of, right_type, call_type}
-use Rattle.oc_tree.specs.Elements.{Item, sensor_item, port_item, nv_item, function_item, Here, Element, declared, statement, ending, line_of, is_end, program_elements}
+use Rattle.oc_tree.specs.Elements.{Here, is_end}
 
 -- ---- names
 

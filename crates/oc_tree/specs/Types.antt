@@ -1,7 +1,6 @@
 -- The types of expressions. Only the operator on top counts: what stands below it has types of its own to meet.
-use Rattle.std.specs.Prelude.{Bool, true, false, ◌&&◌, ◌||◌, ◌==◌, Option, Some, None, cond}
-use Rattle.oc_tree.specs.Names.{Text}
-use Rattle.oc_tree.specs.Tree.{TExpr, number, truth, variable, index, deref, unary, binary, sensed, called, TCall, call, TRight, right_value, right_sense, right_call, TFunction, TProgram}
+use Rattle.std.specs.Prelude.{Bool, true, false, ◌==◌, Option, Some, None, cond}
+use Rattle.oc_tree.specs.Tree.{TExpr, number, truth, variable, index, deref, unary, binary, sensed, called, TCall, TRight, right_value, right_sense, right_call, TFunction, TProgram}
 use Rattle.oc_tree.specs.declared.tree.Scalar.{Scalar}
 use Rattle.oc_tree.specs.declared.tree.Scalar.TheVariants as scalars
 use Rattle.oc_tree.specs.declared.tree.ValueKind.{ValueKind}

@@ -11,7 +11,7 @@ use Rattle.oc_tree.specs.declared.before.Before.{Before}
 use Rattle.oc_tree.specs.declared.broken.Broken.{Broken}
 use Rattle.oc_tree.specs.Elements.{Item, sensor_item, port_item, nv_item, function_item, Here, Element, line_of, after_stmt, in_turn, inside, before_stmts, in_function, after_item, nothing_before, kind_elements, else_elements, stmt_elements, block_elements, stmts_elements, named_element, nv_element, function_elements, item_elements, order_elements, program_elements}
 use Rattle.oc_tree.specs.Limits.{Tally, nothing_counted, counted, with_item, with_statement}
-use Rattle.oc_tree.specs.Broken.{item_rules, statement_rules, end_rules, rules_of, lowest, or_later, first_broken, broken}
+use Rattle.oc_tree.specs.Broken.{item_rules, statement_rules, end_rules, rules_of, lowest, or_later, first_broken, broken_element}
 use Rattle.oc_types.specs.Walk.{Walk, stop, go, and_then, found, element, kind_walk, else_walk, stmt_walk, block_walk, stmts_walk, declaration_walk, named_walk, nv_walk, function_walk, item_walk, order_walk, program_walk, list_walk}
 
 and_then_ext : (w : Walk) (f g : Tally → Walk) → ((n : Tally) → f n ≡ g n) → and_then w f ≡ and_then w g
@@ -114,8 +114,8 @@ module _ (p : TProgram) where
   first_found n (e ∷ es) = found_here (line_of e) (lowest (rules_of p (counted n e) e)) (counted n e) (λ m. list_walk p m es) (first_broken p (counted n e) es) (first_found (counted n e) es)
 
   -- what the walk finds is the first element that breaks a rule
-  pub in_order : found (program_walk p) ≡ broken p
+  pub in_order : found (program_walk p) ≡ broken_element p
   in_order = ap found (sym (order_in_order nothing_before nothing_counted p.order)) ∙ first_found nothing_counted (program_elements p)
 
-pub ends_broken : (p : TProgram) (r : Option Broken) → found (program_walk p) ≡ r → r ≡ broken p
+pub ends_broken : (p : TProgram) (r : Option Broken) → found (program_walk p) ≡ r → r ≡ broken_element p
 ends_broken p r e = sym e ∙ in_order p

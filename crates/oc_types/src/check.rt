@@ -2,7 +2,7 @@
 ghost use Rattle.std.specs.Prelude.{◌≡◌, ◌<◌, ◌≤◌, ◌^◌, [], ◌∷◌, false, None, Some, length, slice_get, IfOk};
 ghost use Rattle.oc_tree.specs.Nodes.{block_nodes, program_nodes};
 ghost use Rattle.oc_tree.specs.View.{block_view, function_view, program_view};
-ghost use Rattle.oc_tree.specs.Broken.{broken, end_rules, item_rules, lowest};
+ghost use Rattle.oc_tree.specs.Broken.{broken_element, end_rules, item_rules, lowest};
 ghost use Rattle.oc_tree.specs.Elements.{after_item, function_item, nv_item};
 ghost use Rattle.oc_tree.specs.Limits.{Tally};
 ghost use Rattle.oc_tree.specs.Rules.{declared_before};
@@ -269,7 +269,7 @@ fn walk_program<'a>(alloc: Global, top: &TopLevel<'a>) -> Result<Option<Broken>,
 #[tactic(auto, using(crate::proofs::InOrder::ends_broken))]
 pub fn first_broken(alloc: Global, program: &Program) -> Result<Option<Broken>, AllocError>
     requires { program_nodes (program_view program.now) ≤ 1048576 }
-    ensures { IfOk result (λ r. r ≡ broken (program_view program.now)) }
+    ensures { IfOk result (λ r. r ≡ broken_element (program_view program.now)) }
 {
     let top = TopLevel::new(alloc, program)?;
     let broken = walk_program(alloc, &top)?;

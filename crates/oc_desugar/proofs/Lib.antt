@@ -7,3 +7,4 @@ pub mod GroupLaws
 pub mod NumberLists
 pub mod BlockLists
 pub mod NodesKept
+pub mod FormKept

@@ -8,3 +8,6 @@ pub mod NumberLists
 pub mod BlockLists
 pub mod NodesKept
 pub mod FormKept
+pub mod BlockPairs
+pub mod GroupCounts
+pub mod GroupsKept

@@ -13,14 +13,27 @@ use Rattle.oc_tree.specs.Pulls.{expr_pulls, own_pulls, stmt_pulls, block_pulls}
 use Rattle.oc_tree.specs.Expansion.{block_size, stmt_size, inner_size, else_size, stmts_size, program_size, temporaries, join_stmts, pulled, expand_kind, expand_else, expand_block, expand_stmts, expand_function, expand_functions, expansion, inner_groups, else_groups, block_groups, stmts_groups, functions_groups, program_groups}
 use Rattle.oc_desugar.proofs.Lengths.{length_pulled}
 use Rattle.oc_desugar.proofs.NumberedLaws.{numbered}
-use Rattle.oc_desugar.proofs.NumberLists.{listed}
+use Rattle.oc_desugar.proofs.NumberLists.{listed, statements_listed}
+use Rattle.oc_desugar.proofs.GroupCounts.{is_between, counted_once}
 use Rattle.oc_desugar.proofs.BlockPairs.{Pair, kind_pairs, else_pairs, block_pairs, stmts_pairs, program_pairs, Stands, stands_first, stands_left, stands_right, block_there}
+
+and_false : (b : Bool) → b && false ≡ false
+and_false true = refl
+and_false false = refl
+
+and_first : (a b : Bool) → a && b ≡ true → a ≡ true
+and_first true b h = refl
+and_first false b h = h
+
+and_second : (a b : Bool) → a && b ≡ true → b ≡ true
+and_second true b h = h
+and_second false b h = absurd (true≢false (sym h))
 
 -- ---- the statements of a group stand in one block
 
 -- all statements of a group stand in a list with the same block
 abbrev Together : List Pair → Group → Type 0
-Together xs g = (b : ℕ) × ((s : ℕ) → g.0 ≤ s → s ≤ g.1 → Stands (s, b) xs)
+Together xs g = (b : ℕ) × (g.0 ≤ g.1) × ((s : ℕ) → g.0 ≤ s → s ≤ g.1 → Stands (s, b) xs)
 
 first_or_later : (i s : ℕ) → i ≤ s → (s ≡ i) ⊎ (i + 1 ≤ s)
 first_or_later zero zero h = inl refl
@@ -105,7 +118,7 @@ module _ (whole : List Pair) where
         let rest = expand_stmts k' i' ss in
         let l = length_pulled k s in
         let e : j ≡ i + length (pulled k s) = omega (arith, l) in
-        ((b, λ n g m. h (n, b) (group_stands b k i line (pulled k s) j own rest n e g m)),
+        ((b, omega arith, λ n g m. h (n, b) (group_stands b k i line (pulled k s) j own rest n e g m)),
           both (Together whole) (inner_groups (j + 1) s) (stmts_groups i' ss)
               (inner_together k (j + 1) s (λ x g. h x (group_inside x b k i line (pulled k s) j own rest g)))
               (stmts_together b k' i' ss (λ x g. h x (group_behind x b k i line (pulled k s) j own rest g))))
@@ -123,3 +136,54 @@ module _ (whole : List Pair) where
 
 together : (p : TProgram) → Each (Together (program_pairs (expansion p))) (program_groups p)
 together p = functions_together (program_pairs (expansion p)) 1 1 p.functions (λ x h. h)
+
+-- ---- and these are its groups
+
+module _ (p : TProgram) where
+  -- a group's statements stand in the block of its first
+  pub in_block : (g : Group) (t : Together (program_pairs (expansion p)) g) (s : ℕ) → g.0 ≤ s → s ≤ g.1 → block_of (expansion p) s ≡ Some t.0
+  in_block g t s l m = block_there (expansion p) (listed (expansion p) (numbered p)) (s, t.0) (t.2 s l m)
+
+  blocks_same : (g : Group) (t : Together (program_pairs (expansion p)) g) (s r : ℕ) → g.0 ≤ s → s ≤ g.1 → g.0 ≤ r → r ≤ g.1 → same_block (block_of (expansion p) s) (block_of (expansion p) r) ≡ true
+  blocks_same g t s r l m n o =
+      ap (λ b. same_block b (block_of (expansion p) r)) (in_block g t s l m)
+      ∙ ap (λ b. same_block (Some t.0) b) (in_block g t r n o)
+      ∙ eq-eqb t.0 t.0 refl
+
+  is_one : (g : Group) → Together (program_pairs (expansion p)) g → is_group (expansion p) g ≡ true
+  is_one g t = ap (λ b. b && same_block (block_of (expansion p) g.0) (block_of (expansion p) g.1)) (le-leb g.0 g.1 t.1) ∙ blocks_same g t g.0 g.1 (omega arith) t.1 t.1 (omega arith)
+
+  all_ones : (gs : List Group) → Each (Together (program_pairs (expansion p))) gs → All (λ g. is_group (expansion p) g ≡ true) gs
+  all_ones [] h = All-nil (λ g. is_group (expansion p) g ≡ true)
+  all_ones (g ∷ gs) h = All-cons (λ g. is_group (expansion p) g ≡ true) g gs (is_one g h.0) (all_ones gs h.1)
+
+  in_is_between : (s : ℕ) (g : Group) → Together (program_pairs (expansion p)) g → is_in_group (expansion p) s g ≡ is_between s g
+  in_is_between s g t = told (is_between s g) refl where
+    told : (b : Bool) → is_between s g ≡ b → is_in_group (expansion p) s g ≡ is_between s g
+    told false e = ap (λ x. same_block (block_of (expansion p) s) (block_of (expansion p) g.0) && x) e ∙ and_false (same_block (block_of (expansion p) s) (block_of (expansion p) g.0)) ∙ sym e
+    told true e =
+        let l = leb-true g.0 s (and_first (nat_le g.0 s) (nat_le s g.1) e) in
+        let m = leb-true s g.1 (and_second (nat_le g.0 s) (nat_le s g.1) e) in
+        ap (λ x. x && is_between s g) (blocks_same g t s g.0 l m (omega arith) t.1)
+
+  counted_same : (s : ℕ) (gs : List Group) → Each (Together (program_pairs (expansion p))) gs → count_by (is_in_group (expansion p) s) gs ≡ count_by (is_between s) gs
+  counted_same s [] h = refl
+  counted_same s (g ∷ gs) h =
+      let a = sum_by-cons (λ x. cond (is_in_group (expansion p) s x) 1 0) g gs in
+      let b = sum_by-cons (λ x. cond (is_between s x) 1 0) g gs in
+      let c = ap (λ (x : Bool). cond {A = ℕ} x 1 0) (in_is_between s g h.0) in
+      let d = counted_same s gs h.1 in
+      omega (arith, a, b, c, d)
+
+  in_one : (s : ℕ) → 1 ≤ s → s < 1 + program_size p → count_by (is_in_group (expansion p) s) (program_groups p) ≡ 1
+  in_one s l m = counted_same s (program_groups p) (together p) ∙ counted_once s p l m
+
+  all_in_one : (i n : ℕ) → 1 ≤ i → i + n ≤ 1 + program_size p → All (λ s. count_by (is_in_group (expansion p) s) (program_groups p) ≡ 1) (numbers_on i n)
+  all_in_one i zero l m = All-nil (λ s. count_by (is_in_group (expansion p) s) (program_groups p) ≡ 1)
+  all_in_one i (suc n) l m = All-cons (λ s. count_by (is_in_group (expansion p) s) (program_groups p) ≡ 1) i (numbers_on (suc i) n) (in_one i l (omega (arith, m))) (all_in_one (suc i) n (omega (arith, l)) (omega (arith, m)))
+
+pub groups_kept : (p : TProgram) → AreGroups (expansion p) (program_groups p)
+groups_kept p = record {
+  ranges = all_ones p (program_groups p) (together p);
+  one_each = subst (λ l. All (λ s. count_by (is_in_group (expansion p) s) (program_groups p) ≡ 1) l) (sym (statements_listed p)) (all_in_one p 1 (program_size p) (omega arith) (omega arith));
+}

@@ -3,6 +3,9 @@ use Rattle.std.proofs.Common.{◌≡◌, ℕ, zero, suc, ◌+◌, List, [], ◌�
 use Rattle.std.proofs.lemmas.List.Sums.{sum_by-cons}
 use Rattle.oc_tree.specs.Tree.{TExpr, TRight, TKind, let_to, let_array, assign, assign_index, assign_deref, if_else, for_in, while_do, call_only, sense_only, emit, fresh, consistent, return, TElse, no_else, else_do, TStmt, stmt, TBlock, block, TStmts, no_stmts, more, TFunction, TProgram}
 use Rattle.oc_tree.specs.Numbers.{numbers_on, kind_statements, else_statements, stmt_statements, block_statements, stmts_statements, program_statements}
+use Rattle.oc_tree.specs.Pulls.{block_pulls}
+use Rattle.oc_tree.specs.Expansion.{block_size, program_size, expand_function, expand_functions, expansion}
+use Rattle.oc_desugar.proofs.NumberedLaws.{count_block, numbered}
 use Rattle.oc_tree.specs.Numbered.{inner_count, else_count, block_count, stmts_count, InnerNumbered, ElseNumbered, BlockNumbered, StmtsNumbered, FunctionsNumbered, IsNumbered}
 
 -- ---- numbers that follow each other
@@ -72,6 +75,19 @@ own_length i n xs h = h ∙ ap (numbers_on i) (sym (ap length h ∙ numbers_leng
 
 pub listed : (p : TProgram) → IsNumbered p → program_statements p ≡ numbers_on 1 (length (program_statements p))
 listed p h = own_length 1 (sum_by (λ f. block_count f.body) p.functions) (program_statements p) (functions_listed 1 p.functions h)
+
+-- an expansion has as many statements as are counted
+functions_sized : (k i : ℕ) (fs : List TFunction) → sum_by (λ f. block_count f.body) (expand_functions k i fs) ≡ sum_by (λ f. block_size f.body) fs
+functions_sized k i [] = refl
+functions_sized k i (f ∷ fs) =
+    let a = sum_by-cons (λ g. block_count g.body) (expand_function k i f) (expand_functions (k + block_pulls f.body) (i + block_size f.body) fs) in
+    let b = sum_by-cons (λ g. block_size g.body) f fs in
+    let c = count_block k i f.body in
+    let d = functions_sized (k + block_pulls f.body) (i + block_size f.body) fs in
+    omega (arith, a, b, c, d)
+
+pub statements_listed : (p : TProgram) → program_statements (expansion p) ≡ numbers_on 1 (program_size p)
+statements_listed p = functions_listed 1 (expansion p).functions (numbered p) ∙ ap (numbers_on 1) (functions_sized 1 1 p.functions)
 
 -- ---- and the other way round
 

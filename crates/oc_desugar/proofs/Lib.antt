@@ -11,3 +11,5 @@ pub mod FormKept
 pub mod BlockPairs
 pub mod GroupCounts
 pub mod GroupsKept
+pub mod FewPulls
+pub mod FewStatements

@@ -13,3 +13,4 @@ pub mod GroupCounts
 pub mod GroupsKept
 pub mod FewPulls
 pub mod FewStatements
+pub mod SizesKept

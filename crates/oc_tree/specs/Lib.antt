@@ -1,5 +1,6 @@
 pub mod Tree
 pub mod View
+pub mod Stored
 pub mod Nodes
 pub mod Names
 pub mod Said

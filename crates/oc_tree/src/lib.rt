@@ -4,9 +4,11 @@
 
 pub mod before;
 pub mod broken;
+pub mod checked;
 pub mod laws;
 pub mod name;
 pub mod nodes;
 pub mod said;
 pub mod scope;
 pub mod tree;
+pub mod written;

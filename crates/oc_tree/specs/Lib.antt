@@ -23,5 +23,6 @@ pub mod Weight
 pub mod Stack
 pub mod Broken
 pub mod Places
+pub mod Sought
 pub mod Checked
 pub mod Numbered

@@ -2,8 +2,10 @@
 ghost use Rattle.std.specs.Prelude.{◌≡◌};
 ghost use Rattle.oc_tree.specs.View.{program_view};
 ghost use Rattle.oc_tree.specs.Checked.{IsChecked};
+ghost use Rattle.oc_tree.specs.Places.{block_of, declared_at, encloses, line_of_stmt};
 
-use crate::tree::{Program, StmtId};
+use crate::places::{Asked, seek};
+use crate::tree::{BlockId, Program, StmtId, VarId};
 use std::marker::Model;
 
 /// A program without inputs and calls inside expressions, which is in form and breaks no rule, with
@@ -49,5 +51,43 @@ impl Checked {
         ensures { result.now ≡ self.now.groups }
     {
         &self.groups
+    }
+
+    /// Directly in which block a statement stands; none where there is no such statement.
+    pub fn block_of(&self, s: StmtId) -> Option<BlockId>
+        ensures { result ≡ block_of self.now.program s }
+    {
+        let found = seek(&self.program, Asked { id: s, outer: 0 })?;
+        Some(found.spot.block)
+    }
+
+    /// The line of a statement; none where there is no such statement.
+    pub fn line_of(&self, s: StmtId) -> Option<u32>
+        ensures { result ≡ line_of_stmt self.now.program s }
+    {
+        let found = seek(&self.program, Asked { id: s, outer: 0 })?;
+        Some(found.line)
+    }
+
+    /// The variable that a statement declares, if it declares one.
+    pub fn declared(&self, s: StmtId) -> Option<VarId>
+        ensures { result ≡ declared_at self.now.program s }
+    {
+        let found = seek(&self.program, Asked { id: s, outer: 0 })?;
+        if found.declares {
+            Some(VarId::Declared { stmt: s })
+        } else {
+            None
+        }
+    }
+
+    /// Whether the statement `inner` stands in the statement `outer`.
+    pub fn encloses(&self, outer: StmtId, inner: StmtId) -> bool
+        ensures { result ≡ encloses self.now.program outer inner }
+    {
+        match seek(&self.program, Asked { id: inner, outer }) {
+            Some(found) => found.spot.inside,
+            None => false,
+        }
     }
 }

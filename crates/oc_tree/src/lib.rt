@@ -8,6 +8,7 @@ pub mod checked;
 pub mod laws;
 pub mod name;
 pub mod nodes;
+mod places;
 pub mod said;
 pub mod scope;
 pub mod tree;

@@ -1,5 +1,6 @@
 pub mod Tree
 pub mod View
+pub mod Stored
 pub mod Nodes
 pub mod Names
 pub mod Said
@@ -22,5 +23,6 @@ pub mod Weight
 pub mod Stack
 pub mod Broken
 pub mod Places
+pub mod Sought
 pub mod Checked
 pub mod Numbered

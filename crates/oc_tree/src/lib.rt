@@ -4,9 +4,12 @@
 
 pub mod before;
 pub mod broken;
+pub mod checked;
 pub mod laws;
 pub mod name;
 pub mod nodes;
+mod places;
 pub mod said;
 pub mod scope;
 pub mod tree;
+pub mod written;

@@ -1,0 +1,93 @@
+//! Checked programs.
+ghost use Rattle.std.specs.Prelude.{◌≡◌};
+ghost use Rattle.oc_tree.specs.View.{program_view};
+ghost use Rattle.oc_tree.specs.Checked.{IsChecked};
+ghost use Rattle.oc_tree.specs.Places.{block_of, declared_at, encloses, line_of_stmt};
+
+use crate::places::{Asked, seek};
+use crate::tree::{BlockId, Program, StmtId, VarId};
+use std::marker::Model;
+
+/// A program without inputs and calls inside expressions, which is in form and breaks no rule, with
+/// its groups: each is the numbers of its first and its last statement.
+#[derive(Debug, Drop)]
+pub struct Checked {
+    program: Program,
+    groups: Vec<(StmtId, StmtId)>,
+}
+
+impl Model for Checked {
+    ghost use Rattle.std.specs.Coded.{codes};
+    ghost use Rattle.oc_tree.specs.Stored.{block_code};
+    ghost use Rattle.oc_tree.specs.View.{program_view};
+    ghost use Rattle.oc_tree.specs.Checked.{IsChecked, TChecked};
+
+    ghost Value = { TChecked };
+
+    ghost coded = { Prim.hlevel (codes, block_code (Prim.hlevel codes)) };
+
+    ghost view = { λ a. record { program = program_view a.program; groups = a.groups.items } };
+
+    ghost invariant = { λ a. IsChecked (program_view a.program) a.groups.items };
+}
+
+impl Checked {
+    /// The checked program of these groups, which is known to be one.
+    pub fn new(program: Program, groups: Vec<(StmtId, StmtId)>) -> Checked
+        requires { IsChecked (program_view program) groups.items }
+        ensures { result ≡ record { program = program_view program; groups = groups.items } }
+    {
+        Checked { program, groups }
+    }
+
+    pub fn program(&self) -> &Program
+        ensures same { program_view result.now ≡ self.now.program }
+        ensures checked { IsChecked self.now.program self.now.groups }
+    {
+        &self.program
+    }
+
+    pub fn groups(&self) -> &[(StmtId, StmtId)]
+        ensures { result.now ≡ self.now.groups }
+    {
+        &self.groups
+    }
+
+    /// Directly in which block a statement stands; none where there is no such statement.
+    pub fn block_of(&self, s: StmtId) -> Option<BlockId>
+        ensures { result ≡ block_of self.now.program s }
+    {
+        let found = seek(&self.program, Asked { id: s, outer: 0 })?;
+        Some(found.spot.block)
+    }
+
+    /// The line of a statement; none where there is no such statement.
+    pub fn line_of(&self, s: StmtId) -> Option<u32>
+        ensures { result ≡ line_of_stmt self.now.program s }
+    {
+        let found = seek(&self.program, Asked { id: s, outer: 0 })?;
+        Some(found.line)
+    }
+
+    /// The variable that a statement declares, if it declares one.
+    pub fn declared(&self, s: StmtId) -> Option<VarId>
+        ensures { result ≡ declared_at self.now.program s }
+    {
+        let found = seek(&self.program, Asked { id: s, outer: 0 })?;
+        if found.declares {
+            Some(VarId::Declared { stmt: s })
+        } else {
+            None
+        }
+    }
+
+    /// Whether the statement `inner` stands in the statement `outer`.
+    pub fn encloses(&self, outer: StmtId, inner: StmtId) -> bool
+        ensures { result ≡ encloses self.now.program outer inner }
+    {
+        match seek(&self.program, Asked { id: inner, outer }) {
+            Some(found) => found.spot.inside,
+            None => false,
+        }
+    }
+}

@@ -1,9 +1,9 @@
 pub mod Joins
 pub mod Lengths
 pub mod NoPulls
+pub mod Numbered
 pub mod NumberedLaws
 pub mod OwnExpansion
-pub mod GroupLaws
 pub mod NumberLists
 pub mod BlockLists
 pub mod NodesKept
@@ -14,3 +14,4 @@ pub mod GroupsKept
 pub mod FewPulls
 pub mod FewStatements
 pub mod SizesKept
+pub mod CheckedLaws

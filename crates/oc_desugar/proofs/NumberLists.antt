@@ -6,7 +6,7 @@ use Rattle.oc_tree.specs.Numbers.{numbers_on, kind_statements, else_statements, 
 use Rattle.oc_tree.specs.Pulls.{block_pulls}
 use Rattle.oc_tree.specs.Expansion.{block_size, program_size, expand_function, expand_functions, expansion}
 use Rattle.oc_desugar.proofs.NumberedLaws.{count_block, numbered}
-use Rattle.oc_tree.specs.Numbered.{inner_count, else_count, block_count, stmts_count, InnerNumbered, ElseNumbered, BlockNumbered, StmtsNumbered, FunctionsNumbered, IsNumbered}
+use Rattle.oc_desugar.proofs.Numbered.{inner_count, else_count, block_count, stmts_count, InnerNumbered, ElseNumbered, BlockNumbered, StmtsNumbered, FunctionsNumbered, IsNumbered}
 
 -- ---- numbers that follow each other
 

@@ -2,9 +2,14 @@
 //! temporary before its statement.
 #![tactic(auto)]
 
-pub mod blocks;
-pub mod copy;
-pub mod groups;
-pub mod parts;
-pub mod program;
-pub mod pulls;
+mod blocks;
+mod checked;
+mod copy;
+mod groups;
+pub mod laws;
+mod parts;
+mod program;
+mod pulls;
+
+pub use checked::expand;
+pub use program::expand_program;

@@ -1,11 +1,8 @@
 //! The expansion of a program.
 ghost use Rattle.std.specs.Prelude.{◌≡◌, ◌<◌, ◌^◌, ◌+◌, map, sum_by, OnOk, IfOk};
-ghost use Rattle.oc_tree.specs.Tree.{TProgram};
 ghost use Rattle.oc_tree.specs.View.{block_view, function_view, program_view};
 ghost use Rattle.oc_tree.specs.Expansion.{block_size, expand_function, expand_functions, expansion, program_groups, program_size};
-ghost use Rattle.oc_tree.specs.Numbered.{IsNumbered};
 ghost use Rattle.oc_tree.specs.Pulls.{block_pulls, program_pulls};
-ghost use Rattle.oc_desugar.specs.Numbers.{numbers, upward};
 
 use crate::blocks::{Numbers, expand_block};
 use crate::copy::{copy_name, copy_names, copy_params};
@@ -50,7 +47,8 @@ fn expand_functions(alloc: Global, functions: &[Function]) -> Result<Vec<Functio
     Ok(out)
 }
 
-fn expand_program(
+/// The expansion of a program and its groups, each by the numbers of its first and last statement.
+pub fn expand_program(
     alloc: Global,
     program: &Program,
 ) -> Result<(Program, Vec<(StmtId, StmtId)>), AllocError>
@@ -73,28 +71,3 @@ fn expand_program(
     };
     Ok((expanded, groups))
 }
-
-/// The expansion of a program and its groups, each by the numbers of its first and last statement.
-/// No pulls are left in it, its statements are numbered in source order from 1, and each number is
-/// in one group.
-pub fn expand(
-    alloc: Global,
-    program: &Program,
-) -> Result<(Program, Vec<(StmtId, StmtId)>), AllocError>
-    requires pulls { program_pulls (program_view program.now) + 1 < 2 ^ 32 }
-    requires stmts { program_size (program_view program.now) + 1 < 2 ^ 32 }
-    ensures expanded { IfOk result (λ r. program_view r.0 ≡ expansion (program_view program.now)) }
-    ensures groups { IfOk result (λ r. r.1.items ≡ program_groups (program_view program.now)) }
-    ensures plain { IfOk result (λ r. program_pulls (program_view r.0) ≡ 0) }
-    ensures numbered { IfOk result (λ r. IsNumbered (program_view r.0)) }
-    ensures whole { IfOk result (λ r. numbers r.1.items ≡ upward 1 (program_size (program_view program.now))) }
-{
-    let expanded = expand_program(alloc, program)?;
-    Ok(expanded)
-}
-
-/// A program without pulls whose statements are numbered in source order from 1 is its own
-/// expansion.
-pub fn plain_is_expanded()
-    ensures { (p : TProgram) → program_pulls p ≡ 0 → IsNumbered p → expansion p ≡ p }
-{}

@@ -25,4 +25,3 @@ pub mod Broken
 pub mod Places
 pub mod Sought
 pub mod Checked
-pub mod Numbered

@@ -1,3 +1,4 @@
 pub mod ReachLaws
 pub mod Worked
+pub mod Grouped
 pub mod Sought

@@ -2,7 +2,7 @@
 ghost use Rattle.std.specs.Prelude.{◌≡◌, ◌↔◌, Some, None};
 ghost use Rattle.oc_tree.specs.View.{program_view};
 ghost use Rattle.oc_tree.specs.Checked.{IsChecked, group_of, is_in_group};
-ghost use Rattle.oc_tree.specs.Places.{block_of, declared_at, encloses, line_of_stmt, placed};
+ghost use Rattle.oc_tree.specs.Places.{block_of, declared_at, encloses, line_of_stmt, loops_around, placed};
 
 use crate::places::{Asked, seek};
 use crate::tree::{BlockId, Program, StmtId, VarId};
@@ -80,6 +80,14 @@ impl Checked {
         } else {
             None
         }
+    }
+
+    /// How many loops a statement stands in; none where there is no such statement.
+    pub fn loops_around(&self, s: StmtId) -> Option<u32>
+        ensures { result ≡ loops_around self.now.program s }
+    {
+        let found = seek(&self.program, Asked { id: s, outer: 0 })?;
+        Some(found.spot.loops)
     }
 
     /// Whether a statement, which stands directly in this block, is directly in a group.

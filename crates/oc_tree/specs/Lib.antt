@@ -25,4 +25,6 @@ pub mod Broken
 pub mod Places
 pub mod Sought
 pub mod Checked
+pub mod Marked
+pub mod Regions
 pub mod Numbered

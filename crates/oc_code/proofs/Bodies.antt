@@ -12,7 +12,8 @@ use Rattle.oc_isa.specs.Image.{Parts}
 use Rattle.oc_meaning.specs.Store.{Store, Binding, holding, made, held_at, place_of}
 use Rattle.oc_meaning.specs.Eval.{is_zero, value_of}
 use Rattle.oc_meaning.specs.Uses.{is_fresh, is_use, use_samples, begins_use, ends_use}
-use Rattle.oc_meaning.specs.Exec.{Region, begun_by, ended_by, Outcome, Went, Returned, Passed, number_in, with_value, then_do, finished, opened, closed, used, done, right_run, while_turns, in_turn, grown, entered, kind_run, block_run, stmts_run}
+use Rattle.oc_tree.specs.Marked.{TRegion}
+use Rattle.oc_meaning.specs.Exec.{begun_by, ended_by, Outcome, Went, Returned, Passed, number_in, with_value, then_do, finished, opened, closed, used, done, right_run, while_turns, in_turn, grown, entered, kind_run, block_run, stmts_run}
 use Rattle.oc_code.specs.Scope.{Slot, InFrame, ByAddress, InNv, NoSlot, address_slot, Named, slot_of, is_fresh_in, kind_slots, block_slots, stmts_slots, in_scope, for_named}
 use Rattle.oc_code.specs.Forms.{placed, one, enter_code, commit_code, probe_code, expr_code, again_code, array_code, count_code, while_code}
 use Rattle.oc_code.specs.Stack.{expr_depth, right_depth, kind_depth, block_depth, stmts_depth}
@@ -39,7 +40,7 @@ pub record Ready (ds : List NvDecl) (fp s sp : ℕ) (γ : List Named) (env : Lis
   pub full : length top + size cs ≡ sp
   pub sees : Sees ds cs fp γ env
 
-module _ (parts : Parts) (ds : List NvDecl) (small : total ds ≤ 65536) (names : NameLists) (fs : List TFunction) (regions : List Region) (rank : Text → ℕ) (own : ℕ) (need : Text → ℕ) (call_of : Text → List Passed → Store → Outcome) (calls : CallsRun parts ds small names fs regions rank own need call_of) (home : ℤ → ℕ) (k fp : ℕ) where
+module _ (parts : Parts) (ds : List NvDecl) (small : total ds ≤ 65536) (names : NameLists) (fs : List TFunction) (regions : List TRegion) (rank : Text → ℕ) (own : ℕ) (need : Text → ℕ) (call_of : Text → List Passed → Store → Outcome) (calls : CallsRun parts ds small names fs regions rank own need call_of) (home : ℤ → ℕ) (k fp : ℕ) where
   -- what is proved of a block
   abbrev BlockRuns : TBlock → Type 0
   BlockRuns b =

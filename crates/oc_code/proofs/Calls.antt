@@ -15,7 +15,8 @@ use Rattle.oc_isa.specs.Image.{Parts}
 use Rattle.oc_isa.specs.Levels.{at_level}
 use Rattle.oc_meaning.specs.Store.{Store, Binding, left_at}
 use Rattle.oc_meaning.specs.Blocks.{set_home}
-use Rattle.oc_meaning.specs.Exec.{Region, Outcome, Went, Returned, Stopped, Passed, leave, block_run}
+use Rattle.oc_tree.specs.Marked.{TRegion}
+use Rattle.oc_meaning.specs.Exec.{Outcome, Went, Returned, Stopped, Passed, leave, block_run}
 use Rattle.oc_meaning.specs.Run.{Frame, function_named, nv_env, with_params, body_run, function_run, call_to}
 use Rattle.oc_code.specs.Scope.{Named, nv_scope, function_scope, block_slots}
 use Rattle.oc_code.specs.Forms.{placed, one}
@@ -116,7 +117,7 @@ module _ (parts : Parts) (ds : List NvDecl) (small : total ds ≤ 65536) (cs : L
       (r.0, d.2, w.depth, leads_on parts c _ _ w.leads (subst (λ x. Leads parts (shown w.spot fp' S σ) (shown (pc + 1) fp (v.num ∷ x) σ)) rest l))
   frame_ends g D c q t γ env (Stopped h σ) some room under close r = r
 
-module _ (p : TProgram) (regions : List Region) (code : List Placed) where
+module _ (p : TProgram) (regions : List TRegion) (code : List Placed) where
   -- a function's code stands at its entry
   pub function_at : (at : ℕ) (fs : List TFunction) (x : Text) (g : TFunction) → at ≤ length code → HasAt code at (functions_code p regions at fs) → function_named fs x ≡ Some g → (e : ℕ) × (slice_get (image_functions p regions at fs) (function_number fs x) ≡ Some (image_function p regions e g)) × HasAt code e (function_code p regions e g) × (e ≤ length code)
   function_at at [] x g le has h = absurd (none-some g h)
@@ -134,7 +135,7 @@ module _ (p : TProgram) (regions : List Region) (code : List Placed) where
           (at, ap (λ g. Some (image_function p regions at g)) s, subst (λ g. HasAt code at (function_code p regions at g)) s (has_front code at fc rest has), le)
       go false e others = others e
 
-module _ (p : TProgram) (regions : List Region) (targets : List (List Target)) (small : total p.nv ≤ 65536) (formed : IsFormed p regions targets) (each : length p.names.nvs ≡ length p.nv) (some : (j : ℕ) → j < length p.nv → 1 ≤ nv_width p.nv j) (all : HasAt (code_of p regions targets).code 0 (functions_code p regions 0 p.functions)) where
+module _ (p : TProgram) (regions : List TRegion) (targets : List (List Target)) (small : total p.nv ≤ 65536) (formed : IsFormed p regions targets) (each : length p.names.nvs ≡ length p.nv) (some : (j : ℕ) → j < length p.nv → 1 ≤ nv_width p.nv j) (all : HasAt (code_of p regions targets).code 0 (functions_code p regions 0 p.functions)) where
   abbrev pub image : Parts
   image = code_of p regions targets
 

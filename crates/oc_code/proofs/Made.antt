@@ -17,7 +17,8 @@ use Rattle.oc_isa.specs.declared.instr.Placed.{Placed}
 use Rattle.oc_isa.specs.declared.instr.Instr.TheVariants.{Drop, Jump, Jfalse, Retv, Ret, Halt}
 use Rattle.oc_isa.specs.Image.{Parts, Exists, IsWellMade, is_main, main_of, frame_of}
 use Rattle.oc_meaning.specs.Uses.{is_use, begins_use, ends_use}
-use Rattle.oc_meaning.specs.Exec.{Region, begun_by, ended_by}
+use Rattle.oc_tree.specs.Marked.{TRegion}
+use Rattle.oc_meaning.specs.Exec.{begun_by, ended_by}
 use Rattle.oc_meaning.specs.Run.{function_named}
 use Rattle.oc_code.specs.Scope.{Slot, InFrame, ByAddress, InNv, NoSlot, Named, slot_of, is_fresh_in, passed_slot, kind_slots, block_slots, in_scope, for_named, function_scope}
 use Rattle.oc_code.specs.Forms.{placed, one, enter_code, commit_code, probe_code, read_code, write_code, base_code, binary_code, expr_code, value_code, arg_code, args_code, again_code, count_code}
@@ -28,7 +29,7 @@ use Rattle.oc_code.proofs.Calls.{found_at}
 use Rattle.oc_code.proofs.Whole.{name_eq_sym}
 
 -- where `main` stands
-main_entry : (p : TProgram) (regions : List Region) (at : ℕ) (fs : List TFunction) (g : TFunction) → function_named fs (codes "main") ≡ Some g → (e : ℕ) × (main_of (image_functions p regions at fs) ≡ Some (image_function p regions e g))
+main_entry : (p : TProgram) (regions : List TRegion) (at : ℕ) (fs : List TFunction) (g : TFunction) → function_named fs (codes "main") ≡ Some g → (e : ℕ) × (main_of (image_functions p regions at fs) ≡ Some (image_function p regions e g))
 main_entry p regions at [] g h = absurd (none-some g h)
 main_entry p regions at (f ∷ fs) g h = go (bytes_eq (codes "main") f.name) (is_main (image_function p regions at f)) (name_eq_sym (codes "main") f.name) h (λ h'. main_entry p regions (at + length (function_code p regions at f)) fs g h')
   where
@@ -56,7 +57,7 @@ module _ (P : Placed → Type 0) where
   each_all (i ∷ a) h zero d lt = h.0
   each_all (i ∷ a) h (suc k) d lt = each_all a h.1 k d (omega (arith, lt))
 
-module _ (p : TProgram) (regions : List Region) (targets : List (List Target)) (formed : IsFormed p regions targets) where
+module _ (p : TProgram) (regions : List TRegion) (targets : List (List Target)) (formed : IsFormed p regions targets) where
   abbrev image : Parts
   image = code_of p regions targets
 
@@ -73,7 +74,7 @@ module _ (p : TProgram) (regions : List Region) (targets : List (List Target)) (
   IsMark None = Unit {0}
   IsMark (Some r) = (1 ≤ r) × (r ≤ length targets)
 
-  begun_known : (rs : List Region) (n : ℕ) → All (λ r. (1 ≤ r.id) × (r.id ≤ length targets)) rs → IsMark (begun_by rs n)
+  begun_known : (rs : List TRegion) (n : ℕ) → All (λ r. (1 ≤ r.id) × (r.id ≤ length targets)) rs → IsMark (begun_by rs n)
   begun_known [] n h = tt
   begun_known (r ∷ rs) n h = go (n == r.first) (begun_known rs n (λ k d lt. h (suc k) d (omega (arith, lt))))
     where
@@ -81,7 +82,7 @@ module _ (p : TProgram) (regions : List Region) (targets : List (List Target)) (
       go true m = h 0 r (omega arith)
       go false m = m
 
-  ended_known : (rs : List Region) (n : ℕ) → All (λ r. (1 ≤ r.id) × (r.id ≤ length targets)) rs → IsMark (ended_by rs n)
+  ended_known : (rs : List TRegion) (n : ℕ) → All (λ r. (1 ≤ r.id) × (r.id ≤ length targets)) rs → IsMark (ended_by rs n)
   ended_known [] n h = tt
   ended_known (r ∷ rs) n h = go (n == r.last) (ended_known rs n (λ k d lt. h (suc k) d (omega (arith, lt))))
     where

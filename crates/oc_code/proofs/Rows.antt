@@ -25,7 +25,7 @@ use Rattle.oc_isa.specs.declared.instr.ProbeKind.TheVariants.{Use, Done}
 use Rattle.oc_isa.specs.Table.{device_of}
 use Rattle.oc_isa.specs.Run.{continuous_run}
 use Rattle.oc_meaning.specs.Store.{Event}
-use Rattle.oc_meaning.specs.Exec.{Region}
+use Rattle.oc_tree.specs.Marked.{TRegion}
 use Rattle.oc_meaning.specs.Run.{AtEnd, AtShort, source_run, marked_run, said_in}
 use Rattle.oc_code.specs.Scope.{function_scope}
 use Rattle.oc_code.specs.Stack.{link_words}
@@ -69,14 +69,14 @@ program nvs nv functions = record {
   last_line = 1;
 }
 
-abbrev region : ℕ → ℕ → ℕ → List Region
+abbrev region : ℕ → ℕ → ℕ → List TRegion
 region function first last = record { id = 1; function = function; block = 1; first = first; last = last } ∷ []
 
 abbrev plus : TExpr → TExpr → TExpr
 plus = binary ops.Add
 
 -- what the code says, of so many instructions
-abbrev code_says : TProgram → List Region → List ℤ → ℕ → List Said
+abbrev code_says : TProgram → List TRegion → List ℤ → ℕ → List Said
 code_says p regions samples n = (continuous_run (device_of (code_of p regions ([] ∷ []))) samples n).out
 
 abbrev emits : ℤ → Said
@@ -295,7 +295,7 @@ said_of_fresh_result = refl
 code_says_fresh_result : code_says fresh_result (region 0 1 3) (pos 9 ∷ []) 60 ≡ said_in (marked_run fresh_result (region 0 1 3) (pos 9 ∷ []))
 code_says_fresh_result = refl
 
-abbrev nested : List Region
+abbrev nested : List TRegion
 nested = record { id = 1; function = 0; block = 1; first = 1; last = 3 } ∷ record { id = 2; function = 1; block = 2; first = 4; last = 5 } ∷ []
 
 -- only the outermost region tells

@@ -13,7 +13,8 @@ use Rattle.oc_isa.specs.Image.{Parts}
 use Rattle.oc_meaning.specs.Samples.{union}
 use Rattle.oc_meaning.specs.Store.{Value, Place, Store, Binding, noted, held_at, put, with_element, replaced, place_of}
 use Rattle.oc_meaning.specs.Eval.{Got, Val, Traps, is_zero, element_of, value_of}
-use Rattle.oc_meaning.specs.Exec.{Outcome, Went, Returned, Stopped, Passed, Passing, Passes, Breaks, number_in, with_value, with_result, with_args, args_of, dropped, sense, tagged, element_written, call_run, right_run, Region}
+use Rattle.oc_tree.specs.Marked.{TRegion}
+use Rattle.oc_meaning.specs.Exec.{Outcome, Went, Returned, Stopped, Passed, Passing, Passes, Breaks, number_in, with_value, with_result, with_args, args_of, dropped, sense, tagged, element_written, call_run, right_run}
 use Rattle.oc_meaning.specs.Run.{function_named}
 use Rattle.oc_code.specs.Scope.{Named, named, slot_of, words_of as words_in}
 use Rattle.oc_code.specs.Forms.{placed, one, base_code, expr_code, args_code, write_code, one_way_code, two_way_code}
@@ -28,7 +29,7 @@ use Rattle.oc_code.proofs.Writes.{write_room, still_holds, same_depth, put_write
 use Rattle.oc_code.proofs.Outcomes.{Runs, RightGives, runs_after, runs_at, same_cells, value_run, right_after, result_run, jump_run}
 use Rattle.oc_code.proofs.Args.{AreGiven, ArgsGive, args_runs}
 
-module _ (parts : Parts) (ds : List NvDecl) (small : total ds ≤ 65536) (names : NameLists) (fs : List TFunction) (regions : List Region) (rank : Text → ℕ) (own : ℕ) (need : Text → ℕ) (call_of : Text → List Passed → Store → Outcome) where
+module _ (parts : Parts) (ds : List NvDecl) (small : total ds ≤ 65536) (names : NameLists) (fs : List TFunction) (regions : List TRegion) (rank : Text → ℕ) (own : ℕ) (need : Text → ℕ) (call_of : Text → List Passed → Store → Outcome) where
   -- what is asked of the calls that are made
   abbrev pub CallsRun : Type 0
   CallsRun =

@@ -21,7 +21,8 @@ use Rattle.oc_isa.specs.Run.{start_of, continuous_run, IsSound}
 use Rattle.oc_isa.specs.Table.{device_of}
 use Rattle.oc_meaning.specs.Store.{Event, Store, Binding, noted}
 use Rattle.oc_meaning.specs.Blocks.{set_home}
-use Rattle.oc_meaning.specs.Exec.{Region, Trap, Short, Outcome, Went, Returned, Stopped, leave, block_run}
+use Rattle.oc_tree.specs.Marked.{TRegion}
+use Rattle.oc_meaning.specs.Exec.{Trap, Short, Outcome, Went, Returned, Stopped, leave, block_run}
 use Rattle.oc_meaning.specs.Run.{function_named, nv_env, with_params, function_run, call_to, first_values, first_store, main_run, in_order, words_of, trace_of, marked_run, source_run, said_in}
 use Rattle.oc_meaning.proofs.Bare.{only_tell}
 use Rattle.oc_code.specs.Scope.{Named, params_scope, nv_scope, function_scope, block_slots}
@@ -61,7 +62,7 @@ name_eq_sym a b = go (bytes_eq a b) (bytes_eq b a) refl refl
     go false true p q = sym p ∙ (bytes_eq-Decides a b).1 (sym ((bytes_eq-Decides b a).0 q))
 
 -- the entry of `main`
-main_at : (p : TProgram) (regions : List Region) (code : List Placed) (at : ℕ) (fs : List TFunction) (g : TFunction) → at ≤ length code → HasAt code at (functions_code p regions at fs) → function_named fs (codes "main") ≡ Some g → (e : ℕ) × (main_of (image_functions p regions at fs) ≡ Some (image_function p regions e g)) × HasAt code e (function_code p regions e g) × (e ≤ length code)
+main_at : (p : TProgram) (regions : List TRegion) (code : List Placed) (at : ℕ) (fs : List TFunction) (g : TFunction) → at ≤ length code → HasAt code at (functions_code p regions at fs) → function_named fs (codes "main") ≡ Some g → (e : ℕ) × (main_of (image_functions p regions at fs) ≡ Some (image_function p regions e g)) × HasAt code e (function_code p regions e g) × (e ≤ length code)
 main_at p regions code at [] g le has h = absurd (none-some g h)
 main_at p regions code at (f ∷ fs) g le has h = go (bytes_eq (codes "main") f.name) (is_main (image_function p regions at f)) (name_eq_sym (codes "main") f.name) h (λ h'. main_at p regions code (at + length fc) fs g (has_end code at fc le (has_front code at fc rest has)) (has_back code at fc rest has) h')
   where
@@ -103,7 +104,7 @@ some_words [] h j lt = absurd (omega arith)
 some_words (d ∷ ds) h zero lt = h 0 d lt
 some_words (d ∷ ds) h (suc j) lt = some_words ds (λ k e l. h (suc k) e (omega (arith, l))) j (omega (arith, lt))
 
-module _ (p : TProgram) (regions : List Region) (targets : List (List Target)) (formed : IsFormed p regions targets) where
+module _ (p : TProgram) (regions : List TRegion) (targets : List (List Target)) (formed : IsFormed p regions targets) where
   abbrev parts : Parts
   parts = code_of p regions targets
 

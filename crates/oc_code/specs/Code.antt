@@ -12,7 +12,8 @@ use Rattle.oc_isa.specs.declared.instr.Placed.{Placed}
 use Rattle.oc_isa.specs.declared.instr.Instr.TheVariants.{Store, Index, Call, Ret, Retv, Drop, Sense, Emit, Probe, Halt, Put}
 use Rattle.oc_isa.specs.Image.{Parts}
 use Rattle.oc_meaning.specs.Uses.{is_use, begins_use, ends_use}
-use Rattle.oc_meaning.specs.Exec.{Region, begun_by, ended_by, number_in}
+use Rattle.oc_tree.specs.Marked.{TRegion}
+use Rattle.oc_meaning.specs.Exec.{begun_by, ended_by, number_in}
 use Rattle.oc_meaning.specs.Run.{function_named}
 use Rattle.oc_code.specs.Scope.{Named, slot_of, words_of, is_fresh_in, kind_slots, block_slots, in_scope, for_named, function_scope}
 use Rattle.oc_code.specs.Forms.{placed, one, enter_code, commit_code, probe_code, write_code, base_code, expr_code, args_code, count_code, array_code, while_code, one_way_code, two_way_code}
@@ -48,7 +49,7 @@ after_code n r is k = probe_code n is Done ++ last_code n r k
 
 -- the code of a function's statements; `k` is how many parameters it has. Of a statement n: s is the next slot,
 -- and p the address
-module _ (names : NameLists) (fs : List TFunction) (regions : List Region) (k : ℕ) where
+module _ (names : NameLists) (fs : List TFunction) (regions : List TRegion) (k : ℕ) where
   abbrev pub call_code : ℕ → List Named → ℕ → TCall → List Placed
   call_code n γ p (call f args) = args_code n γ p args ++ one n (Call (function_number fs f))
 
@@ -118,7 +119,7 @@ module _ (names : NameLists) (fs : List TFunction) (regions : List Region) (k : 
 abbrev pub close_code : TFunction → List Placed
 close_code f = if is_main_name f.name then one 0 Halt else (if is_some f.result then [] else one 0 (Ret (length f.params)))
 
-module _ (p : TProgram) (regions : List Region) where
+module _ (p : TProgram) (regions : List TRegion) where
   abbrev pub body_code : ℕ → TFunction → List Placed
   body_code at f =
       block_code p.names p.functions regions (length f.params) (function_scope p f) (length f.params + link_words f) at f.body
@@ -145,7 +146,7 @@ abbrev pub stack_of_main : TProgram → ℕ
 stack_of_main p = stack_words p (suc (length p.functions)) (codes "main")
 
 -- the code of a program with these regions, of which each may overwrite these targets
-abbrev pub code_of : TProgram → List Region → List (List Target) → Parts
+abbrev pub code_of : TProgram → List TRegion → List (List Target) → Parts
 code_of p regions targets = record {
   names = p.names;
   functions = image_functions p regions 0 p.functions;

@@ -8,7 +8,8 @@ use Rattle.oc_tree.specs.declared.tree.Param.{Param}
 use Rattle.oc_tree.specs.declared.tree.Passing.{Passing}
 use Rattle.oc_tree.specs.declared.tree.Passing.TheVariants.{Value, Shared, Mutable}
 use Rattle.oc_tree.specs.declared.said.Target.{Target}
-use Rattle.oc_meaning.specs.Exec.{Region, begun_by, ended_by, number_in}
+use Rattle.oc_tree.specs.Marked.{TRegion}
+use Rattle.oc_meaning.specs.Exec.{begun_by, ended_by, number_in}
 use Rattle.oc_meaning.specs.Run.{function_named}
 use Rattle.oc_code.specs.Scope.{Named, named, slot_of, address_slot, kind_words, passed_slot, kind_slots, block_slots, in_scope, for_named, function_scope}
 use Rattle.oc_code.specs.Stack.{is_main_name, link_words}
@@ -59,7 +60,7 @@ IsLast no_stmts = Unit {0}
 IsLast (more s rest) = ⊥
 
 -- in a function of this rank; calls go to functions of lower ranks
-module _ (names : NameLists) (fs : List TFunction) (regions : List Region) (rank : Text → ℕ) (own : ℕ) where
+module _ (names : NameLists) (fs : List TFunction) (regions : List TRegion) (rank : Text → ℕ) (own : ℕ) where
   pub record CallFormed (γ : List Named) (f : Text) (args : TArgs) : Type 0 where
     pub callee : TFunction
     pub found : function_named fs f ≡ Some callee
@@ -108,11 +109,11 @@ module _ (names : NameLists) (fs : List TFunction) (regions : List Region) (rank
     stmts_formed gives inside γ s (more (stmt n line k) rest) =
         kind_formed γ s k × (left : ℕ) × (inside + marks (begun_by regions n) ≡ left + marks (ended_by regions n)) × stmts_formed gives left (in_scope k s rest γ) (s + kind_slots k) rest
 
-abbrev pub body_formed : NameLists → List TFunction → List Region → (Text → ℕ) → ℕ → Bool → List Named → ℕ → TBlock → Type 0
+abbrev pub body_formed : NameLists → List TFunction → List TRegion → (Text → ℕ) → ℕ → Bool → List Named → ℕ → TBlock → Type 0
 body_formed names fs regions rank own gives γ s (block id ss) = stmts_formed names fs regions rank own gives 0 γ s ss
 
 -- a program whose code is defined. Each function has a rank, and calls only functions of lower ranks
-pub record IsFormed (p : TProgram) (regions : List Region) (targets : List (List Target)) : Type 0 where
+pub record IsFormed (p : TProgram) (regions : List TRegion) (targets : List (List Target)) : Type 0 where
   pub rank : Text → ℕ
   pub main : TFunction
   pub main_found : function_named p.functions (codes "main") ≡ Some main

@@ -10,7 +10,8 @@ use Rattle.oc_meaning.specs.Samples.{union}
 use Rattle.oc_meaning.specs.Store.{Value, Held, Place, Local, Global, Turn, Nowhere, Event, Store, Binding, value_in, held_at, put, with_element, replaced, holding, made, noted, place_of}
 use Rattle.oc_meaning.specs.Eval.{Got, Val, Traps, is_zero, element_of, read_element, unary_value, combined, and_got, value_of}
 use Rattle.oc_meaning.specs.Uses.{is_fresh, is_use, samples_of_fresh, use_samples, begins_use, ends_use}
-use Rattle.oc_meaning.specs.Exec.{Region, begun_by, ended_by, Trap, Short, Outcome, Went, Returned, Stopped, Passed, Passing, Passes, Breaks, number_in, with_value, then_do, with_result, dropped, leave, told_if, opened, closed, used, done, finished, sense, passed_on, value_first, arg_first, args_of, with_args, element_written, for_turns, while_turns, count_of, in_turn, grown, entered, tagged, call_run, right_run, kind_run, else_run, block_run, stmts_run}
+use Rattle.oc_tree.specs.Marked.{TRegion}
+use Rattle.oc_meaning.specs.Exec.{begun_by, ended_by, Trap, Short, Outcome, Went, Returned, Stopped, Passed, Passing, Passes, Breaks, number_in, with_value, then_do, with_result, dropped, leave, told_if, opened, closed, used, done, finished, sense, passed_on, value_first, arg_first, args_of, with_args, element_written, for_turns, while_turns, count_of, in_turn, grown, entered, tagged, call_run, right_run, kind_run, else_run, block_run, stmts_run}
 use Rattle.oc_meaning.specs.Run.{AtEnd, AtTrap, AtShort, in_order, words_of, trace_of, with_params, function_named, nv_env, function_run, call_to, main_run, first_store}
 use Rattle.oc_meaning.specs.Blocks.{set_home}
 use Rattle.oc_meaning.specs.Unmarked.{is_mark, unmarked, without_marks, MarksOnlyTell}
@@ -168,7 +169,7 @@ grown_bare (let_to m x t r) rest env σ = refl
 grown_bare (let_array m x t z c) rest env σ = refl
 grown_bare k rest env σ = refl
 
-module _ (names : NameLists) (regions : List Region) (call_of call' : Text → List Passed → Store → Outcome) (home : ℤ → ℕ) (calls : (f : Text) (ps : List Passed) (σ : Store) → call' f ps (bare σ) ≡ bare_out (call_of f ps σ)) where
+module _ (names : NameLists) (regions : List TRegion) (call_of call' : Text → List Passed → Store → Outcome) (home : ℤ → ℕ) (calls : (f : Text) (ps : List Passed) (σ : Store) → call' f ps (bare σ) ≡ bare_out (call_of f ps σ)) where
   call_bare : (env : List Binding) (n : ℕ) (σ : Store) (c : TCall) → call_run names [] call' home env n (bare σ) c ≡ bare_out (call_run names regions call_of home env n σ c)
   call_bare env n σ (call f gs) =
       ap (λ ps. with_args ps n (bare σ) (λ ps. call' f ps (bare σ))) (args_bare env σ gs)
@@ -269,7 +270,7 @@ module _ (names : NameLists) (regions : List Region) (call_of call' : Text → L
     stmts_bare env no_stmts σ = refl
     stmts_bare env (more (stmt n line k) rest) σ = stmt_bare env n line k rest σ (λ τ. kind_bare env n k τ) (λ env' τ. stmts_bare env' rest τ)
 
-calls_bare : (p : TProgram) (regions : List Region) (d : ℕ) (f : Text) (ps : List Passed) (σ : Store) → call_to p [] d f ps (bare σ) ≡ bare_out (call_to p regions d f ps σ)
+calls_bare : (p : TProgram) (regions : List TRegion) (d : ℕ) (f : Text) (ps : List Passed) (σ : Store) → call_to p [] d f ps (bare σ) ≡ bare_out (call_to p regions d f ps σ)
 calls_bare p regions zero f ps σ = refl
 calls_bare p regions (suc d) f ps σ = go (function_named p.functions f) (λ f' ps' σ'. calls_bare p regions d f' ps' σ')
   where

@@ -2,6 +2,7 @@
 use Rattle.std.specs.Prelude.{ℕ, zero, suc, ◌-◌, ℤ, pos, negsuc, ◌+ℤ◌, ◌-ℤ◌, Bool, false, List, [], ◌∷◌, length, replicate, Option, Some, None, if◌then◌else◌, ◌==◌, count_by}
 use Rattle.std.specs.Str.{bytes_eq}
 use Rattle.oc_tree.specs.Names.{Text, NameLists}
+use Rattle.oc_tree.specs.Marked.{TRegion}
 use Rattle.oc_tree.specs.Tree.{TExpr, variable, TArg, value, shared, mutable, TCall, call, TArgs, no_args, more_args, TRight, right_value, right_sense, right_call, TKind, let_to, let_array, assign, assign_index, assign_deref, if_else, for_in, while_do, call_only, sense_only, emit, fresh, consistent, return, TElse, no_else, else_do, stmt, TBlock, block, TStmts, no_stmts, more}
 use Rattle.oc_tree.specs.declared.said.TrapKind.{TrapKind}
 use Rattle.oc_tree.specs.declared.said.TrapKind.TheVariants as traps
@@ -14,21 +15,13 @@ use Rattle.oc_meaning.specs.Store.{Value, Held, Place, Local, Turn, Event, Store
 use Rattle.oc_meaning.specs.Eval.{Got, Val, Traps, is_zero, element_of, value_of}
 use Rattle.oc_meaning.specs.Uses.{is_annotated, is_fresh, is_use, use_samples, begins_use, ends_use}
 
--- a region: its number, its function, the block in which it stands, and its first and last statement
-pub record Region : Type 0 where
-  pub id : ℕ
-  pub function : ℕ
-  pub block : ℕ
-  pub first : ℕ
-  pub last : ℕ
-
 -- the region that begins with a statement
-abbrev pub begun_by : List Region → ℕ → Option ℕ
+abbrev pub begun_by : List TRegion → ℕ → Option ℕ
 begun_by [] n = None
 begun_by (r ∷ rs) n = if n == r.first then Some r.id else begun_by rs n
 
 -- the region that ends with a statement
-abbrev pub ended_by : List Region → ℕ → Option ℕ
+abbrev pub ended_by : List TRegion → ℕ → Option ℕ
 ended_by [] n = None
 ended_by (r ∷ rs) n = if n == r.last then Some r.id else ended_by rs n
 
@@ -206,7 +199,7 @@ tagged home n samples σ =
     happened (record { said = Showed (Tagged n); samples = samples; instance = count_by (λ id. home == id) σ.blocks }) σ
 
 -- the statements of one function: `call` executes a function, `home` is the block of a consistent set
-module _ (names : NameLists) (regions : List Region) (call_of : Text → List Passed → Store → Outcome) (home : ℤ → ℕ) where
+module _ (names : NameLists) (regions : List TRegion) (call_of : Text → List Passed → Store → Outcome) (home : ℤ → ℕ) where
   abbrev pub call_run : List Binding → ℕ → Store → TCall → Outcome
   call_run env n σ (call f args) = with_args (args_of env σ args) n σ (λ ps. call_of f ps σ)
 

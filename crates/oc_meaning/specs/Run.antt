@@ -10,7 +10,8 @@ use Rattle.oc_tree.specs.declared.said.Said.TheVariants.{Ended}
 use Rattle.oc_tree.specs.declared.said.Ending.TheVariants.{Halted}
 use Rattle.oc_meaning.specs.Store.{Held, Local, Global, Event, Store, Binding, holding, noted}
 use Rattle.oc_meaning.specs.Blocks.{set_home}
-use Rattle.oc_meaning.specs.Exec.{Region, Trap, Short, Outcome, Went, Returned, Stopped, Passed, Copied, Lent, leave, array_of, block_run}
+use Rattle.oc_tree.specs.Marked.{TRegion}
+use Rattle.oc_meaning.specs.Exec.{Trap, Short, Outcome, Went, Returned, Stopped, Passed, Copied, Lent, leave, array_of, block_run}
 
 -- Functions
 
@@ -41,7 +42,7 @@ with_params (q ∷ qs) [] fr = fr
 with_params (q ∷ qs) (p ∷ ps) fr = with_params qs ps (with_param q.name p fr)
 
 -- the program with its regions
-module _ (p : TProgram) (regions : List Region) where
+module _ (p : TProgram) (regions : List TRegion) where
   abbrev pub body_run : (Text → List Passed → Store → Outcome) → TFunction → Frame → Store → Outcome
   body_run call f fr σ =
       leave (length σ.locals) (block_run p.names regions call (set_home f.body) fr.env f.body (record σ { locals = fr.locals }))
@@ -62,7 +63,7 @@ first_values (d ∷ ds) = array_of d.initial d.words ∷ first_values ds
 abbrev pub first_store : TProgram → List ℤ → Store
 first_store p samples = record { locals = []; nv = first_values p.nv; left = samples; taken = 0; depth = 0; blocks = []; events = [] }
 
-abbrev pub main_run : TProgram → List Region → List ℤ → Outcome
+abbrev pub main_run : TProgram → List TRegion → List ℤ → Outcome
 main_run p regions samples = call_to p regions (suc (length p.functions)) (codes "main") [] (first_store p samples)
 
 -- Runs
@@ -101,7 +102,7 @@ trace_of (Stopped Short σ) = trace_at AtShort σ
 
 -- the run with the marks of these regions: each execution of one that isn't inside an execution of another has its
 -- `Entered` before and its `Committed` behind it
-abbrev pub marked_run : TProgram → List Region → List ℤ → Trace
+abbrev pub marked_run : TProgram → List TRegion → List ℤ → Trace
 marked_run p regions samples = trace_of (main_run p regions samples)
 
 -- the run without marks

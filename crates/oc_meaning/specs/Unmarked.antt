@@ -4,7 +4,7 @@ use Rattle.oc_tree.specs.Tree.{TProgram}
 use Rattle.oc_tree.specs.declared.said.Said.{Said}
 use Rattle.oc_tree.specs.declared.said.Said.TheVariants.{Entered, Committed}
 use Rattle.oc_meaning.specs.Store.{Event}
-use Rattle.oc_meaning.specs.Exec.{Region}
+use Rattle.oc_tree.specs.Marked.{TRegion}
 use Rattle.oc_meaning.specs.Run.{Trace, marked_run, source_run}
 
 abbrev pub is_mark : Said → Bool
@@ -21,4 +21,4 @@ without_marks t = record t { events = unmarked t.events }
 
 -- marks change nothing: neither the events and their samples, nor how the run ends, nor the nonvolatile words
 abbrev pub MarksOnlyTell : Type 0
-MarksOnlyTell = (p : TProgram) (regions : List Region) (samples : List ℤ) → without_marks (marked_run p regions samples) ≡ source_run p samples
+MarksOnlyTell = (p : TProgram) (regions : List TRegion) (samples : List ℤ) → without_marks (marked_run p regions samples) ≡ source_run p samples

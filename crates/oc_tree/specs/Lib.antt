@@ -25,3 +25,5 @@ pub mod Broken
 pub mod Places
 pub mod Sought
 pub mod Checked
+pub mod Marked
+pub mod Regions

@@ -1,8 +1,8 @@
 //! Checked programs.
-ghost use Rattle.std.specs.Prelude.{◌≡◌};
+ghost use Rattle.std.specs.Prelude.{◌≡◌, ◌↔◌, Some, None};
 ghost use Rattle.oc_tree.specs.View.{program_view};
-ghost use Rattle.oc_tree.specs.Checked.{IsChecked};
-ghost use Rattle.oc_tree.specs.Places.{block_of, declared_at, encloses, line_of_stmt};
+ghost use Rattle.oc_tree.specs.Checked.{IsChecked, group_of, is_in_group};
+ghost use Rattle.oc_tree.specs.Places.{block_of, declared_at, encloses, line_of_stmt, loops_around, placed};
 
 use crate::places::{Asked, seek};
 use crate::tree::{BlockId, Program, StmtId, VarId};
@@ -48,7 +48,8 @@ impl Checked {
     }
 
     pub fn groups(&self) -> &[(StmtId, StmtId)]
-        ensures { result.now ≡ self.now.groups }
+        ensures same { result.now ≡ self.now.groups }
+        ensures checked { IsChecked self.now.program self.now.groups }
     {
         &self.groups
     }
@@ -79,6 +80,36 @@ impl Checked {
         } else {
             None
         }
+    }
+
+    /// How many loops a statement stands in; none where there is no such statement.
+    pub fn loops_around(&self, s: StmtId) -> Option<u32>
+        ensures { result ≡ loops_around self.now.program s }
+    {
+        let found = seek(&self.program, Asked { id: s, outer: 0 })?;
+        Some(found.spot.loops)
+    }
+
+    /// Whether a statement, which stands directly in this block, is directly in a group.
+    fn is_in_group(&self, s: StmtId, block: BlockId, group: (StmtId, StmtId)) -> bool
+        requires { block_of self.now.program s ≡ Some block }
+        ensures { result ≡ is_in_group self.now.program s group }
+    {
+        group.0 <= s && s <= group.1 && self.block_of(group.0) == Some(block)
+    }
+
+    /// The group of a statement; none where there is no such statement.
+    pub fn group_of(&self, s: StmtId) -> Option<(StmtId, StmtId)>
+        ensures group { result ≡ group_of self.now.program self.now.groups s }
+        ensures none { (result ≡ None) ↔ (placed self.now.program s ≡ None) }
+    {
+        let block = self.block_of(s)?;
+        for group in self.groups() {
+            if self.is_in_group(s, block, *group) {
+                return Some(*group);
+            }
+        }
+        None
     }
 
     /// Whether the statement `inner` stands in the statement `outer`.

@@ -6,6 +6,7 @@ pub mod before;
 pub mod broken;
 pub mod checked;
 pub mod laws;
+pub mod marked;
 pub mod name;
 pub mod nodes;
 mod places;

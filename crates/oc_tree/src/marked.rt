@@ -1,0 +1,100 @@
+//! Checked programs with regions.
+ghost use Rattle.std.specs.Prelude.{◌≡◌, map};
+ghost use Rattle.oc_tree.specs.Checked.{TChecked};
+ghost use Rattle.oc_tree.specs.Marked.{AreRegions, IsMarked, TMarked};
+ghost use Rattle.oc_tree.specs.Regions.{region_view};
+
+use crate::checked::Checked;
+use crate::tree::{BlockId, StmtId, VarId};
+use std::marker::Model;
+
+/// What a policy asks for: that a variable is fresh, or that the inputs of the annotations with
+/// this number are consistent.
+#[derive(Clone, Copy, Debug, PartialEq, Eq)]
+pub enum PolicyKind {
+    Fresh { var: VarId },
+    Consistent { id: i32 },
+}
+
+/// A policy of a function, which is told by its place.
+#[derive(Clone, Copy, Debug, PartialEq, Eq)]
+pub struct Policy {
+    pub function: u32,
+    pub kind: PolicyKind,
+}
+
+/// Statements that follow each other directly in a block, by the first and the last of them.
+#[derive(Clone, Copy, Debug, PartialEq, Eq)]
+pub struct Range {
+    pub block: BlockId,
+    pub first: StmtId,
+    pub last: StmtId,
+}
+
+/// An atomic region: its number from 1, the place of its function, its statements, and the numbers
+/// of the policies that ask for it, from 0.
+#[derive(Debug, Drop)]
+pub struct Region {
+    pub id: u32,
+    pub function: u32,
+    pub range: Range,
+    pub reasons: Vec<u32>,
+}
+
+/// A checked program with its policies and its regions. Regions are numbered by their first
+/// statements, share no statement, and stand in no statement of one another.
+#[derive(Debug, Drop)]
+pub struct Marked {
+    checked: Checked,
+    policies: Vec<Policy>,
+    regions: Vec<Region>,
+}
+
+impl Model for Marked {
+    ghost use Rattle.std.specs.Prelude.{map};
+    ghost use Rattle.std.specs.Coded.{codes};
+    ghost use Rattle.oc_tree.specs.Stored.{block_code};
+    ghost use Rattle.oc_tree.specs.Marked.{IsMarked, TMarked};
+    ghost use Rattle.oc_tree.specs.Regions.{region_view};
+
+    ghost Value = { TMarked };
+
+    ghost coded = { Prim.hlevel (codes, block_code (Prim.hlevel codes)) };
+
+    ghost view = { λ a. record { program = a.checked.program; groups = a.checked.groups; policies = a.policies.items; regions = map region_view a.regions.items } };
+
+    ghost invariant = { λ a. IsMarked (record { program = a.checked.program; groups = a.checked.groups; policies = a.policies.items; regions = map region_view a.regions.items }) };
+}
+
+impl Marked {
+    /// A checked program with these policies and regions.
+    pub fn new(checked: Checked, policies: Vec<Policy>, regions: Vec<Region>) -> Marked
+        requires { IsMarked (record { program = checked.program; groups = checked.groups; policies = policies.items; regions = map region_view regions.items }) }
+        ensures { result ≡ record { program = checked.program; groups = checked.groups; policies = policies.items; regions = map region_view regions.items } }
+    {
+        Marked {
+            checked,
+            policies,
+            regions,
+        }
+    }
+
+    pub fn checked(&self) -> &Checked
+        ensures same { result.now ≡ record { program = self.now.program; groups = self.now.groups } }
+        ensures marked { IsMarked self.now }
+    {
+        &self.checked
+    }
+
+    pub fn regions(&self) -> &[Region]
+        ensures { map region_view result.now ≡ self.now.regions }
+    {
+        &self.regions
+    }
+
+    pub fn policies(&self) -> &[Policy]
+        ensures { result.now ≡ self.now.policies }
+    {
+        &self.policies
+    }
+}

@@ -4,3 +4,4 @@ pub mod NoPulls
 pub mod NumberedLaws
 pub mod OwnExpansion
 pub mod GroupLaws
+pub mod Seen

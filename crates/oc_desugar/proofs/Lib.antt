@@ -5,3 +5,4 @@ pub mod NumberedLaws
 pub mod OwnExpansion
 pub mod GroupLaws
 pub mod KeptCalls
+pub mod Seen

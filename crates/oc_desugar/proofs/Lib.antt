@@ -4,5 +4,8 @@ pub mod NoPulls
 pub mod NumberedLaws
 pub mod OwnExpansion
 pub mod GroupLaws
-pub mod KeptCalls
 pub mod Seen
+pub mod KeptCalls
+pub mod TemporaryNames
+pub mod KeptNames
+pub mod KeptReach

@@ -9,3 +9,4 @@ pub mod KeptCalls
 pub mod TemporaryNames
 pub mod KeptNames
 pub mod KeptReach
+pub mod KeptNumbers

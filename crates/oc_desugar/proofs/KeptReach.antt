@@ -10,7 +10,7 @@ use Rattle.oc_tree.specs.Calls.{call_links, function_mentions, reaches_mention}
 use Rattle.oc_tree.specs.Expansion.{expand_functions, expansion, block_size}
 use Rattle.oc_tree.specs.Rules.{back_to}
 use Rattle.oc_desugar.proofs.Seen.{head_of, SameTop, SameReach}
-use Rattle.oc_desugar.proofs.KeptCalls.{same_links}
+use Rattle.oc_desugar.proofs.KeptCallees.{same_links}
 use Rattle.oc_desugar.proofs.KeptNames.{same_mentions}
 
 same_heads : (k i : ℕ) (fs : List TFunction) → map head_of (expand_functions k i fs) ≡ map head_of fs

@@ -5,8 +5,10 @@ pub mod NumberedLaws
 pub mod OwnExpansion
 pub mod GroupLaws
 pub mod Seen
-pub mod KeptCalls
+pub mod KeptCallees
 pub mod TemporaryNames
 pub mod KeptNames
 pub mod KeptReach
 pub mod KeptNumbers
+pub mod KeptScopes
+pub mod KeptCounts

@@ -21,7 +21,7 @@ kinds_call ks = flat_map (λ s. map callee (own_calls s)) ks
 both_parts : (xs zs ys ws : List Text) → xs ≡ zs → ys ≡ ws → xs ++ ys ≡ zs ++ ws
 both_parts xs zs ys ws p q = ap (λ l. l ++ ys) p ∙ ap (λ l. zs ++ l) q
 
-rights_join : (xs ys : List TRight) → rights_call (xs ++ ys) ≡ rights_call xs ++ rights_call ys
+pub rights_join : (xs ys : List TRight) → rights_call (xs ++ ys) ≡ rights_call xs ++ rights_call ys
 rights_join xs ys = flat_map-append (λ r. map callee (right_calls r)) xs ys
 
 kinds_join : (xs ys : List TKind) → kinds_call (xs ++ ys) ≡ kinds_call xs ++ kinds_call ys

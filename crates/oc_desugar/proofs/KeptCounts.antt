@@ -26,7 +26,7 @@ use Rattle.oc_tree.specs.Expansion.{pulled, expand_kind}
 use Rattle.oc_desugar.proofs.Seen.{new_origin, new_var, SameHere}
 use Rattle.oc_desugar.proofs.Lengths.{length_pulled}
 use Rattle.oc_desugar.proofs.NoPulls.{none_kind}
-use Rattle.oc_desugar.proofs.KeptCallees.{rights_call, with_own}
+use Rattle.oc_desugar.proofs.KeptCallees.{rights_call, rights_join, with_own}
 
 -- ---- policies
 
@@ -164,11 +164,14 @@ pub same_counts : (a b : Tally) → a.words ≡ b.words → a.variables ≡ b.va
 same_counts a b w v s c p = λ i. record { words = w i; variables = v i; statements = s i; calls = c i; policies = p i }
 
 -- the `let` of one temporary more
-pub one_temporary : (n : Tally) (h : Here) (x : List ℕ) (r : TRight) (rs : List TRight) → right_pulls r ≡ 0 → with_temporaries (with_statement n h (let_to false x None r)) rs ≡ with_temporaries n (r ∷ rs)
-one_temporary n h x r rs e =
-    let c = length-append (map callee (right_calls r)) (rights_call rs) in
-    let d = length-map (right_calls r) callee in
-    same_counts _ _ refl (omega (arith, e)) (omega (arith, e)) (omega (arith, c, d)) refl
+pub one_temporary : (n : Tally) (h : Here) (x : List ℕ) (front : List TRight) (r : TRight) → right_pulls r ≡ 0 → with_statement (with_temporaries n front) h (let_to false x None r) ≡ with_temporaries n (front ++ r ∷ [])
+one_temporary n h x front r e =
+    let l = length-append front (r ∷ []) in
+    let c = ap length (rights_join front (r ∷ [])) in
+    let d = length-append (rights_call front) (rights_call (r ∷ [])) in
+    let m = length-append (map callee (right_calls r)) [] in
+    let k = length-map (right_calls r) callee in
+    same_counts _ _ refl (omega (arith, e, l)) (omega (arith, e, l)) (omega (arith, c, d, m, k)) refl
 
 -- behind the group the counts are the same
 pub group_counts : (f : ℕ → ℕ) → Apart f → (n : Tally) (h g : Here) (k i : ℕ) (s : TKind) → SameHere f h g → KindInForm IsName s → with_statement (with_temporaries (new_tally f n) (pulled k s)) g (expand_kind k i s) ≡ new_tally f (with_statement n h s)

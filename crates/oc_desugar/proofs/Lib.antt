@@ -12,3 +12,5 @@ pub mod KeptReach
 pub mod KeptNumbers
 pub mod KeptScopes
 pub mod KeptCounts
+pub mod KeptClean
+pub mod KeptGroups

@@ -14,3 +14,4 @@ pub mod KeptScopes
 pub mod KeptCounts
 pub mod KeptClean
 pub mod KeptGroups
+pub mod KeptElements

@@ -27,11 +27,11 @@ use Rattle.oc_desugar.proofs.KeptGroups.{same_before, Written, group_clean}
 -- ---- where the next statement stands
 
 -- a group is not empty
-group_goes_on : (xs : List TStmt) (x : TStmt) (rest : TStmts) → is_end (join_stmts (xs ++ x ∷ []) rest) ≡ false
+pub group_goes_on : (xs : List TStmt) (x : TStmt) (rest : TStmts) → is_end (join_stmts (xs ++ x ∷ []) rest) ≡ false
 group_goes_on [] x rest = refl
 group_goes_on (y ∷ xs) x rest = refl
 
-same_end : (k i : ℕ) (ss : TStmts) → is_end (expand_stmts k i ss) ≡ is_end ss
+pub same_end : (k i : ℕ) (ss : TStmts) → is_end (expand_stmts k i ss) ≡ is_end ss
 same_end k i no_stmts = refl
 same_end k i (more (stmt id line s) ss) = group_goes_on (temporaries k i line (pulled k s)) (stmt (i + own_pulls s) line (expand_kind k (i + own_pulls s + 1) s)) (expand_stmts (k + stmt_pulls (stmt id line s)) (i + stmt_size (stmt id line s)) ss)
 

@@ -15,3 +15,6 @@ pub mod KeptCounts
 pub mod KeptClean
 pub mod KeptGroups
 pub mod KeptElements
+pub mod PullsWithin
+pub mod KeptItems
+pub mod KeptOrder

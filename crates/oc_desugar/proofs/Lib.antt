@@ -18,3 +18,4 @@ pub mod KeptElements
 pub mod PullsWithin
 pub mod KeptItems
 pub mod KeptOrder
+pub mod KeptRules

@@ -5,3 +5,5 @@ pub mod NumberedLaws
 pub mod OwnExpansion
 pub mod GroupLaws
 pub mod Seen
+pub mod HeldParts
+pub mod KeptLookups

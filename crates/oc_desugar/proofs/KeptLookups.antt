@@ -38,6 +38,7 @@ apart (b ∷ bs) n k = by (bytes_eq (b ∷ bs) (temporary k)) refl
     first : List ℕ → ℕ
     first [] = 0
     first (c ∷ cs) = c
+
     by : (same : Bool) → bytes_eq (b ∷ bs) (temporary k) ≡ same → same ≡ false
     by false e = refl
     by true e =

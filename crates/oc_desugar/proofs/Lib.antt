@@ -7,3 +7,4 @@ pub mod GroupLaws
 pub mod Seen
 pub mod HeldParts
 pub mod KeptLookups
+pub mod KeptExpressions

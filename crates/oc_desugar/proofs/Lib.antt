@@ -8,3 +8,4 @@ pub mod Seen
 pub mod HeldParts
 pub mod KeptLookups
 pub mod KeptExpressions
+pub mod KeptCalls

@@ -38,6 +38,23 @@ HeldRight p t k (right_value e) = HeldExpr p t k e
 HeldRight p t k (right_sense s) = Unit {0}
 HeldRight p t k (right_call c) = HeldCall p t k c
 
+-- of a statement itself
+abbrev pub HeldKind : TProgram → Scope → ℕ → TKind → Type 0
+HeldKind p t k (let_to m x n r) = HeldRight p t k r
+HeldKind p t k (let_array m x n z w) = Unit {0}
+HeldKind p t k (assign x r) = HeldRight p t k r
+HeldKind p t k (assign_index x e r) = HeldExpr p t k e × HeldRight p t (k + expr_pulls e) r
+HeldKind p t k (assign_deref x r) = HeldRight p t k r
+HeldKind p t k (if_else c a b) = HeldExpr p t k c
+HeldKind p t k (for_in x from to b) = Unit {0}
+HeldKind p t k (while_do c n b) = HeldExpr p t k c
+HeldKind p t k (call_only c) = HeldCall p t k c
+HeldKind p t k (sense_only s) = Unit {0}
+HeldKind p t k (emit port e) = HeldExpr p t k e
+HeldKind p t k (fresh x) = Unit {0}
+HeldKind p t k (consistent x n) = Unit {0}
+HeldKind p t k (return e) = HeldExpr p t k e
+
 -- ---- lists of pulls, one after the other
 
 module _ (p : TProgram) (t : Scope) where
@@ -93,3 +110,26 @@ module _ (p : TProgram) (t : Scope) where
     -- what is left of a call calls the same function
     held_own : (k : ℕ) (c : TCall) → IsHeld t (k + call_pulls c) (call_type p (left_call k c)) → IsHeld t (k + call_pulls c) (call_type p c)
     held_own k (call f args) h = h
+
+  pub held_right : (k : ℕ) (r : TRight) → HeldPulls p t k (pulled_right k r) → HeldRight p t k r
+  held_right k (right_value e) h = held_expr k e h
+  held_right k (right_sense s) h = tt
+  held_right k (right_call c) h = held_call k c h
+
+  pub held_kind : (k : ℕ) (s : TKind) → HeldOwn p t k s → HeldKind p t k s
+  held_kind k (let_to m x n r) h = held_right k r h
+  held_kind k (let_array m x n z w) h = tt
+  held_kind k (assign x r) h = held_right k r h
+  held_kind k (assign_index x e r) h =
+      let j = k + expr_pulls e in
+      (held_expr k e (held_front k (pulled_expr k e) (pulled_right j r) h), held_right j r (held_back k (expr_pulls e) (pulled_expr k e) (pulled_right j r) (length_expr k e) h))
+  held_kind k (assign_deref x r) h = held_right k r h
+  held_kind k (if_else c a b) h = held_expr k c h
+  held_kind k (for_in x from to b) h = tt
+  held_kind k (while_do c n b) h = held_expr k c h
+  held_kind k (call_only c) h = held_call k c h
+  held_kind k (sense_only s) h = tt
+  held_kind k (emit port e) h = held_expr k e h
+  held_kind k (fresh x) h = tt
+  held_kind k (consistent x n) h = tt
+  held_kind k (return e) h = held_expr k e h

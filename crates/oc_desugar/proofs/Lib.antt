@@ -9,3 +9,4 @@ pub mod HeldParts
 pub mod KeptLookups
 pub mod KeptExpressions
 pub mod KeptCalls
+pub mod FineCalls

@@ -10,3 +10,5 @@ pub mod KeptLookups
 pub mod KeptExpressions
 pub mod KeptCalls
 pub mod FineCalls
+pub mod Unbroken
+pub mod KeptStatements

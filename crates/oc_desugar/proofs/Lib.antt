@@ -12,3 +12,4 @@ pub mod KeptCalls
 pub mod FineCalls
 pub mod Unbroken
 pub mod KeptStatements
+pub mod PullSplits

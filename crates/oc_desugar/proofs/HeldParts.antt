@@ -93,16 +93,16 @@ module _ (p : TProgram) (t : Scope) where
         let own = held_back k (call_pulls c) (pulled_call k c) last (length_call k c) h in
         (held_call k c (held_front k (pulled_call k c) last h), held_own k c own.0)
 
-    held_call : (k : ℕ) (c : TCall) → HeldPulls p t k (pulled_call k c) → HeldCall p t k c
+    pub held_call : (k : ℕ) (c : TCall) → HeldPulls p t k (pulled_call k c) → HeldCall p t k c
     held_call k (call f args) h = held_args k args h
 
-    held_args : (k : ℕ) (xs : TArgs) → HeldPulls p t k (pulled_args k xs) → HeldArgs p t k xs
+    pub held_args : (k : ℕ) (xs : TArgs) → HeldPulls p t k (pulled_args k xs) → HeldArgs p t k xs
     held_args k no_args h = tt
     held_args k (more_args a rest) h =
         let j = k + arg_pulls a in
         (held_arg k a (held_front k (pulled_arg k a) (pulled_args j rest) h), held_args j rest (held_back k (arg_pulls a) (pulled_arg k a) (pulled_args j rest) (length_arg k a) h))
 
-    held_arg : (k : ℕ) (a : TArg) → HeldPulls p t k (pulled_arg k a) → HeldArg p t k a
+    pub held_arg : (k : ℕ) (a : TArg) → HeldPulls p t k (pulled_arg k a) → HeldArg p t k a
     held_arg k (value e) h = held_expr k e h
     held_arg k (shared x) h = tt
     held_arg k (mutable x) h = tt

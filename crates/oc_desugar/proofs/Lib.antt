@@ -13,3 +13,5 @@ pub mod FineCalls
 pub mod Unbroken
 pub mod KeptStatements
 pub mod PullSplits
+pub mod FinePulls
+pub mod KeptTemporaries

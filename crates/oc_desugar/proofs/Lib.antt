@@ -19,3 +19,13 @@ pub mod PullsWithin
 pub mod KeptItems
 pub mod KeptOrder
 pub mod KeptRules
+pub mod HeldParts
+pub mod KeptLookups
+pub mod KeptExpressions
+pub mod KeptCalls
+pub mod FineCalls
+pub mod Unbroken
+pub mod KeptStatements
+pub mod PullSplits
+pub mod FinePulls
+pub mod KeptTemporaries

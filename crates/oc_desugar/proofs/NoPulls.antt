@@ -6,7 +6,7 @@ use Rattle.oc_tree.specs.Pulls.{expr_pulls, call_pulls, args_pulls, arg_pulls, r
 use Rattle.oc_tree.specs.Expansion.{left_expr, left_call, left_args, left_arg, left_right, temporary, temporaries, pulled_expr, pulled_call, pulled_args, pulled_arg, pulled_right, pulled, expand_kind, expand_else, expand_stmt, expand_block, expand_stmts, expand_function, expand_functions, expansion, join_stmts, block_size, stmt_size}
 
 mutual
-  none_expr : (k : ℕ) (e : TExpr) → expr_pulls (left_expr k e) ≡ 0
+  pub none_expr : (k : ℕ) (e : TExpr) → expr_pulls (left_expr k e) ≡ 0
   none_expr k (number n) = refl
   none_expr k (truth b) = refl
   none_expr k (variable x) = refl
@@ -17,10 +17,10 @@ mutual
   none_expr k (sensed s) = refl
   none_expr k (called c) = refl
 
-  none_call : (k : ℕ) (c : TCall) → call_pulls (left_call k c) ≡ 0
+  pub none_call : (k : ℕ) (c : TCall) → call_pulls (left_call k c) ≡ 0
   none_call k (call f args) = none_args k args
 
-  none_args : (k : ℕ) (xs : TArgs) → args_pulls (left_args k xs) ≡ 0
+  pub none_args : (k : ℕ) (xs : TArgs) → args_pulls (left_args k xs) ≡ 0
   none_args k no_args = refl
   none_args k (more_args a rest) = omega (arith, none_arg k a, none_args (k + arg_pulls a) rest)
 
@@ -29,7 +29,7 @@ mutual
   none_arg k (shared x) = refl
   none_arg k (mutable x) = refl
 
-none_right : (k : ℕ) (r : TRight) → right_pulls (left_right k r) ≡ 0
+pub none_right : (k : ℕ) (r : TRight) → right_pulls (left_right k r) ≡ 0
 none_right k (right_value e) = none_expr k e
 none_right k (right_sense s) = refl
 none_right k (right_call c) = none_call k c

@@ -5,7 +5,7 @@ use Rattle.std.specs.Str.{bytes_eq}
 use Rattle.std.proofs.lemmas.Bool.{or_from}
 use Rattle.oc_lex.specs.Stands.{IsName}
 use Rattle.oc_tree.specs.Names.{Text}
-use Rattle.oc_tree.specs.Tree.{TFunction, TProgram}
+use Rattle.oc_tree.specs.Tree.{TFunction, TProgram, let_to}
 use Rattle.oc_tree.specs.Form.{FunctionInForm, InForm}
 use Rattle.oc_tree.specs.Pulls.{program_pulls}
 use Rattle.oc_tree.specs.Calls.{place_from, place, function_names, function_place}
@@ -18,6 +18,11 @@ use Rattle.oc_desugar.proofs.Seen.{NoTemporary}
 use Rattle.oc_desugar.proofs.TemporaryNames.{none_is_name}
 use Rattle.oc_desugar.proofs.PullsWithin.{pulls_within}
 use Rattle.oc_desugar.proofs.KeptNumbers.{new_number, new_apart, placed}
+use Rattle.oc_desugar.proofs.HeldParts.{held_kind}
+use Rattle.oc_desugar.proofs.KeptExpressions.{same_right_type}
+use Rattle.oc_desugar.proofs.KeptStatements.{statement_kept}
+use Rattle.oc_desugar.proofs.KeptTemporaries.{temporary_kept, temporary_held}
+use Rattle.oc_desugar.proofs.KeptReach.{same_top, same_reach}
 use Rattle.oc_desugar.proofs.KeptClean.{Laws}
 use Rattle.oc_desugar.proofs.KeptItems.{all_behind}
 use Rattle.oc_desugar.proofs.KeptOrder.{order_clean}
@@ -45,8 +50,20 @@ no_temporary p h k =
 
 -- ---- the law
 
--- where statements and temporaries one by one keep the rules
-pub keeps_by : (p : TProgram) → InForm IsName p → Laws p (expansion p) (new_number p) → first_broken p nothing_counted (program_elements p) ≡ None → first_broken (expansion p) nothing_counted (program_elements (expansion p)) ≡ None
-keeps_by p h laws b =
+-- statements and temporaries keep the rules one by one
+laws : (p : TProgram) → InForm IsName p → Laws p (expansion p) (new_number p)
+laws p form =
+    let top = same_top p in
+    let reach = same_reach p in
+    record {
+      statement = λ h g n m k i s here last held o e counts. statement_kept top reach here last n m k i s o held counts e;
+      temporary_let = λ h g n m k s front back r here at held new o e counts. temporary_kept top reach here (no_temporary p form) n m k s o front back r at held new counts e;
+      held = λ h g n k id s front back r here at held new o e. temporary_held top reach here n k s o front back r at held new e id;
+      type_kept = λ h g k m x t r here held o. same_right_type (record { top = top; sees = here.scope }) k r o.2 (held_kind p g.scope k (let_to m x t r) held);
+    }
+
+-- no rule is broken in the expansion of a program that breaks none
+pub expansion_keeps_rules : (p : TProgram) → InForm IsName p → first_broken p nothing_counted (program_elements p) ≡ None → first_broken (expansion p) nothing_counted (program_elements (expansion p)) ≡ None
+expansion_keeps_rules p h b =
     let few : 1 + program_pulls p ≤ 2 ^ 64 = omega (arith, h.few_nodes, pulls_within p) in
-    (order_clean p (new_number p) laws (new_apart p) h.spellable.functions few (placed p h.numbered) nothing_counted nothing_before p.order b).clean
+    (order_clean p (new_number p) (laws p h) (new_apart p) h.spellable.functions few (placed p h.numbered) nothing_counted nothing_before p.order b).clean

@@ -2,7 +2,6 @@
 use Rattle.std.proofs.Common.{◌≡◌, ◌≤◌, ◌<◌, ◌^◌, ◌+◌, ℕ, Option, None, List, refl, sym, subst, ◌∙◌, arith}
 use Rattle.oc_lex.specs.Stands.{IsName}
 use Rattle.oc_tree.specs.Tree.{TProgram}
-use Rattle.oc_tree.specs.Form.{InForm}
 use Rattle.oc_tree.specs.Pulls.{program_pulls}
 use Rattle.oc_tree.specs.Expansion.{program_size, expansion, program_groups}
 use Rattle.oc_tree.specs.Broken.{broken_element, broken}
@@ -12,10 +11,8 @@ use Rattle.oc_desugar.proofs.FormKept.{form_kept}
 use Rattle.oc_desugar.proofs.GroupsKept.{groups_kept}
 use Rattle.oc_desugar.proofs.FewPulls.{few_pulls}
 use Rattle.oc_desugar.proofs.FewStatements.{few_statements}
+use Rattle.oc_desugar.proofs.KeptRules.{expansion_keeps_rules}
 use Rattle.oc_desugar.proofs.SizesKept.{unbroken_element, unbroken_kept}
-
-expansion_keeps_rules : (p : TProgram) → InForm IsName p → broken_element p ≡ None → broken_element (expansion p) ≡ None
-expansion_keeps_rules = ?
 
 -- the pulls and the statements of the expansion can be counted
 pub fit : (p : TProgram) → IsWritten p → (program_pulls p + 1 < 2 ^ 32) × (program_size p + 1 < 2 ^ 32)

@@ -6,7 +6,7 @@ use Rattle.oc_tree.specs.Pulls.{expr_pulls, call_pulls, args_pulls, arg_pulls, r
 use Rattle.oc_tree.specs.Expansion.{left_expr, left_call, left_args, left_arg, left_right, temporary, temporaries, pulled_expr, pulled_call, pulled_args, pulled_arg, pulled_right, pulled, expand_kind, expand_else, expand_stmt, expand_block, expand_stmts, expand_function, expand_functions, expansion, join_stmts, block_size, stmt_size}
 
 mutual
-  none_expr : (k : ℕ) (e : TExpr) → expr_pulls (left_expr k e) ≡ 0
+  pub none_expr : (k : ℕ) (e : TExpr) → expr_pulls (left_expr k e) ≡ 0
   none_expr k (number n) = refl
   none_expr k (truth b) = refl
   none_expr k (variable x) = refl
@@ -17,10 +17,10 @@ mutual
   none_expr k (sensed s) = refl
   none_expr k (called c) = refl
 
-  none_call : (k : ℕ) (c : TCall) → call_pulls (left_call k c) ≡ 0
+  pub none_call : (k : ℕ) (c : TCall) → call_pulls (left_call k c) ≡ 0
   none_call k (call f args) = none_args k args
 
-  none_args : (k : ℕ) (xs : TArgs) → args_pulls (left_args k xs) ≡ 0
+  pub none_args : (k : ℕ) (xs : TArgs) → args_pulls (left_args k xs) ≡ 0
   none_args k no_args = refl
   none_args k (more_args a rest) = omega (arith, none_arg k a, none_args (k + arg_pulls a) rest)
 
@@ -29,13 +29,13 @@ mutual
   none_arg k (shared x) = refl
   none_arg k (mutable x) = refl
 
-none_right : (k : ℕ) (r : TRight) → right_pulls (left_right k r) ≡ 0
+pub none_right : (k : ℕ) (r : TRight) → right_pulls (left_right k r) ≡ 0
 none_right k (right_value e) = none_expr k e
 none_right k (right_sense s) = refl
 none_right k (right_call c) = none_call k c
 
 -- what a pull is made of has no pulls
-data NoPulls : List TRight → Type 0 where
+pub data NoPulls : List TRight → Type 0 where
   nothing : NoPulls []
   one_more : (r : TRight) (rs : List TRight) → right_pulls r ≡ 0 → NoPulls rs → NoPulls (r ∷ rs)
 
@@ -72,7 +72,7 @@ plain_right k (right_value e) = plain_expr k e
 plain_right k (right_sense s) = nothing
 plain_right k (right_call c) = plain_call k c
 
-plain_kind : (k : ℕ) (s : TKind) → NoPulls (pulled k s)
+pub plain_kind : (k : ℕ) (s : TKind) → NoPulls (pulled k s)
 plain_kind k (let_to m x t r) = plain_right k r
 plain_kind k (let_array m x t z n) = nothing
 plain_kind k (assign x r) = plain_right k r
@@ -93,7 +93,7 @@ group_pulls k i line [] s rest a h = omega (arith, h)
 group_pulls k i line (r ∷ rs) s rest (one_more _ _ z a) h = omega (arith, z, group_pulls (k + 1) (i + 1) line rs s rest a h)
 
 mutual
-  none_kind : (k i : ℕ) (s : TKind) → own_pulls (expand_kind k i s) + inner_pulls (expand_kind k i s) ≡ 0
+  pub none_kind : (k i : ℕ) (s : TKind) → own_pulls (expand_kind k i s) + inner_pulls (expand_kind k i s) ≡ 0
   none_kind k i (let_to m x t r) = omega (arith, none_right k r)
   none_kind k i (let_array m x t z n) = refl
   none_kind k i (assign x r) = omega (arith, none_right k r)

@@ -14,6 +14,7 @@ mod pulls;
 mod reach;
 mod scope;
 mod sides;
+mod sizes;
 mod statement;
 mod targets;
 mod top;
@@ -21,3 +22,4 @@ mod types;
 mod walk;
 
 pub use check::first_broken;
+pub use sizes::broken;

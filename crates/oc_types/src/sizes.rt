@@ -12,7 +12,7 @@ ghost use Rattle.oc_tree.specs.View.{function_view, program_view};
 ghost use Rattle.oc_tree.specs.Weight.{known_of, weights_to};
 
 use crate::calls::is_main;
-use crate::check::first_broken;
+use crate::elements::first_broken;
 use oc_desugar::program::expand;
 use oc_tree::broken::Broken;
 use oc_tree::tree::{Function, Program};

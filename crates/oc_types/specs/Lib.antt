@@ -3,3 +3,4 @@ pub mod Standing
 pub mod Small
 pub mod Walk
 pub mod Marks
+pub mod Told

@@ -16,8 +16,8 @@ use crate::targets::{arg_lends, is_mutable_reference};
 use crate::top::TopLevel;
 use crate::types::{call_type, is_same, is_same_kind, scalar_of, type_of};
 use oc_reach::mentions::call_mentions;
-use oc_tree::scope::Var;
 use oc_tree::name::Name;
+use oc_tree::scope::Var;
 use oc_tree::tree::{Arg, Call, Expr, Param, Passing, StmtKind, ValueKind};
 
 pub fn is_main(name: &Name) -> bool

@@ -3,21 +3,25 @@
 
 mod annotations;
 mod calls;
-mod check;
 mod counts;
 mod disturbs;
+mod elements;
 mod heads;
 mod known;
 mod operands;
 mod place;
 mod pulls;
 mod reach;
+mod rules;
 mod scope;
 mod sides;
+mod sizes;
 mod statement;
 mod targets;
 mod top;
 mod types;
 mod walk;
 
-pub use check::first_broken;
+pub use elements::first_broken;
+pub use rules::{RuleError, check};
+pub use sizes::broken;

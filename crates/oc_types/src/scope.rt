@@ -4,8 +4,8 @@ ghost use Rattle.std.specs.Prelude.{◌≡◌, ◌++◌, List, ℕ, [], ◌∷�
 ghost use Rattle.oc_tree.specs.Scope.{Scope as Variables, variable_in};
 
 use indexmap::IndexMap;
-use oc_tree::scope::Var;
 use oc_tree::name::Name;
+use oc_tree::scope::Var;
 use std::alloc::{AllocError, Global};
 use std::marker::Model;
 

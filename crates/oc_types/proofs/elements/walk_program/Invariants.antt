@@ -2,7 +2,7 @@ use Rattle.std.proofs.Common.{◌≡◌, ◌≤◌, drop}
 use Rattle.oc_tree.specs.View.{program_view}
 use Rattle.oc_types.specs.Small.{IsSmall}
 use Rattle.oc_types.specs.Walk.{order_walk, program_walk}
-use Rattle.oc_types.proofs.check.walk_program.Given as goal
+use Rattle.oc_types.proofs.elements.walk_program.Given as goal
 
 abbrev pub invariant-loop-decl : goal.invariant-loop-decl
 invariant-loop-decl l = record {

@@ -5,6 +5,4 @@ pub mod InOrder
 pub mod Ends
 pub mod Sums
 pub mod SmallCounts
-pub mod Sized
-pub mod FewPulls
 pub mod SizeLaws

@@ -13,7 +13,7 @@ ghost use Rattle.oc_tree.specs.Weight.{known_of, weights_to};
 
 use crate::calls::is_main;
 use crate::elements::first_broken;
-use oc_desugar::program::expand;
+use oc_desugar::expand_program;
 use oc_tree::broken::Broken;
 use oc_tree::tree::{Function, Program};
 use oc_weight::cost::known_of;
@@ -73,7 +73,7 @@ fn size_rule(alloc: Global, program: &Program) -> Result<Option<u8>, AllocError>
     requires { program_size (program_view program.now) ≤ 8192 }
     ensures { IfOk result (λ r. r ≡ lowest (size_rules (program_view program.now))) }
 {
-    let (expanded, _groups) = expand(alloc, program)?;
+    let (expanded, _groups) = expand_program(alloc, program)?;
     let functions = expanded.functions.as_slice();
     if is_too_heavy(alloc, functions)? {
         return Ok(Some(23));

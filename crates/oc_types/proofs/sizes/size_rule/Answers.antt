@@ -7,12 +7,12 @@ use Rattle.oc_tree.specs.declared.tree.Program.{Program}
 use Rattle.oc_tree.specs.Expansion.{expansion}
 use Rattle.oc_tree.specs.Stack.{stack_words}
 use Rattle.std.proofs.lemmas.List.{length-map}
-use Rattle.oc_types.proofs.FewPulls.{few_pulls}
+use Rattle.oc_desugar.proofs.FewPulls.{few_pulls}
 use Rattle.oc_types.proofs.SizeLaws.{is_heavy, is_deep, lowest_size}
 use Rattle.oc_types.proofs.sizes.size_rule.Goals as goal
 
-pub expand-requires-clause-pulls : goal.expand-requires-clause-pulls
-expand-requires-clause-pulls c = omega (arith, few_pulls (program_view c.args.program.now), c.requires)
+pub expand_program-requires-clause-pulls : goal.expand_program-requires-clause-pulls
+expand_program-requires-clause-pulls c = omega (arith, few_pulls (program_view c.args.program.now), c.requires)
 
 -- the functions of the expansion, as the code reads them
 functions_read : (p : TProgram) (d : Program) (xs : List Function) → xs ≡ d.functions.items → program_view d ≡ expansion p → map function_view xs ≡ (expansion p).functions

@@ -11,7 +11,8 @@ use Rattle.oc_isa.specs.Image.{Parts}
 use Rattle.oc_isa.specs.Power.{power_run}
 use Rattle.oc_isa.specs.Table.{device_of}
 use Rattle.oc_machine.specs.Kept.{Running}
-use Rattle.oc_small.specs.Code.{small_code}
+use Rattle.oc_isa.specs.Power.{World}
+use Rattle.oc_top.specs.Meant.{program_code}
 use Rattle.oc_top.specs.Commands.{Plan, Task, command_of, task_of, task_for, with_plan, plans_of}
 use Rattle.oc_top.specs.declared.command.Command.{Command}
 use Rattle.oc_top.specs.Files.{Files, AreFiles}
@@ -27,17 +28,17 @@ use Rattle.oc_top.proofs.Honesty.{honest_throughout}
 pub ready_run : (files : Files) (plan : Plan) (machine : Running) (sensors : Told) (left : List Period) → IsReady files plan machine sensors left → IsRun files plan (runs machine.parts sensors.rows left)
 ready_run files plan machine sensors left r =
     let b = r.built in
-    let honest = honest_throughout machine.parts b.small (history sensors.rows) left r.can_run.sound b.runs r.can_run.words in
+    let honest = honest_throughout machine.parts b.written (history sensors.rows) left r.can_run.sound b.runs r.can_run.words in
     record {
-      small = b.small;
+      written = b.written;
       spelled = b.reads;
       rows = sensors.rows;
       sensed = subst (λ (i : Parts). sensor_file i.names.sensors files.sensors ≡ sensor_rows.readings sensors.rows) b.is_code r.sensed;
       periods = r.periods;
       powered = r.powered;
-      is_run = ap (λ (i : Parts). runs i sensors.rows left) b.is_code ∙ ap (λ (ps : List Period). runs (small_code b.small) sensors.rows ps) r.planned;
-      honest = subst (λ (ps : List Period). IsHonestThroughout b.small (history sensors.rows) ((power_run (device_of (small_code b.small)) (history sensors.rows) ps).report)) r.planned
-          (subst (λ (i : Parts). IsHonestThroughout b.small (history sensors.rows) ((power_run (device_of i) (history sensors.rows) left).report)) b.is_code honest);
+      is_run = ap (λ (i : Parts). runs i sensors.rows left) b.is_code ∙ ap (λ (ps : List Period). runs (program_code b.written) sensors.rows ps) r.planned;
+      honest = subst (λ (ps : List Period). IsHonestThroughout b.written (history sensors.rows) (power_run (device_of (program_code b.written)) (history sensors.rows) ps).report (power_run (device_of (program_code b.written)) (history sensors.rows) ps).state.nv) r.planned
+          (subst (λ (i : Parts). IsHonestThroughout b.written (history sensors.rows) (power_run (device_of i) (history sensors.rows) left).report (power_run (device_of i) (history sensors.rows) left).state.nv) b.is_code honest);
     }
 
 module _ {S : Type 0} (holds : List ℕ → Held) (words : List (List ℕ)) (task : Task) (unread : Type 0) (took : S → List ℕ → S → Type 0) (faults : S → ℕ) (old new : S) (end : Answer) (files : Files) (fetched : AreFiles holds words task.first files) where

@@ -17,7 +17,7 @@ use Rattle.oc_isa.specs.Image.{Parts}
 use Rattle.oc_isa.specs.Power.{first_world, power_run}
 use Rattle.oc_isa.specs.Table.{device_of}
 use Rattle.oc_outage.specs.Honest.{loses_checkpoint}
-use Rattle.oc_small.specs.Code.{small_code}
+use Rattle.oc_top.specs.Meant.{program_code}
 use Rattle.oc_top.specs.Commands.{Plan, Plans, Task, task_of, word_at}
 use Rattle.oc_top.specs.Files.{Files, limit_at, IsFile, AreFiles, IsHeld, AreHeld, AreHeldBefore, IsRefused, NotFetched}
 use Rattle.oc_top.specs.Sources.{Reading, faulty, program, ReadsAs}
@@ -46,12 +46,12 @@ of_run parts h periods = run_by (loses_checkpoint (device_of parts) h periods (f
 
 module _ (files : Files) (plan : Plan) (run : Verdict) (r : IsRun files plan run) where
   pub run_answer : is_of_run run.answer ≡ true
-  run_answer = ap (λ (v : Verdict). is_of_run v.answer) r.is_run ∙ of_run (small_code r.small) (history r.rows) (plan r.periods)
+  run_answer = ap (λ (v : Verdict). is_of_run v.answer) r.is_run ∙ of_run (program_code r.written) (history r.rows) (plan r.periods)
 
-  pub run_verdict : verdict (program r.small) files plan ≡ run
+  pub run_verdict : verdict (program r.written) files plan ≡ run
   run_verdict =
-      ap (λ (s : Readings). with_sensors (small_code r.small) s (power_file files.power) plan) r.sensed
-      ∙ ap (λ (p : Power). with_power (small_code r.small) r.rows p plan) r.powered
+      ap (λ (s : Readings). with_sensors (program_code r.written) s (power_file files.power) plan) r.sensed
+      ∙ ap (λ (p : Power). with_power (program_code r.written) r.rows p plan) r.powered
       ∙ sym r.is_run
 
 -- ---- files that are held
@@ -101,7 +101,7 @@ module _ {S : Type 0} (holds : List ℕ → Held) (words : List (List ℕ)) (tas
       sym (ap (λ (v : Verdict). v.answer) j'.is_verdict) ∙ ap (λ (r : Reading). (verdict r files task.plan).answer) (one_reading files.source j'.reading reading j'.reads reads)
 
   run_judged : (files : Files) (run : Verdict) → IsRun files task.plan run → IsJudged files task.plan run
-  run_judged files run r = record { reading = program r.small; reads = r.spelled; is_verdict = run_verdict files task.plan run r }
+  run_judged files run r = record { reading = program r.written; reads = r.spelled; is_verdict = run_verdict files task.plan run r }
 
   written_answer : (run : Verdict) → (Rose (faults old) (faults new) → ⊥) → IsWritten took faults old new run end → end ≡ run.answer
   written_answer run quiet (whole e t) = e
@@ -130,7 +130,6 @@ usage_is (answer.Unreadable word) e = absurd (omega (arith, e))
 usage_is (answer.TooLong word) e = absurd (omega (arith, e))
 usage_is (answer.Syntax line) e = absurd (omega (arith, e))
 usage_is (answer.Rule line rule) e = absurd (omega (arith, e))
-usage_is (answer.NotBuilt line) e = absurd (omega (arith, e))
 usage_is (answer.BadSensors row) e = absurd (omega (arith, e))
 usage_is (answer.BadPower row) e = absurd (omega (arith, e))
 usage_is answer.WriteFault e = absurd (omega (arith, e))
@@ -161,8 +160,7 @@ module _ (parts : Parts) (plan : Plan) where
 no_usage_verdict : (reading : Reading) (files : Files) (plan : Plan) → is_usage (verdict reading files plan).answer ≡ false
 no_usage_verdict (faulty line) files plan = refl
 no_usage_verdict (source.breaks b) files plan = refl
-no_usage_verdict (source.other line) files plan = refl
-no_usage_verdict (program p) files plan = no_usage_sensors (small_code p) plan (sensor_file (small_code p).names.sensors files.sensors) (power_file files.power)
+no_usage_verdict (program p) files plan = no_usage_sensors (program_code p) plan (sensor_file (program_code p).names.sensors files.sensors) (power_file files.power)
 
 no_usage_refused : (held : Held) (limit word : ℕ) (unread : Type 0) (end : Answer) → IsRefused held limit word unread end → is_usage end ≡ false
 no_usage_refused held limit word unread answer.Usage r = absurd r

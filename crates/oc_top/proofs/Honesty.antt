@@ -1,4 +1,4 @@
--- Reports of small programs are honest.
+-- Reports of written programs are honest.
 use Rattle.std.proofs.Common.{ℕ, ◌≤◌, ◌≡◌, ◌∙◌, sym, subst, ℤ, List, ◌++◌, true, arith, max}
 use Rattle.oc_io.specs.declared.period.Period.{Period}
 use Rattle.oc_tree.specs.Tree.{TProgram}
@@ -16,8 +16,7 @@ use Rattle.oc_outage.specs.Honest.{IsPrefixOf, EndsWith, all_on}
 use Rattle.oc_outage.proofs.Enters.{device_fit}
 use Rattle.oc_outage.proofs.Lasting.{over_exactly}
 use Rattle.oc_outage.proofs.Runs.{every_prefix_later, over_is_whole}
-use Rattle.oc_small.specs.Runs.{small_run}
-use Rattle.oc_small.specs.Meant.{RunsAs}
+use Rattle.oc_top.specs.Meant.{RunsAs, program_run, program_said}
 use Rattle.oc_top.specs.Headline.{IsHonest, IsHonestThroughout}
 
 later_left : (a b : ℕ) → a ≤ max a b
@@ -33,18 +32,21 @@ module _ (parts : Parts) (p : TProgram) (h : ℕ → ℕ → ℤ) (periods : Lis
       let n = max (all_on periods) run.0 in
       let late = every_prefix_later (device_of parts) h (device_fit parts) words periods front rest n (later_left (all_on periods) run.0) sound e in
       record {
-        said = subst (λ (all : List Said). IsPrefixOf (marked front) all) (run.1 n (later_right (all_on periods) run.0)) late.said;
+        said = subst (λ (all : List Said). IsPrefixOf (marked front) all) (run.1 n (later_right (all_on periods) run.0)).0 late.said;
         outside = late.outside;
         read = late.read;
       }
 
-  whole_said : (how : Ending) → EndsWith (power_run (device_of parts) h periods).report (Ended how) → marked (power_run (device_of parts) h periods).report ≡ small_run p (kept_samples (power_run (device_of parts) h periods).report)
-  whole_said how e =
-      let report = (power_run (device_of parts) h periods).report in
+  abbrev report : List Told
+  report = (power_run (device_of parts) h periods).report
+
+  whole : (how : Ending) → EndsWith report (Ended how) → (marked report ≡ program_said p (kept_samples report)) × ((power_run (device_of parts) h periods).state.nv ≡ (program_run p (kept_samples report)).nv)
+  whole how e =
       let w = over_is_whole (device_of parts) h (device_fit parts) words periods how sound ((over_exactly (device_of parts) h periods how).1 e) in
       let run = runs_as (kept_samples report) in
       let n = max (all_on periods) run.0 in
-      sym (w.said n (later_left (all_on periods) run.0)) ∙ run.1 n (later_right (all_on periods) run.0)
+      let shown = run.1 n (later_right (all_on periods) run.0) in
+      (sym (w.said n (later_left (all_on periods) run.0)) ∙ shown.0, sym (w.left n (later_left (all_on periods) run.0)) ∙ shown.1)
 
-  pub honest_throughout : IsHonestThroughout p h ((power_run (device_of parts) h periods).report)
-  honest_throughout = record { honest = front_honest; whole = whole_said }
+  pub honest_throughout : IsHonestThroughout p h report (power_run (device_of parts) h periods).state.nv
+  honest_throughout = record { honest = front_honest; whole = whole }

@@ -10,10 +10,8 @@ use Rattle.oc_grammar.specs.Lexemes.{Lexemes, lexemes_of}
 use Rattle.oc_grammar.specs.Programs.{SpellsProgram}
 use Rattle.oc_grammar.proofs.ProgramLaws.{one_program}
 use Rattle.oc_grammar.proofs.OneFault.{spelled_no_syntax, spelled_no_depth, one_syntax, syntax_or_depth, one_depth}
-use Rattle.oc_small.specs.Form.{other_line}
-use Rattle.oc_small.specs.Rules.{is_small}
 use Rattle.oc_top.specs.Faults.{HasFaultAt, token_line}
-use Rattle.oc_top.specs.Sources.{Reading, faulty, breaks, other, program, place_of, line_at, IsFaulty, no_tokens, no_tree, Spells, ReadsAs}
+use Rattle.oc_top.specs.Sources.{Reading, faulty, breaks, program, place_of, line_at, IsFaulty, no_tokens, no_tree, Spells, ReadsAs}
 
 -- tokens have one fault, and none where they spell a program
 one_fault : (tokens : Lexemes) (a b : ℕ) → HasFaultAt tokens a → HasFaultAt tokens b → a ≡ b
@@ -56,17 +54,10 @@ module _ (text : List ℕ) where
   pub one_reading : (r s : Reading) → ReadsAs text r → ReadsAs text s → r ≡ s
   one_reading (faulty m) (faulty n) a b = ap faulty (one_line m n a b)
   one_reading (faulty m) (breaks n) a b = absurd (not_faulty m b.0 b.1 a)
-  one_reading (faulty m) (other n) a b = absurd (not_faulty m b.0 b.1 a)
   one_reading (faulty m) (program q) a b = absurd (not_faulty m q b.0 a)
   one_reading (breaks m) (faulty n) a b = absurd (not_faulty n a.0 a.1 b)
   one_reading (breaks m) (breaks n) a b = let e = sym a.2 ∙ same_broken a.0 b.0 a.1 b.1 ∙ b.2 in ap breaks (some_same m n e)
-  one_reading (breaks m) (other n) a b = let e = sym a.2 ∙ same_broken a.0 b.0 a.1 b.1 ∙ b.2 in cc e
   one_reading (breaks m) (program q) a b = let e = sym a.2 ∙ same_broken a.0 q a.1 b.0 ∙ b.1 in cc e
-  one_reading (other m) (faulty n) a b = absurd (not_faulty n a.0 a.1 b)
-  one_reading (other m) (breaks n) a b = let e = sym b.2 ∙ same_broken b.0 a.0 b.1 a.1 ∙ a.2 in cc e
-  one_reading (other m) (other n) a b = ap other (a.4 ∙ ap other_line (same_program a.0 b.0 a.1 b.1) ∙ sym b.4)
-  one_reading (other m) (program q) a b = let e = sym a.3 ∙ ap is_small (same_program a.0 q a.1 b.0) ∙ b.2 in cc e
   one_reading (program p) (faulty n) a b = absurd (not_faulty n p a.0 b)
   one_reading (program p) (breaks n) a b = let e = sym b.2 ∙ same_broken b.0 p b.1 a.0 ∙ a.1 in cc e
-  one_reading (program p) (other n) a b = let e = sym b.3 ∙ ap is_small (same_program b.0 p b.1 a.0) ∙ a.2 in cc e
   one_reading (program p) (program q) a b = ap program (same_program p q a.0 b.0)

@@ -15,9 +15,7 @@ use Rattle.oc_isa.specs.Power.{power_run}
 use Rattle.oc_isa.specs.Table.{device_of}
 use Rattle.oc_items.specs.Erase.{erase, marked, kept_samples, HasNoOffInside}
 use Rattle.oc_outage.specs.Honest.{IsPrefixOf, AreRead, EndsWith}
-use Rattle.oc_small.specs.Rules.{sensors_of}
-use Rattle.oc_small.specs.Code.{small_code}
-use Rattle.oc_small.specs.Runs.{small_run}
+use Rattle.oc_top.specs.Meant.{program_code, program_run, program_said}
 use Rattle.oc_top.specs.Commands.{Plan}
 use Rattle.oc_top.specs.Files.{Files}
 use Rattle.oc_top.specs.Sources.{ReadsAs, program}
@@ -26,23 +24,23 @@ use Rattle.oc_top.specs.Verdict.{Verdict, runs}
 -- without its aborted attempts, the report says what the program says over the kept samples, or a prefix of it; no outage
 -- lies in a region; and each input has what its sensor had at that tick
 pub record IsHonest (p : TProgram) (h : ℕ → ℕ → ℤ) (report : List Told) : Type 0 where
-  pub said : IsPrefixOf (marked report) (small_run p (kept_samples report))
+  pub said : IsPrefixOf (marked report) (program_said p (kept_samples report))
   pub outside : HasNoOffInside false (erase report)
   pub read : AreRead h report
 
--- every prefix of a report is honest, and a report that ends is the whole run
-pub record IsHonestThroughout (p : TProgram) (h : ℕ → ℕ → ℤ) (report : List Told) : Type 0 where
+-- every prefix of a report is honest, and a report that ends is the whole run and leaves its nonvolatile words
+pub record IsHonestThroughout (p : TProgram) (h : ℕ → ℕ → ℤ) (report : List Told) (nv : List ℤ) : Type 0 where
   pub honest : (front rest : List Told) → front ++ rest ≡ report → IsHonest p h front
-  pub whole : (how : Ending) → EndsWith report (Ended how) → marked report ≡ small_run p (kept_samples report)
+  pub whole : (how : Ending) → EndsWith report (Ended how) → (marked report ≡ program_said p (kept_samples report)) × (nv ≡ (program_run p (kept_samples report)).nv)
 
--- a run of the small program that a source spells, over what the sensors showed and the periods that the supply told:
+-- a run of the program that a source spells, over what the sensors showed and the periods that the supply told:
 -- its answer and its text are those of the report, and the report is honest
 pub record IsRun (files : Files) (plan : Plan) (run : Verdict) : Type 0 where
-  pub small : TProgram
-  pub spelled : ReadsAs files.source (program small)
+  pub written : TProgram
+  pub spelled : ReadsAs files.source (program written)
   pub rows : List Row
-  pub sensed : sensor_file (sensors_of small) files.sensors ≡ sensor_rows.readings rows
+  pub sensed : sensor_file written.names.sensors files.sensors ≡ sensor_rows.readings rows
   pub periods : List Period
   pub powered : power_file files.power ≡ power_rows.periods periods
-  pub is_run : run ≡ runs (small_code small) rows (plan periods)
-  pub honest : IsHonestThroughout small (history rows) ((power_run (device_of (small_code small)) (history rows) (plan periods)).report)
+  pub is_run : run ≡ runs (program_code written) rows (plan periods)
+  pub honest : IsHonestThroughout written (history rows) (power_run (device_of (program_code written)) (history rows) (plan periods)).report (power_run (device_of (program_code written)) (history rows) (plan periods)).state.nv

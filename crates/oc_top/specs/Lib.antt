@@ -3,6 +3,7 @@ pub mod Files
 pub mod Faults
 pub mod Sources
 pub mod Reports
+pub mod Meant
 pub mod Verdict
 pub mod Headline
 pub mod Answers

@@ -1,5 +1,5 @@
 -- What a source is.
-use Rattle.std.specs.Prelude.{ℕ, ◌+◌, ◌≡◌, true, false, List, Some, None, take}
+use Rattle.std.specs.Prelude.{ℕ, ◌+◌, ◌≡◌, List, Some, None, take}
 use Rattle.oc_tree.specs.Tree.{TProgram}
 use Rattle.oc_tree.specs.Broken.{broken}
 use Rattle.oc_tree.specs.declared.broken.Broken.{Broken}
@@ -10,16 +10,13 @@ use Rattle.oc_lex.specs.declared.lexer.LexError.TheVariants as fault
 use Rattle.oc_grammar.specs.Limits.{the_depths}
 use Rattle.oc_grammar.specs.Lexemes.{lexemes_of}
 use Rattle.oc_grammar.specs.Programs.{SpellsProgram}
-use Rattle.oc_small.specs.Form.{other_line}
-use Rattle.oc_small.specs.Rules.{is_small}
 use Rattle.oc_top.specs.Faults.{HasFaultAt, token_line}
 
--- No program: the first fault is in this line. A program that breaks a rule: the first one that it breaks. A program that
--- isn't small, which is told by this line. Or the small program that it spells
+-- No program: the first fault is in this line. A program that breaks a rule: the first one that it breaks. Or the program
+-- that it spells, which breaks none
 pub data Reading : Type 0 where
   faulty : (line : ℕ) → Reading
   breaks : Broken → Reading
-  other : (line : ℕ) → Reading
   program : TProgram → Reading
 
 abbrev pub place_of : LexError → ℕ
@@ -46,5 +43,4 @@ pub record Spells (source : List ℕ) (p : TProgram) : Type 0 where
 abbrev pub ReadsAs : List ℕ → Reading → Type 0
 ReadsAs source (faulty line) = IsFaulty source line
 ReadsAs source (breaks b) = (p : TProgram) × Spells source p × (broken p ≡ Some b)
-ReadsAs source (other line) = (p : TProgram) × Spells source p × (broken p ≡ None) × (is_small p ≡ false) × (line ≡ other_line p)
-ReadsAs source (program p) = Spells source p × (broken p ≡ None) × (is_small p ≡ true)
+ReadsAs source (program p) = Spells source p × (broken p ≡ None)

@@ -26,12 +26,11 @@ use Rattle.oc_isa.specs.Power.{first_state}
 use Rattle.oc_isa.specs.Run.{IsSound}
 use Rattle.oc_isa.specs.Table.{device_of}
 use Rattle.oc_machine.specs.Kept.{Running}
-use Rattle.oc_small.specs.Code.{small_code}
-use Rattle.oc_small.specs.Meant.{RunsAs}
+use Rattle.oc_top.specs.Meant.{program_code, RunsAs}
 use Rattle.oc_top.specs.Commands.{Plan}
 use Rattle.oc_top.specs.Files.{Files}
 use Rattle.oc_top.specs.Faults.{token_line}
-use Rattle.oc_top.specs.Sources.{Reading, ReadsAs, Spells, faulty, breaks, other, program, line_at}
+use Rattle.oc_top.specs.Sources.{Reading, ReadsAs, Spells, faulty, breaks, program, line_at}
 use Rattle.oc_top.specs.Verdict.{verdict, is_of_run, refuses}
 use Rattle.oc_top.specs.declared.answer.Answer.{Answer}
 use Rattle.oc_top.specs.declared.answer.Answer.TheVariants as answer
@@ -66,19 +65,18 @@ pub record IsAccepted (source : List ℕ) (p : TProgram) : Type 0 where
   pub spelled : Spells source p
   pub unbroken : broken p ≡ None
 
--- the image of the small program that a source spells
+-- the image of the program that a source spells
 pub record IsBuilt (source : List ℕ) (parts : Parts) : Type 0 where
-  pub small : TProgram
-  pub reads : ReadsAs source (program small)
-  pub is_code : parts ≡ small_code small
+  pub written : TProgram
+  pub reads : ReadsAs source (program written)
+  pub is_code : parts ≡ program_code written
   pub sound : IsSound (device_of parts)
-  pub runs : RunsAs parts small
+  pub runs : RunsAs parts written
 
 -- why there is no image of a source
 abbrev pub IsNotBuilt : List ℕ → Answer → Type 0
 IsNotBuilt source (answer.Syntax line) = ReadsAs source (faulty line)
 IsNotBuilt source (answer.Rule line rule) = ReadsAs source (breaks (record { line = line; rule = rule }))
-IsNotBuilt source (answer.NotBuilt line) = ReadsAs source (other line)
 IsNotBuilt source answer.Memory = Unit {0}
 IsNotBuilt source end = ⊥
 

@@ -10,7 +10,7 @@ use Rattle.oc_sensors.specs.History.{history}
 use Rattle.oc_isa.specs.Image.{Parts}
 use Rattle.oc_isa.specs.Power.{power_run}
 use Rattle.oc_isa.specs.Table.{device_of}
-use Rattle.oc_small.specs.Code.{small_code}
+use Rattle.oc_top.specs.Meant.{program_code}
 use Rattle.oc_top.specs.Commands.{Plan}
 use Rattle.oc_top.specs.Files.{Files}
 use Rattle.oc_top.specs.Sources.{Reading, faulty, program}
@@ -58,5 +58,4 @@ with_parts parts files plan = with_sensors parts (sensor_file parts.names.sensor
 abbrev pub verdict : Reading → Files → Plan → Verdict
 verdict (faulty line) files plan = refuses (answer.Syntax line)
 verdict (source.breaks b) files plan = refuses (answer.Rule b.line b.rule)
-verdict (source.other line) files plan = refuses (answer.NotBuilt line)
-verdict (program p) files plan = with_parts (small_code p) files plan
+verdict (program p) files plan = with_parts (program_code p) files plan

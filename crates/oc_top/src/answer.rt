@@ -22,8 +22,6 @@ pub enum Answer {
     Syntax { line: usize },
     /// The first element of the program that breaks a rule, and the lowest rule that it breaks.
     Rule { line: u32, rule: u8 },
-    /// The source is a program, and no small one.
-    NotBuilt { line: u32 },
     /// The first bad row of the sensor file.
     BadSensors { row: u64 },
     /// The first bad row of the power file.
@@ -60,7 +58,6 @@ pub fn status(answer: Answer) -> u8
         Answer::WriteFault => 10,
         Answer::Memory => 11,
         Answer::Cut => 12,
-        Answer::NotBuilt { .. } => 13,
     }
 }
 
@@ -103,10 +100,6 @@ fn put_line_of<E: Sink>(answer: Answer, words: &[String], err: &mut E) -> Result
                 err,
                 &[b"ocelot: rule ", rule, b" broken in line ", line, b"\n"],
             )
-        }
-        Answer::NotBuilt { line } => {
-            let line = number.format(line).as_bytes();
-            put_pieces(err, &[b"ocelot: not built in line ", line, b"\n"])
         }
         Answer::BadSensors { row } => {
             let row = number.format(row).as_bytes();

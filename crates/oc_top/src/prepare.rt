@@ -1,6 +1,7 @@
 //! The steps before the first byte is written.
 ghost use Rattle.std.specs.Prelude.{◌≡◌, ◌≤◌, ℕ, List, length, IfOk, IfErr};
 ghost use Rattle.oc_tree.specs.View.{program_view};
+ghost use Rattle.oc_tree.specs.Expansion.{expansion};
 ghost use Rattle.oc_tree.specs.Form.{InForm};
 ghost use Rattle.oc_tree.specs.Nodes.{program_nodes};
 ghost use Rattle.oc_lex.specs.Stands.{IsName};
@@ -16,6 +17,8 @@ ghost use Rattle.oc_top.specs.declared.answer.Answer.TheVariants as answers;
 use crate::answer::Answer;
 use crate::files::Fetched;
 use oc_io::Memory;
+use oc_codegen::compile;
+use oc_desugar::expand;
 use oc_isa::image::Image;
 use oc_lex::{LexError, Token, lex};
 use oc_machine::machine::Machine;
@@ -24,7 +27,7 @@ use oc_power::power::{PowerError, read_power};
 use oc_power::supply::Supply;
 use oc_sensors::file::{SensorError, read_sensors};
 use oc_sensors::sensors::Sensors;
-use oc_small::{CompileError, compile};
+use oc_tree::checked::Checked;
 use oc_tree::tree::Program;
 use oc_tree::written::Written;
 use oc_types::{RuleError, check};
@@ -165,18 +168,27 @@ fn written(alloc: Global, source: &[u8]) -> Result<Written, Answer>
     }
 }
 
-/// The image of the small program that a source spells.
+/// The checked program of a written one.
+fn checked(alloc: Global, written: Written) -> Result<Checked, Answer>
+    ensures expanded { IfOk result (λ c. c.program ≡ expansion written) }
+    ensures memory { IfErr result (λ a. a ≡ answers.Memory) }
+{
+    match expand(alloc, written) {
+        Ok(checked) => Ok(checked),
+        Err(_) => Err(Answer::Memory),
+    }
+}
+
+/// The image of the program that a source spells.
 fn build(alloc: Global, source: &[u8]) -> Result<Image, Answer>
     requires { length source.now ≤ 1048576 }
     ensures built { IfOk result (λ i. IsBuilt source.now i) }
     ensures refused { IfErr result (λ a. IsNotBuilt source.now a) }
 {
     let written = written(alloc, source)?;
-    match compile(alloc, written.program()) {
-        Ok(image) => Ok(image),
-        Err(CompileError::NotSmall { line }) => Err(Answer::NotBuilt { line }),
-        Err(CompileError::Memory) => Err(Answer::Memory),
-    }
+    let checked = checked(alloc, written)?;
+    let image = compile(alloc, &checked)?;
+    Ok(image)
 }
 
 /// The sensors of an image, which show the rows of a sensor file.

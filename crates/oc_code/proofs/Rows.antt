@@ -70,7 +70,7 @@ program nvs nv functions = record {
 }
 
 abbrev region : ℕ → ℕ → ℕ → List TRegion
-region function first last = record { id = 1; function = function; block = 1; first = first; last = last } ∷ []
+region function first last = record { id = 1; function = function; block = 1; first = first; last = last; reasons = [] } ∷ []
 
 abbrev plus : TExpr → TExpr → TExpr
 plus = binary ops.Add
@@ -296,7 +296,7 @@ code_says_fresh_result : code_says fresh_result (region 0 1 3) (pos 9 ∷ []) 60
 code_says_fresh_result = refl
 
 abbrev nested : List TRegion
-nested = record { id = 1; function = 0; block = 1; first = 1; last = 3 } ∷ record { id = 2; function = 1; block = 2; first = 4; last = 5 } ∷ []
+nested = record { id = 1; function = 0; block = 1; first = 1; last = 3; reasons = [] } ∷ record { id = 2; function = 1; block = 2; first = 4; last = 5; reasons = [] } ∷ []
 
 -- only the outermost region tells
 said_of_nested : said_in (marked_run fresh_result nested (pos 9 ∷ []))

@@ -1,1 +1,1 @@
-mod Ranks
+pub mod Ranks

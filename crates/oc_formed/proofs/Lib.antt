@@ -1,1 +1,5 @@
 mod Ranks
+pub mod BodiesPass
+pub mod BodiesPlaces
+pub mod ScopesSeen
+pub mod ScopesStart

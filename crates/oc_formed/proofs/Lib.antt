@@ -1,3 +1,6 @@
-pub mod Ranks
 pub mod BodiesPass
+pub mod BodiesPlaces
+pub mod ScopesSeen
+pub mod ScopesStart
+pub mod Ranks
 pub mod CallLinks

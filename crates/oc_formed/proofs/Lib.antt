@@ -4,3 +4,4 @@ pub mod ScopesSeen
 pub mod ScopesStart
 pub mod Ranks
 pub mod CallLinks
+pub mod Declared

@@ -5,3 +5,5 @@ pub mod ScopesStart
 pub mod Ranks
 pub mod CallLinks
 pub mod Declared
+pub mod Mains
+pub mod Amounts

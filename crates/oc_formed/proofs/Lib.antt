@@ -7,3 +7,4 @@ pub mod CallLinks
 pub mod Declared
 pub mod Mains
 pub mod Amounts
+pub mod CallsFall

@@ -3,3 +3,4 @@ pub mod BodiesPass
 pub mod BodiesPlaces
 pub mod ScopesSeen
 pub mod ScopesStart
+pub mod BodiesArguments

@@ -1,6 +1,7 @@
-mod Ranks
 pub mod BodiesPass
 pub mod BodiesPlaces
 pub mod ScopesSeen
 pub mod ScopesStart
+pub mod Ranks
+pub mod CallLinks
 pub mod BodiesArguments

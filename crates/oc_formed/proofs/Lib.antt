@@ -5,3 +5,4 @@ pub mod ScopesStart
 pub mod Ranks
 pub mod CallLinks
 pub mod BodiesArguments
+pub mod BodiesCalls

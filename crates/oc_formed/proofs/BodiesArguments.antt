@@ -1,6 +1,6 @@
 -- Arguments that meet their parameters have the forms in which the code passes them.
-use Rattle.std.proofs.Common.{◌≡◌, ◌<◌, ◌≤◌, ℕ, zero, suc, ◌+◌, Bool, true, false, true≢false, List, [], ◌∷◌, length, Option, Some, None, cond, refl, ap, sym, subst, ◌∙◌, arith}
-use Rattle.std.specs.Prelude.{is_some, ◌&&◌, ◌||◌, ◌==◌, nat_lt}
+use Rattle.std.proofs.Common.{◌≡◌, ◌≤◌, ℕ, Bool, true, false, true≢false, List, [], ◌∷◌, length, Option, Some, None, cond, refl, ap, sym, ◌∙◌, arith}
+use Rattle.std.specs.Prelude.{is_some, nat_lt}
 use Rattle.std.specs.List.{list_all, list_any}
 use Rattle.std.proofs.lemmas.Bool.{eqb-true, ltb-false}
 use Rattle.std.proofs.lemmas.Option.{none-some}
@@ -16,13 +16,13 @@ use Rattle.oc_tree.specs.declared.tree.Passing.TheVariants as passings
 use Rattle.oc_tree.specs.declared.scope.Origin.{Origin}
 use Rattle.oc_tree.specs.declared.scope.Var.{Var}
 use Rattle.oc_tree.specs.Scope.{Scope, variable_of}
-use Rattle.oc_tree.specs.Types.{is_reference, scalar_of, is_same, is_same_kind, value_type, pointed_type, type_of}
+use Rattle.oc_tree.specs.Types.{is_reference, scalar_of, is_same, is_same_kind, value_type, type_of}
 use Rattle.oc_tree.specs.Rules.{only_reference, passed_on, has_kind, origin_is, is_mutable_param, is_writable, value_meets, shared_meets, mutable_meets, arg_meets, args_meet, args_list, is_bad_length, has_bad_length, arg_lends}
-use Rattle.oc_code.specs.Scope.{Slot, Named, named, slot_of, address_slot, passed_slot, kind_words}
+use Rattle.oc_code.specs.Scope.{Named, named, slot_of, address_slot, passed_slot, kind_words}
 use Rattle.oc_code.specs.Formed.{IsLent, NamesLent, NamesWritable, IsPassed, ArePassed}
 use Rattle.oc_desugar.proofs.KeptExpressions.{first_holds, second_holds}
 use Rattle.oc_formed.proofs.BodiesPass.{first_fails, second_fails}
-use Rattle.oc_formed.proofs.ScopesSeen.{Finds, AllFound, code_writes, writes_own, writes_through, same_some}
+use Rattle.oc_formed.proofs.ScopesSeen.{AllFound, code_writes, writes_own, writes_through, same_some}
 
 -- ---- kinds and types
 

@@ -1,13 +1,12 @@
 -- Calls that break no rule are formed, and so are right sides.
-use Rattle.std.proofs.Common.{◌≡◌, ◌<◌, ℕ, Bool, true, false, List, [], ◌∷◌, ◌++◌, length, Option, Some, None, refl, ap, sym, subst, ◌∙◌}
+use Rattle.std.proofs.Common.{◌≡◌, ◌<◌, ℕ, true, false, List, [], ◌∷◌, length, Some, ap, sym, subst, ◌∙◌}
 use Rattle.std.specs.Prelude.{is_some, slice_get, ◌&&◌, ◌==◌}
 use Rattle.std.specs.List.{list_any, flat_map}
 use Rattle.std.proofs.lemmas.Bool.{eqb-true}
 use Rattle.oc_tree.specs.Names.{Text}
 use Rattle.oc_tree.specs.Tree.{TCall, call, TRight, right_value, right_sense, right_call, TKind, TFunction, TProgram}
 use Rattle.oc_tree.specs.Marked.{TRegion}
-use Rattle.oc_tree.specs.Calls.{function_place, callee, args_calls, call_calls, right_calls, own_calls, block_kinds, body_calls}
-use Rattle.oc_tree.specs.Scope.{is_among}
+use Rattle.oc_tree.specs.Calls.{function_place, callee, args_calls, call_calls, right_calls, own_calls, body_calls}
 use Rattle.oc_tree.specs.Types.{result_of}
 use Rattle.oc_tree.specs.Elements.{Here}
 use Rattle.oc_tree.specs.Rules.{call_known, args_known, right_known, is_main, args_meet, args_list, params_of, has_bad_length}

@@ -6,3 +6,6 @@ pub mod Ranks
 pub mod CallLinks
 pub mod BodiesArguments
 pub mod BodiesCalls
+pub mod BodiesKinds
+pub mod BodiesStatements
+pub mod BodiesFormed

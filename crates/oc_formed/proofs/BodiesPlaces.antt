@@ -1,11 +1,11 @@
 -- Names of the top level: what the rules find by its place, the code and the meaning find by its name.
-use Rattle.std.proofs.Common.{◌≡◌, ◌<◌, ◌≤◌, ℕ, zero, suc, ◌+◌, Bool, true, false, true≢false, List, [], ◌∷◌, length, Option, Some, None, cond, refl, ap, sym, subst, ◌∙◌, arith}
+use Rattle.std.proofs.Common.{◌≡◌, ◌<◌, ℕ, suc, ◌+◌, Bool, true, false, true≢false, List, [], ◌∷◌, length, Some, cond, refl, ap, sym, ◌∙◌, arith}
 use Rattle.std.specs.Prelude.{is_some, slice_get, if◌then◌else◌, option_and_then}
 use Rattle.std.specs.Str.{bytes_eq}
 use Rattle.std.proofs.lemmas.Slice.Eq.{bytes_eq-Decides}
 use Rattle.oc_tree.specs.Names.{Text}
 use Rattle.oc_tree.specs.Tree.{TFunction, TProgram}
-use Rattle.oc_tree.specs.Calls.{place_from, place, function_place, function_names}
+use Rattle.oc_tree.specs.Calls.{place_from, function_place, function_names}
 use Rattle.oc_tree.specs.Scope.{is_among, function_named}
 use Rattle.oc_meaning.specs.Exec.{number_in}
 use Rattle.oc_meaning.specs.Run as meaning

@@ -46,7 +46,7 @@ module _ (P : TCall → Type 0) where
   all_calls (k ∷ ks) h = each_join (own_calls k) (flat_map own_calls ks) h.0 (all_calls ks h.1)
 
 -- without a name nothing is hidden
-none_hides : (k : TKind) → kind_hides None k ≡ false
+pub none_hides : (k : TKind) → kind_hides None k ≡ false
 none_hides (let_to m x t r) = refl
 none_hides (let_array m x t z n) = refl
 none_hides (assign x r) = refl

@@ -12,21 +12,18 @@ use Rattle.oc_tree.specs.Broken.{broken}
 use Rattle.oc_tree.specs.Form.{DeclaredInOrder}
 use Rattle.oc_tree.proofs.ReachLaws.{or_left, or_right}
 use Rattle.oc_code.proofs.Lets.{same_eq}
-use Rattle.oc_desugar.proofs.FineCalls.{Each, each_front, each_back}
+use Rattle.oc_desugar.proofs.FineCalls.{Each}
 use Rattle.oc_formed.proofs.Ranks.{rank_at, rank_of, Onwards, falls, rank_small}
-use Rattle.oc_formed.proofs.CallLinks.{KindsCall, any_append, body_away, links_onwards}
+use Rattle.oc_formed.proofs.CallLinks.{any_append, body_away, links_onwards}
 use Rattle.oc_formed.proofs.BodiesPass.{function_fine}
 use Rattle.oc_formed.proofs.BodiesPlaces.{Called}
+use Rattle.oc_formed.proofs.BodiesCalls.{Lower, RanksFall}
 use Rattle.oc_formed.proofs.Declared.{AllWithin}
 use Rattle.oc_formed.proofs.Mains.{own_place, main_called}
 
 each_map : (P Q : TCall → Type 0) → ((c : TCall) → P c → Q c) → (cs : List TCall) → Each P cs → Each Q cs
 each_map P Q f [] h = tt
 each_map P Q f (c ∷ cs) h = (f c h.0, each_map P Q f cs h.1)
-
-pub each_kinds : (P : TCall → Type 0) (ks : List TKind) → Each P (flat_map own_calls ks) → KindsCall P ks
-each_kinds P [] h = tt
-each_kinds P (k ∷ ks) h = (each_front P (own_calls k) (flat_map own_calls ks) h, each_kinds P ks (each_back P (own_calls k) (flat_map own_calls ks) h))
 
 -- ---- calls are links
 
@@ -65,28 +62,21 @@ module _ (names : List Text) where
 
 -- ---- ranks
 
--- a call in a function, where the called function exists, goes to a lower rank
-abbrev pub Falls : TProgram → TFunction → TCall → Type 0
-Falls p f c = (v : ℕ) → function_place p.functions (callee c) ≡ Some v → rank_of p.functions (callee c) < rank_of p.functions f.name
-
 module _ (p : TProgram) (unbroken : broken p ≡ None) (declared : DeclaredInOrder p) (within : AllWithin p) where
   onwards : Onwards (call_links p.functions) (length p.functions)
   onwards = links_onwards p (λ u f e. body_away p u f (function_fine p unbroken declared u f e).body)
 
-  pub calls_fall : (u : ℕ) (f : TFunction) → slice_get p.functions u ≡ Some f → Each (Falls p f) (body_calls f)
-  calls_fall u f e =
+  pub ranks_fall : RanksFall p (rank_of p.functions)
+  ranks_fall u f e =
       let fs = p.functions in
       let names = function_names fs in
       let start : 0 + u ≡ u = omega arith in
       let own : rank_of fs f.name ≡ rank (call_links fs) (length fs) u = ap (rank_at fs) (own_place p within u f e) in
-      let lower : (c : TCall) → LinkedIn names (map (λ a. (u, a)) (called_places names (body_calls f))) u c → Falls p f c = λ c linked_in v at.
+      let linked_so = LinkedIn names (map (λ a. (u, a)) (called_places names (body_calls f))) u in
+      let lower : (c : TCall) → LinkedIn names (map (λ a. (u, a)) (called_places names (body_calls f))) u c → Lower p (rank_of fs) (rank_of fs f.name) c = λ c linked_in v g at stands.
           let link : linked (call_links fs) u v ≡ true = from_linked names 0 fs u f u v e (subst (λ m. linked (map (λ a. (m, a)) (called_places names (body_calls f))) u v ≡ true) (sym start) (linked_in v at)) in
-          omega (arith, falls (call_links fs) (length fs) onwards u v link, own, ap (rank_at fs) at) in
-      each_map (LinkedIn names (map (λ a. (u, a)) (called_places names (body_calls f))) u) (Falls p f) lower (body_calls f) (row_linked names u (body_calls f))
-
-  -- the same, statement by statement
-  pub statements_fall : (u : ℕ) (f : TFunction) → slice_get p.functions u ≡ Some f → KindsCall (Falls p f) (block_kinds None f.body)
-  statements_fall u f e = each_kinds (Falls p f) (block_kinds None f.body) (calls_fall u f e)
+          omega (arith, falls (call_links fs) (length fs) onwards u v link, own, ap (rank_at fs) (own_place p within v g stands)) in
+      each_map linked_so (Lower p (rank_of fs) (rank_of fs f.name)) lower (body_calls f) (row_linked names u (body_calls f))
 
   -- the rank of `main` is less than the number of functions
   pub main_low : rank_of p.functions (codes "main") < length p.functions

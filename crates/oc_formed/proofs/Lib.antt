@@ -7,4 +7,9 @@ pub mod CallLinks
 pub mod Declared
 pub mod Mains
 pub mod Amounts
+pub mod BodiesArguments
+pub mod BodiesCalls
+pub mod BodiesKinds
+pub mod BodiesStatements
+pub mod BodiesFormed
 pub mod CallsFall

@@ -1,20 +1,19 @@
 -- What the rules let statements see, the code finds: each visible variable, of its words, by an address just where it is
 -- a reference, and writable where the rules let it be written.
-use Rattle.std.proofs.Common.{◌≡◌, ℕ, ◌+◌, Bool, true, false, true≢false, List, [], ◌∷◌, ◌++◌, Option, Some, None, cond, refl, ap, sym, subst, ◌∙◌}
+use Rattle.std.proofs.Common.{◌≡◌, Bool, true, false, true≢false, List, [], ◌∷◌, Option, Some, None, cond, refl, ap, sym, subst, ◌∙◌}
 use Rattle.std.specs.Prelude.{is_some, if◌then◌else◌, ◌||◌}
 use Rattle.std.specs.Str.{bytes_eq}
 use Rattle.std.proofs.lemmas.Slice.Eq.{bytes_eq-Decides}
 use Rattle.oc_tree.specs.Names.{Text}
 use Rattle.oc_tree.specs.Tree.{TProgram}
-use Rattle.oc_tree.specs.declared.tree.Passing.{Passing}
 use Rattle.oc_tree.specs.declared.tree.Passing.TheVariants as passings
 use Rattle.oc_tree.specs.declared.scope.Origin.{Origin}
 use Rattle.oc_tree.specs.declared.scope.Origin.TheVariants as origins
 use Rattle.oc_tree.specs.declared.scope.Var.{Var}
 use Rattle.oc_tree.specs.Scope.{Scope, variable_in, variable_of, is_in_scope, is_declared, is_taken, or_nv}
-use Rattle.oc_tree.specs.Types.{is_by_reference, is_reference}
+use Rattle.oc_tree.specs.Types.{is_reference}
 use Rattle.oc_tree.specs.Rules.{is_mutable_param, is_writable, is_writable_array}
-use Rattle.oc_code.specs.Scope.{Slot, Named, named, address_slot, kind_words, may_write}
+use Rattle.oc_code.specs.Scope.{Named, named, address_slot, kind_words, may_write}
 use Rattle.oc_desugar.proofs.KeptScopes.{with_var, not_found}
 use Rattle.oc_formed.proofs.BodiesPass.{first_fails}
 

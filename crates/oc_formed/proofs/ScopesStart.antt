@@ -1,6 +1,6 @@
 -- At the start of a function's body the code finds its parameters and the nonvolatile variables.
-use Rattle.std.proofs.Common.{◌≡◌, ◌≤◌, ℕ, zero, suc, ◌+◌, Bool, true, false, true≢false, List, [], ◌∷◌, Option, Some, None, cond, refl, ap, sym, subst, ◌∙◌, arith}
-use Rattle.std.specs.Prelude.{is_some, if◌then◌else◌, ◌||◌, slice_get, option_map, option_and_then}
+use Rattle.std.proofs.Common.{◌≡◌, ◌≤◌, ℕ, zero, suc, ◌+◌, Bool, true, false, List, [], ◌∷◌, Option, Some, None, cond, refl, ap, sym, subst, ◌∙◌, arith}
+use Rattle.std.specs.Prelude.{is_some, if◌then◌else◌, slice_get, option_map, option_and_then}
 use Rattle.std.specs.List.{All}
 use Rattle.std.specs.Str.{bytes_eq}
 use Rattle.std.proofs.lemmas.Option.{none-some}
@@ -12,10 +12,9 @@ use Rattle.oc_tree.specs.declared.tree.Param.{Param}
 use Rattle.oc_tree.specs.declared.tree.Passing.{Passing}
 use Rattle.oc_tree.specs.declared.tree.Passing.TheVariants as passings
 use Rattle.oc_tree.specs.declared.tree.ValueKind.TheVariants as kinds
-use Rattle.oc_tree.specs.declared.scope.Var.{Var}
 use Rattle.oc_tree.specs.Form.{NvInForm, CellsInForm}
 use Rattle.oc_tree.specs.Calls.{place_from, place}
-use Rattle.oc_tree.specs.Scope.{Scope, is_taken, nv_kind, nv_var, nv_named, param_var, with_param, with_params, takes_param}
+use Rattle.oc_tree.specs.Scope.{Scope, is_taken, nv_kind, nv_var, param_var, with_param, with_params, takes_param}
 use Rattle.oc_tree.specs.Types.{is_by_reference}
 use Rattle.oc_code.specs.Scope.{InNv, Named, named, address_slot, kind_words, param_slot, may_write, params_scope, nv_scope, function_scope}
 use Rattle.oc_formed.proofs.BodiesPass.{first_fails, second_fails}

@@ -103,6 +103,7 @@ words_in ds = sum_by (λ d. d.words) ds
 pub record HeadFine (p : TProgram) (i : ℕ) (f : TFunction) : Type 0 where
   pub new : stands_before (function_place p.functions f.name) i ≡ false
   pub main : main_head f ≡ false
+  pub few_params : length f.params ≤ 8
 
 -- what is known where these are declared and counted
 pub record Within (p : TProgram) (n : Tally) (b : Before) : Type 0 where
@@ -196,7 +197,8 @@ module _ (p : TProgram) (each : length p.nv ≡ length p.names.nvs) where
       let body = block_elements p (in_function f b.functions) f.body in
       let c = subst (λ o. Clean n (function_elements p b line o)) x.1 h in
       let t : Passes (item_rules p m b (function_item f)) = none_broken (item_rules p m b (function_item f)) (first_clean p n (declared b line (function_item f)) body c).0 in
-      let s : b.functions < 128 = leb-false 128 b.functions (none_first (nat_le 128 b.functions) _ t.1.1.1.1.1.1.0) in
+      let s : b.functions < 128 = leb-false 128 b.functions (none_first (nat_le 128 b.functions) (nat_lt 8 (length f.params) || nat_lt 256 m.variables) t.1.1.1.1.1.1.0) in
+      let params : length f.params ≤ 8 = ltb-false 8 (length f.params) (none_first (nat_lt 8 (length f.params)) (nat_lt 256 m.variables) (none_second (nat_le 128 b.functions) (nat_lt 8 (length f.params) || nat_lt 256 m.variables) t.1.1.1.1.1.1.0)) in
       let new : stands_before (function_place p.functions f.name) b.functions ≡ false = new_name p b f.name t.0 in
       let same : (tally m body).words ≡ n.words = block_no_words p (in_function f b.functions) f.body m in
       subst (λ o. Within p (tally n (function_elements p b line o)) (after_item b decls.Function)) (sym x.1)
@@ -208,7 +210,7 @@ module _ (p : TProgram) (each : length p.nv ≡ length p.names.nvs) where
         counted_words = omega (arith, w.counted_words, same);
         few_words = omega (arith, w.few_words, same);
         lengths = w.lengths;
-        heads = λ i g below e. go i g below e (ltb i b.functions) refl (record { new = new; main = t.1.1.0 }) x.1;
+        heads = λ i g below e. go i g below e (ltb i b.functions) refl (record { new = new; main = t.1.1.0; few_params = params }) x.1;
       })
     where
       go : (i : ℕ) (g : TFunction) → i < b.functions + 1 → slice_get p.functions i ≡ Some g → (r : Bool) → ltb i b.functions ≡ r → {f : TFunction} → HeadFine p b.functions f → slice_get p.functions b.functions ≡ Some f → HeadFine p i g

@@ -13,3 +13,4 @@ pub mod BodiesKinds
 pub mod BodiesStatements
 pub mod BodiesFormed
 pub mod CallsFall
+pub mod ExprLengths

@@ -14,3 +14,4 @@ pub mod BodiesStatements
 pub mod BodiesFormed
 pub mod CallsFall
 pub mod ExprLengths
+pub mod StmtLengths

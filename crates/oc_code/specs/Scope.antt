@@ -55,27 +55,6 @@ abbrev pub passed_slot : List Named → TExpr → Option ℕ
 passed_slot γ (variable x) = address_slot (slot_of γ x)
 passed_slot γ e = None
 
--- how many slots a statement's variables and counters have, those of the statements inside included
-abbrev mutual
-  pub kind_slots : TKind → ℕ
-  kind_slots (let_to m x k r) = 1
-  kind_slots (let_array m x k z n) = n + 1
-  kind_slots (if_else c a b) = block_slots a + else_slots b
-  kind_slots (for_in x c d b) = block_slots b + 1
-  kind_slots (while_do c n b) = block_slots b + 1
-  kind_slots k = 0
-
-  pub else_slots : TElse → ℕ
-  else_slots no_else = 0
-  else_slots (else_do b) = block_slots b
-
-  pub block_slots : TBlock → ℕ
-  block_slots (block id ss) = stmts_slots ss
-
-  pub stmts_slots : TStmts → ℕ
-  stmts_slots no_stmts = 0
-  stmts_slots (more (stmt id line k) rest) = kind_slots k + stmts_slots rest
-
 -- a variable that a `let` makes in these slots, with the statements that follow it in its block
 abbrev pub let_named : Text → ℕ → ℕ → TStmts → Named
 let_named x s words rest = record { name = x; slot = InFrame s; words = words; writable = true; fresh = is_annotated x rest }

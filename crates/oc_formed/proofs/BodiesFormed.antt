@@ -13,8 +13,8 @@ use Rattle.oc_tree.specs.Scope.{takes_param}
 use Rattle.oc_tree.specs.Elements.{Here, function_item, block_elements, in_function}
 use Rattle.oc_tree.specs.Broken.{item_rules}
 use Rattle.oc_tree.specs.Rules.{has_bad_length, block_returns, return_missing}
+use Rattle.oc_tree.specs.Stack.{link_words}
 use Rattle.oc_code.specs.Scope.{Named, function_scope}
-use Rattle.oc_code.specs.Stack.{link_words}
 use Rattle.oc_code.specs.Formed.{body_formed}
 use Rattle.oc_desugar.proofs.Unbroken.{Passes, none_broken}
 use Rattle.oc_formed.proofs.BodiesPass.{AllFine, FunctionFine, function_fine}

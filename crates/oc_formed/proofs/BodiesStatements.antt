@@ -10,7 +10,8 @@ use Rattle.oc_tree.specs.Scope.{variable_of, is_variable, is_among}
 use Rattle.oc_tree.specs.Types.{is_same, value_type, right_type, type_of}
 use Rattle.oc_tree.specs.Elements.{Here, after_stmt, in_turn, inside, is_end, before_stmts, kind_elements, else_elements, stmt_elements, block_elements, stmts_elements}
 use Rattle.oc_tree.specs.Rules.{expr_known, right_known, is_mutable_param, is_writable, is_writable_array, origin_is, stmts_return}
-use Rattle.oc_code.specs.Scope.{Named, kind_slots, block_slots, in_scope, for_named}
+use Rattle.oc_tree.specs.Stack.{kind_slots, block_slots}
+use Rattle.oc_code.specs.Scope.{Named, in_scope, for_named}
 use Rattle.oc_code.specs.Formed.{kind_formed, else_formed, block_formed, stmts_formed, IsLast}
 use Rattle.oc_desugar.proofs.KeptExpressions.{first_holds, second_holds}
 use Rattle.oc_desugar.proofs.FineCalls.{CallFine, Gives, Each, each_back}

@@ -12,12 +12,12 @@ use Rattle.oc_tree.specs.Elements.{Here}
 use Rattle.oc_tree.specs.Form.{DeclaredInOrder}
 use Rattle.oc_tree.specs.Broken.{broken}
 use Rattle.oc_tree.specs.Rules.{params_of, callee_params, call_args, args_meet}
+use Rattle.oc_tree.specs.Stack.{link_words}
 use Rattle.oc_isa.specs.declared.instr.Placed.{Placed}
 use Rattle.oc_isa.specs.declared.instr.Instr.TheVariants.{Ret, Halt}
 use Rattle.oc_code.specs.Scope.{function_scope}
-use Rattle.oc_code.specs.Stack.{is_main_name, link_words}
 use Rattle.oc_code.specs.Forms.{one}
-use Rattle.oc_code.specs.Code.{close_code, body_code, function_code, functions_code}
+use Rattle.oc_code.specs.Code.{is_main_name, close_code, body_code, function_code, functions_code}
 use Rattle.oc_desugar.proofs.FineCalls.{CallFine}
 use Rattle.oc_desugar.proofs.FewStatements.{few_statements}
 use Rattle.oc_desugar.proofs.SizesKept.{unbroken_element}

@@ -14,10 +14,10 @@ use Rattle.oc_tree.specs.declared.tree.Scalar.{Scalar}
 use Rattle.oc_tree.specs.Calls.{place_from, function_place, function_names}
 use Rattle.oc_tree.specs.Rules.{is_main, stands_before, main_missing}
 use Rattle.oc_meaning.specs.Run.{function_named}
-use Rattle.oc_code.specs.Stack.{is_main_name}
 use Rattle.oc_code.proofs.Whole.{name_eq_sym}
 use Rattle.oc_formed.proofs.BodiesPlaces.{Called, name_called}
 use Rattle.oc_formed.proofs.Declared.{HeadFine, AllWithin}
+use Rattle.oc_code.specs.Code.{is_main_name}
 
 -- ---- the place of a function's name
 

@@ -10,13 +10,14 @@ use Rattle.oc_tree.specs.Pulls.{own_pulls}
 use Rattle.oc_tree.specs.Expansion.{inner_size, else_size, stmt_size, block_size, stmts_size}
 use Rattle.oc_tree.specs.Calls.{expr_calls, right_calls, own_calls, kind_hides, kind_kinds, else_kinds, block_kinds, stmts_kinds}
 use Rattle.oc_tree.specs.Rules.{call_args}
+use Rattle.oc_tree.specs.Stack.{kind_slots, block_slots}
 use Rattle.oc_isa.specs.declared.instr.Placed.{Placed}
 use Rattle.oc_isa.specs.declared.instr.ProbeKind.{ProbeKind}
 use Rattle.oc_isa.specs.declared.instr.ProbeKind.TheVariants.{Use, Done}
 use Rattle.oc_isa.specs.declared.instr.Instr.TheVariants.{Store, Index, Call, Retv, Drop, Emit, Put, Jfalse, Jump}
 use Rattle.oc_meaning.specs.Uses.{is_use, begins_use, ends_use}
 use Rattle.oc_meaning.specs.Exec.{begun_by, ended_by, number_in}
-use Rattle.oc_code.specs.Scope.{Slot, InFrame, ByAddress, InNv, NoSlot, Named, slot_of, words_of, is_fresh_in, kind_slots, block_slots, in_scope, for_named}
+use Rattle.oc_code.specs.Scope.{Slot, InFrame, ByAddress, InNv, NoSlot, Named, slot_of, words_of, is_fresh_in, in_scope, for_named}
 use Rattle.oc_code.specs.Forms.{placed, one, enter_code, commit_code, probe_code, write_code, base_code, expr_code, args_code, again_code, count_code, turn_code, while_code}
 use Rattle.oc_code.specs.Code.{function_number, has_result, called_name, last_code, before_code, after_code, call_code, right_code, element_code, test_code, return_code, first_code, whole_code, kind_code, if_code, block_code, stmts_code}
 use Rattle.oc_desugar.proofs.FineCalls.{Each, each_back}

@@ -20,7 +20,7 @@ mutual
   pub none_call : (k : ℕ) (c : TCall) → call_pulls (left_call k c) ≡ 0
   none_call k (call f args) = none_args k args
 
-  pub none_args : (k : ℕ) (xs : TArgs) → args_pulls (left_args k xs) ≡ 0
+  none_args : (k : ℕ) (xs : TArgs) → args_pulls (left_args k xs) ≡ 0
   none_args k no_args = refl
   none_args k (more_args a rest) = omega (arith, none_arg k a, none_args (k + arg_pulls a) rest)
 
@@ -29,13 +29,13 @@ mutual
   none_arg k (shared x) = refl
   none_arg k (mutable x) = refl
 
-pub none_right : (k : ℕ) (r : TRight) → right_pulls (left_right k r) ≡ 0
+none_right : (k : ℕ) (r : TRight) → right_pulls (left_right k r) ≡ 0
 none_right k (right_value e) = none_expr k e
 none_right k (right_sense s) = refl
 none_right k (right_call c) = none_call k c
 
 -- what a pull is made of has no pulls
-pub data NoPulls : List TRight → Type 0 where
+data NoPulls : List TRight → Type 0 where
   nothing : NoPulls []
   one_more : (r : TRight) (rs : List TRight) → right_pulls r ≡ 0 → NoPulls rs → NoPulls (r ∷ rs)
 
@@ -72,7 +72,7 @@ plain_right k (right_value e) = plain_expr k e
 plain_right k (right_sense s) = nothing
 plain_right k (right_call c) = plain_call k c
 
-pub plain_kind : (k : ℕ) (s : TKind) → NoPulls (pulled k s)
+plain_kind : (k : ℕ) (s : TKind) → NoPulls (pulled k s)
 plain_kind k (let_to m x t r) = plain_right k r
 plain_kind k (let_array m x t z n) = nothing
 plain_kind k (assign x r) = plain_right k r

@@ -22,8 +22,9 @@ use Rattle.oc_tree.specs.Types.{scalar_of, is_same}
 use Rattle.oc_tree.specs.Rules.{has_kind, origin_is, is_mutable_param, is_writable, is_own, is_nv, passed_on, value_meets, shared_meets, mutable_meets, arg_meets, args_meet, args_list, call_args, params_of, call_meets, arg_lends, value_lent_is, lent_is, all_lent, lends_alone, passes_nv, arg_exposes, at_place, callee_is, call_exposes, back_to}
 use Rattle.oc_tree.specs.Expansion.{temporary, left_expr, left_call, left_args, left_arg}
 use Rattle.oc_desugar.proofs.Seen.{SameReach, new_var}
+use Rattle.oc_desugar.proofs.TemporaryNames.{name_is_none}
 use Rattle.oc_desugar.proofs.HeldParts.{HeldExpr, HeldCall, HeldArgs, HeldArg}
-use Rattle.oc_desugar.proofs.KeptLookups.{SameNames, apart, same_text, same_place, same_params, same_variable, same_test, new_kind, new_test, new_mutable, new_writable, new_own, new_is_nv}
+use Rattle.oc_desugar.proofs.KeptLookups.{SameNames, same_text, same_place, same_params, same_variable, same_test, new_kind, new_test, new_mutable, new_writable, new_own, new_is_nv}
 use Rattle.oc_desugar.proofs.KeptExpressions.{first_holds, second_holds, both_hold, same_type, same_passed}
 
 -- ---- names are mentioned no more often
@@ -37,8 +38,8 @@ mutual
   fewer_expr x n k (deref y) = omega arith
   fewer_expr x n k (unary op e) = fewer_expr x n k e
   fewer_expr x n k (binary op a b) = omega (arith, fewer_expr x n k a, fewer_expr x n (k + expr_pulls a) b)
-  fewer_expr x n k (sensed s) = let none : once (bytes_eq x (temporary k)) ≡ 0 = ap once (apart x n k) in omega (arith, none)
-  fewer_expr x n k (called c) = let none : once (bytes_eq x (temporary (k + call_pulls c))) ≡ 0 = ap once (apart x n (k + call_pulls c)) in omega (arith, none)
+  fewer_expr x n k (sensed s) = let none : once (bytes_eq x (temporary k)) ≡ 0 = ap once (name_is_none x n k) in omega (arith, none)
+  fewer_expr x n k (called c) = let none : once (bytes_eq x (temporary (k + call_pulls c))) ≡ 0 = ap once (name_is_none x n (k + call_pulls c)) in omega (arith, none)
 
   pub fewer_args : (x : Text) → IsName x → (k : ℕ) (xs : TArgs) → args_mentions x (left_args k xs) ≤ args_mentions x xs
   fewer_args x n k no_args = omega arith

@@ -23,28 +23,7 @@ use Rattle.oc_tree.specs.Rules.{only_reference, has_kind, origin_is, is_mutable_
 use Rattle.oc_tree.specs.Expansion.{temporary}
 use Rattle.oc_desugar.proofs.Seen.{Head, head_of, SameTop, Sees, new_origin, new_var, IsHeld}
 
--- ---- names of the language and temporaries
-
--- no byte that begins a name is a point
-no_point : begins_name 46 ≡ false
-unfolding class_of
-no_point = refl
-
--- a temporary has no name of the language
-pub apart : (x : Text) → IsName x → (k : ℕ) → bytes_eq x (temporary k) ≡ false
-apart [] n k = absurd n.0
-apart (b ∷ bs) n k = by (bytes_eq (b ∷ bs) (temporary k)) refl
-  where
-    first : List ℕ → ℕ
-    first [] = 0
-    first (c ∷ cs) = c
-
-    by : (same : Bool) → bytes_eq (b ∷ bs) (temporary k) ≡ same → same ≡ false
-    by false e = refl
-    by true e =
-        let point : b ≡ 46 = ap first ((bytes_eq-Decides (b ∷ bs) (temporary k)).0 e) in
-        absurd (true≢false (sym n.0.0 ∙ ap begins_name point ∙ no_point))
-
+-- a name is its own
 pub same_text : (x : Text) → bytes_eq x x ≡ true
 same_text x = (bytes_eq-Decides x x).1 refl
 

@@ -35,7 +35,7 @@ none_right k (right_sense s) = refl
 none_right k (right_call c) = none_call k c
 
 -- what a pull is made of has no pulls
-data NoPulls : List TRight → Type 0 where
+pub data NoPulls : List TRight → Type 0 where
   nothing : NoPulls []
   one_more : (r : TRight) (rs : List TRight) → right_pulls r ≡ 0 → NoPulls rs → NoPulls (r ∷ rs)
 
@@ -72,7 +72,7 @@ plain_right k (right_value e) = plain_expr k e
 plain_right k (right_sense s) = nothing
 plain_right k (right_call c) = plain_call k c
 
-plain_kind : (k : ℕ) (s : TKind) → NoPulls (pulled k s)
+pub plain_kind : (k : ℕ) (s : TKind) → NoPulls (pulled k s)
 plain_kind k (let_to m x t r) = plain_right k r
 plain_kind k (let_array m x t z n) = nothing
 plain_kind k (assign x r) = plain_right k r

@@ -1,14 +1,14 @@
 -- What names stand for in the expansion: a name of the language stands for what it stood for in the written program, and
 -- a temporary for its variable.
-use Rattle.std.proofs.Common.{◌≡◌, ℕ, Bool, true, false, true≢false, List, [], ◌∷◌, map, Option, Some, None, cond, refl, ap, sym, ◌∙◌}
-use Rattle.std.specs.Prelude.{is_some, not, ◌||◌, slice_get, option_map, option_and_then}
+use Rattle.std.proofs.Common.{◌≡◌, ℕ, ◌+◌, Bool, true, false, true≢false, List, [], ◌∷◌, length, map, Option, Some, None, cond, refl, ap, sym, subst, ◌∙◌}
+use Rattle.std.specs.Prelude.{is_some, not, ◌&&◌, ◌||◌, slice_get, option_map, option_and_then}
 use Rattle.std.specs.Str.{bytes_eq}
 use Rattle.std.proofs.lemmas.Option.{slice_get-map}
 use Rattle.std.proofs.lemmas.Slice.Eq.{bytes_eq-Decides}
 use Rattle.oc_lex.specs.Bytes.{class_of, begins_name}
 use Rattle.oc_lex.specs.Stands.{IsName}
 use Rattle.oc_tree.specs.Names.{Text}
-use Rattle.oc_tree.specs.Tree.{TFunction, TProgram}
+use Rattle.oc_tree.specs.Tree.{TCall, call, TFunction, TProgram}
 use Rattle.oc_tree.specs.declared.tree.NvDecl.{NvDecl}
 use Rattle.oc_tree.specs.declared.tree.Param.{Param}
 use Rattle.oc_tree.specs.declared.tree.Scalar.{Scalar}
@@ -16,14 +16,35 @@ use Rattle.oc_tree.specs.declared.tree.ValueKind.{ValueKind}
 use Rattle.oc_tree.specs.declared.scope.Origin.{Origin}
 use Rattle.oc_tree.specs.declared.scope.Origin.TheVariants as origins
 use Rattle.oc_tree.specs.declared.scope.Var.{Var}
-use Rattle.oc_tree.specs.Calls.{place, function_place, function_names}
+use Rattle.oc_tree.specs.Calls.{place, function_place, function_names, callee}
 use Rattle.oc_tree.specs.Scope.{Scope, variable_in, variable_of, is_variable, is_among, is_declared, is_taken, is_in_scope, nv_var, nv_named, or_nv, function_named}
-use Rattle.oc_tree.specs.Types.{scalar_of, is_reference, value_type, pointed_type, has_elements, result_of}
-use Rattle.oc_tree.specs.Rules.{only_reference, has_kind, origin_is, is_mutable_param, is_writable, is_writable_array, is_own, is_let_in, is_nv, params_of}
+use Rattle.oc_tree.specs.Types.{scalar_of, is_reference, value_type, pointed_type, has_elements, is_array, call_type, result_of, is_same_kind}
+use Rattle.oc_tree.specs.Rules.{only_reference, has_kind, origin_is, is_mutable_param, is_writable, is_writable_array, is_own, is_let_in, is_nv, params_of, callee_params}
 use Rattle.oc_tree.specs.Expansion.{temporary}
 use Rattle.oc_desugar.proofs.Seen.{Head, head_of, SameTop, Sees, new_origin, new_var, IsHeld}
 
--- a name is its own
+-- ---- names of the language and temporaries
+
+-- no byte that begins a name is a point
+no_point : begins_name 46 ≡ false
+unfolding class_of
+no_point = refl
+
+-- a temporary has no name of the language
+pub apart : (x : Text) → IsName x → (k : ℕ) → bytes_eq x (temporary k) ≡ false
+apart [] n k = absurd n.0
+apart (b ∷ bs) n k = by (bytes_eq (b ∷ bs) (temporary k)) refl
+  where
+    first : List ℕ → ℕ
+    first [] = 0
+    first (c ∷ cs) = c
+
+    by : (same : Bool) → bytes_eq (b ∷ bs) (temporary k) ≡ same → same ≡ false
+    by false e = refl
+    by true e =
+        let point : b ≡ 46 = ap first ((bytes_eq-Decides (b ∷ bs) (temporary k)).0 e) in
+        absurd (true≢false (sym n.0.0 ∙ ap begins_name point ∙ no_point))
+
 pub same_text : (x : Text) → bytes_eq x x ≡ true
 same_text x = (bytes_eq-Decides x x).1 refl
 

@@ -130,7 +130,7 @@ module _ (p : TProgram) (t : Scope) (P Q : TCall → Type 0) (kept : (k : ℕ) (
   each_expr : (k : ℕ) (e : TExpr) → Each Q (expr_calls (left_expr k e))
   each_expr k e = subst (Each Q) (sym (no_calls_expr k e)) tt
 
-  pub each_right : (k : ℕ) (r : TRight) → RightInForm IsName r → HeldRight p t k r → Each P (right_calls r) → Each Q (right_calls (left_right k r))
+  each_right : (k : ℕ) (r : TRight) → RightInForm IsName r → HeldRight p t k r → Each P (right_calls r) → Each Q (right_calls (left_right k r))
   each_right k (right_value a) i h e = each_expr k a
   each_right k (right_sense x) i h e = tt
   each_right k (right_call c) i h e = each_call k c i h e

@@ -145,7 +145,7 @@ module _ {p q : TProgram} {f : ℕ → ℕ} {s t : Scope} (m : SameNames p q f s
     known_expr k (sensed x) i h e = held_is_variable q h
     known_expr k (called c) i h e = held_is_variable q h.1
 
-    pub known_args : (k : ℕ) (xs : TArgs) → ArgsInForm IsName xs → HeldArgs p t k xs → args_known p s xs ≡ true → args_known q t (left_args k xs) ≡ true
+    known_args : (k : ℕ) (xs : TArgs) → ArgsInForm IsName xs → HeldArgs p t k xs → args_known p s xs ≡ true → args_known q t (left_args k xs) ≡ true
     known_args k no_args i h e = refl
     known_args k (more_args a rest) i h e =
         both_hold _ _ (known_arg k a i.0 h.0 (first_holds (arg_known p s a) (args_known p s rest) e)) (known_args (k + arg_pulls a) rest i.1 h.1 (second_holds (arg_known p s a) (args_known p s rest) e))
@@ -188,7 +188,7 @@ module _ {p q : TProgram} {f : ℕ → ℕ} {s t : Scope} (m : SameNames p q f s
     fits_expr k (sensed x) i h e = ap is_some (held_type q h) ∙ h.some
     fits_expr k (called c) i h e = ap is_some (held_type q h.1) ∙ h.1.some
 
-    pub fit_args : (k : ℕ) (xs : TArgs) → ArgsInForm IsName xs → HeldArgs p t k xs → args_fit p s xs ≡ true → args_fit q t (left_args k xs) ≡ true
+    fit_args : (k : ℕ) (xs : TArgs) → ArgsInForm IsName xs → HeldArgs p t k xs → args_fit p s xs ≡ true → args_fit q t (left_args k xs) ≡ true
     fit_args k no_args i h e = refl
     fit_args k (more_args a rest) i h e =
         both_hold _ _ (fits_arg k a i.0 h.0 (first_holds (arg_fits p s a) (args_fit p s rest) e)) (fit_args (k + arg_pulls a) rest i.1 h.1 (second_holds (arg_fits p s a) (args_fit p s rest) e))

@@ -169,7 +169,7 @@ module _ {p q : TProgram} {f : ℕ → ℕ} {h g : Here} (top : SameTop p q) (he
   -- ---- all rules
 
   module _ (reach : SameReach p q) where
-    pub unbroken_left : g.last ≡ h.last → (k i : ℕ) (s : TKind) → KindInForm IsName s → HeldKind p g.scope k s → Unbroken p h s → Unbroken q g (expand_kind k i s)
+    unbroken_left : g.last ≡ h.last → (k i : ℕ) (s : TKind) → KindInForm IsName s → HeldKind p g.scope k s → Unbroken p h s → Unbroken q g (expand_kind k i s)
     unbroken_left last k i s o t u = record {
       taken = same_takes k i s o ∙ u.taken;
       known = known_own k i s o t u.known;

@@ -17,7 +17,7 @@ abbrev pub Passes : Table → Type 0
 Passes [] = Unit {0}
 Passes (r ∷ rs) = (r.1 ≡ false) × Passes rs
 
-pub none_broken : (rs : Table) → lowest rs ≡ None → Passes rs
+none_broken : (rs : Table) → lowest rs ≡ None → Passes rs
 none_broken [] h = tt
 none_broken (r ∷ rs) h = by r.1 refl (none_broken rs)
   where
@@ -25,7 +25,7 @@ none_broken (r ∷ rs) h = by r.1 refl (none_broken rs)
     by true e rest = let some : Some r.0 ≡ None = sym (ap (λ c. cond c (Some r.0) (lowest rs)) e) ∙ h in absurd (cc)
     by false e rest = (e, rest (sym (ap (λ c. cond c (Some r.0) (lowest rs)) e) ∙ h))
 
-pub passes_all : (rs : Table) → Passes rs → lowest rs ≡ None
+passes_all : (rs : Table) → Passes rs → lowest rs ≡ None
 passes_all [] h = refl
 passes_all (r ∷ rs) h = ap (λ b. cond b (Some r.0) (lowest rs)) h.0 ∙ passes_all rs h.1
 

@@ -1,4 +1,4 @@
--- The declarations of an expansion break no rule, where those of the program break none.
+-- What the rules of declarations look at stays in an expansion.
 use Rattle.std.proofs.Common.{◌≡◌, ℕ, suc, ◌+◌, List, [], ◌∷◌, ◌++◌, refl, ap, ◌∙◌, arith, cond, All}
 use Rattle.std.specs.Prelude.{◌&&◌, ◌||◌, not, is_some}
 use Rattle.std.specs.List.{list_any}

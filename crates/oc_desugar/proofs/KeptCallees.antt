@@ -9,7 +9,7 @@ use Rattle.oc_tree.specs.Names.{Text}
 use Rattle.oc_tree.specs.Tree.{TExpr, number, truth, variable, index, deref, unary, binary, sensed, called, TArg, value, shared, mutable, TCall, call, TArgs, no_args, more_args, TRight, right_value, right_sense, right_call, TKind, let_to, let_array, assign, assign_index, assign_deref, if_else, for_in, while_do, call_only, sense_only, emit, fresh, consistent, return, TElse, no_else, else_do, stmt, TBlock, block, TStmts, no_stmts, more, TFunction}
 use Rattle.oc_tree.specs.Pulls.{expr_pulls, arg_pulls, own_pulls, stmt_pulls, block_pulls}
 use Rattle.oc_tree.specs.Calls.{callee, expr_calls, call_calls, args_calls, arg_calls, right_calls, own_calls, kind_hides, kind_kinds, else_kinds, block_kinds, stmts_kinds, body_calls, place, called_places, links_from, function_names, call_links}
-use Rattle.oc_tree.specs.Expansion.{left_expr, left_call, left_args, left_arg, left_right, pulled_expr, pulled_call, pulled_args, pulled_arg, pulled_right, pulled, temporaries, join_stmts, expand_kind, expand_else, expand_block, expand_stmts, expand_function, expand_functions, block_size, stmt_size}
+use Rattle.oc_tree.specs.Expansion.{left_expr, left_call, left_args, left_right, pulled_expr, pulled_call, pulled_args, pulled_arg, pulled_right, pulled, temporaries, join_stmts, expand_kind, expand_else, expand_block, expand_stmts, expand_function, expand_functions, block_size, stmt_size}
 use Rattle.oc_desugar.proofs.KeptExpressions.{no_calls_expr, no_calls_args}
 
 -- the names that right sides call, and those that statements call

@@ -1,5 +1,5 @@
--- The declarations of an expansion break no rule, where those of the program break none.
-use Rattle.std.proofs.Common.{◌≡◌, ℕ, suc, ◌+◌, List, [], ◌∷◌, ◌++◌, refl, ap, ◌∙◌, arith, Option, cond, All}
+-- What the rules of declarations look at stays in an expansion.
+use Rattle.std.proofs.Common.{◌≡◌, ℕ, suc, ◌+◌, List, [], ◌∷◌, ◌++◌, refl, ap, ◌∙◌, arith, cond, All}
 use Rattle.std.specs.Prelude.{◌&&◌, ◌||◌, not, is_some}
 use Rattle.std.specs.List.{list_any}
 use Rattle.oc_lex.specs.Stands.{IsName}
@@ -8,8 +8,8 @@ use Rattle.oc_tree.specs.Tree.{TKind, let_to, let_array, assign, assign_index, a
 use Rattle.oc_tree.specs.declared.before.Before.{Before}
 use Rattle.oc_tree.specs.declared.tree.Param.{Param}
 use Rattle.oc_tree.specs.Pulls.{own_pulls, stmt_pulls, block_pulls}
-use Rattle.oc_tree.specs.Calls.{place, function_place}
-use Rattle.oc_tree.specs.Scope.{Scope, is_in_scope, is_among, is_taken, param_var, with_param, with_params, takes_param}
+use Rattle.oc_tree.specs.Calls.{place}
+use Rattle.oc_tree.specs.Scope.{Scope, is_in_scope, is_taken, param_var, with_param, with_params, takes_param}
 use Rattle.oc_tree.specs.Form.{ParamInForm}
 use Rattle.oc_tree.specs.Elements.{is_end}
 use Rattle.oc_tree.specs.Rules.{stands_before, declared_before, is_main, is_return, stmts_return, block_returns, return_missing}

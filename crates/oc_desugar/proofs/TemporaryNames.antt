@@ -13,8 +13,8 @@ use Rattle.oc_desugar.proofs.KeptLookups.{apart}
 pub none_is_name : (x : Text) → IsName x → (k : ℕ) → bytes_eq (temporary k) x ≡ false
 none_is_name x h k =
     false_from_ne_true (bytes_eq (temporary k) x) (λ e.
-      let same : x ≡ temporary k = sym ((bytes_eq-Decides (temporary k) x).0 e) in
-      true≢false (sym ((bytes_eq-Decides x (temporary k)).1 same) ∙ apart x h k))
+    let same : x ≡ temporary k = sym ((bytes_eq-Decides (temporary k) x).0 e) in
+    true≢false (sym ((bytes_eq-Decides x (temporary k)).1 same) ∙ apart x h k))
 
 -- nor is another temporary
 pub other_temporary : (m n : ℕ) → m < 2 ^ 64 → n < 2 ^ 64 → (m ≡ n → ⊥) → bytes_eq (temporary m) (temporary n) ≡ false

@@ -20,9 +20,9 @@ use Rattle.oc_formed.proofs.BodiesArguments.{all_passed}
 use Rattle.oc_formed.proofs.CallLinks.{KindsCall}
 use Rattle.oc_formed.proofs.ScopesSeen.{AllFound}
 
--- the called function has a rank below this one
+-- the called function, where there is one, has a rank below this one
 abbrev pub Lower : TProgram → (Text → ℕ) → ℕ → TCall → Type 0
-Lower p rank own c = (v : ℕ) (g : TFunction) → function_place p.functions (callee c) ≡ Some v → slice_get p.functions v ≡ Some g → rank g.name < own
+Lower p rank own c = (v : ℕ) → function_place p.functions (callee c) ≡ Some v → rank (callee c) < own
 
 -- ranks fall along all calls of all functions
 abbrev pub RanksFall : TProgram → (Text → ℕ) → Type 0
@@ -52,7 +52,7 @@ module _ (p : TProgram) (long : LongParams p) (regions : List TRegion) (rank : T
         callee = to.callee;
         found = to.meant;
         no_main = ap is_main (sym to.same) ∙ fine.other;
-        lower = subst (λ x. rank x < own) (sym to.same) (lower to.number to.callee to.placed to.stands);
+        lower = lower to.number to.placed;
         passed = all_passed p h.scope γ all to.callee.params args (long to.number to.callee to.stands) same each fine.lends;
       }
 

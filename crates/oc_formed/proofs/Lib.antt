@@ -7,5 +7,6 @@ pub mod CallLinks
 pub mod BodiesArguments
 pub mod BodiesCalls
 pub mod BodiesKinds
+pub mod BodiesMarked
 pub mod BodiesStatements
 pub mod BodiesFormed

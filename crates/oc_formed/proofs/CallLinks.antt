@@ -114,7 +114,7 @@ body_away p u f h = all_calls (Away p u) (block_kinds None f.body) (block_away p
 
 -- ---- links
 
-any_append : {A : Type 0} (test : A → Bool) (xs ys : List A) → list_any test (xs ++ ys) ≡ list_any test xs || list_any test ys
+pub any_append : {A : Type 0} (test : A → Bool) (xs ys : List A) → list_any test (xs ++ ys) ≡ list_any test xs || list_any test ys
 any_append test [] ys = refl
 any_append test (x ∷ xs) ys = or_join (test x) (list_any test xs) (list_any test (xs ++ ys)) (list_any test ys) (any_append test xs ys)
   where

@@ -4,9 +4,14 @@ pub mod ScopesSeen
 pub mod ScopesStart
 pub mod Ranks
 pub mod CallLinks
+pub mod Declared
+pub mod Mains
+pub mod Amounts
 pub mod BodiesArguments
 pub mod BodiesCalls
 pub mod BodiesKinds
 pub mod BodiesMarked
 pub mod BodiesStatements
 pub mod BodiesFormed
+pub mod CallsFall
+pub mod ExprLengths

@@ -62,55 +62,60 @@ none_hides (fresh x) = refl
 none_hides (consistent x n) = refl
 none_hides (return e) = refl
 
--- ---- no call leads back to the function in which it stands
+-- ---- what holds of each call of a body
 
-module _ (p : TProgram) (u : ℕ) where
-  abbrev pub Away : TCall → Type 0
-  Away c = callee_is (back_to p u) p c ≡ false
-
-  away_each : (h : Here) → h.number ≡ u → (cs : List TCall) → Each (CallFine p h) cs → Each Away cs
-  away_each h e [] f = tt
-  away_each h e (c ∷ cs) f = (subst (λ n. callee_is (back_to p n) p c ≡ false) e f.0.away, away_each h e cs f.1)
+module _ (p : TProgram) (u : ℕ) (P : TCall → Type 0) (gives : (h : Here) → h.number ≡ u → (c : TCall) → CallFine p h c → P c) where
+  each_so : (h : Here) → h.number ≡ u → (cs : List TCall) → Each (CallFine p h) cs → Each P cs
+  each_so h e [] f = tt
+  each_so h e (c ∷ cs) f = (gives h e c f.0, each_so h e cs f.1)
 
   mutual
-    kind_away : (h : Here) (id line : ℕ) → h.number ≡ u → (k : TKind) → Each Away (own_calls k) → AllFine p (kind_elements p h k) → KindsCall Away (kind_kinds None k)
-    kind_away h id line e (let_to m x t r) c f = (c, tt)
-    kind_away h id line e (let_array m x t z n) c f = (c, tt)
-    kind_away h id line e (assign x r) c f = (c, tt)
-    kind_away h id line e (assign_index x i r) c f = (c, tt)
-    kind_away h id line e (assign_deref x r) c f = (c, tt)
-    kind_away h id line e (if_else t a b) c f =
-        let first = block_away (inside h) e a (fine_front p (block_elements p (inside h) a) (else_elements p (inside h) b) f) in
-        let second = else_away (inside h) e b (fine_back p (block_elements p (inside h) a) (else_elements p (inside h) b) f) in
-        (c, kinds_join Away (block_kinds None a) (else_kinds None b) first second)
-    kind_away h id line e (for_in x m n b) c f = (c, block_away (in_turn h x) e b f)
-    kind_away h id line e (while_do t n b) c f = (c, block_away (inside h) e b f)
-    kind_away h id line e (call_only d) c f = (c, tt)
-    kind_away h id line e (sense_only s) c f = (c, tt)
-    kind_away h id line e (emit q a) c f = (c, tt)
-    kind_away h id line e (fresh x) c f = (c, tt)
-    kind_away h id line e (consistent x n) c f = (c, tt)
-    kind_away h id line e (return a) c f = (c, tt)
+    kind_so : (h : Here) → h.number ≡ u → (k : TKind) → Each P (own_calls k) → AllFine p (kind_elements p h k) → KindsCall P (kind_kinds None k)
+    kind_so h e (let_to m x t r) c f = (c, tt)
+    kind_so h e (let_array m x t z n) c f = (c, tt)
+    kind_so h e (assign x r) c f = (c, tt)
+    kind_so h e (assign_index x i r) c f = (c, tt)
+    kind_so h e (assign_deref x r) c f = (c, tt)
+    kind_so h e (if_else t a b) c f =
+        let first = block_so (inside h) e a (fine_front p (block_elements p (inside h) a) (else_elements p (inside h) b) f) in
+        let second = else_so (inside h) e b (fine_back p (block_elements p (inside h) a) (else_elements p (inside h) b) f) in
+        (c, kinds_join P (block_kinds None a) (else_kinds None b) first second)
+    kind_so h e (for_in x m n b) c f = (c, block_so (in_turn h x) e b f)
+    kind_so h e (while_do t n b) c f = (c, block_so (inside h) e b f)
+    kind_so h e (call_only d) c f = (c, tt)
+    kind_so h e (sense_only s) c f = (c, tt)
+    kind_so h e (emit q a) c f = (c, tt)
+    kind_so h e (fresh x) c f = (c, tt)
+    kind_so h e (consistent x n) c f = (c, tt)
+    kind_so h e (return a) c f = (c, tt)
 
-    else_away : (h : Here) → h.number ≡ u → (b : TElse) → AllFine p (else_elements p h b) → KindsCall Away (else_kinds None b)
-    else_away h e no_else f = tt
-    else_away h e (else_do b) f = block_away h e b f
+    else_so : (h : Here) → h.number ≡ u → (b : TElse) → AllFine p (else_elements p h b) → KindsCall P (else_kinds None b)
+    else_so h e no_else f = tt
+    else_so h e (else_do b) f = block_so h e b f
 
-    pub block_away : (h : Here) → h.number ≡ u → (b : TBlock) → AllFine p (block_elements p h b) → KindsCall Away (block_kinds None b)
-    block_away h e (block id ss) f = stmts_away (record h { block = id }) e ss f
+    block_so : (h : Here) → h.number ≡ u → (b : TBlock) → AllFine p (block_elements p h b) → KindsCall P (block_kinds None b)
+    block_so h e (block id ss) f = stmts_so (record h { block = id }) e ss f
 
-    stmts_away : (h : Here) → h.number ≡ u → (ss : TStmts) → AllFine p (stmts_elements p h ss) → KindsCall Away (stmts_kinds None ss)
-    stmts_away h e no_stmts f = tt
-    stmts_away h e (more (stmt id line k) ss) f =
+    stmts_so : (h : Here) → h.number ≡ u → (ss : TStmts) → AllFine p (stmts_elements p h ss) → KindsCall P (stmts_kinds None ss)
+    stmts_so h e no_stmts f = tt
+    stmts_so h e (more (stmt id line k) ss) f =
         let here = before_stmts h ss in
         let own = fine_front p (stmt_elements p here (stmt id line k)) (stmts_elements p (after_stmt p h (stmt id line k)) ss) f in
         let rest = fine_back p (stmt_elements p here (stmt id line k)) (stmts_elements p (after_stmt p h (stmt id line k)) ss) f in
-        let calls = away_each here e (own_calls k) (unbroken p own.0.0 here k own.0.1).calls in
-        subst (λ b. KindsCall Away (kind_kinds None k ++ cond b [] (stmts_kinds None ss))) (sym (none_hides k)) (kinds_join Away (kind_kinds None k) (stmts_kinds None ss) (kind_away here id line e k calls own.1) (stmts_away (after_stmt p h (stmt id line k)) e ss rest))
+        let calls = each_so here e (own_calls k) (unbroken p own.0.0 here k own.0.1).calls in
+        subst (λ b. KindsCall P (kind_kinds None k ++ cond b [] (stmts_kinds None ss))) (sym (none_hides k)) (kinds_join P (kind_kinds None k) (stmts_kinds None ss) (kind_so here e k calls own.1) (stmts_so (after_stmt p h (stmt id line k)) e ss rest))
+
+  -- what holds of each call that breaks no rule holds of all calls of the body of function u
+  pub body_so : (f : TFunction) → AllFine p (block_elements p (in_function f u) f.body) → KindsCall P (block_kinds None f.body)
+  body_so f h = block_so (in_function f u) refl f.body h
+
+-- the called function doesn't lead back to the function u
+abbrev pub Away : TProgram → ℕ → TCall → Type 0
+Away p u c = callee_is (back_to p u) p c ≡ false
 
 -- no call of a function's body leads back to it
 pub body_away : (p : TProgram) (u : ℕ) (f : TFunction) → AllFine p (block_elements p (in_function f u) f.body) → Each (Away p u) (body_calls f)
-body_away p u f h = all_calls (Away p u) (block_kinds None f.body) (block_away p u (in_function f u) refl f.body h)
+body_away p u f h = all_calls (Away p u) (block_kinds None f.body) (body_so p u (Away p u) (λ h e c fine. subst (λ n. callee_is (back_to p n) p c ≡ false) e fine.away) f h)
 
 -- ---- links
 

@@ -15,3 +15,4 @@ pub mod BodiesStatements
 pub mod BodiesFormed
 pub mod CallsFall
 pub mod ExprLengths
+pub mod StmtLengths

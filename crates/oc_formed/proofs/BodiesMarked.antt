@@ -10,19 +10,23 @@ use Rattle.oc_code.specs.Formed.{marks}
 -- and none is open behind them. So it is in the blocks inside them too.
 module _ (regions : List TRegion) where
   abbrev mutual
+    -- those in a statement
     pub KindMarked : TKind → Type 0
     KindMarked (if_else c a b) = BlockMarked a × ElseMarked b
     KindMarked (for_in x m n b) = BlockMarked b
     KindMarked (while_do c n b) = BlockMarked b
     KindMarked k = Unit {0}
 
+    -- those behind `else`
     pub ElseMarked : TElse → Type 0
     ElseMarked no_else = Unit {0}
     ElseMarked (else_do b) = BlockMarked b
 
+    -- those of a block, in front of which none is open
     pub BlockMarked : TBlock → Type 0
     BlockMarked (block id ss) = StmtsMarked 0 ss
 
+    -- statements in front of which so many are open
     pub StmtsMarked : (inside : ℕ) → TStmts → Type 0
     StmtsMarked inside no_stmts = inside ≡ 0
     StmtsMarked inside (more (stmt n line k) rest) =
@@ -36,6 +40,7 @@ module _ (regions : List TRegion) where
 -- ---- without regions
 
 mutual
+  -- a statement
   kind_unmarked : (k : TKind) → KindMarked [] k
   kind_unmarked (if_else c a b) = (block_unmarked a, else_unmarked b)
   kind_unmarked (for_in x m n b) = block_unmarked b
@@ -52,13 +57,16 @@ mutual
   kind_unmarked (consistent x n) = tt
   kind_unmarked (return e) = tt
 
+  -- what stands behind `else`
   else_unmarked : (b : TElse) → ElseMarked [] b
   else_unmarked no_else = tt
   else_unmarked (else_do b) = block_unmarked b
 
+  -- a block
   pub block_unmarked : (b : TBlock) → BlockMarked [] b
   block_unmarked (block id ss) = stmts_unmarked ss
 
+  -- statements
   stmts_unmarked : (ss : TStmts) → StmtsMarked [] 0 ss
   stmts_unmarked no_stmts = refl
   stmts_unmarked (more (stmt n line k) rest) = (kind_unmarked k, 0, refl, stmts_unmarked rest)

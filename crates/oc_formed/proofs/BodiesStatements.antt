@@ -6,7 +6,7 @@ use Rattle.oc_tree.specs.Tree.{TExpr, TRight, TKind, let_to, let_array, assign, 
 use Rattle.oc_tree.specs.Checked.{AnyName}
 use Rattle.oc_tree.specs.Marked.{TRegion}
 use Rattle.oc_tree.specs.Form.{KindInForm, ElseInForm, BlockInForm, StmtsInForm}
-use Rattle.oc_tree.specs.Calls.{expr_calls, right_calls, own_calls, kind_kinds, else_kinds, block_kinds, stmts_kinds}
+use Rattle.oc_tree.specs.Calls.{expr_calls, right_calls, kind_kinds, else_kinds, block_kinds, stmts_kinds}
 use Rattle.oc_tree.specs.Scope.{variable_of, is_variable, is_among}
 use Rattle.oc_tree.specs.Types.{is_same, value_type, right_type, type_of}
 use Rattle.oc_tree.specs.Elements.{Here, after_stmt, in_turn, inside, is_end, before_stmts, kind_elements, else_elements, stmt_elements, block_elements, stmts_elements}
@@ -25,18 +25,12 @@ use Rattle.oc_formed.proofs.BodiesMarked.{KindMarked, ElseMarked, BlockMarked, S
 use Rattle.oc_formed.proofs.CallLinks.{KindsCall, kinds_front, kinds_back, none_hides}
 use Rattle.oc_formed.proofs.ScopesSeen.{AllFound, writes_own, writes_through, writes_array}
 
+-- what is not denied holds
 is_so : (b : Bool) → not b ≡ false → b ≡ true
 is_so true h = refl
 is_so false h = absurd (true≢false h)
 
--- the calls of a statement itself are among those of all statements in it
-own_first : (P : _) (k : TKind) → KindsCall P (kind_kinds None k) → Each P (own_calls k)
-own_first P (if_else c a b) h = h.0
-own_first P (for_in x m n b) h = h.0
-own_first P (while_do c n b) h = h.0
-own_first P k h = h.0
-
--- the statement's own calls, and those behind it
+-- the calls of a statement and of those in it, and the calls of those behind it
 calls_behind : (P : _) (k : TKind) (n line : ℕ) (rest : TStmts) → KindsCall P (stmts_kinds None (more (stmt n line k) rest)) → KindsCall P (kind_kinds None k) × KindsCall P (stmts_kinds None rest)
 calls_behind P k n line rest h =
     let parts = subst (λ b. KindsCall P (kind_kinds None k ++ cond b [] (stmts_kinds None rest))) (none_hides k) h in
@@ -47,6 +41,7 @@ gives_no_more : (gives : Bool) → (gives ≡ true → false ≡ true) → gives
 gives_no_more true h = absurd (true≢false (sym (h refl)))
 gives_no_more false h = refl
 
+-- where statements end, nothing follows
 is_last : (rest : TStmts) → is_end rest ≡ true → IsLast rest
 is_last no_stmts h = tt
 is_last (more s rest) h = absurd (true≢false (sym h))
@@ -61,12 +56,15 @@ ends_inside : (h : Here) (ss : TStmts) → h.last ≡ false → Ends false h ss
 ends_inside h ss e = record { result = λ l. absurd (true≢false (sym l ∙ e)); returned = λ g. absurd (true≢false (sym g)) }
 
 module _ (p : TProgram) (long : LongParams p) (regions : List TRegion) (rank : Text → ℕ) (own : ℕ) where
+  -- the statement is formed in this function
   abbrev KindFormed : List Named → ℕ → TKind → Type 0
   KindFormed γ s k = kind_formed p.names p.functions regions rank own γ s k
 
+  -- so are these statements
   abbrev StmtsFormed : Bool → ℕ → List Named → ℕ → TStmts → Type 0
   StmtsFormed gives inside γ s ss = stmts_formed p.names p.functions regions rank own gives inside γ s ss
 
+  -- the calls of these statements go to lower ranks
   abbrev Calls : List TKind → Type 0
   Calls ks = KindsCall (Lower p rank own) ks
 
@@ -85,11 +83,12 @@ module _ (p : TProgram) (long : LongParams p) (regions : List TRegion) (rank : T
   step_formed gives inside h γ s n line (return e) rest ends u marked one behind = return_formed gives inside h γ s n line e rest ends u marked
   step_formed gives inside h γ s n line k rest ends u marked one behind = (one refl, marked.1, marked.2, behind refl)
 
+  -- how statements end is how those behind the first end
   ends_behind : (gives : Bool) (h : Here) (n line : ℕ) (k : TKind) (rest : TStmts) → returns k ≡ false → Ends gives h (more (stmt n line k) rest) → Ends gives (after_stmt p h (stmt n line k)) rest
   ends_behind gives h n line k rest other ends = record { result = ends.result; returned = λ g. returns_later n line k rest other (ends.returned g) }
 
-  -- the right sides of assignments
   module _ (h : Here) (γ : List Named) (s : ℕ) (all : AllFound p h.scope γ) where
+    -- an assignment to a name
     assign_formed : (x : Text) (r : TRight) → Each (Lower p rank own) (right_calls r) → Unbroken p h (assign x r) → KindFormed γ s (assign x r)
     assign_formed x r lower u =
         let known = second_holds (is_variable p h.scope x) (right_known p h.scope r) u.known in
@@ -97,6 +96,7 @@ module _ (p : TProgram) (long : LongParams p) (regions : List TRegion) (rank : T
         let writes = is_so (origin_is is_writable (variable_of p h.scope x)) u.target in
         (right_is_formed p long regions rank own h γ all r known u.calls u.gives lower, rule_writes p h.scope γ all is_writable writes_own x writes, own_value p h.scope γ all x value)
 
+    -- an assignment to an element of an array
     assign_index_formed : (x : Text) (e : TExpr) (r : TRight) → Each (Lower p rank own) (expr_calls e ++ right_calls r) → Unbroken p h (assign_index x e r) → KindFormed γ s (assign_index x e r)
     assign_index_formed x e r lower u =
         let parts = second_holds (is_variable p h.scope x) (expr_known p h.scope e && right_known p h.scope r) u.known in
@@ -107,6 +107,7 @@ module _ (p : TProgram) (long : LongParams p) (regions : List TRegion) (rank : T
         let below = each_back (Lower p rank own) (expr_calls e) (right_calls r) lower in
         (right_is_formed p long regions rank own h γ all r known calls gives below, rule_writes p h.scope γ all is_writable_array writes_array x writes)
 
+    -- an assignment through a reference
     assign_deref_formed : (x : Text) (r : TRight) → Each (Lower p rank own) (right_calls r) → Unbroken p h (assign_deref x r) → KindFormed γ s (assign_deref x r)
     assign_deref_formed x r lower u =
         let known = second_holds (is_variable p h.scope x) (right_known p h.scope r) u.known in
@@ -114,6 +115,7 @@ module _ (p : TProgram) (long : LongParams p) (regions : List TRegion) (rank : T
         (right_is_formed p long regions rank own h γ all r known u.calls u.gives lower, rule_writes p h.scope γ all is_mutable_param writes_through x writes)
 
   mutual
+    -- a statement but a `return`
     kind_is_formed : (h : Here) (γ : List Named) (s : ℕ) (k : TKind) → returns k ≡ false → KindMarked regions k → AllFound p h.scope γ → KindInForm AnyName k → Calls (kind_kinds None k) → Unbroken p h k → AllFine p (kind_elements p h k) → KindFormed γ s k
     kind_is_formed h γ s (let_to m x t r) other marked all form calls u fine = right_is_formed p long regions rank own h γ all r u.known u.calls u.gives calls.0
     kind_is_formed h γ s (let_array m x t z n) other marked all form calls u fine = array_length m x t z n u.lengths
@@ -138,13 +140,16 @@ module _ (p : TProgram) (long : LongParams p) (regions : List TRegion) (rank : T
     kind_is_formed h γ s (consistent x n) other marked all form calls u fine = tt
     kind_is_formed h γ s (return e) other marked all form calls u fine = absurd (true≢false other)
 
+    -- what stands behind `else`
     else_is_formed : (h : Here) (γ : List Named) (s : ℕ) (b : TElse) → h.last ≡ false → ElseMarked regions b → AllFound p h.scope γ → ElseInForm AnyName b → Calls (else_kinds None b) → AllFine p (else_elements p h b) → else_formed p.names p.functions regions rank own γ s b
     else_is_formed h γ s no_else later marked all form calls fine = tt
     else_is_formed h γ s (else_do b) later marked all form calls fine = block_is_formed h γ s b later marked all form calls fine
 
+    -- a block of a statement
     block_is_formed : (h : Here) (γ : List Named) (s : ℕ) (b : TBlock) → h.last ≡ false → BlockMarked regions b → AllFound p h.scope γ → BlockInForm AnyName b → Calls (block_kinds None b) → AllFine p (block_elements p h b) → block_formed p.names p.functions regions rank own γ s b
     block_is_formed h γ s (block id ss) later marked all form calls fine = stmts_are_formed false 0 (record h { block = id }) γ s ss (ends_inside (record h { block = id }) ss later) marked all form calls fine
 
+    -- the statements of a block, in front of which `inside` regions are open
     pub stmts_are_formed : (gives : Bool) (inside : ℕ) (h : Here) (γ : List Named) (s : ℕ) (ss : TStmts) → Ends gives h ss → StmtsMarked regions inside ss → AllFound p h.scope γ → StmtsInForm AnyName ss → Calls (stmts_kinds None ss) → AllFine p (stmts_elements p h ss) → StmtsFormed gives inside γ s ss
     stmts_are_formed gives inside h γ s no_stmts ends marked all form calls fine = (gives_no_more gives ends.returned, marked)
     stmts_are_formed gives inside h γ s (more (stmt n line k) rest) ends marked all form calls fine =

@@ -16,3 +16,4 @@ pub mod BodiesFormed
 pub mod CallsFall
 pub mod ExprLengths
 pub mod StmtLengths
+pub mod CodeShort

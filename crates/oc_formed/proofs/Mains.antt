@@ -39,7 +39,7 @@ found_before n (g ∷ fs) (suc i) f e = go (bytes_eq f.name g.name) refl (found_
     go false is later = let next : n + 1 + later.0 ≡ n + suc later.0 = omega arith in (suc later.0, ap (λ b. cond b (Some n) (place_from (n + 1) (function_names fs) f.name)) is ∙ later.1 ∙ ap Some next, omega (arith, later.2))
 
 module _ (p : TProgram) (within : AllWithin p) where
-  head_fine : (i : ℕ) (f : TFunction) → slice_get p.functions i ≡ Some f → HeadFine p i f
+  pub head_fine : (i : ℕ) (f : TFunction) → slice_get p.functions i ≡ Some f → HeadFine p i f
   head_fine i f e = within.within.heads i f (omega (arith, slice_get_within p.functions i f e, within.functions)) e
 
   -- each function stands at the place of its name

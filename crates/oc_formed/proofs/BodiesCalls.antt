@@ -20,9 +20,9 @@ use Rattle.oc_formed.proofs.BodiesArguments.{all_passed}
 use Rattle.oc_formed.proofs.CallLinks.{KindsCall}
 use Rattle.oc_formed.proofs.ScopesSeen.{AllFound}
 
--- the called function has a rank below this one
+-- the called function, where there is one, has a rank below this one
 abbrev pub Lower : TProgram → (Text → ℕ) → ℕ → TCall → Type 0
-Lower p rank own c = (v : ℕ) (g : TFunction) → function_place p.functions (callee c) ≡ Some v → slice_get p.functions v ≡ Some g → rank g.name < own
+Lower p rank own c = (v : ℕ) → function_place p.functions (callee c) ≡ Some v → rank (callee c) < own
 
 -- ranks fall along all calls of all functions
 abbrev pub RanksFall : TProgram → (Text → ℕ) → Type 0
@@ -42,6 +42,7 @@ pub last_call : (P : TCall → Type 0) (c : TCall) → Each P (call_calls c) →
 last_call P (call f args) h = (each_back P (args_calls args) (call f args ∷ []) h).0
 
 module _ (p : TProgram) (long : LongParams p) (regions : List TRegion) (rank : Text → ℕ) (own : ℕ) (h : Here) (γ : List Named) (all : AllFound p h.scope γ) where
+  -- a call that breaks no rule is formed
   pub call_is_formed : (c : TCall) → call_known p h.scope c ≡ true → CallFine p h c → Lower p rank own c → call_formed p.names p.functions regions rank own γ c
   call_is_formed (call f args) known fine lower =
       let to : Called p f = name_called p f (first_holds (is_some (function_place p.functions f)) (args_known p h.scope args) known) in
@@ -52,7 +53,7 @@ module _ (p : TProgram) (long : LongParams p) (regions : List TRegion) (rank : T
         callee = to.callee;
         found = to.meant;
         no_main = ap is_main (sym to.same) ∙ fine.other;
-        lower = subst (λ x. rank x < own) (sym to.same) (lower to.number to.callee to.placed to.stands);
+        lower = lower to.number to.placed;
         passed = all_passed p h.scope γ all to.callee.params args (long to.number to.callee to.stands) same each fine.lends;
       }
 
@@ -62,6 +63,7 @@ module _ (p : TProgram) (long : LongParams p) (regions : List TRegion) (rank : T
       let to : Called p f = name_called p f (first_holds (is_some (function_place p.functions f)) (args_known p h.scope args) known) in
       ap gives to.meant ∙ sym (ap (λ o. is_some (result_of o)) (called_named p f to)) ∙ has
 
+  -- a right side whose calls break no rule is formed
   pub right_is_formed : (r : TRight) → right_known p h.scope r ≡ true → Each (CallFine p h) (right_calls r) → Each (Gives p) (right_calls r) → Each (Lower p rank own) (right_calls r) → right_formed p.names p.functions regions rank own γ r
   right_is_formed (right_value e) known fine has lower = tt
   right_is_formed (right_sense s) known fine has lower = among_known p.names.sensors s known

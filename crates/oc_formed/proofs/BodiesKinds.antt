@@ -20,6 +20,7 @@ use Rattle.oc_formed.proofs.ScopesSeen.{Finds, AllFound, found_more}
 
 -- ---- what statements declare
 
+-- the type of a right side is one word
 one_word : (t : Option Scalar) → 1 ≡ kind_words (kind_of t)
 one_word None = refl
 one_word (Some scalars.Int) = refl
@@ -44,11 +45,13 @@ found_inside p h γ s x from to b free all =
 
 -- ---- counts and words
 
+-- an array has a length from 1 to 65,536
 pub array_length : (m : Bool) (x : Text) (t : _) (z : ℤ) (n : ℕ) → let_bad_length (let_array m x t z n) ≡ false → (1 ≤ n) × (n ≤ 65536)
 array_length m x t z n h =
     let bad = second_fails (written_bad_length t) (is_bad_length n) h in
     (ltb-false n 1 (first_fails (nat_lt n 1) (nat_lt 65536 n) bad), ltb-false 65536 n (second_fails (nat_lt n 1) (nat_lt 65536 n) bad))
 
+-- a `while` has at most 65,535 turns
 pub few_turns : (c : TExpr) (n : ℕ) (b : TBlock) → has_many_turns (while_do c n b) ≡ false → n < 65536
 few_turns c n b h = let low : n ≤ 65535 = ltb-false 65535 n h in omega (arith, low)
 
@@ -68,6 +71,7 @@ const_word z c = by c.1
 
 -- ---- returns
 
+-- a `return`
 abbrev pub returns : TKind → Bool
 returns (return e) = true
 returns k = false

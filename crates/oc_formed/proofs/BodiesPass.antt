@@ -18,10 +18,12 @@ use Rattle.oc_tree.specs.Broken.{item_rules, rules_of, lowest, or_later, first_b
 
 -- ---- tests of two parts
 
+-- where neither of two tests holds, the first doesn't
 pub first_fails : (a b : Bool) → a || b ≡ false → a ≡ false
 first_fails true b h = h
 first_fails false b h = refl
 
+-- and neither does the second
 pub second_fails : (a b : Bool) → a || b ≡ false → b ≡ false
 second_fails true b h = absurd (true≢false h)
 second_fails false b h = h
@@ -32,18 +34,22 @@ second_fails false b h = h
 abbrev pub Fine : TProgram → Element → Type 0
 Fine p e = (n : Tally) × (lowest (rules_of p n e) ≡ None)
 
+-- no element of a list breaks a rule
 abbrev pub AllFine : TProgram → List Element → Type 0
 AllFine p [] = Unit {0}
 AllFine p (e ∷ es) = Fine p e × AllFine p es
 
+-- then none of its front does
 pub fine_front : (p : TProgram) (xs ys : List Element) → AllFine p (xs ++ ys) → AllFine p xs
 fine_front p [] ys h = tt
 fine_front p (x ∷ xs) ys h = (h.0, fine_front p xs ys h.1)
 
+-- and none of its back
 pub fine_back : (p : TProgram) (xs ys : List Element) → AllFine p (xs ++ ys) → AllFine p ys
 fine_back p [] ys h = h
 fine_back p (x ∷ xs) ys h = fine_back p xs ys h.1
 
+-- where none is found that breaks a rule, none does
 all_fine : (p : TProgram) (n : Tally) (es : List Element) → first_broken p n es ≡ None → AllFine p es
 all_fine p n [] h = tt
 all_fine p n (e ∷ es) h = by (lowest (rules_of p (counted n e) e)) refl (all_fine p (counted n e) es) h
@@ -52,6 +58,7 @@ all_fine p n (e ∷ es) h = by (lowest (rules_of p (counted n e) e)) refl (all_f
     by None is rest none = ((counted n e, is), rest none)
     by (Some rule) is rest none = let some : ◌≡◌ {A = Option Broken} (Some (record { line = line_of e; rule = rule })) None = none in absurd (cc)
 
+-- where no rule at all is broken, none is by an element
 not_by_size : (p : TProgram) (o : Option Broken) → or_size p o ≡ None → o ≡ None
 not_by_size p None h = refl
 not_by_size p (Some b) h = h
@@ -90,6 +97,7 @@ module _ (p : TProgram) (i : ℕ) (f : TFunction) (stands : slice_get p.function
         body = subst (λ n. AllFine p (block_elements p (in_function f n) f.body)) e own.1;
       }
 
+  -- the next declaration is the function's, or it stands before it
   by_kind : (b : Before) (line n : ℕ) (ds : List Decl) (k : DeclKind) → Finds (after_item b k) ds → AllFine p (item_elements p b line k ++ order_elements p (after_item b k) ds) → b.functions ≤ i → n ≡ cond {A = ℕ} (is_function k) 1 0 + count_by (λ d. is_function d.kind) ds → i < b.functions + n → FunctionFine p i f
   by_kind b line n ds decls.Sensor rest h l e g = rest (fine_back p (item_elements p b line decls.Sensor) _ h) l (omega (arith, e, g))
   by_kind b line n ds decls.Port rest h l e g = rest (fine_back p (item_elements p b line decls.Port) _ h) l (omega (arith, e, g))
@@ -100,10 +108,12 @@ module _ (p : TProgram) (i : ℕ) (f : TFunction) (stands : slice_get p.function
       go true is = let lt : b.functions < i = ltb-true b.functions i is in rest (fine_back p (item_elements p b line decls.Function) _ h) (omega (arith, lt)) (omega (arith, e, g))
       go false is = let le : i ≤ b.functions = ltb-false b.functions i is in here_fine b line _ (omega (arith, le, l)) h
 
+  -- the function is found in the order of declarations
   in_order : (b : Before) (ds : List Decl) → Finds b ds
   in_order b [] h l g = absurd (omega (arith, l, g))
   in_order b (d ∷ ds) h l g = by_kind b d.line (count_by (λ x. is_function x.kind) (d ∷ ds)) ds d.kind (in_order (after_item b d.kind) ds) h l (counted_on d ds) g
 
+-- each function of a program that breaks no rule is so
 pub function_fine : (p : TProgram) → broken p ≡ None → DeclaredInOrder p → (i : ℕ) (f : TFunction) → slice_get p.functions i ≡ Some f → FunctionFine p i f
 function_fine p unbroken declared i f stands =
     let within = slice_get_within p.functions i f stands in

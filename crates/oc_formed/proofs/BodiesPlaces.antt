@@ -13,6 +13,7 @@ use Rattle.oc_code.specs.Formed.{IsKnown}
 
 -- ---- sensors and ports
 
+-- a name that has a place has a number, wherever places begin
 known_from : (n : ℕ) (xs : List Text) (x : Text) → is_some (place_from n xs x) ≡ true → IsKnown xs x
 known_from n [] x h = absurd (true≢false (sym h))
 known_from n (y ∷ ys) x h = by (bytes_eq x y) (known_from (n + 1) ys x) h
@@ -45,6 +46,7 @@ record CalledFrom (n : ℕ) (fs : List TFunction) (x : Text) : Type 0 where
   means : meaning.function_named fs x ≡ Some target
   spelled : x ≡ target.name
 
+-- a name that has a place there is that of a function there
 called_from : (n : ℕ) (fs : List TFunction) (x : Text) → is_some (place_from n (function_names fs) x) ≡ true → CalledFrom n fs x
 called_from n [] x h = absurd (true≢false (sym h))
 called_from n (f ∷ fs) x h = by (bytes_eq x f.name) refl (called_from (n + 1) fs x) h

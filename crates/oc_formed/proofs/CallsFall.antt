@@ -73,9 +73,9 @@ module _ (p : TProgram) (unbroken : broken p ≡ None) (declared : DeclaredInOrd
       let start : 0 + u ≡ u = omega arith in
       let own : rank_of fs f.name ≡ rank (call_links fs) (length fs) u = ap (rank_at fs) (own_place p within u f e) in
       let linked_so = LinkedIn names (map (λ a. (u, a)) (called_places names (body_calls f))) u in
-      let lower : (c : TCall) → LinkedIn names (map (λ a. (u, a)) (called_places names (body_calls f))) u c → Lower p (rank_of fs) (rank_of fs f.name) c = λ c linked_in v g at stands.
+      let lower : (c : TCall) → LinkedIn names (map (λ a. (u, a)) (called_places names (body_calls f))) u c → Lower p (rank_of fs) (rank_of fs f.name) c = λ c linked_in v at.
           let link : linked (call_links fs) u v ≡ true = from_linked names 0 fs u f u v e (subst (λ m. linked (map (λ a. (m, a)) (called_places names (body_calls f))) u v ≡ true) (sym start) (linked_in v at)) in
-          omega (arith, falls (call_links fs) (length fs) onwards u v link, own, ap (rank_at fs) (own_place p within v g stands)) in
+          omega (arith, falls (call_links fs) (length fs) onwards u v link, own, ap (rank_at fs) at) in
       each_map linked_so (Lower p (rank_of fs) (rank_of fs f.name)) lower (body_calls f) (row_linked names u (body_calls f))
 
   -- the rank of `main` is less than the number of functions

@@ -10,6 +10,7 @@ pub mod Amounts
 pub mod BodiesArguments
 pub mod BodiesCalls
 pub mod BodiesKinds
+pub mod BodiesMarked
 pub mod BodiesStatements
 pub mod BodiesFormed
 pub mod CallsFall

@@ -3,6 +3,7 @@
 use Rattle.std.proofs.Common.{◌≡◌, Bool, true, false, true≢false, List, [], ◌∷◌, Option, Some, None, cond, refl, ap, sym, subst, ◌∙◌}
 use Rattle.std.specs.Prelude.{is_some, if◌then◌else◌, ◌||◌}
 use Rattle.std.specs.Str.{bytes_eq}
+use Rattle.std.proofs.lemmas.Option.{same_Some}
 use Rattle.std.proofs.lemmas.Slice.Eq.{bytes_eq-Decides}
 use Rattle.oc_tree.specs.Names.{Text}
 use Rattle.oc_tree.specs.Tree.{TProgram}
@@ -26,12 +27,14 @@ code_writes origins.For = false
 code_writes (origins.Param passing) = may_write passing
 code_writes origins.Nv = true
 
+-- what an assignment may write, the code lets be written
 pub writes_own : (o : Origin) → is_writable o ≡ true → code_writes o ≡ true
 writes_own (origins.Let mut id b) h = refl
 writes_own origins.For h = absurd (true≢false (sym h))
 writes_own (origins.Param passing) h = absurd (true≢false (sym h))
 writes_own origins.Nv h = refl
 
+-- so it is behind a reference by `&mut`
 pub writes_through : (o : Origin) → is_mutable_param o ≡ true → code_writes o ≡ true
 writes_through (origins.Let mut id b) h = refl
 writes_through origins.For h = absurd (true≢false (sym h))
@@ -40,6 +43,7 @@ writes_through (origins.Param passings.Shared) h = absurd (true≢false (sym h))
 writes_through (origins.Param passings.Mutable) h = refl
 writes_through origins.Nv h = refl
 
+-- and with arrays
 pub writes_array : (o : Origin) → is_writable_array o ≡ true → code_writes o ≡ true
 writes_array o h = by (is_writable o) refl h
   where
@@ -59,6 +63,7 @@ AllFound p scope γ = (x : Text) (v : Var) → variable_of p scope x ≡ Some v 
 
 -- ---- one variable more
 
+-- what is not some is none
 none_is : (o : Option Var) → is_some o ≡ false → o ≡ None
 none_is None h = refl
 none_is (Some v) h = absurd (true≢false h)
@@ -72,10 +77,6 @@ new_found (w ∷ s) x v h = by (bytes_eq x w.0) (new_found s x v) h
     by true rest e = let some : Some w.1 ≡ None = e in absurd (cc)
     by false rest e = rest e
 
--- what two options hold is the same
-pub same_some : {A : Type 0} (x y : A) → ◌≡◌ {A = Option A} (Some x) (Some y) → x ≡ y
-same_some x y e = cc
-
 -- the rules see a new variable last, and the code finds it first
 pub found_more : (p : TProgram) (s : Scope) (γ : List Named) (v : Var) (g : Named) → Finds g v → is_taken p s g.name ≡ false → AllFound p s γ → AllFound p (with_var s g.name v) (g ∷ γ)
 found_more p s γ v g finds free all x w e = by (bytes_eq x g.name) refl
@@ -85,5 +86,5 @@ found_more p s γ v g finds free all x w e = by (bytes_eq x g.name) refl
         let same : x ≡ g.name = (bytes_eq-Decides x g.name).0 is in
         let none : variable_in s g.name ≡ None = none_is (variable_in s g.name) (first_fails (is_in_scope s g.name) (is_declared p g.name) free) in
         let there : Some v ≡ Some w = sym (ap (or_nv p g.name) (new_found s g.name v none)) ∙ sym (ap (variable_of p (with_var s g.name v)) same) ∙ e in
-        subst (Finds g) (same_some v w there) finds
+        subst (Finds g) (same_Some v w there) finds
     by false is = all x w (sym (ap (or_nv p x) (not_found s g.name v x is)) ∙ e)

@@ -17,3 +17,4 @@ pub mod CallsFall
 pub mod ExprLengths
 pub mod StmtLengths
 pub mod CodeShort
+pub mod Law

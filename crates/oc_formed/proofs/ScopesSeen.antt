@@ -15,7 +15,8 @@ use Rattle.oc_tree.specs.Scope.{Scope, variable_in, variable_of, is_in_scope, is
 use Rattle.oc_tree.specs.Types.{is_reference}
 use Rattle.oc_tree.specs.Rules.{is_mutable_param, is_writable, is_writable_array}
 use Rattle.oc_code.specs.Scope.{Named, named, address_slot, kind_words, may_write}
-use Rattle.oc_desugar.proofs.KeptScopes.{with_var, not_found}
+use Rattle.oc_desugar.proofs.KeptScopes.{with_var}
+use Rattle.oc_desugar.proofs.PullSplits.{found_before}
 use Rattle.oc_formed.proofs.BodiesPass.{first_fails}
 
 -- ---- variables
@@ -87,4 +88,4 @@ found_more p s γ v g finds free all x w e = by (bytes_eq x g.name) refl
         let none : variable_in s g.name ≡ None = none_is (variable_in s g.name) (first_fails (is_in_scope s g.name) (is_declared p g.name) free) in
         let there : Some v ≡ Some w = sym (ap (or_nv p g.name) (new_found s g.name v none)) ∙ sym (ap (variable_of p (with_var s g.name v)) same) ∙ e in
         subst (Finds g) (same_Some v w there) finds
-    by false is = all x w (sym (ap (or_nv p x) (not_found s g.name v x is)) ∙ e)
+    by false is = all x w (sym (ap (or_nv p x) (found_before s x g.name v is)) ∙ e)

@@ -1,16 +1,15 @@
 -- The sensors, ports, functions and nonvolatile words of a program that breaks no rule are few.
-use Rattle.std.proofs.Common.{◌≡◌, ◌<◌, ◌≤◌, ℕ, ◌+◌, Bool, true, false, true≢false, ◌||◌, List, length, drop, sum_by, Option, Some, refl, ap, sym, subst, ◌∙◌, arith, All}
+use Rattle.std.proofs.Common.{◌≡◌, ◌≤◌, Bool, true, false, ◌||◌, length, drop, sum_by, Some, refl, ap, sym, ◌∙◌, arith, All}
 use Rattle.std.specs.Prelude.{slice_get, nat_lt, cond}
 use Rattle.std.proofs.Math.Seq.{drop-length}
 use Rattle.std.proofs.Math.ListN.{get_or}
 use Rattle.std.proofs.lemmas.Bool.{ltb-false}
-use Rattle.std.proofs.lemmas.Option.{slice_get-get_or, slice_get_within}
+use Rattle.std.proofs.lemmas.Option.{slice_get-get_or}
 use Rattle.oc_tree.specs.Tree.{TProgram}
 use Rattle.oc_tree.specs.declared.tree.NvDecl.{NvDecl}
 use Rattle.oc_tree.specs.declared.tree.ValueKind.TheVariants as kinds
 use Rattle.oc_tree.specs.Form.{CellsInForm, NvInForm}
-use Rattle.oc_tree.specs.Scope.{nv_kind}
-use Rattle.oc_tree.specs.Rules.{has_bad_length, is_bad_length}
+use Rattle.oc_tree.specs.Rules.{has_bad_length}
 use Rattle.oc_formed.proofs.Declared.{AllWithin, words_in}
 
 module _ (p : TProgram) (within : AllWithin p) where

@@ -1,5 +1,5 @@
 -- Which function calls which, where no statement breaks the rule on cycles of calls.
-use Rattle.std.proofs.Common.{◌≡◌, ◌<◌, ℕ, zero, suc, ◌+◌, ◌++◌, Bool, true, false, true≢false, List, [], ◌∷◌, length, map, Option, Some, None, refl, ap, sym, ◌∙◌, subst, arith}
+use Rattle.std.proofs.Common.{◌≡◌, ◌<◌, ℕ, suc, ◌+◌, ◌++◌, Bool, true, false, true≢false, List, [], ◌∷◌, length, map, Option, Some, None, refl, ap, sym, ◌∙◌, subst, arith}
 use Rattle.std.specs.Str.{bytes_eq}
 use Rattle.std.specs.Prelude.{nat_eq, ◌||◌, ◌&&◌, cond, option_to_list, slice_get}
 use Rattle.std.specs.List.{list_any, flat_map}
@@ -8,14 +8,14 @@ use Rattle.std.proofs.lemmas.Bool.{eqb-true}
 use Rattle.oc_tree.specs.Names.{Text}
 use Rattle.oc_tree.specs.Tree.{TCall, TKind, let_to, let_array, assign, assign_index, assign_deref, if_else, for_in, while_do, call_only, sense_only, emit, fresh, consistent, return, TElse, no_else, else_do, stmt, TBlock, block, TStmts, no_stmts, more, TFunction, TProgram}
 use Rattle.oc_tree.specs.Calls.{place, place_from, callee, own_calls, kind_hides, kind_kinds, else_kinds, block_kinds, stmts_kinds, body_calls, called_places, links_from, function_names, call_links}
-use Rattle.oc_tree.specs.Reach.{Links, linked, is_link, reaches}
+use Rattle.oc_tree.specs.Reach.{Links, linked, is_link}
 use Rattle.oc_tree.specs.Elements.{Here, inside, in_turn, before_stmts, after_stmt, stmt_elements, kind_elements, else_elements, block_elements, stmts_elements, in_function}
 use Rattle.oc_tree.specs.Rules.{at_place, callee_is, back_to}
 use Rattle.oc_tree.proofs.ReachLaws.{or_elim}
 use Rattle.oc_desugar.proofs.FineCalls.{CallFine, Each}
 use Rattle.oc_desugar.proofs.Unbroken.{unbroken}
 use Rattle.oc_formed.proofs.Ranks.{Onwards}
-use Rattle.oc_formed.proofs.BodiesPass.{Fine, AllFine, fine_front, fine_back}
+use Rattle.oc_formed.proofs.BodiesPass.{AllFine, fine_front, fine_back}
 
 -- ---- the calls of statements
 

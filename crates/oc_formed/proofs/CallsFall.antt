@@ -1,12 +1,11 @@
 -- Calls go to functions of lower ranks, where no statement breaks the rule on cycles of calls.
-use Rattle.std.proofs.Common.{◌≡◌, ◌<◌, ◌≤◌, ℕ, zero, suc, ◌+◌, ◌++◌, Bool, true, false, List, [], ◌∷◌, length, map, Option, Some, None, refl, ap, sym, ◌∙◌, subst, arith}
+use Rattle.std.proofs.Common.{◌≡◌, ◌<◌, ℕ, zero, suc, ◌+◌, true, false, List, [], ◌∷◌, length, map, Some, None, ap, sym, ◌∙◌, subst, arith}
 use Rattle.std.specs.Prelude.{nat_eq, ◌||◌, ◌&&◌, option_to_list, slice_get, codes}
-use Rattle.std.specs.List.{flat_map}
 use Rattle.std.proofs.lemmas.List.{map-append}
 use Rattle.std.proofs.lemmas.Option.{none-some, same_Some, slice_get_within}
 use Rattle.oc_tree.specs.Names.{Text}
-use Rattle.oc_tree.specs.Tree.{TCall, TKind, TFunction, TProgram}
-use Rattle.oc_tree.specs.Calls.{place, function_place, function_names, callee, own_calls, block_kinds, body_calls, called_places, links_from, call_links}
+use Rattle.oc_tree.specs.Tree.{TCall, TFunction, TProgram}
+use Rattle.oc_tree.specs.Calls.{place, function_names, callee, body_calls, called_places, links_from, call_links}
 use Rattle.oc_tree.specs.Reach.{Links, linked, is_link, rank}
 use Rattle.oc_tree.specs.Broken.{broken}
 use Rattle.oc_tree.specs.Form.{DeclaredInOrder}
@@ -16,7 +15,6 @@ use Rattle.oc_desugar.proofs.FineCalls.{Each}
 use Rattle.oc_formed.proofs.Ranks.{rank_at, rank_of, Onwards, falls, rank_small}
 use Rattle.oc_formed.proofs.CallLinks.{any_append, body_away, links_onwards}
 use Rattle.oc_formed.proofs.BodiesPass.{function_fine}
-use Rattle.oc_formed.proofs.BodiesPlaces.{Called}
 use Rattle.oc_formed.proofs.BodiesCalls.{Lower, RanksFall}
 use Rattle.oc_formed.proofs.Declared.{AllWithin}
 use Rattle.oc_formed.proofs.Mains.{own_place, main_called}
@@ -43,8 +41,8 @@ module _ (names : List Text) where
       let whole : Links = map (λ a. (w, a)) (called_places names (c ∷ cs)) in
       let split : (v : ℕ) → linked whole w v ≡ linked own w v || linked rest w v = λ v. ap (λ l. linked l w v) (map-append (λ a. (w, a)) (option_to_list (place names (callee c))) (called_places names cs)) ∙ any_append (is_link w v) own rest in
       let first : LinkedIn whole w c = λ v e.
-          let one : linked own w v ≡ true = ap (λ o. linked (map (λ a. (w, a)) (option_to_list o)) w v) e ∙ or_left (is_link w v (w, v)) false (itself w v) in
-          split v ∙ or_left (linked own w v) (linked rest w v) one in
+      let one : linked own w v ≡ true = ap (λ o. linked (map (λ a. (w, a)) (option_to_list o)) w v) e ∙ or_left (is_link w v (w, v)) false (itself w v) in
+      split v ∙ or_left (linked own w v) (linked rest w v) one in
       (first, each_map (LinkedIn rest w) (LinkedIn whole w) (λ d h v e. split v ∙ or_right (linked own w v) (linked rest w v) (h v e)) cs (row_linked w cs))
 
   from_linked : (w : ℕ) (fs : List TFunction) (j : ℕ) (f : TFunction) (u v : ℕ) → slice_get fs j ≡ Some f → linked (map (λ a. (w + j, a)) (called_places names (body_calls f))) u v ≡ true → linked (links_from names w fs) u v ≡ true
@@ -74,8 +72,8 @@ module _ (p : TProgram) (unbroken : broken p ≡ None) (declared : DeclaredInOrd
       let own : rank_of fs f.name ≡ rank (call_links fs) (length fs) u = ap (rank_at fs) (own_place p within u f e) in
       let linked_so = LinkedIn names (map (λ a. (u, a)) (called_places names (body_calls f))) u in
       let lower : (c : TCall) → LinkedIn names (map (λ a. (u, a)) (called_places names (body_calls f))) u c → Lower p (rank_of fs) (rank_of fs f.name) c = λ c linked_in v at.
-          let link : linked (call_links fs) u v ≡ true = from_linked names 0 fs u f u v e (subst (λ m. linked (map (λ a. (m, a)) (called_places names (body_calls f))) u v ≡ true) (sym start) (linked_in v at)) in
-          omega (arith, falls (call_links fs) (length fs) onwards u v link, own, ap (rank_at fs) at) in
+      let link : linked (call_links fs) u v ≡ true = from_linked names 0 fs u f u v e (subst (λ m. linked (map (λ a. (m, a)) (called_places names (body_calls f))) u v ≡ true) (sym start) (linked_in v at)) in
+      omega (arith, falls (call_links fs) (length fs) onwards u v link, own, ap (rank_at fs) at) in
       each_map linked_so (Lower p (rank_of fs) (rank_of fs f.name)) lower (body_calls f) (row_linked names u (body_calls f))
 
   -- the rank of `main` is less than the number of functions

@@ -1,6 +1,6 @@
 -- The code of a checked program is short.
-use Rattle.std.proofs.Common.{◌≡◌, ◌≤◌, ◌<◌, ◌^◌, ℕ, zero, suc, ◌+◌, ◌*◌, Bool, true, false, List, [], ◌∷◌, ◌++◌, length, sum_by, Option, Some, None, refl, ap, sym, ◌∙◌, subst, arith, length-append}
-use Rattle.std.specs.Prelude.{slice_get, is_some, if◌then◌else◌, option_and_then, ◌&&◌, ◌==◌}
+use Rattle.std.proofs.Common.{◌≡◌, ◌≤◌, ◌<◌, ◌^◌, ℕ, suc, ◌+◌, ◌*◌, Bool, true, false, List, [], ◌∷◌, length, sum_by, Option, Some, None, refl, arith, length-append}
+use Rattle.std.specs.Prelude.{slice_get, is_some, if◌then◌else◌, option_and_then, ◌==◌}
 use Rattle.std.proofs.lemmas.Bool.{eqb-true}
 use Rattle.std.proofs.lemmas.List.Sums.{sum_by-cons}
 use Rattle.oc_tree.specs.Tree.{TCall, TFunction, TProgram}
@@ -13,7 +13,6 @@ use Rattle.oc_tree.specs.Form.{DeclaredInOrder}
 use Rattle.oc_tree.specs.Broken.{broken}
 use Rattle.oc_tree.specs.Rules.{params_of, callee_params, call_args, args_meet}
 use Rattle.oc_tree.specs.Stack.{link_words}
-use Rattle.oc_isa.specs.declared.instr.Placed.{Placed}
 use Rattle.oc_isa.specs.declared.instr.Instr.TheVariants.{Ret, Halt}
 use Rattle.oc_code.specs.Scope.{function_scope}
 use Rattle.oc_code.specs.Forms.{one}

@@ -1,6 +1,6 @@
 -- What the rules say of the declarations of a program that breaks none: they are few, their arrays are of a fit length,
 -- and the names of functions are new.
-use Rattle.std.proofs.Common.{◌≡◌, ◌<◌, ◌≤◌, ℕ, zero, suc, ◌+◌, Bool, true, false, true≢false, ◌||◌, List, [], ◌∷◌, ◌++◌, length, drop, sum_by, count_by, Option, Some, None, cond, refl, ap, sym, subst, ◌∙◌, arith}
+use Rattle.std.proofs.Common.{◌≡◌, ◌<◌, ◌≤◌, ℕ, zero, suc, ◌+◌, Bool, true, false, true≢false, ◌||◌, List, [], ◌∷◌, ◌++◌, length, drop, sum_by, count_by, Some, None, cond, refl, ap, sym, subst, ◌∙◌, arith}
 use Rattle.std.specs.Prelude.{slice_get, nat_le, nat_lt}
 use Rattle.std.proofs.lemmas.Bool.{leb-false, ltb-false, ltb-true}
 use Rattle.std.proofs.Math.Dec.{ltb}
@@ -16,10 +16,10 @@ use Rattle.oc_tree.specs.declared.tree.NvDecl.{NvDecl}
 use Rattle.oc_tree.specs.Form.{is_sensor, is_port, is_nv, is_function, DeclaredInOrder}
 use Rattle.oc_tree.specs.Calls.{place, function_place}
 use Rattle.oc_tree.specs.Scope.{nv_kind}
-use Rattle.oc_tree.specs.Elements.{Item, sensor_item, port_item, nv_item, function_item, Here, Element, declared, statement, ending, inside, in_turn, before_stmts, after_stmt, kind_elements, else_elements, stmt_elements, block_elements, stmts_elements, in_function, named_element, nv_element, function_elements, item_elements, after_item, order_elements, nothing_before, program_elements}
+use Rattle.oc_tree.specs.Elements.{sensor_item, port_item, nv_item, function_item, Here, Element, declared, statement, ending, inside, in_turn, before_stmts, after_stmt, kind_elements, else_elements, stmt_elements, block_elements, stmts_elements, in_function, named_element, nv_element, function_elements, item_elements, after_item, order_elements, nothing_before}
 use Rattle.oc_tree.specs.Limits.{Tally, nothing_counted, counted, with_item}
 use Rattle.oc_tree.specs.Rules.{stands_before, declared_before, main_head, main_missing, has_bad_length}
-use Rattle.oc_tree.specs.Broken.{item_rules, end_rules, rules_of, lowest, first_broken, broken_element, broken}
+use Rattle.oc_tree.specs.Broken.{item_rules, end_rules, first_broken, broken}
 use Rattle.oc_desugar.proofs.KeptClean.{tally, tally_join, first_clean, apart_of}
 use Rattle.oc_desugar.proofs.SizesKept.{unbroken_element}
 use Rattle.oc_desugar.proofs.Unbroken.{Passes, none_broken}

@@ -1,9 +1,8 @@
 -- How long the code of expressions and arguments is at most: four instructions for each node, and one for each argument
 -- besides.
-use Rattle.std.proofs.Common.{◌≡◌, ◌≤◌, ℕ, ◌+◌, ◌*◌, Bool, true, false, List, [], ◌∷◌, ◌++◌, length, Option, Some, None, refl, ap, sym, ◌∙◌, subst, arith, length-append}
+use Rattle.std.proofs.Common.{◌≡◌, ◌≤◌, ℕ, ◌+◌, ◌*◌, List, ◌∷◌, ◌++◌, length, Option, Some, None, refl, arith, length-append}
 use Rattle.std.specs.Prelude.{pos}
-use Rattle.oc_tree.specs.Names.{Text}
-use Rattle.oc_tree.specs.Tree.{TExpr, number, truth, variable, index, deref, unary, binary, sensed, called, TArg, value, shared, mutable, TCall, call, TArgs, no_args, more_args}
+use Rattle.oc_tree.specs.Tree.{TExpr, number, truth, variable, index, deref, unary, binary, sensed, called, TArg, value, shared, mutable, TArgs, no_args, more_args}
 use Rattle.oc_tree.specs.declared.tree.BinaryOp.{BinaryOp}
 use Rattle.oc_tree.specs.declared.tree.BinaryOp.TheVariants as ops
 use Rattle.oc_tree.specs.Nodes.{expr_nodes, arg_nodes, args_nodes}

@@ -1,17 +1,15 @@
 -- Every checked program is formed.
-use Rattle.std.proofs.Common.{◌≡◌, ◌≤◌, ℕ, List, [], ◌∷◌, length, Option, Some, None, sym, ap, refl, ◌∙◌}
-use Rattle.std.specs.Prelude.{slice_get, nat_lt}
+use Rattle.std.proofs.Common.{◌≡◌, ◌≤◌, ℕ, List, [], length, Option, Some, None, sym, ap, refl, ◌∙◌}
+use Rattle.std.specs.Prelude.{slice_get}
 use Rattle.std.specs.List.{All}
 use Rattle.std.proofs.lemmas.Bool.{ltb-false}
 use Rattle.std.proofs.lemmas.List.Elements.{All-nil}
 use Rattle.oc_tree.specs.Tree.{TFunction, TProgram}
 use Rattle.oc_tree.specs.declared.said.Target.{Target}
-use Rattle.oc_tree.specs.declared.broken.Broken.{Broken}
 use Rattle.oc_tree.specs.Marked.{TRegion}
 use Rattle.oc_tree.specs.Checked.{Group, IsChecked}
-use Rattle.oc_tree.specs.Expansion.{expansion}
 use Rattle.oc_tree.specs.Stack.{stack_words}
-use Rattle.oc_tree.specs.Broken.{size_rules, lowest, or_later, or_size, broken_element, broken}
+use Rattle.oc_tree.specs.Broken.{size_rules, lowest, or_later, or_size}
 use Rattle.oc_code.specs.Formed.{IsFormed}
 use Rattle.oc_desugar.proofs.NumberLists.{is_numbered}
 use Rattle.oc_desugar.proofs.OwnExpansion.{own_expansion}

@@ -1,5 +1,5 @@
 -- Each function stands at the place of its name, and one of them is `main`, without parameters and without a result.
-use Rattle.std.proofs.Common.{◌≡◌, ◌<◌, ◌≤◌, ℕ, zero, suc, ◌+◌, Bool, true, false, true≢false, ◌||◌, List, [], ◌∷◌, length, count_by, Option, Some, None, cond, refl, ap, sym, subst, ◌∙◌, arith}
+use Rattle.std.proofs.Common.{◌≡◌, ◌≤◌, ℕ, zero, suc, ◌+◌, Bool, true, false, true≢false, ◌||◌, List, [], ◌∷◌, length, count_by, Option, Some, None, cond, refl, ap, sym, subst, ◌∙◌, arith}
 use Rattle.std.specs.Prelude.{slice_get, nat_lt, is_some, not, codes, ◌&&◌}
 use Rattle.std.specs.List.{list_any}
 use Rattle.std.specs.Str.{bytes_eq}
@@ -12,8 +12,7 @@ use Rattle.oc_tree.specs.Names.{Text}
 use Rattle.oc_tree.specs.Tree.{TFunction, TProgram}
 use Rattle.oc_tree.specs.declared.tree.Scalar.{Scalar}
 use Rattle.oc_tree.specs.Calls.{place_from, function_place, function_names}
-use Rattle.oc_tree.specs.Rules.{is_main, stands_before, main_missing}
-use Rattle.oc_meaning.specs.Run.{function_named}
+use Rattle.oc_tree.specs.Rules.{is_main, stands_before}
 use Rattle.oc_code.proofs.Whole.{name_eq_sym}
 use Rattle.oc_formed.proofs.BodiesPlaces.{Called, name_called}
 use Rattle.oc_formed.proofs.Declared.{HeadFine, AllWithin}

@@ -1,14 +1,13 @@
 -- How long the code of statements is at most: four instructions for each node of an expression, and 20 for each
 -- statement.
-use Rattle.std.proofs.Common.{◌≡◌, ◌≤◌, ℕ, ◌+◌, ◌*◌, Bool, true, false, List, [], ◌∷◌, ◌++◌, length, cond, Option, Some, None, refl, ap, sym, ◌∙◌, subst, arith, length-append}
+use Rattle.std.proofs.Common.{◌≡◌, ◌≤◌, ℕ, ◌+◌, ◌*◌, Bool, true, false, List, [], ◌∷◌, ◌++◌, length, cond, Option, Some, None, subst, arith, length-append}
 use Rattle.std.specs.Prelude.{ℤ, pos, if◌then◌else◌}
 use Rattle.oc_tree.specs.Names.{Text, NameLists}
 use Rattle.oc_tree.specs.Marked.{TRegion}
-use Rattle.oc_tree.specs.Tree.{TExpr, TCall, call, TRight, right_value, right_sense, right_call, TKind, let_to, let_array, assign, assign_index, assign_deref, if_else, for_in, while_do, call_only, sense_only, emit, fresh, consistent, return, TElse, no_else, else_do, TStmt, stmt, TBlock, block, TStmts, no_stmts, more, TFunction}
+use Rattle.oc_tree.specs.Tree.{TExpr, TCall, call, TRight, right_value, right_sense, right_call, TKind, let_to, let_array, assign, assign_index, assign_deref, if_else, for_in, while_do, call_only, sense_only, emit, fresh, consistent, return, TElse, no_else, else_do, stmt, TBlock, block, TStmts, no_stmts, more, TFunction}
 use Rattle.oc_tree.specs.Nodes.{expr_nodes, call_nodes, right_nodes, kind_nodes, else_nodes, block_nodes, stmts_nodes}
-use Rattle.oc_tree.specs.Pulls.{own_pulls}
-use Rattle.oc_tree.specs.Expansion.{inner_size, else_size, stmt_size, block_size, stmts_size}
-use Rattle.oc_tree.specs.Calls.{expr_calls, right_calls, own_calls, kind_hides, kind_kinds, else_kinds, block_kinds, stmts_kinds}
+use Rattle.oc_tree.specs.Expansion.{inner_size, else_size, block_size, stmts_size}
+use Rattle.oc_tree.specs.Calls.{expr_calls, right_calls, kind_hides, kind_kinds, else_kinds, block_kinds, stmts_kinds}
 use Rattle.oc_tree.specs.Rules.{call_args}
 use Rattle.oc_tree.specs.Stack.{kind_slots, block_slots}
 use Rattle.oc_isa.specs.declared.instr.Placed.{Placed}

@@ -24,5 +24,6 @@ pub mod Stack
 pub mod Broken
 pub mod Places
 pub mod Sought
+pub mod Visible
 pub mod Checked
 pub mod Numbered

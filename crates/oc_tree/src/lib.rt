@@ -12,4 +12,5 @@ mod places;
 pub mod said;
 pub mod scope;
 pub mod tree;
+mod visible;
 pub mod written;

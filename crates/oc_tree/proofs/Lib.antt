@@ -1,5 +1,6 @@
 pub mod ReachLaws
 pub mod Worked
+pub mod WorkedChecked
 pub mod FewVariables
 pub mod Maps
 pub mod Resolved

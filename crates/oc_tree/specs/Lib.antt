@@ -26,4 +26,5 @@ pub mod Places
 pub mod Sought
 pub mod Visible
 pub mod Checked
+pub mod Example
 pub mod Numbered

@@ -17,7 +17,7 @@ abbrev pub Passes : Table → Type 0
 Passes [] = Unit {0}
 Passes (r ∷ rs) = (r.1 ≡ false) × Passes rs
 
-none_broken : (rs : Table) → lowest rs ≡ None → Passes rs
+pub none_broken : (rs : Table) → lowest rs ≡ None → Passes rs
 none_broken [] h = tt
 none_broken (r ∷ rs) h = by r.1 refl (none_broken rs)
   where

@@ -19,3 +19,5 @@ pub mod StmtLengths
 pub mod CodeShort
 pub mod Law
 pub mod BlockRanges
+pub mod RegionCounts
+pub mod PairsAround

@@ -21,3 +21,4 @@ pub mod Law
 pub mod BlockRanges
 pub mod RegionCounts
 pub mod PairsAround
+pub mod RegionsMarked

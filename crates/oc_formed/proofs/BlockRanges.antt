@@ -1,5 +1,5 @@
 -- In which blocks the statements of a tree stand, where statements and blocks are numbered in source order.
-use Rattle.std.proofs.Common.{◌≡◌, ◌<◌, ◌≤◌, ◌⊎◌, inl, inr, ℕ, suc, ◌+◌, List, [], ◌∷◌, ◌++◌, length, refl, ap, sym, ◌∙◌, subst, arith, length-append, flat_map}
+use Rattle.std.proofs.Common.{◌≡◌, ◌<◌, ◌≤◌, ◌⊎◌, inl, inr, ℕ, suc, ◌+◌, List, [], ◌∷◌, ◌++◌, length, refl, arith, length-append, flat_map}
 use Rattle.oc_tree.specs.Tree.{TKind, let_to, let_array, assign, assign_index, assign_deref, if_else, for_in, while_do, call_only, sense_only, emit, fresh, consistent, return, TElse, no_else, else_do, stmt, TBlock, block, TStmts, no_stmts, more, TFunction}
 use Rattle.oc_tree.specs.Numbers.{kind_statements, else_statements, block_statements, stmts_statements, kind_blocks, else_blocks, block_blocks, stmts_blocks}
 use Rattle.oc_desugar.proofs.NumberLists.{Follow, first_of, parts}
@@ -119,11 +119,12 @@ mutual
       let i' = i + length (id ∷ kind_statements k) in
       let j' = j + length (kind_blocks k) in
       let own = kind_ranged (suc i) j k o.1 t.0 in
-      let others = stmts_ranged b i' j' ss s.1 t.1 in
-      (((omega (arith, o.0), omega (arith, o.0, m)), inl refl),
+      let others = stmts_ranged b i' j' ss s.1 t.1 in (
+        ((omega (arith, o.0), omega (arith, o.0, m)), inl refl),
         pairs_join (RangedIn b i z j d) (kind_pairs k) (stmts_pairs b ss)
-        (wider_in b (suc i) (suc i + length (kind_statements k)) j j' i z j d (omega arith) (omega (arith, m)) (omega arith) (omega (arith, n)) (kind_pairs k) own)
-        (widest b i' (i' + length (stmts_statements ss)) j' (j' + length (stmts_blocks ss)) i z j d (omega arith) (omega (arith, m)) (omega arith) (omega (arith, n)) (stmts_pairs b ss) others))
+            (wider_in b (suc i) (suc i + length (kind_statements k)) j j' i z j d (omega arith) (omega (arith, m)) (omega arith) (omega (arith, n)) (kind_pairs k) own)
+            (widest b i' (i' + length (stmts_statements ss)) j' (j' + length (stmts_blocks ss)) i z j d (omega arith) (omega (arith, m)) (omega arith) (omega (arith, n)) (stmts_pairs b ss) others),
+      )
 
 -- functions
 pub functions_ranged : (i j : ℕ) (fs : List TFunction) → Follow i (flat_map (λ f. block_statements f.body) fs) → Follow j (flat_map (λ f. block_blocks f.body) fs) → EachPair (Ranged i (i + length (flat_map (λ f. block_statements f.body) fs)) j (j + length (flat_map (λ f. block_blocks f.body) fs))) (flat_map (λ f. block_pairs f.body) fs)

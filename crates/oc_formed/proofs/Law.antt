@@ -6,7 +6,7 @@ use Rattle.std.proofs.lemmas.Bool.{ltb-false}
 use Rattle.std.proofs.lemmas.List.Elements.{All-nil}
 use Rattle.oc_tree.specs.Tree.{TFunction, TProgram}
 use Rattle.oc_tree.specs.declared.said.Target.{Target}
-use Rattle.oc_tree.specs.Marked.{TRegion}
+use Rattle.oc_tree.specs.Marked.{TRegion, TMarked, IsMarked}
 use Rattle.oc_tree.specs.Checked.{Group, IsChecked}
 use Rattle.oc_tree.specs.Stack.{stack_words}
 use Rattle.oc_tree.specs.Broken.{size_rules, lowest, or_later, or_size}
@@ -16,6 +16,8 @@ use Rattle.oc_desugar.proofs.OwnExpansion.{own_expansion}
 use Rattle.oc_desugar.proofs.SizesKept.{unbroken_element}
 use Rattle.oc_desugar.proofs.Unbroken.{Passes, none_broken}
 use Rattle.oc_formed.proofs.BodiesMarked.{BlockMarked, block_unmarked}
+use Rattle.oc_formed.proofs.RegionsMarked.{bodies_marked}
+use Rattle.oc_formed.proofs.RegionsApart.{in_blocks, firsts_differ, lasts_differ, ids_known}
 use Rattle.oc_formed.proofs.BodiesFormed.{marked_bodies_formed}
 use Rattle.oc_formed.proofs.Ranks.{rank_of}
 use Rattle.oc_formed.proofs.CallsFall.{ranks_fall, main_low}
@@ -70,3 +72,12 @@ module _ (p : TProgram) (groups : List Group) (checked : IsChecked p groups) whe
 -- without regions
 pub checked_formed : (p : TProgram) (groups : List Group) → IsChecked p groups → IsFormed p [] []
 checked_formed p groups checked = marked_formed p groups checked [] [] (λ i f stands. block_unmarked f.body) (All-nil (λ r. (1 ≤ r.id) × (r.id ≤ 0)))
+
+-- with the regions of a marked program
+pub marked_program_formed : (m : TMarked) (targets : List (List Target)) → IsMarked m → length m.regions ≤ length targets → IsFormed m.program m.regions targets
+marked_program_formed m targets is enough =
+    let are = is.regions in
+    let n = length m.policies in
+    marked_formed m.program m.groups is.checked m.regions targets
+    (bodies_marked m.program is.checked.form.numbered m.regions (in_blocks m.program n m.regions are) (firsts_differ m.program n m.regions are) (lasts_differ m.program n m.regions are))
+    (ids_known m.program n m.regions are (length targets) enough)

@@ -17,8 +17,9 @@ pub mod CallsFall
 pub mod ExprLengths
 pub mod StmtLengths
 pub mod CodeShort
-pub mod Law
 pub mod BlockRanges
 pub mod RegionCounts
 pub mod PairsAround
 pub mod RegionsMarked
+pub mod RegionsApart
+pub mod Law

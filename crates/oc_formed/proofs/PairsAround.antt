@@ -1,9 +1,9 @@
 -- The statements around a part of a program, and what they tell of the blocks in which statements stand.
-use Rattle.std.proofs.Common.{◌≡◌, ◌<◌, ◌≤◌, ◌⊎◌, inl, inr, ℕ, suc, ◌+◌, Bool, true, false, List, [], ◌∷◌, ◌++◌, length, cond, Option, Some, None, refl, ap, sym, ◌∙◌, subst, arith, append_assoc}
+use Rattle.std.proofs.Common.{◌≡◌, ◌<◌, ◌≤◌, ◌⊎◌, inl, inr, ℕ, suc, Bool, true, false, List, [], ◌∷◌, ◌++◌, cond, Some, refl, ap, sym, ◌∙◌, subst, arith, append_assoc}
 use Rattle.std.specs.Prelude.{◌==◌}
 use Rattle.std.proofs.lemmas.Bool.{eqb-true}
 use Rattle.std.proofs.lemmas.Option.{none-some, same_Some}
-use Rattle.oc_tree.specs.Tree.{TBlock, TProgram}
+use Rattle.oc_tree.specs.Tree.{TProgram}
 use Rattle.oc_tree.specs.Places.{block_of}
 use Rattle.oc_desugar.proofs.BlockPairs.{Pair, block_beside, block_is_beside, program_pairs}
 use Rattle.oc_formed.proofs.BlockRanges.{EachPair, pairs_join, pairs_map, From, Ranged, RangedIn}
@@ -101,11 +101,12 @@ module _ (p : TProgram) where
   pub in_block_gap : (i z j d m j' b : ℕ) (ks ss : List Pair) → m ≤ z → b < j → EachPair (Ranged (suc i) m j j') ks → EachPair (RangedIn b m z j' d) ss → Around i z j d ((i, b) ∷ (ks ++ ss)) → (s : ℕ) → block_of p s ≡ Some b → Gap i m s
   in_block_gap i z j d m j' b ks ss l lt r q a s h =
       told P i z j d ((i, b) ∷ (ks ++ ss)) a
-      (pairs_map (Earlier i j d) P (λ x o at. inl (omega (arith, o.0))) a.front a.before)
-      (λ at. inl (omega arith),
+      (pairs_map (Earlier i j d) P (λ x o at. inl (omega (arith, o.0))) a.front a.before) (
+        λ at. inl (omega arith),
         pairs_join P ks ss
-        (pairs_map (Ranged (suc i) m j j') P (λ x o at. absurd (omega (arith, at, lt, o.1.0))) ks r)
-        (pairs_map (RangedIn b m z j' d) P (λ x o at. inr o.0.0) ss q))
+            (pairs_map (Ranged (suc i) m j j') P (λ x o at. absurd (omega (arith, at, lt, o.1.0))) ks r)
+            (pairs_map (RangedIn b m z j' d) P (λ x o at. inr o.0.0) ss q),
+      )
       (pairs_map (Later z j d) P (λ x o at. inr (omega (arith, o.0, l))) a.back a.behind)
       s b h refl
     where

@@ -1,5 +1,5 @@
 -- How many regions begin with a statement, end with it, and are open in front of it.
-use Rattle.std.proofs.Common.{◌≡◌, ◌<◌, ◌≤◌, ◌⊎◌, inl, inr, ℕ, suc, ◌+◌, Bool, true, false, List, [], ◌∷◌, sum_by, cond, Option, Some, None, refl, ap, sym, ◌∙◌, arith}
+use Rattle.std.proofs.Common.{◌≡◌, ◌<◌, ◌≤◌, ◌⊎◌, inl, inr, ℕ, ◌+◌, Bool, true, false, List, [], ◌∷◌, sum_by, cond, Option, Some, refl, ap, sym, ◌∙◌, arith}
 use Rattle.std.specs.Prelude.{◌==◌, ◌&&◌, nat_lt, nat_le, if◌then◌else◌}
 use Rattle.std.proofs.lemmas.Bool.{eqb-true, eqb-false, eq-eqb, ne_eqb, lt-ltb, le-ltb, le-leb, lt-leb}
 use Rattle.std.proofs.lemmas.Option.{same_Some}
@@ -44,6 +44,7 @@ open_at rs b n = sum_by (opens b n) rs
 
 -- ---- at most one region begins or ends with a statement
 
+-- where none has the number n, the count is 0
 none_keyed : (key : TRegion → ℕ) (n : ℕ) (rs : List TRegion) → EachRegion (λ q. key q ≡ n → ⊥) rs → sum_by (λ r. one_if (n == key r)) rs ≡ 0
 none_keyed key n [] h = refl
 none_keyed key n (r ∷ rs) h =
@@ -85,12 +86,15 @@ ended_counted (r ∷ rs) n d = go (n == r.last) refl (ended_counted rs n d.1) �
 abbrev pub Gap : (n m s : ℕ) → Type 0
 Gap n m s = (s ≤ n) ⊎ (m ≤ s)
 
+-- begun before n, and not ended before
 spans_yes : (f l n : ℕ) → f < n → n ≤ l → spans f l n ≡ 1
 spans_yes f l n a b = ap (λ c. one_if (c && nat_le n l)) (lt-ltb f n a) ∙ ap one_if (le-leb n l b)
 
+-- not begun before n
 spans_before : (f l n : ℕ) → n ≤ f → spans f l n ≡ 0
 spans_before f l n a = ap (λ c. one_if (c && nat_le n l)) (le-ltb f n a)
 
+-- ended before n
 spans_behind : (f l n : ℕ) → l < n → spans f l n ≡ 0
 spans_behind f l n a = ap (λ c. one_if (nat_lt f n && c)) (lt-leb n l a) ∙ both (nat_lt f n)
   where
@@ -98,12 +102,15 @@ spans_behind f l n a = ap (λ c. one_if (nat_lt f n && c)) (lt-leb n l a) ∙ bo
     both true = refl
     both false = refl
 
+-- the same number
 is_one : (n f : ℕ) → n ≡ f → one_if (n == f) ≡ 1
 is_one n f e = ap one_if (eq-eqb n f e)
 
+-- another number
 is_none : (n f : ℕ) → (n ≡ f → ⊥) → one_if (n == f) ≡ 0
 is_none n f e = ap one_if (ne_eqb n f e)
 
+-- at most n is less or n
 less_or_same : (f n : ℕ) → f ≤ n → (f < n) ⊎ (n ≡ f)
 less_or_same f n a = go (n == f) refl
   where
@@ -115,6 +122,7 @@ less_or_same f n a = go (n == f) refl
 abbrev Crosses : (f l n m : ℕ) → Type 0
 Crosses f l n m = spans f l n + one_if (n == f) ≡ spans f l m + one_if (n == l)
 
+-- of a region that begins from m on
 begun_later : (f l n m : ℕ) → f ≤ l → n < m → m ≤ f → Crosses f l n m
 begun_later f l n m o lt a =
     let none : spans f l n ≡ 0 = spans_before f l n (omega (arith, a, lt)) in
@@ -123,6 +131,7 @@ begun_later f l n m o lt a =
     let stop : one_if (n == l) ≡ 0 = is_none n l (λ e. omega (arith, e, a, o, lt)) in
     omega (arith, none, later, start, stop)
 
+-- of one that begins before n
 begun_before : (f l n m : ℕ) → f < n → n < m → Gap n m l → Crosses f l n m
 begun_before f l n m a lt (inr b) =
     let on : spans f l n ≡ 1 = spans_yes f l n a (omega (arith, b, lt)) in
@@ -146,6 +155,7 @@ begun_before f l n m a lt (inl b) =
         let stop : one_if (n == l) ≡ 1 = is_one n l e in
         omega (arith, on, stop)
 
+-- of one that begins at n
 begun_here : (f l n m : ℕ) → f ≤ l → n < m → n ≡ f → Gap n m l → Crosses f l n m
 begun_here f l n m o lt e (inr b) =
     let none : spans f l n ≡ 0 = spans_before f l n (omega (arith, e)) in
@@ -161,6 +171,7 @@ begun_here f l n m o lt e (inl b) =
     let stop : one_if (n == l) ≡ 1 = is_one n l same in
     omega (arith, none, later, start, stop)
 
+-- of any
 across : (f l n m : ℕ) → f ≤ l → n < m → Gap n m f → Gap n m l → Crosses f l n m
 across f l n m o lt (inr a) gap = begun_later f l n m o lt a
 across f l n m o lt (inl a) gap = go (less_or_same f n a)
@@ -201,6 +212,7 @@ module _ (spot : ℕ → Option ℕ) where
           let stop : ends n r ≡ 0 = is_none n r.last (elsewhere d r.last at.last_there) in
           omega (arith, now, later, start, stop)
 
+  -- the same of all regions
   pub all_across : (b n m : ℕ) → spot n ≡ Some b → n < m → ((s : ℕ) → spot s ≡ Some b → Gap n m s) → (rs : List TRegion) → EachRegion InBlock rs → open_at rs b n + sum_by (begins n) rs ≡ open_at rs b m + sum_by (ends n) rs
   all_across b n m here lt gap [] at = refl
   all_across b n m here lt gap (r ∷ rs) at =

@@ -1,10 +1,10 @@
 -- The regions of a marked program begin and end in the same block.
-use Rattle.std.proofs.Common.{◌≡◌, ◌<◌, ◌≤◌, ◌⊎◌, inl, inr, ℕ, zero, suc, ◌+◌, List, [], ◌∷◌, ◌++◌, length, sum_by, Option, Some, None, refl, ap, sym, ◌∙◌, subst, arith, length-append, append-nil, flat_map}
+use Rattle.std.proofs.Common.{◌≡◌, ◌<◌, ◌⊎◌, inl, inr, ℕ, zero, suc, ◌+◌, List, [], ◌∷◌, ◌++◌, length, sum_by, Some, ap, sym, ◌∙◌, subst, arith, length-append, append-nil, flat_map}
 use Rattle.std.specs.Prelude.{slice_get}
 use Rattle.std.proofs.lemmas.Option.{none-some, same_Some}
 use Rattle.oc_tree.specs.Tree.{TKind, let_to, let_array, assign, assign_index, assign_deref, if_else, for_in, while_do, call_only, sense_only, emit, fresh, consistent, return, TElse, no_else, else_do, stmt, TBlock, block, TStmts, no_stmts, more, TFunction, TProgram}
 use Rattle.oc_tree.specs.Form.{Numbered}
-use Rattle.oc_tree.specs.Numbers.{kind_statements, else_statements, block_statements, stmts_statements, program_statements, kind_blocks, else_blocks, block_blocks, stmts_blocks, program_blocks}
+use Rattle.oc_tree.specs.Numbers.{kind_statements, else_statements, block_statements, stmts_statements, kind_blocks, else_blocks, block_blocks, stmts_blocks}
 use Rattle.oc_tree.specs.Places.{block_of}
 use Rattle.oc_tree.specs.Marked.{TRegion}
 use Rattle.oc_meaning.specs.Exec.{begun_by, ended_by}
@@ -13,7 +13,7 @@ use Rattle.oc_desugar.proofs.NumberLists.{Follow, first_of, parts}
 use Rattle.oc_desugar.proofs.BlockPairs.{Pair, kind_pairs, else_pairs, block_pairs, stmts_pairs, program_pairs, block_there}
 use Rattle.oc_formed.proofs.BodiesMarked.{KindMarked, ElseMarked, BlockMarked, StmtsMarked}
 use Rattle.oc_formed.proofs.BlockRanges.{EachPair, pairs_map, From, Ranged, RangedIn, kind_ranged, else_ranged, block_ranged, stmts_ranged, functions_ranged}
-use Rattle.oc_formed.proofs.RegionCounts.{EachRegion, Differ, begins, ends, open_at, begun_counted, ended_counted, Gap, InBlock, all_across, none_before, none_behind}
+use Rattle.oc_formed.proofs.RegionCounts.{EachRegion, Differ, begins, ends, open_at, begun_counted, ended_counted, InBlock, all_across, none_before, none_behind}
 use Rattle.oc_formed.proofs.PairsAround.{Outside, Earlier, Later, Around, around_first, around_second, around_less, in_block_range, in_block_gap}
 
 -- what is in a range is behind what ends where it begins
@@ -49,12 +49,15 @@ module _ (p : TProgram) (numbered : Numbered p) (regions : List TRegion) (within
 
   -- a statement of the block b, with those inside it and those behind it
   module _ (b i j : ℕ) (n : ℕ) (k : TKind) (rest : TStmts) where
+    -- the statements inside it
     abbrev inner : List ℕ
     inner = kind_statements k
 
+    -- the number of the statement behind it
     abbrev next : ℕ
     next = i + suc (length inner)
 
+    -- the number of the block behind those inside it
     abbrev after : ℕ
     after = j + length (kind_blocks k)
 
@@ -69,6 +72,7 @@ module _ (p : TProgram) (numbered : Numbered p) (regions : List TRegion) (within
       inside : EachPair (Ranged (suc i) next j after) (kind_pairs k)
       others : EachPair (RangedIn b next (next + length (stmts_statements rest)) after (after + length (stmts_blocks rest))) (stmts_pairs b rest)
 
+    -- around what is inside and behind it
     behind_own : Known → Around p (suc i) (next + length (stmts_statements rest)) j (after + length (stmts_blocks rest)) (kind_pairs k ++ stmts_pairs b rest)
     behind_own h =
         around_second p i (next + length (stmts_statements rest)) j (after + length (stmts_blocks rest)) (suc i) j (after + length (stmts_blocks rest)) ((i, b) ∷ []) (kind_pairs k ++ stmts_pairs b rest) (omega arith) (omega arith) (omega arith)
@@ -107,9 +111,10 @@ module _ (p : TProgram) (numbered : Numbered p) (regions : List TRegion) (within
         let s = parts i (block_statements a) (else_statements b) f in
         let t = parts j (block_blocks a) (else_blocks b) g in
         let i' = i + length (block_statements a) in
-        let j' = j + length (block_blocks a) in
-        (block_is_marked i j a s.0 t.0 (part_first i j (block_statements a) (else_statements b) (block_blocks a) (else_blocks b) (block_pairs a) (else_pairs b) (else_ranged i' j' b s.1 t.1) h),
-          else_is_marked i' j' b s.1 t.1 (part_second i j (block_statements a) (else_statements b) (block_blocks a) (else_blocks b) (block_pairs a) (else_pairs b) (block_ranged i j a s.0 t.0) h))
+        let j' = j + length (block_blocks a) in (
+          block_is_marked i j a s.0 t.0 (part_first i j (block_statements a) (else_statements b) (block_blocks a) (else_blocks b) (block_pairs a) (else_pairs b) (else_ranged i' j' b s.1 t.1) h),
+          else_is_marked i' j' b s.1 t.1 (part_second i j (block_statements a) (else_statements b) (block_blocks a) (else_blocks b) (block_pairs a) (else_pairs b) (block_ranged i j a s.0 t.0) h),
+        )
     kind_is_marked i j (for_in x m n b) f g h = block_is_marked i j b f g h
     kind_is_marked i j (while_do c n b) f g h = block_is_marked i j b f g h
     kind_is_marked i j (let_to m x t r) f g h = tt
@@ -161,11 +166,12 @@ module _ (p : TProgram) (numbered : Numbered p) (regions : List TRegion) (within
           inside = subst (λ z. EachPair (Ranged (suc i) z j after) (kind_pairs k)) width (kind_ranged (suc i) j k o.1 t.0);
           others = stmts_ranged b next after rest s.1 t.1;
         } in
-        let inner = subst (λ z. Around p (suc i) z j after (kind_pairs k)) (sym width) (inside_part b i j n k rest known) in
-        (kind_is_marked (suc i) j k o.1 t.0 inner,
+        let inner = subst (λ z. Around p (suc i) z j after (kind_pairs k)) (sym width) (inside_part b i j n k rest known) in (
+          kind_is_marked (suc i) j k o.1 t.0 inner,
           open_at regions b next,
           crossed b i j n k rest known o.0,
-          stmts_are_marked b next after rest s.1 t.1 (rest_part b i j n k rest known) (omega (arith, below)) (λ x e. omega (arith, end x e, top)))
+          stmts_are_marked b next after rest s.1 t.1 (rest_part b i j n k rest known) (omega (arith, below)) (λ x e. omega (arith, end x e, top)),
+        )
 
   -- functions
   functions_marked : (i j : ℕ) (fs : List TFunction) → Follow i (flat_map (λ f. block_statements f.body) fs) → Follow j (flat_map (λ f. block_blocks f.body) fs) → Part i j (flat_map (λ f. block_statements f.body) fs) (flat_map (λ f. block_blocks f.body) fs) (flat_map (λ f. block_pairs f.body) fs) → (u : ℕ) (f : TFunction) → slice_get fs u ≡ Some f → BlockMarked regions f.body
@@ -185,6 +191,7 @@ module _ (p : TProgram) (numbered : Numbered p) (regions : List TRegion) (within
       go zero e own others = subst (λ (z : TFunction). BlockMarked regions z.body) (same_Some y x e) own
       go (suc v) e own others = others v x e
 
+  -- all functions
   pub bodies_marked : (u : ℕ) (f : TFunction) → slice_get p.functions u ≡ Some f → BlockMarked regions f.body
   bodies_marked = functions_marked 1 1 p.functions numbered.statements numbered.blocks (record {
     front = [];

@@ -13,14 +13,17 @@ use Rattle.oc_tree.specs.Stack.{frame, expr_depth, args_depth, function_stack, s
 use Rattle.oc_meaning.specs.Run.{function_named}
 
 module _ (need : Text → ℕ) where
+  -- its arguments, the stack of the called function, and a result
   abbrev pub call_depth : TCall → ℕ
   call_depth (call f args) = max 1 (max (args_depth args) (need f))
 
+  -- a right side
   abbrev pub right_depth : TRight → ℕ
   right_depth (right_value e) = expr_depth e
   right_depth (right_sense s) = 1
   right_depth (right_call c) = call_depth c
 
+  -- how many words there are at most on top of the frame: in a statement
   abbrev mutual
     pub kind_depth : TKind → ℕ
     kind_depth (let_to m x k r) = right_depth r
@@ -38,36 +41,44 @@ module _ (need : Text → ℕ) where
     kind_depth (consistent x k) = 0
     kind_depth (return e) = expr_depth e
 
+    -- in what stands behind `else`
     pub else_depth : TElse → ℕ
     else_depth no_else = 0
     else_depth (else_do b) = block_depth b
 
+    -- in a block
     pub block_depth : TBlock → ℕ
     block_depth (block id ss) = stmts_depth ss
 
+    -- in statements
     pub stmts_depth : TStmts → ℕ
     stmts_depth no_stmts = 0
     stmts_depth (more (stmt id line k) rest) = max (kind_depth k) (stmts_depth rest)
 
+-- the stack of a function: its frame, and what its statements have on top of it
 abbrev pub function_need : (Text → ℕ) → Option TFunction → ℕ
 function_need need None = 0
 function_need need (Some f) = frame f + block_depth need f.body
 
--- ---- what is known of functions by their places is known by their names
+-- ---- what is known of functions by their places is known by their names: how many words are on top of a frame
 
 module _ (fs : List TFunction) (ws : List ℕ) where
+  -- what is known of a function, by its name
   abbrev by_name : Text → ℕ
   by_name x = known_of ws (function_place fs x)
 
+  -- of a call
   call_same : (c : TCall) → tree.call_depth fs ws c ≡ call_depth by_name c
   call_same (call f args) = refl
 
+  -- of a right side
   right_same : (r : TRight) → tree.right_depth fs ws r ≡ right_depth by_name r
   right_same (right_value e) = refl
   right_same (right_sense s) = refl
   right_same (right_call c) = call_same c
 
   mutual
+    -- of a statement
     kind_same : (k : TKind) → tree.kind_depth fs ws k ≡ kind_depth by_name k
     kind_same (let_to m x t r) = right_same r
     kind_same (let_array m x t z n) = refl
@@ -84,22 +95,27 @@ module _ (fs : List TFunction) (ws : List ℕ) where
     kind_same (consistent x k) = refl
     kind_same (return e) = refl
 
+    -- of what stands behind `else`
     else_same : (b : TElse) → tree.else_depth fs ws b ≡ else_depth by_name b
     else_same no_else = refl
     else_same (else_do b) = block_same b
 
+    -- of a block
     block_same : (b : TBlock) → tree.block_depth fs ws b ≡ block_depth by_name b
     block_same (block id ss) = stmts_same ss
 
+    -- of statements
     stmts_same : (ss : TStmts) → tree.stmts_depth fs ws ss ≡ stmts_depth by_name ss
     stmts_same no_stmts = refl
     stmts_same (more (stmt id line k) rest) = ap (λ n. max n (tree.stmts_depth fs ws rest)) (kind_same k) ∙ ap (max (kind_depth by_name k)) (stmts_same rest)
 
+  -- of a function
   function_same : (f : TFunction) → function_stack fs ws f ≡ function_need by_name (Some f)
   function_same f = ap (λ n. frame f + n) (block_same f.body)
 
 -- ---- the stack of a function, where calls go at most so deep
 
+-- by its name
 abbrev pub need_to : List TFunction → ℕ → Text → ℕ
 need_to fs d x = known_of (stacks_to fs d) (function_place fs x)
 
@@ -108,12 +124,14 @@ abbrev FoundAt : ℕ → List TFunction → Text → Option TFunction → Type 0
 FoundAt n fs x None = place_from n (function_names fs) x ≡ None
 FoundAt n fs x (Some f) = (i : ℕ) × (place_from n (function_names fs) x ≡ Some (n + i)) × (slice_get fs i ≡ Some f)
 
+-- with one more function before those in which it is found
 later : (n : ℕ) (g : TFunction) (fs : List TFunction) (x : Text) → bytes_eq x g.name ≡ false → (o : Option TFunction) → FoundAt (n + 1) fs x o → FoundAt n (g ∷ fs) x o
 later n g fs x is None at = ap (λ b. cond b (Some n) (place_from (n + 1) (function_names fs) x)) is ∙ at
 later n g fs x is (Some f) at =
     let next : n + 1 + at.0 ≡ n + suc at.0 = omega arith in
     (suc at.0, ap (λ b. cond b (Some n) (place_from (n + 1) (function_names fs) x)) is ∙ at.1 ∙ ap Some next, at.2)
 
+-- whatever is found by its name is found so
 found_at_place : (n : ℕ) (fs : List TFunction) (x : Text) → FoundAt n fs x (function_named fs x)
 found_at_place n [] x = refl
 found_at_place n (g ∷ fs) x = go (bytes_eq x g.name) refl (found_at_place (n + 1) fs x)
@@ -122,6 +140,7 @@ found_at_place n (g ∷ fs) x = go (bytes_eq x g.name) refl (found_at_place (n +
     go true is at = let here : n ≡ n + 0 = omega arith in (0, ap (λ b. cond b (Some n) (place_from (n + 1) (function_names fs) x)) is ∙ ap Some here, refl)
     go false is at = later n g fs x is (function_named fs x) at
 
+-- what is known of the function at a place
 mapped_at : (F : TFunction → ℕ) (fs : List TFunction) (i : ℕ) (f : TFunction) → slice_get fs i ≡ Some f → get_or (map F fs) i 0 ≡ F f
 mapped_at F [] i f e = absurd (none-some f e)
 mapped_at F (g ∷ fs) zero f e = ap F (same_Some g f e)

@@ -13,19 +13,24 @@ use Rattle.oc_tree.specs.Rules.{has_bad_length}
 use Rattle.oc_formed.proofs.Declared.{AllWithin, words_in}
 
 module _ (p : TProgram) (within : AllWithin p) where
+  -- at most 64 sensors
   pub few_sensors : length p.names.sensors ≤ 64
   few_sensors = omega (arith, within.sensors, within.within.sensors)
 
+  -- at most 64 ports
   pub few_ports : length p.names.ports ≤ 64
   few_ports = omega (arith, within.ports, within.within.ports)
 
+  -- at most 64 nonvolatile variables
   pub few_nvs : length p.names.nvs ≤ 64
   few_nvs = omega (arith, within.nvs, within.within.nvs)
 
+  -- at most 128 functions
   pub few_functions : length p.functions ≤ 128
   few_functions = omega (arith, within.functions, within.within.functions)
 
   module _ (each : length p.nv ≡ length p.names.nvs) where
+    -- at most 65,536 nonvolatile words
     pub few_words : sum_by (λ d. d.words) p.nv ≤ 65536
     few_words =
         let end : within.before.nvs ≡ length p.nv = within.nvs ∙ sym each in
@@ -41,6 +46,7 @@ module _ (p : TProgram) (within : AllWithin p) where
         first true b h = h
         first false b h = refl
 
+    -- each nonvolatile variable has a word
     pub nv_some : All NvInForm p.nv → All (λ d. 1 ≤ d.words) p.nv
     nv_some form i d below =
         let own = get_or p.nv i d in

@@ -25,22 +25,27 @@ KindsCall P [] = Unit {0}
 KindsCall P (k ∷ ks) = Each P (own_calls k) × KindsCall P ks
 
 module _ (P : TCall → Type 0) where
+  -- what holds of the calls of both lists holds of those of one behind the other
   pub kinds_join : (xs ys : List TKind) → KindsCall P xs → KindsCall P ys → KindsCall P (xs ++ ys)
   kinds_join [] ys h g = g
   kinds_join (k ∷ xs) ys h g = (h.0, kinds_join xs ys h.1 g)
 
+  -- what holds of the calls of a list holds of those of its front
   pub kinds_front : (xs ys : List TKind) → KindsCall P (xs ++ ys) → KindsCall P xs
   kinds_front [] ys h = tt
   kinds_front (k ∷ xs) ys h = (h.0, kinds_front xs ys h.1)
 
+  -- and of those of its end
   pub kinds_back : (xs ys : List TKind) → KindsCall P (xs ++ ys) → KindsCall P ys
   kinds_back [] ys h = h
   kinds_back (k ∷ xs) ys h = kinds_back xs ys h.1
 
+  -- of two lists of calls one behind the other
   each_join : (xs ys : List TCall) → Each P xs → Each P ys → Each P (xs ++ ys)
   each_join [] ys h g = g
   each_join (c ∷ xs) ys h g = (h.0, each_join xs ys h.1 g)
 
+  -- from statements to the calls in them
   all_calls : (ks : List TKind) → KindsCall P ks → Each P (flat_map own_calls ks)
   all_calls [] h = tt
   all_calls (k ∷ ks) h = each_join (own_calls k) (flat_map own_calls ks) h.0 (all_calls ks h.1)
@@ -65,11 +70,13 @@ none_hides (return e) = refl
 -- ---- what holds of each call of a body
 
 module _ (p : TProgram) (u : ℕ) (P : TCall → Type 0) (gives : (h : Here) → h.number ≡ u → (c : TCall) → CallFine p h c → P c) where
+  -- of a statement's calls
   each_so : (h : Here) → h.number ≡ u → (cs : List TCall) → Each (CallFine p h) cs → Each P cs
   each_so h e [] f = tt
   each_so h e (c ∷ cs) f = (gives h e c f.0, each_so h e cs f.1)
 
   mutual
+    -- of a statement and those in it
     kind_so : (h : Here) → h.number ≡ u → (k : TKind) → Each P (own_calls k) → AllFine p (kind_elements p h k) → KindsCall P (kind_kinds None k)
     kind_so h e (let_to m x t r) c f = (c, tt)
     kind_so h e (let_array m x t z n) c f = (c, tt)
@@ -89,13 +96,16 @@ module _ (p : TProgram) (u : ℕ) (P : TCall → Type 0) (gives : (h : Here) →
     kind_so h e (consistent x n) c f = (c, tt)
     kind_so h e (return a) c f = (c, tt)
 
+    -- of what stands behind `else`
     else_so : (h : Here) → h.number ≡ u → (b : TElse) → AllFine p (else_elements p h b) → KindsCall P (else_kinds None b)
     else_so h e no_else f = tt
     else_so h e (else_do b) f = block_so h e b f
 
+    -- of a block
     block_so : (h : Here) → h.number ≡ u → (b : TBlock) → AllFine p (block_elements p h b) → KindsCall P (block_kinds None b)
     block_so h e (block id ss) f = stmts_so (record h { block = id }) e ss f
 
+    -- of statements
     stmts_so : (h : Here) → h.number ≡ u → (ss : TStmts) → AllFine p (stmts_elements p h ss) → KindsCall P (stmts_kinds None ss)
     stmts_so h e no_stmts f = tt
     stmts_so h e (more (stmt id line k) ss) f =
@@ -119,6 +129,7 @@ body_away p u f h = all_calls (Away p u) (block_kinds None f.body) (body_so p u 
 
 -- ---- links
 
+-- a test holds of one in a joined list, where it does in one of both
 pub any_append : {A : Type 0} (test : A → Bool) (xs ys : List A) → list_any test (xs ++ ys) ≡ list_any test xs || list_any test ys
 any_append test [] ys = refl
 any_append test (x ∷ xs) ys = or_join (test x) (list_any test xs) (list_any test (xs ++ ys)) (list_any test ys) (any_append test xs ys)
@@ -127,10 +138,12 @@ any_append test (x ∷ xs) ys = or_join (test x) (list_any test xs) (list_any te
     or_join true b c d e = refl
     or_join false b c d e = e
 
+-- of both the first
 and_first : (a b : Bool) → a && b ≡ true → a ≡ true
 and_first true b h = refl
 and_first false b h = h
 
+-- of both the second
 and_second : (a b : Bool) → a && b ≡ true → b ≡ true
 and_second true b h = h
 and_second false b h = absurd (true≢false (sym h))
@@ -145,9 +158,11 @@ place_below n (y ∷ ys) x i e = go (bytes_eq x y) e (place_below (n + 1) ys x i
     go false h rest = omega (arith, rest h)
 
 module _ (p : TProgram) where
+  -- the names of the functions
   abbrev names : List Text
   names = function_names p.functions
 
+  -- of the links of one call from the function w
   one_link : (w : ℕ) (r : Option ℕ) (x : Text) (u v : ℕ) → place names x ≡ r → at_place (back_to p w) r ≡ false → linked (map (λ a. (w, a)) (option_to_list r)) u v ≡ true → (w ≡ u) × (v < length names) × (back_to p w v ≡ false)
   one_link w None x u v is away h = absurd (true≢false (sym h))
   one_link w (Some i) x u v is away h = or_elim (is_link u v (w, i)) false h
@@ -157,6 +172,7 @@ module _ (p : TProgram) where
       (eqb-true w u (and_first (nat_eq w u) (nat_eq i v) k), omega (arith, at, below), subst (λ n. back_to p w n ≡ false) at away))
       (λ k. absurd (true≢false (sym k)))
 
+  -- of the links of the calls of the function w
   row_link : (w : ℕ) (cs : List TCall) (u v : ℕ) → Each (Away p w) cs → linked (map (λ a. (w, a)) (called_places names cs)) u v ≡ true → (w ≡ u) × (v < length names) × (back_to p w v ≡ false)
   row_link w [] u v away h = absurd (true≢false (sym h))
   row_link w (c ∷ cs) u v away h =
@@ -167,6 +183,7 @@ module _ (p : TProgram) where
       (λ k. one_link w (place names (callee c)) (callee c) u v refl away.0 k)
       (λ k. row_link w cs u v away.1 k)
 
+  -- of the links of functions of which the first is the function w
   from_link : (w : ℕ) (fs : List TFunction) (u v : ℕ) → ((j : ℕ) (f : TFunction) → slice_get fs j ≡ Some f → Each (Away p (w + j)) (body_calls f)) → linked (links_from names w fs) u v ≡ true → (u < w + length fs) × (v < length names) × (back_to p u v ≡ false)
   from_link w [] u v away h = absurd (true≢false (sym h))
   from_link w (f ∷ fs) u v away h =

@@ -19,6 +19,7 @@ use Rattle.oc_formed.proofs.BodiesCalls.{Lower, RanksFall}
 use Rattle.oc_formed.proofs.Declared.{AllWithin}
 use Rattle.oc_formed.proofs.Mains.{own_place, main_called}
 
+-- what follows from what holds of each call
 each_map : (P Q : TCall → Type 0) → ((c : TCall) → P c → Q c) → (cs : List TCall) → Each P cs → Each Q cs
 each_map P Q f [] h = tt
 each_map P Q f (c ∷ cs) h = (f c h.0, each_map P Q f cs h.1)
@@ -30,9 +31,11 @@ module _ (names : List Text) where
   abbrev LinkedIn : Links → ℕ → TCall → Type 0
   LinkedIn links w c = (v : ℕ) → place names (callee c) ≡ Some v → linked links w v ≡ true
 
+  -- a link is from its start to its end
   itself : (w v : ℕ) → is_link w v (w, v) ≡ true
   itself w v = ap (λ a. a && nat_eq v v) (same_eq w) ∙ same_eq v
 
+  -- each call of the function w is among its links
   row_linked : (w : ℕ) (cs : List TCall) → Each (LinkedIn (map (λ a. (w, a)) (called_places names cs)) w) cs
   row_linked w [] = tt
   row_linked w (c ∷ cs) =
@@ -45,6 +48,7 @@ module _ (names : List Text) where
       split v ∙ or_left (linked own w v) (linked rest w v) one in
       (first, each_map (LinkedIn rest w) (LinkedIn whole w) (λ d h v e. split v ∙ or_right (linked own w v) (linked rest w v) (h v e)) cs (row_linked w cs))
 
+  -- the links of one function are among those of all
   from_linked : (w : ℕ) (fs : List TFunction) (j : ℕ) (f : TFunction) (u v : ℕ) → slice_get fs j ≡ Some f → linked (map (λ a. (w + j, a)) (called_places names (body_calls f))) u v ≡ true → linked (links_from names w fs) u v ≡ true
   from_linked w [] j f u v e h = absurd (none-some f e)
   from_linked w (g ∷ fs) zero f u v e h =
@@ -61,9 +65,11 @@ module _ (names : List Text) where
 -- ---- ranks
 
 module _ (p : TProgram) (unbroken : broken p ≡ None) (declared : DeclaredInOrder p) (within : AllWithin p) where
+  -- no link leads back
   onwards : Onwards (call_links p.functions) (length p.functions)
   onwards = links_onwards p (λ u f e. body_away p u f (function_fine p unbroken declared u f e).body)
 
+  -- each call goes to a function of a lower rank
   pub ranks_fall : RanksFall p (rank_of p.functions)
   ranks_fall u f e =
       let fs = p.functions in

@@ -29,10 +29,12 @@ use Rattle.oc_formed.proofs.Amounts.{few_functions}
 use Rattle.oc_formed.proofs.StmtLengths.{FewArgs, block_short}
 
 module _ (p : TProgram) (within : AllWithin p) where
+  -- what was found has at most eight parameters
   few_at : (o : Option TFunction) → ((f : TFunction) → o ≡ Some f → length f.params ≤ 8) → length (params_of o) ≤ 8
   few_at None h = omega arith
   few_at (Some f) h = h f refl
 
+  -- the function at a place has at most eight parameters
   few_params : (o : Option ℕ) → length (params_of (option_and_then (λ i. slice_get p.functions i) o)) ≤ 8
   few_params None = omega arith
   few_params (Some i) = few_at (slice_get p.functions i) (λ f e. (head_fine p within i f e).few_params)
@@ -45,6 +47,7 @@ module _ (p : TProgram) (within : AllWithin p) where
       omega (arith, same, few)
 
   module _ (regions : List TRegion) where
+    -- what closes a function's code
     close_short : (f : TFunction) → length (close_code f) ≤ 1
     close_short f = go (is_main_name f.name) (is_some f.result)
       where
@@ -53,6 +56,7 @@ module _ (p : TProgram) (within : AllWithin p) where
         go false true = omega arith
         go false false = omega arith
 
+    -- the code of functions
     functions_short : (at : ℕ) (gs : List TFunction) → ((j : ℕ) (f : TFunction) → slice_get gs j ≡ Some f → KindsCall FewArgs (block_kinds None f.body)) → length (functions_code p regions at gs) ≤ 4 * sum_by (λ f. block_nodes f.body) gs + 20 * sum_by (λ f. block_size f.body) gs + length gs
     functions_short at [] few = omega arith
     functions_short at (f ∷ gs) few =
@@ -62,6 +66,7 @@ module _ (p : TProgram) (within : AllWithin p) where
         let others = functions_short (at + length fc) gs (λ j g e. few (suc j) g e) in
         omega (arith, length-append fc (functions_code p regions (at + length fc) gs), length-append body (close_code f), close_short f, own, others, sum_by-cons (λ f. block_nodes f.body) f gs, sum_by-cons (λ f. block_size f.body) f gs)
 
+    -- the code of a program
     pub code_short : broken p ≡ None → DeclaredInOrder p → program_nodes p ≤ 2097152 → length (functions_code p regions 0 p.functions) < 2 ^ 31
     code_short unbroken declared nodes =
         let each : (j : ℕ) (f : TFunction) → slice_get p.functions j ≡ Some f → KindsCall FewArgs (block_kinds None f.body) = λ j f e. body_so p j FewArgs (λ h number c fine. few_args h c fine) f (function_fine p unbroken declared j f e).body in

@@ -24,10 +24,12 @@ use Rattle.oc_desugar.proofs.KeptClean.{tally, tally_join, first_clean, apart_of
 use Rattle.oc_desugar.proofs.SizesKept.{unbroken_element}
 use Rattle.oc_desugar.proofs.Unbroken.{Passes, none_broken}
 
+-- neither of two, so not the first
 none_first : (a b : Bool) → a || b ≡ false → a ≡ false
 none_first true b h = h
 none_first false b h = refl
 
+-- neither of two, so not the second
 none_second : (a b : Bool) → a || b ≡ false → b ≡ false
 none_second true b h = absurd (true≢false h)
 none_second false b h = h
@@ -43,11 +45,13 @@ new_name p b x h =
 
 -- ---- lists
 
+-- before the end of a list there is an element
 pub some_at : {A : Type 0} (xs : List A) (i : ℕ) → i < length xs → (x : A) × (slice_get xs i ≡ Some x)
 some_at [] i l = absurd (omega arith)
 some_at (x ∷ xs) zero l = (x, refl)
 some_at (x ∷ xs) (suc i) l = some_at xs i (omega (arith, l))
 
+-- the rest of a list begins with what stands there
 drop_at : {A : Type 0} (xs : List A) (i : ℕ) (x : A) → slice_get xs i ≡ Some x → drop i xs ≡ x ∷ drop (i + 1) xs
 drop_at [] zero x e = absurd (none-some x e)
 drop_at [] (suc i) x e = absurd (none-some x e)
@@ -57,13 +61,16 @@ drop_at (y ∷ ys) (suc i) x e = let s : suc (i + 1) ≡ suc i + 1 = omega arith
 -- ---- statements bring no nonvolatile words
 
 module _ (p : TProgram) where
+  -- elements bring no nonvolatile words
   abbrev NoWords : List Element → Type 0
   NoWords es = (n : Tally) → (tally n es).words ≡ n.words
 
+  -- nor do two such lists
   no_words_join : (xs ys : List Element) → NoWords xs → NoWords ys → NoWords (xs ++ ys)
   no_words_join xs ys h g n = ap (λ m. m.words) (tally_join n xs ys) ∙ g (tally n xs) ∙ h n
 
   mutual
+    -- the statements in a statement
     kind_no_words : (h : Here) (k : TKind) → NoWords (kind_elements p h k)
     kind_no_words h (let_to m x t r) n = refl
     kind_no_words h (let_array m x t z c) n = refl
@@ -80,22 +87,27 @@ module _ (p : TProgram) where
     kind_no_words h (consistent x z) n = refl
     kind_no_words h (return e) n = refl
 
+    -- those behind `else`
     else_no_words : (h : Here) (b : TElse) → NoWords (else_elements p h b)
     else_no_words h no_else n = refl
     else_no_words h (else_do b) n = block_no_words h b n
 
+    -- a statement
     stmt_no_words : (h : Here) (s : TStmt) → NoWords (stmt_elements p h s)
     stmt_no_words h (stmt id line k) n = kind_no_words h k (counted n (statement h id line k))
 
+    -- a block
     block_no_words : (h : Here) (b : TBlock) → NoWords (block_elements p h b)
     block_no_words h (block id ss) n = stmts_no_words (record h { block = id }) ss n
 
+    -- statements
     stmts_no_words : (h : Here) (ss : TStmts) → NoWords (stmts_elements p h ss)
     stmts_no_words h no_stmts n = refl
     stmts_no_words h (more s ss) n = no_words_join (stmt_elements p (before_stmts h ss) s) (stmts_elements p (after_stmt p h s) ss) (stmt_no_words (before_stmts h ss) s) (stmts_no_words (after_stmt p h s) ss) n
 
 -- ---- the declarations one after the other
 
+-- the words of nonvolatile variables
 abbrev pub words_in : List NvDecl → ℕ
 words_in ds = sum_by (λ d. d.words) ds
 
@@ -138,9 +150,11 @@ pub record AllWithin (p : TProgram) : Type 0 where
   pub main_there : main_missing p ≡ false
 
 module _ (p : TProgram) (each : length p.nv ≡ length p.names.nvs) where
+  -- elements break no rule
   abbrev Clean : Tally → List Element → Type 0
   Clean n es = first_broken p n es ≡ None
 
+  -- one more sensor
   sensor_within : (n : Tally) (b : Before) (line : ℕ) → Clean n (item_elements p b line decls.Sensor) → b.sensors < length p.names.sensors → Within p n b → Within p (tally n (item_elements p b line decls.Sensor)) (after_item b decls.Sensor)
   sensor_within n b line h l w =
       let x = some_at p.names.sensors b.sensors l in
@@ -150,6 +164,7 @@ module _ (p : TProgram) (each : length p.nv ≡ length p.names.nvs) where
       subst (λ o. Within p (tally n (named_element sensor_item b line o)) (after_item b decls.Sensor)) (sym x.1)
       (record { sensors = omega (arith, s); ports = w.ports; nvs = w.nvs; functions = w.functions; counted_words = w.counted_words; few_words = w.few_words; lengths = w.lengths; heads = w.heads })
 
+  -- one more port
   port_within : (n : Tally) (b : Before) (line : ℕ) → Clean n (item_elements p b line decls.Port) → b.ports < length p.names.ports → Within p n b → Within p (tally n (item_elements p b line decls.Port)) (after_item b decls.Port)
   port_within n b line h l w =
       let x = some_at p.names.ports b.ports l in
@@ -159,6 +174,7 @@ module _ (p : TProgram) (each : length p.nv ≡ length p.names.nvs) where
       subst (λ o. Within p (tally n (named_element port_item b line o)) (after_item b decls.Port)) (sym x.1)
       (record { sensors = w.sensors; ports = omega (arith, s); nvs = w.nvs; functions = w.functions; counted_words = w.counted_words; few_words = w.few_words; lengths = w.lengths; heads = w.heads })
 
+  -- one more nonvolatile variable
   nv_within : (n : Tally) (b : Before) (line : ℕ) → Clean n (item_elements p b line decls.Nv) → b.nvs < length p.names.nvs → Within p n b → Within p (tally n (item_elements p b line decls.Nv)) (after_item b decls.Nv)
   nv_within n b line h l w =
       let x = some_at p.names.nvs b.nvs l in
@@ -189,6 +205,7 @@ module _ (p : TProgram) (each : length p.nv ≡ length p.names.nvs) where
           let same : b.nvs ≡ i = omega (arith, below, ltb-false i b.nvs is) in
           subst (λ d. has_bad_length (nv_kind d) ≡ false) (same_Some d g (sym at ∙ ap (slice_get p.nv) same ∙ e)) good
 
+  -- one more function
   function_within : (n : Tally) (b : Before) (line : ℕ) → Clean n (item_elements p b line decls.Function) → b.functions < length p.functions → Within p n b → Within p (tally n (item_elements p b line decls.Function)) (after_item b decls.Function)
   function_within n b line h l w =
       let x = some_at p.functions b.functions l in
@@ -219,6 +236,7 @@ module _ (p : TProgram) (each : length p.nv ≡ length p.names.nvs) where
           let same : b.functions ≡ i = omega (arith, below, ltb-false i b.functions is) in
           subst (λ j. HeadFine p j g) same (subst (λ f. HeadFine p b.functions f) (same_Some f g (sym at ∙ ap (slice_get p.functions) same ∙ e)) fine)
 
+  -- what is declared first is one of those to be declared
   one_more : (test : DeclKind → Bool) (d : Decl) (ds : List Decl) → still test (d ∷ ds) ≡ cond {A = ℕ} (test d.kind) 1 0 + still test ds
   one_more test d ds = sum_by-cons (λ x. cond {A = ℕ} (test x.kind) 1 0) d ds
 
@@ -226,12 +244,14 @@ module _ (p : TProgram) (each : length p.nv ≡ length p.names.nvs) where
   abbrev LeftMore : Before → DeclKind → List Decl → Type 0
   LeftMore b k ds = (b.sensors + (cond {A = ℕ} (is_sensor k) 1 0 + still is_sensor ds) ≡ length p.names.sensors) × (b.ports + (cond {A = ℕ} (is_port k) 1 0 + still is_port ds) ≡ length p.names.ports) × (b.nvs + (cond {A = ℕ} (is_nv k) 1 0 + still is_nv ds) ≡ length p.names.nvs) × (b.functions + (cond {A = ℕ} (is_function k) 1 0 + still is_function ds) ≡ length p.functions)
 
+  -- one more declaration
   item_within : (n : Tally) (b : Before) (line : ℕ) (k : DeclKind) (ds : List Decl) → LeftMore b k ds → Clean n (item_elements p b line k) → Within p n b → Within p (tally n (item_elements p b line k)) (after_item b k) × Left p (after_item b k) ds
   item_within n b line decls.Sensor ds l h w = (sensor_within n b line h (omega (arith, l.0)) w, record { sensors = omega (arith, l.0); ports = omega (arith, l.1); nvs = omega (arith, l.2); functions = omega (arith, l.3) })
   item_within n b line decls.Port ds l h w = (port_within n b line h (omega (arith, l.1)) w, record { sensors = omega (arith, l.0); ports = omega (arith, l.1); nvs = omega (arith, l.2); functions = omega (arith, l.3) })
   item_within n b line decls.Nv ds l h w = (nv_within n b line h (omega (arith, l.2)) w, record { sensors = omega (arith, l.0); ports = omega (arith, l.1); nvs = omega (arith, l.2); functions = omega (arith, l.3) })
   item_within n b line decls.Function ds l h w = (function_within n b line h (omega (arith, l.3)) w, record { sensors = omega (arith, l.0); ports = omega (arith, l.1); nvs = omega (arith, l.2); functions = omega (arith, l.3) })
 
+  -- the declarations that are left
   order_within : (n : Tally) (b : Before) (ds : List Decl) → Left p b ds → Clean n (order_elements p b ds) → Within p n b → AllWithin p
   order_within n b [] l h w =
       let t : Passes (end_rules p) = none_broken (end_rules p) (first_clean p n (ending p.last_line) [] h).0 in
@@ -244,6 +264,7 @@ module _ (p : TProgram) (each : length p.nv ≡ length p.names.nvs) where
       let next = item_within n b d.line d.kind ds left parts.0 w in
       order_within (tally n xs) (after_item b d.kind) ds next.1 parts.1 next.0
 
+-- all declarations of a program that breaks no rule
 pub all_within : (p : TProgram) → DeclaredInOrder p → broken p ≡ None → AllWithin p
 all_within p o h =
     order_within p o.each_nv nothing_counted nothing_before p.order

@@ -13,21 +13,25 @@ use Rattle.oc_code.specs.Scope.{Slot, InFrame, ByAddress, InNv, NoSlot, Named, s
 use Rattle.oc_code.specs.Forms.{placed, one, read_code, base_code, bin_of, binary_code, expr_code, value_code, arg_code, args_code}
 
 module _ (n : ℕ) where
+  -- a scalar's value
   pub read_short : (s : Slot) → length (read_code n s) ≤ 2
   read_short (InFrame s) = omega arith
   read_short (ByAddress s) = omega arith
   read_short (InNv a) = omega arith
   read_short NoSlot = omega arith
 
+  -- a variable's address
   pub base_short : (s : Slot) → length (base_code n s) ≡ 1
   base_short (InFrame s) = refl
   base_short (ByAddress s) = refl
   base_short (InNv a) = refl
   base_short NoSlot = refl
 
+  -- an operator that takes one instruction
   plain_short : (op : BinaryOp) (a b : List Placed) (i j : ℕ) → length a ≤ 4 * i → length b ≤ 4 * j → length (a ++ (b ++ one n (Bin (bin_of op)))) ≤ 4 * (i + j + 1)
   plain_short op a b i j h g = omega (arith, length-append a (b ++ one n (Bin (bin_of op))), length-append b (one n (Bin (bin_of op))), h, g)
 
+  -- an operator with both sides
   binary_short : (p : ℕ) (op : BinaryOp) (a : List Placed) (b : ℕ → List Placed) (i j : ℕ) → length a ≤ 4 * i → ((q : ℕ) → length (b q) ≤ 4 * j) → length (binary_code n p op a b) ≤ 4 * (i + j + 1)
   binary_short p ops.And a b i j h g =
       let c = b (p + length a + 1) in
@@ -49,6 +53,7 @@ module _ (n : ℕ) where
   binary_short p ops.Gt a b i j h g = plain_short ops.Gt a (b (p + length a)) i j h (g (p + length a))
   binary_short p ops.Ge a b i j h g = plain_short ops.Ge a (b (p + length a)) i j h (g (p + length a))
 
+  -- an expression
   pub expr_short : (γ : List Named) (p : ℕ) (e : TExpr) → length (expr_code n γ p e) ≤ 4 * expr_nodes e
   expr_short γ p (number z) = omega arith
   expr_short γ p (truth b) = omega arith
@@ -62,15 +67,18 @@ module _ (n : ℕ) where
   expr_short γ p (sensed s) = omega arith
   expr_short γ p (called c) = omega arith
 
+  -- an argument that is an expression
   value_short : (o : Option ℕ) (c : List Placed) (m : ℕ) → length c ≤ m → length (value_code n o c) ≤ m + 1
   value_short None c m h = omega (arith, h)
   value_short (Some s) c m h = omega arith
 
+  -- an argument
   arg_short : (γ : List Named) (p : ℕ) (a : TArg) → length (arg_code n γ p a) ≤ 4 * arg_nodes a + 1
   arg_short γ p (value e) = value_short (passed_slot γ e) (expr_code n γ p e) (4 * expr_nodes e) (expr_short γ p e)
   arg_short γ p (shared x) = omega (arith, base_short (slot_of γ x))
   arg_short γ p (mutable x) = omega (arith, base_short (slot_of γ x))
 
+  -- arguments
   pub args_short : (γ : List Named) (p : ℕ) (args : TArgs) → length (args_code n γ p args) ≤ 4 * args_nodes args + length (args_list args)
   args_short γ p no_args = omega arith
   args_short γ p (more_args a rest) =

@@ -25,9 +25,11 @@ use Rattle.oc_formed.proofs.Amounts.{few_sensors, few_ports, few_nvs, few_words,
 use Rattle.oc_formed.proofs.CodeShort.{code_short}
 
 module _ (p : TProgram) (groups : List Group) (checked : IsChecked p groups) where
+  -- what its declarations keep
   within : AllWithin p
   within = all_within p checked.form.declared checked.unbroken
 
+  -- no rule on sizes is broken
   no_size : (line : ℕ) (o : Option ℕ) → or_later line o None ≡ None → o ≡ None
   no_size line None h = refl
   no_size line (Some rule) h = absurd (cc h)
@@ -65,5 +67,6 @@ module _ (p : TProgram) (groups : List Group) (checked : IsChecked p groups) whe
     few_words = few_words p within checked.form.declared.each_nv;
   }
 
+-- without regions
 pub checked_formed : (p : TProgram) (groups : List Group) → IsChecked p groups → IsFormed p [] []
 checked_formed p groups checked = marked_formed p groups checked [] [] (λ i f stands. block_unmarked f.body) (All-nil (λ r. (1 ≤ r.id) × (r.id ≤ 0)))

@@ -18,3 +18,4 @@ pub mod ExprLengths
 pub mod StmtLengths
 pub mod CodeShort
 pub mod Law
+pub mod BlockRanges

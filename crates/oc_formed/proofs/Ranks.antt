@@ -18,9 +18,11 @@ rank_at fs (Some u) = rank (call_links fs) (length fs) u
 abbrev pub rank_of : List TFunction → Text → ℕ
 rank_of fs x = rank_at fs (function_place fs x)
 
+-- a number reaches itself
 itself : (v : ℕ) (b : Bool) → nat_eq v v || b ≡ true
 itself v b = ap (λ a. a || b) (same_eq v)
 
+-- below n there are n numbers
 count_all : (n : ℕ) → count_below (λ x. true) n ≡ n
 count_all zero = refl
 count_all (suc n) = omega (arith, count_all n)
@@ -40,20 +42,24 @@ module _ (g : Links) (n : ℕ) (onwards : Onwards g n) where
       (λ e. subst (λ x. leads g n x v ≡ true) (sym (eqb-true u w e)) l)
       (λ h. leads_trans g n u w v below h l)
 
+  -- the same, where the last step may be none
   reaches_on : (u w v : ℕ) → leads g n u w ≡ true → reaches g n w v ≡ true → w < n → leads g n u v ≡ true
   reaches_on u w v l r below = or_elim (nat_eq w v) (leads g n w v) r
       (λ e. subst (λ x. leads g n u x ≡ true) (eqb-true w v e) l)
       (λ h. leads_trans g n u w v below l h)
 
+  -- one behind the other
   joined : (u w v : ℕ) → First u w → First w v → First u v
   joined u w v a b =
       let next = onwards w b.0 b.1 in
       let on : leads g n w v ≡ true = reaches_on w b.0 v (links_lead g n w b.0 b.1) b.2 next.1 in
       (a.0, a.1, or_right (nat_eq a.0 v) (leads g n a.0 v) (further a.0 w v next.0 a.2 on))
 
+  -- the first link of a way
   first : (u v : ℕ) → leads g n u v ≡ true → First u v
   first u v h = least g First (λ u v l. (v, l, itself v (leads g n v v))) joined n u v h
 
+  -- nothing leads to itself
   pub none_back : (v : ℕ) → leads g n v v ≡ false
   none_back v = go (leads g n v v) refl
     where

@@ -29,24 +29,29 @@ abbrev pub FewArgs : TCall → Type 0
 FewArgs c = length (call_args c) ≤ 8
 
 module _ (n : ℕ) where
+  -- a probe
   probe_short : (is : Bool) (kind : ProbeKind) → length (probe_code n is kind) ≤ 1
   probe_short true kind = omega arith
   probe_short false kind = omega arith
 
+  -- the mark at which a region begins
   enter_short : (o : Option ℕ) → length (enter_code n o) ≤ 1
   enter_short None = omega arith
   enter_short (Some r) = omega arith
 
+  -- the mark at which it ends
   commit_short : (o : Option ℕ) → length (commit_code n o) ≤ 1
   commit_short None = omega arith
   commit_short (Some r) = omega arith
 
+  -- a write of a scalar
   write_short : (s : Slot) → length (write_code n s) ≤ 2
   write_short (InFrame s) = omega arith
   write_short (ByAddress s) = omega arith
   write_short (InNv a) = omega arith
   write_short NoSlot = omega arith
 
+  -- the mark behind a statement
   last_short : (o : Option ℕ) (k : TKind) → length (last_code n o k) ≤ 1
   last_short o (let_to m x t r) = commit_short o
   last_short o (let_array m x t z c) = commit_short o
@@ -63,18 +68,23 @@ module _ (n : ℕ) where
   last_short o (consistent x z) = commit_short o
   last_short o (return e) = omega arith
 
+  -- what stands before a statement's code
   before_short : (o : Option ℕ) (is : Bool) → length (before_code n o is) ≤ 2
   before_short o is = omega (arith, length-append (enter_code n o) (probe_code n is Use), enter_short o, probe_short is Use)
 
+  -- what stands behind it
   after_short : (o : Option ℕ) (is : Bool) (k : TKind) → length (after_code n o is k) ≤ 2
   after_short o is k = omega (arith, length-append (probe_code n is Done) (last_code n o k), probe_short is Done, last_short o k)
 
+  -- a loop that counts
   count_length : (p q : ℕ) (c d : ℤ) (a : List Placed) → length (count_code n p q c d a) ≡ length a + 11
   count_length p q c d a = omega (arith, length-append a (again_code n q (p + 2)))
 
+  -- a turn of a `while`
   turn_length : (e : ℕ) (c a : List Placed) → length (turn_code n e c a) ≡ length c + 1 + length a
   turn_length e c a = omega (arith, length-append c (placed n (Jfalse e) ∷ a))
 
+  -- a `while`
   while_length : (p q bound : ℕ) (c a : List Placed) → length (while_code n p q bound c a) ≡ length c + length a + 12
   while_length p q bound c a =
       let t = turn_code n (p + 6 + (length c + 1 + length a) + 5) c a in
@@ -87,23 +97,28 @@ calls_behind k rest h =
     (kinds_front FewArgs (kind_kinds None k) (stmts_kinds None rest) parts, kinds_back FewArgs (kind_kinds None k) (stmts_kinds None rest) parts)
 
 module _ (names : NameLists) (fs : List TFunction) (regions : List TRegion) (k : ℕ) where
+  -- a call
   call_short : (n : ℕ) (γ : List Named) (p : ℕ) (c : TCall) → FewArgs c → length (call_code names fs regions k n γ p c) ≤ 4 * call_nodes c + 9
   call_short n γ p (call f args) few = omega (arith, length-append (args_code n γ p args) (one n (Call (function_number fs f))), args_short n γ p args, few)
 
+  -- a right side
   right_short : (n : ℕ) (γ : List Named) (p : ℕ) (r : TRight) → Each FewArgs (right_calls r) → length (right_code names fs regions k n γ p r) ≤ 4 * right_nodes r + 9
   right_short n γ p (right_value e) few = omega (arith, expr_short n γ p e)
   right_short n γ p (right_sense s) few = omega arith
   right_short n γ p (right_call c) few = call_short n γ p c (last_call FewArgs c few)
 
+  -- the test of a `while`
   test_short : (n : ℕ) (γ : List Named) (p : ℕ) (is : Bool) (c : TExpr) → length (test_code names fs regions k n γ p is c) ≤ 4 * expr_nodes c + 1
   test_short n γ p is c =
       let probe = probe_code n is Use in
       omega (arith, length-append probe (expr_code n γ (p + length probe) c), probe_short n is Use, expr_short n γ (p + length probe) c)
 
+  -- a result that nothing takes
   drop_short : (n : ℕ) (b : Bool) → length (if b then one n Drop else []) ≤ 1
   drop_short n true = omega arith
   drop_short n false = omega arith
 
+  -- a `return`
   return_short : (n : ℕ) (γ : List Named) (p : ℕ) (e : TExpr) → length (return_code names fs regions k n γ p e) ≤ 4 * expr_nodes e + 3
   return_short n γ p e =
       let probe = probe_code n (is_use (is_fresh_in γ) (return e)) Done in
@@ -111,9 +126,11 @@ module _ (names : NameLists) (fs : List TFunction) (regions : List TRegion) (k :
       let last = one n (Retv k) in
       omega (arith, length-append (expr_code n γ p e) (probe ++ (commit ++ last)), length-append probe (commit ++ last), length-append commit last, expr_short n γ p e, probe_short n (is_use (is_fresh_in γ) (return e)) Done, commit_short n (ended_by regions n))
 
+  -- a write of a right side to a scalar
   assign_short : (n : ℕ) (γ : List Named) (p : ℕ) (x : Text) (r : TRight) → Each FewArgs (right_calls r) → length (right_code names fs regions k n γ p r ++ write_code n (slot_of γ x)) ≤ 4 * right_nodes r + 11
   assign_short n γ p x r few = omega (arith, length-append (right_code names fs regions k n γ p r) (write_code n (slot_of γ x)), right_short n γ p r few, write_short n (slot_of γ x))
 
+  -- a write of a right side to an element
   element_short : (n : ℕ) (γ : List Named) (p : ℕ) (x : Text) (e : TExpr) (r : TRight) → Each FewArgs (right_calls r) → length (element_code names fs regions k n γ p x e (right_code names fs regions k n γ p r)) ≤ 4 * (expr_nodes e + right_nodes r) + 12
   element_short n γ p x e r few =
       let a = right_code names fs regions k n γ p r in
@@ -123,6 +140,7 @@ module _ (names : NameLists) (fs : List TFunction) (regions : List TRegion) (k :
       omega (arith, length-append a (base ++ (i ++ last)), length-append base (i ++ last), length-append i last, right_short n γ p r few, base_short n (slot_of γ x), expr_short n γ (p + length a + 1) e)
 
   mutual
+    -- a statement's own code
     kind_short : (γ : List Named) (n s p : ℕ) (d : TKind) → KindsCall FewArgs (kind_kinds None d) → length (kind_code names fs regions k γ n s p d) ≤ 4 * kind_nodes d + 16 + 20 * inner_size d
     kind_short γ n s p (let_to m x t r) few = omega (arith, length-append (right_code names fs regions k n γ p r) (one n (Store s)), right_short n γ p r few.0)
     kind_short γ n s p (let_array m x t z c) few = omega arith
@@ -153,6 +171,7 @@ module _ (names : NameLists) (fs : List TFunction) (regions : List TRegion) (k :
     kind_short γ n s p (consistent x z) few = omega arith
     kind_short γ n s p (return e) few = omega (arith, return_short n γ p e)
 
+    -- an `if`, whose test and first block have these codes
     else_short : (γ : List Named) (n s p : ℕ) (c a : List Placed) (slots : ℕ) (b : TElse) → KindsCall FewArgs (else_kinds None b) → length (if_code names fs regions k γ n s p c a slots b) ≤ length c + length a + 2 + (4 * else_nodes b + 20 * else_size b)
     else_short γ n s p c a slots no_else few = omega (arith, length-append c (placed n (Jfalse (p + length c + 1 + length a)) ∷ a))
     else_short γ n s p c a slots (else_do b) few =
@@ -160,9 +179,11 @@ module _ (names : NameLists) (fs : List TFunction) (regions : List TRegion) (k :
         let rest : List Placed = placed n (Jump (p + length c + 1 + length a + 1 + length cb)) ∷ cb in
         omega (arith, length-append c (placed n (Jfalse (p + length c + 1 + length a + 1)) ∷ (a ++ rest)), length-append a rest, block_short γ (s + slots) (p + length c + 1 + length a + 1) b few)
 
+    -- a block
     pub block_short : (γ : List Named) (s p : ℕ) (b : TBlock) → KindsCall FewArgs (block_kinds None b) → length (block_code names fs regions k γ s p b) ≤ 4 * block_nodes b + 20 * block_size b
     block_short γ s p (block id ss) few = stmts_short γ s p ss few
 
+    -- statements
     stmts_short : (γ : List Named) (s p : ℕ) (ss : TStmts) → KindsCall FewArgs (stmts_kinds None ss) → length (stmts_code names fs regions k γ s p ss) ≤ 4 * stmts_nodes ss + 20 * stmts_size ss
     stmts_short γ s p no_stmts few = omega arith
     stmts_short γ s p (more (stmt n line d) rest) few =

@@ -42,7 +42,7 @@ module _ (need : Text → ℕ) where
     kind_depth (return e) = expr_depth e
 
     -- in what stands behind `else`
-    pub else_depth : TElse → ℕ
+    else_depth : TElse → ℕ
     else_depth no_else = 0
     else_depth (else_do b) = block_depth b
 

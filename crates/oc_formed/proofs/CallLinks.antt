@@ -26,7 +26,7 @@ KindsCall P (k ∷ ks) = Each P (own_calls k) × KindsCall P ks
 
 module _ (P : TCall → Type 0) where
   -- what holds of the calls of both lists holds of those of one behind the other
-  pub kinds_join : (xs ys : List TKind) → KindsCall P xs → KindsCall P ys → KindsCall P (xs ++ ys)
+  kinds_join : (xs ys : List TKind) → KindsCall P xs → KindsCall P ys → KindsCall P (xs ++ ys)
   kinds_join [] ys h g = g
   kinds_join (k ∷ xs) ys h g = (h.0, kinds_join xs ys h.1 g)
 
@@ -120,7 +120,7 @@ module _ (p : TProgram) (u : ℕ) (P : TCall → Type 0) (gives : (h : Here) →
   body_so f h = block_so (in_function f u) refl f.body h
 
 -- the called function doesn't lead back to the function u
-abbrev pub Away : TProgram → ℕ → TCall → Type 0
+abbrev Away : TProgram → ℕ → TCall → Type 0
 Away p u c = callee_is (back_to p u) p c ≡ false
 
 -- no call of a function's body leads back to it
@@ -149,7 +149,7 @@ and_second true b h = h
 and_second false b h = absurd (true≢false (sym h))
 
 -- what is found at a place stands before the end
-pub place_below : (n : ℕ) (xs : List Text) (x : Text) (i : ℕ) → place_from n xs x ≡ Some i → i < n + length xs
+place_below : (n : ℕ) (xs : List Text) (x : Text) (i : ℕ) → place_from n xs x ≡ Some i → i < n + length xs
 place_below n [] x i e = absurd (cc e)
 place_below n (y ∷ ys) x i e = go (bytes_eq x y) e (place_below (n + 1) ys x i)
   where

@@ -40,7 +40,7 @@ module _ (p : TProgram) (within : AllWithin p) where
   few_params (Some i) = few_at (slice_get p.functions i) (λ f e. (head_fine p within i f e).few_params)
 
   -- as many arguments as parameters
-  pub few_args : (h : Here) (c : TCall) → CallFine p h c → FewArgs c
+  few_args : (h : Here) (c : TCall) → CallFine p h c → FewArgs c
   few_args h c fine =
       let same : length (callee_params p c) ≡ length (call_args c) = eqb-true (length (callee_params p c)) (length (call_args c)) (first_holds (length (callee_params p c) == length (call_args c)) (args_meet p h.scope (callee_params p c) (args_of_call c)) fine.meets) in
       let few : length (callee_params p c) ≤ 8 = few_params (function_place p.functions (callee c)) in

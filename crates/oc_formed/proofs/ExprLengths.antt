@@ -14,7 +14,7 @@ use Rattle.oc_code.specs.Forms.{placed, one, read_code, base_code, bin_of, binar
 
 module _ (n : ℕ) where
   -- a scalar's value
-  pub read_short : (s : Slot) → length (read_code n s) ≤ 2
+  read_short : (s : Slot) → length (read_code n s) ≤ 2
   read_short (InFrame s) = omega arith
   read_short (ByAddress s) = omega arith
   read_short (InNv a) = omega arith

@@ -44,7 +44,7 @@ module _ (p : TProgram) (groups : List Group) (checked : IsChecked p groups) whe
       ltb-false 65536 (stack_words p) t.1.0
 
   -- with regions whose numbers have targets, and which begin and end in the same block
-  pub marked_formed : (regions : List TRegion) (targets : List (List Target))
+  marked_formed : (regions : List TRegion) (targets : List (List Target))
       → ((i : ℕ) (f : TFunction) → slice_get p.functions i ≡ Some f → BlockMarked regions f.body)
       → All (λ r. (1 ≤ r.id) × (r.id ≤ length targets)) regions
       → IsFormed p regions targets

@@ -60,7 +60,7 @@ module _ (g : Links) (n : ℕ) (onwards : Onwards g n) where
   first u v h = least g First (λ u v l. (v, l, itself v (leads g n v v))) joined n u v h
 
   -- nothing leads to itself
-  pub none_back : (v : ℕ) → leads g n v v ≡ false
+  none_back : (v : ℕ) → leads g n v v ≡ false
   none_back v = go (leads g n v v) refl
     where
       go : (b : Bool) → leads g n v v ≡ b → b ≡ false

@@ -19,7 +19,7 @@ Differ key [] = Unit {0}
 Differ key (r ∷ rs) = EachRegion (λ q. key q ≡ key r → ⊥) rs × Differ key rs
 
 -- one where it holds
-abbrev pub one_if : Bool → ℕ
+abbrev one_if : Bool → ℕ
 one_if b = cond b 1 0
 
 -- whether a region begins with statement n
@@ -31,11 +31,11 @@ abbrev pub ends : ℕ → TRegion → ℕ
 ends n r = one_if (n == r.last)
 
 -- whether a region from f to l is open in front of n
-abbrev pub spans : (f l n : ℕ) → ℕ
+abbrev spans : (f l n : ℕ) → ℕ
 spans f l n = one_if (nat_lt f n && nat_le n l)
 
 -- whether a region of the block b is open in front of n
-abbrev pub opens : (b n : ℕ) → TRegion → ℕ
+abbrev opens : (b n : ℕ) → TRegion → ℕ
 opens b n r = cond (r.block == b) (spans r.first r.last n) 0
 
 -- how many are open

@@ -19,8 +19,8 @@ use Rattle.oc_lex.specs.declared.lexer.LexError.TheVariants as lex_error
 use Rattle.oc_grammar.specs.Lexemes.{Lexemes}
 use Rattle.oc_parse.specs.declared.program.ParseError.{ParseError}
 use Rattle.oc_parse.specs.declared.program.ParseError.TheVariants as parse_error
-use Rattle.oc_types.specs.declared.check.RuleError.{RuleError}
-use Rattle.oc_types.specs.declared.check.RuleError.TheVariants as rule_error
+use Rattle.oc_types.specs.declared.rules.RuleError.{RuleError}
+use Rattle.oc_types.specs.declared.rules.RuleError.TheVariants as rule_error
 use Rattle.oc_isa.specs.Image.{Parts}
 use Rattle.oc_isa.specs.Power.{first_state}
 use Rattle.oc_isa.specs.Run.{IsSound}

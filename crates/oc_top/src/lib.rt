@@ -11,7 +11,5 @@ pub mod files;
 pub mod prepare;
 pub mod report;
 #[cfg(test)]
-mod small_tests;
-#[cfg(test)]
 mod tests;
 pub mod top;

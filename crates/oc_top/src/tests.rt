@@ -162,7 +162,7 @@ fn call_case(alloc: Global, case: &Case, faults: Faults) -> Result<Called, Fail>
 }
 
 /// Refused words, files and sources.
-fn refusals() -> [Case; 18] {
+fn refusals() -> [Case; 17] {
     let fine = "on,off\n6,0\n";
     let syntax = "ocelot: syntax error in line 1\n";
     [
@@ -194,13 +194,6 @@ fn refusals() -> [Case; 18] {
             fine,
             4,
             "ocelot: syntax error in line 2\n",
-        ),
-        refused(
-            "port r;\nfn main() {\n    emit(r, 1 - 2);\n}",
-            NO_READINGS,
-            fine,
-            13,
-            "ocelot: not built in line 3\n",
         ),
         refused(
             "",
@@ -266,7 +259,7 @@ fn refusals() -> [Case; 18] {
 }
 
 /// Runs with their reports.
-fn runs() -> [Case; 18] {
+fn runs() -> [Case; 20] {
     let short = "2 emit r 1\n4 emit r 2\n6 emit r 3\n7 off 3\n10 dark\n";
     let long = "2 emit r 1\n4 emit r 2\n6 emit r 3\n7 off 3\n16 emit r 4\n17 off 3\n25 end\n";
     let cut = "1 sense t 21\n4 emit r 21\n5 off 100\n";
@@ -281,6 +274,20 @@ fn runs() -> [Case; 18] {
         ),
         ran(SAMPLE, READINGS, "on,off", 9, "0 dark\n"),
         ran("fn main() { }", NO_READINGS, "on,off\n2,0\n", 0, "1 end\n"),
+        ran(
+            "port r; fn main() { emit(r, 1 - 2); }",
+            NO_READINGS,
+            "on,off\n6,0\n",
+            0,
+            "4 emit r -1\n5 end\n",
+        ),
+        ran(
+            "port r; nv n: i32 = 3; fn twice(x: &mut i32) { *x = *x + *x; } fn main() { twice(&mut n); emit(r, n / 4); }",
+            NO_READINGS,
+            "on,off\n40,0\n",
+            0,
+            TWICE,
+        ),
         ran(
             SAMPLE,
             READINGS,

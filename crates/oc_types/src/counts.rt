@@ -9,9 +9,9 @@ ghost use Rattle.oc_types.specs.Standing.{here_of};
 ghost use Rattle.oc_types.specs.Small.{IsSmall};
 
 use crate::place::Place;
-use oc_desugar::pulls::own_pulls;
 use crate::scope::Scope;
 use crate::statement::Statement;
+use oc_desugar::pulls::own_pulls;
 use oc_tree::before::Before;
 use oc_tree::name::Name;
 use oc_tree::scope::{Origin, Policy};

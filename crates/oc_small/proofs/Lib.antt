@@ -1,3 +1,0 @@
-pub mod MadeLaws
-pub mod RunLaws
-pub mod Turns

@@ -20,6 +20,9 @@ const NO_READINGS: &str = "time,sensor,value\n";
 
 const REPORT: &str = "1 sense t 21\n4 emit r 21\n5 end\n";
 
+/// The report of a program that doubles a nonvolatile variable by a reference.
+const TWICE: &str = "14 emit r 1\n15 end\nnv n 6\n";
+
 /// The words of a call, what the shelf holds under `s`, `h` and `p`, and what is to come.
 #[derive(Drop)]
 struct Case {

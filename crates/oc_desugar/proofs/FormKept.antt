@@ -148,7 +148,7 @@ mutual
   stmts_form k i no_stmts h = tt
   stmts_form k i (more (stmt id line s) ss) h =
       group_form k i line (pulled k s) (stmt (i + own_pulls s) line (expand_kind k (i + own_pulls s + 1) s)) (expand_stmts (k + stmt_pulls (stmt id line s)) (i + stmt_size (stmt id line s)) ss)
-          (own_form k s h.0) (kind_form k (i + own_pulls s + 1) s h.0) (stmts_form (k + stmt_pulls (stmt id line s)) (i + stmt_size (stmt id line s)) ss h.1)
+      (own_form k s h.0) (kind_form k (i + own_pulls s + 1) s h.0) (stmts_form (k + stmt_pulls (stmt id line s)) (i + stmt_size (stmt id line s)) ss h.1)
 
 -- ---- programs
 
@@ -161,8 +161,8 @@ functions_form k i [] h = All-nil (FunctionInForm AnyName)
 functions_form k i (f ∷ fs) h =
     let a = All-head (FunctionInForm IsName) f fs h in
     All-cons (FunctionInForm AnyName) (expand_function k i f) (expand_functions (k + block_pulls f.body) (i + block_size f.body) fs)
-        (record { name = tt; params = param_form f.params a.params; body = block_form k i f.body a.body })
-        (functions_form (k + block_pulls f.body) (i + block_size f.body) fs (All-tail (FunctionInForm IsName) f fs h))
+    (record { name = tt; params = param_form f.params a.params; body = block_form k i f.body a.body })
+    (functions_form (k + block_pulls f.body) (i + block_size f.body) fs (All-tail (FunctionInForm IsName) f fs h))
 
 pub functions_length : (k i : ℕ) (fs : List TFunction) → length (expand_functions k i fs) ≡ length fs
 functions_length k i [] = refl

@@ -52,6 +52,7 @@ group_stands b k i line [] j s rest n e g l =
 group_stands b k i line (r ∷ rs) j s rest n e g l = here (first_or_later i n g) (λ m. group_stands b (k + 1) (i + 1) line rs j s rest n (omega (arith, e)) m l) where
   others : List Pair
   others = stmts_pairs b (join_stmts (temporaries (k + 1) (i + 1) line rs ++ stmt j line s ∷ []) rest)
+
   here : (n ≡ i) ⊎ (i + 1 ≤ n) → (i + 1 ≤ n → Stands (n, b) others) → Stands (n, b) ((i, b) ∷ others)
   here (inl f) h = subst (λ m. Stands (m, b) ((i, b) ∷ others)) (sym f) (stands_first (i, b) others)
   here (inr m) h = stands_right (n, b) ((i, b) ∷ []) others (h m)
@@ -90,8 +91,8 @@ module _ (whole : List Pair) where
         let xs = block_pairs (expand_block k' i a) in
         let ys = else_pairs (expand_else (k' + block_pulls a) (i + block_size a) b) in
         both (Together whole) (block_groups i a) (else_groups (i + block_size a) b)
-            (block_together k' i a (λ x g. h x (stands_left x xs ys g)))
-            (else_together (k' + block_pulls a) (i + block_size a) b (λ x g. h x (stands_right x xs ys g)))
+        (block_together k' i a (λ x g. h x (stands_left x xs ys g)))
+        (else_together (k' + block_pulls a) (i + block_size a) b (λ x g. h x (stands_right x xs ys g)))
     inner_together k i (for_in x m n b) h = block_together k i b h
     inner_together k i (while_do c n b) h = block_together (k + expr_pulls c) i b h
     inner_together k i (call_only c) h = tt
@@ -117,11 +118,12 @@ module _ (whole : List Pair) where
         let own : TKind = expand_kind k (j + 1) s in
         let rest = expand_stmts k' i' ss in
         let l = length_pulled k s in
-        let e : j ≡ i + length (pulled k s) = omega (arith, l) in
-        ((b, omega arith, λ n g m. h (n, b) (group_stands b k i line (pulled k s) j own rest n e g m)),
+        let e : j ≡ i + length (pulled k s) = omega (arith, l) in (
+          (b, omega arith, λ n g m. h (n, b) (group_stands b k i line (pulled k s) j own rest n e g m)),
           both (Together whole) (inner_groups (j + 1) s) (stmts_groups i' ss)
               (inner_together k (j + 1) s (λ x g. h x (group_inside x b k i line (pulled k s) j own rest g)))
-              (stmts_together b k' i' ss (λ x g. h x (group_behind x b k i line (pulled k s) j own rest g))))
+              (stmts_together b k' i' ss (λ x g. h x (group_behind x b k i line (pulled k s) j own rest g))),
+        )
 
   functions_together : (k i : ℕ) (fs : List TFunction) → IsPart (flat_map (λ f. block_pairs f.body) (expand_functions k i fs)) → Each (Together whole) (functions_groups i fs)
   functions_together k i [] h = tt
@@ -131,8 +133,8 @@ module _ (whole : List Pair) where
       let xs = block_pairs (expand_block k i f.body) in
       let ys = flat_map (λ g. block_pairs g.body) (expand_functions k' i' fs) in
       both (Together whole) (block_groups i f.body) (functions_groups i' fs)
-          (block_together k i f.body (λ x g. h x (stands_left x xs ys g)))
-          (functions_together k' i' fs (λ x g. h x (stands_right x xs ys g)))
+      (block_together k i f.body (λ x g. h x (stands_left x xs ys g)))
+      (functions_together k' i' fs (λ x g. h x (stands_right x xs ys g)))
 
 together : (p : TProgram) → Each (Together (program_pairs (expansion p))) (program_groups p)
 together p = functions_together (program_pairs (expansion p)) 1 1 p.functions (λ x h. h)

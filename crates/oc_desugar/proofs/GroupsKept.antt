@@ -1,16 +1,16 @@
 -- The groups of an expansion are groups: each is a stretch of statements directly in one block, and each statement is in
 -- one.
-use Rattle.std.proofs.Common.{◌≡◌, ℕ, zero, suc, ◌+◌, ◌<◌, ◌≤◌, ◌⊎◌, inl, inr, Bool, true, false, cond, ◌&&◌, Option, Some, None, List, [], ◌∷◌, ◌++◌, length, refl, ap, sym, subst, ◌∙◌, arith, All, count_by, flat_map, leb, ltb, true≢false}
-use Rattle.std.specs.Prelude.{◌==◌, nat_le}
-use Rattle.std.proofs.lemmas.List.Sums.{sum_by-cons, sum_by-append}
+use Rattle.std.proofs.Common.{◌≡◌, ℕ, zero, suc, ◌+◌, ◌<◌, ◌≤◌, ◌⊎◌, inl, inr, Bool, true, false, cond, ◌&&◌, Some, List, [], ◌∷◌, ◌++◌, length, refl, ap, sym, subst, ◌∙◌, arith, All, count_by, flat_map, true≢false}
+use Rattle.std.specs.Prelude.{nat_le}
+use Rattle.std.proofs.lemmas.List.Sums.{sum_by-cons}
 use Rattle.std.proofs.lemmas.List.Elements.{All-nil, All-cons}
 use Rattle.std.proofs.lemmas.Bool.{eq-eqb, le-leb, leb-true}
-use Rattle.oc_tree.specs.Tree.{TRight, TKind, let_to, let_array, assign, assign_index, assign_deref, if_else, for_in, while_do, call_only, sense_only, emit, fresh, consistent, return, TElse, no_else, else_do, TStmt, stmt, TBlock, block, TStmts, no_stmts, more, TFunction, TProgram}
-use Rattle.oc_tree.specs.Numbers.{numbers_on, program_statements}
+use Rattle.oc_tree.specs.Tree.{TRight, TKind, let_to, let_array, assign, assign_index, assign_deref, if_else, for_in, while_do, call_only, sense_only, emit, fresh, consistent, return, TElse, no_else, else_do, stmt, TBlock, block, TStmts, no_stmts, more, TFunction, TProgram}
+use Rattle.oc_tree.specs.Numbers.{numbers_on}
 use Rattle.oc_tree.specs.Places.{block_of}
 use Rattle.oc_tree.specs.Checked.{Group, same_block, is_group, is_in_group, AreGroups}
 use Rattle.oc_tree.specs.Pulls.{expr_pulls, own_pulls, stmt_pulls, block_pulls}
-use Rattle.oc_tree.specs.Expansion.{block_size, stmt_size, inner_size, else_size, stmts_size, program_size, temporaries, join_stmts, pulled, expand_kind, expand_else, expand_block, expand_stmts, expand_function, expand_functions, expansion, inner_groups, else_groups, block_groups, stmts_groups, functions_groups, program_groups}
+use Rattle.oc_tree.specs.Expansion.{block_size, stmt_size, program_size, temporaries, join_stmts, pulled, expand_kind, expand_else, expand_block, expand_stmts, expand_functions, expansion, inner_groups, else_groups, block_groups, stmts_groups, functions_groups, program_groups}
 use Rattle.oc_desugar.proofs.Lengths.{length_pulled}
 use Rattle.oc_desugar.proofs.NumberedLaws.{numbered}
 use Rattle.oc_desugar.proofs.NumberLists.{listed, statements_listed}

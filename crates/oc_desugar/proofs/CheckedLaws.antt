@@ -1,10 +1,8 @@
 -- The expansion of a written program is a checked program.
-use Rattle.std.proofs.Common.{◌≡◌, ◌≤◌, ◌<◌, ◌^◌, ◌+◌, ℕ, Option, None, List, refl, sym, subst, ◌∙◌, arith}
-use Rattle.oc_lex.specs.Stands.{IsName}
+use Rattle.std.proofs.Common.{◌≡◌, ◌<◌, ◌^◌, ◌+◌, List, sym, subst, arith}
 use Rattle.oc_tree.specs.Tree.{TProgram}
 use Rattle.oc_tree.specs.Pulls.{program_pulls}
 use Rattle.oc_tree.specs.Expansion.{program_size, expansion, program_groups}
-use Rattle.oc_tree.specs.Broken.{broken_element, broken}
 use Rattle.oc_tree.specs.Checked.{Group, IsWritten, IsChecked}
 use Rattle.oc_desugar.proofs.NoPulls.{none_left}
 use Rattle.oc_desugar.proofs.FormKept.{form_kept}

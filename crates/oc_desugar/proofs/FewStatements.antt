@@ -1,5 +1,5 @@
 -- Where no element breaks a rule, the expansion has at most 8,192 statements.
-use Rattle.std.proofs.Common.{◌≡◌, ◌≤◌, ℕ, zero, suc, ◌+◌, Bool, true, false, cond, ◌||◌, Option, Some, None, List, [], ◌∷◌, ◌++◌, length, drop, refl, ap, sym, subst, ◌∙◌, arith, sum_by, count_by}
+use Rattle.std.proofs.Common.{◌≡◌, ◌≤◌, ℕ, zero, suc, ◌+◌, Bool, true, false, cond, ◌||◌, Option, Some, None, List, [], ◌∷◌, ◌++◌, length, drop, refl, ap, sym, ◌∙◌, arith, sum_by, count_by}
 use Rattle.std.specs.Prelude.{nat_lt, slice_get}
 use Rattle.std.proofs.lemmas.Bool.{ltb-false}
 use Rattle.std.proofs.lemmas.List.Sums.{sum_by-cons, sum_by-append}
@@ -14,8 +14,8 @@ use Rattle.oc_tree.specs.declared.broken.Broken.{Broken}
 use Rattle.oc_tree.specs.Pulls.{own_pulls}
 use Rattle.oc_tree.specs.Expansion.{block_size, else_size, inner_size, stmt_size, stmts_size, program_size}
 use Rattle.oc_tree.specs.Form.{DeclaredInOrder, is_function}
-use Rattle.oc_tree.specs.Elements.{Item, sensor_item, port_item, nv_item, function_item, Here, Element, declared, statement, ending, line_of, inside, in_turn, before_stmts, after_stmt, kind_elements, else_elements, stmt_elements, block_elements, stmts_elements, in_function, named_element, nv_element, function_elements, item_elements, after_item, order_elements, nothing_before, program_elements}
-use Rattle.oc_tree.specs.Limits.{Tally, nothing_counted, counted, with_item, with_statement, statement_passes}
+use Rattle.oc_tree.specs.Elements.{Item, sensor_item, port_item, nv_item, function_item, Here, Element, declared, statement, ending, inside, in_turn, before_stmts, after_stmt, kind_elements, else_elements, stmt_elements, block_elements, stmts_elements, in_function, named_element, nv_element, function_elements, item_elements, after_item, order_elements, nothing_before, program_elements}
+use Rattle.oc_tree.specs.Limits.{Tally, nothing_counted, with_item, with_statement, statement_passes}
 use Rattle.oc_tree.specs.Broken.{Table, rules_of, statement_rules, lowest, or_later, first_broken, broken_element}
 
 -- ---- how many statements of the expansion elements bring

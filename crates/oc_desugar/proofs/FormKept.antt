@@ -1,12 +1,10 @@
 -- The expansion of a program in form is in form, whatever the names of its temporaries.
-use Rattle.std.proofs.Common.{◌≡◌, ◌≤◌, ℕ, suc, ◌+◌, List, [], ◌∷◌, ◌++◌, length, refl, ap, sym, subst, ◌∙◌, arith, All, count_by}
+use Rattle.std.proofs.Common.{◌≡◌, ℕ, suc, ◌+◌, List, [], ◌∷◌, ◌++◌, length, refl, ap, sym, ◌∙◌, All}
 use Rattle.std.proofs.lemmas.List.Elements.{All-nil, All-cons, All-head, All-tail}
 use Rattle.oc_lex.specs.Stands.{IsName}
-use Rattle.oc_tree.specs.Names.{Text}
 use Rattle.oc_tree.specs.Tree.{TExpr, number, truth, variable, index, deref, unary, binary, sensed, called, TArg, value, shared, mutable, TCall, call, TArgs, no_args, more_args, TRight, right_value, right_sense, right_call, TKind, let_to, let_array, assign, assign_index, assign_deref, if_else, for_in, while_do, call_only, sense_only, emit, fresh, consistent, return, TElse, no_else, else_do, TStmt, stmt, TBlock, block, TStmts, no_stmts, more, TFunction, TProgram}
-use Rattle.oc_tree.specs.Numbers.{numbers_on, program_statements, program_blocks}
-use Rattle.oc_tree.specs.Nodes.{program_nodes}
-use Rattle.oc_tree.specs.Form.{ExprInForm, ArgInForm, CallInForm, ArgsInForm, IsNoPull, RightInForm, KindInForm, ElseInForm, StmtInForm, BlockInForm, StmtsInForm, ParamInForm, FunctionInForm, DeclaredInOrder, Spellable, Numbered, InForm, is_function}
+use Rattle.oc_tree.specs.Numbers.{numbers_on}
+use Rattle.oc_tree.specs.Form.{ExprInForm, ArgInForm, CallInForm, ArgsInForm, IsNoPull, RightInForm, KindInForm, ElseInForm, StmtInForm, BlockInForm, StmtsInForm, ParamInForm, FunctionInForm, InForm}
 use Rattle.oc_tree.specs.Checked.{AnyName}
 use Rattle.oc_tree.specs.Pulls.{expr_pulls, arg_pulls, own_pulls, stmt_pulls, block_pulls}
 use Rattle.oc_tree.specs.Expansion.{left_expr, left_call, left_args, left_arg, left_right, block_size, stmt_size, temporaries, join_stmts, pulled_expr, pulled_call, pulled_args, pulled_arg, pulled_right, pulled, expand_kind, expand_else, expand_block, expand_stmts, expand_function, expand_functions, expansion}
@@ -148,7 +146,7 @@ mutual
   stmts_form k i no_stmts h = tt
   stmts_form k i (more (stmt id line s) ss) h =
       group_form k i line (pulled k s) (stmt (i + own_pulls s) line (expand_kind k (i + own_pulls s + 1) s)) (expand_stmts (k + stmt_pulls (stmt id line s)) (i + stmt_size (stmt id line s)) ss)
-          (own_form k s h.0) (kind_form k (i + own_pulls s + 1) s h.0) (stmts_form (k + stmt_pulls (stmt id line s)) (i + stmt_size (stmt id line s)) ss h.1)
+      (own_form k s h.0) (kind_form k (i + own_pulls s + 1) s h.0) (stmts_form (k + stmt_pulls (stmt id line s)) (i + stmt_size (stmt id line s)) ss h.1)
 
 -- ---- programs
 
@@ -161,8 +159,8 @@ functions_form k i [] h = All-nil (FunctionInForm AnyName)
 functions_form k i (f ∷ fs) h =
     let a = All-head (FunctionInForm IsName) f fs h in
     All-cons (FunctionInForm AnyName) (expand_function k i f) (expand_functions (k + block_pulls f.body) (i + block_size f.body) fs)
-        (record { name = tt; params = param_form f.params a.params; body = block_form k i f.body a.body })
-        (functions_form (k + block_pulls f.body) (i + block_size f.body) fs (All-tail (FunctionInForm IsName) f fs h))
+    (record { name = tt; params = param_form f.params a.params; body = block_form k i f.body a.body })
+    (functions_form (k + block_pulls f.body) (i + block_size f.body) fs (All-tail (FunctionInForm IsName) f fs h))
 
 pub functions_length : (k i : ℕ) (fs : List TFunction) → length (expand_functions k i fs) ≡ length fs
 functions_length k i [] = refl

@@ -1,16 +1,16 @@
 -- The groups of an expansion are groups: each is a stretch of statements directly in one block, and each statement is in
 -- one.
-use Rattle.std.proofs.Common.{◌≡◌, ℕ, zero, suc, ◌+◌, ◌<◌, ◌≤◌, ◌⊎◌, inl, inr, Bool, true, false, cond, ◌&&◌, Option, Some, None, List, [], ◌∷◌, ◌++◌, length, refl, ap, sym, subst, ◌∙◌, arith, All, count_by, flat_map, leb, ltb, true≢false}
-use Rattle.std.specs.Prelude.{◌==◌, nat_le}
-use Rattle.std.proofs.lemmas.List.Sums.{sum_by-cons, sum_by-append}
+use Rattle.std.proofs.Common.{◌≡◌, ℕ, zero, suc, ◌+◌, ◌<◌, ◌≤◌, ◌⊎◌, inl, inr, Bool, true, false, cond, ◌&&◌, Some, List, [], ◌∷◌, ◌++◌, length, refl, ap, sym, subst, ◌∙◌, arith, All, count_by, flat_map, true≢false}
+use Rattle.std.specs.Prelude.{nat_le}
+use Rattle.std.proofs.lemmas.List.Sums.{sum_by-cons}
 use Rattle.std.proofs.lemmas.List.Elements.{All-nil, All-cons}
 use Rattle.std.proofs.lemmas.Bool.{eq-eqb, le-leb, leb-true}
-use Rattle.oc_tree.specs.Tree.{TRight, TKind, let_to, let_array, assign, assign_index, assign_deref, if_else, for_in, while_do, call_only, sense_only, emit, fresh, consistent, return, TElse, no_else, else_do, TStmt, stmt, TBlock, block, TStmts, no_stmts, more, TFunction, TProgram}
-use Rattle.oc_tree.specs.Numbers.{numbers_on, program_statements}
+use Rattle.oc_tree.specs.Tree.{TRight, TKind, let_to, let_array, assign, assign_index, assign_deref, if_else, for_in, while_do, call_only, sense_only, emit, fresh, consistent, return, TElse, no_else, else_do, stmt, TBlock, block, TStmts, no_stmts, more, TFunction, TProgram}
+use Rattle.oc_tree.specs.Numbers.{numbers_on}
 use Rattle.oc_tree.specs.Places.{block_of}
 use Rattle.oc_tree.specs.Checked.{Group, same_block, is_group, is_in_group, AreGroups}
 use Rattle.oc_tree.specs.Pulls.{expr_pulls, own_pulls, stmt_pulls, block_pulls}
-use Rattle.oc_tree.specs.Expansion.{block_size, stmt_size, inner_size, else_size, stmts_size, program_size, temporaries, join_stmts, pulled, expand_kind, expand_else, expand_block, expand_stmts, expand_function, expand_functions, expansion, inner_groups, else_groups, block_groups, stmts_groups, functions_groups, program_groups}
+use Rattle.oc_tree.specs.Expansion.{block_size, stmt_size, program_size, temporaries, join_stmts, pulled, expand_kind, expand_else, expand_block, expand_stmts, expand_functions, expansion, inner_groups, else_groups, block_groups, stmts_groups, functions_groups, program_groups}
 use Rattle.oc_desugar.proofs.Lengths.{length_pulled}
 use Rattle.oc_desugar.proofs.NumberedLaws.{numbered}
 use Rattle.oc_desugar.proofs.NumberLists.{listed, statements_listed}
@@ -52,6 +52,7 @@ group_stands b k i line [] j s rest n e g l =
 group_stands b k i line (r ∷ rs) j s rest n e g l = here (first_or_later i n g) (λ m. group_stands b (k + 1) (i + 1) line rs j s rest n (omega (arith, e)) m l) where
   others : List Pair
   others = stmts_pairs b (join_stmts (temporaries (k + 1) (i + 1) line rs ++ stmt j line s ∷ []) rest)
+
   here : (n ≡ i) ⊎ (i + 1 ≤ n) → (i + 1 ≤ n → Stands (n, b) others) → Stands (n, b) ((i, b) ∷ others)
   here (inl f) h = subst (λ m. Stands (m, b) ((i, b) ∷ others)) (sym f) (stands_first (i, b) others)
   here (inr m) h = stands_right (n, b) ((i, b) ∷ []) others (h m)
@@ -90,8 +91,8 @@ module _ (whole : List Pair) where
         let xs = block_pairs (expand_block k' i a) in
         let ys = else_pairs (expand_else (k' + block_pulls a) (i + block_size a) b) in
         both (Together whole) (block_groups i a) (else_groups (i + block_size a) b)
-            (block_together k' i a (λ x g. h x (stands_left x xs ys g)))
-            (else_together (k' + block_pulls a) (i + block_size a) b (λ x g. h x (stands_right x xs ys g)))
+        (block_together k' i a (λ x g. h x (stands_left x xs ys g)))
+        (else_together (k' + block_pulls a) (i + block_size a) b (λ x g. h x (stands_right x xs ys g)))
     inner_together k i (for_in x m n b) h = block_together k i b h
     inner_together k i (while_do c n b) h = block_together (k + expr_pulls c) i b h
     inner_together k i (call_only c) h = tt
@@ -117,11 +118,12 @@ module _ (whole : List Pair) where
         let own : TKind = expand_kind k (j + 1) s in
         let rest = expand_stmts k' i' ss in
         let l = length_pulled k s in
-        let e : j ≡ i + length (pulled k s) = omega (arith, l) in
-        ((b, omega arith, λ n g m. h (n, b) (group_stands b k i line (pulled k s) j own rest n e g m)),
+        let e : j ≡ i + length (pulled k s) = omega (arith, l) in (
+          (b, omega arith, λ n g m. h (n, b) (group_stands b k i line (pulled k s) j own rest n e g m)),
           both (Together whole) (inner_groups (j + 1) s) (stmts_groups i' ss)
               (inner_together k (j + 1) s (λ x g. h x (group_inside x b k i line (pulled k s) j own rest g)))
-              (stmts_together b k' i' ss (λ x g. h x (group_behind x b k i line (pulled k s) j own rest g))))
+              (stmts_together b k' i' ss (λ x g. h x (group_behind x b k i line (pulled k s) j own rest g))),
+        )
 
   functions_together : (k i : ℕ) (fs : List TFunction) → IsPart (flat_map (λ f. block_pairs f.body) (expand_functions k i fs)) → Each (Together whole) (functions_groups i fs)
   functions_together k i [] h = tt
@@ -131,8 +133,8 @@ module _ (whole : List Pair) where
       let xs = block_pairs (expand_block k i f.body) in
       let ys = flat_map (λ g. block_pairs g.body) (expand_functions k' i' fs) in
       both (Together whole) (block_groups i f.body) (functions_groups i' fs)
-          (block_together k i f.body (λ x g. h x (stands_left x xs ys g)))
-          (functions_together k' i' fs (λ x g. h x (stands_right x xs ys g)))
+      (block_together k i f.body (λ x g. h x (stands_left x xs ys g)))
+      (functions_together k' i' fs (λ x g. h x (stands_right x xs ys g)))
 
 together : (p : TProgram) → Each (Together (program_pairs (expansion p))) (program_groups p)
 together p = functions_together (program_pairs (expansion p)) 1 1 p.functions (λ x h. h)

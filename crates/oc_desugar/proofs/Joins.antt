@@ -3,8 +3,8 @@ use Rattle.std.proofs.Common.{◌∙◌, arith, ◌≡◌, List, [], ◌∷◌, 
 use Rattle.std.proofs.lemmas.List.{drop_all, append_assoc}
 use Rattle.oc_tree.specs.Pulls.{own_pulls, arg_pulls, stmt_pulls, stmts_pulls}
 use Rattle.oc_tree.specs.Expansion.{left_args, left_arg, expand_stmt, expand_stmts, stmt_size, stmts_size, join_stmts, inner_groups, inner_size, stmts_groups}
-use Rattle.oc_tree.specs.Tree.{TArg, TArgs, no_args, more_args, TKind, TStmt, stmt, TStmts, no_stmts, more}
-use Rattle.oc_tree.specs.View.{arg_view, args_of, args_view, stmt_view, stmts_of, stmts_view}
+use Rattle.oc_tree.specs.Tree.{TArgs, no_args, more_args, TKind, TStmt, stmt, TStmts, no_stmts, more}
+use Rattle.oc_tree.specs.View.{arg_view, args_view, stmt_view, stmts_view}
 use Rattle.oc_tree.specs.declared.tree.Arg.{Arg}
 use Rattle.oc_tree.specs.declared.tree.Stmt.{Stmt}
 use Rattle.oc_desugar.specs.Joined.{join_args}

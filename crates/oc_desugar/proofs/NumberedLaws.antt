@@ -1,10 +1,9 @@
 -- The statements of an expansion are numbered from 1, and a program without pulls that is so numbered is its own
 -- expansion.
-use Rattle.std.proofs.Common.{◌≡◌, ℕ, ◌+◌, List, [], ◌∷◌, ◌++◌, length, refl, ap, sym, subst, ◌∙◌, arith, sum_by}
-use Rattle.std.proofs.lemmas.List.{length-append}
-use Rattle.oc_tree.specs.Tree.{TExpr, number, truth, variable, index, deref, unary, binary, sensed, called, TArg, value, shared, mutable, TCall, call, TArgs, no_args, more_args, TRight, right_value, right_sense, right_call, TKind, let_to, let_array, assign, assign_index, assign_deref, if_else, for_in, while_do, call_only, sense_only, emit, fresh, consistent, return, TElse, no_else, else_do, TStmt, stmt, TBlock, block, TStmts, no_stmts, more, TFunction, TProgram}
-use Rattle.oc_tree.specs.Pulls.{expr_pulls, call_pulls, args_pulls, arg_pulls, right_pulls, own_pulls, inner_pulls, else_pulls, stmt_pulls, block_pulls, stmts_pulls, program_pulls}
-use Rattle.oc_tree.specs.Expansion.{left_expr, left_call, left_args, left_arg, left_right, temporaries, pulled_expr, pulled_call, pulled_args, pulled_arg, pulled_right, pulled, expand_kind, expand_else, expand_stmt, expand_block, expand_stmts, expand_function, expand_functions, expansion, join_stmts, block_size, else_size, stmt_size, stmts_size, inner_size}
+use Rattle.std.proofs.Common.{◌≡◌, ℕ, ◌+◌, List, [], ◌∷◌, ◌++◌, length, refl, ap, sym, subst, arith}
+use Rattle.oc_tree.specs.Tree.{TRight, TKind, let_to, let_array, assign, assign_index, assign_deref, if_else, for_in, while_do, call_only, sense_only, emit, fresh, consistent, return, TElse, no_else, else_do, TStmt, stmt, TBlock, block, TStmts, no_stmts, more, TFunction, TProgram}
+use Rattle.oc_tree.specs.Pulls.{expr_pulls, own_pulls, stmt_pulls, block_pulls}
+use Rattle.oc_tree.specs.Expansion.{temporaries, pulled, expand_kind, expand_else, expand_block, expand_stmts, expand_functions, expansion, join_stmts, block_size, else_size, stmt_size, stmts_size, inner_size}
 use Rattle.oc_desugar.proofs.Numbered.{inner_count, else_count, block_count, stmts_count, InnerNumbered, ElseNumbered, BlockNumbered, StmtsNumbered, FunctionsNumbered, IsNumbered}
 use Rattle.oc_desugar.proofs.Lengths.{length_pulled}
 

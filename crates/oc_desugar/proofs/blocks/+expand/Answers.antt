@@ -1,8 +1,6 @@
-use Rattle.std.proofs.Common.{rules, arith, ◌≡◌, drop, List, ℕ, ◌+◌, ◌∷◌, ◌≤◌, length, ◌<◌, ap}
+use Rattle.std.proofs.Common.{arith, ◌≡◌, drop, ◌+◌, ◌∷◌, ◌≤◌, length}
 use Rattle.std.proofs.lemmas.Grind.{common_steps}
-use Rattle.oc_tree.specs.View.{right_view, kind_view, block_view, stmt_view, stmts_view, else_view}
-use Rattle.oc_tree.specs.Pulls.{stmts_pulls}
-use Rattle.oc_tree.specs.Expansion.{expand_stmts}
+use Rattle.oc_tree.specs.View.{kind_view, stmt_view}
 use Rattle.oc_desugar.proofs.Joins.{stmts_step, stmts_end, stmts_pulls_step, stmts_size_step}
 use Rattle.oc_tree.specs.Tree.{TKind, TBlock, TStmt, stmt}
 use Rattle.oc_tree.specs.View.{kind_step, block_step, stmt_step}

@@ -1,6 +1,5 @@
-use Rattle.std.proofs.Common.{rules, arith, ◌≡◌, drop, List, ℕ, ◌+◌, ◌∷◌, ◌≤◌, length}
+use Rattle.std.proofs.Common.{arith, ◌≡◌, drop, ◌+◌, ◌∷◌, ◌≤◌, length}
 use Rattle.std.proofs.lemmas.Grind.{common_steps}
-use Rattle.std.proofs.Math.Seq.{drop-cons}
 use Rattle.oc_desugar.proofs.Joins.{left_args_step, left_args_end}
 use Rattle.oc_desugar.proofs.parts.+left.Goals as goal
 

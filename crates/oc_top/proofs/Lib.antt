@@ -2,6 +2,7 @@ pub mod Taking
 pub mod Fetching
 pub mod Readings
 pub mod Honesty
+pub mod Regions
 pub mod Preparing
 pub mod Variables
 pub mod Writing

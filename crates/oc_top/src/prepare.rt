@@ -1,5 +1,5 @@
 //! The steps before the first byte is written.
-ghost use Rattle.std.specs.Prelude.{◌≡◌, ◌≤◌, ℕ, List, length, IfOk, IfErr};
+ghost use Rattle.std.specs.Prelude.{◌≡◌, ◌≤◌, ℕ, List, [], length, IfOk, IfErr};
 ghost use Rattle.oc_tree.specs.View.{program_view};
 ghost use Rattle.oc_tree.specs.Expansion.{expansion};
 ghost use Rattle.oc_tree.specs.Form.{InForm};
@@ -27,7 +27,7 @@ use oc_power::power::{PowerError, read_power};
 use oc_power::supply::Supply;
 use oc_sensors::file::{SensorError, read_sensors};
 use oc_sensors::sensors::Sensors;
-use oc_tree::checked::Checked;
+use oc_tree::marked::Marked;
 use oc_tree::tree::Program;
 use oc_tree::written::Written;
 use oc_types::{RuleError, check};
@@ -168,13 +168,14 @@ fn written(alloc: Global, source: &[u8]) -> Result<Written, Answer>
     }
 }
 
-/// The checked program of a written one.
-fn checked(alloc: Global, written: Written) -> Result<Checked, Answer>
-    ensures expanded { IfOk result (λ c. c.program ≡ expansion written) }
+/// The expansion of a written program, without regions.
+fn marked(alloc: Global, written: Written) -> Result<Marked, Answer>
+    ensures program { IfOk result (λ m. m.program ≡ expansion written) }
+    ensures regions { IfOk result (λ m. m.regions ≡ []) }
     ensures memory { IfErr result (λ a. a ≡ answers.Memory) }
 {
     match expand(alloc, written) {
-        Ok(checked) => Ok(checked),
+        Ok(checked) => Ok(Marked::new(checked, Vec::new(alloc), Vec::new(alloc))),
         Err(_) => Err(Answer::Memory),
     }
 }
@@ -186,8 +187,8 @@ fn build(alloc: Global, source: &[u8]) -> Result<Image, Answer>
     ensures refused { IfErr result (λ a. IsNotBuilt source.now a) }
 {
     let written = written(alloc, source)?;
-    let checked = checked(alloc, written)?;
-    let image = compile(alloc, &checked)?;
+    let marked = marked(alloc, written)?;
+    let image = compile(alloc, &marked, Vec::new(alloc))?;
     Ok(image)
 }
 

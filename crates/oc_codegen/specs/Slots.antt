@@ -1,0 +1,32 @@
+-- The slots and the bindings of the code, as the definition of the code sees them.
+use Rattle.std.specs.Prelude.{List, [], ◌∷◌, ◌++◌}
+use Rattle.oc_code.specs.Scope as scopes
+use Rattle.oc_code.specs.Scope.{Named}
+use Rattle.oc_codegen.specs.declared.scope.Slot.{Slot}
+use Rattle.oc_codegen.specs.declared.scope.Slot.TheVariants.{InFrame, ByAddress, InNv, Nowhere}
+use Rattle.oc_codegen.specs.declared.scope.Variable.{Variable}
+use Rattle.oc_codegen.specs.declared.scope.Binding.{Binding}
+
+abbrev pub slot_view : Slot → scopes.Slot
+slot_view (InFrame s) = scopes.InFrame s
+slot_view (ByAddress s) = scopes.ByAddress s
+slot_view (InNv a) = scopes.InNv a
+slot_view Nowhere = scopes.NoSlot
+
+abbrev pub binding_view : Binding → Named
+binding_view b = record {
+  name = b.name.now;
+  slot = slot_view b.variable.slot;
+  words = b.variable.words;
+  writable = b.variable.writable;
+  fresh = b.variable.fresh;
+}
+
+-- the bindings, newest first, behind some that are older than all of them
+abbrev pub onto : List Binding → List Named → List Named
+onto [] γ = γ
+onto (b ∷ bs) γ = onto bs (binding_view b ∷ γ)
+
+-- the visible variables, newest first, of bindings in the order in which they were made
+abbrev pub visible : List Binding → List Named
+visible bs = onto bs []

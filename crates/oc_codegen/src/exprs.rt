@@ -1,5 +1,8 @@
 //! The code of expressions.
-ghost use Rattle.std.specs.Prelude.{◌≡◌, ◌+◌, ◌++◌, ◌∷◌, [], length, slice_set, OnOk, IfOk};
+ghost use Rattle.std.specs.Prelude.{◌≡◌, ◌<◌, pos, ◌+◌, ◌++◌, ◌∷◌, [], length, slice_set, OnOk, IfOk};
+ghost use Rattle.oc_tree.specs.Word.{truth};
+ghost use Rattle.oc_tree.specs.View.{expr_view};
+ghost use Rattle.oc_isa.specs.declared.instr.Instr.TheVariants.{Push, Jump, Jfalse};
 ghost use Rattle.oc_code.specs.Forms.{placed, one, read_code, write_code, base_code, expr_code};
 ghost use Rattle.oc_codegen.specs.Slots.{slot_view};
 ghost use Rattle.oc_codegen.specs.Ops.{sides_of};
@@ -78,5 +81,84 @@ pub fn base(code: &mut Buffer, n: u32, slot: Slot) -> Result<(), AllocError>
         Slot::ByAddress { s } => code.put(n, Instr::Load { s }),
         Slot::InNv { a } => code.put(n, Instr::Naddr { a }),
         Slot::Nowhere => code.put(n, Instr::Push { c: 0 }),
+    }
+}
+
+fn word_of(value: bool) -> i32
+    ensures { result ≡ truth value }
+{
+    if value { 1 } else { 0 }
+}
+
+// The end of `&&`: its left side has left the test that is still open, and its right side stands.
+fn close_and(code: &mut Buffer, n: u32, test: u32) -> Result<(), AllocError>
+    requires { test < length code.old }
+    ensures { OnOk result (code.new ≡ slice_set code.old test (placed n (Jfalse (length code.old + 1))) ++ placed n (Jump (length code.old + 2)) ∷ one n (Push (pos 0))) }
+{
+    let end = code.address();
+    code.set(test, n, Instr::Jfalse { t: end + 1 });
+    code.put(n, Instr::Jump { t: end + 2 })?;
+    code.put(n, Instr::Push { c: 0 })
+}
+
+// What stands between the sides of `||`, and the address of its jump, which is still open.
+fn open_or(code: &mut Buffer, n: u32) -> Result<u32, AllocError>
+    ensures code { OnOk result (code.new ≡ code.old ++ placed n (Jfalse (length code.old + 3)) ∷ placed n (Push (pos 1)) ∷ one n (Jump 0)) }
+    ensures jump { IfOk result (λ a. a ≡ length code.old + 2) }
+{
+    let test = code.address();
+    code.put(n, Instr::Jfalse { t: test + 3 })?;
+    code.put(n, Instr::Push { c: 1 })?;
+    code.put(n, Instr::Jump { t: 0 })?;
+    Ok(test + 2)
+}
+
+/// The code of an expression of the statement `n`.
+pub fn expr(code: &mut Buffer, scope: &Scope, n: u32, expression: &Expr) -> Result<(), AllocError>
+    ensures { OnOk result (code.new ≡ code.old ++ expr_code n scope.now (length code.old) (expr_view expression.now)) }
+{
+    match expression {
+        Expr::Number { value } => code.put(n, Instr::Push { c: *value }),
+        Expr::Truth { value } => code.put(n, Instr::Push { c: word_of(*value) }),
+        Expr::Variable { name } => read(code, n, scope.slot(name)),
+        Expr::Deref { name } => read(code, n, scope.slot(name)),
+        Expr::Index { array, index } => {
+            base(code, n, scope.slot(array))?;
+            expr(code, scope, n, index)?;
+            code.put(
+                n,
+                Instr::Index {
+                    n: scope.words(array),
+                },
+            )?;
+            code.put(n, Instr::Get)
+        }
+        Expr::Unary { op, inner } => {
+            expr(code, scope, n, inner)?;
+            code.put(n, Instr::Un { op: *op })
+        }
+        Expr::Binary { op, left, right } => {
+            expr(code, scope, n, left)?;
+            match sides_of(*op) {
+                Sides::Both { op } => {
+                    expr(code, scope, n, right)?;
+                    code.put(n, Instr::Bin { op })
+                }
+                Sides::FirstTrue => {
+                    let test = code.open(n)?;
+                    expr(code, scope, n, right)?;
+                    close_and(code, n, test)
+                }
+                Sides::FirstFalse => {
+                    let jump = open_or(code, n)?;
+                    expr(code, scope, n, right)?;
+                    let end = code.address();
+                    code.set(jump, n, Instr::Jump { t: end });
+                    Ok(())
+                }
+            }
+        }
+        Expr::Sense { .. } => code.put(n, Instr::Push { c: 0 }),
+        Expr::Call { .. } => code.put(n, Instr::Push { c: 0 }),
     }
 }

@@ -1,3 +1,4 @@
 pub mod Bindings
 pub mod Patches
 pub mod Sides
+pub mod FunctionPlaces

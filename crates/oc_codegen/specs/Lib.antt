@@ -1,2 +1,3 @@
 pub mod Slots
 pub mod Ops
+pub mod Around

@@ -1,16 +1,17 @@
 //! The code of expressions.
 ghost use Rattle.std.specs.Prelude.{◌≡◌, ◌<◌, pos, ◌+◌, ◌++◌, ◌∷◌, [], length, slice_set, OnOk, IfOk};
 ghost use Rattle.oc_tree.specs.Word.{truth};
-ghost use Rattle.oc_tree.specs.View.{expr_view};
+ghost use Rattle.oc_tree.specs.View.{arg_view, args_view, expr_view};
 ghost use Rattle.oc_isa.specs.declared.instr.Instr.TheVariants.{Push, Jump, Jfalse};
-ghost use Rattle.oc_code.specs.Forms.{placed, one, read_code, write_code, base_code, expr_code};
+ghost use Rattle.oc_code.specs.Forms.{placed, one, read_code, write_code, base_code, expr_code, arg_code, args_code};
+ghost use Rattle.oc_code.specs.Scope.{passed_slot};
 ghost use Rattle.oc_codegen.specs.Slots.{slot_view};
 ghost use Rattle.oc_codegen.specs.Ops.{sides_of};
 
 use crate::buffer::Buffer;
 use crate::scope::{Scope, Slot};
 use oc_isa::instr::{BinOp, Instr};
-use oc_tree::tree::{BinaryOp, Expr};
+use oc_tree::tree::{Arg, BinaryOp, Expr};
 use std::alloc::AllocError;
 
 /// Which sides an operator evaluates: both, or the right one only where the left one is true, or
@@ -161,4 +162,43 @@ pub fn expr(code: &mut Buffer, scope: &Scope, n: u32, expression: &Expr) -> Resu
         Expr::Sense { .. } => code.put(n, Instr::Push { c: 0 }),
         Expr::Call { .. } => code.put(n, Instr::Push { c: 0 }),
     }
+}
+
+// The slot of the reference that an argument passes on, which is just its name.
+fn passed_slot(scope: &Scope, expression: &Expr) -> Option<u32>
+    ensures { result ≡ passed_slot scope.now (expr_view expression.now) }
+{
+    match expression {
+        Expr::Variable { name } => match scope.slot(name) {
+            Slot::ByAddress { s } => Some(s),
+            Slot::InFrame { .. } => None,
+            Slot::InNv { .. } => None,
+            Slot::Nowhere => None,
+        },
+        _ => None,
+    }
+}
+
+// The code of an argument.
+fn arg(code: &mut Buffer, scope: &Scope, n: u32, arg: &Arg) -> Result<(), AllocError>
+    ensures { OnOk result (code.new ≡ code.old ++ arg_code n scope.now (length code.old) (arg_view arg.now)) }
+{
+    match arg {
+        Arg::Value { value } => match passed_slot(scope, value) {
+            Some(s) => code.put(n, Instr::Load { s }),
+            None => expr(code, scope, n, value),
+        },
+        Arg::Shared { name } => base(code, n, scope.slot(name)),
+        Arg::Mutable { name } => base(code, n, scope.slot(name)),
+    }
+}
+
+/// The code of the arguments of a call.
+pub fn args(code: &mut Buffer, scope: &Scope, n: u32, args: &[Arg]) -> Result<(), AllocError>
+    ensures { OnOk result (code.new ≡ code.old ++ args_code n scope.now (length code.old) (args_view args.now)) }
+{
+    for next in args {
+        arg(code, scope, n, next)?;
+    }
+    Ok(())
 }

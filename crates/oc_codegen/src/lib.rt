@@ -3,4 +3,9 @@
 
 mod buffer;
 mod exprs;
+mod loops;
+mod numbers;
 mod scope;
+mod setting;
+mod simple;
+mod uses;

@@ -2,3 +2,5 @@ pub mod Bindings
 pub mod Patches
 pub mod Sides
 pub mod FunctionPlaces
+pub mod LoopPatches
+pub mod Statements

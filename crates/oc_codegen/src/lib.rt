@@ -8,4 +8,5 @@ mod numbers;
 mod scope;
 mod setting;
 mod simple;
+mod stmts;
 mod uses;

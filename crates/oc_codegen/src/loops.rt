@@ -45,6 +45,23 @@ pub fn close_count(code: &mut Buffer, n: u32, slot: u32, start: u32) -> Result<(
     code.put(n, Instr::Jump { t: start + 2 })
 }
 
+/// The same for a `while`, whose exit is also still open.
+pub fn close_while(
+    code: &mut Buffer,
+    n: u32,
+    slot: u32,
+    start: u32,
+    exit: u32,
+) -> Result<(), AllocError>
+    requires start { start + 5 < length code.old }
+    requires exit { exit < length code.old }
+    ensures { OnOk result (code.new ≡ slice_set (slice_set code.old exit (placed n (Jfalse (length code.old + 5)))) (start + 5) (placed n (Jfalse (length code.old + 5))) ++ again_code n slot (start + 2)) }
+{
+    let end = code.address() + 5;
+    code.set(exit, n, Instr::Jfalse { t: end });
+    close_count(code, n, slot, start)
+}
+
 fn fill(code: &mut Buffer, n: u32, slot: u32, initial: i32, words: u32) -> Result<(), AllocError>
     ensures { OnOk result (code.new ≡ code.old ++ fill_code n slot initial words) }
 {

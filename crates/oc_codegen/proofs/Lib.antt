@@ -4,3 +4,4 @@ pub mod Sides
 pub mod FunctionPlaces
 pub mod LoopPatches
 pub mod Statements
+pub mod KindViews

@@ -7,6 +7,7 @@
 ghost use Rattle.std.specs.Prelude.{◌≤◌, length};
 
 use oc_ckpt::Area;
+use oc_desugar::expand;
 use oc_io::disk::{DiskShelf, StdSink};
 use oc_io::memory_shelf::MemoryShelf;
 use oc_io::memory_sink::MemorySink;
@@ -25,6 +26,7 @@ use oc_rows::rows::Rows;
 use oc_sensors::file::read_sensors;
 use oc_top::top::ocelot;
 use oc_tree::name::Name;
+use oc_types::check;
 use oc_undo::log::UndoLog;
 use std::alloc::{AllocError, Global};
 
@@ -53,14 +55,20 @@ fn parts<O: Sink>(alloc: Global, out: &mut O) -> anyhow::Result<()> {
     fine("Area::new", out)
 }
 
-/// The tokens and the tree of a source.
+/// The tokens and the tree of a source, and the programs that are made of it.
 fn tree<O: Sink>(alloc: Global, source: &[u8], out: &mut O) -> anyhow::Result<()>
     requires { length source.now ≤ 1048576 }
 {
     let tokens = lex(alloc, source)?;
     fine("lex", out)?;
-    parse(alloc, source, &tokens)?;
-    fine("parse", out)
+    let program = parse(alloc, source, &tokens)?;
+    fine("parse", out)?;
+    let written = check(alloc, program)?;
+    fine("check", out)?;
+    match expand(alloc, written) {
+        Ok(_) => fine("expand", out),
+        Err((_, memory)) => Err(memory.into()),
+    }
 }
 
 /// The sensor file.

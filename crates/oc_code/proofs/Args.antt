@@ -10,6 +10,7 @@ use Rattle.oc_tree.specs.declared.tree.Passing.{Passing}
 use Rattle.oc_tree.specs.declared.tree.Passing.TheVariants.{Value as ByValue, Shared, Mutable}
 use Rattle.oc_tree.specs.declared.said.Said.TheVariants.{Ended as Over}
 use Rattle.oc_tree.specs.declared.said.Ending.TheVariants.{Trapped}
+use Rattle.oc_tree.specs.Stack.{arg_depth, args_depth}
 use Rattle.oc_isa.specs.declared.instr.Placed.{Placed}
 use Rattle.oc_isa.specs.Image.{Parts}
 use Rattle.oc_meaning.specs.Store.{Store, Binding, noted, binding_of, place_of}
@@ -17,7 +18,6 @@ use Rattle.oc_meaning.specs.Eval.{Got, Val, Traps, value_of}
 use Rattle.oc_meaning.specs.Exec.{Passed, Copied, Lent, Passing as Passings, Passes, Breaks, passed_first, copied_first, passed_on, value_first, arg_first, args_of}
 use Rattle.oc_code.specs.Scope.{Slot, InFrame, ByAddress, InNv, NoSlot, Named, named, slot_of, kind_words, may_write, param_slot, passed_slot, address_slot}
 use Rattle.oc_code.specs.Forms.{base_code, expr_code, value_code, arg_code, args_code}
-use Rattle.oc_code.specs.Stack.{arg_depth, args_depth}
 use Rattle.oc_code.specs.Formed.{IsLent, NamesLent, NamesWritable, IsPassed, ArePassed}
 use Rattle.oc_code.proofs.Cells.{Cell, stack_of, size, onto}
 use Rattle.oc_code.proofs.Steps.{Mach, shown, Leads, Stops, leads_self, leads_on, leads_stop}

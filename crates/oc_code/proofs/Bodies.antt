@@ -13,10 +13,11 @@ use Rattle.oc_meaning.specs.Store.{Store, Binding, holding, made, held_at, place
 use Rattle.oc_meaning.specs.Eval.{is_zero, value_of}
 use Rattle.oc_meaning.specs.Uses.{is_fresh, is_use, use_samples, begins_use, ends_use}
 use Rattle.oc_tree.specs.Marked.{TRegion}
+use Rattle.oc_tree.specs.Stack.{kind_slots, block_slots, stmts_slots, expr_depth}
 use Rattle.oc_meaning.specs.Exec.{begun_by, ended_by, Outcome, Went, Returned, Passed, number_in, with_value, then_do, finished, opened, closed, used, done, right_run, while_turns, in_turn, grown, entered, kind_run, block_run, stmts_run}
-use Rattle.oc_code.specs.Scope.{Slot, InFrame, ByAddress, InNv, NoSlot, address_slot, Named, slot_of, is_fresh_in, kind_slots, block_slots, stmts_slots, in_scope, for_named}
+use Rattle.oc_code.specs.Scope.{Slot, InFrame, ByAddress, InNv, NoSlot, address_slot, Named, slot_of, is_fresh_in, in_scope, for_named}
 use Rattle.oc_code.specs.Forms.{placed, one, enter_code, commit_code, probe_code, expr_code, again_code, array_code, count_code, while_code}
-use Rattle.oc_code.specs.Stack.{expr_depth, right_depth, kind_depth, block_depth, stmts_depth}
+use Rattle.oc_code.proofs.Needs.{right_depth, kind_depth, block_depth, stmts_depth}
 use Rattle.oc_code.specs.Code.{right_code, test_code, return_code, last_code, first_code, whole_code, kind_code, block_code, stmts_code}
 use Rattle.oc_code.specs.Formed.{marks, kind_formed, block_formed, stmts_formed, body_formed}
 use Rattle.oc_code.proofs.Cells.{Cell, Fixed, stack_of, owns, size, owns_shaped, size-append, size_fixed, fixed_at, shaped_fixed}
@@ -85,8 +86,10 @@ module _ (parts : Parts) (ds : List NvDecl) (small : total ds ≤ 65536) (names 
       let j = length top - 1 in
       let lt : length top ≡ j + 1 = omega (arith, le) in
       let kind = let_array m x t z (suc w) in
-      subst (λ t. Runs parts ds small k fp false D (shown pc fp (top ++ stack_of cs σ.locals) σ) (pc + length (array_code n pc s z (suc w))) t (suc w + 1) cs (in_scope kind s rest γ) (grown kind rest env υ) (kind_run names regions call_of home env n kind σ)) (sym lt)
-      (array_run parts ds small k fp n pc s w z cs q.base q.holds.low has stop j (omega (arith, lt, q.full, room)) (omega (arith, lt, q.full, low)) fm.1 (omega (arith, lt, le)) D x γ env rest top υ σ own' lt q.holds de q.sees)
+      let wide : suc w + 1 ≡ 1 + suc w = omega arith in
+      subst (λ v. Runs parts ds small k fp false D (shown pc fp (top ++ stack_of cs σ.locals) σ) (pc + length (array_code n pc s z (suc w))) (length top) v cs (in_scope kind s rest γ) (grown kind rest env υ) (kind_run names regions call_of home env n kind σ)) wide
+      (subst (λ t. Runs parts ds small k fp false D (shown pc fp (top ++ stack_of cs σ.locals) σ) (pc + length (array_code n pc s z (suc w))) t (suc w + 1) cs (in_scope kind s rest γ) (grown kind rest env υ) (kind_run names regions call_of home env n kind σ)) (sym lt)
+      (array_run parts ds small k fp n pc s w z cs q.base q.holds.low has stop j (omega (arith, lt, q.full, room)) (omega (arith, lt, q.full, low)) fm.1 (omega (arith, lt, le)) D x γ env rest top υ σ own' lt q.holds de q.sees))
 
   if_one : (c : TExpr) (a : TBlock) → BlockRuns a → KindRuns (if_else c a no_else)
   if_one c a ra n s pc sp D γ env cs top υ σ rest q own' de fm le low room has stop =
@@ -174,7 +177,7 @@ module _ (parts : Parts) (ds : List NvDecl) (small : total ds ≤ 65536) (names 
       subst (λ t. Runs parts ds small k fp false D (shown (pc + 6) fp (top' ++ (i ∷ stack_of cs τ.locals)) τ) (pc + 6 + length cb) t 0 (Fixed i ∷ cs) (for_named x s ∷ γ) (in_turn x i ∷ env) (block_run names regions call_of home (in_turn x i ∷ env) b τ)) lt'
       (rb (s + 1) (pc + 6) sp D (for_named x s ∷ γ) (in_turn x i ∷ env) (Fixed i ∷ cs) top' τ ready de' fm.2 (omega (arith, le, lt, lt')) low (omega (arith, room)) (body_at cb has) (omega (arith, stop, length-append cb (again_code n s (pc + 2))))))
       top σ lt q.holds de in
-      runs_more parts ds small k fp D _ whole (length top) (block_slots b + 1) cs γ env o le (omega (arith, q.full, low))
+      runs_more parts ds small k fp D _ whole (length top) (1 + block_slots b) cs γ env o le (omega (arith, q.full, low))
       (subst (λ t. Runs parts ds small k fp false D (shown pc fp (top ++ stack_of cs σ.locals) σ) whole t 0 cs γ env o) (sym lt) r)
     where
       body_at : (cb : List Placed) → HasAt parts.code pc (count_code n pc s c d cb) → HasAt parts.code (pc + 6) cb
@@ -184,7 +187,7 @@ module _ (parts : Parts) (ds : List NvDecl) (small : total ds ≤ 65536) (names 
 
   while_one : (c : TExpr) (bound : ℕ) (b : TBlock) → BlockRuns b → KindRuns (while_do c bound b)
   while_one c bound b rb n s pc sp D γ env cs top υ σ rest q own' de fm le low room has stop =
-      runs_more parts ds small k fp D _ last (length top) (block_slots b + 1) cs γ env o le (omega (arith, q.full, low))
+      runs_more parts ds small k fp D _ last (length top) (1 + block_slots b) cs γ env o le (omega (arith, q.full, low))
       (subst (λ F. Runs parts ds small k fp false D (shown pc fp (top ++ stack_of cs σ.locals) σ) last (length top) 0 cs γ env (turns F)) same
       (subst (λ t. Runs parts ds small k fp false D (shown pc fp (top ++ stack_of cs σ.locals) σ) last t 0 cs γ env (turns (is_fresh_in γ))) (sym lt) r))
     where

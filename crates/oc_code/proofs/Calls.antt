@@ -16,12 +16,13 @@ use Rattle.oc_isa.specs.Levels.{at_level}
 use Rattle.oc_meaning.specs.Store.{Store, Binding, left_at}
 use Rattle.oc_meaning.specs.Blocks.{set_home}
 use Rattle.oc_tree.specs.Marked.{TRegion}
+use Rattle.oc_tree.specs.Stack.{block_slots, link_words, frame}
 use Rattle.oc_meaning.specs.Exec.{Outcome, Went, Returned, Stopped, Passed, leave, block_run}
 use Rattle.oc_meaning.specs.Run.{Frame, function_named, nv_env, with_params, body_run, function_run, call_to}
-use Rattle.oc_code.specs.Scope.{Named, nv_scope, function_scope, block_slots}
+use Rattle.oc_code.specs.Scope.{Named, nv_scope, function_scope}
 use Rattle.oc_code.specs.Forms.{placed, one}
-use Rattle.oc_code.specs.Stack.{is_main_name, link_words, frame_words, function_need, stack_words}
-use Rattle.oc_code.specs.Code.{function_number, close_code, body_code, function_code, functions_code, image_function, image_functions, code_of}
+use Rattle.oc_code.proofs.Needs.{function_need, need_to, need_next}
+use Rattle.oc_code.specs.Code.{is_main_name, function_number, close_code, body_code, function_code, functions_code, image_function, image_functions, code_of}
 use Rattle.oc_code.specs.Formed.{body_formed, IsFormed}
 use Rattle.oc_code.proofs.Cells.{Cell, Fixed, stack_of, owns, size, Shaped, fixed_at, onto, owns_shaped, length-stack_of, stack_of-append, stack_of_fixed, owns-append, size-append, size_fixed, owns_fixed, shaped_fixed, shaped_back, fixed_more}
 use Rattle.oc_code.proofs.Steps.{Mach, shown, Leads, leads_on, call_step, ret_step, retv_step}
@@ -139,12 +140,13 @@ module _ (p : TProgram) (regions : List TRegion) (targets : List (List Target)) 
   abbrev pub image : Parts
   image = code_of p regions targets
 
-  abbrev pub Calls : ℕ → Type 0
-  Calls d = CallsRun image p.nv small p.names p.functions regions formed.rank d (stack_words p d) (call_to p regions d)
+  -- calls at most d deep, where the source has room for calls so deep
+  abbrev pub Calls : (d deep : ℕ) → Type 0
+  Calls d deep = CallsRun image p.nv small p.names p.functions regions formed.rank d (need_to p.functions d) (call_to p regions deep)
 
   -- one function, where calls go at most d deep
-  function_runs : (d : ℕ) → Calls d → (f : Text) (g : TFunction) → function_named p.functions f ≡ Some g → is_main_name g.name ≡ false → formed.rank f < suc d → (ps : List Passed) (zs : List ℤ) (σ : Store) (n pc fp : ℕ) (cs : List Cell) (top : List ℤ) → Holds p.nv cs σ → fp ≤ size cs → AreGiven p.nv cs g.params ps zs → length top + size cs + function_need (stack_words p d) (Some g) ≤ image.stack → slice_get image.code pc ≡ Some (placed n (Call (function_number p.functions f))) → RightGives image p.nv small 0 fp (is_some g.result) σ.depth (shown pc fp (onto zs (top ++ stack_of cs σ.locals)) σ) (pc + 1) cs top (body_run p regions (call_to p regions d) g (with_params g.params ps (record { env = nv_env 0 p.names.nvs; locals = σ.locals })) σ)
-  function_runs d calls f g found no_main lower ps zs σ n pc fp cs top h under given room at =
+  function_runs : (d deep : ℕ) → Calls d deep → (f : Text) (g : TFunction) → function_named p.functions f ≡ Some g → is_main_name g.name ≡ false → formed.rank f < suc d → (ps : List Passed) (zs : List ℤ) (σ : Store) (n pc fp : ℕ) (cs : List Cell) (top : List ℤ) → Holds p.nv cs σ → fp ≤ size cs → AreGiven p.nv cs g.params ps zs → length top + size cs + function_need (need_to p.functions d) (Some g) ≤ image.stack → slice_get image.code pc ≡ Some (placed n (Call (function_number p.functions f))) → RightGives image p.nv small 0 fp (is_some g.result) σ.depth (shown pc fp (onto zs (top ++ stack_of cs σ.locals)) σ) (pc + 1) cs top (body_run p regions (call_to p regions deep) g (with_params g.params ps (record { env = nv_env 0 p.names.nvs; locals = σ.locals })) σ)
+  function_runs d deep calls f g found no_main lower ps zs σ n pc fp cs top h under given room at =
       frame_ends image p.nv small cs top fp fp' k pc (length σ.locals) bound.above P bound.over base_B many_P (owns_shaped cs σ.locals h.shaped) h.low
       (is_some g.result) σ.depth start (e + length bc) (length Z) γ fr.env body_out (omega (arith, room, frame_is)) (omega (arith, room, frame_is, lz, many_P)) (omega (arith, many_P)) close
       (runs_after image p.nv small k fp' (is_some g.result) σ.depth _ _ (e + length bc) (length Z) 0 L γ fr.env body_out first body)
@@ -206,7 +208,7 @@ module _ (p : TProgram) (regions : List TRegion) (targets : List (List Target)) 
       lw : link_words g ≡ 2
       lw = ap (λ b. if b then 0 else 2) no_main
 
-      frame_is : frame_words g ≡ k + 2 + slots
+      frame_is : frame g ≡ k + 2 + slots
       frame_is = omega (arith, lw)
 
       place : (e : ℕ) × (slice_get parts.functions (function_number p.functions f) ≡ Some (image_function p regions e g)) × HasAt parts.code e (function_code p regions e g) × (e ≤ length parts.code)
@@ -226,7 +228,7 @@ module _ (p : TProgram) (regions : List TRegion) (targets : List (List Target)) 
           let a = found_at p.functions f g found in
           subst (λ x. body_formed p.names p.functions regions formed.rank (formed.rank x) (is_some g.result) γ (k + link_words g) g.body) (sym a.1) (formed.bodies (function_number p.functions f) g a.0)
 
-      lower_calls : CallsRun image p.nv small p.names p.functions regions formed.rank (formed.rank f) (stack_words p d) (call_to p regions d)
+      lower_calls : CallsRun image p.nv small p.names p.functions regions formed.rank (formed.rank f) (need_to p.functions d) (call_to p regions deep)
       lower_calls f' g' a b lt = calls f' g' a b (omega (arith, lt, lower))
 
       close_is : (r : Bool) → is_some g.result ≡ r → cc ≡ (if r then [] else one 0 (Ret k))
@@ -249,25 +251,25 @@ module _ (p : TProgram) (regions : List TRegion) (targets : List (List Target)) 
       stop = omega (arith, code_end, length-append bc cc, tail_is (is_some g.result) refl)
 
       starts : e < length parts.code
-      starts = omega (arith, stop, body_some image p.nv small p.names p.functions regions formed.rank (formed.rank f) (stack_words p d) (call_to p regions d) lower_calls (set_home g.body) k fp' g.body (is_some g.result) (k + link_words g) e γ fm)
+      starts = omega (arith, stop, body_some image p.nv small p.names p.functions regions formed.rank (formed.rank f) (need_to p.functions d) (call_to p regions deep) lower_calls (set_home g.body) k fp' g.body (is_some g.result) (k + link_words g) e γ fm)
 
       τ : Store
       τ = record σ { locals = fr.locals }
 
       body_out : Outcome
-      body_out = block_run p.names regions (call_to p regions d) (set_home g.body) fr.env g.body τ
+      body_out = block_run p.names regions (call_to p regions deep) (set_home g.body) fr.env g.body τ
 
       e1 : length A - k ≡ fp'
       e1 = omega (arith, len_A)
 
-      e2 : frame_words g - (k + 2) ≡ slots
+      e2 : frame g - (k + 2) ≡ slots
       e2 = omega (arith, frame_is)
 
       first : Leads parts start (shown e fp' (Z ++ stack_of L fr.locals) τ)
       first =
           subst (λ s. Leads parts start (shown e fp' (Z ++ (pos fp ∷ (pos (pc + 1) ∷ s))) σ)) same
           (subst (λ j. Leads parts start (shown e fp' (replicate j (pos 0) ++ (pos fp ∷ (pos (pc + 1) ∷ A))) σ)) e2
-          (subst (λ i. Leads parts start (shown e i (replicate (frame_words g - (k + 2)) (pos 0) ++ (pos fp ∷ (pos (pc + 1) ∷ A))) σ)) e1
+          (subst (λ i. Leads parts start (shown e i (replicate (frame g - (k + 2)) (pos 0) ++ (pos fp ∷ (pos (pc + 1) ∷ A))) σ)) e1
           (call_step parts n pc fp σ (function_number p.functions f) (image_function p regions e g) A at place.1 (omega (arith, len_A, under)) (omega (arith, frame_is)) (omega (arith, len_A, frame_is, room)) starts)))
 
       ready : Ready p.nv fp' (k + link_words g) (fp' + k + 2 + slots) γ fr.env L Z τ
@@ -279,11 +281,13 @@ module _ (p : TProgram) (regions : List TRegion) (targets : List (List Target)) 
       }
 
       body : Runs image p.nv small k fp' (is_some g.result) σ.depth (shown e fp' (Z ++ stack_of L fr.locals) τ) (e + length bc) (length Z) 0 L γ fr.env body_out
-      body = body_runs image p.nv small p.names p.functions regions formed.rank (formed.rank f) (stack_words p d) (call_to p regions d) lower_calls (set_home g.body) k fp' g.body (is_some g.result) (k + link_words g) e (fp' + k + 2 + slots) σ.depth γ fr.env L Z τ ready refl fm (omega (arith, lz)) (omega (arith, room, frame_is, formed.stack_low)) (omega (arith, room, frame_is)) (has_front parts.code e bc cc place.2) stop
+      body = body_runs image p.nv small p.names p.functions regions formed.rank (formed.rank f) (need_to p.functions d) (call_to p regions deep) lower_calls (set_home g.body) k fp' g.body (is_some g.result) (k + link_words g) e (fp' + k + 2 + slots) σ.depth γ fr.env L Z τ ready refl fm (omega (arith, lz)) (omega (arith, room, frame_is, formed.stack_low)) (omega (arith, room, frame_is)) (has_front parts.code e bc cc place.2) stop
 
   -- each call at each depth
-  pub calls_run : (d : ℕ) → Calls d
-  calls_run zero f g found no_main lower ps zs σ n pc fp cs top h under given room at = absurd (omega arith)
-  calls_run (suc d) f g found no_main lower ps zs σ n pc fp cs top h under given room at =
-      subst (λ o. RightGives image p.nv small 0 fp (is_some g.result) σ.depth (shown pc fp (onto zs (top ++ stack_of cs σ.locals)) σ) (pc + 1) cs top (function_run p regions (call_to p regions d) o ps σ)) (sym found)
-      (function_runs d (calls_run d) f g found no_main lower ps zs σ n pc fp cs top h under given (subst (λ o. length top + size cs + function_need (stack_words p d) o ≤ image.stack) found room) at)
+  pub calls_run : (d deep : ℕ) → d ≤ deep → Calls d deep
+  calls_run zero deep fits f g found no_main lower ps zs σ n pc fp cs top h under given room at = absurd (omega (arith, lower))
+  calls_run (suc d) zero fits f g found no_main lower ps zs σ n pc fp cs top h under given room at = absurd (omega (arith, fits))
+  calls_run (suc d) (suc deep) fits f g found no_main lower ps zs σ n pc fp cs top h under given room at =
+      let needs : length top + size cs + function_need (need_to p.functions d) (function_named p.functions f) ≤ image.stack = subst (λ n. length top + size cs + n ≤ image.stack) (need_next p.functions d f) room in
+      subst (λ o. RightGives image p.nv small 0 fp (is_some g.result) σ.depth (shown pc fp (onto zs (top ++ stack_of cs σ.locals)) σ) (pc + 1) cs top (function_run p regions (call_to p regions deep) o ps σ)) (sym found)
+      (function_runs d deep (calls_run d deep (omega (arith, fits))) f g found no_main lower ps zs σ n pc fp cs top h under given (subst (λ o. length top + size cs + function_need (need_to p.functions d) o ≤ image.stack) found needs) at)

@@ -9,6 +9,7 @@ use Rattle.oc_tree.specs.declared.tree.BinaryOp.TheVariants as ops
 use Rattle.oc_tree.specs.declared.said.Said.TheVariants.{Ended as Over}
 use Rattle.oc_tree.specs.declared.said.TrapKind.TheVariants as trap
 use Rattle.oc_tree.specs.declared.said.Ending.TheVariants.{Trapped}
+use Rattle.oc_tree.specs.Stack.{binary_depth, expr_depth}
 use Rattle.oc_isa.specs.declared.instr.Placed.{Placed}
 use Rattle.oc_isa.specs.declared.instr.Instr.TheVariants.{Push, Get, Index, Bin, Un, Jump, Jfalse}
 use Rattle.oc_isa.specs.Image.{Parts}
@@ -21,7 +22,6 @@ use Rattle.oc_meaning.specs.Eval.{Got, Val, Traps, is_zero, apply, given, and_go
 use Rattle.oc_meaning.specs.Run.{words_of}
 use Rattle.oc_code.specs.Scope.{Slot, InFrame, ByAddress, InNv, NoSlot, Named, slot_of, words_of as words_in}
 use Rattle.oc_code.specs.Forms.{placed, one, read_code, base_code, bin_of, and_code, or_code, binary_code, expr_code}
-use Rattle.oc_code.specs.Stack.{both_depth, expr_depth}
 use Rattle.oc_code.proofs.Cells.{Cell, stack_of, size, length-stack_of}
 use Rattle.oc_code.proofs.Steps.{Mach, shown, Leads, Stops, leads_on, leads_stop, lt_true, lt_false, push_step, load_step, nload_step, addr_step, naddr_step, get_step, un_step, bin_step, bin_stop, index_step, index_stop, jump_step, test_step}
 use Rattle.oc_code.proofs.Places.{Stands, place_width, Fits, Sees, Holds, found, held_width, stands_read, stands_end, frame_word, first_word, total}
@@ -174,7 +174,7 @@ module _ (parts : Parts) (ds : List NvDecl) (small : total ds ≤ 65536) where
         (λ x. rx (pc + length ca) x (omega (arith, room)) (has_front parts.code (pc + length ca) b i rest) at_end)
 
     -- an operator, with what the codes of both sides do
-    pub binary_run : (op : BinaryOp) (da db : ℕ) (ca : List Placed) (cb : ℕ → List Placed) (ga gb : Got) (pc : ℕ) → 1 ≤ da → 1 ≤ db → length w + both_depth op da db ≤ parts.stack → HasAt parts.code pc (binary_code n pc op ca cb) → pc + length (binary_code n pc op ca cb) < length parts.code → (length w + da ≤ parts.stack → HasAt parts.code pc ca → pc + length ca < length parts.code → Gives (shown pc fp w σ) n (pc + length ca) fp w σ ga) → ((q : ℕ) → length w + db ≤ parts.stack → HasAt parts.code q (cb q) → q + length (cb q) < length parts.code → Gives (shown q fp w σ) n (q + length (cb q)) fp w σ gb) → ((q : ℕ) (x : ℤ) → length w + 1 + db ≤ parts.stack → HasAt parts.code q (cb q) → q + length (cb q) < length parts.code → Gives (shown q fp (x ∷ w) σ) n (q + length (cb q)) fp (x ∷ w) σ gb) → Gives (shown pc fp w σ) n (pc + length (binary_code n pc op ca cb)) fp w σ (combined op ga gb)
+    pub binary_run : (op : BinaryOp) (da db : ℕ) (ca : List Placed) (cb : ℕ → List Placed) (ga gb : Got) (pc : ℕ) → 1 ≤ da → 1 ≤ db → length w + binary_depth op da db ≤ parts.stack → HasAt parts.code pc (binary_code n pc op ca cb) → pc + length (binary_code n pc op ca cb) < length parts.code → (length w + da ≤ parts.stack → HasAt parts.code pc ca → pc + length ca < length parts.code → Gives (shown pc fp w σ) n (pc + length ca) fp w σ ga) → ((q : ℕ) → length w + db ≤ parts.stack → HasAt parts.code q (cb q) → q + length (cb q) < length parts.code → Gives (shown q fp w σ) n (q + length (cb q)) fp w σ gb) → ((q : ℕ) (x : ℤ) → length w + 1 + db ≤ parts.stack → HasAt parts.code q (cb q) → q + length (cb q) < length parts.code → Gives (shown q fp (x ∷ w) σ) n (q + length (cb q)) fp (x ∷ w) σ gb) → Gives (shown pc fp w σ) n (pc + length (binary_code n pc op ca cb)) fp w σ (combined op ga gb)
     binary_run ops.And da db ca cb ga gb pc pa pb room has stop ra rb rx =
         let b = cb (pc + length ca + 1) in
         let tail = placed n (Jump (pc + length ca + 1 + length b + 2)) ∷ one n (Push (pos 0)) in
@@ -210,7 +210,7 @@ module _ (parts : Parts) (ds : List NvDecl) (small : total ds ≤ 65536) where
   depth_some (unary op e) = depth_some e
   depth_some (binary op a b) = deep op (depth_some a)
     where
-      deep : (op : BinaryOp) → 1 ≤ expr_depth a → 1 ≤ both_depth op (expr_depth a) (expr_depth b)
+      deep : (op : BinaryOp) → 1 ≤ expr_depth a → 1 ≤ binary_depth op (expr_depth a) (expr_depth b)
       deep ops.And h = omega (arith, h)
       deep ops.Or h = omega (arith, h)
       deep op h = omega (arith, h)

@@ -1,4 +1,5 @@
 mod Rows
+pub mod Needs
 pub mod Cells
 pub mod Steps
 pub mod Places

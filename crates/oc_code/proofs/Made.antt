@@ -1,5 +1,5 @@
 -- The code of a program is well made.
-use Rattle.std.proofs.Common.{◌≡◌, ℕ, zero, suc, ◌+◌, ◌≤◌, Bool, true, false, List, [], ◌∷◌, ◌++◌, length, Option, Some, None, refl, sym, ap, ◌∙◌, subst, arith, map}
+use Rattle.std.proofs.Common.{◌≡◌, ℕ, zero, suc, ◌+◌, ◌-◌, ◌≤◌, Bool, true, false, List, [], ◌∷◌, ◌++◌, length, Option, Some, None, refl, sym, ap, ◌∙◌, subst, arith, map}
 use Rattle.std.specs.Prelude.{ℤ, pos, is_some, slice_get, if◌then◌else◌, cond, ◌==◌, fold, codes}
 use Rattle.std.specs.Str.{bytes_eq}
 use Rattle.std.specs.List.{All}
@@ -18,12 +18,13 @@ use Rattle.oc_isa.specs.declared.instr.Instr.TheVariants.{Drop, Jump, Jfalse, Re
 use Rattle.oc_isa.specs.Image.{Parts, Exists, IsWellMade, is_main, main_of, frame_of}
 use Rattle.oc_meaning.specs.Uses.{is_use, begins_use, ends_use}
 use Rattle.oc_tree.specs.Marked.{TRegion}
+use Rattle.oc_tree.specs.Stack.{kind_slots, block_slots, link_words, frame}
 use Rattle.oc_meaning.specs.Exec.{begun_by, ended_by}
 use Rattle.oc_meaning.specs.Run.{function_named}
-use Rattle.oc_code.specs.Scope.{Slot, InFrame, ByAddress, InNv, NoSlot, Named, slot_of, is_fresh_in, passed_slot, kind_slots, block_slots, in_scope, for_named, function_scope}
+use Rattle.oc_code.specs.Scope.{Slot, InFrame, ByAddress, InNv, NoSlot, Named, slot_of, is_fresh_in, passed_slot, in_scope, for_named, function_scope}
 use Rattle.oc_code.specs.Forms.{placed, one, enter_code, commit_code, probe_code, read_code, write_code, base_code, binary_code, expr_code, value_code, arg_code, args_code, again_code, count_code}
-use Rattle.oc_code.specs.Stack.{is_main_name, link_words, frame_words, block_depth, function_need, stack_words}
-use Rattle.oc_code.specs.Code.{function_number, has_result, called_name, last_code, call_code, right_code, first_code, whole_code, kind_code, block_code, stmts_code, close_code, body_code, function_code, functions_code, image_function, image_functions, image_nv, code_of}
+use Rattle.oc_code.proofs.Needs.{block_depth, function_need, need_to, stack_is}
+use Rattle.oc_code.specs.Code.{is_main_name, function_number, has_result, called_name, last_code, call_code, right_code, first_code, whole_code, kind_code, block_code, stmts_code, close_code, body_code, function_code, functions_code, image_function, image_functions, image_nv, code_of}
 use Rattle.oc_code.specs.Formed.{IsLast, call_formed, right_formed, kind_formed, block_formed, stmts_formed, body_formed, IsFormed}
 use Rattle.oc_code.proofs.Calls.{found_at}
 use Rattle.oc_code.proofs.Whole.{name_eq_sym}
@@ -273,7 +274,9 @@ module _ (p : TProgram) (regions : List TRegion) (targets : List (List Target)) 
   frame_fits : frame_of (main_of image.functions) ≤ image.stack
   frame_fits =
       let m = main_entry p regions 0 fs formed.main formed.main_found in
-      let s : frame_words formed.main + block_depth (stack_words p (length fs)) formed.main.body ≡ image.stack = ap (function_need (stack_words p (length fs))) (sym formed.main_found) in
+      let below = length fs - 1 in
+      let many : length fs ≡ suc below = omega (arith, formed.main_high) in
+      let s : frame formed.main + block_depth (need_to fs below) formed.main.body ≡ image.stack = ap (function_need (need_to fs below)) (sym formed.main_found) ∙ sym (stack_is p below formed.expanded many) in
       omega (arith, ap frame_of m.1, s)
 
   pub made : IsWellMade image

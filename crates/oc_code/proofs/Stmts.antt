@@ -14,12 +14,13 @@ use Rattle.oc_meaning.specs.Samples.{union}
 use Rattle.oc_meaning.specs.Store.{Value, Place, Store, Binding, noted, held_at, put, with_element, replaced, place_of}
 use Rattle.oc_meaning.specs.Eval.{Got, Val, Traps, is_zero, element_of, value_of}
 use Rattle.oc_tree.specs.Marked.{TRegion}
+use Rattle.oc_tree.specs.Stack.{expr_depth}
 use Rattle.oc_meaning.specs.Exec.{Outcome, Went, Returned, Stopped, Passed, Passing, Passes, Breaks, number_in, with_value, with_result, with_args, args_of, dropped, sense, tagged, element_written, call_run, right_run}
 use Rattle.oc_meaning.specs.Run.{function_named}
 use Rattle.oc_code.specs.Scope.{Named, named, slot_of, words_of as words_in}
 use Rattle.oc_code.specs.Forms.{placed, one, base_code, expr_code, args_code, write_code, one_way_code, two_way_code}
-use Rattle.oc_code.specs.Stack.{is_main_name, expr_depth, call_depth, right_depth}
-use Rattle.oc_code.specs.Code.{function_number, has_result, called_name, call_code, right_code, gives, element_code}
+use Rattle.oc_code.proofs.Needs.{call_depth, right_depth}
+use Rattle.oc_code.specs.Code.{is_main_name, function_number, has_result, called_name, call_code, right_code, gives, element_code}
 use Rattle.oc_code.specs.Formed.{CallFormed, call_formed, right_formed}
 use Rattle.oc_code.proofs.Cells.{Cell, stack_of, size, onto}
 use Rattle.oc_code.proofs.Steps.{Mach, shown, Leads, leads_on, drop_step, emit_step, sense_step, sense_stop, show_step, test_step}

@@ -1,5 +1,5 @@
 -- The whole run.
-use Rattle.std.proofs.Common.{◌≡◌, ℕ, zero, suc, ◌+◌, ◌<◌, ◌≤◌, Bool, true, false, List, [], ◌∷◌, ◌++◌, length, Some, refl, sym, ap, ◌∙◌, subst, arith, length-append, append_assoc, append-nil, map, replicate}
+use Rattle.std.proofs.Common.{◌≡◌, ℕ, zero, suc, ◌+◌, ◌-◌, ◌<◌, ◌≤◌, Bool, true, false, List, [], ◌∷◌, ◌++◌, length, Some, refl, sym, ap, ◌∙◌, subst, arith, length-append, append_assoc, append-nil, map, replicate}
 use Rattle.std.specs.Prelude.{ℤ, pos, is_some, slice_get, if◌then◌else◌, sum_by, fold, codes}
 use Rattle.std.specs.Str.{bytes_eq}
 use Rattle.std.specs.List.{All}
@@ -22,13 +22,14 @@ use Rattle.oc_isa.specs.Table.{device_of}
 use Rattle.oc_meaning.specs.Store.{Event, Store, Binding, noted}
 use Rattle.oc_meaning.specs.Blocks.{set_home}
 use Rattle.oc_tree.specs.Marked.{TRegion}
+use Rattle.oc_tree.specs.Stack.{block_slots, link_words, frame}
 use Rattle.oc_meaning.specs.Exec.{Trap, Short, Outcome, Went, Returned, Stopped, leave, block_run}
 use Rattle.oc_meaning.specs.Run.{function_named, nv_env, with_params, function_run, call_to, first_values, first_store, main_run, in_order, words_of, trace_of, marked_run, source_run, said_in}
 use Rattle.oc_meaning.proofs.Bare.{only_tell}
-use Rattle.oc_code.specs.Scope.{Named, params_scope, nv_scope, function_scope, block_slots}
+use Rattle.oc_code.specs.Scope.{Named, params_scope, nv_scope, function_scope}
 use Rattle.oc_code.specs.Forms.{placed, one}
-use Rattle.oc_code.specs.Stack.{is_main_name, link_words, frame_words, block_depth, function_need, stack_words}
-use Rattle.oc_code.specs.Code.{function_number, close_code, body_code, function_code, functions_code, image_function, image_functions, image_nv, code_of}
+use Rattle.oc_code.proofs.Needs.{block_depth, function_need, need_to, stack_is}
+use Rattle.oc_code.specs.Code.{is_main_name, function_number, close_code, body_code, function_code, functions_code, image_function, image_functions, image_nv, code_of}
 use Rattle.oc_code.specs.Formed.{body_formed, IsFormed}
 use Rattle.oc_code.specs.Right.{Shows}
 use Rattle.oc_code.proofs.Cells.{stack_of, length-stack_of, size-append}
@@ -169,7 +170,7 @@ module _ (p : TProgram) (regions : List TRegion) (targets : List (List Target)) 
       slots : ℕ
       slots = block_slots g.body
 
-      frame_is : frame_words g ≡ slots
+      frame_is : frame g ≡ slots
       frame_is = omega (arith, lw, no_params)
 
       Z : List ℤ
@@ -190,8 +191,15 @@ module _ (p : TProgram) (regions : List TRegion) (targets : List (List Target)) 
       body_out : Outcome
       body_out = block_run p.names regions (call_to p regions d) (set_home g.body) env g.body σ
 
-      need_is : frame_words g + block_depth (stack_words p d) g.body ≡ parts.stack
-      need_is = ap (function_need (stack_words p d)) (sym formed.main_found)
+      -- how deep calls of `main` go
+      below : ℕ
+      below = length p.functions - 1
+
+      many : length p.functions ≡ suc below
+      many = omega (arith, formed.main_high)
+
+      need_is : frame g + block_depth (need_to p.functions below) g.body ≡ parts.stack
+      need_is = ap (function_need (need_to p.functions below)) (sym formed.main_found) ∙ sym (stack_is p below formed.expanded many)
 
       close_is : close_code g ≡ one 0 Halt
       close_is = ap (λ b. if b then one 0 Halt else (if is_some g.result then [] else one 0 (Ret (length g.params)))) is_main_one
@@ -219,14 +227,14 @@ module _ (p : TProgram) (regions : List TRegion) (targets : List (List Target)) 
       fm : body_formed p.names p.functions regions formed.rank (formed.rank (codes "main")) (is_some g.result) γ (length g.params + link_words g) g.body
       fm = subst (λ x. body_formed p.names p.functions regions formed.rank (formed.rank x) (is_some g.result) γ (length g.params + link_words g) g.body) (sym found.1) (formed.bodies (function_number p.functions (codes "main")) g found.0)
 
-      calls : CallsRun parts p.nv small p.names p.functions regions formed.rank (formed.rank (codes "main")) (stack_words p d) (call_to p regions d)
-      calls f' g' a b lt = calls_run p regions targets small formed (sym formed.each_nv) (some_words p.nv formed.nv_some) all d f' g' a b (omega (arith, lt, formed.main_high))
+      calls : CallsRun parts p.nv small p.names p.functions regions formed.rank (formed.rank (codes "main")) (need_to p.functions below) (call_to p regions d)
+      calls f' g' a b lt = calls_run p regions targets small formed (sym formed.each_nv) (some_words p.nv formed.nv_some) all below d (omega (arith, many)) f' g' a b (omega (arith, lt, formed.main_high, many))
 
       body : Runs parts p.nv small 0 0 false 0 (shown e 0 (Z ++ []) σ) (e + length bc) (length Z) 0 [] γ env body_out
       body =
           subst (λ k. Runs parts p.nv small k 0 false 0 (shown e 0 (Z ++ []) σ) (e + length bc) (length Z) 0 [] γ env body_out) no_params
           (subst (λ b. Runs parts p.nv small (length g.params) 0 b 0 (shown e 0 (Z ++ []) σ) (e + length bc) (length Z) 0 [] γ env body_out) no_result
-          (body_runs parts p.nv small p.names p.functions regions formed.rank (formed.rank (codes "main")) (stack_words p d) (call_to p regions d) calls (set_home g.body) (length g.params) 0 g.body (is_some g.result) (length g.params + link_words g) e slots 0 γ env [] Z σ ready refl fm (omega (arith, lz)) (omega (arith, need_is, frame_is, formed.stack_low)) (omega (arith, need_is, frame_is)) (has_front parts.code e bc (close_code g) place.2) (subst (λ b. e + length bc + tail b ≤ length parts.code) (sym no_result) stop)))
+          (body_runs parts p.nv small p.names p.functions regions formed.rank (formed.rank (codes "main")) (need_to p.functions below) (call_to p regions d) calls (set_home g.body) (length g.params) 0 g.body (is_some g.result) (length g.params + link_words g) e slots 0 γ env [] Z σ ready refl fm (omega (arith, lz)) (omega (arith, need_is, frame_is, formed.stack_low)) (omega (arith, need_is, frame_is)) (has_front parts.code e bc (close_code g) place.2) (subst (λ b. e + length bc + tail b ≤ length parts.code) (sym no_result) stop)))
 
       first_is : shown e 0 (Z ++ []) σ ≡ start
       first_is =

@@ -13,11 +13,11 @@ use Rattle.oc_isa.specs.declared.instr.Instr.TheVariants.{Store, Index, Call, Re
 use Rattle.oc_isa.specs.Image.{Parts}
 use Rattle.oc_meaning.specs.Uses.{is_use, begins_use, ends_use}
 use Rattle.oc_tree.specs.Marked.{TRegion}
+use Rattle.oc_tree.specs.Stack.{kind_slots, block_slots, link_words, frame, stack_words}
 use Rattle.oc_meaning.specs.Exec.{begun_by, ended_by, number_in}
 use Rattle.oc_meaning.specs.Run.{function_named}
-use Rattle.oc_code.specs.Scope.{Named, slot_of, words_of, is_fresh_in, kind_slots, block_slots, in_scope, for_named, function_scope}
+use Rattle.oc_code.specs.Scope.{Named, slot_of, words_of, is_fresh_in, in_scope, for_named, function_scope}
 use Rattle.oc_code.specs.Forms.{placed, one, enter_code, commit_code, probe_code, write_code, base_code, expr_code, args_code, count_code, array_code, while_code, one_way_code, two_way_code}
-use Rattle.oc_code.specs.Stack.{is_main_name, link_words, frame_words, stack_words}
 
 -- the place of the first function of a name, or past the end
 abbrev pub function_number : List TFunction → Text → ℕ
@@ -115,6 +115,9 @@ module _ (names : NameLists) (fs : List TFunction) (regions : List TRegion) (k :
 
 -- Functions
 
+abbrev pub is_main_name : Text → Bool
+is_main_name x = bytes_eq x (codes "main")
+
 -- what closes a function's code: a `return` has done it where there is a result
 abbrev pub close_code : TFunction → List Placed
 close_code f = if is_main_name f.name then one 0 Halt else (if is_some f.result then [] else one 0 (Ret (length f.params)))
@@ -132,7 +135,7 @@ module _ (p : TProgram) (regions : List TRegion) where
   functions_code at (f ∷ fs) = function_code at f ++ functions_code (at + length (function_code at f)) fs
 
   abbrev pub image_function : ℕ → TFunction → ImageFunction
-  image_function at f = record { name = f.name; entry = at; params = length f.params; frame = frame_words f }
+  image_function at f = record { name = f.name; entry = at; params = length f.params; frame = frame f }
 
   abbrev pub image_functions : ℕ → List TFunction → List ImageFunction
   image_functions at [] = []
@@ -140,10 +143,6 @@ module _ (p : TProgram) (regions : List TRegion) where
 
 abbrev pub image_nv : NvDecl → ImageNv
 image_nv d = record { words = d.words; initial = d.initial }
-
--- the stack of `main`
-abbrev pub stack_of_main : TProgram → ℕ
-stack_of_main p = stack_words p (suc (length p.functions)) (codes "main")
 
 -- the code of a program with these regions, of which each may overwrite these targets
 abbrev pub code_of : TProgram → List TRegion → List (List Target) → Parts
@@ -153,5 +152,5 @@ code_of p regions targets = record {
   targets = targets;
   nv = map image_nv p.nv;
   code = functions_code p regions 0 p.functions;
-  stack = stack_of_main p;
+  stack = stack_words p;
 }

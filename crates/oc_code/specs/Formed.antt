@@ -9,11 +9,12 @@ use Rattle.oc_tree.specs.declared.tree.Passing.{Passing}
 use Rattle.oc_tree.specs.declared.tree.Passing.TheVariants.{Value, Shared, Mutable}
 use Rattle.oc_tree.specs.declared.said.Target.{Target}
 use Rattle.oc_tree.specs.Marked.{TRegion}
+use Rattle.oc_tree.specs.Expansion.{expansion}
+use Rattle.oc_tree.specs.Stack.{kind_slots, block_slots, link_words}
 use Rattle.oc_meaning.specs.Exec.{begun_by, ended_by, number_in}
 use Rattle.oc_meaning.specs.Run.{function_named}
-use Rattle.oc_code.specs.Scope.{Named, named, slot_of, address_slot, kind_words, passed_slot, kind_slots, block_slots, in_scope, for_named, function_scope}
-use Rattle.oc_code.specs.Stack.{is_main_name, link_words}
-use Rattle.oc_code.specs.Code.{has_result, called_name, code_of}
+use Rattle.oc_code.specs.Scope.{Named, named, slot_of, address_slot, kind_words, passed_slot, in_scope, for_named, function_scope}
+use Rattle.oc_code.specs.Code.{is_main_name, has_result, called_name, code_of}
 
 -- the name exists
 abbrev pub IsKnown : List Text → Text → Type 0
@@ -112,15 +113,17 @@ module _ (names : NameLists) (fs : List TFunction) (regions : List TRegion) (ran
 abbrev pub body_formed : NameLists → List TFunction → List TRegion → (Text → ℕ) → ℕ → Bool → List Named → ℕ → TBlock → Type 0
 body_formed names fs regions rank own gives γ s (block id ss) = stmts_formed names fs regions rank own gives 0 γ s ss
 
--- a program whose code is defined. Each function has a rank, and calls only functions of lower ranks
+-- a program whose code is defined. It is its own expansion. Each function has a rank, and calls only functions of
+-- lower ranks
 pub record IsFormed (p : TProgram) (regions : List TRegion) (targets : List (List Target)) : Type 0 where
+  pub expanded : expansion p ≡ p
   pub rank : Text → ℕ
   pub main : TFunction
   pub main_found : function_named p.functions (codes "main") ≡ Some main
   pub main_alone : count_by (λ f. is_main_name f.name) p.functions ≡ 1
   pub main_takes_none : main.params ≡ []
   pub main_gives_none : main.result ≡ None
-  pub main_high : rank (codes "main") ≤ length p.functions
+  pub main_high : rank (codes "main") < length p.functions
   pub bodies : (i : ℕ) (f : TFunction) → slice_get p.functions i ≡ Some f →
       body_formed p.names p.functions regions rank (rank f.name) (is_some f.result) (function_scope p f) (length f.params + link_words f) f.body
   pub stack_low : (code_of p regions targets).stack ≤ 65536

@@ -125,7 +125,7 @@ found_beside : (xs : List Placed) (s : ℕ) → option_map (λ a. a.at.block) (f
 found_beside [] s = refl
 found_beside (a ∷ xs) s = beside_cond (a.id == s) a _ ∙ ap (cond (a.id == s) (Some a.at.block)) (found_beside xs s)
 
-block_is_beside : (p : TProgram) (s : ℕ) → block_of p s ≡ block_beside (program_pairs p) s
+pub block_is_beside : (p : TProgram) (s : ℕ) → block_of p s ≡ block_beside (program_pairs p) s
 block_is_beside p s = found_beside (program_placed p) s ∙ ap (λ l. block_beside l s) (functions_told p.functions)
 
 -- a pair stands in a list

@@ -1,9 +1,9 @@
 -- Calls that break no rule, in lists.
 use Rattle.std.proofs.Common.{◌≡◌, ℕ, ◌+◌, Bool, true, false, true≢false, List, [], ◌∷◌, ◌++◌, refl, ap, sym, subst, ◌∙◌}
-use Rattle.std.specs.Prelude.{not, is_some, ◌&&◌, ◌||◌}
+use Rattle.std.specs.Prelude.{is_some, ◌||◌}
 use Rattle.std.specs.List.{list_all, list_any}
 use Rattle.oc_lex.specs.Stands.{IsName}
-use Rattle.oc_tree.specs.Tree.{TExpr, TCall, call, TArgs, TRight, right_value, right_sense, right_call, TKind, let_to, let_array, assign, assign_index, assign_deref, if_else, for_in, while_do, call_only, sense_only, emit, fresh, consistent, return, TProgram}
+use Rattle.oc_tree.specs.Tree.{TExpr, TCall, call, TRight, right_value, right_sense, right_call, TKind, let_to, let_array, assign, assign_index, assign_deref, if_else, for_in, while_do, call_only, sense_only, emit, fresh, consistent, return, TProgram}
 use Rattle.oc_tree.specs.Form.{CallInForm, RightInForm, KindInForm}
 use Rattle.oc_tree.specs.Pulls.{expr_pulls}
 use Rattle.oc_tree.specs.Calls.{callee, expr_calls, call_calls, args_calls, right_calls, own_calls}
@@ -11,9 +11,9 @@ use Rattle.oc_tree.specs.Scope.{Scope}
 use Rattle.oc_tree.specs.Types.{call_type}
 use Rattle.oc_tree.specs.Elements.{Here}
 use Rattle.oc_tree.specs.Rules.{is_main, call_meets, arg_lends, call_args, lends_alone, call_exposes, callee_is, back_to, used_calls}
-use Rattle.oc_tree.specs.Expansion.{left_expr, left_call, left_args, left_right, expand_kind}
+use Rattle.oc_tree.specs.Expansion.{left_expr, left_call, left_right, expand_kind}
 use Rattle.oc_desugar.proofs.Seen.{SameTop, SameReach, SameHere}
-use Rattle.oc_desugar.proofs.HeldParts.{HeldExpr, HeldCall, HeldRight, HeldKind}
+use Rattle.oc_desugar.proofs.HeldParts.{HeldCall, HeldRight, HeldKind}
 use Rattle.oc_desugar.proofs.KeptLookups.{SameNames}
 use Rattle.oc_desugar.proofs.KeptExpressions.{first_holds, second_holds, both_hold, no_calls_expr, no_calls_args, same_call_type}
 use Rattle.oc_desugar.proofs.KeptCalls.{same_call_meets, same_call_lends, still_alone, same_call_exposes, same_back}
@@ -130,7 +130,7 @@ module _ (p : TProgram) (t : Scope) (P Q : TCall → Type 0) (kept : (k : ℕ) (
   each_expr : (k : ℕ) (e : TExpr) → Each Q (expr_calls (left_expr k e))
   each_expr k e = subst (Each Q) (sym (no_calls_expr k e)) tt
 
-  pub each_right : (k : ℕ) (r : TRight) → RightInForm IsName r → HeldRight p t k r → Each P (right_calls r) → Each Q (right_calls (left_right k r))
+  each_right : (k : ℕ) (r : TRight) → RightInForm IsName r → HeldRight p t k r → Each P (right_calls r) → Each Q (right_calls (left_right k r))
   each_right k (right_value a) i h e = each_expr k a
   each_right k (right_sense x) i h e = tt
   each_right k (right_call c) i h e = each_call k c i h e

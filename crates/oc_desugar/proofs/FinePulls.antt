@@ -1,26 +1,25 @@
 -- Each pull of a statement that breaks no rule is a right side that breaks none, where the temporaries before it are held.
-use Rattle.std.proofs.Common.{◌≡◌, ℕ, ◌+◌, Bool, true, false, List, [], ◌∷◌, ◌++◌, length, ◌⊎◌, inl, inr, Option, Some, None, refl, ap, sym, subst, ◌∙◌}
+use Rattle.std.proofs.Common.{◌≡◌, ℕ, ◌+◌, true, false, List, [], ◌∷◌, ◌++◌, length, inl, inr, refl, ap, sym, subst, ◌∙◌}
 use Rattle.std.specs.Prelude.{is_some, ◌&&◌, ◌||◌}
 use Rattle.oc_lex.specs.Stands.{IsName}
-use Rattle.oc_tree.specs.Tree.{TExpr, number, truth, variable, index, deref, unary, binary, sensed, called, TArg, value, shared, mutable, TCall, call, TArgs, no_args, more_args, TRight, right_value, right_sense, right_call, TKind, let_to, let_array, assign, assign_index, assign_deref, if_else, for_in, while_do, call_only, sense_only, emit, fresh, consistent, return, TProgram}
-use Rattle.oc_tree.specs.Form.{ExprInForm, ArgInForm, CallInForm, ArgsInForm, KindInForm}
-use Rattle.oc_tree.specs.Pulls.{expr_pulls, call_pulls, arg_pulls, right_pulls, right_skips}
-use Rattle.oc_tree.specs.Calls.{function_place, expr_calls, call_calls, args_calls, arg_calls, right_calls, own_calls}
-use Rattle.oc_tree.specs.Scope.{is_variable, is_among, variable_of}
-use Rattle.oc_tree.specs.Types.{call_type, right_type, has_elements, is_int, type_of, pointed_type}
+use Rattle.oc_tree.specs.Tree.{TExpr, number, truth, variable, index, deref, unary, binary, sensed, called, TArg, value, shared, mutable, TCall, call, TArgs, no_args, more_args, TRight, right_sense, right_call, TProgram}
+use Rattle.oc_tree.specs.Form.{ExprInForm, ArgInForm, ArgsInForm}
+use Rattle.oc_tree.specs.Pulls.{expr_pulls, arg_pulls, right_pulls, right_skips}
+use Rattle.oc_tree.specs.Calls.{function_place, expr_calls, call_calls, args_calls, arg_calls, right_calls}
+use Rattle.oc_tree.specs.Scope.{is_variable, variable_of}
+use Rattle.oc_tree.specs.Types.{call_type, right_type, has_elements, is_int, type_of}
 use Rattle.oc_tree.specs.Elements.{Here}
-use Rattle.oc_tree.specs.Rules.{expr_known, args_known, arg_known, right_known, own_known, passed_on, unary_fits, binary_fits, expr_fits, args_fit, arg_fits, right_fits, own_fits, used_calls}
-use Rattle.oc_tree.specs.Expansion.{left_call, left_args, pulled_expr, pulled_call, pulled_args, pulled_arg, pulled_right, pulled}
+use Rattle.oc_tree.specs.Rules.{expr_known, args_known, arg_known, right_known, passed_on, unary_fits, binary_fits, expr_fits, args_fit, arg_fits, right_fits}
+use Rattle.oc_tree.specs.Expansion.{left_call, pulled_expr, pulled_call, pulled_args, pulled_arg}
 use Rattle.oc_tree.proofs.ReachLaws.{or_right}
 use Rattle.oc_desugar.proofs.Seen.{SameTop, SameReach, SameHere, pull_type, HeldPulls}
-use Rattle.oc_desugar.proofs.Lengths.{length_expr, length_call, length_arg}
+use Rattle.oc_desugar.proofs.Lengths.{length_expr, length_arg}
 use Rattle.oc_desugar.proofs.NoPulls.{none_call}
 use Rattle.oc_desugar.proofs.HeldParts.{HeldCall, held_front, held_back, held_call}
 use Rattle.oc_desugar.proofs.KeptLookups.{SameNames, same_sensor}
 use Rattle.oc_desugar.proofs.KeptExpressions.{first_holds, second_holds, none_skipped, known_call, fits_call, same_call_type}
 use Rattle.oc_desugar.proofs.FineCalls.{CallFine, Gives, Each, each_front, each_back, each_call, fine_left, gives_left}
-use Rattle.oc_desugar.proofs.Unbroken.{Unbroken}
-use Rattle.oc_desugar.proofs.PullSplits.{no_place, only_place, InFirst, InSecond, first_or_second}
+use Rattle.oc_desugar.proofs.PullSplits.{no_place, only_place, InSecond, first_or_second}
 
 -- ---- parts of a statement that break no rule
 

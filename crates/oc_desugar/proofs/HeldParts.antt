@@ -1,12 +1,12 @@
 -- The temporaries of an expression's pulls, by its parts: those of a part are held where those of the whole are.
-use Rattle.std.proofs.Common.{◌≡◌, ℕ, ◌+◌, List, [], ◌∷◌, ◌++◌, length, refl, ap, sym, subst, ◌∙◌, arith, Some}
+use Rattle.std.proofs.Common.{◌≡◌, ℕ, ◌+◌, List, [], ◌∷◌, ◌++◌, length, refl, subst, arith, Some}
 use Rattle.oc_tree.specs.Tree.{TExpr, number, truth, variable, index, deref, unary, binary, sensed, called, TArg, value, shared, mutable, TCall, call, TArgs, no_args, more_args, TRight, right_value, right_sense, right_call, TKind, let_to, let_array, assign, assign_index, assign_deref, if_else, for_in, while_do, call_only, sense_only, emit, fresh, consistent, return, TProgram}
 use Rattle.oc_tree.specs.declared.tree.Scalar.TheVariants as scalars
 use Rattle.oc_tree.specs.Pulls.{expr_pulls, call_pulls, arg_pulls}
 use Rattle.oc_tree.specs.Scope.{Scope}
 use Rattle.oc_tree.specs.Types.{call_type}
-use Rattle.oc_tree.specs.Expansion.{left_call, pulled_expr, pulled_call, pulled_args, pulled_arg, pulled_right, pulled}
-use Rattle.oc_desugar.proofs.Seen.{IsHeld, pull_type, HeldPulls, HeldOwn}
+use Rattle.oc_tree.specs.Expansion.{left_call, pulled_expr, pulled_call, pulled_args, pulled_arg, pulled_right}
+use Rattle.oc_desugar.proofs.Seen.{IsHeld, HeldPulls, HeldOwn}
 use Rattle.oc_desugar.proofs.Lengths.{length_expr, length_call, length_arg}
 
 abbrev mutual
@@ -68,16 +68,10 @@ module _ (p : TProgram) (t : Scope) where
       let z : k + 1 + length xs ≡ k + n = omega (arith, e) in
       subst (λ m. HeldPulls p t m ys) z (held_back (k + 1) (length xs) xs ys refl h.1)
 
-  pub held_joined : (k n : ℕ) (xs ys : List TRight) → length xs ≡ n → HeldPulls p t k xs → HeldPulls p t (k + n) ys → HeldPulls p t k (xs ++ ys)
-  held_joined k n [] ys e h g = let z : k + n ≡ k = omega (arith, e) in subst (λ m. HeldPulls p t m ys) z g
-  held_joined k n (x ∷ xs) ys e h g =
-      let z : k + n ≡ k + 1 + length xs = omega (arith, e) in
-      (h.0, held_joined (k + 1) (length xs) xs ys refl h.1 (subst (λ m. HeldPulls p t m ys) z g))
-
   -- ---- from the list to the parts
 
   mutual
-    pub held_expr : (k : ℕ) (e : TExpr) → HeldPulls p t k (pulled_expr k e) → HeldExpr p t k e
+    held_expr : (k : ℕ) (e : TExpr) → HeldPulls p t k (pulled_expr k e) → HeldExpr p t k e
     held_expr k (number n) h = tt
     held_expr k (truth b) h = tt
     held_expr k (variable x) h = tt
@@ -96,13 +90,13 @@ module _ (p : TProgram) (t : Scope) where
     pub held_call : (k : ℕ) (c : TCall) → HeldPulls p t k (pulled_call k c) → HeldCall p t k c
     held_call k (call f args) h = held_args k args h
 
-    pub held_args : (k : ℕ) (xs : TArgs) → HeldPulls p t k (pulled_args k xs) → HeldArgs p t k xs
+    held_args : (k : ℕ) (xs : TArgs) → HeldPulls p t k (pulled_args k xs) → HeldArgs p t k xs
     held_args k no_args h = tt
     held_args k (more_args a rest) h =
         let j = k + arg_pulls a in
         (held_arg k a (held_front k (pulled_arg k a) (pulled_args j rest) h), held_args j rest (held_back k (arg_pulls a) (pulled_arg k a) (pulled_args j rest) (length_arg k a) h))
 
-    pub held_arg : (k : ℕ) (a : TArg) → HeldPulls p t k (pulled_arg k a) → HeldArg p t k a
+    held_arg : (k : ℕ) (a : TArg) → HeldPulls p t k (pulled_arg k a) → HeldArg p t k a
     held_arg k (value e) h = held_expr k e h
     held_arg k (shared x) h = tt
     held_arg k (mutable x) h = tt
@@ -111,7 +105,7 @@ module _ (p : TProgram) (t : Scope) where
     held_own : (k : ℕ) (c : TCall) → IsHeld t (k + call_pulls c) (call_type p (left_call k c)) → IsHeld t (k + call_pulls c) (call_type p c)
     held_own k (call f args) h = h
 
-  pub held_right : (k : ℕ) (r : TRight) → HeldPulls p t k (pulled_right k r) → HeldRight p t k r
+  held_right : (k : ℕ) (r : TRight) → HeldPulls p t k (pulled_right k r) → HeldRight p t k r
   held_right k (right_value e) h = held_expr k e h
   held_right k (right_sense s) h = tt
   held_right k (right_call c) h = held_call k c h

@@ -1,69 +1,47 @@
 -- The expansion calls what the program calls: the callees are the same, in the same order.
-use Rattle.std.proofs.Common.{◌≡◌, ℕ, ◌+◌, Bool, true, false, List, [], ◌∷◌, ◌++◌, map, length, refl, ap, sym, subst, ◌∙◌, arith, append_assoc, append-nil, None, Some, cond}
+use Rattle.std.proofs.Common.{◌≡◌, ℕ, ◌+◌, false, List, [], ◌∷◌, ◌++◌, map, refl, ap, sym, ◌∙◌, append_assoc, append-nil, None, cond}
 use Rattle.std.specs.List.{flat_map}
 use Rattle.std.specs.Prelude.{option_to_list}
 use Rattle.std.proofs.lemmas.List.{map-append}
 use Rattle.std.proofs.lemmas.List.Concat.{flat_map-append}
 use Rattle.std.proofs.lemmas.List.Folds.{flat_map-map}
 use Rattle.oc_tree.specs.Names.{Text}
-use Rattle.oc_tree.specs.Tree.{TExpr, number, truth, variable, index, deref, unary, binary, sensed, called, TArg, value, shared, mutable, TCall, call, TArgs, no_args, more_args, TRight, right_value, right_sense, right_call, TKind, let_to, let_array, assign, assign_index, assign_deref, if_else, for_in, while_do, call_only, sense_only, emit, fresh, consistent, return, TElse, no_else, else_do, TStmt, stmt, TBlock, block, TStmts, no_stmts, more, TFunction, TProgram}
-use Rattle.oc_tree.specs.Pulls.{expr_pulls, call_pulls, arg_pulls, own_pulls, stmt_pulls, block_pulls}
+use Rattle.oc_tree.specs.Tree.{TExpr, number, truth, variable, index, deref, unary, binary, sensed, called, TArg, value, shared, mutable, TCall, call, TArgs, no_args, more_args, TRight, right_value, right_sense, right_call, TKind, let_to, let_array, assign, assign_index, assign_deref, if_else, for_in, while_do, call_only, sense_only, emit, fresh, consistent, return, TElse, no_else, else_do, stmt, TBlock, block, TStmts, no_stmts, more, TFunction}
+use Rattle.oc_tree.specs.Pulls.{expr_pulls, arg_pulls, own_pulls, stmt_pulls, block_pulls}
 use Rattle.oc_tree.specs.Calls.{callee, expr_calls, call_calls, args_calls, arg_calls, right_calls, own_calls, kind_hides, kind_kinds, else_kinds, block_kinds, stmts_kinds, body_calls, place, called_places, links_from, function_names, call_links}
-use Rattle.oc_tree.specs.Expansion.{left_expr, left_call, left_args, left_arg, left_right, pulled_expr, pulled_call, pulled_args, pulled_arg, pulled_right, pulled, temporary, temporaries, join_stmts, expand_kind, expand_else, expand_block, expand_stmts, expand_function, expand_functions, block_size, stmt_size}
+use Rattle.oc_tree.specs.Expansion.{left_expr, left_call, left_args, left_right, pulled_expr, pulled_call, pulled_args, pulled_arg, pulled_right, pulled, temporaries, join_stmts, expand_kind, expand_else, expand_block, expand_stmts, expand_function, expand_functions, block_size, stmt_size}
+use Rattle.oc_desugar.proofs.KeptExpressions.{no_calls_expr, no_calls_args}
 
 -- the names that right sides call, and those that statements call
 abbrev pub rights_call : List TRight → List Text
 rights_call rs = flat_map (λ r. map callee (right_calls r)) rs
 
-abbrev pub kinds_call : List TKind → List Text
+abbrev kinds_call : List TKind → List Text
 kinds_call ks = flat_map (λ s. map callee (own_calls s)) ks
 
+-- two lists, one after the other, part by part
 both_parts : (xs zs ys ws : List Text) → xs ≡ zs → ys ≡ ws → xs ++ ys ≡ zs ++ ws
 both_parts xs zs ys ws p q = ap (λ l. l ++ ys) p ∙ ap (λ l. zs ++ l) q
 
+-- what is called by right sides, and by statements, one after the other
 pub rights_join : (xs ys : List TRight) → rights_call (xs ++ ys) ≡ rights_call xs ++ rights_call ys
 rights_join xs ys = flat_map-append (λ r. map callee (right_calls r)) xs ys
 
 kinds_join : (xs ys : List TKind) → kinds_call (xs ++ ys) ≡ kinds_call xs ++ kinds_call ys
 kinds_join xs ys = flat_map-append (λ s. map callee (own_calls s)) xs ys
 
--- ---- no call is left inside an expression
-
-append_none : (xs ys : List TCall) → xs ≡ [] → ys ≡ [] → xs ++ ys ≡ []
-append_none xs ys p q = ap (λ l. l ++ ys) p ∙ q
-
-mutual
-  pub no_calls_expr : (k : ℕ) (e : TExpr) → expr_calls (left_expr k e) ≡ []
-  no_calls_expr k (number n) = refl
-  no_calls_expr k (truth b) = refl
-  no_calls_expr k (variable x) = refl
-  no_calls_expr k (index x e) = no_calls_expr k e
-  no_calls_expr k (deref x) = refl
-  no_calls_expr k (unary op e) = no_calls_expr k e
-  no_calls_expr k (binary op a b) = append_none _ _ (no_calls_expr k a) (no_calls_expr (k + expr_pulls a) b)
-  no_calls_expr k (sensed s) = refl
-  no_calls_expr k (called c) = refl
-
-  pub no_calls_args : (k : ℕ) (xs : TArgs) → args_calls (left_args k xs) ≡ []
-  no_calls_args k no_args = refl
-  no_calls_args k (more_args a rest) = append_none _ _ (no_calls_arg k a) (no_calls_args (k + arg_pulls a) rest)
-
-  pub no_calls_arg : (k : ℕ) (a : TArg) → arg_calls (left_arg k a) ≡ []
-  no_calls_arg k (value e) = no_calls_expr k e
-  no_calls_arg k (shared x) = refl
-  no_calls_arg k (mutable x) = refl
+-- ---- the calls of an expression are those of its pulls
 
 -- of a call itself only it is left
-pub one_call : (k : ℕ) (c : TCall) → call_calls (left_call k c) ≡ left_call k c ∷ []
+one_call : (k : ℕ) (c : TCall) → call_calls (left_call k c) ≡ left_call k c ∷ []
 one_call k (call f args) = ap (λ l. l ++ call f (left_args k args) ∷ []) (no_calls_args k args)
 
+-- it calls what the written one calls
 same_callee : (k : ℕ) (c : TCall) → callee (left_call k c) ≡ callee c
 same_callee k (call f args) = refl
 
 one_callee : (k : ℕ) (c : TCall) → map callee (call_calls (left_call k c)) ≡ callee c ∷ []
 one_callee k c = ap (map callee) (one_call k c) ∙ ap (λ f. f ∷ []) (same_callee k c)
-
--- ---- the calls of an expression are those of its pulls
 
 mutual
   callees_expr : (k : ℕ) (e : TExpr) → rights_call (pulled_expr k e) ≡ map callee (expr_calls e)
@@ -104,11 +82,13 @@ mutual
 with_expr : (k : ℕ) (e : TExpr) → rights_call (pulled_expr k e) ++ map callee (expr_calls (left_expr k e)) ≡ map callee (expr_calls e)
 with_expr k e = ap (λ l. rights_call (pulled_expr k e) ++ map callee l) (no_calls_expr k e) ∙ append-nil (rights_call (pulled_expr k e)) ∙ callees_expr k e
 
+-- with a right side that is left
 with_right : (k : ℕ) (r : TRight) → rights_call (pulled_right k r) ++ map callee (right_calls (left_right k r)) ≡ map callee (right_calls r)
 with_right k (right_value e) = with_expr k e
 with_right k (right_sense s) = refl
 with_right k (right_call c) = callees_call k c
 
+-- with an index and a right side that are left
 with_index : (k : ℕ) (e : TExpr) (r : TRight) → rights_call (pulled_expr k e ++ pulled_right (k + expr_pulls e) r) ++ map callee (expr_calls (left_expr k e) ++ right_calls (left_right (k + expr_pulls e) r)) ≡ map callee (expr_calls e ++ right_calls r)
 with_index k e r =
     let n = k + expr_pulls e in
@@ -138,6 +118,7 @@ with_own k i (return e) = with_expr k e
 
 -- ---- bodies
 
+-- where no name is asked for, nothing is hidden
 hides_none : (s : TKind) → kind_hides None s ≡ false
 hides_none (let_to m x t r) = refl
 hides_none (let_array m x t z n) = refl
@@ -214,20 +195,24 @@ mutual
 
 -- ---- functions
 
+-- the callees of all calls, statement by statement
 map_of_calls : (ks : List TKind) → map callee (flat_map own_calls ks) ≡ kinds_call ks
 map_of_calls [] = refl
 map_of_calls (s ∷ ks) = map-append callee (own_calls s) (flat_map own_calls ks) ∙ ap (λ l. map callee (own_calls s) ++ l) (map_of_calls ks)
 
 -- a body calls the same names
-pub same_callees : (k i : ℕ) (f : TFunction) → map callee (body_calls (expand_function k i f)) ≡ map callee (body_calls f)
+same_callees : (k i : ℕ) (f : TFunction) → map callee (body_calls (expand_function k i f)) ≡ map callee (body_calls f)
 same_callees k i f = map_of_calls (block_kinds None (expand_block k i f.body)) ∙ block_call k i f.body ∙ sym (map_of_calls (block_kinds None f.body))
 
+-- the called places by the callees
 places_of : (names : List Text) (cs : List TCall) → called_places names cs ≡ flat_map (λ f. option_to_list (place names f)) (map callee cs)
 places_of names cs = sym (flat_map-map (λ f. option_to_list (place names f)) callee cs)
 
+-- a body calls the same places
 same_places : (names : List Text) (k i : ℕ) (f : TFunction) → called_places names (body_calls (expand_function k i f)) ≡ called_places names (body_calls f)
 same_places names k i f = places_of names (body_calls (expand_function k i f)) ∙ ap (flat_map (λ g. option_to_list (place names g))) (same_callees k i f) ∙ sym (places_of names (body_calls f))
 
+-- functions are linked alike
 links_same : (names : List Text) (u k i : ℕ) (fs : List TFunction) → links_from names u (expand_functions k i fs) ≡ links_from names u fs
 links_same names u k i [] = refl
 links_same names u k i (f ∷ fs) =
@@ -236,7 +221,8 @@ links_same names u k i (f ∷ fs) =
     ap (λ vs. map (λ v. (u, v)) vs ++ links_from names (u + 1) (expand_functions k' i' fs)) (same_places names k i f)
     ∙ ap (λ l. map (λ v. (u, v)) (called_places names (body_calls f)) ++ l) (links_same names (u + 1) k' i' fs)
 
-pub same_names : (k i : ℕ) (fs : List TFunction) → function_names (expand_functions k i fs) ≡ function_names fs
+-- functions keep their names
+same_names : (k i : ℕ) (fs : List TFunction) → function_names (expand_functions k i fs) ≡ function_names fs
 same_names k i [] = refl
 same_names k i (f ∷ fs) = ap (λ l. f.name ∷ l) (same_names (k + block_pulls f.body) (i + block_size f.body) fs)
 

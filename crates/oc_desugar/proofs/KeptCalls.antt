@@ -1,7 +1,7 @@
 -- Where no rule is broken by a call, none is by what is left of it in the expansion: its arguments meet the parameters,
 -- lend what may be lent, stand alone where they are lent, and expose no nonvolatile variable.
-use Rattle.std.proofs.Common.{◌≡◌, ℕ, ◌+◌, ◌≤◌, Bool, true, false, true≢false, List, [], ◌∷◌, ◌++◌, length, Option, Some, None, refl, ap, sym, subst, ◌∙◌, arith}
-use Rattle.std.specs.Prelude.{is_some, option_map, ◌&&◌, ◌||◌, ◌==◌}
+use Rattle.std.proofs.Common.{◌≡◌, ℕ, ◌+◌, ◌≤◌, Bool, true, true≢false, List, [], ◌∷◌, length, Option, Some, None, refl, ap, sym, ◌∙◌, arith}
+use Rattle.std.specs.Prelude.{option_map, ◌&&◌, ◌||◌, ◌==◌}
 use Rattle.std.specs.Str.{bytes_eq}
 use Rattle.std.specs.List.{list_all, list_any}
 use Rattle.std.proofs.lemmas.Bool.Decides.{nat_tests}
@@ -15,15 +15,15 @@ use Rattle.oc_tree.specs.declared.tree.Passing.TheVariants as passings
 use Rattle.oc_tree.specs.declared.tree.ValueKind.{ValueKind}
 use Rattle.oc_tree.specs.declared.scope.Var.{Var}
 use Rattle.oc_tree.specs.Pulls.{expr_pulls, call_pulls, arg_pulls}
-use Rattle.oc_tree.specs.Mentions.{once, expr_mentions, call_mentions, args_mentions, arg_mentions}
-use Rattle.oc_tree.specs.Calls.{callee, args_of_call, function_place, reaches_mention}
+use Rattle.oc_tree.specs.Mentions.{once, expr_mentions, args_mentions, arg_mentions}
+use Rattle.oc_tree.specs.Calls.{function_place, reaches_mention}
 use Rattle.oc_tree.specs.Scope.{Scope, variable_of, function_named}
 use Rattle.oc_tree.specs.Types.{scalar_of, is_same}
-use Rattle.oc_tree.specs.Rules.{has_kind, origin_is, is_mutable_param, is_writable, is_own, is_nv, passed_on, value_meets, shared_meets, mutable_meets, arg_meets, args_meet, args_list, call_args, params_of, callee_params, call_meets, arg_lends, lone_is, value_lent_is, lent_is, all_lent, call_lends, lends_alone, passes_nv, arg_exposes, at_place, callee_is, call_exposes, back_to}
+use Rattle.oc_tree.specs.Rules.{has_kind, origin_is, is_mutable_param, is_writable, is_own, is_nv, passed_on, value_meets, shared_meets, mutable_meets, arg_meets, args_meet, args_list, call_args, params_of, call_meets, arg_lends, value_lent_is, lent_is, all_lent, lends_alone, passes_nv, arg_exposes, at_place, callee_is, call_exposes, back_to}
 use Rattle.oc_tree.specs.Expansion.{temporary, left_expr, left_call, left_args, left_arg}
-use Rattle.oc_desugar.proofs.Seen.{SameTop, SameReach, new_var}
+use Rattle.oc_desugar.proofs.Seen.{SameReach, new_var}
 use Rattle.oc_desugar.proofs.HeldParts.{HeldExpr, HeldCall, HeldArgs, HeldArg}
-use Rattle.oc_desugar.proofs.KeptLookups.{SameNames, apart, same_text, same_place, same_params, same_variable, same_kind_of, same_test, new_kind, new_test, new_mutable, new_writable, new_own, new_is_nv}
+use Rattle.oc_desugar.proofs.KeptLookups.{SameNames, apart, same_text, same_place, same_params, same_variable, same_test, new_kind, new_test, new_mutable, new_writable, new_own, new_is_nv}
 use Rattle.oc_desugar.proofs.KeptExpressions.{first_holds, second_holds, both_hold, same_type, same_passed}
 
 -- ---- names are mentioned no more often
@@ -40,7 +40,7 @@ mutual
   fewer_expr x n k (sensed s) = let none : once (bytes_eq x (temporary k)) ≡ 0 = ap once (apart x n k) in omega (arith, none)
   fewer_expr x n k (called c) = let none : once (bytes_eq x (temporary (k + call_pulls c))) ≡ 0 = ap once (apart x n (k + call_pulls c)) in omega (arith, none)
 
-  pub fewer_args : (x : Text) → IsName x → (k : ℕ) (xs : TArgs) → args_mentions x (left_args k xs) ≤ args_mentions x xs
+  fewer_args : (x : Text) → IsName x → (k : ℕ) (xs : TArgs) → args_mentions x (left_args k xs) ≤ args_mentions x xs
   fewer_args x n k no_args = omega arith
   fewer_args x n k (more_args a rest) = omega (arith, fewer_arg x n k a, fewer_args x n (k + arg_pulls a) rest)
 

@@ -5,7 +5,7 @@ use Rattle.oc_tree.specs.Tree.{TRight, TKind, let_to, TProgram}
 use Rattle.oc_tree.specs.declared.tree.ValueKind.{ValueKind}
 use Rattle.oc_tree.specs.declared.broken.Broken.{Broken}
 use Rattle.oc_tree.specs.Names.{Text}
-use Rattle.oc_tree.specs.Scope.{Scope, variable_in}
+use Rattle.oc_tree.specs.Scope.{variable_in}
 use Rattle.oc_tree.specs.Types.{right_type}
 use Rattle.oc_tree.specs.Form.{KindInForm}
 use Rattle.oc_tree.specs.Elements.{Here, Element, line_of, let_var, kind_of}
@@ -20,6 +20,7 @@ abbrev pub tally : Tally → List Element → Tally
 tally n [] = n
 tally n (e ∷ es) = tally (counted n e) es
 
+-- the counts behind two lists of elements
 pub tally_join : (n : Tally) (xs ys : List Element) → tally n (xs ++ ys) ≡ tally (tally n xs) ys
 tally_join n [] ys = refl
 tally_join n (e ∷ xs) ys = tally_join (counted n e) xs ys
@@ -29,9 +30,11 @@ pub record Clean (q : TProgram) (n : Tally) (es : List Element) (end : Tally) : 
   pub clean : first_broken q n es ≡ None
   pub counts : tally n es ≡ end
 
+-- nothing is there
 pub clean_none : (q : TProgram) (n end : Tally) → n ≡ end → Clean q n [] end
 clean_none q n end e = record { clean = refl; counts = e }
 
+-- an element that breaks no rule, and those behind it
 pub clean_first : (q : TProgram) (n : Tally) (e : Element) (es : List Element) (end : Tally) → lowest (rules_of q (counted n e) e) ≡ None → Clean q (counted n e) es end → Clean q n (e ∷ es) end
 clean_first q n e es end l c =
     record {
@@ -41,13 +44,16 @@ clean_first q n e es end l c =
 
 -- ---- taken apart
 
+-- no rule is broken now, nor later
 neither : (line : ℕ) (o : Option ℕ) (later : Option Broken) → or_later line o later ≡ None → (o ≡ None) × (later ≡ None)
 neither line None later h = (refl, h)
 neither line (Some rule) later h = absurd (cc)
 
+-- the first of the elements, and those behind it
 pub first_clean : (q : TProgram) (n : Tally) (e : Element) (es : List Element) → first_broken q n (e ∷ es) ≡ None → (lowest (rules_of q (counted n e) e) ≡ None) × (first_broken q (counted n e) es ≡ None)
 first_clean q n e es h = neither (line_of e) (lowest (rules_of q (counted n e) e)) (first_broken q (counted n e) es) h
 
+-- two lists of elements
 pub apart_of : (q : TProgram) (n : Tally) (xs ys : List Element) → first_broken q n (xs ++ ys) ≡ None → (first_broken q n xs ≡ None) × (first_broken q (tally n xs) ys ≡ None)
 apart_of q n [] ys h = (refl, h)
 apart_of q n (e ∷ xs) ys h =
@@ -55,6 +61,7 @@ apart_of q n (e ∷ xs) ys h =
     let b = apart_of q (counted n e) xs ys a.1 in
     (ap (λ (o : Option ℕ). or_later (line_of e) o (first_broken q (counted n e) xs)) a.0 ∙ b.0, b.1)
 
+-- elements, and others behind them
 pub clean_join : (q : TProgram) (n : Tally) (xs ys : List Element) (middle end : Tally) → Clean q n xs middle → Clean q middle ys end → Clean q n (xs ++ ys) end
 clean_join q n [] ys middle end a b = subst (λ m. Clean q m ys end) (sym a.counts) b
 clean_join q n (e ∷ xs) ys middle end a b =
@@ -63,9 +70,11 @@ clean_join q n (e ∷ xs) ys middle end a b =
 
 -- ---- tables
 
+-- the test at a place of a table
 abbrev test_of : Table → ℕ → Bool
 test_of ts n = get_or (map (λ t. t.1) ts) n false
 
+-- a test that says no
 none_cond : (b : Bool) (n : ℕ) (o : Option ℕ) → cond b (Some n) o ≡ None → (b ≡ false) × (o ≡ None)
 none_cond false n o h = (refl, h)
 none_cond true n o h = absurd (cc)

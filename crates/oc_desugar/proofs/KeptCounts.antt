@@ -1,22 +1,21 @@
 -- What is counted: a written statement counts its pulls, so the counts behind its group are the same, and those within
 -- the group are no more.
-use Rattle.std.proofs.Common.{◌≡◌, ◌<◌, ◌≤◌, ℕ, ◌+◌, ◌==◌, Bool, true, false, List, [], ◌∷◌, ◌++◌, map, length, refl, ap, sym, subst, ◌∙◌, arith, Option, Some, None, cond}
-use Rattle.std.specs.Prelude.{◌&&◌, ◌||◌, option_map, nat_lt}
+use Rattle.std.proofs.Common.{◌≡◌, ◌≤◌, ℕ, ◌+◌, ◌==◌, Bool, true, false, List, [], ◌∷◌, ◌++◌, map, length, refl, ap, sym, ◌∙◌, arith, Option, Some, None, cond}
+use Rattle.std.specs.Prelude.{◌||◌, option_map, nat_lt}
 use Rattle.std.specs.List.{list_any}
-use Rattle.std.specs.Ordering.{int_eq}
 use Rattle.std.proofs.lemmas.List.{map-append, length-map, length-append}
 use Rattle.std.proofs.lemmas.Bool.{or_parts, or_from, ltb-false, le-ltb}
 use Rattle.std.proofs.lemmas.Bool.Decides.{eqb_tells}
 use Rattle.std.proofs.lemmas.Bool.{eq-eqb, ne_eqb}
 use mathlib.Core.Logic.{inl, inr}
 use Rattle.oc_lex.specs.Stands.{IsName}
-use Rattle.oc_tree.specs.Tree.{TRight, TKind, let_to, let_array, assign, assign_index, assign_deref, if_else, for_in, while_do, call_only, sense_only, emit, fresh, consistent, return, TProgram}
+use Rattle.oc_tree.specs.Tree.{TRight, TKind, let_to, let_array, assign, assign_index, assign_deref, if_else, for_in, while_do, call_only, sense_only, emit, fresh, consistent, return}
 use Rattle.oc_tree.specs.declared.scope.Origin.{Origin}
 use Rattle.oc_tree.specs.declared.scope.Origin.TheVariants as origins
 use Rattle.oc_tree.specs.declared.scope.Policy.{Policy}
 use Rattle.oc_tree.specs.declared.scope.Policy.TheVariants as policies
 use Rattle.oc_tree.specs.declared.scope.Var.{Var}
-use Rattle.oc_tree.specs.Pulls.{right_pulls, own_pulls, inner_pulls}
+use Rattle.oc_tree.specs.Pulls.{right_pulls, own_pulls}
 use Rattle.oc_tree.specs.Calls.{callee, right_calls, own_calls}
 use Rattle.oc_tree.specs.Scope.{variable_in}
 use Rattle.oc_tree.specs.Elements.{Here}
@@ -42,6 +41,7 @@ new_tally f n = record { words = n.words; variables = n.variables; statements = 
 abbrev pub Apart : (ℕ → ℕ) → Type 0
 Apart f = (m n : ℕ) → f m ≡ f n → m ≡ n
 
+-- new numbers are compared as the written ones
 same_eq : (f : ℕ → ℕ) → Apart f → (m n : ℕ) → (f m == f n) ≡ (m == n)
 same_eq f h m n =
     elim (eqb_tells m n) [
@@ -49,38 +49,45 @@ same_eq f h m n =
       | inr d ↦ ne_eqb (f m) (f n) (λ e. d.1 (h m n e)) ∙ sym d.0
     ]
 
+-- policies are compared as the written ones
 same_policies : (f : ℕ → ℕ) → Apart f → (a b : Policy) → same_policy (new_policy f a) (new_policy f b) ≡ same_policy a b
 same_policies f h (policies.Fresh m) (policies.Fresh n) = same_eq f h m n
 same_policies f h (policies.Fresh m) (policies.Consistent g n) = refl
 same_policies f h (policies.Consistent g m) (policies.Fresh n) = refl
 same_policies f h (policies.Consistent g m) (policies.Consistent k n) = refl
 
+-- a policy is there where the written one is
 policy_there : (f : ℕ → ℕ) → Apart f → (ps : List Policy) (q : Policy) → list_any (same_policy (new_policy f q)) (map (new_policy f) ps) ≡ list_any (same_policy q) ps
 policy_there f h [] q = refl
 policy_there f h (r ∷ ps) q =
     ap (λ b. b || list_any (same_policy (new_policy f q)) (map (new_policy f) ps)) (same_policies f h q r)
     ∙ ap (λ b. same_policy q r || b) (policy_there f h ps q)
 
+-- of one of two lists
 map_cond : (f : ℕ → ℕ) (b : Bool) (ps qs : List Policy) → cond b (map (new_policy f) ps) (map (new_policy f) qs) ≡ map (new_policy f) (cond b ps qs)
 map_cond f true ps qs = refl
 map_cond f false ps qs = refl
 
+-- one policy more
 with_new_policy : (f : ℕ → ℕ) → Apart f → (ps : List Policy) (q : Policy) → with_policy (map (new_policy f) ps) (new_policy f q) ≡ map (new_policy f) (with_policy ps q)
 with_new_policy f h ps q =
     ap (λ b. cond b (map (new_policy f) ps) (map (new_policy f) ps ++ new_policy f q ∷ [])) (policy_there f h ps q)
     ∙ ap (λ l. cond (list_any (same_policy q) ps) (map (new_policy f) ps) l) (sym (map-append (new_policy f) ps (q ∷ [])))
     ∙ map_cond f (list_any (same_policy q) ps) ps (ps ++ q ∷ [])
 
+-- that of a variable's `let`
 with_new_let : (f : ℕ → ℕ) → Apart f → (ps : List Policy) (o : Origin) → with_let (map (new_policy f) ps) (new_origin f o) ≡ map (new_policy f) (with_let ps o)
 with_new_let f h ps (origins.Let m id b) = with_new_policy f h ps (policies.Fresh id)
 with_new_let f h ps origins.For = refl
 with_new_let f h ps (origins.Param q) = refl
 with_new_let f h ps origins.Nv = refl
 
+-- that of a variable, if any
 with_new_fresh : (f : ℕ → ℕ) → Apart f → (ps : List Policy) (v : Option Var) → with_fresh (map (new_policy f) ps) (option_map (new_var f) v) ≡ map (new_policy f) (with_fresh ps v)
 with_new_fresh f h ps None = refl
 with_new_fresh f h ps (Some v) = with_new_let f h ps v.origin
 
+-- those of a statement
 new_policies : (f : ℕ → ℕ) → Apart f → (ps : List Policy) (h g : Here) (k i : ℕ) (s : TKind) → SameHere f h g → KindInForm IsName s → policies_after (map (new_policy f) ps) g (expand_kind k i s) ≡ map (new_policy f) (policies_after ps h s)
 new_policies f a ps h g k i (let_to m x t r) e n = refl
 new_policies f a ps h g k i (let_array m x t z c) e n = refl
@@ -133,6 +140,7 @@ more_policies ps h (return c) = omega arith
 
 -- ---- counts
 
+-- a statement declares as much
 same_declares : (k i : ℕ) (s : TKind) → own_declares (expand_kind k i s) ≡ own_declares s
 same_declares k i (let_to m x t r) = refl
 same_declares k i (let_array m x t z c) = refl
@@ -189,9 +197,11 @@ pub record NoMore (m n : Tally) : Type 0 where
   pub calls : m.calls ≤ n.calls
   pub policies : length m.policies ≤ length n.policies
 
+-- what is no more passes no limit that the other doesn't
 not_less : (a b c : ℕ) → b ≤ c → nat_lt a c ≡ false → nat_lt a b ≡ false
 not_less a b c l h = le-ltb a b (omega (arith, l, ltb-false a c h))
 
+-- where no limit is passed, none is with counts that are no more
 pub passes_none : (m n : Tally) → NoMore m n → statement_passes n ≡ false → statement_passes m ≡ false
 passes_none m n l h =
     let a = or_parts (nat_lt 256 n.variables) _ h in

@@ -1,26 +1,25 @@
 -- The statements of an expansion break no rule, where those of the program break none.
-use Rattle.std.proofs.Common.{◌≡◌, ◌<◌, ◌≤◌, ◌^◌, ℕ, ◌+◌, Bool, true, false, List, [], ◌∷◌, ◌++◌, map, length, refl, ap, sym, subst, ◌∙◌, arith, Option, Some, None}
+use Rattle.std.proofs.Common.{◌≡◌, ◌≤◌, ◌^◌, ℕ, ◌+◌, Bool, false, List, [], ◌∷◌, ◌++◌, refl, ap, sym, subst, ◌∙◌, arith, None}
 use Rattle.std.specs.Prelude.{◌&&◌}
 use Rattle.std.proofs.lemmas.List.{length-map}
 use Rattle.oc_lex.specs.Stands.{IsName}
-use Rattle.oc_tree.specs.Tree.{TRight, TKind, let_to, let_array, assign, assign_index, assign_deref, if_else, for_in, while_do, call_only, sense_only, emit, fresh, consistent, return, TElse, no_else, else_do, TStmt, stmt, TBlock, block, TStmts, no_stmts, more, TProgram}
+use Rattle.oc_tree.specs.Tree.{TKind, let_to, let_array, assign, assign_index, assign_deref, if_else, for_in, while_do, call_only, sense_only, emit, fresh, consistent, return, TElse, no_else, else_do, TStmt, stmt, TBlock, block, TStmts, no_stmts, more, TProgram}
 use Rattle.oc_tree.specs.declared.scope.Origin.TheVariants as origins
 use Rattle.oc_tree.specs.declared.scope.Var.{Var}
 use Rattle.oc_tree.specs.declared.tree.ValueKind.{ValueKind}
 use Rattle.oc_tree.specs.declared.tree.ValueKind.TheVariants as kinds
 use Rattle.oc_tree.specs.Pulls.{expr_pulls, own_pulls, inner_pulls, else_pulls, stmt_pulls, block_pulls, stmts_pulls}
-use Rattle.oc_tree.specs.Types.{right_type}
 use Rattle.oc_tree.specs.Form.{KindInForm, ElseInForm, BlockInForm, StmtsInForm}
-use Rattle.oc_tree.specs.Elements.{Here, Element, statement, let_var, kind_of, scope_after, after_stmt, turn_var, in_turn, inside, is_end, before_stmts, kind_elements, else_elements, block_elements, stmts_elements}
-use Rattle.oc_tree.specs.Limits.{Tally, policies_after, with_statement, counted, statement_passes}
-use Rattle.oc_tree.specs.Broken.{statement_rules, rules_of, lowest, first_broken}
-use Rattle.oc_tree.specs.Expansion.{temporaries, pulled, left_right, join_stmts, expand_kind, expand_else, expand_block, expand_stmt, expand_stmts, block_size, stmt_size}
-use Rattle.oc_desugar.proofs.Seen.{new_var, Sees, SameHere, HeldOwn}
+use Rattle.oc_tree.specs.Elements.{Here, statement, let_var, kind_of, after_stmt, turn_var, in_turn, inside, is_end, before_stmts, kind_elements, else_elements, block_elements, stmts_elements}
+use Rattle.oc_tree.specs.Limits.{Tally, policies_after, with_statement, statement_passes}
+use Rattle.oc_tree.specs.Broken.{statement_rules, first_broken}
+use Rattle.oc_tree.specs.Expansion.{temporaries, pulled, join_stmts, expand_kind, expand_else, expand_block, expand_stmts, block_size, stmt_size}
+use Rattle.oc_desugar.proofs.Seen.{new_var, SameHere, HeldOwn}
 use Rattle.oc_desugar.proofs.Lengths.{length_pulled}
 use Rattle.oc_desugar.proofs.NoPulls.{plain_kind}
 use Rattle.oc_desugar.proofs.KeptNumbers.{InnerPlaced, ElsePlaced, BlockPlaced, StmtsPlaced}
 use Rattle.oc_desugar.proofs.KeptScopes.{with_var, sees_more, Unused, unused_more, unused_later}
-use Rattle.oc_desugar.proofs.KeptCounts.{new_policy, new_tally, Apart, with_temporaries, group_counts, passes_none, NoMore, front_counts, same_counts}
+use Rattle.oc_desugar.proofs.KeptCounts.{new_policy, new_tally, Apart, with_temporaries, group_counts, passes_none, NoMore, same_counts}
 use Rattle.oc_desugar.proofs.KeptClean.{tally, tally_join, Clean, clean_none, clean_first, clean_join, first_clean, apart_of, not_at, Laws}
 use Rattle.oc_desugar.proofs.KeptGroups.{same_before, Written, group_clean}
 
@@ -31,21 +30,25 @@ pub group_goes_on : (xs : List TStmt) (x : TStmt) (rest : TStmts) → is_end (jo
 group_goes_on [] x rest = refl
 group_goes_on (y ∷ xs) x rest = refl
 
+-- statements end where the written ones end
 pub same_end : (k i : ℕ) (ss : TStmts) → is_end (expand_stmts k i ss) ≡ is_end ss
 same_end k i no_stmts = refl
 same_end k i (more (stmt id line s) ss) = group_goes_on (temporaries k i line (pulled k s)) (stmt (i + own_pulls s) line (expand_kind k (i + own_pulls s + 1) s)) (expand_stmts (k + stmt_pulls (stmt id line s)) (i + stmt_size (stmt id line s)) ss)
 
--- a name of the language is added on both sides
+-- places of both programs, and no temporary from `u` on is used
 abbrev Follows : (ℕ → ℕ) → ℕ → Here → Here → Type 0
 Follows f u h g = SameHere f h g × Unused u g.scope
 
+-- one variable more
 with_scope : (f : ℕ → ℕ) (u : ℕ) (h g : Here) (x : List ℕ) (v w : Var) → IsName x → w ≡ new_var f v → SameHere f h g → Unused u g.scope → Follows f u (record h { scope = with_var h.scope x v }) (record g { scope = with_var g.scope x w })
 with_scope f u h g x v w n e same unused =
     (record { head = same.head; number = same.number; scope = sees_more f h.scope g.scope x v w e same.scope; block = same.block }, unused_more u g.scope x w n unused)
 
+-- the variable of a `let` with its new number
 same_let : (f : ℕ → ℕ) (h g : Here) (id at : ℕ) (m : Bool) (a b : ValueKind) → g.block ≡ h.block → f id ≡ at → b ≡ a → let_var g at m b ≡ new_var f (let_var h id m a)
 same_let f h g id at m a b p q r = λ i. record { origin = origins.Let m (sym q i) (p i); kind = r i }
 
+-- without a temporary the counts stay
 no_temporaries : (n : Tally) → n ≡ with_temporaries n []
 no_temporaries n = same_counts n (with_temporaries n []) refl (omega arith) (omega arith) (omega arith) refl
 
@@ -77,6 +80,7 @@ module _ (p q : TProgram) (f : ℕ → ℕ) (laws : Laws p q f) (apart : Apart f
       same = record { variables = omega arith; statements = omega arith; calls = omega arith; policies = omega (arith, length-map (policies_after n.policies h s) (new_policy f)) }
 
   mutual
+    -- what stands inside a statement
     kind_clean : (h g : Here) (n : Tally) (k i : ℕ) (s : TKind) → SameHere f h g → Unused (k + own_pulls s) g.scope → k + (own_pulls s + inner_pulls s) ≤ 2 ^ 64 → KindInForm IsName s → InnerPlaced f i s
         → first_broken p n (kind_elements p h s) ≡ None → Clean q (new_tally f n) (kind_elements q g (expand_kind k i s)) (new_tally f (tally n (kind_elements p h s)))
     kind_clean h g n k i (let_to m x t r) same unused bound w at b = clean_none q _ _ refl
@@ -120,6 +124,7 @@ module _ (p q : TProgram) (f : ℕ → ℕ) (laws : Laws p q f) (apart : Apart f
         let same' : SameHere f (record h { block = id }) (record g { block = id }) = record { head = same.head; number = same.number; scope = same.scope; block = refl } in
         stmts_clean (record h { block = id }) (record g { block = id }) n k i ss same' kept unused bound w at b
 
+    -- statements, each with what stands inside it
     stmts_clean : (h g : Here) (n : Tally) (k i : ℕ) (ss : TStmts) → SameHere f h g → g.last ≡ h.last → Unused k g.scope → k + stmts_pulls ss ≤ 2 ^ 64 → StmtsInForm IsName ss → StmtsPlaced f i ss
         → first_broken p n (stmts_elements p h ss) ≡ None → Clean q (new_tally f n) (stmts_elements q g (expand_stmts k i ss)) (new_tally f (tally n (stmts_elements p h ss)))
     stmts_clean h g n k i no_stmts same kept unused bound w at b = clean_none q _ _ refl

@@ -1,24 +1,22 @@
 -- Where no rule is broken by an expression, none is by what is left of it in the expansion: its names are known, its
 -- parts fit, and it has the same type.
-use Rattle.std.proofs.Common.{◌≡◌, ℕ, ◌+◌, Bool, true, false, true≢false, List, [], ◌∷◌, ◌++◌, Option, Some, None, refl, ap, sym, subst, ◌∙◌, arith}
+use Rattle.std.proofs.Common.{◌≡◌, ℕ, ◌+◌, Bool, true, false, true≢false, [], ◌++◌, Option, Some, None, refl, ap, sym, ◌∙◌}
 use Rattle.std.specs.Prelude.{nat_lt, is_some, option_map, ◌&&◌, ◌||◌}
 use Rattle.oc_lex.specs.Stands.{IsName}
-use Rattle.oc_tree.specs.Names.{Text}
 use Rattle.oc_tree.specs.Tree.{TExpr, number, truth, variable, index, deref, unary, binary, sensed, called, TArg, value, shared, mutable, TCall, call, TArgs, no_args, more_args, TRight, right_value, right_sense, right_call, TProgram}
 use Rattle.oc_tree.specs.Form.{ExprInForm, ArgInForm, CallInForm, ArgsInForm, RightInForm}
-use Rattle.oc_tree.specs.declared.tree.Scalar.{Scalar}
 use Rattle.oc_tree.specs.declared.scope.Var.{Var}
-use Rattle.oc_tree.specs.Pulls.{expr_pulls, call_pulls, arg_pulls, expr_skips, call_skips, args_skip, arg_skips, right_skips, may_skip}
-use Rattle.oc_tree.specs.Calls.{expr_calls, call_calls, args_calls, arg_calls}
-use Rattle.oc_tree.specs.Scope.{Scope, variable_of, is_variable, is_among}
-use Rattle.oc_tree.specs.Types.{value_type, type_of, right_type, call_type, is_int, has_elements, pointed_type}
+use Rattle.oc_tree.specs.Pulls.{expr_pulls, arg_pulls, expr_skips, args_skip, arg_skips, right_skips, may_skip}
+use Rattle.oc_tree.specs.Calls.{expr_calls, args_calls, arg_calls}
+use Rattle.oc_tree.specs.Scope.{Scope, variable_of, is_variable}
+use Rattle.oc_tree.specs.Types.{type_of, right_type, call_type, is_int, has_elements}
 use Rattle.oc_tree.specs.Rules.{expr_known, call_known, args_known, arg_known, right_known, expr_fits, call_fits, args_fit, arg_fits, right_fits, passed_on, only_reference, unary_fits, binary_fits}
-use Rattle.oc_tree.specs.Expansion.{temporary, left_expr, left_call, left_args, left_arg, left_right}
+use Rattle.oc_tree.specs.Expansion.{left_expr, left_call, left_args, left_arg, left_right}
 use Rattle.oc_tree.proofs.ReachLaws.{or_left, or_right}
-use Rattle.oc_desugar.proofs.Seen.{SameTop, new_var, IsHeld}
+use Rattle.oc_desugar.proofs.Seen.{new_var}
 use Rattle.oc_desugar.proofs.NoPulls.{none_expr}
 use Rattle.oc_desugar.proofs.HeldParts.{HeldExpr, HeldCall, HeldArgs, HeldArg, HeldRight}
-use Rattle.oc_desugar.proofs.KeptLookups.{SameNames, same_place, same_result, same_sensor, same_variable, same_is_variable, same_value_type, same_pointed_type, same_elements, new_passed, held_variable, held_is_variable, held_type, held_passed}
+use Rattle.oc_desugar.proofs.KeptLookups.{SameNames, same_place, same_result, same_sensor, same_variable, same_is_variable, same_value_type, same_pointed_type, same_elements, new_passed, held_is_variable, held_type, held_passed}
 
 -- ---- tests of two parts
 
@@ -147,7 +145,7 @@ module _ {p q : TProgram} {f : ℕ → ℕ} {s t : Scope} (m : SameNames p q f s
     known_expr k (sensed x) i h e = held_is_variable q h
     known_expr k (called c) i h e = held_is_variable q h.1
 
-    pub known_args : (k : ℕ) (xs : TArgs) → ArgsInForm IsName xs → HeldArgs p t k xs → args_known p s xs ≡ true → args_known q t (left_args k xs) ≡ true
+    known_args : (k : ℕ) (xs : TArgs) → ArgsInForm IsName xs → HeldArgs p t k xs → args_known p s xs ≡ true → args_known q t (left_args k xs) ≡ true
     known_args k no_args i h e = refl
     known_args k (more_args a rest) i h e =
         both_hold _ _ (known_arg k a i.0 h.0 (first_holds (arg_known p s a) (args_known p s rest) e)) (known_args (k + arg_pulls a) rest i.1 h.1 (second_holds (arg_known p s a) (args_known p s rest) e))
@@ -190,7 +188,7 @@ module _ {p q : TProgram} {f : ℕ → ℕ} {s t : Scope} (m : SameNames p q f s
     fits_expr k (sensed x) i h e = ap is_some (held_type q h) ∙ h.some
     fits_expr k (called c) i h e = ap is_some (held_type q h.1) ∙ h.1.some
 
-    pub fit_args : (k : ℕ) (xs : TArgs) → ArgsInForm IsName xs → HeldArgs p t k xs → args_fit p s xs ≡ true → args_fit q t (left_args k xs) ≡ true
+    fit_args : (k : ℕ) (xs : TArgs) → ArgsInForm IsName xs → HeldArgs p t k xs → args_fit p s xs ≡ true → args_fit q t (left_args k xs) ≡ true
     fit_args k no_args i h e = refl
     fit_args k (more_args a rest) i h e =
         both_hold _ _ (fits_arg k a i.0 h.0 (first_holds (arg_fits p s a) (args_fit p s rest) e)) (fit_args (k + arg_pulls a) rest i.1 h.1 (second_holds (arg_fits p s a) (args_fit p s rest) e))

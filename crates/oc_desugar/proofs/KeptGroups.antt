@@ -1,10 +1,8 @@
 -- The `let`s of the temporaries of a statement break no rule, and behind them all of its pulls are held.
-use Rattle.std.proofs.Common.{◌≡◌, ◌<◌, ◌≤◌, ◌^◌, ℕ, ◌+◌, Bool, true, false, List, [], ◌∷◌, ◌++◌, map, length, refl, ap, sym, subst, ◌∙◌, arith, append_assoc, append-nil, Option, Some, None}
+use Rattle.std.proofs.Common.{◌≡◌, ◌<◌, ◌≤◌, ◌^◌, ℕ, ◌+◌, Bool, false, List, [], ◌∷◌, ◌++◌, length, ap, sym, subst, ◌∙◌, arith, append_assoc, append-nil, None}
 use Rattle.std.proofs.lemmas.List.{length-append}
 use Rattle.oc_lex.specs.Stands.{IsName}
-use Rattle.oc_tree.specs.Tree.{TRight, TKind, let_to, TStmt, stmt, TStmts, no_stmts, more, TProgram}
-use Rattle.oc_tree.specs.Pulls.{right_pulls}
-use Rattle.oc_tree.specs.declared.scope.Var.{Var}
+use Rattle.oc_tree.specs.Tree.{TRight, TKind, let_to, TStmt, stmt, TStmts, more, TProgram}
 use Rattle.oc_tree.specs.Types.{right_type}
 use Rattle.oc_tree.specs.Form.{KindInForm}
 use Rattle.oc_tree.specs.Elements.{Here, statement, let_var, kind_of, after_stmt, before_stmts, stmts_elements}
@@ -12,8 +10,9 @@ use Rattle.oc_tree.specs.Limits.{Tally, with_statement, statement_passes}
 use Rattle.oc_tree.specs.Broken.{statement_rules, lowest}
 use Rattle.oc_tree.specs.Expansion.{temporary, temporaries, pulled, join_stmts}
 use Rattle.oc_desugar.proofs.Seen.{SameHere, HeldPulls, HeldOwn}
-use Rattle.oc_desugar.proofs.NoPulls.{NoPulls, nothing, one_more}
-use Rattle.oc_desugar.proofs.KeptScopes.{with_var, sees_temporary, Unused, unused_temporary, still_held, held_push}
+use Rattle.oc_desugar.proofs.NoPulls.{NoPulls, one_more}
+use Rattle.oc_desugar.proofs.PullSplits.{sees_more, pulls_held_more, held_one_more}
+use Rattle.oc_desugar.proofs.KeptScopes.{with_var, Unused, unused_temporary}
 use Rattle.oc_desugar.proofs.KeptCounts.{new_tally, with_temporaries, one_temporary, passes_none, front_counts}
 use Rattle.oc_desugar.proofs.KeptClean.{Clean, clean_first, not_at, Laws}
 
@@ -38,6 +37,7 @@ module _ (p q : TProgram) (f : ℕ → ℕ) (laws : Laws p q f) where
     abbrev Behind : Type 0
     Behind = (g : Here) → SameHere f h g → g.last ≡ kept → HeldOwn p g.scope k s → Unused u g.scope → Clean q (with_temporaries (new_tally f n) (pulled k s)) (stmts_elements q g (more last rest)) end
 
+    -- the `let`s of the pulls that are left, where those in front are held, and what follows
     pub group_clean : (rs front : List TRight) (g : Here) (j i : ℕ) (m : Tally)
         → SameHere f h g → g.last ≡ kept → pulled k s ≡ front ++ rs → j ≡ k + length front → u ≡ j + length rs → u ≤ 2 ^ 64
         → HeldPulls p g.scope k front → Unused j g.scope → NoPulls rs → m ≡ with_temporaries (new_tally f n) front
@@ -65,7 +65,7 @@ module _ (p q : TProgram) (f : ℕ → ℕ) (laws : Laws p q f) where
         let rule = laws.temporary_let h (before_stmts g tail) (with_statement n h s) (with_statement m (before_stmts g tail) own) k s front rs r (same_before f h g tail e) parts held none_yet w.in_form w.unbroken passes in
         let rule' = subst (λ a. lowest (statement_rules q (with_statement m (before_stmts g tail) own) (before_stmts g tail) (let_to false (temporary a) None r)) ≡ None) (sym at) rule in
         let now = laws.held h g (with_statement n h s) k i s front rs r e parts held none_yet w.in_form w.unbroken in
-        let now' = subst (λ a. HeldPulls p (with_var g.scope (temporary a) v) k grown) (sym at) (held_push p (with_var g.scope (temporary (k + length front)) v) k (k + length front) front r refl (still_held p g.scope (temporary (k + length front)) v k front held) now) in
-        let e' : SameHere f h g' = record { head = e.head; number = e.number; scope = sees_temporary f h.scope g.scope j v e.scope; block = e.block } in
+        let now' = subst (λ a. HeldPulls p (with_var g.scope (temporary a) v) k grown) (sym at) (held_one_more p (with_var g.scope (temporary (k + length front)) v) k front r (pulls_held_more p g.scope ((temporary (k + length front), v) ∷ []) k front held) now) in
+        let e' : SameHere f h g' = record { head = e.head; number = e.number; scope = sees_more f h.scope g.scope j v e.scope; block = e.block } in
         clean_first q m (statement (before_stmts g tail) i line own) (stmts_elements q g' tail) end rule'
         (group_clean rs grown g' (j + 1) (i + 1) (with_statement m (before_stmts g tail) own) e' kp split (omega (arith, at, length-append front (r ∷ []))) (omega (arith, to)) bound now' (unused_temporary j g.scope v unused) none counted behind)

@@ -1,14 +1,14 @@
 -- What names stand for in the expansion: a name of the language stands for what it stood for in the written program, and
 -- a temporary for its variable.
-use Rattle.std.proofs.Common.{◌≡◌, ℕ, ◌+◌, Bool, true, false, true≢false, List, [], ◌∷◌, length, map, Option, Some, None, cond, refl, ap, sym, subst, ◌∙◌}
-use Rattle.std.specs.Prelude.{is_some, not, ◌&&◌, ◌||◌, slice_get, option_map, option_and_then}
+use Rattle.std.proofs.Common.{◌≡◌, ℕ, Bool, true, false, true≢false, List, [], ◌∷◌, map, Option, Some, None, cond, refl, ap, sym, ◌∙◌}
+use Rattle.std.specs.Prelude.{is_some, not, ◌||◌, slice_get, option_map, option_and_then}
 use Rattle.std.specs.Str.{bytes_eq}
 use Rattle.std.proofs.lemmas.Option.{slice_get-map}
 use Rattle.std.proofs.lemmas.Slice.Eq.{bytes_eq-Decides}
 use Rattle.oc_lex.specs.Bytes.{class_of, begins_name}
 use Rattle.oc_lex.specs.Stands.{IsName}
 use Rattle.oc_tree.specs.Names.{Text}
-use Rattle.oc_tree.specs.Tree.{TCall, call, TFunction, TProgram}
+use Rattle.oc_tree.specs.Tree.{TFunction, TProgram}
 use Rattle.oc_tree.specs.declared.tree.NvDecl.{NvDecl}
 use Rattle.oc_tree.specs.declared.tree.Param.{Param}
 use Rattle.oc_tree.specs.declared.tree.Scalar.{Scalar}
@@ -16,10 +16,10 @@ use Rattle.oc_tree.specs.declared.tree.ValueKind.{ValueKind}
 use Rattle.oc_tree.specs.declared.scope.Origin.{Origin}
 use Rattle.oc_tree.specs.declared.scope.Origin.TheVariants as origins
 use Rattle.oc_tree.specs.declared.scope.Var.{Var}
-use Rattle.oc_tree.specs.Calls.{place, function_place, function_names, callee}
+use Rattle.oc_tree.specs.Calls.{place, function_place, function_names}
 use Rattle.oc_tree.specs.Scope.{Scope, variable_in, variable_of, is_variable, is_among, is_declared, is_taken, is_in_scope, nv_var, nv_named, or_nv, function_named}
-use Rattle.oc_tree.specs.Types.{scalar_of, is_reference, value_type, pointed_type, has_elements, is_array, call_type, result_of, is_same_kind}
-use Rattle.oc_tree.specs.Rules.{only_reference, has_kind, origin_is, is_mutable_param, is_writable, is_writable_array, is_own, is_let_in, is_nv, params_of, callee_params}
+use Rattle.oc_tree.specs.Types.{scalar_of, is_reference, value_type, pointed_type, has_elements, result_of}
+use Rattle.oc_tree.specs.Rules.{only_reference, has_kind, origin_is, is_mutable_param, is_writable, is_writable_array, is_own, is_let_in, is_nv, params_of}
 use Rattle.oc_tree.specs.Expansion.{temporary}
 use Rattle.oc_desugar.proofs.Seen.{Head, head_of, SameTop, Sees, new_origin, new_var, IsHeld}
 
@@ -65,7 +65,7 @@ head_named p None = refl
 head_named p (Some j) = sym (slice_get-map head_of p.functions j)
 
 -- a name stands for a function with the same head
-pub same_head : {p q : TProgram} → SameTop p q → (x : Text) → option_map head_of (function_named q x) ≡ option_map head_of (function_named p x)
+same_head : {p q : TProgram} → SameTop p q → (x : Text) → option_map head_of (function_named q x) ≡ option_map head_of (function_named p x)
 same_head {p = p} {q = q} top x =
     head_named q (function_place q.functions x)
     ∙ ap (λ hs. option_and_then (λ j. slice_get hs j) (function_place q.functions x)) top.heads
@@ -147,7 +147,7 @@ same_taken {p = p} {q = q} {f = f} {s = s} m x n =
 
 -- ---- what is asked of a variable doesn't depend on the number of its statement
 
-pub new_reference : (f : ℕ → ℕ) (o : Origin) → is_reference (new_origin f o) ≡ is_reference o
+new_reference : (f : ℕ → ℕ) (o : Origin) → is_reference (new_origin f o) ≡ is_reference o
 new_reference f (origins.Let m i b) = refl
 new_reference f origins.For = refl
 new_reference f (origins.Param g) = refl
@@ -229,15 +229,12 @@ same_pointed_type {p = p} {f = f} {s = s} m x n = ap pointed_type (same_variable
 pub same_elements : {p q : TProgram} {f : ℕ → ℕ} {s t : Scope} → SameNames p q f s t → (x : Text) → IsName x → has_elements (variable_of q t x) ≡ has_elements (variable_of p s x)
 same_elements {p = p} {f = f} {s = s} m x n = ap has_elements (same_variable m x n) ∙ new_elements f (variable_of p s x)
 
-pub same_kind_of : {p q : TProgram} {f : ℕ → ℕ} {s t : Scope} → SameNames p q f s t → (kind : ValueKind) (x : Text) → IsName x → has_kind kind (variable_of q t x) ≡ has_kind kind (variable_of p s x)
-same_kind_of {p = p} {f = f} {s = s} m kind x n = ap (has_kind kind) (same_variable m x n) ∙ new_kind kind f (variable_of p s x)
-
 pub same_test : {p q : TProgram} {f : ℕ → ℕ} {s t : Scope} → SameNames p q f s t → (test : Origin → Bool) → Numberless f test → (x : Text) → IsName x → origin_is test (variable_of q t x) ≡ origin_is test (variable_of p s x)
 same_test {p = p} {f = f} {s = s} m test same x n = ap (origin_is test) (same_variable m x n) ∙ new_test f test same (variable_of p s x)
 
 -- ---- temporaries
 
-pub held_variable : {t : Scope} {k : ℕ} {type : Option Scalar} → (q : TProgram) → (h : IsHeld t k type) → variable_of q t (temporary k) ≡ Some h.var
+held_variable : {t : Scope} {k : ℕ} {type : Option Scalar} → (q : TProgram) → (h : IsHeld t k type) → variable_of q t (temporary k) ≡ Some h.var
 held_variable {k = k} q h = ap (or_nv q (temporary k)) h.visible
 
 pub held_is_variable : {t : Scope} {k : ℕ} {type : Option Scalar} → (q : TProgram) → IsHeld t k type → is_variable q t (temporary k) ≡ true

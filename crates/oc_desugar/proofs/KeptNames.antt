@@ -1,6 +1,6 @@
 -- A function of the expansion names what the written one names: the mentions of the right sides of the temporaries and
 -- of what is left add up to those written, and a temporary hides no name of the language.
-use Rattle.std.proofs.Common.{◌≡◌, ℕ, ◌+◌, Bool, true, false, List, [], ◌∷◌, ◌++◌, map, length, refl, ap, sym, subst, ◌∙◌, arith, None, Some, cond}
+use Rattle.std.proofs.Common.{◌≡◌, ℕ, ◌+◌, Bool, true, false, List, [], ◌∷◌, ◌++◌, map, refl, ap, sym, ◌∙◌, arith, None, Some, cond}
 use Rattle.std.specs.Prelude.{◌&&◌, ◌||◌, not, nat_lt}
 use Rattle.std.specs.List.{list_any}
 use Rattle.std.specs.Str.{bytes_eq}
@@ -8,24 +8,26 @@ use Rattle.std.proofs.lemmas.Bool.Decides.{nat_tests}
 use Rattle.std.proofs.lemmas.List.Folds.{list_any-append}
 use Rattle.oc_lex.specs.Stands.{IsName}
 use Rattle.oc_tree.specs.Names.{Text}
-use Rattle.oc_tree.specs.Tree.{TExpr, number, truth, variable, index, deref, unary, binary, sensed, called, TArg, value, shared, mutable, TCall, call, TArgs, no_args, more_args, TRight, right_value, right_sense, right_call, TKind, let_to, let_array, assign, assign_index, assign_deref, if_else, for_in, while_do, call_only, sense_only, emit, fresh, consistent, return, TElse, no_else, else_do, TStmt, stmt, TBlock, block, TStmts, no_stmts, more, TFunction, TProgram}
+use Rattle.oc_tree.specs.Tree.{TExpr, number, truth, variable, index, deref, unary, binary, sensed, called, TArg, value, shared, mutable, TCall, call, TArgs, no_args, more_args, TRight, right_value, right_sense, right_call, TKind, let_to, let_array, assign, assign_index, assign_deref, if_else, for_in, while_do, call_only, sense_only, emit, fresh, consistent, return, TElse, no_else, else_do, stmt, TBlock, block, TStmts, no_stmts, more, TFunction}
 use Rattle.oc_tree.specs.Pulls.{expr_pulls, call_pulls, arg_pulls, own_pulls, stmt_pulls, block_pulls}
 use Rattle.oc_tree.specs.Mentions.{once, expr_mentions, call_mentions, args_mentions, arg_mentions, right_mentions, own_mentions, targets, annotates, own_names}
 use Rattle.oc_tree.specs.Calls.{kind_hides, kind_kinds, else_kinds, block_kinds, stmts_kinds, has_param, function_mentions}
-use Rattle.oc_tree.specs.Expansion.{left_expr, left_call, left_args, left_arg, left_right, pulled_expr, pulled_call, pulled_args, pulled_arg, pulled_right, pulled, temporary, temporaries, join_stmts, expand_kind, expand_else, expand_block, expand_stmts, expand_function, expand_functions, block_size, stmt_size}
-use Rattle.oc_desugar.proofs.TemporaryNames.{name_is_none}
+use Rattle.oc_tree.specs.Expansion.{left_expr, left_call, left_args, left_arg, left_right, pulled_expr, pulled_call, pulled_args, pulled_arg, pulled_right, pulled, temporary, temporaries, join_stmts, expand_kind, expand_else, expand_block, expand_stmts, expand_functions, block_size, stmt_size}
+use Rattle.oc_desugar.proofs.KeptLookups.{apart}
 
 -- how often right sides name it
-abbrev pub rights_mention : Text → List TRight → ℕ
+abbrev rights_mention : Text → List TRight → ℕ
 rights_mention x [] = 0
 rights_mention x (r ∷ rs) = right_mentions x r + rights_mention x rs
 
+-- what right sides mention, one after the other
 mentions_join : (x : Text) (xs ys : List TRight) → rights_mention x (xs ++ ys) ≡ rights_mention x xs + rights_mention x ys
 mentions_join x [] ys = omega arith
 mentions_join x (r ∷ xs) ys = omega (arith, mentions_join x xs ys)
 
+-- a temporary's name is no mention of it
 no_mention : (x : Text) → IsName x → (k : ℕ) → once (bytes_eq x (temporary k)) ≡ 0
-no_mention x h k = ap once (name_is_none x h k)
+no_mention x h k = ap once (apart x h k)
 
 -- ---- expressions
 
@@ -56,12 +58,14 @@ mutual
   mentions_arg x h k (shared y) = omega arith
   mentions_arg x h k (mutable y) = omega arith
 
+-- of a right side
 mentions_right : (x : Text) → IsName x → (k : ℕ) (r : TRight) → rights_mention x (pulled_right k r) + right_mentions x (left_right k r) ≡ right_mentions x r
 mentions_right x h k (right_value e) = mentions_expr x h k e
 mentions_right x h k (right_sense s) = refl
 mentions_right x h k (right_call c) = mentions_call x h k c
 
-pub mentions_own : (x : Text) → IsName x → (k i : ℕ) (s : TKind) → rights_mention x (pulled k s) + own_mentions x (expand_kind k i s) ≡ own_mentions x s
+-- of a statement itself
+mentions_own : (x : Text) → IsName x → (k i : ℕ) (s : TKind) → rights_mention x (pulled k s) + own_mentions x (expand_kind k i s) ≡ own_mentions x s
 mentions_own x h k i (let_to m y t r) = mentions_right x h k r
 mentions_own x h k i (let_array m y t z n) = refl
 mentions_own x h k i (assign y r) = mentions_right x h k r
@@ -97,6 +101,7 @@ same_places x k i (fresh y) = (refl, refl, refl)
 same_places x k i (consistent y n) = (refl, refl, refl)
 same_places x k i (return e) = (refl, refl, refl)
 
+-- one of two counts is more than none
 some_sum : (m n : ℕ) → nat_lt 0 (m + n) ≡ nat_lt 0 m || nat_lt 0 n
 some_sum m n = grind (arith, nat_tests)
 
@@ -131,6 +136,7 @@ own_named x h k i s =
 abbrev named_in : Text → List TKind → Bool
 named_in x ks = list_any (own_names x) ks
 
+-- where they are hidden none is asked
 named_cond : (x : Text) (b : Bool) (ks : List TKind) → named_in x (cond b [] ks) ≡ cond b false (named_in x ks)
 named_cond x true ks = refl
 named_cond x false ks = refl
@@ -150,7 +156,7 @@ group_named x h k i line [] id at s rest = first_named x id at s rest
 group_named x h k i line (r ∷ rs) id at s rest =
     let tail = join_stmts (temporaries (k + 1) (i + 1) line rs ++ stmt id at s ∷ []) rest in
     let e = first_named x i line (let_to false (temporary k) None r) tail in
-    let f = ap (λ b. ((nat_lt 0 (right_mentions x r) || false || false) || false) || cond b false (named_in x (stmts_kinds (Some x) tail))) (name_is_none x h k) in
+    let f = ap (λ b. ((nat_lt 0 (right_mentions x r) || false || false) || false) || cond b false (named_in x (stmts_kinds (Some x) tail))) (apart x h k) in
     let g = group_named x h (k + 1) (i + 1) line rs id at s rest in
     e ∙ f ∙ regroup (nat_lt 0 (right_mentions x r)) (nat_lt 0 (rights_mention x rs)) (nat_lt 0 (right_mentions x r + rights_mention x rs)) _ _ (some_sum (right_mentions x r) (rights_mention x rs)) g
   where
@@ -162,9 +168,11 @@ group_named x h k i line (r ∷ rs) id at s rest =
 inside_named : (a b c d e : Bool) → a || b ≡ c → d ≡ e → a || (b || d) ≡ c || e
 inside_named a b c d e p q = sym (or_assoc a b d) ∙ ap (λ y. y || d) p ∙ ap (λ y. c || y) q
 
+-- in one of two parts
 both_named : (a b c d : Bool) → a ≡ b → c ≡ d → a || c ≡ b || d
 both_named a b c d p q = ap (λ y. y || c) p ∙ ap (λ y. b || y) q
 
+-- in the body of a loop whose variable may hide it
 turns_named : (x : Text) (b : Bool) (ks ls : List TKind) → named_in x ks ≡ named_in x ls → named_in x (cond b [] ks) ≡ named_in x (cond b [] ls)
 turns_named x true ks ls h = refl
 turns_named x false ks ls h = h
@@ -215,6 +223,7 @@ mutual
 
 -- ---- functions
 
+-- each function names it where the written one does
 pub same_mentions : (x : Text) → IsName x → (k i : ℕ) (fs : List TFunction) → map (function_mentions x) (expand_functions k i fs) ≡ map (function_mentions x) fs
 same_mentions x h k i [] = refl
 same_mentions x h k i (f ∷ fs) =

@@ -1,12 +1,12 @@
 -- The numbers of the written statements in the expansion: a statement has its own number and the pulls of all
 -- statements up to it, so numbers rise, and two statements keep two numbers.
-use Rattle.std.proofs.Common.{◌≡◌, ◌<◌, ◌≤◌, ℕ, zero, suc, ◌+◌, List, [], ◌∷◌, ◌++◌, map, length, refl, ap, sym, subst, ◌∙◌, arith, inl, inr, append_assoc}
+use Rattle.std.proofs.Common.{◌≡◌, ◌≤◌, ℕ, zero, suc, ◌+◌, List, [], ◌∷◌, ◌++◌, map, length, refl, ap, sym, subst, ◌∙◌, arith, inl, inr, append_assoc}
 use Rattle.std.specs.List.{flat_map}
 use Rattle.std.proofs.lemmas.List.{map-append}
 use Rattle.std.proofs.lemmas.Bool.{cases_order}
-use Rattle.oc_tree.specs.Tree.{TKind, let_to, let_array, assign, assign_index, assign_deref, if_else, for_in, while_do, call_only, sense_only, emit, fresh, consistent, return, TElse, no_else, else_do, TStmt, stmt, TBlock, block, TStmts, no_stmts, more, TFunction, TProgram}
+use Rattle.oc_tree.specs.Tree.{TKind, let_to, let_array, assign, assign_index, assign_deref, if_else, for_in, while_do, call_only, sense_only, emit, fresh, consistent, return, TElse, no_else, else_do, stmt, TBlock, block, TStmts, no_stmts, more, TFunction, TProgram}
 use Rattle.oc_tree.specs.Pulls.{own_pulls}
-use Rattle.oc_tree.specs.Expansion.{inner_size, else_size, block_size, stmt_size, stmts_size}
+use Rattle.oc_tree.specs.Expansion.{inner_size, else_size, block_size, stmts_size}
 use Rattle.oc_tree.specs.Numbers.{numbers_on, kind_statements, else_statements, block_statements, stmts_statements, program_statements}
 use Rattle.oc_tree.specs.Form.{Numbered}
 
@@ -32,6 +32,7 @@ abbrev mutual
   stmts_pairs no_stmts = []
   stmts_pairs (more (stmt id line k) ss) = ((id, own_pulls k) ∷ kind_pairs k) ++ stmts_pairs ss
 
+-- of all functions
 abbrev functions_pairs : List TFunction → Pairs
 functions_pairs fs = flat_map (λ f. block_pairs f.body) fs
 
@@ -41,6 +42,7 @@ pulls_to zero xs = 0
 pulls_to (suc n) [] = 0
 pulls_to (suc n) (x ∷ xs) = x.1 + pulls_to n xs
 
+-- the number that a statement gets, where these are all
 abbrev new_from : Pairs → ℕ → ℕ
 new_from xs n = n + pulls_to n xs
 
@@ -50,12 +52,14 @@ new_number p n = new_from (functions_pairs p.functions) n
 
 -- ---- numbers rise
 
+-- more statements have no fewer pulls
 rises : (xs : Pairs) (m n : ℕ) → m ≤ n → pulls_to m xs ≤ pulls_to n xs
 rises xs zero n h = omega arith
 rises xs (suc m) zero h = absurd (omega (arith, h))
 rises [] (suc m) (suc n) h = omega arith
 rises (x ∷ xs) (suc m) (suc n) h = omega (arith, rises xs m n (omega (arith, h)))
 
+-- two statements keep two numbers
 pub new_apart : (p : TProgram) (m n : ℕ) → new_number p m ≡ new_number p n → m ≡ n
 new_apart p m n e =
     let xs = functions_pairs p.functions in
@@ -74,10 +78,12 @@ abbrev Placed : (ℕ → ℕ) → ℕ → Pairs → Type 0
 Placed f i [] = Unit {0}
 Placed f i (x ∷ xs) = (f x.0 ≡ i + x.1) × Placed f (i + x.1 + 1) xs
 
+-- how many statements their groups have
 abbrev size_of : Pairs → ℕ
 size_of [] = 0
 size_of (x ∷ xs) = x.1 + 1 + size_of xs
 
+-- two stretches of statements, one after the other
 placed_split : (f : ℕ → ℕ) (i : ℕ) (xs ys : Pairs) → Placed f i (xs ++ ys) → Placed f i xs × Placed f (i + size_of xs) ys
 placed_split f i [] ys h = let e : i ≡ i + 0 = omega arith in (tt, subst (λ j. Placed f j ys) e h)
 placed_split f i (x ∷ xs) ys h =
@@ -85,6 +91,7 @@ placed_split f i (x ∷ xs) ys h =
     let e : i + x.1 + 1 + size_of xs ≡ i + (x.1 + 1 + size_of xs) = omega arith in
     ((h.0, r.0), subst (λ j. Placed f j ys) e r.1)
 
+-- and how many statements both have
 size_join : (xs ys : Pairs) → size_of (xs ++ ys) ≡ size_of xs + size_of ys
 size_join [] ys = omega arith
 size_join (x ∷ xs) ys = omega (arith, size_join xs ys)
@@ -108,6 +115,7 @@ abbrev mutual
   StmtsPlaced f i no_stmts = Unit {0}
   StmtsPlaced f i (more (stmt id line k) ss) = (f id ≡ i + own_pulls k) × InnerPlaced f (i + own_pulls k + 1) k × StmtsPlaced f (i + (own_pulls k + 1 + inner_size k)) ss
 
+-- and of functions
 abbrev pub FunctionsPlaced : (ℕ → ℕ) → ℕ → List TFunction → Type 0
 FunctionsPlaced f i [] = Unit {0}
 FunctionsPlaced f i (g ∷ fs) = BlockPlaced f i g.body × FunctionsPlaced f (i + block_size g.body) fs
@@ -174,6 +182,7 @@ mutual
       let e : i + own_pulls k + 1 + size_of (kind_pairs k) ≡ i + (own_pulls k + 1 + inner_size k) = omega (arith, size_kind k) in
       (h.0, place_kind f (i + own_pulls k + 1) k q.0, place_stmts f (i + (own_pulls k + 1 + inner_size k)) ss (subst (λ j. Placed f j (stmts_pairs ss)) e q.1))
 
+-- from the list to the tree
 place_functions : (f : ℕ → ℕ) (i : ℕ) (fs : List TFunction) → Placed f i (functions_pairs fs) → FunctionsPlaced f i fs
 place_functions f i [] h = tt
 place_functions f i (g ∷ fs) h =
@@ -183,9 +192,11 @@ place_functions f i (g ∷ fs) h =
 
 -- ---- the numbers of a program
 
+-- the numbers alone
 abbrev firsts : Pairs → List ℕ
 firsts xs = map (λ x. x.0) xs
 
+-- of two stretches
 firsts_both : (xs ys : Pairs) (ms ns : List ℕ) → firsts xs ≡ ms → firsts ys ≡ ns → firsts (xs ++ ys) ≡ ms ++ ns
 firsts_both xs ys ms ns a b = map-append (λ (x : ℕ × ℕ). x.0) xs ys ∙ ap (λ l. l ++ firsts ys) a ∙ ap (λ l. ms ++ l) b
 
@@ -217,6 +228,7 @@ mutual
   firsts_stmts no_stmts = refl
   firsts_stmts (more (stmt id line k) ss) = ap (λ l. id ∷ l) (firsts_both (kind_pairs k) (stmts_pairs ss) _ _ (firsts_kind k) (firsts_stmts ss))
 
+-- of all functions
 firsts_functions : (fs : List TFunction) → firsts (functions_pairs fs) ≡ flat_map (λ f. block_statements f.body) fs
 firsts_functions [] = refl
 firsts_functions (f ∷ fs) = firsts_both (block_pairs f.body) (functions_pairs fs) _ _ (firsts_block f.body) (firsts_functions fs)

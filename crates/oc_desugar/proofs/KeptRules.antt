@@ -1,15 +1,14 @@
 -- No rule is broken in the expansion of a program that breaks none.
-use Rattle.std.proofs.Common.{◌≡◌, ◌≤◌, ◌^◌, ℕ, zero, suc, ◌+◌, Bool, true, false, List, [], ◌∷◌, length, refl, ap, sym, ◌∙◌, arith, Option, Some, None, cond, All}
-use Rattle.std.specs.Prelude.{◌||◌, is_some}
-use Rattle.std.specs.Str.{bytes_eq}
+use Rattle.std.proofs.Common.{◌≡◌, ◌≤◌, ◌^◌, ℕ, ◌+◌, false, List, [], ◌∷◌, refl, ap, ◌∙◌, arith, Option, Some, None, cond, All}
+use Rattle.std.specs.Prelude.{is_some}
 use Rattle.std.proofs.lemmas.Bool.{or_from}
 use Rattle.oc_lex.specs.Stands.{IsName}
 use Rattle.oc_tree.specs.Names.{Text}
 use Rattle.oc_tree.specs.Tree.{TFunction, TProgram, let_to}
 use Rattle.oc_tree.specs.Form.{FunctionInForm, InForm}
 use Rattle.oc_tree.specs.Pulls.{program_pulls}
-use Rattle.oc_tree.specs.Calls.{place_from, place, function_names, function_place}
-use Rattle.oc_tree.specs.Scope.{is_among, is_declared}
+use Rattle.oc_tree.specs.Calls.{place_from, function_names, function_place}
+use Rattle.oc_tree.specs.Scope.{is_among}
 use Rattle.oc_tree.specs.Elements.{nothing_before, program_elements}
 use Rattle.oc_tree.specs.Limits.{nothing_counted}
 use Rattle.oc_tree.specs.Broken.{first_broken}
@@ -29,17 +28,21 @@ use Rattle.oc_desugar.proofs.KeptOrder.{order_clean}
 
 -- ---- no temporary has a name of the top level
 
+-- no name of the language in a list is a temporary's
 no_place : (xs : List Text) (n k : ℕ) → All IsName xs → place_from n xs (temporary k) ≡ None
 no_place [] n k h = refl
 no_place (x ∷ xs) n k h = ap (λ b. cond b (Some n) (place_from (n + 1) xs (temporary k))) (none_is_name x (h 0 x (omega arith)) k) ∙ no_place xs (n + 1) k (all_behind IsName x xs h)
 
+-- so it isn't found there
 not_among : (xs : List Text) (k : ℕ) → All IsName xs → is_among xs (temporary k) ≡ false
 not_among xs k h = ap (λ (o : Option ℕ). is_some o) (no_place xs 0 k h)
 
+-- nor is it the name of a function
 no_function : (fs : List TFunction) (n k : ℕ) → All (FunctionInForm IsName) fs → place_from n (function_names fs) (temporary k) ≡ None
 no_function [] n k h = refl
 no_function (f ∷ fs) n k h = ap (λ b. cond b (Some n) (place_from (n + 1) (function_names fs) (temporary k))) (none_is_name f.name (h 0 f (omega arith)).name k) ∙ no_function fs (n + 1) k (all_behind (FunctionInForm IsName) f fs h)
 
+-- nor anything that is declared
 pub no_temporary : (p : TProgram) → InForm IsName p → NoTemporary p
 no_temporary p h k =
     let s = h.spellable in

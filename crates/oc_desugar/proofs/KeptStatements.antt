@@ -1,25 +1,24 @@
 -- The written statement as it is left in the expansion breaks no rule but maybe that of the counts, where the written
 -- one breaks none.
-use Rattle.std.proofs.Common.{◌≡◌, ℕ, ◌+◌, Bool, true, false, true≢false, List, [], ◌∷◌, ◌++◌, Option, Some, None, refl, ap, sym, subst, ◌∙◌, arith}
+use Rattle.std.proofs.Common.{◌≡◌, ℕ, ◌+◌, Bool, true, false, None, refl, ap, ◌∙◌, arith}
 use Rattle.std.specs.Prelude.{not, nat_lt, is_some, ◌&&◌, ◌||◌}
 use Rattle.oc_lex.specs.Stands.{IsName}
-use Rattle.oc_tree.specs.Tree.{TExpr, TRight, right_value, right_sense, right_call, TKind, let_to, let_array, assign, assign_index, assign_deref, if_else, for_in, while_do, call_only, sense_only, emit, fresh, consistent, return, TProgram}
+use Rattle.oc_tree.specs.Tree.{right_call, TKind, let_to, let_array, assign, assign_index, assign_deref, if_else, for_in, while_do, call_only, sense_only, emit, fresh, consistent, return, TProgram}
 use Rattle.oc_tree.specs.Form.{KindInForm}
-use Rattle.oc_tree.specs.Pulls.{expr_pulls, own_pulls, inner_pulls, own_skips, right_skips}
-use Rattle.oc_tree.specs.Calls.{own_calls}
+use Rattle.oc_tree.specs.Pulls.{expr_pulls, own_pulls, own_skips, right_skips}
 use Rattle.oc_tree.specs.Scope.{variable_of, variable_in, is_variable, is_among}
 use Rattle.oc_tree.specs.Types.{value_type, pointed_type, has_elements, is_int, is_bool, is_same, type_of, right_type}
 use Rattle.oc_tree.specs.Elements.{Here}
 use Rattle.oc_tree.specs.Limits.{Tally, statement_passes}
 use Rattle.oc_tree.specs.Broken.{statement_rules, lowest}
-use Rattle.oc_tree.specs.Rules.{takes_name, expr_known, right_known, own_known, expr_fits, right_fits, own_fits, written_differs, sides_differ, condition_is_number, let_bad_length, target_fixed, array_fixed, pointee_fixed, origin_is, is_writable, is_writable_array, is_mutable_param, is_let_in, annotates_other, returns_elsewhere, has_many_turns, lends_apart, nv_disturbed, pulls_disturb, used_calls}
-use Rattle.oc_tree.specs.Expansion.{left_expr, left_call, left_right, expand_kind}
+use Rattle.oc_tree.specs.Rules.{takes_name, expr_known, right_known, own_known, expr_fits, right_fits, own_fits, written_differs, sides_differ, condition_is_number, let_bad_length, target_fixed, array_fixed, pointee_fixed, origin_is, is_writable, is_writable_array, is_mutable_param, is_let_in, annotates_other, returns_elsewhere, has_many_turns, pulls_disturb}
+use Rattle.oc_tree.specs.Expansion.{left_expr, left_right, expand_kind}
 use Rattle.oc_desugar.proofs.Seen.{SameTop, SameReach, SameHere, HeldOwn}
 use Rattle.oc_desugar.proofs.NoPulls.{none_expr, none_kind}
 use Rattle.oc_desugar.proofs.HeldParts.{HeldKind, held_kind}
 use Rattle.oc_desugar.proofs.KeptLookups.{SameNames, same_taken, same_sensor, same_port, same_is_variable, same_value_type, same_pointed_type, same_elements, same_test, new_test, new_writable, new_writable_array, new_mutable, new_let_in}
 use Rattle.oc_desugar.proofs.KeptExpressions.{first_holds, second_holds, both_hold, none_skipped_expr, none_skipped, same_type, same_right_type, known_expr, known_call, known_right, fits_expr, fits_call, fits_right}
-use Rattle.oc_desugar.proofs.FineCalls.{CallFine, Gives, Each, each_own, each_used, fine_left, gives_left}
+use Rattle.oc_desugar.proofs.FineCalls.{CallFine, Gives, each_own, each_used, fine_left, gives_left}
 use Rattle.oc_desugar.proofs.Unbroken.{Unbroken, unbroken, stays_unbroken}
 
 -- ---- what doesn't look at names
@@ -170,7 +169,7 @@ module _ {p q : TProgram} {f : ℕ → ℕ} {h g : Here} (top : SameTop p q) (he
   -- ---- all rules
 
   module _ (reach : SameReach p q) where
-    pub unbroken_left : g.last ≡ h.last → (k i : ℕ) (s : TKind) → KindInForm IsName s → HeldKind p g.scope k s → Unbroken p h s → Unbroken q g (expand_kind k i s)
+    unbroken_left : g.last ≡ h.last → (k i : ℕ) (s : TKind) → KindInForm IsName s → HeldKind p g.scope k s → Unbroken p h s → Unbroken q g (expand_kind k i s)
     unbroken_left last k i s o t u = record {
       taken = same_takes k i s o ∙ u.taken;
       known = known_own k i s o t u.known;

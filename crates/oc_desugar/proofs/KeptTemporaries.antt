@@ -1,6 +1,6 @@
 -- The `let` of each temporary breaks no rule but maybe that of the counts, where the written statement breaks none and
 -- the temporaries before it are held; and behind it its temporary is held too.
-use Rattle.std.proofs.Common.{◌≡◌, ℕ, ◌+◌, Bool, true, false, List, [], ◌∷◌, ◌++◌, length, ◌⊎◌, inl, inr, Option, Some, None, refl, ap, sym, subst, ◌∙◌}
+use Rattle.std.proofs.Common.{◌≡◌, ℕ, ◌+◌, Bool, true, false, List, [], ◌∷◌, ◌++◌, length, inl, inr, Option, Some, None, refl, ap, ◌∙◌}
 use Rattle.std.specs.Prelude.{nat_lt, is_some, ◌&&◌, ◌||◌}
 use Rattle.oc_lex.specs.Stands.{IsName}
 use Rattle.oc_tree.specs.Tree.{TExpr, TCall, call, TRight, right_value, right_sense, right_call, TKind, let_to, let_array, assign, assign_index, assign_deref, if_else, for_in, while_do, call_only, sense_only, emit, fresh, consistent, return, TProgram}
@@ -14,7 +14,7 @@ use Rattle.oc_tree.specs.Types.{has_elements, is_int, type_of, pointed_type, sca
 use Rattle.oc_tree.specs.Elements.{Here, let_var, kind_of, scope_after}
 use Rattle.oc_tree.specs.Limits.{Tally, statement_passes}
 use Rattle.oc_tree.specs.Broken.{statement_rules, lowest}
-use Rattle.oc_tree.specs.Rules.{expr_known, right_known, passed_on, expr_fits, right_fits, args_known, lends_apart, nv_disturbed}
+use Rattle.oc_tree.specs.Rules.{expr_known, right_known, passed_on, expr_fits, right_fits}
 use Rattle.oc_tree.specs.Expansion.{temporary, pulled_expr, pulled_right, pulled}
 use Rattle.oc_tree.proofs.ReachLaws.{or_right}
 use Rattle.oc_desugar.proofs.Seen.{SameTop, SameReach, SameHere, NoTemporary, IsHeld, pull_type, HeldPulls}
@@ -23,7 +23,7 @@ use Rattle.oc_desugar.proofs.KeptLookups.{same_declared}
 use Rattle.oc_desugar.proofs.KeptExpressions.{first_holds, second_holds}
 use Rattle.oc_desugar.proofs.FineCalls.{CallFine, Gives, Each, each_front, each_back}
 use Rattle.oc_desugar.proofs.Unbroken.{Unbroken, unbroken, stays_unbroken}
-use Rattle.oc_desugar.proofs.PullSplits.{no_place, first_or_second, found_last, sees_more}
+use Rattle.oc_desugar.proofs.PullSplits.{no_place, first_or_second, found_last}
 use Rattle.oc_desugar.proofs.FinePulls.{ExprFine, ArgsFine, PullFine, fine_expr, fine_args, behind}
 
 -- ---- the pulls of a right side
@@ -161,12 +161,3 @@ temporary_held {p = p} {q = q} {h = h} {g = g} top reach here n k s o front back
       typed = ap (λ y. scalar_of (kind_of y)) w.typed ∙ scalar_of_kind (pull_type p r) w.some;
       some = w.some;
     }
-
--- and its place is still that of the written statement
-pub temporary_here : (q : TProgram) (f : ℕ → ℕ) (h g : Here) → SameHere f h g → (id j : ℕ) (r : TRight) → SameHere f h (record g { scope = scope_after q g id (let_to false (temporary j) None r) })
-temporary_here q f h g here id j r = record {
-  head = here.head;
-  number = here.number;
-  scope = sees_more f h.scope g.scope j (let_var g id false (kind_of (right_type q g.scope r))) here.scope;
-  block = here.block;
-}

@@ -20,7 +20,7 @@ mutual
   pub none_call : (k : ℕ) (c : TCall) → call_pulls (left_call k c) ≡ 0
   none_call k (call f args) = none_args k args
 
-  pub none_args : (k : ℕ) (xs : TArgs) → args_pulls (left_args k xs) ≡ 0
+  none_args : (k : ℕ) (xs : TArgs) → args_pulls (left_args k xs) ≡ 0
   none_args k no_args = refl
   none_args k (more_args a rest) = omega (arith, none_arg k a, none_args (k + arg_pulls a) rest)
 
@@ -29,7 +29,7 @@ mutual
   none_arg k (shared x) = refl
   none_arg k (mutable x) = refl
 
-pub none_right : (k : ℕ) (r : TRight) → right_pulls (left_right k r) ≡ 0
+none_right : (k : ℕ) (r : TRight) → right_pulls (left_right k r) ≡ 0
 none_right k (right_value e) = none_expr k e
 none_right k (right_sense s) = refl
 none_right k (right_call c) = none_call k c

@@ -92,14 +92,14 @@ statements_listed p = functions_listed 1 (expansion p).functions (numbered p) �
 -- ---- and the other way round
 
 -- a list of numbers that follow each other, from `i` on
-abbrev Follow : ℕ → List ℕ → Type 0
+abbrev pub Follow : ℕ → List ℕ → Type 0
 Follow i xs = xs ≡ numbers_on i (length xs)
 
-first_of : (x i : ℕ) (xs : List ℕ) → Follow i (x ∷ xs) → (x ≡ i) × Follow (suc i) xs
+pub first_of : (x i : ℕ) (xs : List ℕ) → Follow i (x ∷ xs) → (x ≡ i) × Follow (suc i) xs
 first_of x i xs h = (cc h, cc h)
 
 -- each of two that follow each other does
-parts : (i : ℕ) (xs ys : List ℕ) → Follow i (xs ++ ys) → Follow i xs × Follow (i + length xs) ys
+pub parts : (i : ℕ) (xs ys : List ℕ) → Follow i (xs ++ ys) → Follow i xs × Follow (i + length xs) ys
 parts i [] ys h = let e : i ≡ i + 0 = omega arith in (refl, subst (λ j. Follow j ys) e h)
 parts i (x ∷ xs) ys h =
     let a = first_of x i (xs ++ ys) h in

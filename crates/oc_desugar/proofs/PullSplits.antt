@@ -1,8 +1,6 @@
 -- Where a pull stands in a list of pulls, or a variable in a scope.
-use Rattle.std.proofs.Common.{◌≡◌, ℕ, ◌+◌, Bool, true, false, true≢false, List, [], ◌∷◌, ◌++◌, length, ◌⊎◌, inl, inr, Option, Some, None, cond, refl, ap, sym, subst, ◌∙◌, arith}
-use Rattle.std.specs.Prelude.{is_some, option_map}
+use Rattle.std.proofs.Common.{◌≡◌, ℕ, ◌+◌, Bool, true, false, List, [], ◌∷◌, ◌++◌, length, ◌⊎◌, inl, inr, Option, Some, None, cond, refl, ap, sym, subst, ◌∙◌, arith}
 use Rattle.std.specs.Str.{bytes_eq}
-use Rattle.oc_lex.specs.Stands.{IsName}
 use Rattle.oc_tree.specs.Names.{Text}
 use Rattle.oc_tree.specs.Tree.{TRight, TProgram}
 use Rattle.oc_tree.specs.declared.tree.Scalar.{Scalar}
@@ -45,7 +43,7 @@ first_or_second (x ∷ xs) ys (y ∷ front) back r e =
 -- ---- scopes
 
 -- what stands in a scope stands there with more behind it
-pub found_more : (s more : Scope) (x : Text) (v : Var) → variable_in s x ≡ Some v → variable_in (s ++ more) x ≡ Some v
+found_more : (s more : Scope) (x : Text) (v : Var) → variable_in s x ≡ Some v → variable_in (s ++ more) x ≡ Some v
 found_more [] more x v e = let none : None ≡ Some v = e in absurd (cc)
 found_more (w ∷ ws) more x v e = by (bytes_eq x w.0) (found_more ws more x v) e
   where
@@ -74,7 +72,7 @@ pub sees_more : (f : ℕ → ℕ) (s t : Scope) (k : ℕ) (v : Var) → Sees f s
 sees_more f s t k v sees x n = found_before t x (temporary k) v (apart x n k) ∙ sees x n
 
 -- what is held is held with more behind it
-pub held_more : (t more : Scope) (k : ℕ) (type : Option Scalar) → IsHeld t k type → IsHeld (t ++ more) k type
+held_more : (t more : Scope) (k : ℕ) (type : Option Scalar) → IsHeld t k type → IsHeld (t ++ more) k type
 held_more t more k type h = record { var = h.var; visible = found_more t more (temporary k) h.var h.visible; own = h.own; typed = h.typed; some = h.some }
 
 pub pulls_held_more : (p : TProgram) (t more : Scope) (k : ℕ) (rs : List TRight) → HeldPulls p t k rs → HeldPulls p (t ++ more) k rs

@@ -1,5 +1,5 @@
 -- A statement that breaks no rule, but maybe that of the counts, rule by rule.
-use Rattle.std.proofs.Common.{◌≡◌, ℕ, Bool, true, false, true≢false, List, [], ◌∷◌, Option, Some, None, cond, refl, ap, sym, subst, ◌∙◌}
+use Rattle.std.proofs.Common.{◌≡◌, Bool, true, false, true≢false, [], ◌∷◌, Some, None, cond, refl, ap, sym, ◌∙◌}
 use Rattle.std.specs.Prelude.{not}
 use Rattle.oc_tree.specs.Tree.{TKind, TProgram}
 use Rattle.oc_tree.specs.Pulls.{own_skips}
@@ -7,7 +7,7 @@ use Rattle.oc_tree.specs.Calls.{own_calls}
 use Rattle.oc_tree.specs.Elements.{Here}
 use Rattle.oc_tree.specs.Limits.{Tally, statement_passes}
 use Rattle.oc_tree.specs.Broken.{Table, statement_rules, lowest}
-use Rattle.oc_tree.specs.Rules.{takes_name, own_known, calls_main, own_fits, sides_differ, condition_is_number, used_calls, let_bad_length, target_fixed, array_fixed, pointee_fixed, annotates_other, returns_elsewhere, has_many_turns, pulls_disturb}
+use Rattle.oc_tree.specs.Rules.{takes_name, own_known, own_fits, sides_differ, condition_is_number, used_calls, let_bad_length, target_fixed, array_fixed, pointee_fixed, annotates_other, returns_elsewhere, has_many_turns, pulls_disturb}
 use Rattle.oc_desugar.proofs.FineCalls.{CallFine, Gives, Each, fine_from_rules, none_main, all_meet, all_lend, all_alone, none_exposes, none_back, gives_from_rule, all_give}
 
 -- ---- tables
@@ -25,7 +25,7 @@ none_broken (r ∷ rs) h = by r.1 refl (none_broken rs)
     by true e rest = let some : Some r.0 ≡ None = sym (ap (λ c. cond c (Some r.0) (lowest rs)) e) ∙ h in absurd (cc)
     by false e rest = (e, rest (sym (ap (λ c. cond c (Some r.0) (lowest rs)) e) ∙ h))
 
-pub passes_all : (rs : Table) → Passes rs → lowest rs ≡ None
+passes_all : (rs : Table) → Passes rs → lowest rs ≡ None
 passes_all [] h = refl
 passes_all (r ∷ rs) h = ap (λ b. cond b (Some r.0) (lowest rs)) h.0 ∙ passes_all rs h.1
 
@@ -96,74 +96,33 @@ unbroken p n h k e =
       undisturbed = r26.0;
     }
 
+-- one more rule that passes
+also : {A B : Type 0} → A → B → A × B
+also a b = (a, b)
+
 -- with its counts within the limits it breaks none
 pub stays_unbroken : (p : TProgram) (n : Tally) (h : Here) (k : TKind) → Unbroken p h k → statement_passes n ≡ false → lowest (statement_rules p n h k) ≡ None
 stays_unbroken p n h k u counts =
     let cs = own_calls k in
-    passes_all (statement_rules p n h k) (
-      u.taken,
-      (
-        ap not u.known,
-        (
-          none_main p h cs u.calls,
-          (
-            ap not u.fits,
-            (
-              u.sides,
-              (
-                u.condition,
-                (
-                  ap not (all_meet p h cs u.calls),
-                  (
-                    ap not (all_give p (used_calls k) u.gives),
-                    (
-                      u.lengths,
-                      (
-                        u.target,
-                        (
-                          u.array,
-                          (
-                            u.pointee,
-                            (
-                              ap not (all_lend p h cs u.calls),
-                              (
-                                ap not (all_alone p h cs u.calls),
-                                (
-                                  none_exposes p h cs u.calls,
-                                  (
-                                    u.annotates,
-                                    (
-                                      u.returns,
-                                      (
-                                        none_back p h cs u.calls,
-                                        (
-                                          u.turns,
-                                          (
-                                            counts,
-                                            (
-                                              u.skips,
-                                              (
-                                                u.undisturbed,
-                                                tt,
-                                              ),
-                                            ),
-                                          ),
-                                        ),
-                                      ),
-                                    ),
-                                  ),
-                                ),
-                              ),
-                            ),
-                          ),
-                        ),
-                      ),
-                    ),
-                  ),
-                ),
-              ),
-            ),
-          ),
-        ),
-      ),
-    )
+    let r26 = also u.undisturbed tt in
+    let r25 = also u.skips r26 in
+    let r22 = also counts r25 in
+    let r21 = also u.turns r22 in
+    let r20 = also (none_back p h cs u.calls) r21 in
+    let r19 = also u.returns r20 in
+    let r18 = also u.annotates r19 in
+    let r16 = also (none_exposes p h cs u.calls) r18 in
+    let r15 = also (ap not (all_alone p h cs u.calls)) r16 in
+    let r14 = also (ap not (all_lend p h cs u.calls)) r15 in
+    let r13 = also u.pointee r14 in
+    let r12 = also u.array r13 in
+    let r11 = also u.target r12 in
+    let r10 = also u.lengths r11 in
+    let r9 = also (ap not (all_give p (used_calls k) u.gives)) r10 in
+    let r8 = also (ap not (all_meet p h cs u.calls)) r9 in
+    let r7 = also u.condition r8 in
+    let r6 = also u.sides r7 in
+    let r5 = also (ap not u.fits) r6 in
+    let r4 = also (none_main p h cs u.calls) r5 in
+    let r3 = also (ap not u.known) r4 in
+    passes_all (statement_rules p n h k) (also u.taken r3)

@@ -9,7 +9,7 @@ mod groups;
 pub mod laws;
 mod parts;
 mod program;
-mod pulls;
+pub mod pulls;
 
 pub use checked::expand;
 pub use program::expand_program;

@@ -5,8 +5,9 @@ ghost use Rattle.oc_tree.specs.Pulls.{arg_pulls, call_pulls, expr_pulls, own_pul
 
 use oc_tree::tree::{Arg, Call, Expr, Right, StmtKind};
 
+/// The pulls of an expression.
 #[cycle(pulls)]
-fn expr_pulls(expr: &Expr) -> u32
+pub fn expr_pulls(expr: &Expr) -> u32
     requires { expr_pulls (expr_view expr.now) < 2 ^ 32 }
     ensures { result ≡ expr_pulls (expr_view expr.now) }
 {

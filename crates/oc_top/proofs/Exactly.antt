@@ -129,6 +129,7 @@ usage_is answer.Usage e = refl
 usage_is (answer.Unreadable word) e = absurd (omega (arith, e))
 usage_is (answer.TooLong word) e = absurd (omega (arith, e))
 usage_is (answer.Syntax line) e = absurd (omega (arith, e))
+usage_is (answer.Rule line rule) e = absurd (omega (arith, e))
 usage_is (answer.NotBuilt line) e = absurd (omega (arith, e))
 usage_is (answer.BadSensors row) e = absurd (omega (arith, e))
 usage_is (answer.BadPower row) e = absurd (omega (arith, e))
@@ -159,6 +160,7 @@ module _ (parts : Parts) (plan : Plan) where
 
 no_usage_verdict : (reading : Reading) (files : Files) (plan : Plan) → is_usage (verdict reading files plan).answer ≡ false
 no_usage_verdict (faulty line) files plan = refl
+no_usage_verdict (source.breaks b) files plan = refl
 no_usage_verdict (source.other line) files plan = refl
 no_usage_verdict (program p) files plan = no_usage_sensors (small_code p) plan (sensor_file (small_code p).names.sensors files.sensors) (power_file files.power)
 

@@ -1,6 +1,8 @@
 -- A source reads in one way.
-use Rattle.std.proofs.Common.{ℕ, ◌≡◌, ◌∙◌, sym, ap, subst, List, inl, inr}
+use Rattle.std.proofs.Common.{ℕ, ◌≡◌, ◌∙◌, sym, ap, subst, List, inl, inr, Option, Some}
 use Rattle.oc_tree.specs.Tree.{TProgram}
+use Rattle.oc_tree.specs.Broken.{broken}
+use Rattle.oc_tree.specs.declared.broken.Broken.{Broken}
 use Rattle.oc_lex.specs.declared.token.Token.{Token}
 use Rattle.oc_lex.proofs.TokenLaws.{tokens_same, not_both, faults_same}
 use Rattle.oc_grammar.specs.Limits.{the_depths}
@@ -11,7 +13,7 @@ use Rattle.oc_grammar.proofs.OneFault.{spelled_no_syntax, spelled_no_depth, one_
 use Rattle.oc_small.specs.Form.{other_line}
 use Rattle.oc_small.specs.Rules.{is_small}
 use Rattle.oc_top.specs.Faults.{HasFaultAt, token_line}
-use Rattle.oc_top.specs.Sources.{Reading, faulty, other, program, place_of, line_at, IsFaulty, no_tokens, no_tree, Spells, ReadsAs}
+use Rattle.oc_top.specs.Sources.{Reading, faulty, breaks, other, program, place_of, line_at, IsFaulty, no_tokens, no_tree, Spells, ReadsAs}
 
 -- tokens have one fault, and none where they spell a program
 one_fault : (tokens : Lexemes) (a b : ℕ) → HasFaultAt tokens a → HasFaultAt tokens b → a ≡ b
@@ -23,6 +25,9 @@ one_fault tokens a b (inr f) (inr g) = one_depth tokens a b f g
 no_fault : (tokens : Lexemes) (p : TProgram) (a : ℕ) → SpellsProgram the_depths p tokens → HasFaultAt tokens a → ⊥
 no_fault tokens p a s (inl f) = spelled_no_syntax tokens p a s f
 no_fault tokens p a s (inr f) = spelled_no_depth tokens p a s f
+
+some_same : (a b : Broken) → ◌≡◌ {A = Option Broken} (Some a) (Some b) → a ≡ b
+some_same a b e = cc
 
 module _ (text : List ℕ) where
   one_line : (m n : ℕ) → IsFaulty text m → IsFaulty text n → m ≡ n
@@ -45,13 +50,23 @@ module _ (text : List ℕ) where
       let same = tokens_same text s.tokens t.tokens s.are_tokens t.are_tokens in
       one_program the_depths (lexemes_of text s.tokens) p q s.spelled (subst (λ (vs : List Token). SpellsProgram the_depths q (lexemes_of text vs)) same t.spelled)
 
+  same_broken : (p q : TProgram) → Spells text p → Spells text q → broken p ≡ broken q
+  same_broken p q s t = ap broken (same_program p q s t)
+
   pub one_reading : (r s : Reading) → ReadsAs text r → ReadsAs text s → r ≡ s
   one_reading (faulty m) (faulty n) a b = ap faulty (one_line m n a b)
+  one_reading (faulty m) (breaks n) a b = absurd (not_faulty m b.0 b.1 a)
   one_reading (faulty m) (other n) a b = absurd (not_faulty m b.0 b.1 a)
   one_reading (faulty m) (program q) a b = absurd (not_faulty m q b.0 a)
+  one_reading (breaks m) (faulty n) a b = absurd (not_faulty n a.0 a.1 b)
+  one_reading (breaks m) (breaks n) a b = let e = sym a.2 ∙ same_broken a.0 b.0 a.1 b.1 ∙ b.2 in ap breaks (some_same m n e)
+  one_reading (breaks m) (other n) a b = let e = sym a.2 ∙ same_broken a.0 b.0 a.1 b.1 ∙ b.2 in cc e
+  one_reading (breaks m) (program q) a b = let e = sym a.2 ∙ same_broken a.0 q a.1 b.0 ∙ b.1 in cc e
   one_reading (other m) (faulty n) a b = absurd (not_faulty n a.0 a.1 b)
-  one_reading (other m) (other n) a b = ap other (a.3 ∙ ap other_line (same_program a.0 b.0 a.1 b.1) ∙ sym b.3)
-  one_reading (other m) (program q) a b = let e = sym a.2 ∙ ap is_small (same_program a.0 q a.1 b.0) ∙ b.1 in cc e
+  one_reading (other m) (breaks n) a b = let e = sym b.2 ∙ same_broken b.0 a.0 b.1 a.1 ∙ a.2 in cc e
+  one_reading (other m) (other n) a b = ap other (a.4 ∙ ap other_line (same_program a.0 b.0 a.1 b.1) ∙ sym b.4)
+  one_reading (other m) (program q) a b = let e = sym a.3 ∙ ap is_small (same_program a.0 q a.1 b.0) ∙ b.2 in cc e
   one_reading (program p) (faulty n) a b = absurd (not_faulty n p a.0 b)
-  one_reading (program p) (other n) a b = let e = sym b.2 ∙ ap is_small (same_program b.0 p b.1 a.0) ∙ a.1 in cc e
+  one_reading (program p) (breaks n) a b = let e = sym b.2 ∙ same_broken b.0 p b.1 a.0 ∙ a.1 in cc e
+  one_reading (program p) (other n) a b = let e = sym b.3 ∙ ap is_small (same_program b.0 p b.1 a.0) ∙ a.2 in cc e
   one_reading (program p) (program q) a b = ap program (same_program p q a.0 b.0)

@@ -19,7 +19,7 @@ use Rattle.oc_machine.specs.Kept.{Running}
 use Rattle.oc_top.proofs.Readings.{shown_words}
 use Rattle.oc_top.specs.Commands.{Plan}
 use Rattle.oc_top.specs.Files.{Files}
-use Rattle.oc_top.specs.Sources.{faulty, other, program}
+use Rattle.oc_top.specs.Sources.{faulty, breaks, other, program}
 use Rattle.oc_top.specs.Verdict.{verdict, with_parts, with_sensors, with_power}
 use Rattle.oc_top.specs.Steps.{IsBuilt, IsNotBuilt, IsReady, IsTurnedDown, by_memory, by_files, for_sensors, for_power}
 use Rattle.oc_top.specs.declared.answer.Answer.{Answer}
@@ -28,6 +28,7 @@ use Rattle.oc_top.specs.declared.answer.Answer.TheVariants as answer
 module _ (files : Files) (plan : Plan) where
   pub not_built : (end : Answer) → IsNotBuilt files.source end → IsTurnedDown files plan end
   not_built (answer.Syntax line) r = by_files (faulty line) r refl refl
+  not_built (answer.Rule line rule) r = by_files (breaks (record { line = line; rule = rule })) r refl refl
   not_built (answer.NotBuilt line) r = by_files (other line) r refl refl
   not_built answer.Memory r = by_memory refl
   not_built end r = absurd r

@@ -1,6 +1,8 @@
 -- What a source is.
-use Rattle.std.specs.Prelude.{ℕ, ◌+◌, ◌≡◌, true, false, List, take}
+use Rattle.std.specs.Prelude.{ℕ, ◌+◌, ◌≡◌, true, false, List, Some, None, take}
 use Rattle.oc_tree.specs.Tree.{TProgram}
+use Rattle.oc_tree.specs.Broken.{broken}
+use Rattle.oc_tree.specs.declared.broken.Broken.{Broken}
 use Rattle.oc_lex.specs.Tokens.{AreTokens, HasFault, line_feeds}
 use Rattle.oc_lex.specs.declared.token.Token.{Token}
 use Rattle.oc_lex.specs.declared.lexer.LexError.{LexError}
@@ -12,10 +14,11 @@ use Rattle.oc_small.specs.Form.{other_line}
 use Rattle.oc_small.specs.Rules.{is_small}
 use Rattle.oc_top.specs.Faults.{HasFaultAt, token_line}
 
--- no program: the first fault is in this line. A program that isn't small, which is told by this line. Or the small
--- program that it spells
+-- No program: the first fault is in this line. A program that breaks a rule: the first one that it breaks. A program that
+-- isn't small, which is told by this line. Or the small program that it spells
 pub data Reading : Type 0 where
   faulty : (line : ℕ) → Reading
+  breaks : Broken → Reading
   other : (line : ℕ) → Reading
   program : TProgram → Reading
 
@@ -42,5 +45,6 @@ pub record Spells (source : List ℕ) (p : TProgram) : Type 0 where
 -- this is how a source reads
 abbrev pub ReadsAs : List ℕ → Reading → Type 0
 ReadsAs source (faulty line) = IsFaulty source line
-ReadsAs source (other line) = (p : TProgram) × Spells source p × (is_small p ≡ false) × (line ≡ other_line p)
-ReadsAs source (program p) = Spells source p × (is_small p ≡ true)
+ReadsAs source (breaks b) = (p : TProgram) × Spells source p × (broken p ≡ Some b)
+ReadsAs source (other line) = (p : TProgram) × Spells source p × (broken p ≡ None) × (is_small p ≡ false) × (line ≡ other_line p)
+ReadsAs source (program p) = Spells source p × (broken p ≡ None) × (is_small p ≡ true)

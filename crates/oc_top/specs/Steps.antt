@@ -1,5 +1,5 @@
 -- The steps before the first byte is written.
-use Rattle.std.specs.Prelude.{ℕ, ◌<◌, ◌^◌, ◌≡◌, true, false, List, length}
+use Rattle.std.specs.Prelude.{ℕ, ◌<◌, ◌^◌, ◌≡◌, true, false, List, length, None}
 use Rattle.oc_io.specs.declared.period.Period.{Period}
 use Rattle.oc_power.specs.Power.{Power, power_file}
 use Rattle.oc_power.specs.Power as power_rows
@@ -10,6 +10,7 @@ use Rattle.oc_sensors.specs.File.{sensor_file}
 use Rattle.oc_sensors.specs.File as sensor_rows
 use Rattle.oc_sensors.specs.History.{Told, history}
 use Rattle.oc_tree.specs.Tree.{TProgram}
+use Rattle.oc_tree.specs.Broken.{broken}
 use Rattle.oc_tree.specs.Word.{is_word}
 use Rattle.oc_sensors.specs.declared.file.SensorError.{SensorError}
 use Rattle.oc_sensors.specs.declared.file.SensorError.TheVariants as sensor_error
@@ -18,6 +19,8 @@ use Rattle.oc_lex.specs.declared.lexer.LexError.TheVariants as lex_error
 use Rattle.oc_grammar.specs.Lexemes.{Lexemes}
 use Rattle.oc_parse.specs.declared.program.ParseError.{ParseError}
 use Rattle.oc_parse.specs.declared.program.ParseError.TheVariants as parse_error
+use Rattle.oc_types.specs.declared.rules.RuleError.{RuleError}
+use Rattle.oc_types.specs.declared.rules.RuleError.TheVariants as rule_error
 use Rattle.oc_isa.specs.Image.{Parts}
 use Rattle.oc_isa.specs.Power.{first_state}
 use Rattle.oc_isa.specs.Run.{IsSound}
@@ -28,7 +31,7 @@ use Rattle.oc_small.specs.Meant.{RunsAs}
 use Rattle.oc_top.specs.Commands.{Plan}
 use Rattle.oc_top.specs.Files.{Files}
 use Rattle.oc_top.specs.Faults.{token_line}
-use Rattle.oc_top.specs.Sources.{Reading, ReadsAs, faulty, other, program, line_at}
+use Rattle.oc_top.specs.Sources.{Reading, ReadsAs, Spells, faulty, breaks, other, program, line_at}
 use Rattle.oc_top.specs.Verdict.{verdict, is_of_run, refuses}
 use Rattle.oc_top.specs.declared.answer.Answer.{Answer}
 use Rattle.oc_top.specs.declared.answer.Answer.TheVariants as answer
@@ -44,6 +47,11 @@ for_tree tokens (parse_error.Syntax token) = answer.Syntax (token_line tokens to
 for_tree tokens (parse_error.Depth token) = answer.Syntax (token_line tokens token)
 for_tree tokens parse_error.Memory = answer.Memory
 
+-- the answer to a program that breaks a rule
+abbrev pub for_rules : RuleError → Answer
+for_rules (rule_error.Rule line rule) = answer.Rule line rule
+for_rules rule_error.Memory = answer.Memory
+
 -- the answer to a sensor file that wasn't read, and to such a power file
 abbrev pub for_sensors : SensorError → Answer
 for_sensors (sensor_error.Row row what) = answer.BadSensors row
@@ -52,6 +60,11 @@ for_sensors sensor_error.Memory = answer.Memory
 abbrev pub for_power : PowerError → Answer
 for_power (power_error.Row row what) = answer.BadPower row
 for_power power_error.Memory = answer.Memory
+
+-- the program that a source spells, where it breaks no rule
+pub record IsAccepted (source : List ℕ) (p : TProgram) : Type 0 where
+  pub spelled : Spells source p
+  pub unbroken : broken p ≡ None
 
 -- the image of the small program that a source spells
 pub record IsBuilt (source : List ℕ) (parts : Parts) : Type 0 where
@@ -64,6 +77,7 @@ pub record IsBuilt (source : List ℕ) (parts : Parts) : Type 0 where
 -- why there is no image of a source
 abbrev pub IsNotBuilt : List ℕ → Answer → Type 0
 IsNotBuilt source (answer.Syntax line) = ReadsAs source (faulty line)
+IsNotBuilt source (answer.Rule line rule) = ReadsAs source (breaks (record { line = line; rule = rule }))
 IsNotBuilt source (answer.NotBuilt line) = ReadsAs source (other line)
 IsNotBuilt source answer.Memory = Unit {0}
 IsNotBuilt source end = ⊥

@@ -57,5 +57,6 @@ with_parts parts files plan = with_sensors parts (sensor_file parts.names.sensor
 -- sensors and the power that can't be read, or the run
 abbrev pub verdict : Reading → Files → Plan → Verdict
 verdict (faulty line) files plan = refuses (answer.Syntax line)
+verdict (source.breaks b) files plan = refuses (answer.Rule b.line b.rule)
 verdict (source.other line) files plan = refuses (answer.NotBuilt line)
 verdict (program p) files plan = with_parts (small_code p) files plan

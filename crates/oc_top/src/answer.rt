@@ -20,6 +20,8 @@ pub enum Answer {
     TooLong { word: usize },
     /// The source isn't tokens that spell a program within the depths.
     Syntax { line: usize },
+    /// The first element of the program that breaks a rule, and the lowest rule that it breaks.
+    Rule { line: u32, rule: u8 },
     /// The source is a program, and no small one.
     NotBuilt { line: u32 },
     /// The first bad row of the sensor file.
@@ -50,6 +52,7 @@ pub fn status(answer: Answer) -> u8
         Answer::Unreadable { .. } => 2,
         Answer::TooLong { .. } => 3,
         Answer::Syntax { .. } => 4,
+        Answer::Rule { .. } => 5,
         Answer::BadSensors { .. } => 6,
         Answer::BadPower { .. } => 7,
         Answer::Trapped => 8,
@@ -91,6 +94,15 @@ fn put_line_of<E: Sink>(answer: Answer, words: &[String], err: &mut E) -> Result
         Answer::Syntax { line } => {
             let line = number.format(line).as_bytes();
             put_pieces(err, &[b"ocelot: syntax error in line ", line, b"\n"])
+        }
+        Answer::Rule { line, rule } => {
+            let mut digits = Buffer::new();
+            let rule = digits.format(rule).as_bytes();
+            let line = number.format(line).as_bytes();
+            put_pieces(
+                err,
+                &[b"ocelot: rule ", rule, b" broken in line ", line, b"\n"],
+            )
         }
         Answer::NotBuilt { line } => {
             let line = number.format(line).as_bytes();

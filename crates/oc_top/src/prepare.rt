@@ -1,13 +1,16 @@
 //! The steps before the first byte is written.
 ghost use Rattle.std.specs.Prelude.{◌≡◌, ◌≤◌, ℕ, List, length, IfOk, IfErr};
 ghost use Rattle.oc_tree.specs.View.{program_view};
+ghost use Rattle.oc_tree.specs.Form.{InForm};
+ghost use Rattle.oc_tree.specs.Nodes.{program_nodes};
+ghost use Rattle.oc_lex.specs.Stands.{IsName};
 ghost use Rattle.oc_lex.specs.Tokens.{AreTokens, line_feeds};
 ghost use Rattle.oc_grammar.specs.Lexemes.{lexemes_of};
 ghost use Rattle.oc_sensors.specs.File.{Explains, readings, sensor_file};
 ghost use Rattle.oc_top.specs.Files.{bytes_of};
 ghost use Rattle.oc_top.specs.Faults.{token_line};
 ghost use Rattle.oc_top.specs.Sources.{Spells, line_at};
-ghost use Rattle.oc_top.specs.Steps.{IsBuilt, IsNotBuilt, IsReady, IsTurnedDown, for_power, for_sensors, for_tokens, for_tree};
+ghost use Rattle.oc_top.specs.Steps.{IsAccepted, IsBuilt, IsNotBuilt, IsReady, IsTurnedDown, for_power, for_rules, for_sensors, for_tokens, for_tree};
 ghost use Rattle.oc_top.specs.declared.answer.Answer.TheVariants as answers;
 
 use crate::answer::Answer;
@@ -23,6 +26,8 @@ use oc_sensors::file::{SensorError, read_sensors};
 use oc_sensors::sensors::Sensors;
 use oc_small::{CompileError, compile};
 use oc_tree::tree::Program;
+use oc_tree::written::Written;
+use oc_types::{RuleError, check};
 use std::alloc::Global;
 
 /// A newly loaded machine, and the sensors that it reads.
@@ -110,10 +115,20 @@ fn answer_without_tree(tokens: &[Token], error: ParseError) -> Answer
     }
 }
 
+fn answer_without_rules(error: RuleError) -> Answer
+    ensures { result ≡ for_rules error }
+{
+    match error {
+        RuleError::Rule { line, rule } => Answer::Rule { line, rule },
+        RuleError::Memory => Answer::Memory,
+    }
+}
+
 /// The tokens of a source.
 fn tokens_of(alloc: Global, source: &[u8]) -> Result<Vec<Token>, Answer>
     requires { length source.now ≤ 1048576 }
     ensures tokens { IfOk result (λ ts. AreTokens source.now ts.items) }
+    ensures few { IfOk result (λ ts. length ts.items ≤ length source.now) }
     ensures refused { IfErr result (λ a. IsNotBuilt source.now a) }
 {
     match lex(alloc, source) {
@@ -126,6 +141,8 @@ fn tokens_of(alloc: Global, source: &[u8]) -> Result<Vec<Token>, Answer>
 fn program_of(alloc: Global, source: &[u8]) -> Result<Program, Answer>
     requires { length source.now ≤ 1048576 }
     ensures spelled { IfOk result (λ p. Spells source.now (program_view p)) }
+    ensures form { IfOk result (λ p. InForm IsName (program_view p)) }
+    ensures nodes { IfOk result (λ p. program_nodes (program_view p) ≤ 1048576) }
     ensures refused { IfErr result (λ a. IsNotBuilt source.now a) }
 {
     let tokens = tokens_of(alloc, source)?;
@@ -135,14 +152,27 @@ fn program_of(alloc: Global, source: &[u8]) -> Result<Program, Answer>
     }
 }
 
+/// The program that a source spells, where it breaks no rule.
+fn written(alloc: Global, source: &[u8]) -> Result<Written, Answer>
+    requires { length source.now ≤ 1048576 }
+    ensures accepted { IfOk result (λ w. IsAccepted source.now w) }
+    ensures refused { IfErr result (λ a. IsNotBuilt source.now a) }
+{
+    let program = program_of(alloc, source)?;
+    match check(alloc, program) {
+        Ok(written) => Ok(written),
+        Err(error) => Err(answer_without_rules(error)),
+    }
+}
+
 /// The image of the small program that a source spells.
 fn build(alloc: Global, source: &[u8]) -> Result<Image, Answer>
     requires { length source.now ≤ 1048576 }
     ensures built { IfOk result (λ i. IsBuilt source.now i) }
     ensures refused { IfErr result (λ a. IsNotBuilt source.now a) }
 {
-    let program = program_of(alloc, source)?;
-    match compile(alloc, &program) {
+    let written = written(alloc, source)?;
+    match compile(alloc, written.program()) {
         Ok(image) => Ok(image),
         Err(CompileError::NotSmall { line }) => Err(Answer::NotBuilt { line }),
         Err(CompileError::Memory) => Err(Answer::Memory),

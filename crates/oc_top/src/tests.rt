@@ -162,10 +162,9 @@ fn call_case(alloc: Global, case: &Case, faults: Faults) -> Result<Called, Fail>
 }
 
 /// Refused words, files and sources.
-fn refusals() -> [Case; 17] {
+fn refusals() -> [Case; 18] {
     let fine = "on,off\n6,0\n";
     let syntax = "ocelot: syntax error in line 1\n";
-    let not_built = "ocelot: not built in line 1\n";
     [
         refused("fn main() { let x = 1 @ 2; }", NO_READINGS, fine, 4, syntax),
         refused(
@@ -203,7 +202,20 @@ fn refusals() -> [Case; 17] {
             13,
             "ocelot: not built in line 3\n",
         ),
-        refused("", NO_READINGS, fine, 13, not_built),
+        refused(
+            "",
+            NO_READINGS,
+            fine,
+            5,
+            "ocelot: rule 4 broken in line 1\n",
+        ),
+        refused(
+            "port r;\nfn main() {\n    emit(r, x);\n    emit(s, 1 - true);\n}",
+            NO_READINGS,
+            fine,
+            5,
+            "ocelot: rule 3 broken in line 3\n",
+        ),
         refused(
             SAMPLE,
             "time,sensor,value\n5,t,1\n4,t,2\n",

@@ -1,5 +1,5 @@
 -- What a walk that seeks a statement sees is where the statement stands.
-use Rattle.std.proofs.Common.{◌≡◌, refl, sym, ap, ◌∙◌, ℕ, ◌+◌, ◌-◌, ◌^◌, min, arith, Bool, true, false, ◌==◌, List, [], ◌∷◌, ◌++◌, Option, Some, None, cond}
+use Rattle.std.proofs.Common.{◌≡◌, refl, sym, ap, ◌∙◌, ℕ, ◌+◌, ◌-◌, ◌^◌, min, arith, Bool, false, ◌==◌, List, [], ◌∷◌, ◌++◌, Option, Some, None, cond}
 use Rattle.std.specs.List.{find, list_any, flat_map}
 use Rattle.std.specs.Option.{option_map, option_or, option_and_then}
 use Rattle.std.proofs.lemmas.List.Folds.{find-append}
@@ -12,6 +12,7 @@ use Rattle.oc_tree.specs.declared.places.Found.{Found}
 use Rattle.oc_tree.specs.Places.{Place, Placed, Variables, declares, behind, in_branch, in_loop, at_start, kind_placed, else_placed, block_placed, stmts_placed, placed, block_of, line_of_stmt, declared_at, encloses, stands_in}
 use Rattle.oc_tree.specs.Sought.{kind_found, else_found, block_found, stmts_found, functions_found, program_found}
 use Rattle.oc_tree.specs.Sought as walk
+use Rattle.oc_tree.proofs.Maps.{map_or, map_cond, map_map, map_then}
 
 -- the spot that a place is for what is asked
 abbrev pub spot_of : Asked → Place → Spot
@@ -24,15 +25,6 @@ found_of q a = record { line = a.line; declares = declares a.kind; spot = spot_o
 -- what is seen of the first of these statements that is the one asked for
 abbrev pub answer : Asked → List Placed → Option Found
 answer q ps = option_map (found_of q) (find (λ a. a.id == q.id) ps)
-
--- what is seen of the first of two
-map_or : {A B : Type 0} (f : A → B) (a b : Option A) → option_map f (option_or a b) ≡ option_or (option_map f a) (option_map f b)
-map_or f None b = refl
-map_or f (Some x) b = refl
-
-map_cond : {A B : Type 0} (f : A → B) (c : Bool) (a b : Option A) → option_map f (cond c a b) ≡ cond c (option_map f a) (option_map f b)
-map_cond f true a b = refl
-map_cond f false a b = refl
 
 module _ (q : Asked) where
   answer-append : (xs ys : List Placed) → answer q (xs ++ ys) ≡ option_or (answer q xs) (answer q ys)
@@ -79,17 +71,9 @@ module _ (q : Asked) where
 
 -- ---- what readers answer from what the walk sees
 
-map_map : {A B C : Type 0} (f : A → B) (g : B → C) (a : Option A) → option_map g (option_map f a) ≡ option_map (λ x. g (f x)) a
-map_map f g None = refl
-map_map f g (Some x) = refl
-
 -- the variable that a statement declares
 abbrev pub declared_of : (id : ℕ) → Found → Option VarId
 declared_of id f = cond f.declares (Some (variables.Declared id)) None
-
-map_then : {A B C : Type 0} (f : A → B) (g : B → Option C) (a : Option A) → option_and_then g (option_map f a) ≡ option_and_then (λ x. g (f x)) a
-map_then f g None = refl
-map_then f g (Some x) = refl
 
 -- whether what was found stands inside
 abbrev pub is_inside : Option Found → Bool

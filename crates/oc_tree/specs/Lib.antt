@@ -24,6 +24,8 @@ pub mod Stack
 pub mod Broken
 pub mod Places
 pub mod Sought
+pub mod Visible
 pub mod Checked
 pub mod Marked
 pub mod Regions
+pub mod Example

@@ -1,7 +1,7 @@
 -- Regions of a checked program, and the policies that ask for them.
-use Rattle.std.specs.Prelude.{◌≡◌, ◌<◌, ◌≤◌, ℕ, Bool, true, false, ◌&&◌, List, [], ◌∷◌, length, map, All, AllPairs, Option, Some, None, find, position, option_map, nat_le, ◌==◌}
+use Rattle.std.specs.Prelude.{◌≡◌, ◌<◌, ◌≤◌, ℕ, Bool, false, ◌&&◌, List, [], ◌∷◌, length, map, All, AllPairs, Option, Some, None, position, nat_le, ◌==◌}
 use Rattle.std.specs.List.{list_any}
-use Rattle.oc_tree.specs.Tree.{TFunction, TProgram}
+use Rattle.oc_tree.specs.Tree.{TProgram}
 use Rattle.oc_tree.specs.Numbers.{numbers_on, block_statements}
 use Rattle.oc_tree.specs.Places.{Placed, placed, block_of}
 use Rattle.oc_tree.specs.Checked.{Group, IsChecked, same_block}

@@ -2,10 +2,12 @@
 ghost use Rattle.std.specs.Prelude.{◌≡◌, ◌↔◌, Some, None};
 ghost use Rattle.oc_tree.specs.View.{program_view};
 ghost use Rattle.oc_tree.specs.Checked.{IsChecked, group_of, is_in_group};
-ghost use Rattle.oc_tree.specs.Places.{block_of, declared_at, encloses, line_of_stmt, loops_around, placed};
+ghost use Rattle.oc_tree.specs.Places.{block_of, declared_at, encloses, line_of_stmt, loops_around, placed, resolve};
 
+use crate::name::Name;
 use crate::places::{Asked, seek};
 use crate::tree::{BlockId, Program, StmtId, VarId};
+use crate::visible::variable_at;
 use std::marker::Model;
 
 /// A program without inputs and calls inside expressions, which is in form and breaks no rule, with
@@ -68,6 +70,14 @@ impl Checked {
     {
         let found = seek(&self.program, Asked { id: s, outer: 0 })?;
         Some(found.line)
+    }
+
+    /// The variable that a name stands for in the expressions of a statement itself; none where no
+    /// such variable is visible there, or where there is no such statement.
+    pub fn resolve(&self, s: StmtId, name: &Name) -> Option<VarId>
+        ensures { result ≡ resolve self.now.program s name.now }
+    {
+        variable_at(&self.program, s, name)
     }
 
     /// The variable that a statement declares, if it declares one.

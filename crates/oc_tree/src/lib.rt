@@ -12,5 +12,8 @@ pub mod nodes;
 mod places;
 pub mod said;
 pub mod scope;
+#[cfg(test)]
+mod tests;
 pub mod tree;
+mod visible;
 pub mod written;

@@ -9,9 +9,9 @@ ghost use Rattle.oc_types.specs.Standing.{here_of};
 ghost use Rattle.oc_types.specs.Small.{IsSmall};
 
 use crate::place::Place;
-use crate::pulls::own_pulls;
 use crate::scope::Scope;
 use crate::statement::Statement;
+use oc_desugar::pulls::own_pulls;
 use oc_tree::before::Before;
 use oc_tree::name::Name;
 use oc_tree::scope::{Origin, Policy};
@@ -154,7 +154,7 @@ impl Counts {
         ensures { OnOk result (self.new ≡ with_statement self.old (here_of place.entry scope.now) (kind_view statement.now)) }
     {
         let kind = statement.kind();
-        let pulls = own_pulls(kind);
+        let pulls = u64::from(own_pulls(kind));
         self.variables += pulls + own_declares(kind);
         self.statements += pulls + 1;
         self.calls += statement.calls().len() as u64;

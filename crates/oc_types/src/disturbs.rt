@@ -11,9 +11,9 @@ ghost use Rattle.oc_types.specs.Lent.{passes};
 ghost use Rattle.oc_types.specs.Marks.{IsAssigning};
 
 use crate::calls::lent;
-use crate::pulls::own_pulls;
 use crate::statement::Statement;
 use crate::top::TopLevel;
+use oc_desugar::pulls::own_pulls;
 use oc_reach::marks::Marks;
 use oc_reach::mentions::own_mentions;
 use oc_tree::name::Name;

@@ -1,79 +1,10 @@
-//! The inputs and calls inside a statement's expressions and arguments.
+//! Inputs and calls that stand where they may be skipped.
 ghost use Rattle.std.specs.Prelude.{◌≡◌, ◌<◌, ◌^◌};
 ghost use Rattle.oc_tree.specs.View.{arg_view, call_view, expr_view, kind_view, right_view};
 ghost use Rattle.oc_tree.specs.Pulls.{arg_pulls, arg_skips, call_pulls, call_skips, expr_pulls, expr_skips, may_skip, own_pulls, own_skips, right_pulls, right_skips};
 
+use oc_desugar::pulls::expr_pulls;
 use oc_tree::tree::{Arg, BinaryOp, Call, Expr, Right, StmtKind};
-
-#[cycle(pulls)]
-fn expr_pulls(expr: &Expr) -> u64
-    requires { expr_pulls (expr_view expr.now) < 2 ^ 32 }
-    ensures { result ≡ expr_pulls (expr_view expr.now) }
-{
-    match expr {
-        Expr::Number { .. } | Expr::Truth { .. } | Expr::Variable { .. } | Expr::Deref { .. } => 0,
-        Expr::Index { index, .. } => expr_pulls(index),
-        Expr::Unary { inner, .. } => expr_pulls(inner),
-        Expr::Binary { left, right, .. } => expr_pulls(left) + expr_pulls(right),
-        Expr::Sense { .. } => 1,
-        Expr::Call { call } => call_pulls(call) + 1,
-    }
-}
-
-#[cycle(pulls)]
-fn call_pulls(call: &Call) -> u64
-    requires { call_pulls (call_view call.now) < 2 ^ 32 }
-    ensures { result ≡ call_pulls (call_view call.now) }
-{
-    let mut pulls: u64 = 0;
-    for arg in &call.args {
-        pulls += arg_pulls(arg);
-    }
-    pulls
-}
-
-#[cycle(pulls)]
-fn arg_pulls(arg: &Arg) -> u64
-    requires { arg_pulls (arg_view arg.now) < 2 ^ 32 }
-    ensures { result ≡ arg_pulls (arg_view arg.now) }
-{
-    match arg {
-        Arg::Value { value } => expr_pulls(value),
-        Arg::Shared { .. } | Arg::Mutable { .. } => 0,
-    }
-}
-
-fn right_pulls(right: &Right) -> u64
-    requires { right_pulls (right_view right.now) < 2 ^ 32 }
-    ensures { result ≡ right_pulls (right_view right.now) }
-{
-    match right {
-        Right::Value { value } => expr_pulls(value),
-        Right::Sense { .. } => 0,
-        Right::Call { call } => call_pulls(call),
-    }
-}
-
-/// How many pulls a statement itself has.
-pub fn own_pulls(kind: &StmtKind) -> u64
-    requires { own_pulls (kind_view kind.now) < 2 ^ 32 }
-    ensures { result ≡ own_pulls (kind_view kind.now) }
-{
-    match kind {
-        StmtKind::LetArray { .. }
-        | StmtKind::For { .. }
-        | StmtKind::SenseOnly { .. }
-        | StmtKind::Fresh { .. }
-        | StmtKind::Consistent { .. } => 0,
-        StmtKind::Let { right, .. }
-        | StmtKind::Assign { right, .. }
-        | StmtKind::AssignDeref { right, .. } => right_pulls(right),
-        StmtKind::AssignIndex { index, right, .. } => expr_pulls(index) + right_pulls(right),
-        StmtKind::If { condition, .. } | StmtKind::While { condition, .. } => expr_pulls(condition),
-        StmtKind::CallOnly { call } => call_pulls(call),
-        StmtKind::Emit { value, .. } | StmtKind::Return { value } => expr_pulls(value),
-    }
-}
 
 fn may_skip(op: BinaryOp) -> bool
     ensures { result ≡ may_skip op }

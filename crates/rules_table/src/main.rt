@@ -10,8 +10,7 @@ use oc_io::disk::StdSink;
 use oc_io::sink::Sink;
 use oc_lex::lex;
 use oc_parse::parse;
-use oc_tree::broken::Broken;
-use oc_types::first_broken;
+use oc_types::{RuleError, check};
 use sources::{long_sources, sources};
 use std::alloc::{AllocError, Global};
 
@@ -21,9 +20,10 @@ fn broken(alloc: Global, source: &[u8]) -> anyhow::Result<Option<(u32, u8)>>
 {
     let tokens = lex(alloc, source)?;
     let program = parse(alloc, source, tokens.as_slice())?;
-    match first_broken(alloc, &program)? {
-        Some(Broken { line, rule }) => Ok(Some((line, rule))),
-        None => Ok(None),
+    match check(alloc, program) {
+        Ok(_) => Ok(None),
+        Err(RuleError::Rule { line, rule }) => Ok(Some((line, rule))),
+        Err(RuleError::Memory) => Err(RuleError::Memory.into()),
     }
 }
 

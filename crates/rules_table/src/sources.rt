@@ -1,7 +1,7 @@
 //! The sources.
 
 /// A source, and the line and the number of the rule that it breaks.
-pub fn sources() -> [(&'static str, Option<(u32, u8)>); 80] {
+pub fn sources() -> [(&'static str, Option<(u32, u8)>); 97] {
     [
         ("", Some((1, 4))),
         ("fn main() { }", None),
@@ -208,6 +208,70 @@ pub fn sources() -> [(&'static str, Option<(u32, u8)>); 80] {
         (
             "sensor t; fn main() { if 1 < 2 && sense(t) > 0 { } }",
             Some((1, 25)),
+        ),
+        // Weight: 7 + 8251 * (15 + 57836 * 9) is 2^32.
+        (
+            "fn main() { for i in 0..8251 { for j in 0..57836 { } } }",
+            None,
+        ),
+        // 9 + 16712 * (15 + 19768 * 13) is one more.
+        (
+            "fn main() { let x = 1;\nfor i in 0..16712 { for j in 0..19768 { let y = 1 + 1; } } }",
+            Some((2, 23)),
+        ),
+        (
+            "fn main() { while true bound 65535 { while true bound 65535 { } } }",
+            Some((1, 23)),
+        ),
+        (
+            "fn f() { for i in 0..65535 { for j in 0..65535 { for k in 0..65535 { } } } }\nfn main() { }",
+            Some((2, 23)),
+        ),
+        // With its call, `f` has the weight 65528 and then 65519.
+        (
+            "fn f() { for i in 0..7280 { } } fn main() { for j in 0..65535 { f(); } }",
+            Some((1, 23)),
+        ),
+        (
+            "fn f() { for i in 0..7279 { } } fn main() { for j in 0..65535 { f(); } }",
+            None,
+        ),
+        // Either branch has a weight of 2950058031.
+        (
+            "fn main() { if true { for i in 0..65535 { for j in 0..5000 { } } } else { for i in 0..65535 { for j in 0..5000 { } } } }",
+            None,
+        ),
+        // Stack: an array of n words takes n + 1, and 3 to fill it.
+        ("fn main() { let a = [0; 65532]; }", None),
+        ("fn main() {\nlet a = [0; 65533]; }", Some((2, 24))),
+        // A called function takes 2 more.
+        ("fn f() { let a = [0; 65530]; } fn main() { f(); }", None),
+        (
+            "fn f() { let a = [0; 65531]; } fn main() { f(); }",
+            Some((1, 24)),
+        ),
+        ("fn f() { let a = [0; 65536]; } fn main() { }", None),
+        (
+            "fn main() { if true { let a = [0; 40000]; } else { let b = [0; 40000]; } }",
+            Some((1, 24)),
+        ),
+        // Each input inside an expression takes a word.
+        (
+            "sensor t; fn main() { let a = [0; 65530]; let x = 1 + sense(t); }",
+            None,
+        ),
+        (
+            "sensor t; fn main() { let a = [0; 65531]; let x = 1 + sense(t); }",
+            Some((1, 24)),
+        ),
+        // Weight comes before stack, and every other rule before both.
+        (
+            "fn main() { let a = [0; 65533]; for i in 0..65535 { for j in 0..65535 { for k in 0..65535 { } } } }",
+            Some((1, 23)),
+        ),
+        (
+            "fn main() {\nlet a = [0; 65533];\nlet a = 1; }\nfn f() { }",
+            Some((3, 2)),
         ),
     ]
 }

@@ -23,7 +23,7 @@ length_onto (b ∷ bs) γ = omega (arith, length_onto bs (binding_view b ∷ γ)
 pub length_visible : (bs : List Binding) → length (visible bs) ≡ length bs
 length_visible bs = omega (arith, length_onto bs [])
 
-behind : (n : ℕ) (γ : List Named) (g : Named) (rest : List Named) → drop n γ ≡ g ∷ rest → drop (suc n) γ ≡ rest
+pub behind : (n : ℕ) (γ : List Named) (g : Named) (rest : List Named) → drop n γ ≡ g ∷ rest → drop (suc n) γ ≡ rest
 behind zero [] g rest h = cc
 behind (suc n) [] g rest h = cc
 behind zero (a ∷ γ) g rest h = cc

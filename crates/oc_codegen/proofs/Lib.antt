@@ -5,3 +5,4 @@ pub mod FunctionPlaces
 pub mod LoopPatches
 pub mod Statements
 pub mod KindViews
+pub mod Functions

@@ -6,7 +6,8 @@ use Rattle.oc_tree.specs.View.{kind_view, stmt_view, stmts_view, kind_step, bloc
 use Rattle.oc_tree.specs.Marked.{TRegion}
 use Rattle.oc_tree.specs.declared.tree.Stmt.{Stmt, fold_out-Stmt}
 use Rattle.oc_isa.specs.declared.instr.Placed.{Placed}
-use Rattle.oc_code.specs.Scope.{Named, in_scope, kind_slots, stmts_slots}
+use Rattle.oc_code.specs.Scope.{Named, in_scope}
+use Rattle.oc_tree.specs.Stack.{kind_slots, stmts_slots}
 use Rattle.oc_code.specs.Code.{first_code, whole_code, kind_code, stmts_code}
 
 pub stmt_is : (x : Stmt) → stmt_view x ≡ stmt x.id x.line (kind_view x.kind)

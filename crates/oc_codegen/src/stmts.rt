@@ -5,7 +5,8 @@ ghost use Rattle.oc_tree.specs.View.{block_view, else_view, expr_view, kind_view
 ghost use Rattle.oc_isa.specs.declared.instr.Instr.TheVariants.{Jump, Jfalse};
 ghost use Rattle.oc_meaning.specs.Uses.{is_use};
 ghost use Rattle.oc_code.specs.Forms.{placed, one};
-ghost use Rattle.oc_code.specs.Scope.{block_slots, in_scope, is_fresh_in, kind_slots};
+ghost use Rattle.oc_code.specs.Scope.{in_scope, is_fresh_in};
+ghost use Rattle.oc_tree.specs.Stack.{block_slots, kind_slots};
 ghost use Rattle.oc_code.specs.Code.{block_code, first_code, kind_code, whole_code};
 
 use crate::buffer::Buffer;

@@ -12,7 +12,8 @@ use Rattle.oc_isa.specs.declared.instr.ProbeKind.TheVariants.{Done}
 use Rattle.oc_isa.specs.declared.instr.Instr.TheVariants.{Push, Store, Jump, Jfalse}
 use Rattle.oc_meaning.specs.Uses.{is_use}
 use Rattle.oc_code.specs.Forms.{placed, one, below_code, count_code, expr_code, one_way_code, probe_code, two_way_code, while_code}
-use Rattle.oc_code.specs.Scope.{block_slots, for_named, is_fresh_in}
+use Rattle.oc_code.specs.Scope.{for_named, is_fresh_in}
+use Rattle.oc_tree.specs.Stack.{block_slots}
 use Rattle.oc_code.specs.Code.{block_code, kind_code, test_code}
 use Rattle.oc_codegen.proofs.KindViews.{if_alone, if_both}
 use Rattle.oc_codegen.proofs.LoopPatches.{count_filled, while_filled, one_way_filled, two_way_filled}

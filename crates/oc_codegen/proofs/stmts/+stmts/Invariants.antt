@@ -1,6 +1,6 @@
 use Rattle.std.proofs.Common.{◌≡◌, ◌≤◌, ◌+◌, ◌-◌, ◌++◌, length, drop}
 use Rattle.oc_tree.specs.View.{block_view, stmts_view}
-use Rattle.oc_code.specs.Scope.{block_slots, stmts_slots}
+use Rattle.oc_tree.specs.Stack.{block_slots, stmts_slots}
 use Rattle.oc_code.specs.Code.{block_code, stmts_code}
 use Rattle.oc_codegen.proofs.stmts.+stmts.Given as goal
 

@@ -6,3 +6,4 @@ pub mod LoopPatches
 pub mod Statements
 pub mod KindViews
 pub mod Functions
+pub mod MarkedLaws

@@ -1,6 +1,6 @@
 -- Functions one after the other, and the variables of their parameters.
-use Rattle.std.proofs.Common.{◌≡◌, ℕ, suc, ◌+◌, ◌-◌, List, [], ◌∷◌, ◌++◌, false, length, drop, map, refl, sym, ap, ◌∙◌, arith, append_assoc, length-append}
-use Rattle.oc_tree.specs.Tree.{TFunction, TProgram}
+use Rattle.std.proofs.Common.{◌≡◌, ℕ, ◌+◌, ◌-◌, List, [], ◌∷◌, ◌++◌, false, length, drop, map, refl, sym, ap, ◌∙◌, arith, append_assoc, length-append}
+use Rattle.oc_tree.specs.Tree.{TProgram}
 use Rattle.oc_tree.specs.View.{function_view}
 use Rattle.oc_tree.specs.Marked.{TRegion}
 use Rattle.oc_tree.specs.declared.tree.Function.{Function}

@@ -1,11 +1,11 @@
 -- Loops and branches whose ends are written later.
-use Rattle.std.proofs.Common.{◌≡◌, ℕ, ℤ, ◌+◌, List, [], ◌∷◌, ◌++◌, length, refl, sym, ap, ◌∙◌, arith, append_assoc, length-append}
+use Rattle.std.proofs.Common.{◌≡◌, ℕ, ℤ, ◌+◌, List, [], ◌∷◌, ◌++◌, length, sym, ap, ◌∙◌, arith, append_assoc, length-append}
 use Rattle.std.specs.Prelude.{slice_set, pos}
 use Rattle.std.proofs.lemmas.List.{length-set}
 use Rattle.oc_isa.specs.declared.instr.Placed.{Placed}
 use Rattle.oc_isa.specs.declared.instr.BinOp.TheVariants.{Lt}
 use Rattle.oc_isa.specs.declared.instr.Instr.TheVariants.{Push, Load, Store, Bin, Jump, Jfalse}
-use Rattle.oc_code.specs.Forms.{placed, one, below_code, again_code, count_code, turn_code, while_code, one_way_code, two_way_code}
+use Rattle.oc_code.specs.Forms.{placed, below_code, again_code, count_code, turn_code, while_code, one_way_code, two_way_code}
 use Rattle.oc_codegen.proofs.Patches.{filled, grown}
 
 -- what stands in a loop before its jump to the end

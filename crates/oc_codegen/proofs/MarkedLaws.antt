@@ -1,7 +1,5 @@
 -- The code of marked programs is right, and so it is an image.
-use Rattle.std.proofs.Common.{◌≡◌, ◌≤◌, List, length, map, sym, subst, ◌∙◌, arith}
-use Rattle.std.proofs.lemmas.List.{length-map}
-use Rattle.std.specs.Prelude.{ℕ}
+use Rattle.std.proofs.Common.{◌≡◌, ◌≤◌, List, length, sym, subst}
 use Rattle.oc_tree.specs.Tree.{TProgram}
 use Rattle.oc_tree.specs.Marked.{TMarked, TRegion, IsMarked}
 use Rattle.oc_tree.specs.declared.said.Target.{Target}

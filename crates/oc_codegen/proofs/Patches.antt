@@ -1,5 +1,5 @@
 -- Jumps whose ends are written later.
-use Rattle.std.proofs.Common.{◌≡◌, ℕ, ◌+◌, ◌<◌, List, [], ◌∷◌, ◌++◌, length, refl, sym, ap, ◌∙◌, arith, append_assoc, length-append}
+use Rattle.std.proofs.Common.{◌≡◌, ℕ, ◌+◌, List, [], ◌∷◌, ◌++◌, length, sym, ap, ◌∙◌, arith, append_assoc, length-append}
 use Rattle.std.specs.Prelude.{slice_set, pos, Result, Ok, Err, OnOk}
 use Rattle.std.proofs.Math.Seq.{set-append_seam}
 use Rattle.oc_isa.specs.declared.instr.Placed.{Placed}

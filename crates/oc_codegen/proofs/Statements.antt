@@ -1,7 +1,7 @@
 -- A statement more of a block.
-use Rattle.std.proofs.Common.{◌≡◌, ℕ, suc, ◌+◌, ◌-◌, ◌≤◌, List, [], ◌∷◌, ◌++◌, length, drop, refl, sym, ap, ◌∙◌, arith, append_assoc, length-append}
+use Rattle.std.proofs.Common.{◌≡◌, ℕ, suc, ◌+◌, ◌-◌, ◌≤◌, List, ◌∷◌, ◌++◌, length, drop, sym, ap, ◌∙◌, arith, append_assoc, length-append}
 use Rattle.oc_tree.specs.Names.{NameLists}
-use Rattle.oc_tree.specs.Tree.{TKind, TBlock, TStmt, TStmts, stmt, more, no_stmts, TFunction, let_to, let_array}
+use Rattle.oc_tree.specs.Tree.{TKind, TBlock, TStmt, TStmts, stmt, more, TFunction, let_to, let_array}
 use Rattle.oc_tree.specs.View.{kind_view, stmt_view, stmts_view, kind_step, block_step, stmt_step}
 use Rattle.oc_tree.specs.Marked.{TRegion}
 use Rattle.oc_tree.specs.declared.tree.Stmt.{Stmt, fold_out-Stmt}

@@ -8,7 +8,7 @@ use Rattle.oc_tree.specs.declared.tree.Expr as X
 use denote.Hole.Carrier
 use Rattle.oc_isa.specs.declared.instr.Instr.TheVariants.{Push, Jump, Jfalse}
 use Rattle.oc_code.specs.Forms.{placed, one, and_code, or_code, expr_code}
-use Rattle.oc_codegen.specs.Ops.{sides_of, sides_code}
+use Rattle.oc_codegen.specs.Ops.{sides_of}
 use Rattle.oc_codegen.specs.declared.exprs.Sides.TheVariants.{FirstTrue, FirstFalse}
 use Rattle.oc_codegen.proofs.Sides.{and_sides, or_sides}
 use Rattle.oc_codegen.proofs.Patches.{and_filled, or_filled, on_ok}

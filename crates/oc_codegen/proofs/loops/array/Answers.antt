@@ -1,4 +1,4 @@
-use Rattle.std.proofs.Common.{rules, ◌≡◌, ◌∷◌, ◌++◌, pos, ap, ◌∙◌}
+use Rattle.std.proofs.Common.{rules, ◌≡◌, ◌∷◌, ◌++◌, pos}
 use Rattle.oc_isa.specs.declared.instr.Instr.TheVariants.{Push, Store}
 use Rattle.oc_code.specs.Forms.{placed, below_code, fill_code}
 use Rattle.oc_codegen.proofs.Patches.{on_ok}

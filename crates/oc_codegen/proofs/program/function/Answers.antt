@@ -1,4 +1,4 @@
-use Rattle.std.proofs.Common.{rules, ◌≡◌, ◌+◌, ◌-◌, ◌++◌, length, drop, ap, sym, ◌∙◌, append_assoc}
+use Rattle.std.proofs.Common.{rules, ◌≡◌, ◌+◌, ◌-◌, ◌++◌, length, drop, ap, ◌∙◌, append_assoc}
 use Rattle.oc_tree.specs.Stack.{link_words}
 use Rattle.oc_tree.specs.View.{block_view, function_view}
 use Rattle.oc_code.specs.Scope.{params_scope}

@@ -1,4 +1,4 @@
-use Rattle.std.proofs.Common.{rules, ◌≡◌, ◌≤◌, ◌+◌, ◌++◌, ◌∷◌, [], List, length, drop, map, ap, sym, ◌∙◌, arith, append-nil}
+use Rattle.std.proofs.Common.{◌≡◌, ◌≤◌, ◌+◌, ◌++◌, ◌∷◌, [], List, length, drop, map, ap, sym, ◌∙◌, arith, append-nil}
 use Rattle.std.specs.Prelude.{codes}
 use Rattle.std.proofs.lemmas.Grind.{common_steps}
 use Rattle.std.proofs.lemmas.List.{drop_all, length-map}
@@ -12,7 +12,7 @@ use Rattle.oc_tree.specs.declared.tree.NvDecl.{NvDecl}
 use Rattle.oc_tree.specs.Calls.{function_place}
 use Rattle.oc_tree.specs.Stack.{link_words, stacks_to, stack_words}
 use Rattle.oc_tree.specs.Weight.{known_of}
-use Rattle.oc_code.specs.Scope.{Named, nv_scope, params_scope}
+use Rattle.oc_code.specs.Scope.{Named, params_scope}
 use Rattle.oc_code.specs.Code.{block_code, close_code, function_code, functions_code, image_function, image_functions, image_nv}
 use Rattle.oc_codegen.proofs.Functions.{functions_step, images_step}
 use Rattle.oc_codegen.proofs.program.raw_image.Goals as goal

@@ -1,8 +1,8 @@
 use Rattle.std.proofs.Common.{rules, ◌≡◌, ℕ, Bool, List, ◌+◌, ◌∷◌, ◌++◌, length, ap, sym, ◌∙◌, arith, append_assoc, length-append}
 use Rattle.std.specs.Prelude.{pos, slice_set}
 use Rattle.std.proofs.lemmas.List.{length-set}
-use Rattle.oc_tree.specs.Tree.{TKind, TBlock, TStmt, if_else, no_else, else_do, for_in, while_do}
-use Rattle.oc_tree.specs.View.{block_view, else_view, expr_view, kind_view, kind_step, block_step, stmt_step}
+use Rattle.oc_tree.specs.Tree.{TKind, TBlock, TStmt, if_else, no_else, else_do, while_do}
+use Rattle.oc_tree.specs.View.{block_view, expr_view, kind_view, kind_step, block_step, stmt_step}
 use Rattle.oc_tree.specs.declared.tree.StmtKind.{fold-roll-StmtKind}
 use Rattle.oc_tree.specs.declared.tree.StmtKind.TheOpen.{StmtKind-F}
 use Rattle.oc_tree.specs.declared.tree.StmtKind as X

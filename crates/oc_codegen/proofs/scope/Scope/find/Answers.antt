@@ -1,4 +1,4 @@
-use Rattle.std.proofs.Common.{rules, ◌≡◌, ◌-◌, ◌<◌, ◌≤◌, ap, arith, true, false}
+use Rattle.std.proofs.Common.{rules, ◌≡◌, ◌<◌, ap, arith, true, false}
 use Rattle.std.specs.Str.{bytes_eq}
 use Rattle.oc_codegen.proofs.Bindings.{found, passed}
 use Rattle.oc_codegen.proofs.scope.Scope.find.Goals as goal

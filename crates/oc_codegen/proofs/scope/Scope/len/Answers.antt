@@ -1,6 +1,5 @@
-use Rattle.std.proofs.Common.{rules, ◌≡◌, ap, sym, ◌∙◌, length, drop, ◌-◌}
-use Rattle.oc_codegen.specs.Slots.{visible}
-use Rattle.oc_codegen.proofs.Bindings.{visible_push, length_visible, visible_take}
+use Rattle.std.proofs.Common.{rules, ◌≡◌, ap, sym, ◌∙◌, length}
+use Rattle.oc_codegen.proofs.Bindings.{length_visible}
 use Rattle.oc_codegen.proofs.scope.Scope.len.Goals as goal
 
 pub returns : goal.returns

@@ -1,6 +1,6 @@
-use Rattle.std.proofs.Common.{◌≡◌, ap, sym, ◌∙◌, length, drop, ◌-◌}
+use Rattle.std.proofs.Common.{ap, ◌∙◌, length, drop, ◌-◌}
 use Rattle.oc_codegen.specs.Slots.{visible}
-use Rattle.oc_codegen.proofs.Bindings.{visible_push, length_visible, visible_take}
+use Rattle.oc_codegen.proofs.Bindings.{visible_take}
 use Rattle.oc_codegen.proofs.scope.Scope.truncate.Goals as goal
 
 pub returns : goal.returns

@@ -1,4 +1,4 @@
-use Rattle.std.proofs.Common.{rules, ◌≡◌, ◌+◌, map, length, ap, sym, ◌∙◌, arith, Some, None, IfOk}
+use Rattle.std.proofs.Common.{rules, ◌≡◌, map, length, arith, Some, None}
 use Rattle.std.proofs.lemmas.List.{length-map}
 use Rattle.oc_tree.specs.View.{function_view}
 use Rattle.oc_tree.specs.Calls.{place_from, function_names}

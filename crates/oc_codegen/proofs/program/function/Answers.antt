@@ -1,0 +1,39 @@
+use Rattle.std.proofs.Common.{rules, ◌≡◌, ◌+◌, ◌-◌, ◌++◌, length, drop, ap, ◌∙◌, append_assoc}
+use Rattle.oc_tree.specs.Stack.{link_words}
+use Rattle.oc_tree.specs.View.{block_view, function_view}
+use Rattle.oc_code.specs.Scope.{params_scope}
+use Rattle.oc_code.specs.Code.{block_code, close_code}
+use Rattle.oc_codegen.specs.Around.{Around}
+use Rattle.oc_codegen.proofs.Functions.{params_gone}
+use Rattle.oc_codegen.proofs.program.function.Goals as goal
+
+pub returns-clause-code : goal.returns-clause-code
+returns-clause-code c =
+    let f = c.args.function.now in
+    let base = c.args.code.now in
+    let body = block_view f.body in
+    let S = c.args.setting.now in
+    let ps = f.params.items in
+    let γ = c.args.scope.now in
+    let params : c.in_ok-params.params ≡ length ps = search rules in
+    let scope : c.declare_params.new.scope ≡ params_scope ps 0 γ = search rules in
+    let first : c.in_ok-first.first ≡ length ps + link_words (function_view f) = search rules in
+    let last = close_code (function_view f) in
+    let whole = block_code S.names S.functions S.regions (length ps) (params_scope ps 0 γ) (length ps + link_words (function_view f)) (length base) body in
+    let block : c.block.new.code ≡ base ++ whole =
+    c.in_ok-frame.ensures.code
+    ∙ ap (λ (T : Around). base ++ block_code T.names T.functions T.regions T.params c.declare_params.new.scope c.in_ok-first.first (length base) body) c.enter.ensures
+    ∙ ap (λ k. base ++ block_code S.names S.functions S.regions k c.declare_params.new.scope c.in_ok-first.first (length base) body) params
+    ∙ ap (λ g. base ++ block_code S.names S.functions S.regions (length ps) g c.in_ok-first.first (length base) body) scope
+    ∙ ap (λ s. base ++ block_code S.names S.functions S.regions (length ps) (params_scope ps 0 γ) s (length base) body) first in
+    c.in_ok-close.ensures ∙ ap (λ l. l ++ last) block ∙ append_assoc base whole last
+
+pub returns-clause-scope : goal.returns-clause-scope
+returns-clause-scope c =
+    let ps = c.args.function.now.params.items in
+    let γ = c.args.scope.now in
+    let scope : c.block.new.scope ≡ params_scope ps 0 γ = search rules in
+    c.truncate.ensures
+    ∙ ap (λ g. drop (length g - c.len-visible.result) g) scope
+    ∙ ap (λ n. drop (length (params_scope ps 0 γ) - n) (params_scope ps 0 γ)) c.len-visible.ensures
+    ∙ params_gone ps 0 γ

@@ -1,0 +1,142 @@
+use Rattle.std.proofs.Common.{rules, ◌≡◌, ℕ, Bool, List, ◌+◌, ◌∷◌, ◌++◌, length, ap, sym, ◌∙◌, arith, append_assoc, length-append}
+use Rattle.std.specs.Prelude.{pos, slice_set}
+use Rattle.std.proofs.lemmas.List.{length-set}
+use Rattle.oc_tree.specs.Tree.{TKind, TBlock, TStmt, if_else, no_else, else_do, while_do}
+use Rattle.oc_tree.specs.View.{block_view, expr_view, kind_view, kind_step, block_step, stmt_step}
+use Rattle.oc_tree.specs.declared.tree.StmtKind.{fold-roll-StmtKind}
+use Rattle.oc_tree.specs.declared.tree.StmtKind.TheOpen.{StmtKind-F}
+use Rattle.oc_tree.specs.declared.tree.StmtKind as X
+use denote.Hole.Carrier
+use Rattle.oc_isa.specs.declared.instr.Placed.{Placed}
+use Rattle.oc_isa.specs.declared.instr.ProbeKind.TheVariants.{Done}
+use Rattle.oc_isa.specs.declared.instr.Instr.TheVariants.{Push, Store, Jump, Jfalse}
+use Rattle.oc_meaning.specs.Uses.{is_use}
+use Rattle.oc_code.specs.Forms.{placed, one, below_code, count_code, expr_code, one_way_code, probe_code, two_way_code, while_code}
+use Rattle.oc_code.specs.Scope.{for_named, is_fresh_in}
+use Rattle.oc_tree.specs.Stack.{block_slots}
+use Rattle.oc_code.specs.Code.{block_code, kind_code, test_code}
+use Rattle.oc_codegen.proofs.KindViews.{if_alone, if_both}
+use Rattle.oc_codegen.proofs.LoopPatches.{count_filled, while_filled, one_way_filled, two_way_filled}
+use Rattle.oc_codegen.proofs.stmts.+stmts.Goals as goal
+
+pub for_in-returns-clause-code : goal.for_in-returns-clause-code
+for_in-returns-clause-code t c =
+    let n = c.args.n in
+    let q = c.args.slot in
+    let base = c.args.code.now in
+    let p = length base in
+    let S = c.args.setting.now in
+    let γ = c.args.scope.now in
+    let body = block_view c.args.body.now in
+    let c1 = c.open_count.new.code in
+    let f = block_code S.names S.functions S.regions S.params in
+    let a = f (for_named c.args.name.now q ∷ γ) (q + 1) (length c1) body in
+    let opened : c1 ≡ base ++ placed n (Push c.args.from) ∷ placed n (Store q) ∷ below_code n q c.args.to 0 = search rules in
+    let l : length c1 ≡ p + 6 = omega (arith, ap length opened, length-append base (placed n (Push c.args.from) ∷ placed n (Store q) ∷ below_code n q c.args.to 0)) in
+    let slot : c.in_ok-behind.field-0 ≡ q + 1 = search rules in
+    let scope : c.declare.new.self ≡ for_named c.args.name.now q ∷ γ = search rules in
+    let turn : c.block.new.code ≡ c1 ++ a = c.in_ok-next.ensures.code ∙ ap (λ s. c1 ++ f c.declare.new.self s (length c1) body) slot ∙ ap (λ g. c1 ++ f g (q + 1) (length c1) body) scope in
+    count_filled n q c.args.from c.args.to base a c1 c.block.new.code c.close_count.new.code c.in_ok-start.start opened c.in_ok-start.ensures.start turn c.in_ok-close_count.ensures
+    ∙ ap (λ m. base ++ count_code n p q c.args.from c.args.to (f (for_named c.args.name.now q ∷ γ) (q + 1) m body)) l
+
+pub kind-returns-in-None-clause-code : goal.kind-returns-in-None-clause-code
+unfolding X.roll-StmtKind denote.Hole.Carrier.roll
+kind-returns-in-None-clause-code t c =
+    let n = c.args.n in
+    let q = c.args.slot in
+    let base = c.args.code.now in
+    let p = length base in
+    let S = c.args.setting.now in
+    let γ = c.args.scope.now in
+    let f = block_code S.names S.functions S.regions S.params in
+    let cond = expr_view c.in-If.condition in
+    let a = block_view c.in-If.then in
+    let test = expr_code n γ p cond in
+    let c1 = c.expr.new.code in
+    let c2 = c.open.new.self in
+    let c3 = c.block.new.code in
+    let hole = c.in_ok-hole-in-If.hole in
+    let view : kind_view c.args.kind.now ≡ if_else cond a no_else =
+    ap kind_view c.in-If.is ∙ if_alone c.in-If.condition c.in-If.then c.in-If.otherwise c.in-None.is in
+    let l : length c2 ≡ p + length test + 1 = omega (arith, ap length c.in_ok-hole-in-If.ensures.code, ap length c.in_ok-expr-in-If.ensures, length-append base test, length-append c1 (one n (Jfalse 0))) in
+    let set = c.set.ensures ∙ ap (λ m. slice_set c3 hole (placed n (Jfalse m))) c.address-end.ensures.address in
+    one_way_filled n base test (f γ q (length c2) a) c1 c2 c3 c.set.new.self (placed n (Jfalse 0)) hole c.in_ok-expr-in-If.ensures c.in_ok-hole-in-If.ensures.code c.in_ok-hole-in-If.ensures.address c.in_ok-next-in-If.ensures.code set
+    ∙ ap (λ m. base ++ one_way_code n p test (f γ q m a)) l
+    ∙ ap (λ k. base ++ kind_code S.names S.functions S.regions S.params γ n q p k) (sym view)
+
+pub kind-returns-in_ok-next-in-Some-clause-code : goal.kind-returns-in_ok-next-in-Some-clause-code
+unfolding X.roll-StmtKind denote.Hole.Carrier.roll
+kind-returns-in_ok-next-in-Some-clause-code t c =
+    let n = c.args.n in
+    let q = c.args.slot in
+    let base = c.args.code.now in
+    let p = length base in
+    let S = c.args.setting.now in
+    let γ = c.args.scope.now in
+    let f = block_code S.names S.functions S.regions S.params in
+    let cond = expr_view c.in-If.condition in
+    let a = block_view c.in-If.then in
+    let b = block_view c.in-Some.second in
+    let test = expr_code n γ p cond in
+    let c1 = c.expr.new.code in
+    let c2 = c.open.new.self in
+    let c3 = c.block.new.code in
+    let c4 = c.close_then.new.code in
+    let c5 = c.block-in-Some.new.code in
+    let g = c.block.new.scope in
+    let next = c.in_ok-next-in-If.next in
+    let hole = c.in_ok-hole-in-If.hole in
+    let jump = c.in_ok-jump-in-Some.jump in
+    let first = f γ q (length c2) a in
+    let view : kind_view c.args.kind.now ≡ if_else cond a (else_do b) =
+    ap kind_view c.in-If.is ∙ if_both c.in-If.condition c.in-If.then c.in-If.otherwise c.in-Some.second c.in-Some.is in
+    let l : length c2 ≡ p + length test + 1 = omega (arith, ap length c.in_ok-hole-in-If.ensures.code, ap length c.in_ok-expr-in-If.ensures, length-append base test, length-append c1 (one n (Jfalse 0))) in
+    let patched = slice_set c3 hole (placed n (Jfalse (length c3 + 1))) in
+    let m : length c4 ≡ p + length test + 1 + length first + 1 =
+    omega (arith, l, ap length c.in_ok-jump-in-Some.ensures.code, length-append patched (one n (Jump 0)), length-set c3 hole (placed n (Jfalse (length c3 + 1))), ap length c.in_ok-next-in-If.ensures.code, length-append c2 first) in
+    let set = c.set-in-Some.ensures ∙ ap (λ m. slice_set c5 jump (placed n (Jump m))) c.address-end-in-Some.ensures.address in
+    two_way_filled n base test first (f g next (length c4) b) c1 c2 c3 c4 c5 c.set-in-Some.new.self (placed n (Jfalse 0)) (placed n (Jump 0)) hole jump c.in_ok-expr-in-If.ensures c.in_ok-hole-in-If.ensures.code c.in_ok-hole-in-If.ensures.address c.in_ok-next-in-If.ensures.code c.in_ok-jump-in-Some.ensures.code c.in_ok-jump-in-Some.ensures.jump c.in_ok-next-in-Some.ensures.code set
+    ∙ ap (λ g. base ++ two_way_code n p test first (f g next (length c4) b)) c.in_ok-next-in-If.ensures.scope
+    ∙ ap (λ s. base ++ two_way_code n p test first (f γ s (length c4) b)) c.in_ok-next-in-If.ensures.next
+    ∙ ap (λ m. base ++ two_way_code n p test first (f γ (q + block_slots a) m b)) m
+    ∙ ap (λ m. base ++ two_way_code n p test (f γ q m a) (f γ (q + block_slots a) (p + length test + 1 + length (f γ q m a) + 1) b)) l
+    ∙ ap (λ k. base ++ kind_code S.names S.functions S.regions S.params γ n q p k) (sym view)
+
+pub kind-returns-in_ok-probe-in-While-clause-code : goal.kind-returns-in_ok-probe-in-While-clause-code
+unfolding X.roll-StmtKind denote.Hole.Carrier.roll
+kind-returns-in_ok-probe-in-While-clause-code t c =
+    let n = c.args.n in
+    let q = c.args.slot in
+    let base = c.args.code.now in
+    let p = length base in
+    let S = c.args.setting.now in
+    let γ = c.args.scope.now in
+    let f = block_code S.names S.functions S.regions S.params in
+    let cond = expr_view c.in-While.condition in
+    let bound = c.in-While.bound in
+    let body = block_view c.in-While.body in
+    let used = c.is_use-used.result in
+    let tests : ℕ → Bool → List Placed = λ m u. test_code S.names S.functions S.regions S.params n γ m u cond in
+    let head = placed n (Push (pos 0)) ∷ placed n (Store q) ∷ below_code n q (pos bound) 0 in
+    let c1 = c.open_count.new.code in
+    let c2 = c.test.new.code in
+    let c3 = c.open-in-While.new.self in
+    let c4 = c.block-in-While.new.code in
+    let c5 = c.close_while.new.code in
+    let test = tests (length c1) used in
+    let view : kind_view c.args.kind.now ≡ while_do cond bound body =
+    ap kind_view c.in-While.is ∙ fold-roll-StmtKind TKind TBlock TStmt kind_step block_step stmt_step (StmtKind-F.While c.in-While.condition c.in-While.bound c.in-While.body) in
+    let is : used ≡ is_use (is_fresh_in γ) (while_do cond bound body) = c.is_use-used.ensures ∙ ap (is_use (is_fresh_in γ)) view in
+    let opened : c1 ≡ base ++ head = search rules in
+    let l : length c1 ≡ p + 6 = omega (arith, ap length opened, length-append base head) in
+    let m : length c3 ≡ length c1 + length test + 1 = omega (arith, ap length c.in_ok-exit-in-While.ensures.code, length-append c2 (one n (Jfalse 0)), ap length c.in_ok-test-in-While.ensures, length-append c1 test) in
+    let slot : c.in_ok-behind-in-While.field-0 ≡ q + 1 = search rules in
+    let turn : c4 ≡ c3 ++ f γ (q + 1) (length c3) body = c.in_ok-next-in-While.ensures.code ∙ ap (λ s. c3 ++ f γ s (length c3) body) slot in
+    let loop = while_filled n q bound base test (f γ (q + 1) (length c3) body) c1 c2 c3 c4 c5 (placed n (Jfalse 0)) c.in_ok-start-in-While.start c.in_ok-exit-in-While.exit opened c.in_ok-start-in-While.ensures.start c.in_ok-test-in-While.ensures c.in_ok-exit-in-While.ensures.code c.in_ok-exit-in-While.ensures.address turn c.in_ok-close_while-in-While.ensures in
+    c.in_ok-probe-in-While.ensures
+    ∙ ap (λ l. l ++ probe_code n used Done) loop
+    ∙ append_assoc base (while_code n p q bound test (f γ (q + 1) (length c3) body)) (probe_code n used Done)
+    ∙ ap (λ m. base ++ (while_code n p q bound test (f γ (q + 1) m body) ++ probe_code n used Done)) m
+    ∙ ap (λ m. base ++ (while_code n p q bound (tests m used) (f γ (q + 1) (m + length (tests m used) + 1) body) ++ probe_code n used Done)) l
+    ∙ ap (λ u. base ++ (while_code n p q bound (tests (p + 6) u) (f γ (q + 1) (p + 6 + length (tests (p + 6) u) + 1) body) ++ probe_code n u Done)) is
+    ∙ ap (λ k. base ++ kind_code S.names S.functions S.regions S.params γ n q p k) (sym view)

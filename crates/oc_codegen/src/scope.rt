@@ -1,0 +1,133 @@
+//! Where the code finds the variables that are visible.
+ghost use Rattle.std.specs.Prelude.{◌≡◌, ◌-◌, ◌∷◌, [], length, drop, OnOk};
+ghost use Rattle.oc_code.specs.Scope.{slot_of, words_of, is_fresh_in};
+ghost use Rattle.oc_codegen.specs.Slots.{slot_view, named_view, found_view};
+
+use oc_tree::name::Name;
+use std::alloc::{AllocError, Global};
+use std::marker::Model;
+
+/// The first slot of a variable of the frame; the slot with the address of one that was passed by
+/// reference; the first nonvolatile word of a variable; and what a name has that isn't visible.
+#[derive(Clone, Copy, Debug, PartialEq, Eq)]
+pub enum Slot {
+    InFrame { s: u32 },
+    ByAddress { s: u32 },
+    InNv { a: u32 },
+    Nowhere,
+}
+
+/// Where a variable is, how many words it has, whether a statement may write it, and whether it is
+/// annotated `Fresh`.
+#[derive(Clone, Copy, Debug, PartialEq, Eq)]
+pub struct Variable {
+    pub slot: Slot,
+    pub words: u32,
+    pub writable: bool,
+    pub fresh: bool,
+}
+
+/// A variable with its name.
+#[derive(Clone, Copy)]
+pub struct Binding<'a> {
+    pub name: &'a [u8],
+    pub variable: Variable,
+}
+
+/// The visible variables, which contracts see as a list, newest first.
+#[derive(Drop)]
+pub struct Scope<'a> {
+    bindings: Vec<Binding<'a>>,
+}
+
+impl<'a> Model for Scope<'a> {
+    ghost use Rattle.std.specs.Prelude.{List};
+    ghost use Rattle.oc_code.specs.Scope.{Named};
+    ghost use Rattle.oc_codegen.specs.Slots.{visible};
+
+    ghost Value = { List Named };
+
+    ghost view = { λ s. visible s.bindings.items };
+}
+
+impl<'a> Scope<'a> {
+    pub fn new(alloc: Global) -> Scope<'a>
+        ensures { result ≡ [] }
+    {
+        Scope {
+            bindings: Vec::new(alloc),
+        }
+    }
+
+    /// How many variables are visible.
+    pub fn len(&self) -> usize
+        ensures { result ≡ length self.now }
+    {
+        self.bindings.len()
+    }
+
+    /// One more variable, which hides others of its name.
+    pub fn declare(&mut self, name: &'a Name, variable: Variable) -> Result<(), AllocError>
+        ensures { OnOk result (self.new ≡ named_view name.now variable ∷ self.old) }
+    {
+        self.bindings.push(Binding {
+            name: name.bytes(),
+            variable,
+        })?;
+        Ok(())
+    }
+
+    /// Leaves the oldest `len` variables.
+    pub fn truncate(&mut self, len: usize)
+        ensures { self.new ≡ drop (length self.old - len) self.old }
+    {
+        self.bindings.truncate(len);
+    }
+
+    // The newest variable of a name.
+    fn find(&self, name: &Name) -> Option<Variable>
+        ensures slot { (found_view name.now result).slot ≡ slot_of self.now name.now }
+        ensures words { (found_view name.now result).words ≡ words_of self.now name.now }
+        ensures fresh { (found_view name.now result).fresh ≡ is_fresh_in self.now name.now }
+    {
+        let mut i = self.bindings.len();
+        while i > 0 {
+            i -= 1;
+            let binding = self.bindings[i];
+            if name.bytes() == binding.name {
+                return Some(binding.variable);
+            }
+        }
+        None
+    }
+
+    /// Where the variable of a name is.
+    pub fn slot(&self, name: &Name) -> Slot
+        ensures { slot_view result ≡ slot_of self.now name.now }
+    {
+        match self.find(name) {
+            Some(variable) => variable.slot,
+            None => Slot::Nowhere,
+        }
+    }
+
+    /// How many words the variable of a name has.
+    pub fn words(&self, name: &Name) -> u32
+        ensures { result ≡ words_of self.now name.now }
+    {
+        match self.find(name) {
+            Some(variable) => variable.words,
+            None => 0,
+        }
+    }
+
+    /// Whether the variable of a name is annotated `Fresh`.
+    pub fn is_fresh(&self, name: &Name) -> bool
+        ensures { result ≡ is_fresh_in self.now name.now }
+    {
+        match self.find(name) {
+            Some(variable) => variable.fresh,
+            None => false,
+        }
+    }
+}

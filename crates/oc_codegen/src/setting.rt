@@ -1,0 +1,142 @@
+//! What is around the statements of a function.
+ghost use Rattle.std.specs.Prelude.{◌≡◌, ◌<◌, List, map, length, IfOk};
+ghost use Rattle.oc_tree.specs.Names.{names_view};
+ghost use Rattle.oc_tree.specs.View.{function_view};
+ghost use Rattle.oc_tree.specs.Regions.{region_view};
+ghost use Rattle.oc_meaning.specs.Exec.{begun_by, ended_by, number_in};
+ghost use Rattle.oc_code.specs.Code.{function_number, has_result};
+
+use crate::numbers::small;
+use oc_reach::table::{Table, function_table};
+use oc_tree::marked::Region;
+use oc_tree::name::Name;
+use oc_tree::tree::{Function, Program};
+use std::alloc::{AllocError, Global};
+use std::marker::Model;
+
+fn number_in(names: &[Name], name: &Name) -> usize
+    ensures { result ≡ number_in names.now name.now }
+{
+    let mut number = 0;
+    for other in names {
+        if name.is(other) {
+            return number;
+        }
+        number += 1;
+    }
+    number
+}
+
+/// The program and the regions around the statements of a function with so many parameters.
+#[derive(Drop)]
+pub struct Setting<'a> {
+    program: &'a Program,
+    table: Table<'a>,
+    regions: &'a [Region],
+    params: u32,
+}
+
+impl<'a> Model for Setting<'a> {
+    ghost use Rattle.std.specs.Prelude.{◌≡◌, map};
+    ghost use Rattle.std.specs.Coded.{codes};
+    ghost use Rattle.oc_tree.specs.Names.{names_view};
+    ghost use Rattle.oc_tree.specs.Stored.{block_code};
+    ghost use Rattle.oc_tree.specs.View.{function_view};
+    ghost use Rattle.oc_tree.specs.Regions.{region_view};
+    ghost use Rattle.oc_tree.specs.Calls.{function_names};
+    ghost use Rattle.oc_codegen.specs.Around.{Around};
+
+    ghost Value = { Around };
+
+    ghost coded = { Prim.hlevel (codes, block_code (Prim.hlevel codes)) };
+
+    ghost view = { λ a. record { names = names_view a.program.now.names; functions = map function_view a.program.now.functions.items; regions = map region_view a.regions.now; params = a.params } };
+
+    ghost invariant = { λ a. a.table ≡ function_names (map function_view a.program.now.functions.items) };
+}
+
+impl<'a> Setting<'a> {
+    pub fn new(
+        alloc: Global,
+        program: &'a Program,
+        regions: &'a [Region],
+    ) -> Result<Setting<'a>, AllocError>
+        ensures { IfOk result (λ s. s ≡ record { names = names_view program.now.names; functions = map function_view program.now.functions.items; regions = map region_view regions.now; params = 0 }) }
+    {
+        let table = function_table(alloc, program.functions.as_slice())?;
+        Ok(Setting {
+            program,
+            table,
+            regions,
+            params: 0,
+        })
+    }
+
+    /// Goes to a function with so many parameters.
+    pub fn enter(&mut self, params: u32)
+        ensures { self.new ≡ record self.old { params = params } }
+    {
+        self.params = params;
+    }
+
+    pub fn params(&self) -> u32
+        ensures { result ≡ self.now.params }
+    {
+        self.params
+    }
+
+    pub fn sensor(&self, name: &Name) -> Result<u32, AllocError>
+        ensures { IfOk result (λ s. s ≡ number_in self.now.names.sensors name.now) }
+    {
+        small(number_in(self.program.names.sensors.as_slice(), name))
+    }
+
+    pub fn port(&self, name: &Name) -> Result<u32, AllocError>
+        ensures { IfOk result (λ p. p ≡ number_in self.now.names.ports name.now) }
+    {
+        small(number_in(self.program.names.ports.as_slice(), name))
+    }
+
+    pub fn function(&self, name: &Name) -> Result<u32, AllocError>
+        ensures { IfOk result (λ f. f ≡ function_number self.now.functions name.now) }
+    {
+        match self.table.place(name) {
+            Some(place) => small(place),
+            None => small(self.program.functions.len()),
+        }
+    }
+
+    /// Whether a call of a function leaves a word.
+    pub fn has_result(&self, name: &Name) -> bool
+        ensures { result ≡ has_result self.now.functions name.now }
+    {
+        match self.table.place(name) {
+            Some(place) => self.program.functions[place].result.is_some(),
+            None => false,
+        }
+    }
+
+    /// The region that begins with a statement.
+    pub fn begun_by(&self, n: u32) -> Option<u32>
+        ensures { result ≡ begun_by self.now.regions n }
+    {
+        for region in self.regions {
+            if n == region.range.first {
+                return Some(region.id);
+            }
+        }
+        None
+    }
+
+    /// The region that ends with a statement.
+    pub fn ended_by(&self, n: u32) -> Option<u32>
+        ensures { result ≡ ended_by self.now.regions n }
+    {
+        for region in self.regions {
+            if n == region.range.last {
+                return Some(region.id);
+            }
+        }
+        None
+    }
+}

@@ -1,0 +1,314 @@
+//! The code of statements without statements inside.
+ghost use Rattle.std.specs.Prelude.{◌≡◌, if◌then◌else◌, ◌+◌, ◌++◌, ◌∷◌, [], length, Option, OnOk, IfOk};
+ghost use Rattle.oc_tree.specs.View.{call_view, expr_view, kind_view, right_view, stmts_view};
+ghost use Rattle.oc_tree.specs.Tree.{return};
+ghost use Rattle.oc_isa.specs.declared.instr.Instr.TheVariants.{Store, Drop, Emit, Sense};
+ghost use Rattle.oc_isa.specs.declared.instr.ProbeKind.TheVariants.{Use};
+ghost use Rattle.oc_meaning.specs.Exec.{ended_by, number_in};
+ghost use Rattle.oc_meaning.specs.Uses.{begins_use, ends_use, is_use};
+ghost use Rattle.oc_code.specs.Scope.{in_scope, is_fresh_in, slot_of};
+ghost use Rattle.oc_code.specs.Forms.{placed, one, enter_code, commit_code, probe_code, write_code, expr_code};
+ghost use Rattle.oc_code.specs.Code.{called_name, has_result, call_code, right_code, element_code, return_code, test_code, before_code, after_code, last_code, first_code};
+
+use crate::buffer::Buffer;
+use crate::exprs::{args, base, expr, write};
+use crate::numbers::behind;
+use crate::scope::{Scope, Slot, Variable};
+use crate::setting::Setting;
+use crate::uses::{is_annotated, is_use};
+use oc_isa::instr::{Instr, ProbeKind};
+use oc_tree::name::Name;
+use oc_tree::tree::{Call, Expr, Right, Stmt, StmtKind};
+use std::alloc::AllocError;
+
+/// The code of a call of the statement `n`.
+pub fn call(
+    code: &mut Buffer,
+    setting: &Setting,
+    scope: &Scope,
+    n: u32,
+    call: &Call,
+) -> Result<(), AllocError>
+    ensures { OnOk result (code.new ≡ code.old ++ call_code setting.now.names setting.now.functions setting.now.regions setting.now.params n scope.now (length code.old) (call_view call.now)) }
+{
+    args(code, scope, n, call.args.as_slice())?;
+    let function = setting.function(&call.function)?;
+    code.put(n, Instr::Call { f: function })
+}
+
+/// The code of a right side.
+pub fn right(
+    code: &mut Buffer,
+    setting: &Setting,
+    scope: &Scope,
+    n: u32,
+    right: &Right,
+) -> Result<(), AllocError>
+    ensures { OnOk result (code.new ≡ code.old ++ right_code setting.now.names setting.now.functions setting.now.regions setting.now.params n scope.now (length code.old) (right_view right.now)) }
+{
+    match right {
+        Right::Value { value } => expr(code, scope, n, value),
+        Right::Sense { sensor } => {
+            let sensor = setting.sensor(sensor)?;
+            code.put(n, Instr::Sense { s: sensor })
+        }
+        Right::Call { call: inner } => call(code, setting, scope, n, inner),
+    }
+}
+
+/// The code of an assignment to a variable, or to what a reference leads to.
+pub fn assign(
+    code: &mut Buffer,
+    setting: &Setting,
+    scope: &Scope,
+    n: u32,
+    name: &Name,
+    side: &Right,
+) -> Result<(), AllocError>
+    ensures { OnOk result (code.new ≡ code.old ++ (right_code setting.now.names setting.now.functions setting.now.regions setting.now.params n scope.now (length code.old) (right_view side.now) ++ write_code n (slot_of scope.now name.now))) }
+{
+    right(code, setting, scope, n, side)?;
+    write(code, n, scope.slot(name))
+}
+
+/// The code of a `let` of one word.
+pub fn let_to(
+    code: &mut Buffer,
+    setting: &Setting,
+    scope: &Scope,
+    n: u32,
+    slot: u32,
+    side: &Right,
+) -> Result<(), AllocError>
+    ensures { OnOk result (code.new ≡ code.old ++ (right_code setting.now.names setting.now.functions setting.now.regions setting.now.params n scope.now (length code.old) (right_view side.now) ++ one n (Store slot))) }
+{
+    right(code, setting, scope, n, side)?;
+    code.put(n, Instr::Store { s: slot })
+}
+
+/// The code of an assignment to an element.
+pub fn assign_index(
+    code: &mut Buffer,
+    setting: &Setting,
+    scope: &Scope,
+    n: u32,
+    name: &Name,
+    index: &Expr,
+    side: &Right,
+) -> Result<(), AllocError>
+    ensures { OnOk result (code.new ≡ code.old ++ element_code setting.now.names setting.now.functions setting.now.regions setting.now.params n scope.now (length code.old) name.now (expr_view index.now) (right_code setting.now.names setting.now.functions setting.now.regions setting.now.params n scope.now (length code.old) (right_view side.now))) }
+{
+    right(code, setting, scope, n, side)?;
+    base(code, n, scope.slot(name))?;
+    expr(code, scope, n, index)?;
+    code.put(
+        n,
+        Instr::Index {
+            n: scope.words(name),
+        },
+    )?;
+    code.put(n, Instr::Put)
+}
+
+/// The code of a call as a statement, whose result is dropped.
+pub fn call_only(
+    code: &mut Buffer,
+    setting: &Setting,
+    scope: &Scope,
+    n: u32,
+    inner: &Call,
+) -> Result<(), AllocError>
+    ensures { OnOk result (code.new ≡ code.old ++ (call_code setting.now.names setting.now.functions setting.now.regions setting.now.params n scope.now (length code.old) (call_view inner.now) ++ (if has_result setting.now.functions (called_name (call_view inner.now)) then one n Drop else []))) }
+{
+    call(code, setting, scope, n, inner)?;
+    if setting.has_result(&inner.function) {
+        code.put(n, Instr::Drop)
+    } else {
+        Ok(())
+    }
+}
+
+/// The code of an input whose value is dropped.
+pub fn sense_only(
+    code: &mut Buffer,
+    setting: &Setting,
+    n: u32,
+    sensor: &Name,
+) -> Result<(), AllocError>
+    ensures { OnOk result (code.new ≡ code.old ++ (placed n (Sense (number_in setting.now.names.sensors sensor.now)) ∷ one n Drop)) }
+{
+    let sensor = setting.sensor(sensor)?;
+    code.put(n, Instr::Sense { s: sensor })?;
+    code.put(n, Instr::Drop)
+}
+
+/// The code of an output.
+pub fn emit(
+    code: &mut Buffer,
+    setting: &Setting,
+    scope: &Scope,
+    n: u32,
+    port: &Name,
+    value: &Expr,
+) -> Result<(), AllocError>
+    ensures { OnOk result (code.new ≡ code.old ++ (expr_code n scope.now (length code.old) (expr_view value.now) ++ one n (Emit (number_in setting.now.names.ports port.now)))) }
+{
+    expr(code, scope, n, value)?;
+    let port = setting.port(port)?;
+    code.put(n, Instr::Emit { p: port })
+}
+
+/// A probe, if there is one.
+pub fn probe(code: &mut Buffer, n: u32, is: bool, kind: ProbeKind) -> Result<(), AllocError>
+    ensures { OnOk result (code.new ≡ code.old ++ probe_code n is kind) }
+{
+    if is {
+        code.put(n, Instr::Probe { kind, n })
+    } else {
+        Ok(())
+    }
+}
+
+fn enter(code: &mut Buffer, n: u32, region: Option<u32>) -> Result<(), AllocError>
+    ensures { OnOk result (code.new ≡ code.old ++ enter_code n region) }
+{
+    match region {
+        Some(r) => code.put(n, Instr::Enter { r }),
+        None => Ok(()),
+    }
+}
+
+fn commit(code: &mut Buffer, n: u32, region: Option<u32>) -> Result<(), AllocError>
+    ensures { OnOk result (code.new ≡ code.old ++ commit_code n region) }
+{
+    match region {
+        Some(r) => code.put(n, Instr::Commit { r }),
+        None => Ok(()),
+    }
+}
+
+/// The code of a `return`. It has the end of the region before it.
+pub fn return_value(
+    code: &mut Buffer,
+    setting: &Setting,
+    scope: &Scope,
+    n: u32,
+    used: bool,
+    value: &Expr,
+) -> Result<(), AllocError>
+    requires { used ≡ is_use (is_fresh_in scope.now) (return (expr_view value.now)) }
+    ensures { OnOk result (code.new ≡ code.old ++ return_code setting.now.names setting.now.functions setting.now.regions setting.now.params n scope.now (length code.old) (expr_view value.now)) }
+{
+    expr(code, scope, n, value)?;
+    probe(code, n, used, ProbeKind::Done)?;
+    commit(code, n, setting.ended_by(n))?;
+    code.put(
+        n,
+        Instr::Retv {
+            k: setting.params(),
+        },
+    )
+}
+
+/// The test of a `while`, with its probe.
+pub fn test(
+    code: &mut Buffer,
+    scope: &Scope,
+    n: u32,
+    used: bool,
+    condition: &Expr,
+) -> Result<(), AllocError>
+    ensures { OnOk result (code.new ≡ code.old ++ (probe_code n used Use ++ expr_code n scope.now (length code.old + length (probe_code n used Use)) (expr_view condition.now))) }
+{
+    probe(code, n, used, ProbeKind::Use)?;
+    expr(code, scope, n, condition)
+}
+
+fn begins_use(scope: &Scope, kind: &StmtKind) -> bool
+    ensures { result ≡ begins_use (is_fresh_in scope.now) (kind_view kind.now) }
+{
+    match kind {
+        StmtKind::While { .. } => false,
+        _ => is_use(scope, kind),
+    }
+}
+
+fn ends_use(scope: &Scope, kind: &StmtKind) -> bool
+    ensures { result ≡ ends_use (is_fresh_in scope.now) (kind_view kind.now) }
+{
+    match kind {
+        StmtKind::While { .. } => false,
+        StmtKind::Return { .. } => false,
+        _ => is_use(scope, kind),
+    }
+}
+
+/// What stands before a statement's own code.
+pub fn before(
+    code: &mut Buffer,
+    setting: &Setting,
+    scope: &Scope,
+    n: u32,
+    kind: &StmtKind,
+) -> Result<(), AllocError>
+    ensures { OnOk result (code.new ≡ code.old ++ first_code setting.now.names setting.now.functions setting.now.regions setting.now.params scope.now n (kind_view kind.now)) }
+{
+    enter(code, n, setting.begun_by(n))?;
+    probe(code, n, begins_use(scope, kind), ProbeKind::Use)
+}
+
+fn last(code: &mut Buffer, n: u32, region: Option<u32>, kind: &StmtKind) -> Result<(), AllocError>
+    ensures { OnOk result (code.new ≡ code.old ++ last_code n region (kind_view kind.now)) }
+{
+    match kind {
+        StmtKind::Return { .. } => Ok(()),
+        _ => commit(code, n, region),
+    }
+}
+
+/// What stands behind a statement's own code.
+pub fn after(
+    code: &mut Buffer,
+    setting: &Setting,
+    scope: &Scope,
+    n: u32,
+    kind: &StmtKind,
+) -> Result<(), AllocError>
+    ensures { OnOk result (code.new ≡ code.old ++ after_code n (ended_by setting.now.regions n) (ends_use (is_fresh_in scope.now) (kind_view kind.now)) (kind_view kind.now)) }
+{
+    probe(code, n, ends_use(scope, kind), ProbeKind::Done)?;
+    last(code, n, setting.ended_by(n), kind)
+}
+
+/// The variable that a statement at a slot makes, if it makes one.
+pub fn declare<'a>(
+    scope: &mut Scope<'a>,
+    slot: u32,
+    kind: &'a StmtKind,
+    rest: &[Stmt],
+) -> Result<(), AllocError>
+    ensures { OnOk result (scope.new ≡ in_scope (kind_view kind.now) slot (stmts_view rest.now) scope.old) }
+{
+    match kind {
+        StmtKind::Let { name, .. } => {
+            let variable = Variable {
+                slot: Slot::InFrame { s: slot },
+                words: 1,
+                writable: true,
+                fresh: is_annotated(name, rest),
+            };
+            scope.declare(name, variable)
+        }
+        StmtKind::LetArray { name, words, .. } => {
+            let first = behind(slot, 1)?;
+            let variable = Variable {
+                slot: Slot::InFrame { s: first },
+                words: *words,
+                writable: true,
+                fresh: is_annotated(name, rest),
+            };
+            scope.declare(name, variable)
+        }
+        _ => Ok(()),
+    }
+}

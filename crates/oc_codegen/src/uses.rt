@@ -1,0 +1,111 @@
+//! Uses of fresh variables.
+ghost use Rattle.std.specs.Prelude.{◌≡◌, Bool};
+ghost use Rattle.std.specs.List.{list_any};
+ghost use Rattle.oc_tree.specs.View.{arg_view, args_view, call_view, expr_view, kind_view, right_view, stmts_view};
+ghost use Rattle.oc_meaning.specs.Uses.{arg_names, args_names, call_names, expr_names, right_names, is_annotated, is_fresh_note, is_use};
+ghost use Rattle.oc_code.specs.Scope.{is_fresh_in};
+
+use crate::scope::Scope;
+use oc_tree::name::Name;
+use oc_tree::tree::{Arg, Call, Expr, Right, Stmt, StmtKind};
+
+#[cycle(fresh)]
+fn expr_has(scope: &Scope, expr: &Expr) -> bool
+    ensures { result ≡ list_any (is_fresh_in scope.now) (expr_names (expr_view expr.now)) }
+{
+    match expr {
+        Expr::Number { .. } => false,
+        Expr::Truth { .. } => false,
+        Expr::Variable { name } => scope.is_fresh(name),
+        Expr::Index { array, index } => scope.is_fresh(array) || expr_has(scope, index),
+        Expr::Deref { name } => scope.is_fresh(name),
+        Expr::Unary { inner, .. } => expr_has(scope, inner),
+        Expr::Binary { left, right, .. } => expr_has(scope, left) || expr_has(scope, right),
+        Expr::Sense { .. } => false,
+        Expr::Call { call } => call_has(scope, call),
+    }
+}
+
+#[cycle(fresh)]
+fn arg_has(scope: &Scope, arg: &Arg) -> bool
+    ensures { result ≡ list_any (is_fresh_in scope.now) (arg_names (arg_view arg.now)) }
+{
+    match arg {
+        Arg::Value { value } => expr_has(scope, value),
+        Arg::Shared { name } => scope.is_fresh(name),
+        Arg::Mutable { name } => scope.is_fresh(name),
+    }
+}
+
+#[cycle(fresh)]
+fn args_have(scope: &Scope, args: &[Arg]) -> bool
+    ensures { result ≡ list_any (is_fresh_in scope.now) (args_names (args_view args.now)) }
+{
+    for arg in args {
+        if arg_has(scope, arg) {
+            return true;
+        }
+    }
+    false
+}
+
+#[cycle(fresh)]
+fn call_has(scope: &Scope, call: &Call) -> bool
+    ensures { result ≡ list_any (is_fresh_in scope.now) (call_names (call_view call.now)) }
+{
+    args_have(scope, call.args.as_slice())
+}
+
+fn right_has(scope: &Scope, right: &Right) -> bool
+    ensures { result ≡ list_any (is_fresh_in scope.now) (right_names (right_view right.now)) }
+{
+    match right {
+        Right::Value { value } => expr_has(scope, value),
+        Right::Sense { .. } => false,
+        Right::Call { call } => call_has(scope, call),
+    }
+}
+
+/// Whether a statement names a fresh variable.
+pub fn is_use(scope: &Scope, kind: &StmtKind) -> bool
+    ensures { result ≡ is_use (is_fresh_in scope.now) (kind_view kind.now) }
+{
+    match kind {
+        StmtKind::Let { right, .. } => right_has(scope, right),
+        StmtKind::LetArray { .. } => false,
+        StmtKind::Assign { right, .. } => right_has(scope, right),
+        StmtKind::AssignIndex { index, right, .. } => expr_has(scope, index)
+            || right_has(scope, right),
+        StmtKind::AssignDeref { right, .. } => right_has(scope, right),
+        StmtKind::If { condition, .. } => expr_has(scope, condition),
+        StmtKind::For { .. } => false,
+        StmtKind::While { condition, .. } => expr_has(scope, condition),
+        StmtKind::CallOnly { call } => call_has(scope, call),
+        StmtKind::SenseOnly { .. } => false,
+        StmtKind::Emit { value, .. } => expr_has(scope, value),
+        StmtKind::Fresh { .. } => false,
+        StmtKind::Consistent { .. } => false,
+        StmtKind::Return { value } => expr_has(scope, value),
+    }
+}
+
+fn is_note(name: &Name, kind: &StmtKind) -> bool
+    ensures { result ≡ is_fresh_note name.now (kind_view kind.now) }
+{
+    match kind {
+        StmtKind::Fresh { name: other } => name.is(other),
+        _ => false,
+    }
+}
+
+/// Whether a variable is annotated `Fresh` directly among statements.
+pub fn is_annotated(name: &Name, rest: &[Stmt]) -> bool
+    ensures { result ≡ is_annotated name.now (stmts_view rest.now) }
+{
+    for statement in rest {
+        if is_note(name, &statement.kind) {
+            return true;
+        }
+    }
+    false
+}

@@ -3,7 +3,7 @@
 -- A loop over xs that puts the part f n x of each x, the n-th, has the invariant
 -- Going took (the sink at the start) (the sink now) (text n (drop i xs)) whole,
 -- where text n (x ∷ xs) computes to f n x ++ text (n + 1) xs: `step` is then λ n x xs. refl.
-use Rattle.std.proofs.Common.{ℕ, ◌+◌, ◌<◌, ◌≡◌, List, [], ◌∷◌, ◌++◌, length, get_or, drop, subst, ap, sym, ◌∙◌}
+use Rattle.std.proofs.Common.{ℕ, ◌+◌, ◌<◌, ◌≡◌, List, ◌∷◌, ◌++◌, length, get_or, drop, subst, ap, sym, ◌∙◌}
 use Rattle.std.proofs.lemmas.List.{drop_more}
 use Rattle.oc_io.specs.Faults.{TookPart}
 use Rattle.oc_io.proofs.Going.{Going, Both, go_on, stop}

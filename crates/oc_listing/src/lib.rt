@@ -4,3 +4,5 @@
 #![tactic(auto)]
 
 pub mod listing;
+#[cfg(test)]
+mod tests;

@@ -16,9 +16,9 @@ ghost use Rattle.oc_top.specs.declared.answer.Answer.TheVariants as answers;
 
 use crate::answer::Answer;
 use crate::files::Fetched;
-use oc_io::Memory;
 use oc_codegen::compile;
 use oc_desugar::expand;
+use oc_io::Memory;
 use oc_isa::image::Image;
 use oc_lex::{LexError, Token, lex};
 use oc_machine::machine::Machine;

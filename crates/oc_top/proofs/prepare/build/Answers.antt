@@ -30,5 +30,5 @@ returns-clause-built c =
     let none = c.new.ensures.items in
     let made = c.in_ok-image.ensures in
     built c.args.source.now c.in_ok-written.written c.in_ok-marked.marked.program c.in_ok-marked.marked.regions c.in_ok-image.image
-        c.in_ok-written.ensures.accepted c.in_ok-marked.ensures.program c.in_ok-marked.ensures.regions
-        (rw none at made.code) (rw none at made.right)
+    c.in_ok-written.ensures.accepted c.in_ok-marked.ensures.program c.in_ok-marked.ensures.regions
+    (rw none at made.code) (rw none at made.right)

@@ -1,1 +1,4 @@
 pub mod Enters
+pub mod Counted
+pub mod Ending
+pub mod Stretches

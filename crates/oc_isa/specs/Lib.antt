@@ -4,3 +4,5 @@ pub mod Next
 pub mod Table
 pub mod Run
 pub mod Power
+pub mod Listing
+pub mod Worked

@@ -1,0 +1,58 @@
+-- Budgets: how many steps an execution of a region takes at most, and how long periods must be.
+use Rattle.std.specs.Prelude.{ℕ, ◌+◌, ◌*◌, Bool, List, [], ◌∷◌, map, max, filter, sum_by, Option, Some, None, cond}
+use Rattle.oc_tree.specs.Tree.{TKind, return, TProgram}
+use Rattle.oc_tree.specs.declared.said.Target.{Target}
+use Rattle.oc_tree.specs.declared.said.Target.TheVariants as targets
+use Rattle.oc_tree.specs.Weight.{expr_cost}
+use Rattle.oc_tree.specs.Stack.{stack_words}
+use Rattle.oc_tree.specs.Places.{Placed, program_placed}
+use Rattle.oc_tree.specs.Marked.{TRegion, TMarked, is_in_region}
+use Rattle.oc_writes.specs.Targets.{region_targets}
+use Rattle.oc_budget.specs.Costs.{inner_cost, probes, is_use, costs, total}
+
+abbrev pub target_words : Target → ℕ
+target_words (targets.Nv base len) = len
+target_words (targets.Param slot len) = len
+
+-- how many words a region logs at most
+abbrev pub logged : TProgram → TRegion → ℕ
+logged p r = sum_by target_words (region_targets p r)
+
+-- A statement of a region. The `commit` stands before the last instruction of a `return`, which is behind the region.
+abbrev pub held_cost : TMarked → ℕ → TKind → ℕ
+held_cost m n (return e) = expr_cost e + probes (is_use m.program n) (return e)
+held_cost m n k = inner_cost m.program.functions (is_use m.program) m.regions (costs m) n k + probes (is_use m.program n) k
+
+-- the statements directly in a region
+abbrev pub statements_in : TProgram → TRegion → List Placed
+statements_in p r = filter (λ a. is_in_region p r a.id) (program_placed p)
+
+-- the steps behind a region's `enter`: its statements, its `commit`, and a step for each word that is logged
+abbrev pub budget : TMarked → TRegion → ℕ
+budget m r = sum_by (λ a. held_cost m a.id a.kind) (statements_in m.program r) + 1 + logged m.program r
+
+-- the greatest of these
+abbrev pub greatest : ℕ → List ℕ → ℕ
+greatest b [] = b
+greatest b (c ∷ cs) = greatest (max b c) cs
+
+-- the steps of a period that suffice, with `w` words of stack: two steps to read the state and to resume, those of a restore,
+-- those of a region's entry, and its budget
+abbrev pub safe_for : (w : ℕ) → List ℕ → ℕ
+safe_for w [] = w + 6
+safe_for w (b ∷ bs) = 2 * w + 9 + greatest b bs
+
+-- what is told of a program with regions
+pub record TBudgets : Type 0 where
+  pub regions : List ℕ
+  pub logged : List ℕ
+  pub total : ℕ
+  pub safe : ℕ
+
+abbrev pub budgets : TMarked → TBudgets
+budgets m = record {
+  regions = map (budget m) m.regions;
+  logged = map (logged m.program) m.regions;
+  total = total m;
+  safe = safe_for (stack_words m.program) (map (budget m) m.regions);
+}

@@ -1,0 +1,50 @@
+//! The effects of statements.
+ghost use Rattle.std.specs.Prelude.{◌≡◌};
+
+use oc_tree::tree::{BlockId, StmtId, VarId};
+use std::marker::Model;
+
+/// An argument: the variables that it names, and the one that it lends by `&mut`.
+#[derive(Debug, Drop)]
+pub struct Passed {
+    pub named: Vec<VarId>,
+    pub lent: Option<VarId>,
+}
+
+/// A call: the place of the called function, and the arguments.
+#[derive(Debug, Drop)]
+pub struct Called {
+    pub function: u32,
+    pub args: Vec<Passed>,
+}
+
+/// An annotation: a variable is fresh, or it belongs to the consistent set of this number.
+#[derive(Clone, Copy, Debug, PartialEq, Eq)]
+pub enum Note {
+    Fresh { var: VarId },
+    Consistent { var: VarId, id: i32 },
+}
+
+/// What a statement does by itself, without the statements inside it.
+#[derive(Debug, Drop)]
+pub struct Effect {
+    /// Its number, its line, and the block in which it stands directly.
+    pub stmt: StmtId,
+    pub line: u32,
+    pub block: BlockId,
+    /// The statements in which it stands, the innermost first.
+    pub around: Vec<StmtId>,
+    /// Whether it is a loop, and whether it declares a variable.
+    pub is_loop: bool,
+    pub declares: bool,
+    /// The variables that it names in its own expressions and arguments.
+    pub named: Vec<VarId>,
+    /// Those of the value that it sets a variable to, and of its target's index.
+    pub sources: Vec<VarId>,
+    /// The variable that it sets; the result of the function for a `return`.
+    pub target: Option<VarId>,
+    /// Whether it sets it to an input.
+    pub senses: bool,
+    pub call: Option<Called>,
+    pub note: Option<Note>,
+}

@@ -1,0 +1,21 @@
+-- The tests decide the relations, in each checked program.
+use Rattle.std.specs.Prelude.{ℕ, Bool, true, false, List}
+use Rattle.oc_tree.specs.Tree.{TProgram}
+use Rattle.oc_tree.specs.Checked.{Group, IsChecked}
+use Rattle.oc_tree.specs.declared.tree.VarId.{VarId}
+use Rattle.oc_effects.specs.Effects.{TEffect, effects_at}
+use Rattle.oc_flow.specs.Variables.{IsOf}
+use Rattle.oc_flow.specs.Relations.{Flow, Brings}
+use Rattle.oc_flow.specs.Flow.{flows, brings}
+
+-- the test says whether it is so
+abbrev pub Decides : Bool → Type 0 → Type 0
+Decides true A = A
+Decides false A = A → ⊥
+
+abbrev pub FlowsIsFlow : Type 0
+FlowsIsFlow = (p : TProgram) (groups : List Group) → IsChecked p groups → (f : ℕ) (u v : VarId) → Decides (flows p f u v) (Flow p f u v)
+
+abbrev pub BringsIsBrings : Type 0
+BringsIsBrings =
+    (p : TProgram) (groups : List Group) → IsChecked p groups → (f : ℕ) (a : TEffect) (v : VarId) → IsOf a (effects_at p f) → Decides (brings p a v) (Brings p f a v)

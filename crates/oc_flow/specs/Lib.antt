@@ -1,0 +1,4 @@
+pub mod Variables
+pub mod Relations
+pub mod Flow
+pub mod Laws

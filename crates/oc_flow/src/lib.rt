@@ -1,0 +1,5 @@
+//! Which variables of a function flow into which, and which statements bring input into which.
+#![tactic(auto)]
+
+pub mod flow;
+pub mod summary;

@@ -1,0 +1,5 @@
+pub mod Policies
+pub mod Sites
+pub mod Need
+pub mod Requirements
+pub mod View

@@ -1,0 +1,11 @@
+//! Requirements.
+use oc_tree::tree::StmtId;
+
+/// Statements of a function that must lie in one region: the number of the policy that asks for it,
+/// the place of the function, and the numbers of the statements, which rise.
+#[derive(Debug, Drop)]
+pub struct Requirement {
+    pub policy: u32,
+    pub function: u32,
+    pub sites: Vec<StmtId>,
+}

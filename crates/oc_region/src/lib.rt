@@ -1,0 +1,4 @@
+//! The regions that the annotations of a program ask for.
+#![tactic(auto)]
+
+pub mod infer;

@@ -15,9 +15,9 @@ use std::alloc::Global;
 pub fn infer(
     alloc: Global,
     checked: Checked,
-    requirements: &[Requirement],
+    required: &[Requirement],
 ) -> Result<Marked, (Checked, Memory)>
-    requires { map requirement_view requirements.now ≡ requirements checked.program }
+    requires { map requirement_view required.now ≡ requirements checked.program }
     ensures marked { IfOk result (λ m. m ≡ marked checked.program checked.groups) }
     ensures back { IfErr result (λ e. e.0 ≡ checked) }
 {

@@ -3,3 +3,4 @@ pub mod Fixpoint
 pub mod FlowLaw
 pub mod Ranks
 pub mod Numbers
+pub mod Cells

@@ -1,6 +1,7 @@
 -- What code knows of the variables of a function: their numbers, a table of which leads to which, and which receive input.
-use Rattle.std.specs.Prelude.{◌≡◌, ◌<◌, ℕ, ◌+◌, ◌*◌, Bool, true, false, ◌&&◌, ◌||◌, List, [], ◌∷◌, ◌++◌, map, length, Option, Some, None, cond, nat_eq}
+use Rattle.std.specs.Prelude.{◌≡◌, ◌<◌, ◌≤◌, ℕ, ◌+◌, ◌*◌, Bool, true, false, ◌&&◌, ◌||◌, List, [], ◌∷◌, ◌++◌, map, length, Option, Some, None, cond, nat_eq, slice_set}
 use Rattle.std.specs.List.{list_any, slice_get}
+use Rattle.std.proofs.Common.{Vec, Global}
 use Rattle.std.proofs.Math.ListN.{get_or}
 use Rattle.oc_tree.specs.Tree.{TProgram}
 use Rattle.oc_tree.specs.declared.tree.VarId.{VarId}
@@ -65,3 +66,29 @@ linked t u v = cell_at t.cells (number_in t.variables u) (number_in t.variables 
 -- what is said of a table, for its own variables
 abbrev pub Links : TTable → (VarId → VarId → Bool) → Type 0
 Links t r = (u v : VarId) → is_among u t.variables ≡ true → is_among v t.variables ≡ true → linked t u v ≡ r u v
+
+-- the rows that code holds, as lists
+abbrev pub cells_of : List (Vec Bool Global) → Cells
+cells_of rows = map (λ r. r.items) rows
+
+-- with a cell set
+abbrev pub set_cell : Cells → ℕ → ℕ → Cells
+set_cell rows i j = slice_set rows i (slice_set (get_or rows i []) j true)
+
+-- in a row is set what was, and what is set in the other
+pub record Joined (other old new : List Bool) : Type 0 where
+  pub same : length new ≡ length old
+  pub cells : (j : ℕ) → j < length old → get_or new j false ≡ get_or old j false || get_or other j false
+
+-- of `n` rows, those that have the number
+pub record JoinedEach (number : ℕ) (other : List Bool) (old new : Cells) : Type 0 where
+  pub same : length new ≡ length old
+  pub square : IsSquare (length old) new
+  pub cells : (i j : ℕ) → i < length old → j < length old → cell new i j ≡ cell old i j || (cell old i number && get_or other j false)
+
+-- the first `k` rows
+pub record JoinedTo (k number : ℕ) (other : List Bool) (old new : Cells) : Type 0 where
+  pub same : length new ≡ length old
+  pub square : IsSquare (length old) new
+  pub done : (i j : ℕ) → i < k → j < length old → cell new i j ≡ cell old i j || (cell old i number && get_or other j false)
+  pub rest : (i : ℕ) → k ≤ i → get_or new i [] ≡ get_or old i []

@@ -5,3 +5,4 @@ pub mod flow;
 pub mod laws;
 pub mod numbering;
 pub mod summary;
+pub mod table;

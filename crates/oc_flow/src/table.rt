@@ -1,0 +1,179 @@
+//! Tables of which variable of a function leads to which.
+ghost use Rattle.std.specs.Prelude.{◌≡◌, ◌<◌, ◌≤◌, ◌&&◌, ◌||◌, ℕ, [], Bool, true, false, length, map, replicate, Some, OnOk, IfOk, IfSome};
+ghost use Rattle.std.proofs.Math.ListN.{get_or};
+ghost use Rattle.oc_tree.specs.declared.tree.VarId.{VarId};
+ghost use Rattle.oc_flow.specs.Variables.{is_among, same_variable};
+ghost use Rattle.oc_flow.specs.Flow.{chain};
+ghost use Rattle.oc_flow.specs.Known.{IsSquare, Joined, JoinedEach, Links, TTable, cell, cells_of, linked, number_in, set_cell};
+
+use crate::numbering::Numbering;
+use oc_tree::tree::VarId;
+use std::alloc::{AllocError, Global};
+use std::marker::Model;
+
+/// The variables of a function, and which leads to which.
+#[derive(Drop)]
+pub struct Table {
+    numbering: Numbering,
+    rows: Vec<Vec<bool>>,
+}
+
+impl Model for Table {
+    ghost use Rattle.std.specs.Prelude.{length};
+    ghost use Rattle.oc_flow.specs.Known.{IsSquare, TTable, cells_of};
+
+    ghost Value = { TTable };
+
+    ghost view = { λ t. record { variables = t.numbering; cells = cells_of t.rows.items } };
+
+    ghost invariant = { λ t. IsSquare (length t.numbering) (cells_of t.rows.items) };
+}
+
+// So many rows and columns, of which none is set.
+fn no_rows(alloc: Global, count: usize) -> Result<Vec<Vec<bool>>, AllocError>
+    ensures { IfOk result (λ r. cells_of r.items ≡ replicate count (replicate count false)) }
+{
+    let mut rows = Vec::new(alloc);
+    for _i in 0..count {
+        rows.push(vec![in alloc; false; count]?)?;
+    }
+    Ok(rows)
+}
+
+fn at(rows: &[Vec<bool>], i: usize, j: usize) -> bool
+    requires square { IsSquare (length rows.now) (cells_of rows.now) }
+    requires row { i < length rows.now }
+    requires column { j < length rows.now }
+    ensures { result ≡ cell (cells_of rows.now) i j }
+{
+    rows[i][j]
+}
+
+fn copied(alloc: Global, row: &[bool]) -> Result<Vec<bool>, AllocError>
+    ensures { IfOk result (λ r. r.items ≡ row.now) }
+{
+    let mut copy = Vec::new(alloc);
+    copy.extend_from_slice(row)?;
+    Ok(copy)
+}
+
+fn set(rows: &mut Vec<Vec<bool>>, i: usize, j: usize)
+    requires square { IsSquare (length rows.old.items) (cells_of rows.old.items) }
+    requires row { i < length rows.old.items }
+    requires column { j < length rows.old.items }
+    ensures cells { cells_of rows.new.items ≡ set_cell (cells_of rows.old.items) i j }
+{
+    rows[i][j] = true;
+}
+
+// Sets in a row what is set in the other.
+fn join(row: &mut Vec<bool>, other: &[bool])
+    requires { length other.now ≡ length row.old.items }
+    ensures { Joined other.now row.old.items row.new.items }
+{
+    for i in 0..other.len() {
+        row[i] = row[i] || other[i];
+    }
+}
+
+// Sets in each row that has the number what is set in the other.
+fn join_each(rows: &mut Vec<Vec<bool>>, number: usize, other: &[bool])
+    requires square { IsSquare (length rows.old.items) (cells_of rows.old.items) }
+    requires number { number < length rows.old.items }
+    requires other { length other.now ≡ length rows.old.items }
+    ensures height { length rows.new.items ≡ length rows.old.items }
+    ensures cells { JoinedEach number other.now (cells_of rows.old.items) (cells_of rows.new.items) }
+{
+    for i in 0..rows.len() {
+        if at(rows.as_slice(), i, number) {
+            join(&mut rows[i], other);
+        }
+    }
+}
+
+// Sets in each row that has the number what is set in the row of that number.
+fn join_through(alloc: Global, rows: &mut Vec<Vec<bool>>, number: usize) -> Result<(), AllocError>
+    requires square { IsSquare (length rows.old.items) (cells_of rows.old.items) }
+    requires number { number < length rows.old.items }
+    ensures square { IsSquare (length rows.old.items) (cells_of rows.new.items) }
+    ensures cells { OnOk result (JoinedEach number (get_or (cells_of rows.old.items) number []) (cells_of rows.old.items) (cells_of rows.new.items)) }
+{
+    let other = copied(alloc, rows[number].as_slice())?;
+    join_each(rows, number, other.as_slice());
+    Ok(())
+}
+
+impl Table {
+    /// A table in which nothing leads to anything.
+    pub fn new(alloc: Global, variables: Vec<VarId>) -> Result<Table, AllocError>
+        ensures variables { IfOk result (λ t. t.variables ≡ variables.items) }
+        ensures none { IfOk result (λ t. Links t (λ u v. false)) }
+    {
+        let rows = no_rows(alloc, variables.len())?;
+        let numbering = Numbering::new(alloc, variables)?;
+        Ok(Table { numbering, rows })
+    }
+
+    pub fn variables(&self) -> &[VarId]
+        ensures { result.now ≡ self.now.variables }
+    {
+        let _rows = &self.rows;
+        self.numbering.variables()
+    }
+
+    /// The number of a variable; none where it is not in the table.
+    pub fn number(&self, v: VarId) -> Option<usize>
+        ensures number { result ≡ number_in self.now.variables v }
+        ensures below { IfSome result (λ i. i < length self.now.variables) }
+    {
+        let _rows = &self.rows;
+        self.numbering.number(v)
+    }
+
+    /// Whether one variable leads to the other.
+    pub fn links(&self, u: VarId, v: VarId) -> bool
+        ensures { result ≡ linked self.now u v }
+    {
+        match (self.number(u), self.number(v)) {
+            (Some(i), Some(j)) => at(self.rows.as_slice(), i, j),
+            _ => false,
+        }
+    }
+
+    /// Lets one variable lead to the other, where both are in the table.
+    pub fn link(&mut self, u: VarId, v: VarId)
+        ensures variables { self.new.variables ≡ self.old.variables }
+        ensures links { Links self.new (λ a b. linked self.old a b || (same_variable a u && same_variable b v)) }
+    {
+        if let Some(i) = self.number(u) {
+            if let Some(j) = self.number(v) {
+                set(&mut self.rows, i, j);
+            }
+        }
+    }
+
+    // Lets variables lead on through this one, which is in the table.
+    fn through(&mut self, alloc: Global, w: VarId) -> Result<(), AllocError>
+        requires { is_among w self.now.variables ≡ true }
+        ensures variables { self.new.variables ≡ self.old.variables }
+        ensures links { OnOk result (Links self.new (λ a b. linked self.old a b || (linked self.old a w && linked self.old w b))) }
+    {
+        if let Some(k) = self.number(w) {
+            join_through(alloc, &mut self.rows, k)?;
+        }
+        Ok(())
+    }
+
+    /// Lets variables lead on through each other.
+    pub fn close(&mut self, alloc: Global) -> Result<(), AllocError>
+        ensures variables { self.new.variables ≡ self.old.variables }
+        ensures links { OnOk result (Links self.new (λ a b. chain (linked self.old) self.old.variables a b)) }
+    {
+        let count = self.variables().len();
+        for i in 0..count {
+            let w = self.variables()[count - 1 - i];
+            self.through(alloc, w)?;
+        }
+        Ok(())
+    }
+}

@@ -4,3 +4,4 @@ pub mod FlowLaw
 pub mod Ranks
 pub mod Numbers
 pub mod Cells
+pub mod Added

@@ -4,9 +4,9 @@ ghost use Rattle.std.proofs.Math.ListN.{get_or};
 ghost use Rattle.oc_tree.specs.declared.tree.VarId.{VarId};
 ghost use Rattle.oc_flow.specs.Variables.{is_among, same_variable};
 ghost use Rattle.oc_flow.specs.Flow.{chain};
-ghost use Rattle.oc_flow.specs.Known.{IsSquare, Joined, JoinedEach, Links, TTable, cell, cells_of, linked, number_in, set_cell};
+ghost use Rattle.oc_flow.specs.Known.{IsSquare, Joined, JoinedEach, Links, TTable, cell, cells_of, linked, number_in, set_cell, table_flows};
 
-use crate::numbering::Numbering;
+use crate::numbering::{Numbering, is_same};
 use oc_tree::tree::VarId;
 use std::alloc::{AllocError, Global};
 use std::marker::Model;
@@ -136,6 +136,16 @@ impl Table {
     {
         match (self.number(u), self.number(v)) {
             (Some(i), Some(j)) => at(self.rows.as_slice(), i, j),
+            _ => false,
+        }
+    }
+
+    /// Whether one variable is the other, or leads to it.
+    pub fn flows(&self, u: VarId, v: VarId) -> bool
+        ensures { result ≡ table_flows self.now u v }
+    {
+        match (self.number(u), self.number(v)) {
+            (Some(i), Some(j)) => is_same(u, v) || at(self.rows.as_slice(), i, j),
             _ => false,
         }
     }

@@ -5,3 +5,7 @@ pub mod Ranks
 pub mod Numbers
 pub mod Cells
 pub mod Added
+pub mod Built
+pub mod Knows
+pub mod Counts
+pub mod Asked

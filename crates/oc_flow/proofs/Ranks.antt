@@ -149,7 +149,10 @@ module _ (p : TProgram) (groups : List Group) (checked : IsChecked p groups) whe
       let n : length (function_names p.functions) ≡ length p.functions = length-map p.functions (λ f. f.name) in
       omega (arith, l, n)
 
-  falls : (f : ℕ) (a : TEffect) (c : TCalled) → IsOf a (effects_at p f) → a.call ≡ Some c → rank (call_links p.functions) (length p.functions) c.function < rank (call_links p.functions) (length p.functions) f
+  pub small : (f : ℕ) → f < length p.functions → rank (call_links p.functions) (length p.functions) f < length p.functions
+  small f l = rank_small (call_links p.functions) (length p.functions) onwards f l
+
+  pub falls : (f : ℕ) (a : TEffect) (c : TCalled) → IsOf a (effects_at p f) → a.call ≡ Some c → rank (call_links p.functions) (length p.functions) c.function < rank (call_links p.functions) (length p.functions) f
   falls f a c i e =
       let s = effect_stands f a i in
       let fs = p.functions in
@@ -167,7 +170,7 @@ module _ (p : TProgram) (groups : List Group) (checked : IsChecked p groups) whe
   pub ranked : Ranked p
   ranked = record {
     rank = rank (call_links p.functions) (length p.functions);
-    small = λ f l. rank_small (call_links p.functions) (length p.functions) onwards f l;
+    small = small;
     within = within;
     inside = inside;
     falls = falls;

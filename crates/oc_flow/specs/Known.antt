@@ -223,3 +223,24 @@ pub record Learns (p : TProgram) (f : ℕ) (old new : Knowns) : Type 0 where
 pub record LearnsAll (p : TProgram) (old new : Knowns) : Type 0 where
   pub right : Right p new
   pub below : (d : ℕ) → Below p d old → Below p (d + 1) new
+
+-- after the first `i` functions: those among them of one more rank
+pub record Learning (p : TProgram) (i : ℕ) (old new : Knowns) : Type 0 where
+  pub right : Right p new
+  pub keeps : Keeps old new
+  pub more : (d f : ℕ) → Below p d old → f < i → function_rank p f < d + 1 → is_some (known_at new f) ≡ true
+
+-- ---- what is asked
+
+abbrev pub known_flows : Option TKnown → VarId → VarId → Bool
+known_flows None u v = false
+known_flows (Some k) u v = table_flows k.table u v
+
+abbrev pub brings_seen : Knowns → Option TEffect → VarId → Bool
+brings_seen ks None v = false
+brings_seen ks (Some a) v = brings_known ks a v
+
+-- all functions are known
+pub record AllKnown (p : TProgram) (ks : Knowns) : Type 0 where
+  pub right : Right p ks
+  pub all : (f : ℕ) → f < length p.functions → is_some (known_at ks f) ≡ true

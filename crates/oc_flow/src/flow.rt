@@ -6,11 +6,24 @@ ghost use Rattle.oc_flow.specs.Variables.{IsOf};
 ghost use Rattle.oc_flow.specs.Relations.{Brings, Flow};
 ghost use Rattle.oc_flow.specs.Flow.{brings, flows};
 ghost use Rattle.oc_flow.specs.Laws.{Decides};
+ghost use Rattle.oc_tree.specs.Checked.{IsChecked};
 
+use crate::functions::learn_all;
 use crate::summary::Summaries;
+use oc_effects::effects::Effects;
 use oc_io::Memory;
 use oc_tree::checked::Checked;
-use std::alloc::Global;
+use std::alloc::{AllocError, Global};
+
+fn summarized(alloc: Global, checked: &Checked) -> Result<Summaries, AllocError>
+    ensures summaries { IfOk result (λ s. s ≡ checked.now) }
+    ensures checked { IfOk result (λ s. IsChecked s.program s.groups) }
+{
+    let effects = Effects::new(alloc, checked)?;
+    let known = learn_all(alloc, &effects)?;
+    let _program = effects.checked().program();
+    Ok(Summaries::new(effects, known))
+}
 
 /// The flow and the inputs of a program.
 pub fn summaries(alloc: Global, checked: &Checked) -> Result<Summaries, Memory>
@@ -19,5 +32,8 @@ pub fn summaries(alloc: Global, checked: &Checked) -> Result<Summaries, Memory>
     ensures flow { IfOk result (λ s. (f : ℕ) (u v : VarId) → Decides (flows s.program f u v) (Flow s.program f u v)) }
     ensures brings { IfOk result (λ s. (f : ℕ) (a : TEffect) (v : VarId) → IsOf a (effects_at s.program f) → Decides (brings s.program a v) (Brings s.program f a v)) }
 {
-    Err(Memory)
+    match summarized(alloc, checked) {
+        Ok(summaries) => Ok(summaries),
+        Err(_) => Err(Memory),
+    }
 }

@@ -1,14 +1,15 @@
 //! What is known of all functions, callees first.
-ghost use Rattle.std.specs.Prelude.{◌≡◌, ◌<◌, ◌++◌, ◌≤◌, ◌^◌, ℕ, List, [], map, length, Option, None, Some, is_some, replicate, OnOk, IfOk};
+ghost use Rattle.std.specs.Prelude.{◌≡◌, ◌<◌, ◌++◌, ◌≤◌, ◌^◌, ℕ, List, [], map, length, Option, None, Some, true, is_some, replicate, OnOk, IfOk};
 ghost use Rattle.oc_tree.specs.declared.tree.VarId.{VarId};
 ghost use Rattle.oc_tree.specs.declared.tree.VarId.TheVariants.{Nv, Param};
+ghost use Rattle.std.specs.List.{list_all};
 ghost use Rattle.oc_tree.specs.Tree.{TProgram};
 ghost use Rattle.oc_tree.specs.Checked.{TChecked, IsChecked};
 ghost use Rattle.oc_effects.specs.Effects.{TEffect, effects_at, params_at};
 ghost use Rattle.oc_effects.specs.View.{effect_view};
 ghost use Rattle.oc_flow.specs.Variables.{from};
 ghost use Rattle.oc_flow.specs.Flow.{chain};
-ghost use Rattle.oc_flow.specs.Known.{Below, KnownBy, Learns, LearnsAll, Links, Right, declared_of, known_at, outer_of, some_leads};
+ghost use Rattle.oc_flow.specs.Known.{Below, KnownBy, Learns, LearnsAll, Links, Right, declared_of, is_ready, known_at, outer_of, some_leads};
 
 use crate::inputs::received;
 use crate::known::Known;
@@ -16,6 +17,7 @@ use crate::leads::{all_known, all_leads};
 use crate::table::Table;
 use oc_effects::effect::Effect;
 use oc_effects::effects::Effects;
+use oc_tree::checked::Checked;
 use oc_tree::tree::VarId;
 use std::alloc::{AllocError, Global};
 
@@ -100,4 +102,104 @@ fn know(
     let table = table_of(alloc, known, effects, variables)?;
     let received = received(alloc, &table, known, effects)?;
     Ok(Known::new(table, outer_of(alloc, outer)?, received))
+}
+
+fn outer_at(checked: &Checked, f: usize) -> Outer
+    requires { f < length checked.now.program.functions }
+    ensures nonvolatile { result.nonvolatile ≡ length checked.now.program.names.nvs }
+    ensures params { result.params ≡ length (params_at checked.now.program f) }
+{
+    let program = checked.program();
+    Outer {
+        nonvolatile: program.names.nvs.len() as u32,
+        params: program.functions[f].params.len() as u32,
+    }
+}
+
+fn learn_ready(
+    alloc: Global,
+    effects: &Effects,
+    known: &mut Vec<Option<Known>>,
+    f: usize,
+) -> Result<(), AllocError>
+    requires f { f < length effects.now.program.functions }
+    requires right { Right effects.now.program known.old.items }
+    requires ready { list_all (λ e. is_ready known.old.items e.call) (effects_at effects.now.program f) ≡ true }
+    ensures { OnOk result (Learns effects.now.program f known.old.items known.new.items) }
+{
+    let checked = effects.checked();
+    let _program = checked.program();
+    let one = know(alloc, known.as_slice(), effects.of_function(f), outer_at(checked, f))?;
+    known[f] = Some(one);
+    Ok(())
+}
+
+fn is_known_at(known: &[Option<Known>], f: usize) -> bool
+    ensures { result ≡ is_some (known_at known.now f) }
+{
+    match known.get(f) {
+        Some(one) => one.is_some(),
+        None => false,
+    }
+}
+
+// Gets to know a function, if its callees are known.
+fn learn(
+    alloc: Global,
+    effects: &Effects,
+    known: &mut Vec<Option<Known>>,
+    f: usize,
+) -> Result<(), AllocError>
+    requires f { f < length effects.now.program.functions }
+    requires right { Right effects.now.program known.old.items }
+    ensures { OnOk result (Learns effects.now.program f known.old.items known.new.items) }
+{
+    if is_known_at(known.as_slice(), f) {
+        return Ok(());
+    }
+    if !all_known(known.as_slice(), effects.of_function(f)) {
+        return Ok(());
+    }
+    learn_ready(alloc, effects, known, f)?;
+    Ok(())
+}
+
+// Gets to know the functions of one more rank.
+fn learn_more(
+    alloc: Global,
+    effects: &Effects,
+    known: &mut Vec<Option<Known>>,
+) -> Result<(), AllocError>
+    requires { Right effects.now.program known.old.items }
+    ensures { OnOk result (LearnsAll effects.now.program known.old.items known.new.items) }
+{
+    let checked = effects.checked();
+    for f in 0..checked.program().functions.len() {
+        learn(alloc, effects, known, f)?;
+    }
+    Ok(())
+}
+
+fn nothing_known(alloc: Global, count: usize) -> Result<Vec<Option<Known>>, AllocError>
+    ensures { IfOk result (λ r. r.items ≡ replicate count None) }
+{
+    let mut known = Vec::new(alloc);
+    for _f in 0..count {
+        known.push(None)?;
+    }
+    Ok(known)
+}
+
+/// What is known of each function.
+pub fn learn_all(alloc: Global, effects: &Effects) -> Result<Vec<Option<Known>>, AllocError>
+    ensures right { IfOk result (λ r. Right effects.now.program r.items) }
+    ensures all { IfOk result (λ r. (f : ℕ) → f < length effects.now.program.functions → is_some (known_at r.items f) ≡ true) }
+{
+    let checked = effects.checked();
+    let count = checked.program().functions.len();
+    let mut known = nothing_known(alloc, count)?;
+    for _rank in 0..count {
+        learn_more(alloc, effects, &mut known)?;
+    }
+    Ok(known)
 }

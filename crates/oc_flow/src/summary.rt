@@ -1,7 +1,11 @@
 //! What is known of flow and input in all functions of a program.
-ghost use Rattle.std.specs.Prelude.{◌≡◌};
+ghost use Rattle.std.specs.Prelude.{◌≡◌, Option};
+ghost use Rattle.oc_tree.specs.Checked.{TChecked};
 ghost use Rattle.oc_flow.specs.Flow.{brings_at, flows};
+ghost use Rattle.oc_flow.specs.Known.{AllKnown, known_at, known_flows};
 
+use crate::inputs::brings;
+use crate::known::Known;
 use oc_effects::effects::Effects;
 use oc_tree::tree::{StmtId, VarId};
 use std::marker::Model;
@@ -10,13 +14,14 @@ use std::marker::Model;
 #[derive(Drop)]
 pub struct Summaries<'a> {
     effects: Effects<'a>,
+    known: Vec<Option<Known>>,
 }
 
 impl<'a> Model for Summaries<'a> {
-    ghost use Rattle.std.specs.Prelude.{◌≡◌, true, false};
     ghost use Rattle.std.specs.Coded.{codes};
     ghost use Rattle.oc_tree.specs.Stored.{block_code};
     ghost use Rattle.oc_tree.specs.Checked.{TChecked};
+    ghost use Rattle.oc_flow.specs.Known.{AllKnown};
 
     ghost Value = { TChecked };
 
@@ -24,14 +29,32 @@ impl<'a> Model for Summaries<'a> {
 
     ghost view = { λ s. s.effects };
 
-    ghost invariant = { λ s. true ≡ false };
+    ghost invariant = { λ s. AllKnown s.effects.program s.known.items };
+}
+
+fn known_flows(known: &[Option<Known>], function: u32, u: VarId, v: VarId) -> bool
+    ensures { result ≡ known_flows (known_at known.now function) u v }
+{
+    match known.get(function as usize) {
+        Some(Some(one)) => one.flows(u, v),
+        _ => false,
+    }
 }
 
 impl<'a> Summaries<'a> {
+    /// The summaries of a program, of whose functions this is known.
+    pub fn new(effects: Effects<'a>, known: Vec<Option<Known>>) -> Summaries<'a>
+        requires { AllKnown effects.program known.items }
+        ensures { result ≡ effects.entry }
+    {
+        Summaries { effects, known }
+    }
+
     /// What the statements of the program do.
     pub fn effects(&self) -> &Effects<'a>
         ensures { result.now ≡ self.now }
     {
+        let _known = &self.known;
         &self.effects
     }
 
@@ -41,14 +64,17 @@ impl<'a> Summaries<'a> {
         ensures { result ≡ flows self.now.program function u v }
     {
         let _effects = &self.effects;
-        false
+        known_flows(self.known.as_slice(), function, u, v)
     }
 
     /// Whether a statement brings input into `v`.
     pub fn brings(&self, s: StmtId, v: VarId) -> bool
         ensures { result ≡ brings_at self.now.program s v }
     {
-        let _effects = &self.effects;
-        false
+        let _program = self.effects.checked().program();
+        match self.effects.at(s) {
+            Some(effect) => brings(self.known.as_slice(), effect, v),
+            None => false,
+        }
     }
 }

@@ -38,6 +38,7 @@ flows_asked p ks known f u v = go (nat_lt f (length p.functions)) refl
     some : (o : Option TKnown) → known_at ks f ≡ o → is_some o ≡ true → known_flows o u v ≡ flows p f u v
     some None e h = absurd (true≢false (sym h))
     some (Some k) e h = (known.right.each f k e).flows u v
+
     go : (b : Bool) → nat_lt f (length p.functions) ≡ b → known_flows (known_at ks f) u v ≡ flows p f u v
     go true h = some (known_at ks f) refl (known.all f (grind (arith, nat_tests)))
     go false h =
@@ -85,6 +86,7 @@ module _ (s : ℕ) (q : Placed → Bool) where
       or_false : (a : Bool) → a || false ≡ a
       or_false true = refl
       or_false false = refl
+
       go : (b : Bool) → nat_eq x.id s ≡ b → list_any (λ b. nat_eq b.id s && q b) xs ≡ on_found q (find (λ a. a.id == s) xs) → (b && q x) || list_any (λ b. nat_eq b.id s && q b) xs ≡ on_found q (cond b (Some x) (find (λ a. a.id == s) xs))
       go false h rest = rest
       go true h rest =
@@ -114,9 +116,9 @@ of_image g (y ∷ xs) x (inr i) = inr (of_image g xs x i)
 somewhere : (p : TProgram) (fs : List TFunction) (b : Placed) → IsOf b (flat_map (λ f. block_placed (at_start f) f.body) fs) → (f : ℕ) × IsOf (effect_of p b) (get_or (map (function_effects p) fs) f [])
 somewhere p [] b i = absurd i
 somewhere p (f ∷ fs) b i = elim (of_join (block_placed (at_start f) f.body) (flat_map (λ f. block_placed (at_start f) f.body) fs) b i) [
-    | inl a ↦ (0, of_image (effect_of p) (block_placed (at_start f) f.body) b a)
-    | inr a ↦ let z = somewhere p fs b a in (suc z.0, z.1)
-  ]
+  | inl a ↦ (0, of_image (effect_of p) (block_placed (at_start f) f.body) b a)
+  | inr a ↦ let z = somewhere p fs b a in (suc z.0, z.1)
+]
 
 module _ (p : TProgram) (groups : List Group) (checked : IsChecked p groups) (r : Ranked p) (ks : Knowns) (known : AllKnown p ks) where
   ready : (f : ℕ) (a : TEffect) → IsOf a (effects_at p f) → (o : Option TCalled) → a.call ≡ o → is_ready ks o ≡ true

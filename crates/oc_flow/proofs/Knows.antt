@@ -88,16 +88,16 @@ of_kept t (y ∷ ys) x i = go (t y) refl i (of_kept t ys x)
 swapped : {A B : Type 0} (P : B → A → Bool) (Q : A → Bool) (es : List B) (vs : List A) → list_any Q (filter (λ u. list_any (λ b. P b u) es) vs) ≡ list_any (λ b. list_any (λ u. P b u && Q u) vs) es
 swapped P Q es vs = same_tests (list_any Q (filter (λ u. list_any (λ b. P b u) es) vs)) (list_any (λ b. list_any (λ u. P b u && Q u) vs) es)
     (λ h.
-      let u = in_any Q (filter (λ u. list_any (λ b. P b u) es) vs) h in
-      let k = of_kept (λ u. list_any (λ b. P b u) es) vs u.0 u.1 in
-      let b = in_any (λ b. P b u.0) es k.1 in
-      any_in (λ b. list_any (λ u. P b u && Q u) vs) es b.0 b.1 (any_in (λ u. P b.0 u && Q u) vs u.0 k.0 (both (P b.0 u.0) (Q u.0) b.2 u.2)))
+    let u = in_any Q (filter (λ u. list_any (λ b. P b u) es) vs) h in
+    let k = of_kept (λ u. list_any (λ b. P b u) es) vs u.0 u.1 in
+    let b = in_any (λ b. P b u.0) es k.1 in
+    any_in (λ b. list_any (λ u. P b u && Q u) vs) es b.0 b.1 (any_in (λ u. P b.0 u && Q u) vs u.0 k.0 (both (P b.0 u.0) (Q u.0) b.2 u.2)))
     (λ h.
-      let b = in_any (λ b. list_any (λ u. P b u && Q u) vs) es h in
-      let u = in_any (λ u. P b.0 u && Q u) vs b.2 in
-      any_in Q (filter (λ u. list_any (λ b. P b u) es) vs) u.0
-      (kept_of (λ u. list_any (λ b. P b u) es) vs u.0 u.1 (any_in (λ b. P b u.0) es b.0 b.1 (first_of_both (P b.0 u.0) (Q u.0) u.2)))
-      (second_of_both (P b.0 u.0) (Q u.0) u.2))
+    let b = in_any (λ b. list_any (λ u. P b u && Q u) vs) es h in
+    let u = in_any (λ u. P b.0 u && Q u) vs b.2 in
+    any_in Q (filter (λ u. list_any (λ b. P b u) es) vs) u.0
+    (kept_of (λ u. list_any (λ b. P b u) es) vs u.0 u.1 (any_in (λ b. P b u.0) es b.0 b.1 (first_of_both (P b.0 u.0) (Q u.0) u.2)))
+    (second_of_both (P b.0 u.0) (Q u.0) u.2))
 
 got : {A : Type 0} (xs : List A) (i : ℕ) (d e : A) → i < length xs → get_or xs i d ≡ get_or xs i e
 got [] i d e h = absurd (omega arith)
@@ -134,6 +134,7 @@ is_among_at vs v i e = go (is_among v vs) refl
         by : (b : Bool) → b || is_among v xs ≡ false → (is_among v xs ≡ false → number_from (n + 1) xs v ≡ None) → cond b (Some n) (number_from (n + 1) xs v) ≡ None
         by true h rest = absurd (true≢false h)
         by false h rest = rest h
+
     go : (b : Bool) → is_among v vs ≡ b → b ≡ true
     go true h = refl
     go false h = absurd (none-some i (sym (absent 0 vs h) ∙ e))
@@ -145,6 +146,7 @@ flows_told t step links u v = go (number_in t.variables u) (number_in t.variable
   where
     vs : List VarId
     vs = t.variables
+
     go : (a b : Option ℕ) → number_in t.variables u ≡ a → number_in t.variables v ≡ b → flows_between t.cells u v a b ≡ is_among u t.variables && (is_among v t.variables && (same_variable u v || chain step t.variables u v))
     go None b ea eb = ap (λ x. x && (is_among v t.variables && (same_variable u v || chain step t.variables u v))) (sym (not_among t.variables u ea))
     go (Some i) None ea eb = sym (and_false (is_among u t.variables)) ∙ ap (λ x. is_among u t.variables && (x && (same_variable u v || chain step t.variables u v))) (sym (not_among t.variables v eb))
@@ -169,8 +171,8 @@ module _ (p : TProgram) (r : Ranked p) (ks : Knowns) (right : Right p ks) where
           ap (list_any (λ x. leads_from k a c x u t)) is.outer
           ∙ outer_any p g (λ x. leads_from k a c x u t) (λ x. begins c x u && list_any (λ y. flows p g x y && ends a c y t) (variables p g)) (λ s. refl)
           (λ x. ap (λ b. begins c x u && b)
-            (ap (list_any (λ y. table_flows k.table x y && ends a c y t)) is.outer
-            ∙ outer_any p g (λ y. table_flows k.table x y && ends a c y t) (λ y. flows p g x y && ends a c y t) (λ s. and_false (flows p g x (Declared s))) (λ y. ap (λ b. b && ends a c y t) (is.flows x y))))
+          (ap (list_any (λ y. table_flows k.table x y && ends a c y t)) is.outer
+          ∙ outer_any p g (λ y. table_flows k.table x y && ends a c y t) (λ y. flows p g x y && ends a c y t) (λ s. and_false (flows p g x (Declared s))) (λ y. ap (λ b. b && ends a c y t) (is.flows x y))))
 
   called_brings : (a : TEffect) (o : Option TCalled) → is_ready ks o ≡ true → (v : VarId) → brings_called ks a o v ≡ brings_by_call p (brings p) a o v
   called_brings a None h v = refl
@@ -209,22 +211,27 @@ module _ (p : TProgram) (r : Ranked p) (ks : Knowns) (right : Right p ks) where
       where
         vs : List VarId
         vs = k.table.variables
+
         es : List TEffect
         es = effects_at p f
+
         F : VarId → Bool
         F y = list_any (λ u. table_flows k.table u y) (filter (some_brings ks es) vs)
+
         F_is : F v ≡ receives p (brings p) f v
         F_is = swapped (λ e u. brings_known ks e u) (λ u. table_flows k.table u v) es vs
             ∙ any_cong (λ b. list_any (λ u. brings_known ks b u && table_flows k.table u v) vs) (λ b. list_any (λ u. brings p b u && flows p f u v) (variables p f)) es
             (λ b i. any_cong (λ u. brings_known ks b u && table_flows k.table u v) (λ u. brings p b u && flows p f u v) vs
-              (λ u m. λ j. known_brings f b i (all_at (λ e. is_ready ks e.call) es ready b i) u j && flows_so u v j)
-              ∙ ap (list_any (λ u. brings p b u && flows p f u v)) listed_so)
+            (λ u m. λ j. known_brings f b i (all_at (λ e. is_ready ks e.call) es ready b i) u j && flows_so u v j)
+            ∙ ap (list_any (λ u. brings p b u && flows p f u v)) listed_so)
+
         none : receives p (brings p) f v ≡ true → is_among v vs ≡ true
         none h =
             let b = in_any (λ b. list_any (λ u. brings p b u && flows p f u v) (variables p f)) es h in
             let u = in_any (λ u. brings p b.0 u && flows p f u v) (variables p f) b.2 in
             let e = ends_at p r f u.0 v (second_of_both (brings p b.0 u.0) (flows p f u.0 v) u.2) in
             subst (λ l. is_among v l ≡ true) (sym listed_so) (second_of_both (nat_lt f (length p.functions)) (is_among v (variables p f)) e)
+
         go : (o : Option ℕ) → number_in vs v ≡ o → received_at (map F vs) o ≡ receives p (brings p) f v
         go (Some i) e = received_is F vs v i e ∙ F_is
         go None e = same_tests false (receives p (brings p) f v) (λ h. absurd (true≢false (sym h))) (λ h. absurd (true≢false (sym (none h) ∙ not_among vs v e)))
@@ -257,13 +264,17 @@ module _ (p : TProgram) (r : Ranked p) (fall : (f : ℕ) (a : TEffect) (c : TCal
     where
       here : known_at (slice_set ks f (Some k)) f ≡ Some k
       here = get_or-set_same ks f (Some k) None (omega (arith, right.count))
+
       below : nat_lt f (length p.functions) ≡ true
       below = grind (arith, nat_tests)
+
       is : KnownIs p f k
       is = is_known p r ks right f below ready k (subst (λ m. KnownBy m (length (params_at p f)) ks (effects_at p f) k) en (subst (λ m. KnownBy n m ks (effects_at p f) k) eq by))
+
       each : (g : ℕ) (l : TKnown) → known_at (slice_set ks f (Some k)) g ≡ Some l → (g ≡ f) ⊎ (g ≢ f) → KnownIs p g l
       each g l e (inl s) = subst (λ i. KnownIs p i l) (sym s) (subst (KnownIs p f) (same_Some k l (sym here ∙ ap (known_at (slice_set ks f (Some k))) (sym s) ∙ e)) is)
       each g l e (inr d) = right.each g l (sym (get_or-set_other ks f g (Some k) None d) ∙ e)
+
       keeps : (g : ℕ) → is_some (known_at ks g) ≡ true → (g ≡ f) ⊎ (g ≢ f) → is_some (known_at (slice_set ks f (Some k)) g) ≡ true
       keeps g s (inl e) = ap (λ i. is_some (known_at (slice_set ks f (Some k)) i)) e ∙ ap is_some here
       keeps g s (inr d) = ap is_some (get_or-set_other ks f g (Some k) None d) ∙ s

@@ -129,7 +129,12 @@ fn learn_ready(
 {
     let checked = effects.checked();
     let _program = checked.program();
-    let one = know(alloc, known.as_slice(), effects.of_function(f), outer_at(checked, f))?;
+    let one = know(
+        alloc,
+        known.as_slice(),
+        effects.of_function(f),
+        outer_at(checked, f),
+    )?;
     known[f] = Some(one);
     Ok(())
 }

@@ -2,5 +2,12 @@
 //! it calls, and where it stands. All analyses go by these lists and never by the tree.
 #![tactic(auto)]
 
+mod calls;
 pub mod effect;
 pub mod effects;
+mod here;
+mod known;
+mod names;
+mod parts;
+mod scope;
+mod walk;

@@ -4,3 +4,4 @@ pub mod WalkLaws
 pub mod Numbering
 pub mod FewFunctions
 pub mod FlatLaws
+pub mod Laws

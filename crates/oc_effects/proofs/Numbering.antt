@@ -63,7 +63,7 @@ got_is es i (Some x) few is =
 
 -- ---- parts of consecutive ones
 
-numbers_split : (first : ℕ) (xs ys : List TEffect) → Consecutive first (xs ++ ys) → Consecutive first xs × Consecutive (first + length xs) ys
+pub numbers_split : (first : ℕ) (xs ys : List TEffect) → Consecutive first (xs ++ ys) → Consecutive first xs × Consecutive (first + length xs) ys
 numbers_split first [] ys h = let e : first ≡ first + 0 = omega arith in (refl, subst (λ n. Consecutive n ys) e h)
 numbers_split first (x ∷ xs) ys h =
     let head : x.stmt ≡ first = cc in

@@ -10,4 +10,6 @@ mod known;
 mod names;
 mod parts;
 mod scope;
+#[cfg(test)]
+mod tests;
 mod walk;

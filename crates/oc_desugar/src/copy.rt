@@ -6,6 +6,7 @@ use oc_tree::name::{Name, Names};
 use oc_tree::tree::{Decl, NvDecl, Param};
 use std::alloc::{AllocError, Global};
 
+#[inline(never)]
 pub fn copy_name(alloc: Global, name: &Name) -> Result<Name, AllocError>
     ensures { IfOk result (λ n. n ≡ name.now) }
 {

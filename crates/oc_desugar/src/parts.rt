@@ -12,6 +12,7 @@ use oc_tree::tree::{Arg, Call, Expr, Right};
 use std::alloc::{AllocError, Global};
 
 /// The name of the temporary of a pull.
+#[inline(never)]
 pub fn temporary(alloc: Global, pull: u32) -> Result<Name, AllocError>
     ensures { IfOk result (λ n. n ≡ temporary pull) }
 {
@@ -21,7 +22,8 @@ pub fn temporary(alloc: Global, pull: u32) -> Result<Name, AllocError>
     Ok(Name::new(bytes))
 }
 
-// The pull that ends here.
+// The pull that ends here. It stays out of the frames of deep expressions.
+#[inline(never)]
 fn pull(
     alloc: Global,
     k: &mut u32,

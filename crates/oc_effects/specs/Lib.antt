@@ -1,2 +1,5 @@
 pub mod Effects
 pub mod View
+pub mod Walk
+pub mod Known
+pub mod Flat

@@ -1,29 +1,103 @@
 //! The effects of a program's statements.
-ghost use Rattle.std.specs.Prelude.{◌≡◌, ◌<◌, map, length, find, nat_eq, option_map, IfOk};
-ghost use Rattle.oc_tree.specs.Places.{placed};
-ghost use Rattle.oc_effects.specs.Effects.{effect_of, effects_at, is_numbered};
+ghost use Rattle.std.specs.Prelude.{◌≡◌, ◌<◌, ◌≤◌, ◌^◌, ◌+◌, ◌++◌, All, map, length, find, nat_eq, option_map, slice_range, OnOk, IfOk};
+ghost use Rattle.std.proofs.Math.ListN.{get_or};
+ghost use Rattle.oc_tree.specs.Numbers.{numbers_on};
+ghost use Rattle.oc_tree.specs.Places.{param_variables, placed};
+ghost use Rattle.oc_tree.specs.View.{function_view, program_view};
+ghost use Rattle.oc_effects.specs.Effects.{effect_of, effects_at, function_effects, is_numbered};
+ghost use Rattle.oc_effects.specs.Flat.{all_effects, starts_from};
 ghost use Rattle.oc_effects.specs.View.{effect_view, effect_seen};
 
 use crate::effect::Effect;
+use crate::known::Known;
+use crate::scope::Scope;
+use crate::walk::walk_block;
 use oc_tree::checked::Checked;
-use oc_tree::tree::StmtId;
+use oc_tree::tree::{Function, Param, StmtId, VarId};
 use std::alloc::{AllocError, Global};
 use std::marker::Model;
+
+// The variables that are visible in front of a function's body.
+fn param_scope<'a>(alloc: Global, params: &'a [Param]) -> Result<Scope<'a>, AllocError>
+    requires { length params.now < 2 ^ 32 }
+    ensures { IfOk result (λ s. s ≡ param_variables 0 params.now) }
+{
+    let mut scope = Scope::new(alloc);
+    for (i, param) in params.iter().enumerate() {
+        let index = i as u32;
+        scope.declare(&param.name, VarId::Param { index })?;
+    }
+    Ok(scope)
+}
+
+fn add_function<'a>(
+    alloc: Global,
+    known: &Known<'a>,
+    function: &'a Function,
+    effects: &mut Vec<Effect>,
+) -> Result<(), AllocError>
+    requires { length function.now.params.items < 2 ^ 32 }
+    ensures { OnOk result (map effect_view effects.new.items ≡ map effect_view effects.old.items ++ function_effects known.now (function_view function.now)) }
+{
+    let mut scope = param_scope(alloc, function.params.as_slice())?;
+    let around = Vec::new(alloc);
+    walk_block(
+        alloc,
+        known,
+        around.as_slice(),
+        &mut scope,
+        &function.body,
+        effects,
+    )?;
+    Ok(())
+}
+
+// Those of all functions, one after another; where those of each function begin, and the end.
+fn all_effects<'a>(
+    alloc: Global,
+    known: &Known<'a>,
+    functions: &'a [Function],
+) -> Result<(Vec<Effect>, Vec<usize>), AllocError>
+    requires { All (λ f. length f.params < 2 ^ 32) (map function_view functions.now) }
+    ensures all { IfOk result (λ r. map effect_view r.0.items ≡ all_effects known.now (map function_view functions.now)) }
+    ensures starts { IfOk result (λ r. r.1.items ≡ starts_from known.now 0 (map function_view functions.now)) }
+{
+    let mut effects = Vec::new(alloc);
+    let mut starts = Vec::new(alloc);
+    for function in functions {
+        starts.push(effects.len())?;
+        add_function(alloc, known, function, &mut effects)?;
+    }
+    starts.push(effects.len())?;
+    Ok((effects, starts))
+}
+
+// Those of the function at a place.
+fn part<'e>(effects: &'e [Effect], starts: &[usize], function: usize) -> &'e [Effect]
+    requires below { function + 1 < length starts.now }
+    requires order { get_or starts.now function 0 ≤ get_or starts.now (function + 1) 0 }
+    requires within { get_or starts.now (function + 1) 0 ≤ length effects.now }
+    ensures { result.now ≡ slice_range effects.now (get_or starts.now function 0) (get_or starts.now (function + 1) 0) }
+{
+    &effects[starts[function]..starts[function + 1]]
+}
 
 /// The effects of all statements of a checked program, which contracts see as that program.
 #[derive(Drop)]
 pub struct Effects<'a> {
     checked: &'a Checked,
-    functions: Vec<Vec<Effect>>,
+    // Those of all functions, one after another; where those of each function begin, and the end.
+    effects: Vec<Effect>,
+    starts: Vec<usize>,
 }
 
 impl<'a> Model for Effects<'a> {
-    ghost use Rattle.std.specs.Prelude.{◌≡◌, true, false};
+    ghost use Rattle.std.specs.Prelude.{◌≡◌, map};
     ghost use Rattle.std.specs.Coded.{codes};
     ghost use Rattle.oc_tree.specs.Stored.{block_code};
     ghost use Rattle.oc_tree.specs.Checked.{TChecked};
-    ghost use Rattle.oc_effects.specs.Effects.{effects};
-    ghost use Rattle.oc_effects.specs.View.{effects_view};
+    ghost use Rattle.oc_effects.specs.Flat.{IsFlat};
+    ghost use Rattle.oc_effects.specs.View.{effect_view};
 
     ghost Value = { TChecked };
 
@@ -31,7 +105,7 @@ impl<'a> Model for Effects<'a> {
 
     ghost view = { λ e. e.checked.now };
 
-    ghost invariant = { λ e. (effects_view e.functions.items ≡ effects e.checked.now.program) × (true ≡ false) };
+    ghost invariant = { λ e. IsFlat e.checked.now.program (map effect_view e.effects.items) e.starts.items };
 }
 
 impl<'a> Effects<'a> {
@@ -39,15 +113,30 @@ impl<'a> Effects<'a> {
     pub fn new(alloc: Global, checked: &'a Checked) -> Result<Effects<'a>, AllocError>
         ensures { IfOk result (λ e. e ≡ checked.now) }
     {
-        Err(AllocError)
+        let program = checked.program();
+        let known = Known::new(alloc, program)?;
+        let (effects, starts) = all_effects(alloc, &known, program.functions.as_slice())?;
+        Ok(Effects {
+            checked,
+            effects,
+            starts,
+        })
     }
 
     /// The program.
     pub fn checked(&self) -> &'a Checked
         ensures { result.now ≡ self.now }
     {
-        let _functions = &self.functions;
+        let _effects = &self.effects;
         self.checked
+    }
+
+    /// How many functions there are.
+    pub fn functions(&self) -> usize
+        ensures { result ≡ length self.now.program.functions }
+    {
+        let _effects = &self.effects;
+        self.checked.program().functions.len()
     }
 
     /// The effects of the statements of the function at a place, in source order.
@@ -56,7 +145,22 @@ impl<'a> Effects<'a> {
         ensures { map effect_view result.now ≡ effects_at self.now.program function }
     {
         let _checked = self.checked;
-        self.functions[function].as_slice()
+        part(self.effects.as_slice(), self.starts.as_slice(), function)
+    }
+
+    /// The number of the first statement of the function at a place, from which on its statements
+    /// are numbered in source order; 0 where it has none.
+    pub fn first(&self, function: usize) -> StmtId
+        requires { function < length self.now.program.functions }
+        ensures { map (λ e. e.stmt) (effects_at self.now.program function) ≡ numbers_on result (length (effects_at self.now.program function)) }
+    {
+        let _checked = self.checked;
+        let effects = self.of_function(function);
+        if effects.is_empty() {
+            0
+        } else {
+            effects[0].stmt
+        }
     }
 
     /// The effect of the statement of a number, in the function at a place.
@@ -64,14 +168,22 @@ impl<'a> Effects<'a> {
         requires { function < length self.now.program.functions }
         ensures { effect_seen result ≡ find (is_numbered s) (effects_at self.now.program function) }
     {
-        let _checked = self.checked;
-        None
+        let first = self.first(function);
+        if s < first {
+            return None;
+        }
+        let effects = self.of_function(function);
+        effects.get((s - first) as usize)
     }
+
     /// The effect of the statement of a number; none where there is no such statement.
     pub fn at(&self, s: StmtId) -> Option<&Effect>
         ensures { effect_seen result ≡ option_map (effect_of self.now.program) (placed self.now.program s) }
     {
         let _checked = self.checked;
-        None
+        if s == 0 {
+            return None;
+        }
+        self.effects.get(s as usize - 1)
     }
 }

@@ -2,5 +2,14 @@
 //! it calls, and where it stands. All analyses go by these lists and never by the tree.
 #![tactic(auto)]
 
+mod calls;
 pub mod effect;
 pub mod effects;
+mod here;
+mod known;
+mod names;
+mod parts;
+mod scope;
+#[cfg(test)]
+mod tests;
+mod walk;

@@ -1,6 +1,6 @@
 -- Links added to tables.
-use Rattle.std.proofs.Common.{◌≡◌, ◌<◌, ◌≤◌, ◌+◌, map, ℕ, zero, suc, Bool, true, false, List, [], ◌∷◌, take, Option, Some, None, refl, ap, sym, ◌∙◌, subst, length, arith}
-use Rattle.std.specs.Prelude.{◌||◌, ◌&&◌, nat_eq}
+use Rattle.std.proofs.Common.{◌≡◌, ◌<◌, ◌≤◌, ◌+◌, map, ℕ, zero, suc, Bool, true, false, List, [], ◌∷◌, take, Some, None, refl, ap, sym, ◌∙◌, subst, length, arith}
+use Rattle.std.specs.Prelude.{◌||◌, ◌&&◌}
 use Rattle.std.specs.List.{list_any}
 use Rattle.std.proofs.Math.ListN.{get_or}
 use Rattle.std.proofs.lemmas.List.Folds.{list_any_more}
@@ -8,7 +8,7 @@ use Rattle.oc_tree.specs.declared.tree.VarId.{VarId}
 use Rattle.oc_tree.specs.declared.tree.VarId.TheVariants.{Nv, Param, Declared, Returned}
 use Rattle.oc_effects.specs.Effects.{TCalled, TEffect}
 use Rattle.oc_flow.specs.Variables.{same_variable, is_among, is_variable_of, begins, ends}
-use Rattle.oc_flow.specs.Known.{TTable, linked, Links, Adds, end_of}
+use Rattle.oc_flow.specs.Known.{TTable, linked, Adds, end_of}
 use Rattle.oc_flow.proofs.Lists.{same_tests, same_is, same_itself}
 
 or_false : (a : Bool) → a ≡ a || false

@@ -1,7 +1,7 @@
 -- What is asked of known functions.
-use Rattle.std.proofs.Common.{◌≡◌, ◌<◌, ◌≤◌, ◌⊎◌, inl, inr, ◌+◌, ◌++◌, map, ℕ, zero, suc, Bool, true, false, true≢false, List, [], ◌∷◌, Option, Some, None, cond, refl, ap, sym, ◌∙◌, subst, length, arith}
-use Rattle.std.specs.Prelude.{◌||◌, ◌&&◌, ◌==◌, nat_lt, nat_eq, is_some, option_map, flat_map, find, filter}
-use Rattle.std.specs.List.{list_any, list_all}
+use Rattle.std.proofs.Common.{◌≡◌, ◌<◌, ◌≤◌, ◌⊎◌, inl, inr, ◌++◌, map, ℕ, zero, suc, Bool, true, false, true≢false, List, [], ◌∷◌, Option, Some, None, cond, refl, ap, sym, ◌∙◌, length, arith}
+use Rattle.std.specs.Prelude.{◌||◌, ◌&&◌, ◌==◌, nat_lt, nat_eq, is_some, option_map, flat_map, find}
+use Rattle.std.specs.List.{list_any}
 use Rattle.std.proofs.Math.ListN.{get_or}
 use Rattle.std.proofs.lemmas.Bool.{eqb-true}
 use Rattle.std.proofs.lemmas.Bool.Decides.{nat_tests}
@@ -12,12 +12,10 @@ use Rattle.oc_tree.specs.Numbers.{numbers_on, program_statements}
 use Rattle.oc_tree.specs.Places.{Placed, at_start, block_placed, program_placed, placed}
 use Rattle.oc_tree.specs.Checked.{Group, IsChecked}
 use Rattle.oc_tree.proofs.Grouped.{ids, program_ids}
-use Rattle.oc_tree.proofs.ReachLaws.{or_left, or_right, or_elim}
-use Rattle.oc_effects.specs.Effects.{TCalled, TEffect, effect_of, function_effects, effects, effects_at}
+use Rattle.oc_effects.specs.Effects.{TCalled, TEffect, effect_of, function_effects, effects_at}
 use Rattle.oc_flow.specs.Variables.{IsOf, is_among, variables, is_variable, same_variable}
-use Rattle.oc_flow.specs.Flow.{chain, leads, flow_by, flows_to, flows, brings, brings_at}
-use Rattle.oc_flow.specs.Known.{TKnown, Knowns, known_at, is_ready, Right, AllKnown, known_flows, brings_seen, brings_known, table_flows}
-use Rattle.oc_flow.proofs.Lists.{any_in, in_any}
+use Rattle.oc_flow.specs.Flow.{chain, leads, flows_to, flows, brings, brings_at}
+use Rattle.oc_flow.specs.Known.{TKnown, Knowns, known_at, is_ready, AllKnown, known_flows, brings_seen}
 use Rattle.oc_flow.proofs.Fixpoint.{Ranked}
 use Rattle.oc_flow.proofs.Knows.{known_brings, any_join}
 

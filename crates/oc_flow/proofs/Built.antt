@@ -1,8 +1,8 @@
 -- Tables of functions, as code makes them.
-use Rattle.std.proofs.Common.{◌≡◌, ◌<◌, ◌≤◌, ◌+◌, ◌-◌, ◌++◌, map, ℕ, zero, suc, Bool, true, false, List, [], ◌∷◌, Option, Some, None, refl, ap, sym, ◌∙◌, subst, length, arith, append_assoc, filter, inl, inr}
+use Rattle.std.proofs.Common.{◌≡◌, ◌<◌, ◌+◌, ◌-◌, ◌++◌, map, ℕ, suc, Bool, true, false, List, [], ◌∷◌, refl, ap, sym, ◌∙◌, subst, arith, append_assoc, filter, inl, inr}
 use Rattle.std.specs.Prelude.{◌||◌, ◌&&◌}
 use Rattle.oc_tree.specs.declared.tree.VarId.{VarId}
-use Rattle.oc_flow.specs.Variables.{IsOf, same_variable, is_among, from}
+use Rattle.oc_flow.specs.Variables.{IsOf, is_among, from}
 use Rattle.oc_flow.specs.Flow.{chain}
 use Rattle.std.specs.List.{list_any}
 use Rattle.oc_effects.specs.Effects.{TEffect}

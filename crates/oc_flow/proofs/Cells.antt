@@ -1,16 +1,14 @@
 -- Cells of tables.
-use Rattle.std.proofs.Common.{◌≡◌, ◌≢◌, ◌<◌, ◌≤◌, ◌⊎◌, inl, inr, ◌+◌, ℕ, zero, suc, Bool, true, false, true≢false, cond, List, [], ◌∷◌, Option, Some, None, take, drop, refl, ap, sym, ◌∙◌, subst, length, arith, replicate, Vec, Global}
-use Rattle.std.specs.Prelude.{nat_eq, ◌||◌, ◌&&◌, slice_set}
+use Rattle.std.proofs.Common.{◌≡◌, ◌≢◌, ◌<◌, ◌⊎◌, inl, inr, ℕ, zero, suc, Bool, true, false, List, [], ◌∷◌, Option, Some, None, drop, refl, ap, sym, ◌∙◌, subst, length, arith, replicate, Vec, Global}
+use Rattle.std.specs.Prelude.{◌||◌, ◌&&◌, slice_set}
 use Rattle.std.proofs.Math.ListN.{get_or}
 use Rattle.std.proofs.lemmas.List.{get_or-set_same, get_or-set_other}
 use Rattle.std.proofs.Math.ListN.{length-set}
-use Rattle.std.proofs.lemmas.Bool.{eqb-true}
-use Rattle.std.proofs.lemmas.Option.{none-some, same_Some}
 use Rattle.oc_tree.specs.declared.tree.VarId.{VarId}
 use Rattle.oc_tree.proofs.ReachLaws.{or_left, or_right, or_elim}
-use Rattle.oc_flow.specs.Variables.{IsOf, same_variable, is_among}
+use Rattle.oc_flow.specs.Variables.{same_variable, is_among}
 use Rattle.oc_flow.specs.Flow.{chain}
-use Rattle.oc_flow.specs.Known.{number_from, number_in, Cells, cells_of, cell, cell_at, IsSquare, TTable, linked, Links, set_cell, Joined, JoinedEach, JoinedTo}
+use Rattle.oc_flow.specs.Known.{number_in, Cells, cells_of, cell, cell_at, IsSquare, TTable, linked, Links, set_cell, Joined, JoinedEach, JoinedTo}
 use Rattle.oc_flow.proofs.Lists.{same_tests, same_is, same_itself, both, first_of_both, second_of_both}
 use Rattle.oc_flow.proofs.Numbers.{number_below, number_at, numbered}
 

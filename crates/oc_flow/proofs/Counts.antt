@@ -1,5 +1,5 @@
 -- How many parameters and nonvolatile variables there are.
-use Rattle.std.proofs.Common.{◌≡◌, ◌<◌, ◌^◌, ℕ, zero, suc, List, [], ◌∷◌, map, length, refl, ap, sym, ◌∙◌, subst, arith}
+use Rattle.std.proofs.Common.{◌≡◌, ◌<◌, ℕ, zero, suc, List, [], ◌∷◌, map, length, refl, ap, arith}
 use Rattle.std.proofs.Math.ListN.{get_or}
 use Rattle.oc_tree.specs.View.{function_view}
 use Rattle.oc_tree.specs.declared.tree.Function.{Function}

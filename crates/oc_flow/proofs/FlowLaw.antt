@@ -1,5 +1,5 @@
 -- The test of flow decides the relation.
-use Rattle.std.proofs.Common.{◌≡◌, ◌<◌, ◌⊎◌, inl, inr, ℕ, zero, suc, Bool, true, false, true≢false, List, [], ◌∷◌, length, Option, Some, None, refl, ap, sym, ◌∙◌, subst, arith}
+use Rattle.std.proofs.Common.{◌≡◌, inl, inr, ℕ, zero, suc, Bool, true, false, true≢false, List, [], ◌∷◌, length, Option, Some, None, refl, sym, ◌∙◌, subst}
 use Rattle.std.specs.Prelude.{◌||◌, ◌&&◌, nat_lt}
 use Rattle.std.specs.List.{list_any}
 use Rattle.oc_tree.specs.Tree.{TProgram}
@@ -8,9 +8,9 @@ use Rattle.oc_tree.proofs.ReachLaws.{or_left, or_right, or_elim}
 use Rattle.oc_effects.specs.Effects.{TCalled, TEffect, effects_at}
 use Rattle.oc_flow.specs.Variables.{IsOf, is_among, same_variable, variables, is_variable, begins, ends, is_variable_of}
 use Rattle.oc_flow.specs.Relations.{Flow, itself, by_value, by_call, Brings, by_input, by_callee}
-use Rattle.oc_flow.specs.Flow.{Between, chain, leads_by_value, leads_by_call, leads, flow_by, flows_to, flows, receives, brings_by_call, brings_by, brings_to, brings}
+use Rattle.oc_flow.specs.Flow.{Between, chain, leads_by_value, leads_by_call, leads, flow_by, flows_to, flows, receives, brings_by_call, brings_to, brings}
 use Rattle.oc_flow.specs.Laws.{Decides}
-use Rattle.oc_flow.proofs.Lists.{both, first_of_both, second_of_both, any_in, in_any, Passing, same_is, same_itself, among_of, of_among, target_is, is_target}
+use Rattle.oc_flow.proofs.Lists.{both, first_of_both, second_of_both, any_in, in_any, same_is, same_itself, among_of, of_among, target_is, is_target}
 use Rattle.oc_flow.proofs.Fixpoint.{Ranked, flow_fix, brings_fix}
 
 -- ---- chains

@@ -1,5 +1,5 @@
 -- What is known of a function by its statements is so, where what is known of its callees is so.
-use Rattle.std.proofs.Common.{◌≡◌, ◌≢◌, ◌<◌, ◌≤◌, ◌⊎◌, inl, inr, ◌+◌, ◌++◌, map, ℕ, zero, suc, Bool, true, false, true≢false, List, [], ◌∷◌, Option, Some, None, cond, refl, ap, sym, ◌∙◌, subst, length, arith, append_assoc, filter}
+use Rattle.std.proofs.Common.{◌≡◌, ◌≢◌, ◌<◌, ◌⊎◌, inl, inr, ◌+◌, ◌++◌, map, ℕ, zero, suc, Bool, true, false, true≢false, List, [], ◌∷◌, Option, Some, None, cond, refl, ap, sym, ◌∙◌, subst, length, arith, append_assoc, filter}
 use Rattle.std.specs.Prelude.{◌||◌, ◌&&◌, nat_lt, is_some, slice_set}
 use Rattle.std.specs.List.{list_any, list_all}
 use Rattle.std.proofs.Math.ListN.{get_or}
@@ -11,15 +11,13 @@ use Rattle.oc_tree.specs.Tree.{TProgram}
 use Rattle.oc_tree.specs.declared.tree.VarId.{VarId}
 use Rattle.oc_tree.specs.declared.tree.VarId.TheVariants.{Nv, Param, Declared, Returned}
 use Rattle.oc_effects.specs.Effects.{TCalled, TEffect, effects_at, params_at}
-use Rattle.oc_tree.proofs.ReachLaws.{or_left, or_right, or_elim}
-use Rattle.oc_flow.specs.Variables.{IsOf, same_variable, is_among, is_variable_of, variables, is_variable, begins, ends, from}
-use Rattle.oc_flow.specs.Flow.{chain, leads_by_value, leads_by_call, leads, flow_by, flows, receives, brings_by_call, brings_by, brings}
-use Rattle.oc_flow.specs.Known.{number_from, number_in, cell, cell_at, TTable, linked, Links, flows_between, table_flows, TKnown, known_receives, received_at, Knowns, known_at, leads_from, leads_to_callee, leads_called, leads_known, brings_from_callee, brings_called, brings_known, is_ready, outer_of, declared_of, some_leads, some_brings, KnownBy, KnownIs, Right, Keeps, Learns, Learning, Below, function_rank}
-use Rattle.oc_flow.proofs.Lists.{both, first_of_both, second_of_both, same_tests, any_in, in_any, any_cong, among_of, of_among, same_is, same_itself}
+use Rattle.oc_flow.specs.Variables.{IsOf, same_variable, is_among, is_variable_of, variables, begins, ends, from}
+use Rattle.oc_flow.specs.Flow.{chain, leads_by_value, leads_by_call, leads, flows, receives, brings_by_call, brings}
+use Rattle.oc_flow.specs.Known.{number_from, number_in, cell, cell_at, TTable, linked, Links, flows_between, table_flows, TKnown, known_receives, received_at, Knowns, known_at, leads_from, leads_to_callee, leads_called, leads_known, brings_from_callee, brings_called, brings_known, is_ready, outer_of, declared_of, some_leads, some_brings, KnownBy, KnownIs, Right, Learns, Learning, Below, function_rank}
+use Rattle.oc_flow.proofs.Lists.{both, first_of_both, second_of_both, same_tests, any_in, in_any, any_cong}
 use Rattle.oc_flow.proofs.Fixpoint.{Ranked, chain_cong, flow_fix, brings_fix}
-use Rattle.oc_flow.proofs.FlowLaw.{begins_at, ends_at, listed}
-use Rattle.oc_flow.proofs.Numbers.{numbered, number_at, number_below, number_stands}
-use Rattle.oc_flow.proofs.Built.{chain_among}
+use Rattle.oc_flow.proofs.FlowLaw.{ends_at}
+use Rattle.oc_flow.proofs.Numbers.{numbered, number_at, number_below}
 use Rattle.oc_flow.proofs.Added.{get_or_map}
 
 -- ---- lists

@@ -1,21 +1,18 @@
 -- In a checked program the rank of a function falls along calls.
-use Rattle.std.proofs.Common.{◌≡◌, ◌<◌, ◌≤◌, ◌⊎◌, inl, inr, ℕ, zero, suc, ◌+◌, ◌++◌, Bool, true, false, true≢false, List, [], ◌∷◌, length, map, Option, Some, None, refl, ap, sym, ◌∙◌, subst, arith}
+use Rattle.std.proofs.Common.{◌≡◌, ◌<◌, inl, inr, ℕ, zero, suc, ◌+◌, ◌++◌, Bool, true, false, List, [], ◌∷◌, length, map, Option, Some, None, refl, ap, sym, ◌∙◌, subst, arith}
 use Rattle.std.specs.Prelude.{cond, option_map, option_and_then, slice_get}
 use Rattle.std.specs.Str.{bytes_eq}
-use Rattle.std.specs.List.{flat_map}
 use Rattle.std.proofs.Math.ListN.{get_or}
 use Rattle.std.proofs.lemmas.List.{map-append, length-map}
-use Rattle.std.proofs.lemmas.Option.{none-some, same_Some, slice_get-get_or}
+use Rattle.std.proofs.lemmas.Option.{none-some, same_Some}
 use Rattle.oc_tree.specs.Names.{Text}
-use Rattle.oc_tree.specs.Tree.{TCall, call, TRight, right_value, right_sense, right_call, TKind, let_to, let_array, assign, assign_index, assign_deref, if_else, for_in, while_do, call_only, sense_only, emit, fresh, consistent, return, TElse, no_else, else_do, stmt, TBlock, block, TStmts, no_stmts, more, TFunction, TProgram}
+use Rattle.oc_tree.specs.Tree.{TCall, call, TRight, right_value, right_sense, right_call, TKind, let_to, assign, assign_index, assign_deref, if_else, for_in, while_do, call_only, TElse, no_else, else_do, stmt, TBlock, block, TStmts, no_stmts, more, TFunction, TProgram}
 use Rattle.oc_tree.specs.declared.tree.VarId.TheVariants as variables
-use Rattle.oc_tree.specs.Calls.{place_from, function_names, function_place, callee, expr_calls, right_calls, own_calls, kind_hides, kind_kinds, else_kinds, block_kinds, stmts_kinds, body_calls, call_links}
+use Rattle.oc_tree.specs.Calls.{place_from, function_names, function_place, callee, expr_calls, right_calls, own_calls, kind_kinds, else_kinds, block_kinds, stmts_kinds, body_calls, call_links}
 use Rattle.oc_tree.specs.Places.{Place, Placed, behind, in_branch, in_loop, at_start, kind_placed, else_placed, block_placed, stmts_placed}
 use Rattle.oc_tree.specs.Reach.{rank}
-use Rattle.oc_tree.specs.Broken.{broken}
-use Rattle.oc_tree.specs.Form.{DeclaredInOrder}
 use Rattle.oc_tree.specs.Checked.{Group, IsChecked}
-use Rattle.oc_effects.specs.Effects.{TCalled, TEffect, right_of, right_call_of, call_of, called_at, called_by, effect_of, function_effects, effects, effects_at}
+use Rattle.oc_effects.specs.Effects.{TCalled, TEffect, right_call_of, call_of, called_at, called_by, effect_of, function_effects, effects, effects_at}
 use Rattle.oc_desugar.proofs.FineCalls.{Each, each_back}
 use Rattle.oc_formed.proofs.Ranks.{rank_at, rank_of, Onwards, rank_small}
 use Rattle.oc_formed.proofs.CallLinks.{KindsCall, none_hides, body_away, links_onwards}

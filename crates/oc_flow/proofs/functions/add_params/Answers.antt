@@ -1,4 +1,4 @@
-use Rattle.std.proofs.Common.{◌≡◌, ◌++◌, ◌<◌, map, arith}
+use Rattle.std.proofs.Common.{◌++◌, map, arith}
 use Rattle.oc_tree.specs.declared.tree.VarId.TheVariants.{Param}
 use Rattle.oc_flow.specs.Variables.{from}
 use Rattle.oc_flow.proofs.Built.{range_more}

@@ -1,4 +1,4 @@
-use Rattle.std.proofs.Common.{◌≡◌, ◌∙◌, sym, subst, ap, map}
+use Rattle.std.proofs.Common.{◌≡◌, ◌∙◌, ap, map}
 use Rattle.oc_effects.specs.View.{effect_view}
 use Rattle.oc_flow.specs.Known.{TTable, TKnown}
 use Rattle.oc_flow.proofs.Built.{known_by}

@@ -1,4 +1,4 @@
-use Rattle.std.proofs.Common.{◌≡◌, ◌<◌, ◌≤◌, ap, ◌∙◌, sym, subst, length, arith}
+use Rattle.std.proofs.Common.{◌<◌, ap, ◌∙◌, subst, length, arith}
 use Rattle.std.proofs.lemmas.List.{length-map}
 use Rattle.oc_tree.specs.Tree.{TProgram}
 use Rattle.oc_tree.specs.View.{function_view}

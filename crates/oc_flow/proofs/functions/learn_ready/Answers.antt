@@ -1,4 +1,4 @@
-use Rattle.std.proofs.Common.{◌≡◌, ◌<◌, ap, ◌∙◌, sym, subst, length, arith}
+use Rattle.std.proofs.Common.{◌≡◌, ap, ◌∙◌, subst, length}
 use Rattle.oc_tree.specs.Checked.{TChecked, IsChecked}
 use Rattle.oc_effects.specs.Effects.{params_at, effects_at}
 use Rattle.oc_flow.specs.Known.{KnownBy}

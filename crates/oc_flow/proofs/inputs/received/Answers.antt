@@ -1,4 +1,4 @@
-use Rattle.std.proofs.Common.{◌≡◌, ap, ◌∙◌, map, filter}
+use Rattle.std.proofs.Common.{ap, ◌∙◌, map, filter}
 use Rattle.std.specs.List.{list_any}
 use Rattle.oc_effects.specs.View.{effect_view}
 use Rattle.oc_flow.specs.Known.{table_flows, some_brings}

@@ -1,4 +1,4 @@
-use Rattle.std.proofs.Common.{◌≡◌, ◌≤◌, arith, length, ap, sym, ◌∙◌}
+use Rattle.std.proofs.Common.{arith, length, ap}
 use Rattle.std.specs.Prelude.{◌&&◌}
 use Rattle.oc_effects.specs.View.{called_view, effect_view}
 use Rattle.oc_flow.specs.Variables.{begins, ends}

@@ -1,7 +1,5 @@
-use Rattle.std.proofs.Common.{◌≡◌, length, ap, ◌∙◌, sym, arith, refl}
-use Rattle.std.proofs.Math.ListN.{get_or}
-use Rattle.std.specs.Prelude.{false}
-use Rattle.oc_flow.proofs.Cells.{row_of, row_width}
+use Rattle.std.proofs.Common.{length, arith, refl}
+use Rattle.oc_flow.proofs.Cells.{row_width}
 use Rattle.oc_flow.proofs.table.at.Goals as goal
 
 pub index-requires : goal.index-requires

@@ -1,8 +1,7 @@
-use Rattle.std.proofs.Common.{◌≡◌, ◌<◌, suc, length, ap, ◌∙◌, sym, subst, arith}
+use Rattle.std.proofs.Common.{◌<◌, suc, length, ap, ◌∙◌, sym, subst, arith}
 use Rattle.std.proofs.Common.{Vec, Global}
-use Rattle.std.specs.Prelude.{Bool, true, false, []}
+use Rattle.std.specs.Prelude.{Bool}
 use Rattle.std.proofs.Math.Numerals.{add-one}
-use Rattle.std.proofs.Math.ListN.{get_or}
 use Rattle.oc_flow.specs.Known.{cells_of, cell, Joined, JoinedTo}
 use Rattle.oc_flow.proofs.Cells.{row_of, row_set, cells_height, joined_row, joined_not}
 use Rattle.oc_flow.proofs.table.join_each.Goals.{then-at, else-at}

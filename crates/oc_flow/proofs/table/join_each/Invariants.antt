@@ -1,5 +1,4 @@
-use Rattle.std.proofs.Common.{◌≡◌, ◌<◌, ◌≤◌, ℕ, length, false}
-use Rattle.oc_flow.specs.Known.{cells_of, IsSquare, cell, JoinedTo}
+use Rattle.oc_flow.specs.Known.{cells_of, JoinedTo}
 use Rattle.oc_flow.proofs.table.join_each.Given as goal
 
 abbrev pub invariant-loop-i : goal.invariant-loop-i

@@ -1,5 +1,5 @@
-use Rattle.std.proofs.Common.{◌≡◌, length, ap, ◌∙◌, sym, refl}
-use Rattle.oc_flow.proofs.Cells.{row_of, row_width}
+use Rattle.std.proofs.Common.{length, ap, ◌∙◌, refl}
+use Rattle.oc_flow.proofs.Cells.{row_width}
 use Rattle.oc_flow.proofs.table.join_through.Goals as goal
 
 pub join_each-requires-clause-other : goal.join_each-requires-clause-other

@@ -1,4 +1,4 @@
-use Rattle.std.proofs.Common.{◌≡◌, length, ap, ◌∙◌, sym, arith, refl}
+use Rattle.std.proofs.Common.{length, ap, ◌∙◌, arith, refl}
 use Rattle.std.specs.Prelude.{slice_set, true}
 use Rattle.oc_flow.specs.Known.{cells_of}
 use Rattle.oc_flow.proofs.Cells.{row_of, row_set, row_width}

@@ -1,4 +1,4 @@
-use Rattle.std.proofs.Common.{◌≡◌, ap, ◌∙◌, sym, subst, Some, None}
+use Rattle.std.proofs.Common.{ap, ◌∙◌, sym, subst, Some, None}
 use Rattle.oc_tree.specs.Checked.{TChecked, IsChecked}
 use Rattle.oc_effects.specs.View.{effect_view, effect_seen}
 use Rattle.oc_flow.specs.Flow.{brings_at}

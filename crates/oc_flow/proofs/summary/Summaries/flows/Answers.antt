@@ -1,4 +1,4 @@
-use Rattle.std.proofs.Common.{◌≡◌, ap, ◌∙◌, sym}
+use Rattle.std.proofs.Common.{ap, ◌∙◌}
 use Rattle.oc_tree.specs.Checked.{TChecked}
 use Rattle.oc_flow.specs.Flow.{flows}
 use Rattle.oc_flow.specs.Known.{Knowns, known_at, known_flows}

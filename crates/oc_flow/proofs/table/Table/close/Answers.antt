@@ -1,4 +1,4 @@
-use Rattle.std.proofs.Common.{◌≡◌, ◌<◌, ◌-◌, ◌+◌, suc, ap, ◌∙◌, sym, arith, length}
+use Rattle.std.proofs.Common.{◌≡◌, ◌<◌, ◌-◌, ◌+◌, suc, ap, ◌∙◌, arith, length}
 use Rattle.std.proofs.Math.ListN.{get_or}
 use Rattle.oc_tree.specs.declared.tree.VarId.TheVariants.{Nv}
 use Rattle.oc_flow.specs.Known.{linked}

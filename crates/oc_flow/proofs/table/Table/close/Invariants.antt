@@ -1,5 +1,4 @@
 use Rattle.std.proofs.Common.{◌≡◌, drop, ◌-◌}
-use Rattle.oc_tree.specs.declared.tree.VarId.{VarId}
 use Rattle.oc_flow.specs.Flow.{chain}
 use Rattle.oc_flow.specs.Known.{Links, linked}
 use Rattle.oc_flow.proofs.table.Table.close.Given as goal

@@ -1,7 +1,7 @@
-use Rattle.std.proofs.Common.{◌≡◌, ap, ◌∙◌, sym, subst}
+use Rattle.std.proofs.Common.{◌≡◌, ap, ◌∙◌, sym}
 use Rattle.std.specs.Prelude.{◌||◌, ◌&&◌, Some}
 use Rattle.oc_flow.specs.Variables.{same_variable}
-use Rattle.oc_flow.specs.Known.{TTable, linked, number_in, cells_of, set_cell}
+use Rattle.oc_flow.specs.Known.{TTable, linked, number_in, cells_of}
 use Rattle.oc_flow.proofs.Cells.{link_set, link_not}
 use Rattle.oc_flow.proofs.table.Table.link.Goals as goal
 

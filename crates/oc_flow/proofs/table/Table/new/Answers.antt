@@ -1,5 +1,5 @@
 use Rattle.std.proofs.Common.{ap, ◌∙◌}
-use Rattle.oc_flow.specs.Known.{TTable, linked}
+use Rattle.oc_flow.specs.Known.{linked}
 use Rattle.oc_flow.proofs.Cells.{none_linked}
 use Rattle.oc_flow.proofs.table.Table.new.Goals as goal
 

@@ -1,0 +1,76 @@
+//! What the annotations of some programs require.
+#![tactic(auto)]
+
+ghost use Rattle.std.specs.Prelude.{◌≤◌, length};
+
+mod sources;
+
+use oc_desugar::expand;
+use oc_flow::flow::summaries;
+use oc_io::Memory;
+use oc_io::disk::StdSink;
+use oc_io::sink::Sink;
+use oc_lex::lex;
+use oc_needs::required::requirements;
+use oc_needs::requirement::Requirement;
+use oc_parse::parse;
+use oc_tree::checked::Checked;
+use oc_types::check;
+use sources::sources;
+use std::alloc::Global;
+
+/// The checked program of a source.
+fn checked(alloc: Global, source: &[u8]) -> anyhow::Result<Checked>
+    requires { length source.now ≤ 1048576 }
+{
+    let tokens = lex(alloc, source)?;
+    let program = parse(alloc, source, tokens.as_slice())?;
+    let written = check(alloc, program)?;
+    match expand(alloc, written) {
+        Ok(checked) => Ok(checked),
+        Err((_, memory)) => Err(memory.into()),
+    }
+}
+
+/// Writes a requirement's policy, function and sites.
+fn put_requirement<O: Sink>(
+    alloc: Global,
+    requirement: &Requirement,
+    out: &mut O,
+) -> anyhow::Result<()> {
+    let (policy, function) = (requirement.policy, requirement.function);
+    let text = format!(in alloc; "policy {policy} function {function} sites")?;
+    out.put(text.as_bytes())?;
+    for site in &requirement.sites {
+        let text = format!(in alloc; " {site}")?;
+        out.put(text.as_bytes())?;
+    }
+    out.put(b"\n")?;
+    Ok(())
+}
+
+/// Writes what a source requires.
+fn put_requirements<O: Sink>(alloc: Global, source: &[u8], out: &mut O) -> anyhow::Result<()>
+    requires { length source.now ≤ 1048576 }
+{
+    let checked = checked(alloc, source)?;
+    let summaries = summaries(alloc, &checked)?;
+    let required = requirements(alloc, &checked, &summaries)?;
+    for requirement in &required {
+        put_requirement(alloc, requirement, out)?;
+    }
+    out.put(b"\n")?;
+    Ok(())
+}
+
+fn main(rt: HostRuntime) -> anyhow::Result<()> {
+    let alloc = rt.alloc();
+    let mut out = StdSink::out(&rt);
+    for source in sources() {
+        if source.len() <= 1048576 {
+            put_requirements(alloc, source.as_bytes(), &mut out)?;
+        }
+    }
+    out.flush()?;
+    Ok(())
+}

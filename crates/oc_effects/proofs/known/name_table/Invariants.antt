@@ -1,0 +1,6 @@
+use Rattle.std.proofs.Common.{◌≡◌, ◌++◌, drop}
+use Rattle.oc_reach.specs.Views.{names_seen}
+use Rattle.oc_effects.proofs.known.name_table.Given as goal
+
+abbrev pub invariant-loop-name : goal.invariant-loop-name
+invariant-loop-name l = names_seen l.refs.items ++ drop l.name-index l.names ≡ l.names

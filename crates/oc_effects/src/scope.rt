@@ -1,0 +1,78 @@
+//! The visible variables of a function.
+ghost use Rattle.std.specs.Prelude.{◌≡◌, ◌++◌, ◌∷◌, [], take, length, OnOk};
+ghost use Rattle.oc_tree.specs.Places.{find_variable};
+
+use oc_tree::name::Name;
+use oc_tree::tree::VarId;
+use std::alloc::{AllocError, Global};
+use std::marker::Model;
+
+// A variable with its name.
+#[derive(Clone, Copy)]
+pub struct Binding<'a> {
+    name: &'a [u8],
+    variable: VarId,
+}
+
+/// The visible variables, in the order of their declarations.
+#[derive(Drop)]
+pub struct Scope<'a> {
+    bindings: Vec<Binding<'a>>,
+}
+
+impl<'a> Model for Scope<'a> {
+    ghost use Rattle.std.specs.Prelude.{List, map};
+    ghost use Rattle.oc_tree.specs.Names.{Text};
+    ghost use Rattle.oc_tree.specs.declared.tree.VarId.{VarId};
+
+    ghost Value = { List (Text × VarId) };
+
+    ghost view = { λ s. map (λ b. (b.name.now, b.variable)) s.bindings.items };
+}
+
+impl<'a> Scope<'a> {
+    pub fn new(alloc: Global) -> Scope<'a>
+        ensures { result ≡ [] }
+    {
+        Scope {
+            bindings: Vec::new(alloc),
+        }
+    }
+
+    /// How many variables are visible.
+    pub fn len(&self) -> usize
+        ensures { result ≡ length self.now }
+    {
+        self.bindings.len()
+    }
+
+    /// One more variable.
+    pub fn declare(&mut self, name: &'a Name, variable: VarId) -> Result<(), AllocError>
+        ensures { OnOk result (self.new ≡ self.old ++ (name.now, variable) ∷ []) }
+    {
+        self.bindings.push(Binding {
+            name: name.bytes(),
+            variable,
+        })?;
+        Ok(())
+    }
+
+    /// Leaves the first `len` variables.
+    pub fn truncate(&mut self, len: usize)
+        ensures { self.new ≡ take len self.old }
+    {
+        self.bindings.truncate(len);
+    }
+
+    /// The variable of a name.
+    pub fn find(&self, name: &Name) -> Option<VarId>
+        ensures { result ≡ find_variable self.now name.now }
+    {
+        for binding in &self.bindings {
+            if name.bytes() == binding.name {
+                return Some(binding.variable);
+            }
+        }
+        None
+    }
+}

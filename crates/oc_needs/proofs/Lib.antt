@@ -10,3 +10,4 @@ pub mod Apart
 pub mod Locals
 pub mod SitesLaw
 pub mod RequiredLaw
+pub mod NeedLaw

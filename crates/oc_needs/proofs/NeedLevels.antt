@@ -24,7 +24,7 @@ use Rattle.oc_needs.proofs.Tests.{bool_same, and_left, and_right, or_case, or_no
 pub effects_past : (p : TProgram) (f : ℕ) → length p.functions ≤ f → effects_at p f ≡ []
 effects_past p f h = get_or_past (effects p) f [] (omega (arith, h, length-map p.functions (function_effects p)))
 
-annotated_past : (p : TProgram) (q : Policy) → length p.functions ≤ q.function → annotated p q ≡ []
+pub annotated_past : (p : TProgram) (q : Policy) → length p.functions ≤ q.function → annotated p q ≡ []
 annotated_past p q h = ap (λ es. flat_map (λ a. option_to_list (option_map note_variable a.note)) (filter (λ a. is_note_of q.kind a.note) es)) (effects_past p q.function h)
 
 itself_past : (p : TProgram) (q : Policy) (f : ℕ) (w : VarId) → length p.functions ≤ f → needs_itself p q f w ≡ false

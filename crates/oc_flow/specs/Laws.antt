@@ -1,12 +1,12 @@
 -- The tests decide the relations, in each checked program.
-use Rattle.std.specs.Prelude.{ℕ, Bool, true, false, List}
+use Rattle.std.specs.Prelude.{◌≡◌, ℕ, Bool, true, false, List}
 use Rattle.oc_tree.specs.Tree.{TProgram}
 use Rattle.oc_tree.specs.Checked.{Group, IsChecked}
 use Rattle.oc_tree.specs.declared.tree.VarId.{VarId}
 use Rattle.oc_effects.specs.Effects.{TEffect, effects_at}
 use Rattle.oc_flow.specs.Variables.{IsOf}
 use Rattle.oc_flow.specs.Relations.{Flow, Brings}
-use Rattle.oc_flow.specs.Flow.{flows, brings}
+use Rattle.oc_flow.specs.Flow.{flow_by, flows, brings_by, brings}
 
 -- the test says whether it is so
 abbrev pub Decides : Bool → Type 0 → Type 0
@@ -19,3 +19,10 @@ FlowsIsFlow = (p : TProgram) (groups : List Group) → IsChecked p groups → (f
 abbrev pub BringsIsBrings : Type 0
 BringsIsBrings =
     (p : TProgram) (groups : List Group) → IsChecked p groups → (f : ℕ) (a : TEffect) (v : VarId) → IsOf a (effects_at p f) → Decides (brings p a v) (Brings p f a v)
+
+-- The flow of each function is that by the flow of its callees, since no function calls itself.
+abbrev pub FlowsByCallees : Type 0
+FlowsByCallees = (p : TProgram) (groups : List Group) → IsChecked p groups → (f : ℕ) (u v : VarId) → flows p f u v ≡ flow_by p (flows p) f u v
+
+abbrev pub BringsByCallees : Type 0
+BringsByCallees = (p : TProgram) (groups : List Group) → IsChecked p groups → (f : ℕ) (a : TEffect) → IsOf a (effects_at p f) → (v : VarId) → brings p a v ≡ brings_by p (brings p) a v

@@ -2,3 +2,4 @@ pub mod Variables
 pub mod Relations
 pub mod Flow
 pub mod Laws
+pub mod Known

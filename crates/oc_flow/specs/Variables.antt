@@ -1,5 +1,5 @@
 -- The variables of a function, and what stands for them where the function is called.
-use Rattle.std.specs.Prelude.{◌≡◌, ◌⊎◌, ℕ, zero, suc, ◌+◌, Bool, true, false, List, [], ◌∷◌, ◌++◌, map, length, filter, Option, Some, None, nat_eq}
+use Rattle.std.specs.Prelude.{◌≡◌, ◌⊎◌, ℕ, zero, suc, ◌+◌, Bool, true, false, ◌&&◌, List, [], ◌∷◌, ◌++◌, map, length, filter, Option, Some, None, nat_eq, nat_lt}
 use Rattle.std.specs.List.{list_any}
 use Rattle.std.proofs.Math.ListN.{get_or}
 use Rattle.oc_tree.specs.Tree.{TProgram}
@@ -32,8 +32,9 @@ abbrev pub variables : TProgram → ℕ → List VarId
 variables p f =
     map Nv (from 0 (length p.names.nvs)) ++ (map Param (from 0 (length (params_at p f))) ++ (Returned ∷ map (λ a. Declared a.stmt) (filter (λ a. a.declares) (effects_at p f))))
 
+-- a variable of a function that there is
 abbrev pub is_variable : TProgram → ℕ → VarId → Bool
-is_variable p f v = is_among v (variables p f)
+is_variable p f v = nat_lt f (length p.functions) && is_among v (variables p f)
 
 -- a parameter or a nonvolatile variable, which a caller gives
 abbrev pub is_given : VarId → Bool

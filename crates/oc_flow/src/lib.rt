@@ -2,4 +2,6 @@
 #![tactic(auto)]
 
 pub mod flow;
+pub mod laws;
+pub mod numbering;
 pub mod summary;

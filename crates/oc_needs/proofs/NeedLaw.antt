@@ -1,9 +1,10 @@
 -- The test of need decides the relation, where the test of flow does and calls fall along a rank.
-use Rattle.std.proofs.Common.{◌≡◌, refl, sym, ap, ◌∙◌, subst, ℕ, zero, suc, ◌<◌, ◌≤◌, arith, Bool, true, false, true≢false, nat_eq, ◌⊎◌, inl, inr, List, [], ◌∷◌, length, Option, Some, None}
+use Rattle.std.proofs.Common.{◌≡◌, refl, sym, ap, ◌∙◌, subst, ℕ, zero, suc, ◌<◌, ◌≤◌, arith, Bool, true, false, true≢false, nat_eq, inl, inr, List, [], ◌∷◌, length, Option, Some, None}
 use Rattle.std.specs.Prelude.{◌&&◌, ◌||◌, not}
 use Rattle.std.specs.List.{list_any}
 use Rattle.std.proofs.lemmas.Bool.{cases_lt, eqb-true, eq-eqb}
 use Rattle.oc_tree.specs.Tree.{TProgram}
+use Rattle.oc_tree.specs.Checked.{Group, IsChecked}
 use Rattle.oc_tree.specs.declared.tree.VarId.{VarId}
 use Rattle.oc_tree.specs.declared.marked.Policy.{Policy}
 use Rattle.oc_effects.specs.Effects.{TCalled, TEffect, effects_at}
@@ -11,10 +12,12 @@ use Rattle.oc_flow.specs.Variables.{variables, is_variable, is_given, begins, Is
 use Rattle.oc_flow.specs.Relations.{Flow}
 use Rattle.oc_flow.specs.Flow.{flows, flows_to}
 use Rattle.oc_flow.specs.Laws.{Decides}
+use Rattle.oc_flow.proofs.FlowLaw.{flows_decide}
+use Rattle.oc_flow.proofs.Ranks.{ranked}
 use Rattle.oc_needs.specs.Policies.{annotated, held}
 use Rattle.oc_needs.specs.Need.{Need, by_annotation, by_call, is_empty, is_needed_at, needs_by_call, needs_itself, needs_to, needs}
 use Rattle.oc_needs.proofs.Tests.{and_left, and_right, both, or_case, any_of, of_any}
-use Rattle.oc_needs.proofs.NeedLevels.{effects_past, annotated_past, among_is, needed_variable}
+use Rattle.oc_needs.proofs.NeedLevels.{effects_past, annotated_past, listed, needed_variable}
 
 decided : (b : Bool) (A : Type 0) → Decides b A → b ≡ true → A
 decided true A d e = d
@@ -42,7 +45,7 @@ some_held (n ∷ ns) h = refl
 
 not_empty : (ns : List ℕ) → not (is_empty ns) ≡ true → ns ≡ [] → ⊥
 not_empty [] h e = true≢false (sym h)
-not_empty (n ∷ ns) h e = true≢false (sym (ap is_empty e ∙ refl) )
+not_empty (n ∷ ns) h e = true≢false (sym (ap is_empty e ∙ refl))
 
 ends_in : (p : TProgram) (depth f : ℕ) (u v : VarId) → flows_to p depth f u v ≡ true → is_variable p f v ≡ true
 unfolding flows_to
@@ -85,9 +88,9 @@ module _ (p : TProgram) (q : Policy) (flow : (f : ℕ) (u v : VarId) → Decides
     call_test depth g x y w a c o e n b f =
         let goes : flows p g w y ≡ true = back (flows p g w y) (Flow p g w y) (flow g w y) f in
         let needed : is_needed_at p (needs_to p q depth) (Some c) y ≡ true =
-            of_any (λ v. needs_to p q depth c.function v && begins c v y) x (variables p c.function) (needed_variable p q depth c.function x n) (both (needs_to p q depth c.function x) (begins c x y) n b) in
+        of_any (λ v. needs_to p q depth c.function v && begins c v y) x (variables p c.function) (needed_variable p q depth c.function x n) (both (needs_to p q depth c.function x) (begins c x y) n b) in
         of_any (λ d. list_any (λ z. is_needed_at p (needs_to p q depth) d.call z && flows p g w z) (variables p g)) a (effects_at p g) o
-        (of_any (λ z. is_needed_at p (needs_to p q depth) a.call z && flows p g w z) y (variables p g) (among_is y (variables p g) (ends_in p (length p.functions) g w y goes))
+        (of_any (λ z. is_needed_at p (needs_to p q depth) a.call z && flows p g w z) y (variables p g) (listed p g y (ends_in p (length p.functions) g w y goes))
         (both (is_needed_at p (needs_to p q depth) a.call y) (flows p g w y) (subst (λ s. is_needed_at p (needs_to p q depth) s y ≡ true) (sym e) needed) goes))
 
     -- what is so is found, as deep as the rank
@@ -109,3 +112,8 @@ module _ (p : TProgram) (q : Policy) (flow : (f : ℕ) (u v : VarId) → Decides
       where
         by_place : Need p q g w → needs p q g w ≡ true
         by_place n = elim (cases_lt g (length p.functions)) [ inl h ↦ complete g w n (length p.functions) (low g h) | inr h ↦ absurd (none_past g w n h) ]
+
+-- in each checked program
+pub needs_decide : (p : TProgram) (groups : List Group) → IsChecked p groups → (q : Policy) (f : ℕ) (w : VarId) → Decides (needs p q f w) (Need p q f w)
+needs_decide p groups checked q =
+    let r = ranked p groups checked in needs_is_need p q (flows_decide p r) r.rank r.falls r.small

@@ -1,5 +1,5 @@
 -- The rows of each depth of calls are those of the definition.
-use Rattle.std.proofs.Common.{◌≡◌, ◌≢◌, refl, sym, ap, ◌∙◌, subst, ℕ, zero, suc, ◌+◌, ◌<◌, ◌≤◌, arith, Bool, true, false, true≢false, nat_eq, ◌⊎◌, inl, inr, List, [], ◌∷◌, map, length, cond, Option, Some, None}
+use Rattle.std.proofs.Common.{◌≡◌, ◌≢◌, refl, sym, ap, ◌∙◌, subst, ℕ, zero, suc, ◌+◌, ◌<◌, ◌≤◌, arith, Bool, true, false, true≢false, nat_eq, nat_lt, ◌⊎◌, inl, inr, List, [], ◌∷◌, map, length, cond, Option, Some, None}
 use Rattle.std.specs.Prelude.{◌&&◌, ◌||◌, not, filter, flat_map, option_map, option_to_list}
 use Rattle.std.specs.List.{list_any}
 use Rattle.std.proofs.Math.ListN.{get_or}
@@ -114,6 +114,10 @@ pub among_is : (v : VarId) (vs : List VarId) → list_any (same_variable v) vs �
 among_is v [] h = absurd (true≢false (sym h))
 among_is v (w ∷ ws) h = or_case (same_variable v w) (list_any (same_variable v) ws) h (λ e. inl (same_variable_is v w e)) (λ e. inr (among_is v ws e))
 
+-- a variable of a function stands in its list
+pub listed : (p : TProgram) (f : ℕ) (v : VarId) → is_variable p f v ≡ true → IsOf v (variables p f)
+listed p f v h = among_is v (variables p f) (and_right (nat_lt f (length p.functions)) _ h)
+
 starts_to : (p : TProgram) (depth f : ℕ) (u v : VarId) → flows_to p depth f u v ≡ true → is_variable p f u ≡ true
 unfolding flows_to
 starts_to p zero f u v h = absurd (true≢false (sym h))
@@ -123,7 +127,7 @@ pub flow_starts : (p : TProgram) (f : ℕ) (u v : VarId) → flows p f u v ≡ t
 flow_starts p f u v h = starts_to p (length p.functions) f u v h
 
 by_variable : (p : TProgram) (q : Policy) (need : Needed) (g : ℕ) (w : VarId) → needs_by p q need g w ≡ true → IsOf w (variables p g)
-by_variable p q need g w h = among_is w (variables p g) (or_case (needs_itself p q g w) (needs_by_call p need g w) (and_right (is_given w) _ h) own calls)
+by_variable p q need g w h = listed p g w (or_case (needs_itself p q g w) (needs_by_call p need g w) (and_right (is_given w) _ h) own calls)
   where
     own : needs_itself p q g w ≡ true → is_variable p g w ≡ true
     own e = let x = any_of (flows p g w) (annotated p q) (and_right (not (is_empty (held p q))) _ (and_right (nat_eq g q.function) _ e)) in flow_starts p g w x.0 x.2

@@ -236,8 +236,10 @@ pub fn requirements(
 ) -> Result<Vec<Requirement>, Memory>
     requires { summaries.now ≡ checked.now }
     ensures requirements { IfOk result (λ r. map requirement_view r.items ≡ requirements checked.now.program) }
+    // The test of need decides the relation.
+    ensures need { IfOk result (λ r. (q : Policy) (f : ℕ) (w : VarId) → Decides (needs checked.now.program q f w) (Need checked.now.program q f w)) }
 {
-    let _checked = checked;
+    let _program = checked.program();
     match all_required(alloc, summaries) {
         Ok(required) => Ok(required),
         Err(_) => Err(Memory),

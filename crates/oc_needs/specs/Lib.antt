@@ -3,3 +3,5 @@ pub mod Sites
 pub mod Need
 pub mod Requirements
 pub mod View
+pub mod Code
+pub mod CodeView

@@ -1,5 +1,5 @@
 -- Which variables of callers a policy needs.
-use Rattle.std.specs.Prelude.{◌≡◌, ◌≢◌, ℕ, zero, suc, Bool, true, false, ◌&&◌, ◌||◌, not, List, [], ◌∷◌, filter, length, Option, Some, None, nat_eq}
+use Rattle.std.specs.Prelude.{◌≡◌, ℕ, zero, suc, Bool, true, false, ◌&&◌, ◌||◌, not, List, [], ◌∷◌, length, Option, Some, None, nat_eq}
 use Rattle.std.specs.List.{list_any}
 use Rattle.oc_tree.specs.Tree.{TProgram}
 use Rattle.oc_tree.specs.Checked.{Group, IsChecked}
@@ -8,7 +8,7 @@ use Rattle.oc_tree.specs.declared.marked.Policy.{Policy}
 use Rattle.oc_effects.specs.Effects.{TCalled, TEffect, effects_at}
 use Rattle.oc_flow.specs.Variables.{variables, is_given, begins, IsOf}
 use Rattle.oc_flow.specs.Relations.{Flow}
-use Rattle.oc_flow.specs.Flow.{Between, flows}
+use Rattle.oc_flow.specs.Flow.{flows}
 use Rattle.oc_flow.specs.Laws.{Decides}
 use Rattle.oc_needs.specs.Policies.{annotated, held}
 

@@ -1,10 +1,10 @@
 -- Where the inputs of a variable count as taken.
-use Rattle.std.specs.Prelude.{ℕ, Bool, true, false, ◌&&◌, not, List, [], ◌∷◌, flat_map, filter, find, reverse, Option, Some, None, cond, nat_eq}
+use Rattle.std.specs.Prelude.{ℕ, Bool, true, ◌&&◌, not, List, [], ◌∷◌, flat_map, filter, find, reverse, cond, nat_eq}
 use Rattle.std.specs.Option.{unwrap_or}
 use Rattle.std.specs.List.{list_any}
 use Rattle.oc_tree.specs.Tree.{TProgram}
 use Rattle.oc_tree.specs.declared.tree.VarId.{VarId}
-use Rattle.oc_tree.specs.declared.tree.VarId.TheVariants.{Nv, Param, Declared, Returned}
+use Rattle.oc_tree.specs.declared.tree.VarId.TheVariants.{Declared}
 use Rattle.oc_effects.specs.Effects.{TEffect, effects_at, is_numbered}
 use Rattle.oc_flow.specs.Variables.{variables}
 use Rattle.oc_flow.specs.Flow.{flows, brings}

@@ -1,0 +1,13 @@
+pub mod Once
+pub mod Froms
+pub mod Rising
+pub mod ListsInOrder
+pub mod SiteLists
+pub mod Rows
+pub mod Tests
+pub mod NeedLevels
+pub mod Apart
+pub mod Locals
+pub mod SitesLaw
+pub mod RequiredLaw
+pub mod NeedLaw

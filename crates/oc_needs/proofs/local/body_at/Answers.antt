@@ -1,0 +1,27 @@
+use Rattle.std.proofs.Common.{◌≡◌, ◌<◌, ◌∙◌, ap, sym, subst, length, rules}
+use Rattle.std.proofs.Math.ListN.{get_or}
+use Rattle.std.proofs.lemmas.List.{length-map}
+use Rattle.oc_needs.specs.Code.{local_at}
+use Rattle.oc_needs.specs.CodeView.{local_view}
+use Rattle.oc_needs.proofs.Froms.{get_map_from, get_of_map, length_map_from}
+use Rattle.oc_needs.proofs.local.body_at.Goals as goal
+
+pub returns-clause-body : goal.returns-clause-body
+returns-clause-body c =
+    let p = c.args.summaries.now.program in
+    let xs = c.args.locals.now in
+    let i = c.args.function in
+    let n = c.in_ok-function.function in
+    let many : length xs ≡ length p.functions = sym (length-map xs local_view) ∙ (ap length c.requires.locals ∙ length_map_from (local_at p) 0 (length p.functions)) in
+    let few : i < length p.functions = subst (λ k. i < k) many c.requires.function in
+    let number : n ≡ i = c.in_ok-function.ensures in
+    let x = c.index-locals-function.result in
+    let read : x ≡ get_or xs i x = search rules in
+    let same : local_view x ≡ local_at p n =
+    sym (get_of_map local_view xs i x (local_at p 0) c.requires.function read)
+    ∙ (ap (λ ls. get_or ls i (local_at p 0)) c.requires.locals ∙ (get_map_from (local_at p) (length p.functions) i (local_at p 0) few ∙ ap (local_at p) (sym number))) in
+    record {
+      here = subst (λ k. k < length p.functions) (sym number) few;
+      variables = ap (λ l. l.variables) same;
+      sources = ap (λ l. l.sources) same;
+    }

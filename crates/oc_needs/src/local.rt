@@ -1,0 +1,228 @@
+//! What is known of a function for all policies.
+ghost use Rattle.std.specs.Prelude.{◌≡◌, ◌<◌, ℕ, ◌+◌, ◌++◌, [], ◌∷◌, map, filter, flat_map, length, reverse, IfOk, OnOk};
+ghost use Rattle.oc_tree.specs.declared.tree.VarId.TheVariants.{Nv, Param};
+ghost use Rattle.oc_effects.specs.Effects.{effects_at, params_at};
+ghost use Rattle.oc_effects.specs.View.{effect_view};
+ghost use Rattle.oc_flow.specs.Flow.{brings_at};
+ghost use Rattle.oc_flow.specs.Variables.{from, variables};
+ghost use Rattle.oc_needs.specs.Code.{declared_by, is_loop_by, all_locals, local_at, loops_by, source_list, source_of, sources};
+ghost use Rattle.oc_needs.specs.CodeView.{local_view, source_view, IsBody};
+
+use crate::place::{function_count, number_of};
+use oc_effects::effect::Effect;
+use oc_effects::effects::Effects;
+use oc_flow::summary::Summaries;
+use oc_tree::tree::{StmtId, VarId};
+use std::alloc::{AllocError, Global};
+
+/// A statement that brings input into variables, with the loops around it, the outermost first.
+#[derive(Debug, Drop)]
+pub struct Source {
+    pub stmt: StmtId,
+    pub loops: Vec<StmtId>,
+    pub brought: Vec<VarId>,
+}
+
+/// The variables of a function, and the statements that bring input into any of them.
+#[derive(Debug, Drop)]
+pub struct Local {
+    pub variables: Vec<VarId>,
+    pub sources: Vec<Source>,
+}
+
+/// A function, by its place, with what is known of it.
+#[derive(Clone, Copy)]
+pub struct Body<'s, 'a, 'l> {
+    pub summaries: &'s Summaries<'a>,
+    pub function: u32,
+    pub local: &'l Local,
+}
+
+// Whether the statement of a number is a loop.
+fn is_loop(effects: &Effects, function: usize, s: StmtId) -> bool
+    requires { function < length effects.now.program.functions }
+    ensures { result ≡ is_loop_by effects.now.program function s }
+{
+    match effects.numbered(function, s) {
+        Some(effect) => effect.is_loop,
+        None => false,
+    }
+}
+
+// The loops among the statements around a statement, the outermost first.
+fn loops_of(
+    alloc: Global,
+    effects: &Effects,
+    function: usize,
+    around: &[StmtId],
+) -> Result<Vec<StmtId>, AllocError>
+    requires { function < length effects.now.program.functions }
+    ensures { IfOk result (λ l. l.items ≡ loops_by effects.now.program function around.now) }
+{
+    around
+        .iter()
+        .rev()
+        .copied()
+        .filter(|s| is_loop(effects, function, *s))
+        .collect(alloc)
+}
+
+// The variables into which a statement brings input.
+fn brought_by(
+    alloc: Global,
+    summaries: &Summaries,
+    s: StmtId,
+    variables: &[VarId],
+) -> Result<Vec<VarId>, AllocError>
+    ensures { IfOk result (λ v. v.items ≡ filter (brings_at summaries.now.program s) variables.now) }
+{
+    variables
+        .iter()
+        .copied()
+        .filter(|v| summaries.brings(s, *v))
+        .collect(alloc)
+}
+
+fn nv_count(effects: &Effects) -> usize
+    ensures { result ≡ length effects.now.program.names.nvs }
+{
+    effects.checked().program().names.nvs.len()
+}
+
+fn param_count(effects: &Effects, function: usize) -> usize
+    requires { function < length effects.now.program.functions }
+    ensures { result ≡ length (params_at effects.now.program function) }
+{
+    effects.checked().program().functions[function].params.len()
+}
+
+fn add_nvs(variables: &mut Vec<VarId>, count: usize) -> Result<(), AllocError>
+    ensures { OnOk result (variables.new.items ≡ variables.old.items ++ map Nv (from 0 count)) }
+{
+    for i in 0..count {
+        let index = number_of(i)?;
+        variables.push(VarId::Nv { index })?;
+    }
+    Ok(())
+}
+
+fn add_params(variables: &mut Vec<VarId>, count: usize) -> Result<(), AllocError>
+    ensures { OnOk result (variables.new.items ≡ variables.old.items ++ map Param (from 0 count)) }
+{
+    for i in 0..count {
+        let index = number_of(i)?;
+        variables.push(VarId::Param { index })?;
+    }
+    Ok(())
+}
+
+fn add_declared(variables: &mut Vec<VarId>, effects: &[Effect]) -> Result<(), AllocError>
+    ensures { OnOk result (variables.new.items ≡ variables.old.items ++ declared_by (map effect_view effects.now)) }
+{
+    for effect in effects {
+        if effect.declares {
+            variables.push(VarId::Declared { stmt: effect.stmt })?;
+        }
+    }
+    Ok(())
+}
+
+// The variables of the function at a place.
+fn variables_of(alloc: Global, effects: &Effects, function: usize) -> Result<Vec<VarId>, AllocError>
+    requires { function < length effects.now.program.functions }
+    ensures { IfOk result (λ v. v.items ≡ variables effects.now.program function) }
+{
+    let mut variables = Vec::new(alloc);
+    add_nvs(&mut variables, nv_count(effects))?;
+    add_params(&mut variables, param_count(effects, function))?;
+    variables.push(VarId::Returned)?;
+    add_declared(&mut variables, effects.of_function(function))?;
+    Ok(variables)
+}
+
+// Adds a statement, if it brings input into any variable.
+fn add_source(
+    alloc: Global,
+    sources: &mut Vec<Source>,
+    summaries: &Summaries,
+    function: usize,
+    own: &[VarId],
+    effect: &Effect,
+) -> Result<(), AllocError>
+    requires function { function < length summaries.now.program.functions }
+    requires own { own.now ≡ variables summaries.now.program function }
+    ensures { OnOk result (map source_view sources.new.items ≡ map source_view sources.old.items ++ source_list (source_of summaries.now.program function (effect_view effect.now))) }
+{
+    let brought = brought_by(alloc, summaries, effect.stmt, own)?;
+    if brought.is_empty() {
+        return Ok(());
+    }
+    let around = effect.around.as_slice();
+    let loops = loops_of(alloc, summaries.effects(), function, around)?;
+    let stmt = effect.stmt;
+    sources.push(Source {
+        stmt,
+        loops,
+        brought,
+    })?;
+    Ok(())
+}
+
+fn sources_of(
+    alloc: Global,
+    summaries: &Summaries,
+    function: usize,
+    own: &[VarId],
+) -> Result<Vec<Source>, AllocError>
+    requires function { function < length summaries.now.program.functions }
+    requires own { own.now ≡ variables summaries.now.program function }
+    ensures { IfOk result (λ s. map source_view s.items ≡ sources summaries.now.program function (effects_at summaries.now.program function)) }
+{
+    let mut sources = Vec::new(alloc);
+    for effect in summaries.effects().of_function(function) {
+        add_source(alloc, &mut sources, summaries, function, own, effect)?;
+    }
+    Ok(sources)
+}
+
+fn local_of(alloc: Global, summaries: &Summaries, function: usize) -> Result<Local, AllocError>
+    requires { function < length summaries.now.program.functions }
+    ensures { IfOk result (λ l. local_view l ≡ local_at summaries.now.program function) }
+{
+    let variables = variables_of(alloc, summaries.effects(), function)?;
+    let sources = sources_of(alloc, summaries, function, variables.as_slice())?;
+    Ok(Local { variables, sources })
+}
+
+/// What is known of each function.
+pub fn locals(alloc: Global, summaries: &Summaries) -> Result<Vec<Local>, AllocError>
+    ensures { IfOk result (λ l. map local_view l.items ≡ all_locals summaries.now.program) }
+{
+    let mut locals = Vec::new(alloc);
+    for function in 0..function_count(summaries.effects()) {
+        let local = local_of(alloc, summaries, function)?;
+        locals.push(local)?;
+    }
+    Ok(locals)
+}
+
+/// The function at a place, with what is known of it.
+pub fn body_at<'s, 'a, 'l>(
+    summaries: &'s Summaries<'a>,
+    locals: &'l [Local],
+    function: usize,
+) -> Result<Body<'s, 'a, 'l>, AllocError>
+    requires locals { map local_view locals.now ≡ all_locals summaries.now.program }
+    requires function { function < length locals.now }
+    ensures body { IfOk result IsBody }
+    ensures function { IfOk result (λ b. b.function ≡ function) }
+    ensures summaries { IfOk result (λ b. b.summaries.now ≡ summaries.now) }
+{
+    let local = &locals[function];
+    let function = number_of(function)?;
+    Ok(Body {
+        summaries,
+        function,
+        local,
+    })
+}

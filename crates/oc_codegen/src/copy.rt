@@ -1,8 +1,10 @@
-//! Copies of names.
-ghost use Rattle.std.specs.Prelude.{◌≡◌, IfOk};
+//! Copies of names and of targets.
+ghost use Rattle.std.specs.Prelude.{◌≡◌, map, IfOk};
 ghost use Rattle.oc_tree.specs.Names.{names_view};
 
 use oc_tree::name::{Name, Names};
+use oc_tree::said::Target;
+use oc_writes::writes::WriteSets;
 use std::alloc::{AllocError, Global};
 
 pub fn copy_name(alloc: Global, name: &Name) -> Result<Name, AllocError>
@@ -34,4 +36,16 @@ pub fn copy_names(alloc: Global, names: &Names) -> Result<Names, AllocError>
         ports,
         nvs,
     })
+}
+
+/// What each region may overwrite.
+pub fn copy_targets(alloc: Global, writes: &WriteSets) -> Result<Vec<Vec<Target>>, AllocError>
+    ensures { IfOk result (λ t. map (λ v. v.items) t.items ≡ writes.now) }
+{
+    let mut all = Vec::new(alloc);
+    for set in writes.sets() {
+        let targets = Vec::from_slice(alloc, set.as_slice())?;
+        all.push(targets)?;
+    }
+    Ok(all)
 }

@@ -4,9 +4,11 @@
 //! written again once it is: each part of the tree is gone over once.
 #![tactic(auto)]
 
-ghost use Rattle.std.specs.Prelude.{◌≡◌, ◌≤◌, map, length, IfOk};
+ghost use Rattle.std.specs.Prelude.{◌≡◌, IfOk};
+ghost use Rattle.oc_isa.specs.Image.{parts_of};
 ghost use Rattle.oc_code.specs.Code.{code_of};
 ghost use Rattle.oc_code.specs.Right.{IsRight};
+ghost use Rattle.oc_writes.specs.Targets.{may_write};
 
 mod buffer;
 mod copy;
@@ -20,24 +22,35 @@ mod simple;
 mod stmts;
 mod uses;
 
+use copy::copy_targets;
 use oc_io::Memory;
-use oc_isa::image::Image;
+use oc_isa::image::{Image, RawImage};
 use oc_tree::marked::Marked;
-use oc_tree::said::Target;
+use oc_writes::writes::WriteSets;
 use program::raw_image;
-use std::alloc::Global;
+use std::alloc::{AllocError, Global};
 
-/// The image of a marked program, of whose regions each may overwrite these targets. A program
-/// whose numbers don't fit an image would want memory too, but no marked program has such numbers.
-pub fn compile(alloc: Global, marked: &Marked, targets: Vec<Vec<Target>>) -> Result<Image, Memory>
-    requires { length marked.now.regions ≤ length targets.items }
-    // It is the program's code.
-    ensures code { IfOk result (λ i. i ≡ code_of marked.now.program marked.now.regions (map (λ v. v.items) targets.items)) }
-    // Its runs are those of the program.
-    ensures right { IsRight marked.now.program marked.now.regions (map (λ v. v.items) targets.items) }
+fn raw(alloc: Global, marked: &Marked, writes: &WriteSets) -> Result<RawImage, AllocError>
+    requires { writes.now ≡ may_write marked.now }
+    ensures { IfOk result (λ i. parts_of i ≡ code_of marked.now.program marked.now.regions (may_write marked.now)) }
 {
     let checked = marked.checked();
-    match raw_image(alloc, checked.program(), marked.regions(), targets) {
+    let targets = copy_targets(alloc, writes)?;
+    let raw = raw_image(alloc, checked.program(), marked.regions(), targets)?;
+    Ok(raw)
+}
+
+/// The image of a marked program, with what its regions may overwrite. A program whose numbers
+/// don't fit an image would want memory too, but no marked program has such numbers.
+pub fn compile(alloc: Global, marked: &Marked, writes: &WriteSets) -> Result<Image, Memory>
+    requires { writes.now ≡ may_write marked.now }
+    // It is the program's code.
+    ensures code { IfOk result (λ i. i ≡ code_of marked.now.program marked.now.regions (may_write marked.now)) }
+    // Its runs are those of the program.
+    ensures right { IsRight marked.now.program marked.now.regions (may_write marked.now) }
+{
+    let _checked = marked.checked();
+    match raw(alloc, marked, writes) {
         Ok(raw) => Ok(Image::new(raw)),
         Err(_) => Err(Memory),
     }

@@ -1,12 +1,28 @@
 //! Write targets.
-ghost use Rattle.std.specs.Prelude.{◌≡◌, ◌≤◌, ◌-◌, [], length, IfOk};
+ghost use Rattle.std.specs.Prelude.{◌≡◌, ◌≤◌, ◌<◌, ◌-◌, ◌++◌, ℕ, [], map, length, OnOk, IfOk};
+ghost use Rattle.oc_tree.specs.declared.marked.Region.{Region};
+ghost use Rattle.std.specs.List.{list_any};
 ghost use Rattle.std.proofs.Math.ListN.{get_or};
-ghost use Rattle.oc_writes.specs.Targets.{may_write};
+ghost use Rattle.oc_tree.specs.View.{program_view};
+ghost use Rattle.oc_tree.specs.Regions.{region_view};
+ghost use Rattle.oc_tree.specs.declared.tree.VarId.TheVariants.{Nv, Param as AParam};
+ghost use Rattle.oc_effects.specs.Effects.{params_at};
+ghost use Rattle.oc_effects.specs.View.{effect_view};
+ghost use Rattle.oc_writes.specs.Targets.{assigns, may_write, region_targets, words_of};
+ghost use Rattle.oc_writes.specs.Seen.{effects_seen, slot_targets, some_assigns, stored_from, stored_targets};
 
+use crate::inside::region_effects;
+use crate::numbers::behind;
+use crate::stored::{Stored, all_stored};
+use crate::through::Through;
+use oc_effects::effect::Effect;
+use oc_effects::effects::Effects;
 use oc_io::Memory;
-use oc_tree::marked::Marked;
+use oc_reach::assigned::Assigned;
+use oc_tree::marked::{Marked, Region};
 use oc_tree::said::Target;
-use std::alloc::Global;
+use oc_tree::tree::{Param, Program, ValueKind, VarId};
+use std::alloc::{AllocError, Global};
 use std::marker::Model;
 
 /// What each region of a program may overwrite, which contracts see as a list for each.
@@ -24,11 +40,187 @@ impl Model for WriteSets {
     ghost view = { λ w. map (λ v. v.items) w.regions.items };
 }
 
+// Whether one of the statements assigns a nonvolatile variable, or calls a function that does.
+fn assigns_stored(through: &Through, effects: &[&Effect], stored: &Stored) -> bool
+    ensures { result ≡ some_assigns through.now (effects_seen effects.now) stored.now }
+{
+    let var = VarId::Nv {
+        index: stored.index,
+    };
+    for effect in effects {
+        if through.assigns(*effect, var) || stored.is_assigned_by(&effect.call) {
+            return true;
+        }
+    }
+    false
+}
+
+// Adds the nonvolatile variables that the statements assign.
+fn add_stored(
+    through: &Through,
+    effects: &[&Effect],
+    all: &[Stored],
+    targets: &mut Vec<Target>,
+) -> Result<(), AllocError>
+    ensures { OnOk result (targets.new.items ≡ targets.old.items ++ stored_targets through.now (effects_seen effects.now) all.now) }
+{
+    for stored in all {
+        if assigns_stored(through, effects, stored) {
+            targets.push(Target::Nv {
+                base: stored.base,
+                len: stored.words,
+            })?;
+        }
+    }
+    Ok(())
+}
+
+fn assigns_param(through: &Through, effects: &[&Effect], index: u32) -> bool
+    ensures { result ≡ list_any (assigns through.now (AParam index)) (effects_seen effects.now) }
+{
+    for effect in effects {
+        if through.assigns(*effect, VarId::Param { index }) {
+            return true;
+        }
+    }
+    false
+}
+
+fn words_of(kind: ValueKind) -> u32
+    ensures { result ≡ words_of kind }
+{
+    match kind {
+        ValueKind::Int | ValueKind::Bool => 1,
+        ValueKind::Array { words } => words,
+    }
+}
+
+// Adds the parameters that the statements assign.
+fn add_params(
+    through: &Through,
+    effects: &[&Effect],
+    params: &[Param],
+    targets: &mut Vec<Target>,
+) -> Result<(), AllocError>
+    ensures { OnOk result (targets.new.items ≡ targets.old.items ++ slot_targets through.now (effects_seen effects.now) 0 params.now) }
+{
+    let mut slot = 0;
+    for param in params {
+        if assigns_param(through, effects, slot) {
+            targets.push(Target::Param {
+                slot,
+                len: words_of(param.kind),
+            })?;
+        }
+        slot = behind(slot, 1)?;
+    }
+    Ok(())
+}
+
+fn region_targets(
+    alloc: Global,
+    program: &Program,
+    effects: &Effects,
+    through: &Through,
+    stored: &[Stored],
+    region: &Region,
+) -> Result<Vec<Target>, AllocError>
+    requires same { effects.now.program ≡ program_view program.now }
+    requires through { through.now ≡ program_view program.now }
+    requires stored { stored.now ≡ stored_from (program_view program.now) 0 0 (program_view program.now).names.nvs (program_view program.now).nv }
+    requires function { region.now.function < length program.now.functions.items }
+    ensures { IfOk result (λ t. t.items ≡ region_targets (program_view program.now) (region_view region.now)) }
+{
+    let inside = region_effects(alloc, effects, region)?;
+    let function = &program.functions[region.function as usize];
+    let mut targets = Vec::new(alloc);
+    add_stored(through, inside.as_slice(), stored, &mut targets)?;
+    add_params(
+        through,
+        inside.as_slice(),
+        function.params.as_slice(),
+        &mut targets,
+    )?;
+    Ok(targets)
+}
+
+fn targets_of(
+    alloc: Global,
+    program: &Program,
+    effects: &Effects,
+    through: &Through,
+    stored: &[Stored],
+    regions: &[Region],
+) -> Result<Vec<Vec<Target>>, AllocError>
+    requires same { effects.now.program ≡ program_view program.now }
+    requires through { through.now ≡ program_view program.now }
+    requires stored { stored.now ≡ stored_from (program_view program.now) 0 0 (program_view program.now).names.nvs (program_view program.now).nv }
+    requires functions { (k : ℕ) (d : Region) → k < length regions.now → (get_or regions.now k d).function < length program.now.functions.items }
+    ensures { IfOk result (λ t. map (λ v. v.items) t.items ≡ map (region_targets (program_view program.now)) (map region_view regions.now)) }
+{
+    let mut all = Vec::new(alloc);
+    for region in regions {
+        let targets = region_targets(alloc, program, effects, through, stored, region)?;
+        all.push(targets)?;
+    }
+    Ok(all)
+}
+
+fn tabled_targets(
+    alloc: Global,
+    program: &Program,
+    effects: &Effects,
+    assigned: &Assigned,
+    regions: &[Region],
+) -> Result<Vec<Vec<Target>>, AllocError>
+    requires same { effects.now.program ≡ program_view program.now }
+    requires assigned { assigned.now ≡ program.now.functions.items }
+    requires functions { (k : ℕ) (d : Region) → k < length regions.now → (get_or regions.now k d).function < length program.now.functions.items }
+    ensures { IfOk result (λ t. map (λ v. v.items) t.items ≡ map (region_targets (program_view program.now)) (map region_view regions.now)) }
+{
+    let stored = all_stored(alloc, program, assigned)?;
+    let through = Through::new(alloc, assigned.calls(), program)?;
+    targets_of(
+        alloc,
+        program,
+        effects,
+        &through,
+        stored.as_slice(),
+        regions,
+    )
+}
+
+fn all_targets(
+    alloc: Global,
+    program: &Program,
+    effects: &Effects,
+    regions: &[Region],
+) -> Result<Vec<Vec<Target>>, AllocError>
+    requires same { effects.now.program ≡ program_view program.now }
+    requires functions { (k : ℕ) (d : Region) → k < length regions.now → (get_or regions.now k d).function < length program.now.functions.items }
+    ensures { IfOk result (λ t. map (λ v. v.items) t.items ≡ map (region_targets (program_view program.now)) (map region_view regions.now)) }
+{
+    let assigned = Assigned::new(alloc, program.functions.as_slice())?;
+    tabled_targets(alloc, program, effects, &assigned, regions)
+}
+
+fn marked_targets(alloc: Global, marked: &Marked) -> Result<Vec<Vec<Target>>, AllocError>
+    ensures { IfOk result (λ t. map (λ v. v.items) t.items ≡ may_write marked.now) }
+{
+    let checked = marked.checked();
+    let effects = Effects::new(alloc, checked)?;
+    let targets = all_targets(alloc, checked.program(), &effects, marked.regions())?;
+    Ok(targets)
+}
+
 /// The write targets of all regions.
 pub fn may_write(alloc: Global, marked: &Marked) -> Result<WriteSets, Memory>
     ensures { IfOk result (λ w. w ≡ may_write marked.now) }
 {
-    Err(Memory)
+    match marked_targets(alloc, marked) {
+        Ok(regions) => Ok(WriteSets { regions }),
+        Err(_) => Err(Memory),
+    }
 }
 
 impl WriteSets {
@@ -37,6 +229,13 @@ impl WriteSets {
         ensures { result ≡ length self.now }
     {
         self.regions.len()
+    }
+
+    /// What each region may overwrite, in their order.
+    pub fn sets(&self) -> &[Vec<Target>]
+        ensures { map (λ v. v.items) result.now ≡ self.now }
+    {
+        self.regions.as_slice()
     }
 
     /// What the region of a number, from 1, may overwrite: nonvolatile variables by their first

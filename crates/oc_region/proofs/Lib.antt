@@ -1,0 +1,5 @@
+pub mod Elements
+pub mod Owners
+pub mod Required
+pub mod Ranges
+pub mod Regions

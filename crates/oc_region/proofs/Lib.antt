@@ -3,3 +3,4 @@ pub mod Owners
 pub mod Required
 pub mod Ranges
 pub mod Regions
+pub mod Onto

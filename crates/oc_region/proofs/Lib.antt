@@ -4,3 +4,4 @@ pub mod Required
 pub mod Ranges
 pub mod Regions
 pub mod Onto
+pub mod Tables

@@ -24,6 +24,9 @@ pub record TAsk : Type 0 where
   pub policy : ℕ
   pub range : TRegion
 
+abbrev pub ask_range : TAsk → TRegion
+ask_range a = a.range
+
 abbrev pub ask_view : Ask → TAsk
 ask_view a = record { policy = a.policy; range = stretch_view a.range }
 
@@ -44,6 +47,10 @@ ask_reasons p all r = rising (flat_map (ask_reason p r) all)
 -- a region with its number and its reasons
 abbrev pub with_reasons : TProgram → List TAsk → ℕ → TRegion → TRegion
 with_reasons p all i r = record r { id = i; reasons = ask_reasons p all r }
+
+abbrev pub numbered_for : TProgram → List TAsk → ℕ → List TRegion → List TRegion
+numbered_for p all i [] = []
+numbered_for p all i (r ∷ rs) = with_reasons p all i r ∷ numbered_for p all (i + 1) rs
 
 -- a statement stands in a statement of a range
 abbrev pub is_within : TProgram → TRegion → ℕ → Bool

@@ -2,7 +2,9 @@
 #![tactic(auto)]
 
 mod asks;
+mod groups;
 pub mod infer;
 mod places;
 mod range;
+mod smallest;
 mod unite;

@@ -11,7 +11,7 @@ use oc_effects::effects::Effects;
 use oc_tree::tree::{BlockId, StmtId};
 
 /// Directly in which block a statement stands.
-fn block_of(effects: &Effects, s: StmtId) -> Option<BlockId>
+pub fn block_of(effects: &Effects, s: StmtId) -> Option<BlockId>
     ensures { result ≡ block_of effects.now.program s }
 {
     match effects.at(s) {
@@ -21,7 +21,7 @@ fn block_of(effects: &Effects, s: StmtId) -> Option<BlockId>
 }
 
 /// Whether a statement stands directly in a block.
-fn is_in_block(effects: &Effects, s: StmtId, block: BlockId) -> bool
+pub fn is_in_block(effects: &Effects, s: StmtId, block: BlockId) -> bool
     ensures { result ≡ same_block (block_of effects.now.program s) (Some block) }
 {
     match block_of(effects, s) {
@@ -67,7 +67,7 @@ pub fn covers(effects: &Effects, r: Stretch, s: StmtId) -> bool
 }
 
 /// The statement directly in a block that is `s`, or in which `s` stands.
-fn in_block(effects: &Effects, block: BlockId, s: StmtId) -> Option<StmtId>
+pub fn in_block(effects: &Effects, block: BlockId, s: StmtId) -> Option<StmtId>
     ensures { result ≡ in_block effects.now.program block s }
 {
     if is_in_block(effects, s, block) {
@@ -106,7 +106,7 @@ fn block_holding(effects: &Effects, sites: &[StmtId], s: StmtId) -> Option<Block
 }
 
 /// The innermost block in which all these statements stand.
-fn common_block(effects: &Effects, sites: &[StmtId]) -> Option<BlockId>
+pub fn common_block(effects: &Effects, sites: &[StmtId]) -> Option<BlockId>
     ensures { result ≡ common_block effects.now.program sites.now }
 {
     let (first, others) = sites.split_first()?;

@@ -5,3 +5,4 @@ pub mod Ranges
 pub mod Regions
 pub mod Onto
 pub mod Tables
+pub mod Reasons

@@ -247,14 +247,16 @@ module _ (p : TProgram) where
 
     regions_numbered : (n i : ℕ) (rs : List TRegion) → Numbered p → Each (Asks p n) qs → Each (IsRangeOf p) rs → Each (IsRegion p n) (numbered p groups qs i rs)
     regions_numbered n i [] form asks h = tt
-    regions_numbered n i (r ∷ rs) form asks h =
-        (record {
-          ordered = h.0.ordered;
-          first_there = h.0.first_there;
-          last_there = h.0.last_there;
-          function_there = block_function p form.statements form.blocks r.first r.block h.0.first_there ∙ h.0.function_there;
-          reasons_there = each_all (λ k. k < n) (reasons p groups qs r) (reasons_below n r asks);
-        }, regions_numbered n (i + 1) rs form asks h.1)
+    regions_numbered n i (r ∷ rs) form asks h = (
+      record {
+        ordered = h.0.ordered;
+        first_there = h.0.first_there;
+        last_there = h.0.last_there;
+        function_there = block_function p form.statements form.blocks r.first r.block h.0.first_there ∙ h.0.function_there;
+        reasons_there = each_all (λ k. k < n) (reasons p groups qs r) (reasons_below n r asks);
+      },
+      regions_numbered n (i + 1) rs form asks h.1,
+    )
 
   -- ---- the regions of a program
 

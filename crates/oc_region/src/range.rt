@@ -16,9 +16,7 @@ pub struct Stretch {
 pub fn shares(r: Stretch, q: Stretch) -> bool
     ensures { result ≡ shares (stretch_view r) (stretch_view q) }
 {
-    r.range.block == q.range.block
-        && r.range.first <= q.range.last
-        && q.range.first <= r.range.last
+    r.range.block == q.range.block && r.range.first <= q.range.last && q.range.first <= r.range.last
 }
 
 /// From the first statement of both to their last.

@@ -6,3 +6,4 @@ pub mod Regions
 pub mod Onto
 pub mod Tables
 pub mod Reasons
+pub mod Chains

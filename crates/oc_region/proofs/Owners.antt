@@ -13,11 +13,11 @@ use Rattle.oc_region.proofs.Elements.{Each, each_weaker, each_append, each_left,
 
 -- ---- numbers that rise by one
 
-abbrev Rise : ℕ → List ℕ → Type 0
+abbrev pub Rise : ℕ → List ℕ → Type 0
 Rise i [] = Unit {0}
 Rise i (x ∷ xs) = (x ≡ i) × Rise (suc i) xs
 
-rise : (i n : ℕ) (xs : List ℕ) → xs ≡ numbers_on i n → Rise i xs
+pub rise : (i n : ℕ) (xs : List ℕ) → xs ≡ numbers_on i n → Rise i xs
 rise i n [] h = tt
 rise i zero (x ∷ xs) h = cc h
 rise i (suc n) (x ∷ xs) h = (cc h, rise (suc i) n xs (cc h))
@@ -30,7 +30,7 @@ rise_below : (i : ℕ) (xs ys : List ℕ) → Rise i (xs ++ ys) → Each (λ x. 
 rise_below i [] ys h = tt
 rise_below i (x ∷ xs) ys h = (omega (arith, h.0), each_weaker (λ y. y < suc i + length xs) (λ y. y < i + length (x ∷ xs)) (λ y l. omega (arith, l)) xs (rise_below (suc i) xs ys h.1))
 
-rise_above : (i j : ℕ) (xs : List ℕ) → j ≤ i → Rise i xs → Each (λ x. j ≤ x) xs
+pub rise_above : (i j : ℕ) (xs : List ℕ) → j ≤ i → Rise i xs → Each (λ x. j ≤ x) xs
 rise_above i j [] l h = tt
 rise_above i j (x ∷ xs) l h = (omega (arith, h.0), rise_above (suc i) j xs (omega arith) h.1)
 

@@ -18,7 +18,7 @@ use Rattle.oc_region.proofs.Owners.{Rise, rise, rise_above}
 
 -- ---- numbers are distinct
 
-each_unmapped : {A B : Type 0} (P : B → Type 0) (f : A → B) (xs : List A) → Each P (map f xs) → Each (λ x. P (f x)) xs
+pub each_unmapped : {A B : Type 0} (P : B → Type 0) (f : A → B) (xs : List A) → Each P (map f xs) → Each (λ x. P (f x)) xs
 each_unmapped P f [] h = tt
 each_unmapped P f (x ∷ xs) h = (h.0, each_unmapped P f xs h.1)
 

@@ -7,3 +7,4 @@ pub mod Onto
 pub mod Tables
 pub mod Reasons
 pub mod Chains
+pub mod Least

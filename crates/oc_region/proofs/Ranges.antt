@@ -64,7 +64,7 @@ module _ (p : TProgram) (block : ℕ) where
       }) each.1
 
 module _ (p : TProgram) (groups : List Group) (are : AreGroups p groups) where
-  group_in : (block s : ℕ) (g : Group) → block_of p s ≡ Some block → group_of p groups s ≡ Some g → GroupIn p block g
+  pub group_in : (block s : ℕ) (g : Group) → block_of p s ≡ Some block → group_of p groups s ≡ Some g → GroupIn p block g
   group_in block s g there e =
       let found = each_find (λ h. is_group p h ≡ true) (is_in_group p s) groups g e (all_each (λ h. is_group p h ≡ true) groups are.ranges) in
       let first = block_along (block_of p g.0) block (block_of p s) there (and_parts (same_block (block_of p s) (block_of p g.0)) (nat_le g.0 s && nat_le s g.1) found.0).0 in

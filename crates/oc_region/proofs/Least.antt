@@ -360,6 +360,53 @@ module _ (p : TProgram) (groups : List Group) (form : Numbered p) (are : AreGrou
       one : (s : ℕ) → Each (Grouped b) (option_to_list (option_and_then (group_of p groups) (in_block p b s)))
       one s = by_statement s (in_block p b s) refl
 
+  -- ---- other ranges that hold the sites
+
+  -- a statement around the block, in the range
+  record AroundIn (b : ℕ) (q : TRegion) : Type 0 where
+    pub statement : ℕ
+    pub around_it : In statement (around_block p form b)
+    pub in_it : InRegion p q statement
+
+  covered_found : (q : TRegion) (s : ℕ) → covers p q s ≡ true → is_some (in_block p q.block s) ≡ true
+  covered_found q s e = let f = covers_found p q s e in in_found p q.block s f.value f.inside (in_region p q f.value f.passes).block
+
+  -- a range that holds the sites stands in their common block or around it
+  same_or_around : (ss : List ℕ) (b : ℕ) (q : TRegion) → common_block p ss ≡ Some b → Each (λ s. covers p q s ≡ true) ss → (q.block ≡ b) ⊎ AroundIn b q
+  same_or_around [] b q e h = cc
+  same_or_around (s ∷ ss) b q e h =
+      let f = covers_found p q s h.0 in
+      let i = in_region p q f.value f.passes in
+      let test : ℕ → Bool = λ c. list_all (λ t. is_some (in_block p c t)) ss in
+      let all : test q.block ≡ true = passing_all (λ t. is_some (in_block p q.block t)) ss (each_weaker (λ t. covers p q t ≡ true) (λ t. is_some (in_block p q.block t) ≡ true) (λ t k. covered_found q t k) ss h.1) in
+      by_outer f.value i (outer_of p test (line_up p s) b q.block f.value (chain_of p form s f.value q.block f.inside i.block) e f.inside i.block all)
+    where
+      by_outer : (u : ℕ) → InRegion p q u → Outer p b u (line_up p s) → (q.block ≡ b) ⊎ AroundIn b q
+      by_outer u i o = by_case o.outer
+        where
+          by_case : ((u ≡ o.statement) ⊎ In u (around (placed p o.statement))) → (q.block ≡ b) ⊎ AroundIn b q
+          by_case (inl same) = inl (same_Some q.block b (sym i.block ∙ ap (block_of p) same ∙ o.block))
+          by_case (inr j) = inr (record { statement = u; around_it = subst (λ l. In u l) (around_is p form o.statement b o.block) j; in_it = i })
+
+  -- the group of a site that a range in the block holds lies in the range
+  site_group : (b : ℕ) (q : TRegion) → IsRange p groups q → q.block ≡ b → (s : ℕ) → covers p q s ≡ true → Each (Within (q.first, q.last)) (option_to_list (option_and_then (group_of p groups) (in_block p b s)))
+  site_group b q is_range same s e = by_statement (in_block p b s) refl
+    where
+      by_group : (o : Option Group) → has_group q o ≡ true → Each (Within (q.first, q.last)) (option_to_list o)
+      by_group None h = tt
+      by_group (Some h) k = let parts = and_parts (nat_le q.first h.0) (nat_le h.1 q.last) k in ((leb-true q.first h.0 parts.0, leb-true h.1 q.last parts.1), tt)
+
+      by_statement : (o : Option ℕ) → in_block p b s ≡ o → Each (Within (q.first, q.last)) (option_to_list (option_and_then (group_of p groups) o))
+      by_statement None is = tt
+      by_statement (Some t) is =
+          let test : ℕ → Bool = λ n. same_block (block_of p n) (Some b) in
+          let block = same_block_is (block_of p t) b (find_passes test (line_up p s) t is) in
+          let inside = find_in test (line_up p s) t is in
+          let f = covers_found p q s e in
+          let i = in_region p q f.value f.passes in
+          let one : t ≡ f.value = only p form t f.value b (line_up p s) (chain_of p form s t b inside block) inside f.inside block (i.block ∙ ap Some same) in
+          by_group (group_of p groups t) (is_range.whole t (ap (is_in_region p q) one ∙ f.passes))
+
   -- ---- from the first to the last of some groups in a block
 
   module _ (r : TRequirement) (b : ℕ) (g : Group) (gs : List Group) (common : common_block p r.sites ≡ Some b) (are_those : groups_in p groups b r.sites ≡ g ∷ gs) where
@@ -438,3 +485,43 @@ module _ (p : TProgram) (groups : List Group) (form : Numbered p) (are : AreGrou
     holds =
         let both : Each (λ s. (is_some (in_block p b s) ≡ true) × Spread s) r.sites = each_both (λ s. is_some (in_block p b s) ≡ true) Spread r.sites (all_in_common p r.sites b common) spread_each in
         passing_all (covers p range) r.sites (each_weaker (λ s. (is_some (in_block p b s) ≡ true) × Spread s) (λ s. covers p range s ≡ true) (λ s k. site_covered s k.0 k.1) r.sites both)
+
+    -- it lies in each other range that holds them
+    least : (q : TRegion) → IsRange p groups q → Holds p q r.sites → LiesIn p range q
+    least q is h = by_case (same_or_around r.sites b q common covered)
+      where
+        covered : Each (λ s. covers p q s ≡ true) r.sites
+        covered = all_passing (covers p q) r.sites h
+
+        by_case : ((q.block ≡ b) ⊎ AroundIn b q) → LiesIn p range q
+        by_case (inl same) = λ s e. (
+            let within : Each (Within (q.first, q.last)) (g ∷ gs) = subst (Each (Within (q.first, q.last))) are_those (each_flat_map (λ t. covers p q t ≡ true) (Within (q.first, q.last)) (λ t. option_to_list (option_and_then (group_of p groups) (in_block p b t))) (λ t k. site_group b q is same t k) r.sites covered) in
+            let low = (each_in (Within (q.first, q.last)) (spans g gs).first (g ∷ gs) (spans g gs).first_inside within).0 in
+            let high = (each_in (Within (q.first, q.last)) (spans g gs).last (g ∷ gs) (spans g gs).last_inside within).1 in
+            let first = (spans g gs).first_is in
+            let last = (spans g gs).last_is in
+            let f = covers_found p range s e in
+            let i = in_region p range f.value f.passes in
+            let from = i.from in
+            let upto = i.upto in
+            found_covers p q s f.value f.inside (is_in p q f.value (record { block = i.block ∙ ap Some (sym same); from = omega (arith, low, first, from); upto = omega (arith, high, last, upto) })))
+        by_case (inr a) = λ s e. (
+            let f = covers_found p range s e in
+            let i = in_region p range f.value f.passes in
+            let chain = chain_of p form s f.value b f.inside i.block in
+            let outer : In a.statement (around (placed p f.value)) = subst (λ l. In a.statement l) (sym (around_is p form f.value b i.block)) a.around_it in
+            found_covers p q s a.statement (beyond p f.value a.statement (line_up p s) chain f.inside outer) (is_in p q a.statement a.in_it))
+
+    is_least : IsSmallest p groups r.sites range
+    is_least = record { range = is_range; holds = holds; least = least }
+
+  pub is_smallest : (r : TRequirement) (x : TRegion) → smallest p groups r ≡ Some x → IsSmallest p groups r.sites x
+  is_smallest r x e = by_block (common_block p r.sites) refl e
+    where
+      by_groups : (b : ℕ) (gs : List Group) → common_block p r.sites ≡ Some b → groups_in p groups b r.sites ≡ gs → option_map (λ g. record { id = 0; function = r.function; block = b; first = g.0; last = g.1; reasons = [] }) (spread gs) ≡ Some x → IsSmallest p groups r.sites x
+      by_groups b [] is those f = cc
+      by_groups b (g ∷ gs) is those f = subst (IsSmallest p groups r.sites) (same_Some (range r b g gs is those) x f) (is_least r b g gs is those)
+
+      by_block : (o : Option ℕ) → common_block p r.sites ≡ o → option_and_then (range_in p groups r) o ≡ Some x → IsSmallest p groups r.sites x
+      by_block None is f = cc
+      by_block (Some b) is f = by_groups b (groups_in p groups b r.sites) is refl f

@@ -138,40 +138,40 @@ module _ (p : TProgram) where
   Chain [] = Unit {0}
   Chain (t ∷ l) = Standing t l × Chain l
 
-  abbrev Own : Placed → Type 0
-  Own a = placed p a.id ≡ Some a
+  abbrev pub IsOwn : Placed → Type 0
+  IsOwn a = placed p a.id ≡ Some a
 
   abbrev InChain : Placed → Type 0
   InChain a = Chain a.at.around
 
   mutual
-    kind_chain : (at : Place) (id : ℕ) (k : TKind) → Standing id at.around → Chain at.around → Each Own (kind_placed at id k) → Each InChain (kind_placed at id k)
-    kind_chain at id (if_else c a b) s h own = each_append InChain (block_placed (in_branch at id) a) (else_placed (in_branch at id) b) (block_chain (in_branch at id) a (s, h) (each_left Own (block_placed (in_branch at id) a) (else_placed (in_branch at id) b) own)) (else_chain (in_branch at id) b (s, h) (each_right Own (block_placed (in_branch at id) a) (else_placed (in_branch at id) b) own))
+    kind_chain : (at : Place) (id : ℕ) (k : TKind) → Standing id at.around → Chain at.around → Each IsOwn (kind_placed at id k) → Each InChain (kind_placed at id k)
+    kind_chain at id (if_else c a b) s h own = each_append InChain (block_placed (in_branch at id) a) (else_placed (in_branch at id) b) (block_chain (in_branch at id) a (s, h) (each_left IsOwn (block_placed (in_branch at id) a) (else_placed (in_branch at id) b) own)) (else_chain (in_branch at id) b (s, h) (each_right IsOwn (block_placed (in_branch at id) a) (else_placed (in_branch at id) b) own))
     kind_chain at id (for_in x m n b) s h own = block_chain (in_loop at id ((x, variables.Declared id) ∷ [])) b (s, h) own
     kind_chain at id (while_do c n b) s h own = block_chain (in_loop at id []) b (s, h) own
     kind_chain at id _ s h own = tt
 
-    else_chain : (at : Place) (b : TElse) → Chain at.around → Each Own (else_placed at b) → Each InChain (else_placed at b)
+    else_chain : (at : Place) (b : TElse) → Chain at.around → Each IsOwn (else_placed at b) → Each InChain (else_placed at b)
     else_chain at no_else h own = tt
     else_chain at (else_do b) h own = block_chain at b h own
 
-    block_chain : (at : Place) (b : TBlock) → Chain at.around → Each Own (block_placed at b) → Each InChain (block_placed at b)
+    block_chain : (at : Place) (b : TBlock) → Chain at.around → Each IsOwn (block_placed at b) → Each InChain (block_placed at b)
     block_chain at (block id ss) h own = stmts_chain (record at { block = id }) ss h own
 
-    stmts_chain : (at : Place) (ss : TStmts) → Chain at.around → Each Own (stmts_placed at ss) → Each InChain (stmts_placed at ss)
+    stmts_chain : (at : Place) (ss : TStmts) → Chain at.around → Each IsOwn (stmts_placed at ss) → Each InChain (stmts_placed at ss)
     stmts_chain at no_stmts h own = tt
     stmts_chain at (more (stmt id line k) ss) h own =
         let s : Standing id at.around = record { found = record { id = id; line = line; kind = k; at = at }; there = own.0; around = refl } in
-        (h, each_append InChain (kind_placed at id k) (stmts_placed (behind at id k) ss) (kind_chain at id k s h (each_left Own (kind_placed at id k) (stmts_placed (behind at id k) ss) own.1)) (stmts_chain (behind at id k) ss h (each_right Own (kind_placed at id k) (stmts_placed (behind at id k) ss) own.1)))
+        (h, each_append InChain (kind_placed at id k) (stmts_placed (behind at id k) ss) (kind_chain at id k s h (each_left IsOwn (kind_placed at id k) (stmts_placed (behind at id k) ss) own.1)) (stmts_chain (behind at id k) ss h (each_right IsOwn (kind_placed at id k) (stmts_placed (behind at id k) ss) own.1)))
 
-  functions_chain : (fs : List TFunction) → Each Own (flat_map (λ f. block_placed (at_start f) f.body) fs) → Each InChain (flat_map (λ f. block_placed (at_start f) f.body) fs)
+  functions_chain : (fs : List TFunction) → Each IsOwn (flat_map (λ f. block_placed (at_start f) f.body) fs) → Each InChain (flat_map (λ f. block_placed (at_start f) f.body) fs)
   functions_chain [] own = tt
-  functions_chain (f ∷ fs) own = each_append InChain (block_placed (at_start f) f.body) (flat_map (λ g. block_placed (at_start g) g.body) fs) (block_chain (at_start f) f.body tt (each_left Own (block_placed (at_start f) f.body) (flat_map (λ g. block_placed (at_start g) g.body) fs) own)) (functions_chain fs (each_right Own (block_placed (at_start f) f.body) (flat_map (λ g. block_placed (at_start g) g.body) fs) own))
+  functions_chain (f ∷ fs) own = each_append InChain (block_placed (at_start f) f.body) (flat_map (λ g. block_placed (at_start g) g.body) fs) (block_chain (at_start f) f.body tt (each_left IsOwn (block_placed (at_start f) f.body) (flat_map (λ g. block_placed (at_start g) g.body) fs) own)) (functions_chain fs (each_right IsOwn (block_placed (at_start f) f.body) (flat_map (λ g. block_placed (at_start g) g.body) fs) own))
 
   -- ---- in a program in form
 
   module _ (form : Numbered p) where
-    all_own : Each Own (program_placed p)
+    pub all_own : Each IsOwn (program_placed p)
     all_own = find_own 1 (program_placed p) (subst (Rise 1) (sym (program_ids p)) (rise 1 (length (program_statements p)) (program_statements p) form.statements))
 
     -- what is around the statements of a block

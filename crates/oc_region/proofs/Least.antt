@@ -174,7 +174,7 @@ module _ (p : TProgram) where
 
 module _ (p : TProgram) where
   -- the blocks of some statements
-  abbrev Blocks : List ℕ → List ℕ
+  abbrev pub Blocks : List ℕ → List ℕ
   Blocks ls = flat_map (λ t. option_to_list (block_of p t)) ls
 
   -- a statement directly in a block
@@ -220,11 +220,11 @@ module _ (p : TProgram) where
       by_test d false is q f (inr j) rest = let r = rest f j h there in record { statement = r.statement; inside = inr r.inside; block = r.block; outer = r.outer }
 
   -- where some statement of these stands directly in a block, one is found
-  in_found : (b s t : ℕ) → In t (line_up p s) → block_of p t ≡ Some b → is_some (in_block p b s) ≡ true
+  pub in_found : (b s t : ℕ) → In t (line_up p s) → block_of p t ≡ Some b → is_some (in_block p b s) ≡ true
   in_found b s t i h = is_found (λ n. same_block (block_of p n) (Some b)) t (line_up p s) i (ap (λ o. same_block o (Some b)) h ∙ eq-eqb b b refl)
 
   -- all stand in the common block
-  all_in_common : (ss : List ℕ) (b : ℕ) → common_block p ss ≡ Some b → Each (λ s. is_some (in_block p b s) ≡ true) ss
+  pub all_in_common : (ss : List ℕ) (b : ℕ) → common_block p ss ≡ Some b → Each (λ s. is_some (in_block p b s) ≡ true) ss
   all_in_common [] b e = tt
   all_in_common (s ∷ ss) b e =
       let test : ℕ → Bool = λ c. list_all (λ t. is_some (in_block p c t)) ss in
@@ -317,7 +317,7 @@ module _ (p : TProgram) (groups : List Group) (form : Numbered p) (are : AreGrou
           let found = each_find (λ x. count_by (is_in_group p x.id) groups ≡ 1) (λ x. x.id == n) (program_placed p) a is told in
           subst (λ m. count_by (is_in_group p m) groups ≡ 1) (eqb-true a.id n found.0) found.1
 
-  group_there : (t b : ℕ) → block_of p t ≡ Some b → (h : Group) × (group_of p groups t ≡ Some h)
+  pub group_there : (t b : ℕ) → block_of p t ≡ Some b → (h : Group) × (group_of p groups t ≡ Some h)
   group_there t b e = by_group (group_of p groups t) refl
     where
       by_group : (o : Option Group) → group_of p groups t ≡ o → (h : Group) × (group_of p groups t ≡ Some h)

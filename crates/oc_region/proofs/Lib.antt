@@ -8,3 +8,4 @@ pub mod Tables
 pub mod Reasons
 pub mod Chains
 pub mod Least
+pub mod Exists

@@ -50,6 +50,23 @@ module _ (P : List ℕ → Type 0) where
   each_in_order [] each = tt
   each_in_order (n ∷ ns) each = each_with_list n (in_order ns) each.0 (each_in_order ns each.1)
 
+-- there is one of them
+abbrev pub IsSome : {A : Type 0} → List A → Type 0
+IsSome xs = is_empty xs ≡ false
+
+some_with_sample : (n : ℕ) (ns : List ℕ) → IsSome (with_sample n ns)
+some_with_sample n [] = refl
+some_with_sample n (m ∷ ms) = by_tests (nat_lt n m) (n == m)
+  where
+    by_tests : (b c : Bool) → IsSome (if b then n ∷ m ∷ ms else (if c then m ∷ ms else m ∷ with_sample n ms))
+    by_tests true c = refl
+    by_tests false true = refl
+    by_tests false false = refl
+
+some_rising : (ms ns : List ℕ) → IsSome ms → IsSome (rising (ms ++ ns))
+some_rising [] ns h = cc
+some_rising (m ∷ ms) ns h = some_with_sample m (rising (ms ++ ns))
+
 -- ---- sites
 
 module _ (p : TProgram) where
@@ -80,28 +97,33 @@ module _ (p : TProgram) where
   inputs_own g xs =
       each_flat_map (λ a. Own g a.stmt) (Own g) (λ a. flat_map (λ u. flat_map (λ x. cond (is_input p g a u x) (site p g a u x ∷ []) []) xs) (variables p g)) (λ a own. each_flat_map (λ u. Unit {0}) (Own g) (λ u. flat_map (λ x. cond (is_input p g a u x) (site p g a u x ∷ []) []) xs) (λ u _. each_flat_map (λ x. Unit {0}) (Own g) (λ x. cond (is_input p g a u x) (site p g a u x ∷ []) []) (λ x _. each_cond (Own g) (is_input p g a u x) (site p g a u x ∷ []) [] (λ e. (site_own g a u x own, tt)) (λ e. tt)) xs (each_always (λ x. Unit {0}) (λ x. tt) xs)) (variables p g) (each_always (λ u. Unit {0}) (λ u. tt) (variables p g))) (effects_at p g) (own_effects g)
 
-  with_own : (g : ℕ) (inputs others : List ℕ) → Each (Own g) inputs → Each (Own g) others → Each (Each (Own g)) (with_inputs inputs others)
-  with_own g inputs others h k = each_cond (Each (Own g)) (is_empty inputs) [] (rising (inputs ++ others) ∷ []) (λ e. tt) (λ e. (each_rising (Own g) (inputs ++ others) (each_append (Own g) inputs others h k), tt))
+  -- the sites of a requirement in a function
+  abbrev pub AreSites : ℕ → List ℕ → Type 0
+  AreSites g ns = Each (Own g) ns × IsSome ns
+
+  with_own : (g : ℕ) (inputs others : List ℕ) → Each (Own g) inputs → Each (Own g) others → Each (AreSites g) (with_inputs inputs others)
+  with_own g inputs others h k = each_cond (AreSites g) (is_empty inputs) [] (rising (inputs ++ others) ∷ []) (λ e. tt) (λ e. ((each_rising (Own g) (inputs ++ others) (each_append (Own g) inputs others h k), some_rising inputs others e), tt))
 
   held_own : (q : Policy) → Each (Own q.function) (held p q)
   held_own q = each_mapped (λ a. Own q.function a.stmt) (Own q.function) (λ a. a.stmt) (λ a h. h) (filter (is_held q.kind) (effects_at p q.function)) (each_filter (λ a. Own q.function a.stmt) (is_held q.kind) (effects_at p q.function) (own_effects q.function))
 
-  own_sites_own : (q : Policy) → Each (Each (Own q.function)) (own_sites p q)
-  own_sites_own q = each_cond (Each (Own q.function)) (is_empty (held p q)) [] (with_inputs (input_sites p q.function (annotated p q)) (held p q)) (λ e. tt) (λ e. with_own q.function (input_sites p q.function (annotated p q)) (held p q) (inputs_own q.function (annotated p q)) (held_own q))
+  own_sites_own : (q : Policy) → Each (AreSites q.function) (own_sites p q)
+  own_sites_own q = each_cond (AreSites q.function) (is_empty (held p q)) [] (with_inputs (input_sites p q.function (annotated p q)) (held p q)) (λ e. tt) (λ e. with_own q.function (input_sites p q.function (annotated p q)) (held p q) (inputs_own q.function (annotated p q)) (held_own q))
 
-  sites_own : (q : Policy) (g : ℕ) → Each (Each (Own g)) (function_sites p q g)
+  sites_own : (q : Policy) (g : ℕ) → Each (AreSites g) (function_sites p q g)
   sites_own q g =
-      each_append (Each (Own g)) (cond (nat_eq g q.function) (own_sites p q) []) (flat_map (call_sites p q g) (effects_at p g)) (each_cond (Each (Own g)) (nat_eq g q.function) (own_sites p q) [] (λ e. subst (λ f. Each (Each (Own f)) (own_sites p q)) (sym (eqb-true g q.function e)) (own_sites_own q)) (λ e. tt)) (each_flat_map (λ a. Own g a.stmt) (Each (Own g)) (call_sites p q g) (λ a own. with_own g (input_sites p g (needed_at p q g a)) (a.stmt ∷ []) (inputs_own g (needed_at p q g a)) (own, tt)) (effects_at p g) (own_effects g))
+      each_append (AreSites g) (cond (nat_eq g q.function) (own_sites p q) []) (flat_map (call_sites p q g) (effects_at p g)) (each_cond (AreSites g) (nat_eq g q.function) (own_sites p q) [] (λ e. subst (λ f. Each (AreSites f) (own_sites p q)) (sym (eqb-true g q.function e)) (own_sites_own q)) (λ e. tt)) (each_flat_map (λ a. Own g a.stmt) (AreSites g) (call_sites p q g) (λ a own. with_own g (input_sites p g (needed_at p q g a)) (a.stmt ∷ []) (inputs_own g (needed_at p q g a)) (own, tt)) (effects_at p g) (own_effects g))
 
   -- ---- requirements
 
   -- its sites stand in its function, and its policy has a number below `n`
   pub record Asks (n : ℕ) (r : TRequirement) : Type 0 where
     pub sites : Each (Own r.function) r.sites
+    pub some : IsSome r.sites
     pub policy : r.policy < n
 
   asks_in : (m n : ℕ) (q : Policy) (g : ℕ) → n < m → Each (Asks m) (required_in p n q g)
-  asks_in m n q g h = each_mapped (Each (Own g)) (Asks m) (λ sites. record { policy = n; function = g; sites = sites }) (λ sites own. record { sites = own; policy = h }) (in_order (function_sites p q g)) (each_in_order (Each (Own g)) (function_sites p q g) (sites_own q g))
+  asks_in m n q g h = each_mapped (AreSites g) (Asks m) (λ sites. record { policy = n; function = g; sites = sites }) (λ sites own. record { sites = own.0; some = own.1; policy = h }) (in_order (function_sites p q g)) (each_in_order (AreSites g) (function_sites p q g) (sites_own q g))
 
   asks_of : (m n : ℕ) (q : Policy) → n < m → Each (Asks m) (required_of p n q)
   asks_of m n q h = each_flat_map (λ g. Unit {0}) (Asks m) (required_in p n q) (λ g _. asks_in m n q g h) (from 0 (length p.functions)) (each_always (λ g. Unit {0}) (λ g. tt) (from 0 (length p.functions)))

@@ -1,11 +1,12 @@
 //! The inference of regions.
-ghost use Rattle.std.specs.Prelude.{◌≡◌, map, IfOk, IfErr};
+ghost use Rattle.std.specs.Prelude.{◌≡◌, map, All, IfOk, IfErr};
 ghost use Rattle.std.specs.List.{list_any};
 ghost use Rattle.oc_tree.specs.Checked.{IsChecked};
 ghost use Rattle.oc_tree.specs.Regions.{region_view};
 ghost use Rattle.oc_needs.specs.Policies.{policies};
 ghost use Rattle.oc_needs.specs.Requirements.{requirements};
 ghost use Rattle.oc_needs.specs.View.{requirement_view};
+ghost use Rattle.oc_region.specs.Law.{HasSmallest};
 ghost use Rattle.oc_region.specs.Regions.{by_first, is_inside, marked, outermost, regions, united};
 ghost use Rattle.oc_region.specs.Views.{ask_view, numbered_for, stretch_view, with_reasons};
 
@@ -132,6 +133,8 @@ pub fn infer(
     requires { map requirement_view required.now ≡ requirements checked.program }
     ensures marked { IfOk result (λ m. m ≡ marked checked.program checked.groups) }
     ensures back { IfErr result (λ e. e.0 ≡ checked) }
+    // Each requirement has a range, which is the smallest one that holds its sites.
+    ensures smallest { IfOk result (λ _. All (HasSmallest checked.program checked.groups) (requirements checked.program)) }
 {
     match parts(alloc, &checked, required) {
         Ok((policies, regions)) => Ok(Marked::new(checked, policies, regions)),

@@ -1,13 +1,12 @@
 -- The statements around a statement: each stands in the rest of them, and a block decides what is around it.
-use Rattle.std.proofs.Common.{◌≡◌, ◌<◌, ◌≤◌, ℕ, zero, suc, ◌+◌, Bool, true, false, true≢false, ◌==◌, List, [], ◌∷◌, ◌++◌, length, map, Option, Some, None, cond, refl, ap, sym, subst, ◌∙◌, inl, inr, arith}
-use Rattle.std.specs.Prelude.{◌⊎◌, ◌||◌, flat_map, find, option_map}
-use Rattle.std.specs.List.{list_any}
-use Rattle.std.proofs.lemmas.Bool.{eqb-true, eq-eqb, ne_eqb, or_left, or_right}
+use Rattle.std.proofs.Common.{◌≡◌, ◌≤◌, ℕ, suc, ◌==◌, List, [], ◌∷◌, ◌++◌, length, map, Option, Some, None, cond, refl, ap, sym, subst, ◌∙◌, arith}
+use Rattle.std.specs.Prelude.{flat_map, find, option_map}
+use Rattle.std.proofs.lemmas.Bool.{eq-eqb, ne_eqb}
 use Rattle.std.proofs.lemmas.List.{map-append}
 use Rattle.std.proofs.lemmas.Option.{same_Some}
 use Rattle.oc_tree.specs.Tree.{TKind, if_else, for_in, while_do, TElse, no_else, else_do, stmt, TBlock, block, TStmts, no_stmts, more, TFunction, TProgram}
 use Rattle.oc_tree.specs.declared.tree.VarId.TheVariants as variables
-use Rattle.oc_tree.specs.Numbers.{numbers_on, program_statements, kind_blocks, else_blocks, block_blocks, stmts_blocks, program_blocks}
+use Rattle.oc_tree.specs.Numbers.{program_statements, kind_blocks, else_blocks, block_blocks, stmts_blocks, program_blocks}
 use Rattle.oc_tree.specs.Form.{Numbered}
 use Rattle.oc_tree.specs.Places.{Place, Placed, behind, in_branch, in_loop, at_start, kind_placed, else_placed, block_placed, stmts_placed, program_placed, placed, block_of}
 use Rattle.oc_tree.specs.Marked.{around}
@@ -26,9 +25,10 @@ find_own : (i : ℕ) (xs : List Placed) → Rise i (map (λ a. a.id) xs) → Eac
 find_own i [] h = tt
 find_own i (x ∷ xs) h =
     let later : Each (λ a. suc i ≤ a.id) xs = each_unmapped (λ n. suc i ≤ n) (λ a. a.id) xs (rise_above (suc i) (suc i) (map (λ a. a.id) xs) (omega arith) h.1) in
-    let rest : Each (λ a. (suc i ≤ a.id) × (find (λ b. b.id == a.id) xs ≡ Some a)) xs = each_both (λ a. suc i ≤ a.id) (λ a. find (λ b. b.id == a.id) xs ≡ Some a) xs later (find_own (suc i) xs h.1) in
-    (ap (λ b. cond b (Some x) (find (λ b. b.id == x.id) xs)) (eq-eqb x.id x.id refl),
-    each_weaker (λ a. (suc i ≤ a.id) × (find (λ b. b.id == a.id) xs ≡ Some a)) (λ a. find (λ b. b.id == a.id) (x ∷ xs) ≡ Some a) (λ a k. (let own : x.id ≡ i = h.0 in let l = k.0 in ap (λ b. cond b (Some x) (find (λ b. b.id == a.id) xs)) (ne_eqb x.id a.id (λ e. omega (arith, own, l, e))) ∙ k.1)) xs rest)
+    let rest : Each (λ a. (suc i ≤ a.id) × (find (λ b. b.id == a.id) xs ≡ Some a)) xs = each_both (λ a. suc i ≤ a.id) (λ a. find (λ b. b.id == a.id) xs ≡ Some a) xs later (find_own (suc i) xs h.1) in (
+      ap (λ b. cond b (Some x) (find (λ b. b.id == x.id) xs)) (eq-eqb x.id x.id refl),
+      each_weaker (λ a. (suc i ≤ a.id) × (find (λ b. b.id == a.id) xs ≡ Some a)) (λ a. find (λ b. b.id == a.id) (x ∷ xs) ≡ Some a) (λ a k. (let own : x.id ≡ i = h.0 in let l = k.0 in ap (λ b. cond b (Some x) (find (λ b. b.id == a.id) xs)) (ne_eqb x.id a.id (λ e. omega (arith, own, l, e))) ∙ k.1)) xs rest,
+    )
 
 -- ---- what is around a block
 
@@ -91,9 +91,10 @@ unfolding look
 look_own i [] h = tt
 look_own i (x ∷ xs) h =
     let later : Each (λ a. suc i ≤ a.0) xs = each_unmapped (λ n. suc i ≤ n) (λ a. a.0) xs (rise_above (suc i) (suc i) (map (λ a. a.0) xs) (omega arith) h.1) in
-    let rest : Each (λ a. (suc i ≤ a.0) × (look xs a.0 ≡ a.1)) xs = each_both (λ a. suc i ≤ a.0) (λ a. look xs a.0 ≡ a.1) xs later (look_own (suc i) xs h.1) in
-    (ap (λ b. cond b x.1 (look xs x.0)) (eq-eqb x.0 x.0 refl),
-    each_weaker (λ a. (suc i ≤ a.0) × (look xs a.0 ≡ a.1)) (λ a. look (x ∷ xs) a.0 ≡ a.1) (λ a k. (let own : x.0 ≡ i = h.0 in let l = k.0 in ap (λ b. cond b x.1 (look xs a.0)) (ne_eqb x.0 a.0 (λ e. omega (arith, own, l, e))) ∙ k.1)) xs rest)
+    let rest : Each (λ a. (suc i ≤ a.0) × (look xs a.0 ≡ a.1)) xs = each_both (λ a. suc i ≤ a.0) (λ a. look xs a.0 ≡ a.1) xs later (look_own (suc i) xs h.1) in (
+      ap (λ b. cond b x.1 (look xs x.0)) (eq-eqb x.0 x.0 refl),
+      each_weaker (λ a. (suc i ≤ a.0) × (look xs a.0 ≡ a.1)) (λ a. look (x ∷ xs) a.0 ≡ a.1) (λ a k. (let own : x.0 ≡ i = h.0 in let l = k.0 in ap (λ b. cond b x.1 (look xs a.0)) (ne_eqb x.0 a.0 (λ e. omega (arith, own, l, e))) ∙ k.1)) xs rest,
+    )
 
 module _ (A : ℕ → List ℕ) where
   abbrev Beside : Pair → Type 0

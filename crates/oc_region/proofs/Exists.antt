@@ -1,6 +1,6 @@
 -- Each requirement has a smallest range: the outermost block of its function holds its sites.
-use Rattle.std.proofs.Common.{◌≡◌, ℕ, zero, suc, Bool, true, false, true≢false, ◌==◌, List, [], ◌∷◌, ◌++◌, length, map, Option, Some, None, cond, refl, ap, sym, subst, ◌∙◌, inl, inr, arith}
-use Rattle.std.specs.Prelude.{◌⊎◌, ◌||◌, All, flat_map, find, is_some, option_map, option_to_list, option_and_then}
+use Rattle.std.proofs.Common.{◌≡◌, ℕ, zero, suc, Bool, true, true≢false, ◌==◌, List, [], ◌∷◌, ◌++◌, length, map, Option, Some, None, refl, ap, sym, subst, ◌∙◌, inl, inr}
+use Rattle.std.specs.Prelude.{◌⊎◌, All, flat_map, find, is_some, option_map, option_to_list, option_and_then}
 use Rattle.std.specs.List.{list_any, list_all}
 use Rattle.std.proofs.lemmas.Bool.{eqb-true, eq-eqb, or_left, or_right}
 use Rattle.std.proofs.lemmas.List.{map-append}
@@ -8,19 +8,19 @@ use Rattle.oc_tree.specs.Tree.{TKind, if_else, for_in, while_do, TElse, no_else,
 use Rattle.oc_tree.specs.declared.tree.VarId.TheVariants as variables
 use Rattle.oc_tree.specs.Numbers.{kind_statements, else_statements, block_statements, stmts_statements}
 use Rattle.oc_tree.specs.Form.{Numbered}
-use Rattle.oc_tree.specs.Places.{Place, Placed, behind, in_branch, in_loop, at_start, kind_placed, else_placed, block_placed, stmts_placed, program_placed, placed, block_of}
+use Rattle.oc_tree.specs.Places.{Place, Placed, behind, in_branch, in_loop, at_start, kind_placed, else_placed, block_placed, stmts_placed, block_of}
 use Rattle.oc_tree.specs.Checked.{Group, same_block, group_of, AreGroups, IsChecked}
 use Rattle.oc_tree.specs.Marked.{TRegion, around}
 use Rattle.oc_needs.specs.Policies.{policies}
 use Rattle.oc_needs.specs.Requirements.{TRequirement, requirements}
 use Rattle.oc_region.specs.Smallest.{line_up, in_block, blocks_of, common_block, spread, groups_in, range_in, smallest}
 use Rattle.oc_region.specs.Law.{HasSmallest}
-use Rattle.oc_region.proofs.Elements.{Each, each_weaker, each_append, each_left, each_right, each_any, each_all, has}
+use Rattle.oc_region.proofs.Elements.{Each, each_weaker, each_append, each_left, each_right, each_any, each_all}
 use Rattle.oc_region.proofs.Owners.{Owns, own_statements}
 use Rattle.oc_region.proofs.Required.{Own, Asks, IsSome, asked}
 use Rattle.oc_region.proofs.Ranges.{same_block_is}
 use Rattle.oc_region.proofs.Chains.{IsOwn, all_own}
-use Rattle.oc_region.proofs.Least.{In, Found, any_found, find_passes, is_found, passing_all, Blocks, all_in_common, in_found, group_there, is_smallest}
+use Rattle.oc_region.proofs.Least.{In, any_found, find_passes, is_found, passing_all, Blocks, all_in_common, group_there, is_smallest}
 
 -- ---- the statements with places, function by function
 

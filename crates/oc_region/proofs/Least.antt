@@ -1,21 +1,21 @@
 -- The range of the definition is the smallest one.
-use Rattle.std.proofs.Common.{◌≡◌, ◌<◌, ◌≤◌, ℕ, zero, suc, ◌+◌, Bool, true, false, true≢false, ◌==◌, List, [], ◌∷◌, ◌++◌, length, map, Option, Some, None, min, max, cond, refl, ap, sym, subst, ◌∙◌, inl, inr, arith}
-use Rattle.std.specs.Prelude.{◌⊎◌, ◌&&◌, ◌||◌, All, flat_map, find, is_some, nat_le, count_by, option_map, option_to_list, option_and_then}
+use Rattle.std.proofs.Common.{◌≡◌, ◌<◌, ◌≤◌, ℕ, ◌+◌, Bool, true, false, true≢false, ◌==◌, List, [], ◌∷◌, ◌++◌, length, Option, Some, None, min, max, cond, refl, ap, sym, subst, ◌∙◌, inl, inr, arith}
+use Rattle.std.specs.Prelude.{◌⊎◌, ◌&&◌, ◌||◌, flat_map, find, is_some, nat_le, count_by, option_map, option_to_list, option_and_then}
 use Rattle.std.specs.List.{list_any, list_all}
-use Rattle.std.proofs.lemmas.Bool.{eqb-true, eq-eqb, leb-true, le-leb, and_parts, and_from, or_left, or_right, cases_lt, cases_eq}
+use Rattle.std.proofs.lemmas.Bool.{eqb-true, eq-eqb, leb-true, le-leb, and_parts, and_from, or_left, or_right, cases_lt}
 use Rattle.std.proofs.lemmas.List.Sums.{sum_by-cons}
 use Rattle.std.proofs.lemmas.Option.{same_Some}
 use Rattle.oc_tree.specs.Tree.{TProgram}
 use Rattle.oc_tree.specs.Numbers.{program_statements}
 use Rattle.oc_tree.specs.Form.{Numbered}
 use Rattle.oc_tree.specs.Places.{Placed, program_placed, placed, block_of}
-use Rattle.oc_tree.specs.Checked.{Group, same_block, is_group, is_in_group, group_of, AreGroups}
+use Rattle.oc_tree.specs.Checked.{Group, same_block, is_in_group, group_of, AreGroups}
 use Rattle.oc_tree.specs.Marked.{TRegion, around, is_in_region, covers}
 use Rattle.oc_tree.proofs.Grouped.{program_ids}
 use Rattle.oc_tree.proofs.Grouped as grouped
 use Rattle.oc_needs.specs.Requirements.{TRequirement}
 use Rattle.oc_region.specs.Smallest.{line_up, in_block, blocks_of, common_block, spread_on, spread, groups_in, range_in, smallest, has_group, IsRange, Holds, LiesIn, IsSmallest}
-use Rattle.oc_region.proofs.Elements.{Each, each_weaker, each_both, each_always, each_find, each_append, each_left, each_right, each_flat_map, all_each}
+use Rattle.oc_region.proofs.Elements.{Each, each_weaker, each_both, each_always, each_find, each_left, each_right, each_flat_map, all_each}
 use Rattle.oc_region.proofs.Ranges.{same_block_is, GroupIn, group_in}
 use Rattle.oc_region.proofs.Chains.{Standing, Chain, around_block, around_is, line_chain, each_unmapped}
 
@@ -298,8 +298,12 @@ spans g (h ∷ gs) = wider (spans (min g.0 h.0, max g.1 h.1) gs) (cases_lt g.0 h
         let low = s.all.0.0 in let high = s.all.0.1 in
         record {
           all = ((omega (arith, low), omega (arith, high)), ((omega (arith, low), omega (arith, high)), s.all.1));
-          first = f.0; first_inside = f.1; first_is = s.first_is ∙ f.2;
-          last = l.0; last_inside = l.1; last_is = s.last_is ∙ l.2;
+          first = f.0;
+          first_inside = f.1;
+          first_is = s.first_is ∙ f.2;
+          last = l.0;
+          last_inside = l.1;
+          last_is = s.last_is ∙ l.2;
         }
 
 -- ---- the smallest range
@@ -425,9 +429,6 @@ module _ (p : TProgram) (groups : List Group) (form : Numbered p) (are : AreGrou
     from_first : (s : ℕ) (h : Group) → Holding b s h → range.first ≤ s → range.first ≤ h.0
     from_first s h hold l = by_order (cases_lt h.0 range.first)
       where
-        f : Group
-        f = (spans g gs).first
-
         by_order : (h.0 < range.first) ⊎ (range.first ≤ h.0) → range.first ≤ h.0
         by_order (inr m) = m
         by_order (inl m) =

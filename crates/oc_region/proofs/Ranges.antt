@@ -1,13 +1,12 @@
 -- The smallest range of a requirement lies directly in a block of its function.
-use Rattle.std.proofs.Common.{◌≡◌, ◌<◌, ◌≤◌, ℕ, Bool, true, false, true≢false, ◌==◌, List, [], ◌∷◌, length, Option, Some, None, min, max, refl, ap, sym, subst, ◌∙◌, inl, inr, arith}
-use Rattle.std.specs.Prelude.{◌⊎◌, ◌&&◌, All, flat_map, find, nat_le, option_map, option_to_list, option_and_then}
+use Rattle.std.proofs.Common.{◌≡◌, ◌<◌, ◌≤◌, ℕ, true, true≢false, List, [], ◌∷◌, Option, Some, None, min, max, refl, ap, sym, subst, ◌∙◌, inl, inr, arith}
+use Rattle.std.specs.Prelude.{◌⊎◌, ◌&&◌, nat_le, option_map, option_to_list, option_and_then}
 use Rattle.std.proofs.lemmas.Bool.{eqb-true, leb-true, and_parts, cases_lt}
-use Rattle.std.proofs.lemmas.Option.{same_Some}
 use Rattle.oc_tree.specs.Tree.{TProgram}
 use Rattle.oc_tree.specs.Form.{Numbered}
-use Rattle.oc_tree.specs.Places.{placed, block_of}
+use Rattle.oc_tree.specs.Places.{block_of}
 use Rattle.oc_tree.specs.Checked.{Group, same_block, is_group, is_in_group, group_of, AreGroups}
-use Rattle.oc_tree.specs.Marked.{TRegion, function_of, around, is_in_region, covers}
+use Rattle.oc_tree.specs.Marked.{TRegion, function_of}
 use Rattle.oc_needs.specs.Requirements.{TRequirement}
 use Rattle.oc_region.specs.Smallest.{line_up, in_block, common_block, spread_on, spread, groups_in, range_in, smallest}
 use Rattle.oc_region.proofs.Elements.{Each, each_weaker, each_find, each_flat_map, all_each}

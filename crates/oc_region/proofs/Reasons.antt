@@ -1,7 +1,6 @@
 -- The policies that ask for a region.
-use Rattle.std.proofs.Common.{◌≡◌, ◌<◌, ◌≤◌, ℕ, zero, suc, ◌+◌, Bool, true, false, ◌==◌, List, [], ◌∷◌, ◌++◌, length, map, get_or, take, drop, Option, Some, None, Result, Ok, Err, IfOk, cond, refl, ap, sym, ◌∙◌, append_assoc, arith}
-use Rattle.std.specs.Prelude.{flat_map, nat_lt, if◌then◌else◌, option_to_list}
-use Rattle.std.proofs.lemmas.Bool.{lt-ltb, le-ltb, eq-eqb}
+use Rattle.std.proofs.Common.{◌≡◌, ℕ, ◌+◌, true, List, [], ◌∷◌, ◌++◌, map, Option, Some, None, Result, Ok, Err, IfOk, cond, refl, ap, sym, ◌∙◌, append_assoc}
+use Rattle.std.specs.Prelude.{flat_map, option_to_list}
 use Rattle.std.proofs.lemmas.List.{map-append}
 use Rattle.oc_tree.specs.Tree.{TProgram}
 use Rattle.oc_tree.specs.Checked.{Group}
@@ -11,7 +10,7 @@ use Rattle.oc_needs.specs.Requirements.{TRequirement, requirements, rising}
 use Rattle.oc_region.specs.declared.asks.Ask.{Ask}
 use Rattle.oc_region.specs.Smallest.{smallest}
 use Rattle.oc_region.specs.Regions.{reason, reasons, united, outermost, by_first, ranges, numbered, regions_for, regions}
-use Rattle.oc_region.specs.Views.{TAsk, ask_range, ask_view, asks_of, asks, ask_reason, ask_reasons, with_reasons, numbered_for}
+use Rattle.oc_region.specs.Views.{TAsk, ask_range, ask_view, asks_of, asks, ask_reason, ask_reasons, numbered_for}
 
 -- ---- from the end of a list
 

@@ -1,21 +1,21 @@
 -- The regions of the definition are regions: they stand in blocks of their functions, rise, and are apart.
-use Rattle.std.proofs.Common.{◌≡◌, ◌<◌, ◌≤◌, ℕ, suc, ◌+◌, Bool, true, false, true≢false, ◌==◌, List, [], ◌∷◌, ◌++◌, length, map, Option, Some, None, min, max, cond, refl, ap, sym, subst, ◌∙◌, inl, inr, arith}
-use Rattle.std.specs.Prelude.{◌⊎◌, ◌&&◌, ◌||◌, All, AllPairs, not, flat_map, filter, nat_eq, nat_le, option_to_list}
+use Rattle.std.proofs.Common.{◌≡◌, ◌<◌, ◌≤◌, ℕ, suc, ◌+◌, Bool, true, false, true≢false, List, [], ◌∷◌, length, map, Some, min, max, cond, refl, ap, sym, subst, ◌∙◌, inl, inr, arith}
+use Rattle.std.specs.Prelude.{◌⊎◌, ◌&&◌, AllPairs, not, flat_map, filter, nat_eq, nat_le, option_to_list}
 use Rattle.std.specs.List.{list_any}
-use Rattle.std.proofs.lemmas.Bool.{eqb-true, eq-eqb, leb-true, leb-false, le-leb, and_parts, and_from, and_cases, or_parts, or_from, not-true, false_from_ne_true, cases_lt}
+use Rattle.std.proofs.lemmas.Bool.{eqb-true, eq-eqb, leb-true, leb-false, le-leb, and_parts, and_from, or_from, not-true, false_from_ne_true, cases_lt}
 use Rattle.std.proofs.lemmas.Option.{same_Some}
 use Rattle.oc_tree.specs.Tree.{TProgram}
 use Rattle.oc_tree.specs.Numbers.{numbers_on}
 use Rattle.oc_tree.specs.Form.{Numbered}
-use Rattle.oc_tree.specs.Places.{placed, block_of}
-use Rattle.oc_tree.specs.Checked.{Group, same_block, AreGroups, IsChecked}
-use Rattle.oc_tree.specs.Marked.{TRegion, IsRegion, AreRegions, IsMarked, function_of, around, is_in_region, covers}
+use Rattle.oc_tree.specs.Places.{block_of}
+use Rattle.oc_tree.specs.Checked.{Group, same_block, IsChecked}
+use Rattle.oc_tree.specs.Marked.{TRegion, IsRegion, AreRegions, IsMarked, is_in_region, covers}
 use Rattle.oc_needs.specs.Policies.{policies}
-use Rattle.oc_needs.specs.Requirements.{TRequirement, requirements, rising}
+use Rattle.oc_needs.specs.Requirements.{TRequirement, requirements}
 use Rattle.oc_region.specs.Smallest.{smallest}
-use Rattle.oc_region.specs.Regions.{shares, joined, joined_all, with_range, united, is_inside, outermost, with_region, by_first, reason, reasons, ranges, numbered, regions_for, regions, marked}
+use Rattle.oc_region.specs.Regions.{shares, joined, joined_all, with_range, united, is_inside, outermost, with_region, by_first, reason, reasons, ranges, numbered, regions, marked}
 use Rattle.oc_region.proofs.Elements.{Each, Pairs, each_weaker, each_both, each_filter, each_passes, each_cond, each_none, each_always, each_flat_map, pairs_filter, each_all, pairs_all}
-use Rattle.oc_region.proofs.Owners.{function_of_block, block_function}
+use Rattle.oc_region.proofs.Owners.{block_function}
 use Rattle.oc_region.proofs.Required.{Asks, asked, each_rising}
 use Rattle.oc_region.proofs.Ranges.{IsRangeOf, same_block_is, smallest_sound}
 

@@ -1,22 +1,21 @@
 -- The sites of a requirement are statements of its function, and its policy is one of the policies.
-use Rattle.std.proofs.Common.{◌≡◌, ◌<◌, ◌≤◌, ℕ, zero, suc, ◌+◌, Bool, true, false, true≢false, ◌==◌, List, [], ◌∷◌, ◌++◌, length, map, Option, Some, None, cond, refl, ap, sym, subst, ◌∙◌, arith}
+use Rattle.std.proofs.Common.{◌≡◌, ◌<◌, ◌≤◌, ℕ, zero, suc, ◌+◌, Bool, true, false, ◌==◌, List, [], ◌∷◌, ◌++◌, length, map, Option, Some, None, cond, refl, sym, subst, arith}
 use Rattle.std.proofs.Math.ListN.{get_or}
 use Rattle.std.specs.Prelude.{◌&&◌, flat_map, find, filter, reverse, nat_eq, nat_lt, if◌then◌else◌}
 use Rattle.std.specs.Option.{unwrap_or}
-use Rattle.std.specs.List.{list_any}
 use Rattle.std.proofs.lemmas.Bool.{eqb-true, and_parts}
 use Rattle.oc_tree.specs.Tree.{TFunction, TProgram}
 use Rattle.oc_tree.specs.declared.tree.VarId.{VarId}
 use Rattle.oc_tree.specs.declared.marked.Policy.{Policy}
-use Rattle.oc_tree.specs.Places.{Placed, block_placed, at_start}
-use Rattle.oc_effects.specs.Effects.{TEffect, effect_of, function_effects, effects, effects_at}
+use Rattle.oc_tree.specs.Places.{block_placed, at_start}
+use Rattle.oc_effects.specs.Effects.{TEffect, effect_of, function_effects, effects_at}
 use Rattle.oc_flow.specs.Variables.{from, variables}
-use Rattle.oc_meaning.specs.Samples.{with_sample, union}
+use Rattle.oc_meaning.specs.Samples.{with_sample}
 use Rattle.oc_needs.specs.Policies.{policies, annotated, held, is_held}
 use Rattle.oc_needs.specs.Sites.{is_loop_at, loops_of, lifts, site, is_input, input_sites}
 use Rattle.oc_needs.specs.Need.{is_empty}
 use Rattle.oc_needs.specs.Requirements.{TRequirement, rising, is_before, with_list, in_order, with_inputs, own_sites, needed_at, call_sites, function_sites, required_in, required_of, required_from, requirements}
-use Rattle.oc_region.proofs.Elements.{Each, each_weaker, each_always, each_append, each_cond, each_filter, each_passes, each_find, each_any, each_flat_map, each_mapped}
+use Rattle.oc_region.proofs.Elements.{Each, each_always, each_append, each_cond, each_filter, each_passes, each_find, each_any, each_flat_map, each_mapped}
 use Rattle.oc_region.proofs.Owners.{Owns, own_statements, InFunction, function_fits}
 
 -- ---- lists of numbers in order

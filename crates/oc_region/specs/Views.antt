@@ -1,5 +1,5 @@
 -- What contracts see of ranges, and of the ranges that policies ask for.
-use Rattle.std.specs.Prelude.{ℕ, find, is_some, ◌+◌, Bool, nat_le, ◌&&◌, List, [], ◌∷◌, map, flat_map, Option, Some, None, cond, option_map, option_to_list}
+use Rattle.std.specs.Prelude.{ℕ, find, is_some, ◌+◌, Bool, nat_le, List, [], ◌∷◌, map, flat_map, Option, Some, None, cond, option_to_list}
 use Rattle.std.specs.List.{list_any, list_all}
 use Rattle.oc_tree.specs.Tree.{TProgram}
 use Rattle.oc_tree.specs.Places.{placed, block_of}

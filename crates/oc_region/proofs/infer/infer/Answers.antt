@@ -1,8 +1,6 @@
-use Rattle.std.proofs.Common.{◌≡◌, List, sym, subst}
+use Rattle.std.proofs.Common.{List, sym, subst}
 use Rattle.oc_tree.specs.Marked.{IsMarked, TRegion}
-use Rattle.oc_tree.specs.Regions.{region_view}
 use Rattle.oc_tree.specs.declared.marked.Policy.{Policy}
-use Rattle.oc_needs.specs.Policies.{policies}
 use Rattle.oc_region.specs.Regions.{regions}
 use Rattle.oc_region.proofs.Exists.{each_smallest}
 use Rattle.oc_region.proofs.Regions.{is_marked}

@@ -2,7 +2,7 @@ use Rattle.std.proofs.Common.{◌≡◌, map, ap, ◌∙◌, Vec, Global}
 use Rattle.oc_tree.specs.declared.marked.Region.{Region}
 use Rattle.oc_tree.specs.Regions.{region_view}
 use Rattle.oc_needs.specs.View.{requirement_view}
-use Rattle.oc_region.specs.Regions.{by_first, outermost, regions, united}
+use Rattle.oc_region.specs.Regions.{outermost, regions}
 use Rattle.oc_region.specs.Views.{ask_range, ask_view, asks, numbered_for, stretch_view}
 use Rattle.oc_region.proofs.Reasons.{steps_told, if_ok_along}
 use Rattle.oc_region.proofs.infer.regions.Goals as goal

@@ -1,2 +1,4 @@
 pub mod Smallest
 pub mod Regions
+pub mod Law
+pub mod Views

@@ -1,5 +1,5 @@
 -- The regions that requirements ask for.
-use Rattle.std.specs.Prelude.{ℕ, ◌+◌, Bool, true, false, ◌&&◌, not, List, [], ◌∷◌, ◌++◌, map, flat_map, filter, min, max, Option, Some, None, cond, nat_eq, nat_le, nat_lt, option_to_list}
+use Rattle.std.specs.Prelude.{ℕ, ◌+◌, Bool, ◌&&◌, not, List, [], ◌∷◌, flat_map, filter, min, max, cond, nat_eq, nat_le, option_to_list}
 use Rattle.std.specs.List.{list_any}
 use Rattle.oc_tree.specs.Tree.{TProgram}
 use Rattle.oc_tree.specs.Places.{placed}

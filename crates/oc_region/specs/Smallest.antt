@@ -1,8 +1,7 @@
 -- The smallest range that holds sites.
-use Rattle.std.specs.Prelude.{◌≡◌, ◌≤◌, ℕ, Bool, true, false, ◌&&◌, List, [], ◌∷◌, map, flat_map, find, min, max, All, Option, Some, None, is_some, nat_le, option_map, option_to_list, option_and_then}
-use Rattle.std.specs.List.{list_any, list_all}
+use Rattle.std.specs.Prelude.{◌≡◌, ◌≤◌, ℕ, Bool, true, false, ◌&&◌, List, [], ◌∷◌, flat_map, find, min, max, Option, Some, None, is_some, nat_le, option_map, option_to_list, option_and_then}
+use Rattle.std.specs.List.{list_all}
 use Rattle.oc_tree.specs.Tree.{TProgram}
-use Rattle.oc_tree.specs.Numbers.{program_statements}
 use Rattle.oc_tree.specs.Places.{placed, block_of}
 use Rattle.oc_tree.specs.Checked.{Group, group_of, same_block}
 use Rattle.oc_tree.specs.Marked.{TRegion, around, is_in_region, covers}

@@ -1,4 +1,10 @@
 //! The regions that the annotations of a program ask for.
 #![tactic(auto)]
 
+mod asks;
+mod groups;
 pub mod infer;
+mod places;
+mod range;
+mod smallest;
+mod unite;

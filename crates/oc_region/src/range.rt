@@ -1,0 +1,35 @@
+//! Ranges of statements in a function.
+ghost use Rattle.std.specs.Prelude.{◌≡◌};
+ghost use Rattle.oc_region.specs.Regions.{joined, shares};
+ghost use Rattle.oc_region.specs.Views.{stretch_view};
+
+use oc_tree::marked::Range;
+
+/// A range in the function at a place.
+#[derive(Clone, Copy, Debug)]
+pub struct Stretch {
+    pub function: u32,
+    pub range: Range,
+}
+
+/// Whether two ranges share a statement.
+pub fn shares(r: Stretch, q: Stretch) -> bool
+    ensures { result ≡ shares (stretch_view r) (stretch_view q) }
+{
+    r.range.block == q.range.block && r.range.first <= q.range.last && q.range.first <= r.range.last
+}
+
+/// From the first statement of both to their last.
+pub fn joined(r: Stretch, q: Stretch) -> Stretch
+    ensures { stretch_view result ≡ joined (stretch_view r) (stretch_view q) }
+{
+    let range = Range {
+        block: r.range.block,
+        first: r.range.first.min(q.range.first),
+        last: r.range.last.max(q.range.last),
+    };
+    Stretch {
+        function: r.function,
+        range,
+    }
+}

@@ -12,12 +12,12 @@ use Rattle.oc_meaning.proofs.Bare.{only_tell}
 use Rattle.oc_outage.specs.Honest.{IsPrefixOf}
 use Rattle.oc_top.specs.Meant.{program_marked, program_run, program_said, plain_run, plain_said}
 
-said_on : (e : Event) (rest : List Event) (s : Said) → e.said ≡ s → map (λ d. d.said) (if is_mark s then rest else e ∷ rest) ≡ without_mark s (map (λ d. d.said) rest)
+said_on : (e : Event) (rest : List Event) (s : Said) → e.said ≡ s → map (λ (d : Event). d.said) (if is_mark s then rest else e ∷ rest) ≡ without_mark s (map (λ (d : Event). d.said) rest)
 said_on e rest (Entered r) i = refl
 said_on e rest (Committed r) i = refl
-said_on e rest s i = ap (λ (q : Said). q ∷ map (λ d. d.said) rest) i
+said_on e rest s i = ap (λ (q : Said). q ∷ map (λ (d : Event). d.said) rest) i
 
-said_unmarked : (es : List Event) → map (λ d. d.said) (unmarked es) ≡ without_marks (map (λ d. d.said) es)
+said_unmarked : (es : List Event) → map (λ (d : Event). d.said) (unmarked es) ≡ without_marks (map (λ (d : Event). d.said) es)
 said_unmarked [] = refl
 said_unmarked (e ∷ es) = said_on e (unmarked es) e.said refl ∙ ap (without_mark e.said) (said_unmarked es)
 

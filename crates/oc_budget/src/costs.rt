@@ -57,6 +57,7 @@ fn all_logged(alloc: Global, targets: &[Vec<Target>]) -> Result<Vec<u32>, AllocE
 }
 
 // The budget of a region that logs so many words.
+#[tactic(auto, using(crate::proofs::SpentLaws::budget_is))]
 fn region_budget(known: &Known, callees: &[u64], region: &Region, words: u32) -> Option<u64>
     requires callees { callees.now ≡ costs known.now }
     requires words { words ≡ logged known.now.program (region_view region.now) }

@@ -1,5 +1,5 @@
 -- Budgets: how many steps an execution of a region takes at most, and how long periods must be.
-use Rattle.std.specs.Prelude.{ℕ, ◌+◌, ◌*◌, Bool, List, [], ◌∷◌, map, max, filter, sum_by, Option, Some, None, cond}
+use Rattle.std.specs.Prelude.{ℕ, ◌+◌, ◌*◌, List, [], ◌∷◌, map, max, filter, sum_by}
 use Rattle.oc_tree.specs.Tree.{TKind, return, TProgram}
 use Rattle.oc_tree.specs.declared.said.Target.{Target}
 use Rattle.oc_tree.specs.declared.said.Target.TheVariants as targets

@@ -1,8 +1,8 @@
 -- What an execution costs at most: the greatest number of its instructions, with probes and with the marks of regions.
 -- It speaks of a program without pulls.
-use Rattle.std.specs.Prelude.{ℕ, zero, suc, ◌+◌, ◌*◌, Bool, true, false, ◌&&◌, List, [], ◌∷◌, map, max, length, sum_by, codes, Option, Some, None, is_some, cond, nat_eq}
+use Rattle.std.specs.Prelude.{ℕ, zero, suc, ◌+◌, ◌*◌, Bool, false, ◌&&◌, List, [], map, max, length, codes, Option, Some, is_some, cond, nat_eq}
 use Rattle.std.specs.List.{list_any}
-use Rattle.oc_tree.specs.Tree.{TExpr, TRight, TKind, if_else, for_in, while_do, consistent, return, TElse, no_else, else_do, stmt, TBlock, block, TStmts, no_stmts, more, TFunction, TProgram}
+use Rattle.oc_tree.specs.Tree.{TKind, if_else, for_in, while_do, consistent, TElse, no_else, else_do, stmt, TBlock, block, TStmts, no_stmts, more, TFunction, TProgram}
 use Rattle.oc_tree.specs.declared.tree.VarId.{VarId}
 use Rattle.oc_tree.specs.Calls.{function_place}
 use Rattle.oc_tree.specs.Weight.{expr_cost, kind_cost, turns, known_of}

@@ -1,3 +1,4 @@
 pub mod Costs
 pub mod Budgets
 pub mod View
+pub mod Spent

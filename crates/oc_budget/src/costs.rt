@@ -1,20 +1,140 @@
 //! The costs of regions and of runs.
-ghost use Rattle.std.specs.Prelude.{◌≡◌, IfOk};
+ghost use Rattle.std.specs.Prelude.{◌≡◌, ◌+◌, ◌*◌, ◌++◌, List, map, max, sum_by, IfOk, IfSome};
+ghost use Rattle.std.specs.Prelude.{Some};
 ghost use Rattle.oc_code.specs.Code.{code_of};
+ghost use Rattle.oc_tree.specs.Regions.{region_view};
+ghost use Rattle.oc_tree.specs.declared.said.Target.{Target};
 ghost use Rattle.oc_writes.specs.Targets.{may_write};
-ghost use Rattle.oc_budget.specs.Budgets.{budgets};
+ghost use Rattle.oc_budget.specs.Budgets.{budget, budgets, greatest, logged, safe_for, target_words};
+ghost use Rattle.oc_budget.specs.Costs.{costs, total};
 ghost use Rattle.oc_budget.specs.View.{budgets_view};
 
+use crate::held::region_spent;
+use crate::known::Known;
+use crate::levels::all_costs;
+use crate::sums::{fitting, greater, plus};
 use crate::told::Budgets;
+use crate::walk::known_of;
 use oc_io::Memory;
 use oc_isa::image::Image;
-use oc_tree::marked::Marked;
-use std::alloc::Global;
+use oc_tree::marked::{Marked, Region};
+use oc_tree::said::Target;
+use std::alloc::{AllocError, Global};
 
-/// The budgets of a program with regions, of which this is the image.
+fn target_words(target: Target) -> u32
+    ensures { result ≡ target_words target }
+{
+    match target {
+        Target::Nv { len, .. } => len,
+        Target::Param { len, .. } => len,
+    }
+}
+
+// The words of a region's targets.
+fn words_of(targets: &[Target]) -> Result<u32, AllocError>
+    ensures { IfOk result (λ w. w ≡ sum_by target_words targets.now) }
+{
+    let mut words: u32 = 0;
+    for target in targets {
+        let more = target_words(*target);
+        if more > 4294967295 - words {
+            return Err(AllocError);
+        }
+        words = words + more;
+    }
+    Ok(words)
+}
+
+// How many words each region logs at most.
+fn all_logged(alloc: Global, targets: &[Vec<Target>]) -> Result<Vec<u32>, AllocError>
+    ensures { IfOk result (λ l. l.items ≡ map (λ v. sum_by target_words v.items) targets.now) }
+{
+    let mut logged = Vec::new(alloc);
+    for list in targets {
+        logged.push(words_of(list.as_slice())?)?;
+    }
+    Ok(logged)
+}
+
+// The budget of a region that logs so many words.
+#[tactic(auto, using(crate::proofs::SpentLaws::budget_is))]
+fn region_budget(known: &Known, callees: &[u64], region: &Region, words: u32) -> Option<u64>
+    requires callees { callees.now ≡ costs known.now }
+    requires words { words ≡ logged known.now.program (region_view region.now) }
+    ensures { IfSome result (λ b. b ≡ budget known.now (region_view region.now)) }
+{
+    plus(region_spent(known, callees, region)?, 1 + words as u64)
+}
+
+// The budgets of all regions.
+fn all_budgets(
+    alloc: Global,
+    known: &Known,
+    callees: &[u64],
+    words: &[u32],
+) -> Result<Vec<u64>, AllocError>
+    requires callees { callees.now ≡ costs known.now }
+    requires words { words.now ≡ map (logged known.now.program) known.now.regions }
+    ensures { IfOk result (λ b. b.items ≡ map (budget known.now) known.now.regions) }
+{
+    let mut budgets = Vec::new(alloc);
+    let regions = known.regions();
+    for (i, region) in regions.iter().enumerate() {
+        let budget = fitting(region_budget(known, callees, region, words[i]))?;
+        budgets.push(budget)?;
+    }
+    Ok(budgets)
+}
+
+fn greatest(budgets: &[u64]) -> u64
+    ensures { result ≡ greatest 0 budgets.now }
+{
+    let mut most = 0;
+    for budget in budgets {
+        most = greater(most, *budget);
+    }
+    most
+}
+
+// The steps of a period that suffice, with so many words of stack.
+fn safe_for(stack: u32, budgets: &[u64]) -> Option<u64>
+    ensures { IfSome result (λ s. s ≡ safe_for stack budgets.now) }
+{
+    let words = stack as u64;
+    if budgets.is_empty() {
+        Some(words + 6)
+    } else {
+        plus(2 * words + 9, greatest(budgets))
+    }
+}
+
+fn all_told(alloc: Global, marked: &Marked, image: &Image) -> Result<Budgets, AllocError>
+    requires { image.now ≡ code_of marked.now.program marked.now.regions (may_write marked.now) }
+    ensures { IfOk result (λ b. budgets_view b ≡ budgets marked.now) }
+{
+    let known = Known::new(alloc, marked)?;
+    let costs = all_costs(alloc, &known)?;
+    let raw = image.raw();
+    let logged = all_logged(alloc, raw.targets.as_slice())?;
+    let regions = all_budgets(alloc, &known, costs.as_slice(), logged.as_slice())?;
+    let total = known_of(costs.as_slice(), known.main_place());
+    let safe = fitting(safe_for(raw.stack, regions.as_slice()))?;
+    Ok(Budgets {
+        regions,
+        logged,
+        total,
+        safe,
+    })
+}
+
+/// The budgets of a program with regions, of which this is the image. A number that doesn't fit is
+/// answered as out of memory: no program that the compiler accepts has such a cost.
 pub fn budgets(alloc: Global, marked: &Marked, image: &Image) -> Result<Budgets, Memory>
     requires { image.now ≡ code_of marked.now.program marked.now.regions (may_write marked.now) }
     ensures { IfOk result (λ b. budgets_view b ≡ budgets marked.now) }
 {
-    Err(Memory)
+    match all_told(alloc, marked, image) {
+        Ok(told) => Ok(told),
+        Err(_) => Err(Memory),
+    }
 }

@@ -2,4 +2,12 @@
 #![tactic(auto)]
 
 pub mod costs;
+mod exprs;
+mod held;
+mod known;
+mod levels;
+mod sums;
+mod tables;
 pub mod told;
+mod uses;
+mod walk;

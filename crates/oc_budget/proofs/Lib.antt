@@ -1,0 +1,4 @@
+pub mod TableLaws
+pub mod SpentLaws
+pub mod LevelLaws
+pub mod ToldLaws

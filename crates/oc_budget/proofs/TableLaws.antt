@@ -1,0 +1,33 @@
+-- Tables of marked numbers.
+use Rattle.std.proofs.Common.{◌≡◌, ◌<◌, ◌||◌, ◌++◌, ℕ, zero, suc, Bool, true, false, List, [], ◌∷◌, length, refl, sym, ap, arith, set, map}
+use Rattle.std.specs.Prelude.{nat_eq, is_some}
+use Rattle.oc_tree.specs.View.{function_view}
+use Rattle.oc_tree.specs.declared.tree.Function.{Function}
+use Rattle.std.proofs.Math.ListN.{get_or}
+
+-- with one more number marked
+pub marked : (xs : List Bool) (s n : ℕ) → s < length xs → get_or (set xs s true) n false ≡ (nat_eq s n || get_or xs n false)
+marked [] s n h = absurd (omega (arith, h))
+marked (x ∷ xs) zero zero h = grind arith
+marked (x ∷ xs) zero (suc n) h = grind arith
+marked (x ∷ xs) (suc s) zero h = grind arith
+marked (x ∷ xs) (suc s) (suc n) h = grind (arith, marked xs s n (omega (arith, h)))
+
+-- with one more place
+pub longer : (xs : List Bool) (n : ℕ) → get_or (xs ++ false ∷ []) n false ≡ get_or xs n false
+longer [] zero = refl
+longer [] (suc n) = refl
+longer (x ∷ xs) zero = refl
+longer (x ∷ xs) (suc n) = longer xs n
+
+-- one step of a loop that marks what a test picks
+pub step : (a b c : Bool) → (b || (a || c)) ≡ ((a || b) || c)
+step true true c = refl
+step true false c = refl
+step false b c = refl
+
+-- whether a function has a result, as code reads it
+pub result_read : (xs : List Function) (u : ℕ) (f : Function) → u < length xs → f ≡ get_or xs u f → get_or (map (λ g. is_some g.result) (map function_view xs)) u false ≡ is_some f.result
+result_read [] u f h e = absurd (omega (arith, h))
+result_read (x ∷ xs) zero f h e = ap (λ g. is_some g.result) (sym e)
+result_read (x ∷ xs) (suc u) f h e = result_read xs u f (omega (arith, h)) e

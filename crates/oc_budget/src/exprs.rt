@@ -1,0 +1,59 @@
+//! The costs of expressions and of arguments.
+ghost use Rattle.std.specs.Prelude.{◌≡◌, ◌+◌, IfSome};
+ghost use Rattle.oc_tree.specs.View.{arg_view, args_view, expr_view};
+ghost use Rattle.oc_tree.specs.Weight.{arg_cost, args_cost, binary_cost, expr_cost};
+
+use crate::sums::{greater, plus};
+use oc_tree::tree::{Arg, BinaryOp, Expr};
+
+fn binary_cost(op: BinaryOp, a: u64, b: u64) -> Option<u64>
+    ensures { IfSome result (λ c. c ≡ binary_cost op a b) }
+{
+    match op {
+        BinaryOp::And => plus(plus(a, b)?, 2),
+        BinaryOp::Or => plus(plus(a, 1)?, greater(2, b)),
+        BinaryOp::Eq
+        | BinaryOp::Ne
+        | BinaryOp::Lt
+        | BinaryOp::Le
+        | BinaryOp::Gt
+        | BinaryOp::Ge
+        | BinaryOp::Add
+        | BinaryOp::Sub
+        | BinaryOp::Mul
+        | BinaryOp::Div
+        | BinaryOp::Rem => plus(plus(a, b)?, 1),
+    }
+}
+
+pub fn expr_cost(expr: &Expr) -> Option<u64>
+    ensures { IfSome result (λ c. c ≡ expr_cost (expr_view expr.now)) }
+{
+    match expr {
+        Expr::Number { .. } | Expr::Truth { .. } | Expr::Variable { .. } => Some(1),
+        Expr::Index { index, .. } => plus(expr_cost(index)?, 3),
+        Expr::Deref { .. } => Some(2),
+        Expr::Unary { inner, .. } => plus(expr_cost(inner)?, 1),
+        Expr::Binary { op, left, right } => binary_cost(*op, expr_cost(left)?, expr_cost(right)?),
+        Expr::Sense { .. } | Expr::Call { .. } => Some(0),
+    }
+}
+
+fn arg_cost(arg: &Arg) -> Option<u64>
+    ensures { IfSome result (λ c. c ≡ arg_cost (arg_view arg.now)) }
+{
+    match arg {
+        Arg::Value { value } => expr_cost(value),
+        Arg::Shared { .. } | Arg::Mutable { .. } => Some(1),
+    }
+}
+
+pub fn args_cost(args: &[Arg]) -> Option<u64>
+    ensures { IfSome result (λ c. c ≡ args_cost (args_view args.now)) }
+{
+    let mut cost = 0;
+    for arg in args {
+        cost = plus(cost, arg_cost(arg)?)?;
+    }
+    Some(cost)
+}

@@ -1,0 +1,118 @@
+//! The costs of the statements directly in a region.
+ghost use Rattle.std.specs.Prelude.{◌≡◌, ◌+◌, map, cond, IfSome};
+ghost use Rattle.oc_tree.specs.Marked.{is_in_region};
+ghost use Rattle.oc_tree.specs.Regions.{region_view};
+ghost use Rattle.oc_tree.specs.View.{block_view, else_view, function_view, kind_view};
+ghost use Rattle.oc_budget.specs.Budgets.{held_cost};
+ghost use Rattle.oc_budget.specs.Costs.{costs};
+ghost use Rattle.oc_budget.specs.Spent.{block_spent, else_spent, expr_seen, functions_spent, kind_spent, returned};
+
+use crate::exprs::expr_cost;
+use crate::known::Known;
+use crate::sums::plus;
+use crate::walk::{inner_cost, probes};
+use oc_tree::marked::Region;
+use oc_tree::tree::{Block, Expr, StmtId, StmtKind};
+
+// The value that a `return` returns.
+fn returned(kind: &StmtKind) -> Option<&Expr>
+    ensures { expr_seen result ≡ returned (kind_view kind.now) }
+{
+    match kind {
+        StmtKind::Return { value } => Some(value),
+        _ => None,
+    }
+}
+
+// The cost of a statement of a region.
+fn held_cost(known: &Known, callees: &[u64], s: StmtId, kind: &StmtKind) -> Option<u64>
+    requires { callees.now ≡ costs known.now }
+    ensures { IfSome result (λ c. c ≡ held_cost known.now s (kind_view kind.now)) }
+{
+    let around = probes(known.uses(s), kind);
+    match returned(kind) {
+        Some(value) => plus(expr_cost(value)?, around),
+        None => plus(inner_cost(known, callees, s, kind)?, around),
+    }
+}
+
+// Its cost, if it stands directly in the region.
+fn own_cost(
+    known: &Known,
+    callees: &[u64],
+    region: &Region,
+    s: StmtId,
+    kind: &StmtKind,
+) -> Option<u64>
+    requires { callees.now ≡ costs known.now }
+    ensures { IfSome result (λ c. c ≡ cond (is_in_region known.now.program (region_view region.now) s) (held_cost known.now s (kind_view kind.now)) 0) }
+{
+    if known.is_in_region(region, s) {
+        held_cost(known, callees, s, kind)
+    } else {
+        Some(0)
+    }
+}
+
+#[cycle(spent)]
+fn kind_spent(known: &Known, callees: &[u64], region: &Region, kind: &StmtKind) -> Option<u64>
+    requires { callees.now ≡ costs known.now }
+    ensures { IfSome result (λ c. c ≡ kind_spent (is_in_region known.now.program (region_view region.now)) (held_cost known.now) (kind_view kind.now)) }
+{
+    match kind {
+        StmtKind::If {
+            then,
+            otherwise,
+            ..
+        } => {
+            let then = block_spent(known, callees, region, then)?;
+            plus(then, else_spent(known, callees, region, otherwise)?)
+        }
+        StmtKind::For { body, .. } | StmtKind::While { body, .. } => {
+            block_spent(known, callees, region, body)
+        }
+        _ => Some(0),
+    }
+}
+
+#[cycle(spent)]
+fn else_spent(
+    known: &Known,
+    callees: &[u64],
+    region: &Region,
+    otherwise: &Option<Block>,
+) -> Option<u64>
+    requires { callees.now ≡ costs known.now }
+    ensures { IfSome result (λ c. c ≡ else_spent (is_in_region known.now.program (region_view region.now)) (held_cost known.now) (else_view otherwise.now)) }
+{
+    match otherwise {
+        Some(block) => block_spent(known, callees, region, block),
+        None => Some(0),
+    }
+}
+
+#[cycle(spent)]
+fn block_spent(known: &Known, callees: &[u64], region: &Region, block: &Block) -> Option<u64>
+    requires { callees.now ≡ costs known.now }
+    ensures { IfSome result (λ c. c ≡ block_spent (is_in_region known.now.program (region_view region.now)) (held_cost known.now) (block_view block.now)) }
+{
+    let mut spent = 0;
+    for statement in &block.statements {
+        let own = own_cost(known, callees, region, statement.id, &statement.kind)?;
+        let inside = kind_spent(known, callees, region, &statement.kind)?;
+        spent = plus(spent, plus(own, inside)?)?;
+    }
+    Some(spent)
+}
+
+/// The costs of all statements directly in a region.
+pub fn region_spent(known: &Known, callees: &[u64], region: &Region) -> Option<u64>
+    requires { callees.now ≡ costs known.now }
+    ensures { IfSome result (λ c. c ≡ functions_spent (is_in_region known.now.program (region_view region.now)) (held_cost known.now) known.now.program.functions) }
+{
+    let mut spent = 0;
+    for function in known.functions() {
+        spent = plus(spent, block_spent(known, callees, region, &function.body)?)?;
+    }
+    Some(spent)
+}

@@ -1,0 +1,209 @@
+//! What is asked of a program for every statement: what functions are called, which statements use
+//! a fresh variable, and where regions begin and end.
+ghost use Rattle.std.specs.Prelude.{◌≡◌, ◌≤◌, ◌||◌, ℕ, false, map, nat_eq, codes, OnOk, IfOk};
+ghost use Rattle.std.specs.List.{list_any};
+ghost use Rattle.std.proofs.Math.ListN.{get_or};
+ghost use Rattle.oc_tree.specs.View.{call_view, function_view};
+ghost use Rattle.oc_tree.specs.Calls.{function_place};
+ghost use Rattle.oc_tree.specs.Marked.{is_in_region};
+ghost use Rattle.oc_tree.specs.Places.{block_of};
+ghost use Rattle.oc_tree.specs.Regions.{region_view};
+ghost use Rattle.oc_tree.specs.Weight.{has_result, result_at};
+ghost use Rattle.oc_budget.specs.Costs.{is_use, marks_at};
+
+use crate::tables::{has, mark};
+use crate::uses::use_table;
+use oc_effects::effects::Effects;
+use oc_reach::table::{Table, function_table};
+use oc_tree::marked::{Marked, Region};
+use oc_tree::name::Name;
+use oc_tree::tree::{BlockId, Call, Function, StmtId};
+use std::alloc::{AllocError, Global};
+use std::marker::Model;
+
+/// A marked program, which contracts see as it is, with tables by statement number.
+#[derive(Drop)]
+pub struct Known<'a> {
+    marked: &'a Marked,
+    functions: &'a [Function],
+    table: Table<'a>,
+    effects: Effects<'a>,
+    uses: Vec<bool>,
+    begins: Vec<bool>,
+    ends: Vec<bool>,
+}
+
+impl<'a> Model for Known<'a> {
+    ghost use Rattle.std.specs.Prelude.{◌≡◌, ℕ, false, map, nat_eq};
+    ghost use Rattle.std.specs.Coded.{codes};
+    ghost use Rattle.std.specs.List.{list_any};
+    ghost use Rattle.std.proofs.Math.ListN.{get_or};
+    ghost use Rattle.oc_tree.specs.Stored.{block_code};
+    ghost use Rattle.oc_tree.specs.View.{function_view};
+    ghost use Rattle.oc_tree.specs.Calls.{function_names};
+    ghost use Rattle.oc_tree.specs.Marked.{TMarked};
+    ghost use Rattle.oc_budget.specs.Costs.{is_use};
+
+    ghost Value = { TMarked };
+
+    ghost coded = { Prim.hlevel (codes, block_code (Prim.hlevel codes)) };
+
+    ghost view = { λ k. k.marked.now };
+
+    ghost invariant = { λ k. (map function_view k.functions.now ≡ k.marked.now.program.functions) × (k.table ≡ function_names k.marked.now.program.functions) × (k.effects.program ≡ k.marked.now.program) × ((n : ℕ) → get_or k.uses.items n false ≡ is_use k.marked.now.program n) × ((n : ℕ) → get_or k.begins.items n false ≡ list_any (λ r. nat_eq r.first n) k.marked.now.regions) × ((n : ℕ) → get_or k.ends.items n false ≡ list_any (λ r. nat_eq r.last n) k.marked.now.regions) };
+}
+
+// The table of the statements with which regions begin.
+fn begin_table(alloc: Global, regions: &[Region]) -> Result<Vec<bool>, AllocError>
+    ensures { IfOk result (λ t. (n : ℕ) → get_or t.items n false ≡ list_any (λ r. nat_eq r.first n) (map region_view regions.now)) }
+{
+    let mut table = Vec::new(alloc);
+    for region in regions {
+        mark(&mut table, region.range.first)?;
+    }
+    Ok(table)
+}
+
+// The table of the statements with which regions end.
+fn end_table(alloc: Global, regions: &[Region]) -> Result<Vec<bool>, AllocError>
+    ensures { IfOk result (λ t. (n : ℕ) → get_or t.items n false ≡ list_any (λ r. nat_eq r.last n) (map region_view regions.now)) }
+{
+    let mut table = Vec::new(alloc);
+    for region in regions {
+        mark(&mut table, region.range.last)?;
+    }
+    Ok(table)
+}
+
+fn result_at(functions: &[Function], place: Option<usize>) -> bool
+    ensures { result ≡ result_at (map function_view functions.now) place }
+{
+    match place {
+        Some(place) => {
+            if place < functions.len() {
+                functions[place].result.is_some()
+            } else {
+                false
+            }
+        }
+        None => false,
+    }
+}
+
+fn main_place(functions: &[Function]) -> Option<usize>
+    ensures { result ≡ function_place (map function_view functions.now) (codes "main") }
+{
+    for (i, function) in functions.iter().enumerate() {
+        if function.name.bytes() == b"main".as_slice() {
+            return Some(i);
+        }
+    }
+    None
+}
+
+fn block_of(effects: &Effects, s: StmtId) -> Option<BlockId>
+    ensures { result ≡ block_of effects.now.program s }
+{
+    match effects.at(s) {
+        Some(effect) => Some(effect.block),
+        None => None,
+    }
+}
+
+fn is_in_region(effects: &Effects, region: &Region, s: StmtId) -> bool
+    ensures { result ≡ is_in_region effects.now.program (region_view region.now) s }
+{
+    let range = region.range;
+    range.first <= s
+        && s <= range.last
+        && match block_of(effects, s) {
+            Some(block) => block == range.block,
+            None => false,
+        }
+}
+
+impl<'a> Known<'a> {
+    /// What is asked of a program with regions.
+    pub fn new(alloc: Global, marked: &'a Marked) -> Result<Known<'a>, AllocError>
+        ensures { IfOk result (λ k. k ≡ marked.now) }
+    {
+        let functions = marked.checked().program().functions.as_slice();
+        let table = function_table(alloc, functions)?;
+        let effects = Effects::new(alloc, marked.checked())?;
+        let uses = use_table(alloc, &effects)?;
+        let begins = begin_table(alloc, marked.regions())?;
+        let ends = end_table(alloc, marked.regions())?;
+        Ok(Known {
+            marked,
+            functions,
+            table,
+            effects,
+            uses,
+            begins,
+            ends,
+        })
+    }
+
+    pub fn functions(&self) -> &'a [Function]
+        ensures { map function_view result.now ≡ self.now.program.functions }
+    {
+        let _marked = self.marked;
+        self.functions
+    }
+
+    pub fn regions(&self) -> &'a [Region]
+        ensures { map region_view result.now ≡ self.now.regions }
+    {
+        self.marked.regions()
+    }
+
+    /// The place of the function of a name.
+    pub fn place(&self, name: &Name) -> Option<usize>
+        ensures { result ≡ function_place self.now.program.functions name.now }
+    {
+        let _marked = self.marked;
+        self.table.place(name)
+    }
+
+    /// The place of `main`.
+    pub fn main_place(&self) -> Option<usize>
+        ensures { result ≡ function_place self.now.program.functions (codes "main") }
+    {
+        let _marked = self.marked;
+        main_place(self.functions)
+    }
+
+    /// Whether a call has a result.
+    pub fn has_result(&self, call: &Call) -> bool
+        ensures { result ≡ has_result self.now.program.functions (call_view call.now) }
+    {
+        let _marked = self.marked;
+        result_at(self.functions, self.place(&call.function))
+    }
+
+    /// Whether a statement uses a fresh variable.
+    pub fn uses(&self, s: StmtId) -> bool
+        ensures { result ≡ is_use self.now.program s }
+    {
+        let _marked = self.marked;
+        has(self.uses.as_slice(), s)
+    }
+
+    /// How many marks of regions stand at a statement.
+    pub fn marks(&self, s: StmtId) -> u64
+        ensures { result ≡ marks_at self.now.regions s }
+    {
+        let _marked = self.marked;
+        let begins = if has(self.begins.as_slice(), s) { 1 } else { 0 };
+        let ends = if has(self.ends.as_slice(), s) { 1 } else { 0 };
+        begins + ends
+    }
+
+    /// Whether a statement stands directly in a region.
+    pub fn is_in_region(&self, region: &Region, s: StmtId) -> bool
+        ensures { result ≡ is_in_region self.now.program (region_view region.now) s }
+    {
+        let _marked = self.marked;
+        is_in_region(&self.effects, region, s)
+    }
+}

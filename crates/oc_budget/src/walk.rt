@@ -1,0 +1,137 @@
+//! The cost of a tree, where the costs of the functions that it calls are known.
+ghost use Rattle.std.specs.Prelude.{◌≡◌, ◌+◌, ◌*◌, map, max, cond, IfSome};
+ghost use Rattle.oc_tree.specs.View.{block_view, call_view, else_view, expr_view, function_view, kind_view, right_view};
+ghost use Rattle.oc_tree.specs.Weight.{call_cost, known_of, right_cost, turns};
+ghost use Rattle.oc_budget.specs.Costs.{block_cost, else_cost, function_cost, inner_cost, is_use, probes};
+
+use crate::exprs::{args_cost, expr_cost};
+use crate::known::Known;
+use crate::sums::{greater, plus, times};
+use oc_tree::tree::{Block, Call, Function, Right, StmtId, StmtKind};
+
+/// What is known of the function at a place.
+pub fn known_of(costs: &[u64], place: Option<usize>) -> u64
+    ensures { result ≡ known_of costs.now place }
+{
+    match place {
+        Some(place) => { if place < costs.len() { costs[place] } else { 0 } }
+        None => 0,
+    }
+}
+
+fn call_cost(known: &Known, costs: &[u64], call: &Call) -> Option<u64>
+    ensures { IfSome result (λ c. c ≡ call_cost known.now.program.functions costs.now (call_view call.now)) }
+{
+    let arguments = plus(args_cost(call.args.as_slice())?, 1)?;
+    plus(arguments, known_of(costs, known.place(&call.function)))
+}
+
+fn right_cost(known: &Known, costs: &[u64], right: &Right) -> Option<u64>
+    ensures { IfSome result (λ c. c ≡ right_cost known.now.program.functions costs.now (right_view right.now)) }
+{
+    match right {
+        Right::Value { value } => expr_cost(value),
+        Right::Sense { .. } => Some(1),
+        Right::Call { call } => call_cost(known, costs, call),
+    }
+}
+
+fn turns(from: i32, to: i32) -> u32
+    ensures { result ≡ turns from to }
+{
+    let turns = to as i64 - from as i64;
+    if turns < 0 { 0 } else { turns as u32 }
+}
+
+/// The probes around a statement, but for those of a `while`, which are a part of its cost.
+pub fn probes(uses: bool, kind: &StmtKind) -> u64
+    ensures probes { result ≡ probes uses (kind_view kind.now) }
+{
+    match kind {
+        StmtKind::While { .. } => 0,
+        _ => { if uses { 2 } else { 0 } }
+    }
+}
+
+/// The cost of a block.
+#[cycle(cost)]
+pub fn block_cost(known: &Known, costs: &[u64], block: &Block) -> Option<u64>
+    ensures { IfSome result (λ c. c ≡ block_cost known.now.program.functions (is_use known.now.program) known.now.regions costs.now (block_view block.now)) }
+{
+    let mut cost = 0;
+    for statement in &block.statements {
+        let inner = inner_cost(known, costs, statement.id, &statement.kind)?;
+        let probed = plus(inner, probes(known.uses(statement.id), &statement.kind))?;
+        let marked = plus(known.marks(statement.id), probed)?;
+        cost = plus(cost, marked)?;
+    }
+    Some(cost)
+}
+
+// Both branches of an `if`, the first of which has the cost `then`.
+#[cycle(cost)]
+fn else_cost(known: &Known, costs: &[u64], then: u64, otherwise: &Option<Block>) -> Option<u64>
+    ensures { IfSome result (λ c. c ≡ else_cost known.now.program.functions (is_use known.now.program) known.now.regions costs.now then (else_view otherwise.now)) }
+{
+    match otherwise {
+        Some(block) => Some(greater(plus(then, 1)?, block_cost(known, costs, block)?)),
+        None => Some(then),
+    }
+}
+
+/// The cost of a statement, without the probes and marks around it.
+#[cycle(cost)]
+pub fn inner_cost(known: &Known, costs: &[u64], s: StmtId, kind: &StmtKind) -> Option<u64>
+    ensures { IfSome result (λ c. c ≡ inner_cost known.now.program.functions (is_use known.now.program) known.now.regions costs.now s (kind_view kind.now)) }
+{
+    match kind {
+        StmtKind::Let { right, .. } | StmtKind::Assign { right, .. } => {
+            plus(right_cost(known, costs, right)?, 1)
+        }
+        StmtKind::LetArray { words, .. } => plus(6, times(*words, 14)?),
+        StmtKind::AssignIndex { index, right, .. } => {
+            let sides = plus(right_cost(known, costs, right)?, expr_cost(index)?)?;
+            plus(sides, 3)
+        }
+        StmtKind::AssignDeref { right, .. } => plus(right_cost(known, costs, right)?, 2),
+        StmtKind::If {
+            condition,
+            then,
+            otherwise,
+        } => {
+            let test = plus(expr_cost(condition)?, 1)?;
+            let then = block_cost(known, costs, then)?;
+            plus(test, else_cost(known, costs, then, otherwise)?)
+        }
+        StmtKind::For { from, to, body, .. } => {
+            let turn = plus(9, block_cost(known, costs, body)?)?;
+            plus(6, times(turns(*from, *to), turn)?)
+        }
+        StmtKind::While {
+            condition,
+            bound,
+            body,
+        } => {
+            let probe = if known.uses(s) { 1 } else { 0 };
+            let test = plus(10 + probe, expr_cost(condition)?)?;
+            let turn = plus(test, block_cost(known, costs, body)?)?;
+            plus(plus(6, times(*bound, turn)?)?, probe)
+        }
+        StmtKind::CallOnly { call } => {
+            let dropped = if known.has_result(call) { 1 } else { 0 };
+            plus(call_cost(known, costs, call)?, dropped)
+        }
+        StmtKind::SenseOnly { .. } => Some(2),
+        StmtKind::Emit { value, .. } | StmtKind::Return { value } => plus(expr_cost(value)?, 1),
+        StmtKind::Fresh { .. } => Some(0),
+        StmtKind::Consistent { .. } => Some(1),
+    }
+}
+
+/// The cost of a function.
+pub fn function_cost(known: &Known, costs: &[u64], function: &Function) -> Option<u64>
+    ensures { IfSome result (λ c. c ≡ function_cost known.now.program.functions (is_use known.now.program) known.now.regions costs.now (function_view function.now)) }
+{
+    let returns = if function.result.is_some() { 0 } else { 1 };
+    plus(block_cost(known, costs, &function.body)?, returns)
+}

@@ -11,3 +11,4 @@ pub mod Asking
 pub mod Parsing
 pub mod OneReading
 pub mod Exactly
+pub mod Naming

@@ -1,12 +1,12 @@
--- The three files of a run: its source, its sensors and its power.
+-- The files that are read: a source and, for a run, its sensors and its power.
 use Rattle.std.specs.Prelude.{ℕ, zero, suc, ◌+◌, ◌<◌, ◌≤◌, ◌≡◌, ◌⊎◌, List, length}
 use Rattle.oc_io.specs.Held.{Held, nothing, content, Gives, Longer}
-use Rattle.oc_top.specs.Commands.{word_at}
+use Rattle.oc_top.specs.Commands.{Task, Wanted, report, regions, listing, files_of, word_at}
 use Rattle.oc_top.specs.declared.files.Fetched.{Fetched}
 use Rattle.oc_top.specs.declared.answer.Answer.{Answer}
 use Rattle.oc_top.specs.declared.answer.Answer.TheVariants as answer
 
--- the bytes of the three files
+-- the bytes of the files; of a source alone the others are empty
 pub record Files : Type 0 where
   pub source : List ℕ
   pub sensors : List ℕ
@@ -25,12 +25,15 @@ pub record IsFile (held : Held) (limit : ℕ) (bytes : List ℕ) : Type 0 where
   pub gives : Gives held bytes
   pub within : length bytes ≤ limit
 
--- these are the files whose words begin at a place
-pub record AreFiles (holds : List ℕ → Held) (words : List (List ℕ)) (first : ℕ) (files : Files) : Type 0 where
-  pub source : IsFile (holds (word_at words first)) (limit_at 0) files.source
-  pub sensors : IsFile (holds (word_at words (first + 1))) (limit_at 1) files.sensors
-  pub power : IsFile (holds (word_at words (first + 2))) (limit_at 2) files.power
+-- the sensors and the power, whose words begin at this place
+pub record AreRows (holds : List ℕ → Held) (words : List (List ℕ)) (first : ℕ) (files : Files) : Type 0 where
+  pub sensors : IsFile (holds (word_at words first)) (limit_at 1) files.sensors
+  pub power : IsFile (holds (word_at words (first + 1))) (limit_at 2) files.power
 
+-- no file but the source
+pub record AreNone (files : Files) : Type 0 where
+  pub sensors : files.sensors ≡ []
+  pub power : files.power ≡ []
 -- a shelf that tells what it holds has just these bytes under a name, no more than the limit
 pub record IsHeld (held : Held) (limit : ℕ) (bytes : List ℕ) : Type 0 where
   pub told : held ≡ content bytes

@@ -8,3 +8,6 @@ pub mod Verdict
 pub mod Headline
 pub mod Answers
 pub mod Steps
+pub mod RegionLines
+pub mod DeclaredNames
+pub mod RegionDetails

@@ -8,7 +8,9 @@
 pub mod answer;
 pub mod command;
 pub mod files;
+mod names;
 pub mod prepare;
+pub mod regions;
 pub mod report;
 #[cfg(test)]
 mod tests;

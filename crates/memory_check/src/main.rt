@@ -4,10 +4,14 @@
 //! with none.
 #![tactic(auto)]
 
-ghost use Rattle.std.specs.Prelude.{◌≤◌, length};
+ghost use Rattle.std.specs.Prelude.{◌≤◌, ◌≡◌, length, map, IfOk};
+ghost use Rattle.oc_needs.specs.Requirements.{requirements};
+ghost use Rattle.oc_needs.specs.View.{requirement_view};
 
 use oc_ckpt::Area;
 use oc_desugar::expand;
+use oc_effects::effects::Effects;
+use oc_flow::flow::summaries;
 use oc_io::disk::{DiskShelf, StdSink};
 use oc_io::memory_shelf::MemoryShelf;
 use oc_io::memory_sink::MemorySink;
@@ -15,6 +19,9 @@ use oc_io::period::Period;
 use oc_io::shelf::Shelf;
 use oc_io::sink::Sink;
 use oc_lex::lex;
+use oc_needs::policy::policies;
+use oc_needs::required::requirements;
+use oc_needs::requirement::Requirement;
 use oc_nvm::Nvm;
 use oc_parse::parse;
 use oc_power::cutter::Cutter;
@@ -22,16 +29,23 @@ use oc_power::looped::Looped;
 use oc_power::power::read_power;
 use oc_power::recorded::Recorded;
 use oc_power::supply::Supply;
+use oc_region::infer::infer;
 use oc_rows::rows::Rows;
 use oc_sensors::file::read_sensors;
 use oc_top::top::ocelot;
+use oc_tree::checked::Checked;
 use oc_tree::name::Name;
 use oc_types::check;
 use oc_undo::log::UndoLog;
+use oc_writes::writes::may_write;
 use std::alloc::{AllocError, Global};
 
 /// Takes a sample and emits it.
 const SOURCE: &[u8] = b"sensor t; port r; fn main() { let x = sense(t); emit(r, x); }";
+
+/// Takes a sample that is to be fresh, keeps it and emits it.
+const FRESH: &[u8] =
+    b"sensor t; port r; nv n: i32 = 0; fn main() { let x = sense(t); Fresh(x); n = x; emit(r, n); emit(r, x); }";
 
 const SENSORS: &[u8] = b"time,sensor,value\n0,t,21\n";
 
@@ -55,6 +69,38 @@ fn parts<O: Sink>(alloc: Global, out: &mut O) -> anyhow::Result<()> {
     fine("Area::new", out)
 }
 
+/// What the annotations of a program require, and the parts of that.
+fn required<O: Sink>(
+    alloc: Global,
+    checked: &Checked,
+    out: &mut O,
+) -> anyhow::Result<Vec<Requirement>>
+    ensures { IfOk result (λ r. map requirement_view r.items ≡ requirements checked.now.program) }
+{
+    let effects = Effects::new(alloc, checked)?;
+    fine("Effects::new", out)?;
+    policies(alloc, &effects)?;
+    fine("policies", out)?;
+    let summaries = summaries(alloc, checked)?;
+    fine("summaries", out)?;
+    let required = requirements(alloc, checked, &summaries)?;
+    fine("requirements", out)?;
+    Ok(required)
+}
+
+/// The regions of a program, and what they may overwrite.
+fn regions<O: Sink>(alloc: Global, checked: Checked, out: &mut O) -> anyhow::Result<()> {
+    let required = required(alloc, &checked, out)?;
+    match infer(alloc, checked, &required) {
+        Ok(marked) => {
+            fine("infer", out)?;
+            may_write(alloc, &marked)?;
+            fine("may_write", out)
+        }
+        Err((_, memory)) => Err(memory.into()),
+    }
+}
+
 /// The tokens and the tree of a source, and the programs that are made of it.
 fn tree<O: Sink>(alloc: Global, source: &[u8], out: &mut O) -> anyhow::Result<()>
     requires { length source.now ≤ 1048576 }
@@ -66,7 +112,10 @@ fn tree<O: Sink>(alloc: Global, source: &[u8], out: &mut O) -> anyhow::Result<()
     let written = check(alloc, program)?;
     fine("check", out)?;
     match expand(alloc, written) {
-        Ok(_) => fine("expand", out),
+        Ok(checked) => {
+            fine("expand", out)?;
+            regions(alloc, checked, out)
+        }
         Err((_, memory)) => Err(memory.into()),
     }
 }
@@ -202,7 +251,7 @@ fn main(rt: HostRuntime) -> anyhow::Result<()> {
     let alloc = rt.alloc();
     let mut out = StdSink::out(&rt);
     parts(alloc, &mut out)?;
-    tree(alloc, SOURCE, &mut out)?;
+    tree(alloc, FRESH, &mut out)?;
     sensors(alloc, &mut out)?;
     power(alloc, &mut out)?;
     sink(alloc, &mut out)?;

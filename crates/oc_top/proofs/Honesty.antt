@@ -1,5 +1,5 @@
 -- Reports of written programs are honest.
-use Rattle.std.proofs.Common.{ℕ, ◌≤◌, ◌≡◌, ◌∙◌, sym, subst, ℤ, List, ◌++◌, true, arith, max}
+use Rattle.std.proofs.Common.{ℕ, ◌≤◌, ◌≡◌, ◌∙◌, sym, subst, ℤ, List, ◌++◌, true, ap, arith, max}
 use Rattle.oc_io.specs.declared.period.Period.{Period}
 use Rattle.oc_tree.specs.Tree.{TProgram}
 use Rattle.oc_tree.specs.Said.{Told}
@@ -11,13 +11,14 @@ use Rattle.oc_isa.specs.Image.{Parts}
 use Rattle.oc_isa.specs.Power.{power_run}
 use Rattle.oc_isa.specs.Run.{IsSound}
 use Rattle.oc_isa.specs.Table.{device_of}
-use Rattle.oc_items.specs.Erase.{marked, kept_samples}
+use Rattle.oc_items.specs.Erase.{marked, without_marks, kept, kept_samples}
 use Rattle.oc_outage.specs.Honest.{IsPrefixOf, EndsWith, all_on}
 use Rattle.oc_outage.proofs.Enters.{device_fit}
 use Rattle.oc_outage.proofs.Lasting.{over_exactly}
 use Rattle.oc_outage.proofs.Runs.{every_prefix_later, over_is_whole}
-use Rattle.oc_top.specs.Meant.{RunsAs, program_run, program_said}
-use Rattle.oc_top.specs.Headline.{IsHonest, IsHonestThroughout}
+use Rattle.oc_top.specs.Meant.{RunsAs, program_run, program_said, plain_run, plain_said}
+use Rattle.oc_top.specs.Headline.{IsHonest, IsWholeRun, IsHonestThroughout}
+use Rattle.oc_top.proofs.Unmarking.{plain_is, same_words, prefix_unmarked}
 
 later_left : (a b : ℕ) → a ≤ max a b
 later_left a b = omega arith
@@ -31,8 +32,10 @@ module _ (parts : Parts) (p : TProgram) (h : ℕ → ℕ → ℤ) (periods : Lis
       let run = runs_as (kept_samples front) in
       let n = max (all_on periods) run.0 in
       let late = every_prefix_later (device_of parts) h (device_fit parts) words periods front rest n (later_left (all_on periods) run.0) sound e in
+      let said = subst (λ (all : List Said). IsPrefixOf (marked front) all) (run.1 n (later_right (all_on periods) run.0)).0 late.said in
       record {
-        said = subst (λ (all : List Said). IsPrefixOf (marked front) all) (run.1 n (later_right (all_on periods) run.0)).0 late.said;
+        said = said;
+        shown = subst (λ (all : List Said). IsPrefixOf (kept front) all) (sym (plain_is p (kept_samples front))) (prefix_unmarked (marked front) (program_said p (kept_samples front)) said);
         outside = late.outside;
         read = late.read;
       }
@@ -40,13 +43,20 @@ module _ (parts : Parts) (p : TProgram) (h : ℕ → ℕ → ℤ) (periods : Lis
   abbrev report : List Told
   report = (power_run (device_of parts) h periods).report
 
-  whole : (how : Ending) → EndsWith report (Ended how) → (marked report ≡ program_said p (kept_samples report)) × ((power_run (device_of parts) h periods).state.nv ≡ (program_run p (kept_samples report)).nv)
+  whole : (how : Ending) → EndsWith report (Ended how) → IsWholeRun p report (power_run (device_of parts) h periods).state.nv
   whole how e =
       let w = over_is_whole (device_of parts) h (device_fit parts) words periods how sound ((over_exactly (device_of parts) h periods how).1 e) in
       let run = runs_as (kept_samples report) in
       let n = max (all_on periods) run.0 in
       let shown = run.1 n (later_right (all_on periods) run.0) in
-      (sym (w.said n (later_left (all_on periods) run.0)) ∙ shown.0, sym (w.left n (later_left (all_on periods) run.0)) ∙ shown.1)
+      let said : marked report ≡ program_said p (kept_samples report) = sym (w.said n (later_left (all_on periods) run.0)) ∙ shown.0 in
+      let left : (power_run (device_of parts) h periods).state.nv ≡ (plain_run p (kept_samples report)).nv = sym (w.left n (later_left (all_on periods) run.0)) ∙ shown.1 in
+      record {
+        said = said;
+        shown = ap without_marks said ∙ sym (plain_is p (kept_samples report));
+        left = left ∙ sym (same_words p (kept_samples report));
+        left_plain = left;
+      }
 
   pub honest_throughout : IsHonestThroughout p h report (power_run (device_of parts) h periods).state.nv
   honest_throughout = record { honest = front_honest; whole = whole }

@@ -1,8 +1,9 @@
 pub mod Taking
 pub mod Fetching
 pub mod Readings
+pub mod Unmarking
 pub mod Honesty
-pub mod Regions
+pub mod Building
 pub mod Preparing
 pub mod Variables
 pub mod Writing

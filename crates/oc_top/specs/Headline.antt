@@ -13,25 +13,35 @@ use Rattle.oc_tree.specs.declared.said.Ending.{Ending}
 use Rattle.oc_tree.specs.declared.said.Said.TheVariants.{Ended}
 use Rattle.oc_isa.specs.Power.{power_run}
 use Rattle.oc_isa.specs.Table.{device_of}
-use Rattle.oc_items.specs.Erase.{erase, marked, kept_samples, HasNoOffInside}
+use Rattle.oc_items.specs.Erase.{erase, marked, kept, kept_samples, HasNoOffInside}
 use Rattle.oc_outage.specs.Honest.{IsPrefixOf, AreRead, EndsWith}
-use Rattle.oc_top.specs.Meant.{program_code, program_run, program_said}
+use Rattle.oc_top.specs.Meant.{program_code, program_run, program_said, plain_run, plain_said}
 use Rattle.oc_top.specs.Commands.{Plan}
 use Rattle.oc_top.specs.Files.{Files}
 use Rattle.oc_top.specs.Sources.{ReadsAs, program}
 use Rattle.oc_top.specs.Verdict.{Verdict, runs}
 
--- without its aborted attempts, the report says what the program says over the kept samples, or a prefix of it; no outage
--- lies in a region; and each input has what its sensor had at that tick
+-- Without its aborted attempts, the report says what the program says over the kept samples, with the marks of its
+-- regions, or a prefix of it; so without marks it says what the program says as if it had no regions, or a prefix of it.
+-- No outage lies in a region, and each input has what its sensor had at that tick
 pub record IsHonest (p : TProgram) (h : ℕ → ℕ → ℤ) (report : List Told) : Type 0 where
   pub said : IsPrefixOf (marked report) (program_said p (kept_samples report))
+  pub shown : IsPrefixOf (kept report) (plain_said p (kept_samples report))
   pub outside : HasNoOffInside false (erase report)
   pub read : AreRead h report
+
+-- without its aborted attempts, the report is the whole run, with its marks and without them, and these are the nonvolatile
+-- words that the program leaves, with regions or without
+pub record IsWholeRun (p : TProgram) (report : List Told) (nv : List ℤ) : Type 0 where
+  pub said : marked report ≡ program_said p (kept_samples report)
+  pub shown : kept report ≡ plain_said p (kept_samples report)
+  pub left : nv ≡ (program_run p (kept_samples report)).nv
+  pub left_plain : nv ≡ (plain_run p (kept_samples report)).nv
 
 -- every prefix of a report is honest, and a report that ends is the whole run and leaves its nonvolatile words
 pub record IsHonestThroughout (p : TProgram) (h : ℕ → ℕ → ℤ) (report : List Told) (nv : List ℤ) : Type 0 where
   pub honest : (front rest : List Told) → front ++ rest ≡ report → IsHonest p h front
-  pub whole : (how : Ending) → EndsWith report (Ended how) → (marked report ≡ program_said p (kept_samples report)) × (nv ≡ (program_run p (kept_samples report)).nv)
+  pub whole : (how : Ending) → EndsWith report (Ended how) → IsWholeRun p report nv
 
 -- a run of the program that a source spells, over what the sensors showed and the periods that the supply told:
 -- its answer and its text are those of the report, and the report is honest

@@ -11,6 +11,7 @@ use Rattle.oc_sensors.specs.File as sensor_rows
 use Rattle.oc_sensors.specs.History.{Told, history}
 use Rattle.oc_tree.specs.Tree.{TProgram}
 use Rattle.oc_tree.specs.Broken.{broken}
+use Rattle.oc_tree.specs.Marked.{TMarked}
 use Rattle.oc_tree.specs.Word.{is_word}
 use Rattle.oc_sensors.specs.declared.file.SensorError.{SensorError}
 use Rattle.oc_sensors.specs.declared.file.SensorError.TheVariants as sensor_error
@@ -26,7 +27,7 @@ use Rattle.oc_isa.specs.Power.{first_state}
 use Rattle.oc_isa.specs.Run.{IsSound}
 use Rattle.oc_isa.specs.Table.{device_of}
 use Rattle.oc_machine.specs.Kept.{Running}
-use Rattle.oc_top.specs.Meant.{program_code, RunsAs}
+use Rattle.oc_top.specs.Meant.{program_marked, program_code, RunsAs}
 use Rattle.oc_top.specs.Commands.{Plan}
 use Rattle.oc_top.specs.Files.{Files}
 use Rattle.oc_top.specs.Faults.{token_line}
@@ -65,6 +66,12 @@ pub record IsAccepted (source : List ℕ) (p : TProgram) : Type 0 where
   pub spelled : Spells source p
   pub unbroken : broken p ≡ None
 
+-- the program that a source spells, with its policies and regions
+pub record IsMarkedOf (source : List ℕ) (m : TMarked) : Type 0 where
+  pub written : TProgram
+  pub reads : ReadsAs source (program written)
+  pub is_marked : m ≡ program_marked written
+
 -- the image of the program that a source spells
 pub record IsBuilt (source : List ℕ) (parts : Parts) : Type 0 where
   pub written : TProgram
@@ -73,7 +80,7 @@ pub record IsBuilt (source : List ℕ) (parts : Parts) : Type 0 where
   pub sound : IsSound (device_of parts)
   pub runs : RunsAs parts written
 
--- why there is no image of a source
+-- why there is no marked program of a source, and no image
 abbrev pub IsNotBuilt : List ℕ → Answer → Type 0
 IsNotBuilt source (answer.Syntax line) = ReadsAs source (faulty line)
 IsNotBuilt source (answer.Rule line rule) = ReadsAs source (breaks (record { line = line; rule = rule }))

@@ -4,8 +4,10 @@ ghost use Rattle.std.specs.String.{string_bytes};
 ghost use Rattle.oc_io.specs.Faults.{Rose, TookPart};
 ghost use Rattle.oc_top.specs.Answers.{line_of, status_of};
 ghost use Rattle.oc_top.specs.Commands.{word_at};
+ghost use Rattle.oc_top.specs.declared.answer.Answer.TheVariants as answers;
 
 use itoa::Buffer;
+use oc_io::Memory;
 use oc_io::pieces::put_pieces;
 use oc_io::sink::{Sink, SinkFault};
 
@@ -38,6 +40,14 @@ pub enum Answer {
     Memory,
     /// A checkpoint didn't complete.
     Cut,
+}
+
+impl From<Memory> for Answer {
+    ghost from_gives = { λ _ a. a ≡ answers.Memory };
+
+    fn from(_: Memory) -> Answer {
+        Answer::Memory
+    }
 }
 
 /// The status of an answer.

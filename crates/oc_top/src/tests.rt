@@ -14,6 +14,13 @@ const SAMPLE: &str = "sensor t; port r; fn main() { let x = sense(t); emit(r, x)
 /// Emits four numbers.
 const COUNT: &str = "port r; fn main() { emit(r, 1); emit(r, 2); emit(r, 3); emit(r, 4); }";
 
+/// Takes a sample that is to be fresh, and emits it.
+const FRESH: &str = "sensor t; port r; fn main() { let x = sense(t); Fresh(x); emit(r, x); }";
+
+/// Adds a sample that is to be fresh to a nonvolatile variable.
+const ADDED: &str =
+    "sensor t; port r; nv n: i32 = 3; fn main() { let x = sense(t); Fresh(x); n = n + x; emit(r, n); }";
+
 const READINGS: &str = "time,sensor,value\n0,t,21\n";
 
 const NO_READINGS: &str = "time,sensor,value\n";
@@ -362,6 +369,38 @@ fn runs() -> [Case; 20] {
         asked("run s -h p", 1, "", "ocelot: not a command\n"),
         asked("--help", 1, "", "ocelot: not a command\n"),
     ]
+}
+
+/// Runs of programs with regions: without an outage, and with one in the region, before which the
+/// last has written a nonvolatile word.
+fn runs_with_regions() -> [Case; 3] {
+    let whole = "5 enter 1\n6 sense t 21\n8 use 3\n10 emit r 21\n11 done 3\n12 commit 1\n13 end\n";
+    let again =
+        "5 enter 1\n6 sense t 21\n8 use 3\n9 abort 1\n9 off 10\n24 enter 1\n25 sense t 21\n27 use 3\n29 emit r 21\n30 done 3\n31 commit 1\n32 end\n";
+    let undone =
+        "5 enter 1\n6 sense t 21\n8 use 3\n14 abort 1\n14 off 6\n26 enter 1\n27 sense t 30\n29 use 3\n34 done 3\n35 commit 1\n37 emit r 33\n38 end\nnv n 33\n";
+    [
+        ran(FRESH, READINGS, "on,off\n14,0\n", 0, whole),
+        ran(FRESH, READINGS, "on,off\n9,10\n40,0\n", 0, again),
+        ran(
+            ADDED,
+            "time,sensor,value\n0,t,21\n20,t,30\n",
+            "on,off\n14,6\n40,0\n",
+            0,
+            undone,
+        ),
+    ]
+}
+
+#[test]
+fn each_run_with_regions(rt: HostRuntime) -> Result<(), Fail> {
+    for case in &runs_with_regions() {
+        let called = call_case(rt.alloc(), case, no_faults(rt.alloc()))?;
+        assert_eq!(rt; called.out.as_slice(), case.out.as_bytes());
+        assert_eq!(rt; called.err.as_slice(), case.err.as_bytes());
+        assert_eq!(rt; called.status, case.status);
+    }
+    Ok(())
 }
 
 #[test]

@@ -1,5 +1,5 @@
 use Rattle.oc_top.proofs.Parsing.{without_tokens}
-use Rattle.oc_top.proofs.prepare.tokens_of.Goals as goal
+use Rattle.oc_top.proofs.build.tokens_of.Goals as goal
 
 pub returns-in-Err-clause-refused : goal.returns-in-Err-clause-refused
 returns-in-Err-clause-refused c = rw c.answer_without_tokens.ensures (without_tokens c.args.source.now c.in-Err.error c.in-Err.ensures.fault)

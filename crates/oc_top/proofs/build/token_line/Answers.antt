@@ -2,7 +2,7 @@ use Rattle.std.proofs.Common.{rules, refl, sym, ◌≡◌, ◌-◌, length, min}
 use Rattle.std.proofs.lemmas.Bool.{ltb-true}
 use Rattle.std.proofs.lemmas.Option.{slice_get_read}
 use Rattle.oc_top.proofs.Parsing.{token_line_there}
-use Rattle.oc_top.proofs.prepare.token_line.Goals as goal
+use Rattle.oc_top.proofs.build.token_line.Goals as goal
 
 pub returns-in-Some : goal.returns-in-Some
 returns-in-Some c source =

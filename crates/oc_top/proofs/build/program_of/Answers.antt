@@ -1,5 +1,5 @@
 use Rattle.oc_top.proofs.Parsing.{without_tree}
-use Rattle.oc_top.proofs.prepare.program_of.Goals as goal
+use Rattle.oc_top.proofs.build.program_of.Goals as goal
 
 pub returns-clause-refused : goal.returns-clause-refused
 returns-clause-refused c =

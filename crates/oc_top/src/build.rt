@@ -1,0 +1,180 @@
+//! From a source to its marked program, and from that to its image.
+ghost use Rattle.std.specs.Prelude.{◌≡◌, ◌≤◌, ℕ, List, length, map, IfOk, IfErr};
+ghost use Rattle.oc_tree.specs.View.{program_view};
+ghost use Rattle.oc_tree.specs.Form.{InForm};
+ghost use Rattle.oc_tree.specs.Nodes.{program_nodes};
+ghost use Rattle.oc_lex.specs.Stands.{IsName};
+ghost use Rattle.oc_lex.specs.Tokens.{AreTokens, line_feeds};
+ghost use Rattle.oc_grammar.specs.Lexemes.{lexemes_of};
+ghost use Rattle.oc_needs.specs.Requirements.{requirements};
+ghost use Rattle.oc_needs.specs.View.{requirement_view};
+ghost use Rattle.oc_writes.specs.Targets.{may_write};
+ghost use Rattle.oc_code.specs.Right.{IsRight};
+ghost use Rattle.oc_top.specs.Faults.{token_line};
+ghost use Rattle.oc_top.specs.Meant.{marked_code, program_marked};
+ghost use Rattle.oc_top.specs.Sources.{Spells, line_at};
+ghost use Rattle.oc_top.specs.Steps.{IsAccepted, IsMarkedOf, IsNotBuilt, for_rules, for_tokens, for_tree};
+
+use crate::answer::Answer;
+use oc_codegen::compile;
+use oc_desugar::expand;
+use oc_flow::flow::summaries;
+use oc_io::Memory;
+use oc_isa::image::Image;
+use oc_lex::{LexError, Token, lex};
+use oc_needs::required::requirements;
+use oc_needs::requirement::Requirement;
+use oc_parse::{ParseError, parse};
+use oc_region::infer::infer;
+use oc_tree::checked::Checked;
+use oc_tree::marked::Marked;
+use oc_tree::tree::Program;
+use oc_tree::written::Written;
+use oc_types::{RuleError, check};
+use oc_writes::writes::may_write;
+use std::alloc::Global;
+
+fn count_feeds(bytes: &[u8]) -> usize
+    ensures count { result ≡ line_feeds bytes.now }
+    ensures few { result ≤ length bytes.now }
+{
+    bytes.iter().filter(|byte| **byte == b'\n').count()
+}
+
+/// The line of the byte at a place.
+fn line_of(source: &[u8], at: usize) -> usize
+    requires { length source.now ≤ 1048576 }
+    ensures { result ≡ line_at source.now at }
+{
+    1 + count_feeds(&source[..at.min(source.len())])
+}
+
+/// The line of the token at a place, or of the last one; 1 where there is none.
+fn token_line(tokens: &[Token], token: usize) -> usize
+    ensures { (source : List ℕ) → result ≡ token_line (lexemes_of source tokens.now) token }
+{
+    match tokens.get(token.min(tokens.len().saturating_sub(1))) {
+        Some(token) => token.line as usize,
+        None => 1,
+    }
+}
+
+fn answer_without_tokens(source: &[u8], error: LexError) -> Answer
+    requires { length source.now ≤ 1048576 }
+    ensures { result ≡ for_tokens source.now error }
+{
+    match error {
+        LexError::Byte { at } | LexError::Literal { at } => Answer::Syntax {
+            line: line_of(source, at),
+        },
+        LexError::Memory => Answer::Memory,
+    }
+}
+
+fn answer_without_tree(tokens: &[Token], error: ParseError) -> Answer
+    ensures { (source : List ℕ) → result ≡ for_tree (lexemes_of source tokens.now) error }
+{
+    match error {
+        ParseError::Syntax { token } | ParseError::Depth { token } => Answer::Syntax {
+            line: token_line(tokens, token),
+        },
+        ParseError::Memory => Answer::Memory,
+    }
+}
+
+fn answer_without_rules(error: RuleError) -> Answer
+    ensures { result ≡ for_rules error }
+{
+    match error {
+        RuleError::Rule { line, rule } => Answer::Rule { line, rule },
+        RuleError::Memory => Answer::Memory,
+    }
+}
+
+/// The tokens of a source.
+fn tokens_of(alloc: Global, source: &[u8]) -> Result<Vec<Token>, Answer>
+    requires { length source.now ≤ 1048576 }
+    ensures tokens { IfOk result (λ ts. AreTokens source.now ts.items) }
+    ensures few { IfOk result (λ ts. length ts.items ≤ length source.now) }
+    ensures refused { IfErr result (λ a. IsNotBuilt source.now a) }
+{
+    match lex(alloc, source) {
+        Ok(tokens) => Ok(tokens),
+        Err(error) => Err(answer_without_tokens(source, error)),
+    }
+}
+
+/// The program that a source spells.
+fn program_of(alloc: Global, source: &[u8]) -> Result<Program, Answer>
+    requires { length source.now ≤ 1048576 }
+    ensures spelled { IfOk result (λ p. Spells source.now (program_view p)) }
+    ensures form { IfOk result (λ p. InForm IsName (program_view p)) }
+    ensures nodes { IfOk result (λ p. program_nodes (program_view p) ≤ 1048576) }
+    ensures refused { IfErr result (λ a. IsNotBuilt source.now a) }
+{
+    let tokens = tokens_of(alloc, source)?;
+    match parse(alloc, source, &tokens) {
+        Ok(program) => Ok(program),
+        Err(error) => Err(answer_without_tree(&tokens, error)),
+    }
+}
+
+/// The program that a source spells, where it breaks no rule.
+fn written(alloc: Global, source: &[u8]) -> Result<Written, Answer>
+    requires { length source.now ≤ 1048576 }
+    ensures accepted { IfOk result (λ w. IsAccepted source.now w) }
+    ensures refused { IfErr result (λ a. IsNotBuilt source.now a) }
+{
+    let program = program_of(alloc, source)?;
+    match check(alloc, program) {
+        Ok(written) => Ok(written),
+        Err(error) => Err(answer_without_rules(error)),
+    }
+}
+
+/// What the annotations of a checked program require.
+fn required(alloc: Global, checked: &Checked) -> Result<Vec<Requirement>, Memory>
+    ensures { IfOk result (λ r. map requirement_view r.items ≡ requirements checked.now.program) }
+{
+    let summaries = summaries(alloc, checked)?;
+    let required = requirements(alloc, checked, &summaries)?;
+    Ok(required)
+}
+
+/// The expansion of a written program, with the regions that its annotations ask for.
+fn with_regions(alloc: Global, written: Written) -> Result<Marked, Memory>
+    ensures { IfOk result (λ m. m ≡ program_marked written) }
+{
+    let checked = match expand(alloc, written) {
+        Ok(checked) => checked,
+        Err((_, memory)) => return Err(memory),
+    };
+    let required = required(alloc, &checked)?;
+    match infer(alloc, checked, &required) {
+        Ok(marked) => Ok(marked),
+        Err((_, memory)) => Err(memory),
+    }
+}
+
+/// The program that a source spells, expanded and with its policies and regions, where it breaks no
+/// rule. What is wrong first decides the answer: a byte, a token, a depth or a broken rule, with its
+/// line.
+pub fn marked_of(alloc: Global, source: &[u8]) -> Result<Marked, Answer>
+    requires { length source.now ≤ 1048576 }
+    ensures marked { IfOk result (λ m. IsMarkedOf source.now m) }
+    ensures refused { IfErr result (λ a. IsNotBuilt source.now a) }
+{
+    let written = written(alloc, source)?;
+    let marked = with_regions(alloc, written)?;
+    Ok(marked)
+}
+
+/// The image of a marked program, with the write targets of its regions.
+pub fn image_of(alloc: Global, marked: &Marked) -> Result<Image, Memory>
+    ensures code { IfOk result (λ i. i ≡ marked_code marked.now) }
+    ensures right { IfOk result (λ i. IsRight marked.now.program marked.now.regions (may_write marked.now)) }
+{
+    let writes = may_write(alloc, marked)?;
+    let image = compile(alloc, marked, &writes)?;
+    Ok(image)
+}

@@ -13,3 +13,5 @@ pub mod Parsing
 pub mod OneReading
 pub mod Exactly
 pub mod Naming
+pub mod Showing
+pub mod Printing

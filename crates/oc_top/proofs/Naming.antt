@@ -1,15 +1,15 @@
 -- What a walk that seeks a declaration sees is the name that the statement declares.
-use Rattle.std.proofs.Common.{◌≡◌, refl, sym, ap, ◌∙◌, ℕ, ◌==◌, List, [], ◌∷◌, ◌++◌, Option, Some, None, cond, map, get_or}
-use Rattle.std.specs.List.{find, flat_map, slice_get}
+use Rattle.std.proofs.Common.{◌≡◌, refl, sym, ap, ◌∙◌, ℕ, ◌<◌, ◌==◌, length, List, [], ◌∷◌, ◌++◌, Option, Some, None, cond, map, get_or}
+use Rattle.std.specs.List.{find, flat_map}
 use Rattle.std.specs.Option.{option_map, option_or, unwrap_or}
 use Rattle.std.proofs.lemmas.List.Folds.{find-append}
-use Rattle.std.proofs.lemmas.Option.{slice_get-map, unwrap_or-slice_get}
+use Rattle.std.proofs.lemmas.List.{get_or-map, length-map}
 use Rattle.oc_tree.specs.Names.{Text}
 use Rattle.oc_tree.specs.Tree.{TKind, if_else, for_in, while_do, TElse, no_else, else_do, stmt, TBlock, block, TStmts, no_stmts, more, TFunction, TProgram}
 use Rattle.oc_tree.specs.declared.tree.VarId.TheVariants as variables
 use Rattle.oc_tree.specs.Places.{Place, Placed, behind, in_branch, in_loop, at_start, kind_placed, else_placed, block_placed, stmts_placed, placed}
 use Rattle.oc_tree.proofs.Maps.{map_or, map_cond}
-use Rattle.oc_top.specs.RegionLines.{declared_name}
+use Rattle.oc_top.specs.RegionLines.{declared_name, variable_name}
 use Rattle.oc_top.specs.DeclaredNames.{kind_names, else_names, block_names, stmts_names, functions_names, program_names}
 
 -- the name that the first of these statements with the number `s` declares
@@ -52,6 +52,16 @@ module _ (s : ℕ) where
   pub names_agree : (p : TProgram) → option_map (λ a. declared_name a.kind) (placed p s) ≡ program_names s p
   names_agree p = functions_agree p.functions
 
--- what is read of an element by its place
-pub read_at : {X Y : Type 0} (f : X → Y) (xs : List X) (i : ℕ) (d : Y) → unwrap_or (option_map f (slice_get xs i)) d ≡ get_or (map f xs) i d
-read_at f xs i d = ap (λ o. unwrap_or o d) (sym (slice_get-map f xs i)) ∙ unwrap_or-slice_get (map f xs) i d
+-- what the walk sees is the variable's name
+pub declared_is : (p : TProgram) (function s : ℕ) (o : Option Text) → o ≡ program_names s p → unwrap_or o [] ≡ variable_name p function (variables.Declared s)
+declared_is p function s o e = ap (λ (q : Option Text). unwrap_or q []) (e ∙ sym (names_agree s p))
+
+-- an element that was read, and what is seen of it
+pub seen_at : {X Y : Type 0} (f : X → Y) (xs : List X) (i : ℕ) (x : X) (d : Y) → i < length xs → x ≡ get_or xs i x → f x ≡ get_or (map f xs) i d
+seen_at f xs i x d h e = ap f e ∙ sym (get_or-map f xs i x d h)
+
+-- the same where it is seen through a view
+pub viewed_at : {X Y Z : Type 0} (f : X → Y) (g : Y → Z) (xs : List X) (i : ℕ) (x : X) (d : Z) → i < length xs → x ≡ get_or xs i x → g (f x) ≡ get_or (map g (map f xs)) i d
+viewed_at f g xs i x d h e =
+    let within : i < length (map f xs) = rw (length-map xs f) h in
+    ap g (seen_at f xs i x (f x) h e) ∙ sym (get_or-map g (map f xs) i (f x) d within)

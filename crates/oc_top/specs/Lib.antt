@@ -11,3 +11,4 @@ pub mod Steps
 pub mod RegionLines
 pub mod DeclaredNames
 pub mod RegionDetails
+pub mod Printed

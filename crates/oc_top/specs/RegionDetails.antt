@@ -1,5 +1,5 @@
 -- What is found out of regions before they are written.
-use Rattle.std.specs.Prelude.{ℕ, ◌≡◌, ◌++◌, List, [], ◌∷◌, map, get_or, codes, decimal}
+use Rattle.std.specs.Prelude.{ℕ, ℤ, ◌≡◌, ◌++◌, List, [], ◌∷◌, map, get_or, codes, decimal}
 use Rattle.std.specs.Fmt.{signed_decimal}
 use Rattle.oc_io.specs.Lines.{line_of}
 use Rattle.oc_tree.specs.Names.{Text}
@@ -38,10 +38,14 @@ abbrev pub region_fields : TRegion → (function : Text) → Numbers → Text
 region_fields r function n = line_of (codes "region" ∷ decimal r.id ∷ function ∷ span r.first r.last
     ∷ codes "lines" ∷ span n.lines.first n.lines.last ∷ codes "logged" ∷ decimal n.logged ∷ codes "budget" ∷ decimal n.budget ∷ [])
 
+-- the line of a consistent set of a function with this name
+abbrev pub consistent_line : (function : Text) → ℤ → Text
+consistent_line function id = line_of (codes "consistent" ∷ function ∷ signed_decimal id ∷ [])
+
 -- the line of a policy of a function with this name, whose variable has that name
 abbrev pub policy_fields : PolicyKind → (function variable : Text) → Text
 policy_fields (policies.Fresh v) function variable = line_of (codes "fresh" ∷ function ∷ variable ∷ [])
-policy_fields (policies.Consistent id) function variable = line_of (codes "consistent" ∷ function ∷ signed_decimal id ∷ [])
+policy_fields (policies.Consistent id) function variable = consistent_line function id
 
 -- the numbers of the region at a place
 abbrev pub numbers_at : Budgets → Details → ℕ → Numbers

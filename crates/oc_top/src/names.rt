@@ -1,11 +1,11 @@
 //! The names of functions and of their variables.
-ghost use Rattle.std.specs.Prelude.{◌≡◌};
+ghost use Rattle.std.specs.Prelude.{◌≡◌, [], map, get_or};
 ghost use Rattle.std.specs.Option.{option_map};
 ghost use Rattle.oc_tree.specs.View.{block_view, kind_view, program_view};
 ghost use Rattle.oc_top.specs.DeclaredNames.{block_names, kind_names, program_names};
 ghost use Rattle.oc_top.specs.RegionLines.{declared_name, function_name, nv_name, param_name, variable_name};
 
-use oc_tree::tree::{Block, Program, StmtId, StmtKind, VarId};
+use oc_tree::tree::{Block, Param, Program, StmtId, StmtKind, VarId};
 
 /// The name that a statement declares; empty where it declares none.
 fn declared(kind: &StmtKind) -> &[u8]
@@ -95,15 +95,22 @@ pub fn function_name(program: &Program, function: u32) -> &[u8]
     }
 }
 
+/// The name of the parameter at a place.
+fn name_in(params: &[Param], index: u32) -> &[u8]
+    ensures { result.now ≡ get_or (map (λ q. q.name) params.now) index [] }
+{
+    match params.get(index as usize) {
+        Some(param) => param.name.bytes(),
+        None => b"",
+    }
+}
+
 /// The name of the parameter at a place of the function at a place.
 fn param_name(program: &Program, function: u32, index: u32) -> &[u8]
     ensures { result.now ≡ param_name (program_view program.now) function index }
 {
     match program.functions.get(function as usize) {
-        Some(function) => match function.params.get(index as usize) {
-            Some(param) => param.name.bytes(),
-            None => b"",
-        },
+        Some(function) => name_in(&function.params, index),
         None => b"",
     }
 }

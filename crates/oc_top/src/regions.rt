@@ -2,11 +2,10 @@
 ghost use Rattle.std.specs.Prelude.{◌≡◌, ◌≤◌, ◌<◌, length, map, IfOk, OnOk, OnErr};
 ghost use Rattle.oc_io.specs.Faults.{Rose, TookPart};
 ghost use Rattle.oc_tree.specs.Regions.{region_view};
-ghost use Rattle.oc_tree.specs.View.{program_view};
-ghost use Rattle.oc_budget.specs.Budgets.{budgets};
+ghost use Rattle.oc_budget.specs.Budgets.{budgets as budgets_of};
 ghost use Rattle.oc_budget.specs.View.{budgets_view};
-ghost use Rattle.oc_top.specs.RegionDetails.{HasDetails, lines_with, numbers_at, policy_fields, policy_name, range_of, region_fields};
-ghost use Rattle.oc_top.specs.RegionLines.{line_at, reason_line, reason_lines, region_lines, regions_text, total_lines};
+ghost use Rattle.oc_top.specs.RegionDetails.{HasDetails, consistent_line, lines_with, numbers_at, policy_fields, policy_name, range_of, region_fields};
+ghost use Rattle.oc_top.specs.RegionLines.{function_name, line_at, reason_line, reason_lines, region_lines, regions_text, total_lines};
 
 use crate::names::{function_name, variable_name};
 use itoa::Buffer;
@@ -16,7 +15,7 @@ use oc_io::pieces::put_pieces;
 use oc_io::sink::{Sink, SinkFault};
 use oc_tree::marked::{Marked, Policy, PolicyKind, Region};
 use oc_tree::name::Name;
-use oc_tree::tree::{Program, StmtId};
+use oc_tree::tree::StmtId;
 use std::alloc::{AllocError, Global};
 
 /// The lines of the source in which a region begins and ends.
@@ -74,25 +73,40 @@ fn lines_of_regions(alloc: Global, marked: &Marked) -> Result<Vec<LineRange>, Al
     Ok(lines)
 }
 
+/// The name of the function at a place.
+fn function_of(marked: &Marked, function: u32) -> &[u8]
+    ensures { result.now ≡ function_name marked.now.program function }
+{
+    function_name(marked.checked().program(), function)
+}
+
 /// The name of a policy's variable; empty for a consistent set.
-fn policy_name(program: &Program, policy: Policy) -> &[u8]
-    ensures { result.now ≡ policy_name (program_view program.now) policy }
+fn policy_name(marked: &Marked, policy: Policy) -> &[u8]
+    ensures { result.now ≡ policy_name marked.now.program policy }
 {
     match policy.kind {
-        PolicyKind::Fresh { var } => variable_name(program, policy.function, var),
+        PolicyKind::Fresh { var } => {
+            variable_name(marked.checked().program(), policy.function, var)
+        }
         PolicyKind::Consistent { .. } => b"",
     }
+}
+
+/// The same as a name of its own.
+fn named(alloc: Global, marked: &Marked, policy: Policy) -> Result<Name, AllocError>
+    ensures { IfOk result (λ n. n ≡ policy_name marked.now.program policy) }
+{
+    let bytes = Vec::from_slice(alloc, policy_name(marked, policy))?;
+    Ok(Name::new(bytes))
 }
 
 /// The name of each policy's variable.
 fn names_of_policies(alloc: Global, marked: &Marked) -> Result<Vec<Name>, AllocError>
     ensures { IfOk result (λ v. v.items ≡ map (policy_name marked.now.program) marked.now.policies) }
 {
-    let program = marked.checked().program();
     let mut names = Vec::new(alloc);
     for policy in marked.policies() {
-        let name = Vec::from_slice(alloc, policy_name(program, *policy))?;
-        names.push(Name::new(name))?;
+        names.push(named(alloc, marked, *policy)?)?;
     }
     Ok(names)
 }
@@ -149,6 +163,20 @@ fn put_region<O: Sink>(
     )
 }
 
+/// Writes the line of the consistent set of a number, of a function with this name.
+fn put_consistent<O: Sink>(function: &[u8], id: i32, sink: &mut O) -> Result<(), SinkFault>
+    ensures ok { OnOk result (O.took sink.old (consistent_line function.now id) sink.new) }
+    ensures part { OnErr result (TookPart O.took sink.old (consistent_line function.now id) sink.new) }
+    ensures cause { OnErr result (Rose (O.faults sink.old) (O.faults sink.new)) }
+    ensures count { O.faults sink.old ≤ O.faults sink.new }
+{
+    let mut number = Buffer::new();
+    put_pieces(
+        sink,
+        &[b"consistent ", function, b" ", number.format(id).as_bytes(), b"\n"],
+    )
+}
+
 /// Writes the line of a policy of a function with this name, whose variable has that name.
 fn put_policy<O: Sink>(
     kind: PolicyKind,
@@ -165,11 +193,7 @@ fn put_policy<O: Sink>(
         PolicyKind::Fresh { .. } => {
             put_pieces(sink, &[b"fresh ", function, b" ", variable, b"\n"])
         }
-        PolicyKind::Consistent { id } => {
-            let mut number = Buffer::new();
-            let id = number.format(id).as_bytes();
-            put_pieces(sink, &[b"consistent ", function, b" ", id, b"\n"])
-        }
+        PolicyKind::Consistent { id } => put_consistent(function, id, sink),
     }
 }
 
@@ -189,7 +213,7 @@ fn put_reason<O: Sink>(
     let place = reason as usize;
     match (marked.policies().get(place), details.names.get(place)) {
         (Some(policy), Some(name)) => {
-            let function = function_name(marked.checked().program(), policy.function);
+            let function = function_of(marked, policy.function);
             put_policy(policy.kind, function, name.bytes(), sink)
         }
         _ => Ok(()),
@@ -245,7 +269,7 @@ fn put_lines<O: Sink>(
     ensures cause { OnErr result (Rose (O.faults sink.old) (O.faults sink.new)) }
     ensures count { O.faults sink.old ≤ O.faults sink.new }
 {
-    let function = function_name(marked.checked().program(), region.function);
+    let function = function_of(marked, region.function);
     if let Err(fault) = put_region(region, function, numbers, sink) {
         return Err(fault);
     }
@@ -259,7 +283,7 @@ fn put_all<O: Sink>(
     details: &Details,
     sink: &mut O,
 ) -> Result<(), SinkFault>
-    requires budgets { budgets_view budgets.now ≡ budgets marked.now }
+    requires budgets { budgets_view budgets.now ≡ budgets_of marked.now }
     requires details { HasDetails marked.now details.now }
     ensures ok { OnOk result (O.took sink.old (region_lines marked.now (budgets_view budgets.now) 0 marked.now.regions) sink.new) }
     ensures part { OnErr result (TookPart O.took sink.old (region_lines marked.now (budgets_view budgets.now) 0 marked.now.regions) sink.new) }
@@ -298,10 +322,10 @@ pub fn put_regions<O: Sink>(
     details: &Details,
     sink: &mut O,
 ) -> Result<(), SinkFault>
-    requires budgets { budgets_view budgets.now ≡ budgets marked.now }
+    requires budgets { budgets_view budgets.now ≡ budgets_of marked.now }
     requires details { HasDetails marked.now details.now }
-    ensures ok { OnOk result (O.took sink.old (regions_text marked.now (budgets marked.now)) sink.new) }
-    ensures part { OnErr result (TookPart O.took sink.old (regions_text marked.now (budgets marked.now)) sink.new) }
+    ensures ok { OnOk result (O.took sink.old (regions_text marked.now (budgets_of marked.now)) sink.new) }
+    ensures part { OnErr result (TookPart O.took sink.old (regions_text marked.now (budgets_of marked.now)) sink.new) }
     ensures cause { OnErr result (Rose (O.faults sink.old) (O.faults sink.new)) }
     ensures count { O.faults sink.old ≤ O.faults sink.new }
 {

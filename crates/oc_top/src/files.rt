@@ -79,5 +79,6 @@ pub fn fetch_source<F: Shelf>(
     ensures source { IfOk result (λ v. IsFile (F.holds shelf.old (word_at (map string_bytes words.now) first)) (limit_at 0) v.items) }
     ensures refused { IfErr result (λ a. NotFetched (F.holds shelf.old) (map string_bytes words.now) first 1 (Rose (F.faults shelf.old) (F.faults shelf.new)) a) }
 {
-    fetch_word(alloc, words, first, SOURCE_LIMIT, shelf)
+    let source = fetch_word(alloc, words, first, SOURCE_LIMIT, shelf)?;
+    Ok(source)
 }

@@ -59,20 +59,20 @@ fn run_with<F: Shelf, O: Sink>(
     run(alloc, words, first, shelf, out, &mut *supply)
 }
 
-/// Runs the files whose words begin at a place, with the first supply that has a number.
+/// Runs the files whose words begin at a place, with the first supply that has this number.
 fn run_by<F: Shelf, O: Sink>(
     alloc: Global,
     words: &[String],
-    number: u8,
+    supply: u8,
     first: usize,
     shelf: &mut F,
     out: &mut O,
     supplies: Vec<Box<dyn Supply>>,
 ) -> Answer
-    requires { command_of (map string_bytes words.now) ≡ Some (commands.Run number first) }
+    requires { command_of (map string_bytes words.now) ≡ Some (commands.Run supply first) }
     ensures { Comes (F.holds shelf.old) (plans_of (λ b. number b) (λ b. plan b) supplies.items) (map string_bytes words.now) (Rose (F.faults shelf.old) (F.faults shelf.new)) O.took O.faults out.old out.new result }
 {
-    match choose(supplies, number) {
+    match choose(supplies, supply) {
         Some(supply) => run_with(alloc, words, first, shelf, out, supply),
         None => Answer::Usage,
     }

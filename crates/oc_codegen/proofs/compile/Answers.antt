@@ -8,4 +8,4 @@ pub returns-clause-right : goal.returns-clause-right
 returns-clause-right c =
     let m = c.args.marked.now in
     let enough : length m.regions ≤ length (may_write m) = omega (arith, length-map m.regions (region_targets m.program)) in
-    marked_right m (may_write m) c.checked.ensures.marked enough
+    marked_right m (may_write m) c.checked-checked.ensures.marked enough

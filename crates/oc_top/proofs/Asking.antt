@@ -73,14 +73,14 @@ module _ {S : Type 0} (holds : List ℕ → Held) (words : List (List ℕ)) (fir
   pub regions_outcome : IsPrinted source regions_of took faults old new end → Outcome holds words (record { first = first; wanted = regions }) unread took faults old new end
   regions_outcome (not_built n t) = elim (refused_by source regions_of end n) [
     | inl e ↦ no_memory e t
-    | inr f ↦ refused (source_alone source) fetched f.0 (record { reading = f.1.0; reads = f.1.1.0; is_verdict = f.1.1.1 }) t
+    | inr f ↦ refused (source_alone source) fetched f.0 (record { reading = f.1.0; reads = f.1.1; is_verdict = f.1.2 }) t
   ]
   regions_outcome (put p reads w) = ran (source_alone source) fetched (prints (regions_of p)) (record { written = p; spelled = reads; is_text = refl }) w
 
   pub listing_outcome : IsPrinted source listing_of took faults old new end → Outcome holds words (record { first = first; wanted = listing }) unread took faults old new end
   listing_outcome (not_built n t) = elim (refused_by source listing_of end n) [
     | inl e ↦ no_memory e t
-    | inr f ↦ refused (source_alone source) fetched f.0 (record { reading = f.1.0; reads = f.1.1.0; is_verdict = f.1.1.1 }) t
+    | inr f ↦ refused (source_alone source) fetched f.0 (record { reading = f.1.0; reads = f.1.1; is_verdict = f.1.2 }) t
   ]
   listing_outcome (put p reads w) = ran (source_alone source) fetched (prints (listing_of p)) (record { written = p; spelled = reads; is_text = refl }) w
 

@@ -173,7 +173,13 @@ fn put_consistent<O: Sink>(function: &[u8], id: i32, sink: &mut O) -> Result<(),
     let mut number = Buffer::new();
     put_pieces(
         sink,
-        &[b"consistent ", function, b" ", number.format(id).as_bytes(), b"\n"],
+        &[
+            b"consistent ",
+            function,
+            b" ",
+            number.format(id).as_bytes(),
+            b"\n",
+        ],
     )
 }
 

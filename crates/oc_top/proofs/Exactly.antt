@@ -18,15 +18,16 @@ use Rattle.oc_isa.specs.Power.{first_world, power_run}
 use Rattle.oc_isa.specs.Table.{device_of}
 use Rattle.oc_outage.specs.Honest.{loses_checkpoint}
 use Rattle.oc_top.specs.Meant.{program_code}
-use Rattle.oc_top.specs.Commands.{Plan, Plans, Task, task_of, word_at}
-use Rattle.oc_top.specs.Files.{Files, limit_at, IsFile, AreFiles, IsHeld, AreHeld, AreHeldBefore, IsRefused, NotFetched}
+use Rattle.oc_top.specs.Commands.{Plan, Plans, Wanted, report, regions, listing, files_of, Task, task_of, word_at}
+use Rattle.oc_top.specs.Files.{Files, limit_at, IsFile, AreFiles, AreWanted, IsHeld, AreAllHeld, AreHeld, AreHeldBefore, IsRefused, NotFetched}
 use Rattle.oc_top.specs.Sources.{Reading, faulty, program, ReadsAs}
 use Rattle.oc_top.specs.Sources as source
 use Rattle.oc_top.proofs.OneReading.{one_reading}
 use Rattle.oc_top.specs.Reports.{answer_by, answer_of, last_said}
-use Rattle.oc_top.specs.Verdict.{Verdict, verdict, is_of_run, refuses, with_sensors, with_power}
+use Rattle.oc_tree.specs.Tree.{TProgram}
+use Rattle.oc_top.specs.Verdict.{Verdict, verdict, verdict_on, printed, is_of_run, refuses, with_sensors, with_power, regions_of, listing_of}
 use Rattle.oc_top.specs.Headline.{IsRun}
-use Rattle.oc_top.specs.Answers.{status_of, is_written, IsJudged, IsWritten, whole, in_part, Outcome, not_fetched, no_memory, refused, ran, Comes, no_command, for_task}
+use Rattle.oc_top.specs.Answers.{status_of, is_written, IsJudged, IsPrint, IsDone, IsWritten, whole, in_part, Outcome, not_fetched, no_memory, refused, ran, Comes, no_command, for_task}
 use Rattle.oc_top.specs.declared.answer.Answer.{Answer}
 use Rattle.oc_top.specs.declared.answer.Answer.TheVariants as answer
 
@@ -54,6 +55,17 @@ module _ (files : Files) (plan : Plan) (run : Verdict) (r : IsRun files plan run
       ∙ ap (λ (p : Power). with_power (program_code r.written) r.rows p plan) r.powered
       ∙ sym r.is_run
 
+-- what is done is the verdict on the program that the source spells, and its answer is no refusal
+done_answer : (files : Files) (wanted : Wanted) (run : Verdict) → IsDone files wanted run → is_of_run run.answer ≡ true
+done_answer files (report plan) run d = run_answer files plan run d
+done_answer files regions run d = ap (λ (v : Verdict). is_of_run v.answer) d.is_text
+done_answer files listing run d = ap (λ (v : Verdict). is_of_run v.answer) d.is_text
+
+done_judged : (files : Files) (wanted : Wanted) (run : Verdict) → IsDone files wanted run → IsJudged files wanted run
+done_judged files (report plan) run d = record { reading = program d.written; reads = d.spelled; is_verdict = run_verdict files plan run d }
+done_judged files regions run d = record { reading = program d.written; reads = d.spelled; is_verdict = sym d.is_text }
+done_judged files listing run d = record { reading = program d.written; reads = d.spelled; is_verdict = sym d.is_text }
+
 -- ---- files that are held
 
 gives_same : (h : Held) (a b : List ℕ) → h ≡ content a → Gives h b → b ≡ a
@@ -67,7 +79,7 @@ not_longer nothing limit bytes e l g = g
 not_longer (content x) limit bytes e l g = let f : x ≡ bytes = cc e in omega (arith, ap length f)
 
 module _ (holds : List ℕ → Held) (words : List (List ℕ)) (first : ℕ) (files : Files) where
-  pub same_files : (other : Files) → AreHeld holds words first files → AreFiles holds words first other → other ≡ files
+  same_files : (other : Files) → AreAllHeld holds words first files → AreFiles holds words first other → other ≡ files
   same_files other h f =
       let a = gives_same _ files.source other.source h.source.told f.source.gives in
       let b = gives_same _ files.sensors other.sensors h.sensors.told f.sensors.gives in
@@ -75,11 +87,34 @@ module _ (holds : List ℕ → Held) (words : List (List ℕ)) (first : ℕ) (fi
       let made : List ℕ → List ℕ → List ℕ → Files = λ x y z. record { source = x; sensors = y; power = z } in
       ap (λ (x : List ℕ). made x other.sensors other.power) a ∙ ap (λ (y : List ℕ). made files.source y other.power) b ∙ ap (λ (z : List ℕ). made files.source files.sensors z) c
 
-  held_at : AreHeld holds words first files → (place : ℕ) → place < 3 → (bytes : List ℕ) × IsHeld (holds (word_at words (first + place))) (limit_at place) bytes
-  held_at h zero l = let e : first ≡ first + 0 = omega arith in (files.source, subst (λ (n : ℕ). IsHeld (holds (word_at words n)) (limit_at 0) files.source) e h.source)
-  held_at h (suc zero) l = (files.sensors, h.sensors)
-  held_at h (suc (suc zero)) l = (files.power, h.power)
-  held_at h (suc (suc (suc k))) l = absurd (omega arith)
+  -- files that were fetched, where these are held, have the same source, and the verdict is the same
+  pub same_source : (wanted : Wanted) (other : Files) → AreHeld holds words first wanted files → AreWanted holds words first wanted other → other.source ≡ files.source
+  same_source (report plan) other h f = gives_same _ files.source other.source h.source.told f.source.gives
+  same_source regions other h f = gives_same _ files.source other.source h.told f.gives
+  same_source listing other h f = gives_same _ files.source other.source h.told f.gives
+
+  pub same_verdict : (wanted : Wanted) (other : Files) (reading : Reading) → AreHeld holds words first wanted files → AreWanted holds words first wanted other → verdict_on reading other wanted ≡ verdict_on reading files wanted
+  same_verdict (report plan) other reading h f = ap (λ (x : Files). verdict reading x plan) (same_files other h f)
+  same_verdict regions other reading h f = refl
+  same_verdict listing other reading h f = refl
+
+  first_held : IsHeld (holds (word_at words first)) (limit_at 0) files.source → (bytes : List ℕ) × IsHeld (holds (word_at words (first + 0))) (limit_at 0) bytes
+  first_held h = let e : first ≡ first + 0 = omega arith in (files.source, subst (λ (n : ℕ). IsHeld (holds (word_at words n)) (limit_at 0) files.source) e h)
+
+  all_held : AreAllHeld holds words first files → (place : ℕ) → place < 3 → (bytes : List ℕ) × IsHeld (holds (word_at words (first + place))) (limit_at place) bytes
+  all_held h zero l = first_held h.source
+  all_held h (suc zero) l = (files.sensors, h.sensors)
+  all_held h (suc (suc zero)) l = (files.power, h.power)
+  all_held h (suc (suc (suc k))) l = absurd (omega arith)
+
+  source_held : IsHeld (holds (word_at words first)) (limit_at 0) files.source → (place : ℕ) → place < 1 → (bytes : List ℕ) × IsHeld (holds (word_at words (first + place))) (limit_at place) bytes
+  source_held h zero l = first_held h
+  source_held h (suc k) l = absurd (omega arith)
+
+  held_at : (wanted : Wanted) → AreHeld holds words first wanted files → (place : ℕ) → place < files_of wanted → (bytes : List ℕ) × IsHeld (holds (word_at words (first + place))) (limit_at place) bytes
+  held_at (report plan) h place l = all_held h place l
+  held_at regions h place l = source_held h place l
+  held_at listing h place l = source_held h place l
 
   by_memory_alone : (held : Held) (limit word : ℕ) (unread : Type 0) (end : Answer) (bytes : List ℕ) → IsHeld held limit bytes → (unread → ⊥) → IsRefused held limit word unread end → end ≡ answer.Memory
   by_memory_alone held limit word unread (answer.Unreadable w) bytes h quiet r = elim r.1 [ inl f ↦ absurd (quiet f) | inr gone ↦ cc (sym h.told ∙ gone) ]
@@ -87,33 +122,32 @@ module _ (holds : List ℕ → Held) (words : List (List ℕ)) (first : ℕ) (fi
   by_memory_alone held limit word unread answer.Memory bytes h quiet r = refl
   by_memory_alone held limit word unread end bytes h quiet r = absurd r
 
-  pub fetched_but_memory : (unread : Type 0) (end : Answer) → AreHeld holds words first files → (unread → ⊥) → NotFetched holds words first unread end → end ≡ answer.Memory
-  fetched_but_memory unread end h quiet n =
-      let held = held_at h n.place n.among in
+  pub fetched_but_memory : (wanted : Wanted) (unread : Type 0) (end : Answer) → AreHeld holds words first wanted files → (unread → ⊥) → NotFetched holds words first (files_of wanted) unread end → end ≡ answer.Memory
+  fetched_but_memory wanted unread end h quiet n =
+      let held = held_at wanted h n.place n.among in
       by_memory_alone _ _ _ unread end held.0 held.1 quiet n.refused
 
 -- ---- exactly
 
 module _ {S : Type 0} (holds : List ℕ → Held) (words : List (List ℕ)) (task : Task) (unread : Type 0) (took : S → List ℕ → S → Type 0) (faults : S → ℕ) (old new : S) (end : Answer) where
-  judged_same : (files other : Files) (reading : Reading) (run : Verdict) → other ≡ files → ReadsAs files.source reading → IsJudged other task.plan run → run.answer ≡ (verdict reading files task.plan).answer
-  judged_same files other reading run e reads j =
-      let j' = subst (λ (f : Files). IsJudged f task.plan run) e j in
-      sym (ap (λ (v : Verdict). v.answer) j'.is_verdict) ∙ ap (λ (r : Reading). (verdict r files task.plan).answer) (one_reading files.source j'.reading reading j'.reads reads)
-
-  run_judged : (files : Files) (run : Verdict) → IsRun files task.plan run → IsJudged files task.plan run
-  run_judged files run r = record { reading = program r.written; reads = r.spelled; is_verdict = run_verdict files task.plan run r }
+  judged_same : (files other : Files) (reading : Reading) (run : Verdict) → AreHeld holds words task.first task.wanted files → AreWanted holds words task.first task.wanted other → ReadsAs files.source reading → IsJudged other task.wanted run → run.answer ≡ (verdict_on reading files task.wanted).answer
+  judged_same files other reading run h f reads j =
+      let read = subst (λ (bytes : List ℕ). ReadsAs bytes j.reading) (same_source holds words task.first files task.wanted other h f) j.reads in
+      sym (ap (λ (v : Verdict). v.answer) j.is_verdict)
+      ∙ ap (λ (r : Reading). (verdict_on r other task.wanted).answer) (one_reading files.source j.reading reading read reads)
+      ∙ ap (λ (v : Verdict). v.answer) (same_verdict holds words task.first files task.wanted other reading h f)
 
   written_answer : (run : Verdict) → (Rose (faults old) (faults new) → ⊥) → IsWritten took faults old new run end → end ≡ run.answer
   written_answer run quiet (whole e t) = e
   written_answer run quiet (in_part e rose p) = absurd (quiet rose)
 
-  pub exactly : (files : Files) (reading : Reading) → AreHeld holds words task.first files → ReadsAs files.source reading → (unread → ⊥) → (Rose (faults old) (faults new) → ⊥)
-      → Outcome holds words task unread took faults old new end → (end ≡ (verdict reading files task.plan).answer) ⊎ (end ≡ answer.Memory)
-  exactly files reading h reads quiet silent (not_fetched n t) = inr (fetched_but_memory holds words task.first files unread end h quiet n)
+  pub exactly : (files : Files) (reading : Reading) → AreHeld holds words task.first task.wanted files → ReadsAs files.source reading → (unread → ⊥) → (Rose (faults old) (faults new) → ⊥)
+      → Outcome holds words task unread took faults old new end → (end ≡ (verdict_on reading files task.wanted).answer) ⊎ (end ≡ answer.Memory)
+  exactly files reading h reads quiet silent (not_fetched n t) = inr (fetched_but_memory holds words task.first files task.wanted unread end h quiet n)
   exactly files reading h reads quiet silent (no_memory e t) = inr e
-  exactly files reading h reads quiet silent (refused other f apart j t) = inl (judged_same files other reading (refuses end) (same_files holds words task.first files other h f) reads j)
+  exactly files reading h reads quiet silent (refused other f apart j t) = inl (judged_same files other reading (refuses end) h f reads j)
   exactly files reading h reads quiet silent (ran other f run r w) =
-      inl (written_answer run silent w ∙ judged_same files other reading run (same_files holds words task.first files other h f) reads (run_judged other run r))
+      inl (written_answer run silent w ∙ judged_same files other reading run h f reads (done_judged other task.wanted run r))
 
 -- ---- commands
 
@@ -162,6 +196,16 @@ no_usage_verdict (faulty line) files plan = refl
 no_usage_verdict (source.breaks b) files plan = refl
 no_usage_verdict (program p) files plan = no_usage_sensors (program_code p) plan (sensor_file (program_code p).names.sensors files.sensors) (power_file files.power)
 
+no_usage_printed : (reading : Reading) (text : TProgram → List ℕ) → is_usage (printed reading text).answer ≡ false
+no_usage_printed (faulty line) text = refl
+no_usage_printed (source.breaks b) text = refl
+no_usage_printed (program p) text = refl
+
+no_usage_judged : (reading : Reading) (files : Files) (wanted : Wanted) → is_usage (verdict_on reading files wanted).answer ≡ false
+no_usage_judged reading files (report plan) = no_usage_verdict reading files plan
+no_usage_judged reading files regions = no_usage_printed reading regions_of
+no_usage_judged reading files listing = no_usage_printed reading listing_of
+
 no_usage_refused : (held : Held) (limit word : ℕ) (unread : Type 0) (end : Answer) → IsRefused held limit word unread end → is_usage end ≡ false
 no_usage_refused held limit word unread answer.Usage r = absurd r
 no_usage_refused held limit word unread end r = refl
@@ -174,8 +218,8 @@ module _ {S : Type 0} (holds : List ℕ → Held) (plans : Plans) (words : List 
   no_usage_outcome : (task : Task) → Outcome holds words task unread took faults old new end → is_usage end ≡ false
   no_usage_outcome task (not_fetched n t) = no_usage_refused _ _ _ unread end n.refused
   no_usage_outcome task (no_memory e t) = ap is_usage e
-  no_usage_outcome task (refused files f apart j t) = sym (ap (λ (v : Verdict). is_usage v.answer) j.is_verdict) ∙ no_usage_verdict j.reading files task.plan
-  no_usage_outcome task (ran files f run r (whole e t)) = ap is_usage e ∙ no_usage_of_run run.answer (run_answer files task.plan run r)
+  no_usage_outcome task (refused files f apart j t) = sym (ap (λ (v : Verdict). is_usage v.answer) j.is_verdict) ∙ no_usage_judged j.reading files task.wanted
+  no_usage_outcome task (ran files f run r (whole e t)) = ap is_usage e ∙ no_usage_of_run run.answer (done_answer files task.wanted run r)
   no_usage_outcome task (ran files f run r (in_part e rose p)) = ap is_usage e
 
   other_status : is_usage end ≡ false → status_of end ≡ 1 → ⊥
@@ -198,11 +242,23 @@ module _ {S : Type 0} (holds : List ℕ → Held) (plans : Plans) (words : List 
 -- ---- files that aren't there, or are too long
 
 module _ {S : Type 0} (holds : List ℕ → Held) (words : List (List ℕ)) (task : Task) (unread : Type 0) (took : S → List ℕ → S → Type 0) (faults : S → ℕ) (old new : S) (end : Answer) where
-  file_at : (files : Files) → AreFiles holds words task.first files → (place : ℕ) → place < 3 → (bytes : List ℕ) × IsFile (holds (word_at words (task.first + place))) (limit_at place) bytes
-  file_at files f zero l = let e : task.first ≡ task.first + 0 = omega arith in (files.source, subst (λ (n : ℕ). IsFile (holds (word_at words n)) (limit_at 0) files.source) e f.source)
-  file_at files f (suc zero) l = (files.sensors, f.sensors)
-  file_at files f (suc (suc zero)) l = (files.power, f.power)
-  file_at files f (suc (suc (suc k))) l = absurd (omega arith)
+  first_file : (files : Files) → IsFile (holds (word_at words task.first)) (limit_at 0) files.source → (bytes : List ℕ) × IsFile (holds (word_at words (task.first + 0))) (limit_at 0) bytes
+  first_file files f = let e : task.first ≡ task.first + 0 = omega arith in (files.source, subst (λ (n : ℕ). IsFile (holds (word_at words n)) (limit_at 0) files.source) e f)
+
+  file_of_run : (files : Files) → AreFiles holds words task.first files → (place : ℕ) → place < 3 → (bytes : List ℕ) × IsFile (holds (word_at words (task.first + place))) (limit_at place) bytes
+  file_of_run files f zero l = first_file files f.source
+  file_of_run files f (suc zero) l = (files.sensors, f.sensors)
+  file_of_run files f (suc (suc zero)) l = (files.power, f.power)
+  file_of_run files f (suc (suc (suc k))) l = absurd (omega arith)
+
+  only_file : (files : Files) → IsFile (holds (word_at words task.first)) (limit_at 0) files.source → (place : ℕ) → place < 1 → (bytes : List ℕ) × IsFile (holds (word_at words (task.first + place))) (limit_at place) bytes
+  only_file files f zero l = first_file files f
+  only_file files f (suc k) l = absurd (omega arith)
+
+  file_of : (wanted : Wanted) (files : Files) → AreWanted holds words task.first wanted files → (place : ℕ) → place < files_of wanted → (bytes : List ℕ) × IsFile (holds (word_at words (task.first + place))) (limit_at place) bytes
+  file_of (report plan) files f place l = file_of_run files f place l
+  file_of regions files f place l = only_file files f place l
+  file_of listing files f place l = only_file files f place l
 
   gives_something : (held : Held) (bytes : List ℕ) → held ≡ nothing → Gives held bytes → ⊥
   gives_something untold bytes e g = cc e
@@ -215,11 +271,11 @@ module _ {S : Type 0} (holds : List ℕ → Held) (words : List (List ℕ)) (tas
   refused_status held limit word answer.Memory r = inr (inr refl)
   refused_status held limit word end r = absurd r
 
-  pub missing : (place : ℕ) → place < 3 → holds (word_at words (task.first + place)) ≡ nothing → Outcome holds words task unread took faults old new end → (status_of end ≡ 2) ⊎ ((status_of end ≡ 3) ⊎ (status_of end ≡ 11))
+  pub missing : (place : ℕ) → place < files_of task.wanted → holds (word_at words (task.first + place)) ≡ nothing → Outcome holds words task unread took faults old new end → (status_of end ≡ 2) ⊎ ((status_of end ≡ 3) ⊎ (status_of end ≡ 11))
   missing place l gone (not_fetched n t) = refused_status _ _ _ end n.refused
   missing place l gone (no_memory e t) = inr (inr (ap status_of e))
-  missing place l gone (refused files f apart j t) = let g = file_at files f place l in absurd (gives_something _ g.0 gone g.1.gives)
-  missing place l gone (ran files f run r w) = let g = file_at files f place l in absurd (gives_something _ g.0 gone g.1.gives)
+  missing place l gone (refused files f apart j t) = let g = file_of task.wanted files f place l in absurd (gives_something _ g.0 gone g.1.gives)
+  missing place l gone (ran files f run r w) = let g = file_of task.wanted files f place l in absurd (gives_something _ g.0 gone g.1.gives)
 
   file_fits : (held : Held) (limit : ℕ) (bytes x : List ℕ) → held ≡ content bytes → limit < length bytes → IsFile held limit x → ⊥
   file_fits held limit bytes x e l f = let same = gives_same held bytes x e f.gives in let within = f.within in omega (arith, ap length same)
@@ -230,7 +286,7 @@ module _ {S : Type 0} (holds : List ℕ → Held) (words : List (List ℕ)) (tas
   long_here held limit word bytes answer.Memory e quiet r = inr refl
   long_here held limit word bytes end e quiet r = absurd r
 
-  long_fetch : (n : NotFetched holds words task.first unread end) (place : ℕ) (bytes : List ℕ) → AreHeldBefore holds words task.first place → holds (word_at words (task.first + place)) ≡ content bytes → limit_at place < length bytes → (unread → ⊥)
+  long_fetch : (n : NotFetched holds words task.first (files_of task.wanted) unread end) (place : ℕ) (bytes : List ℕ) → AreHeldBefore holds words task.first place → holds (word_at words (task.first + place)) ≡ content bytes → limit_at place < length bytes → (unread → ⊥)
       → (n.place ≡ place) ⊎ ((n.place < place) ⊎ (place < n.place)) → (status_of end ≡ 3) ⊎ (status_of end ≡ 11)
   long_fetch n place bytes before e l quiet (inr (inl earlier)) =
       let held = before n.place earlier in
@@ -239,12 +295,12 @@ module _ {S : Type 0} (holds : List ℕ → Held) (words : List (List ℕ)) (tas
       long_here _ _ _ bytes end (ap (λ (k : ℕ). holds (word_at words (task.first + k))) here ∙ e) quiet n.refused
   long_fetch n place bytes before e l quiet (inr (inr later)) = let f = n.before place later in absurd (file_fits _ _ bytes f.0 e l f.1)
 
-  pub long : (place : ℕ) → place < 3 → (bytes : List ℕ) → AreHeldBefore holds words task.first place → holds (word_at words (task.first + place)) ≡ content bytes → limit_at place < length bytes → (unread → ⊥)
+  pub long : (place : ℕ) → place < files_of task.wanted → (bytes : List ℕ) → AreHeldBefore holds words task.first place → holds (word_at words (task.first + place)) ≡ content bytes → limit_at place < length bytes → (unread → ⊥)
       → Outcome holds words task unread took faults old new end → (status_of end ≡ 3) ⊎ (status_of end ≡ 11)
   long place among bytes before e l quiet (not_fetched n t) = long_fetch n place bytes before e l quiet (cases_order n.place place)
   long place among bytes before e l quiet (no_memory i t) = inr (ap status_of i)
-  long place among bytes before e l quiet (refused files f apart j t) = let g = file_at files f place among in absurd (file_fits _ _ bytes g.0 e l g.1)
-  long place among bytes before e l quiet (ran files f run r w) = let g = file_at files f place among in absurd (file_fits _ _ bytes g.0 e l g.1)
+  long place among bytes before e l quiet (refused files f apart j t) = let g = file_of task.wanted files f place among in absurd (file_fits _ _ bytes g.0 e l g.1)
+  long place among bytes before e l quiet (ran files f run r w) = let g = file_of task.wanted files f place among in absurd (file_fits _ _ bytes g.0 e l g.1)
 
   -- ---- what is written
 
@@ -263,7 +319,7 @@ module _ {S : Type 0} (holds : List ℕ → Held) (words : List (List ℕ)) (tas
   quiet_outcome e (not_fetched n t) = t
   quiet_outcome e (no_memory i t) = t
   quiet_outcome e (refused files f apart j t) = t
-  quiet_outcome e (ran files f run r w) = cc (sym (written_status run (run_answer files task.plan run r) w) ∙ e)
+  quiet_outcome e (ran files f run r w) = cc (sym (written_status run (done_answer files task.wanted run r) w) ∙ e)
 
 pub quiet : {S : Type 0} (holds : List ℕ → Held) (plans : Plans) (words : List (List ℕ)) (unread : Type 0) (took : S → List ℕ → S → Type 0) (faults : S → ℕ) (old new : S) (end : Answer)
     → Comes holds plans words unread took faults old new end → is_written (status_of end) ≡ false → took old [] new

@@ -24,7 +24,7 @@ module _ (holds : List ℕ → Held) (words : List (List ℕ)) (first : ℕ) whe
   more_faults held limit word few more end up r = absurd r
 
   pub second_refused : (few more : Type 0) (a : List ℕ) (end : Answer) → (few → more) → IsFile (holds (word_at words first)) (limit_at 0) a
-      → IsRefused (holds (word_at words (first + 1))) (limit_at 1) (first + 1) few end → NotFetched holds words first more end
+      → IsRefused (holds (word_at words (first + 1))) (limit_at 1) (first + 1) few end → NotFetched holds words first 3 more end
   second_refused few more a end up f r = record {
     place = 1;
     among = omega arith;
@@ -33,7 +33,7 @@ module _ (holds : List ℕ → Held) (words : List (List ℕ)) (first : ℕ) whe
   }
 
   pub third_refused : (few more : Type 0) (a b : List ℕ) (end : Answer) → (few → more) → IsFile (holds (word_at words first)) (limit_at 0) a → IsFile (holds (word_at words (first + 1))) (limit_at 1) b
-      → IsRefused (holds (word_at words (first + 2))) (limit_at 2) (first + 2) few end → NotFetched holds words first more end
+      → IsRefused (holds (word_at words (first + 2))) (limit_at 2) (first + 2) few end → NotFetched holds words first 3 more end
   third_refused few more a b end up f g r = record {
     place = 2;
     among = omega arith;

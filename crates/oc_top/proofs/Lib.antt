@@ -12,3 +12,6 @@ pub mod Asking
 pub mod Parsing
 pub mod OneReading
 pub mod Exactly
+pub mod Naming
+pub mod Showing
+pub mod Printing

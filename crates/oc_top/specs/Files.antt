@@ -1,12 +1,12 @@
--- The three files of a run: its source, its sensors and its power.
+-- The files that are read: a source and, for a run, its sensors and its power.
 use Rattle.std.specs.Prelude.{ℕ, zero, suc, ◌+◌, ◌<◌, ◌≤◌, ◌≡◌, ◌⊎◌, List, length}
 use Rattle.oc_io.specs.Held.{Held, nothing, content, Gives, Longer}
-use Rattle.oc_top.specs.Commands.{word_at}
+use Rattle.oc_top.specs.Commands.{Wanted, report, word_at}
 use Rattle.oc_top.specs.declared.files.Fetched.{Fetched}
 use Rattle.oc_top.specs.declared.answer.Answer.{Answer}
 use Rattle.oc_top.specs.declared.answer.Answer.TheVariants as answer
 
--- the bytes of the three files
+-- the bytes of the files; of a source alone the others don't matter
 pub record Files : Type 0 where
   pub source : List ℕ
   pub sensors : List ℕ
@@ -25,42 +25,54 @@ pub record IsFile (held : Held) (limit : ℕ) (bytes : List ℕ) : Type 0 where
   pub gives : Gives held bytes
   pub within : length bytes ≤ limit
 
--- these are the files whose words begin at a place
+-- these are the three files of a run, whose words begin at a place
 pub record AreFiles (holds : List ℕ → Held) (words : List (List ℕ)) (first : ℕ) (files : Files) : Type 0 where
   pub source : IsFile (holds (word_at words first)) (limit_at 0) files.source
   pub sensors : IsFile (holds (word_at words (first + 1))) (limit_at 1) files.sensors
   pub power : IsFile (holds (word_at words (first + 2))) (limit_at 2) files.power
+
+-- these are the files of what is wanted
+abbrev pub AreWanted : (List ℕ → Held) → List (List ℕ) → ℕ → Wanted → Files → Type 0
+AreWanted holds words first (report plan) files = AreFiles holds words first files
+AreWanted holds words first wanted files = IsFile (holds (word_at words first)) (limit_at 0) files.source
 
 -- a shelf that tells what it holds has just these bytes under a name, no more than the limit
 pub record IsHeld (held : Held) (limit : ℕ) (bytes : List ℕ) : Type 0 where
   pub told : held ≡ content bytes
   pub within : length bytes ≤ limit
 
-pub record AreHeld (holds : List ℕ → Held) (words : List (List ℕ)) (first : ℕ) (files : Files) : Type 0 where
+-- it holds these three files of a run
+pub record AreAllHeld (holds : List ℕ → Held) (words : List (List ℕ)) (first : ℕ) (files : Files) : Type 0 where
   pub source : IsHeld (holds (word_at words first)) (limit_at 0) files.source
   pub sensors : IsHeld (holds (word_at words (first + 1))) (limit_at 1) files.sensors
   pub power : IsHeld (holds (word_at words (first + 2))) (limit_at 2) files.power
 
--- the shelf has the files before this one, of the three, each no more than its limit
+-- it holds these files of what is wanted
+abbrev pub AreHeld : (List ℕ → Held) → List (List ℕ) → ℕ → Wanted → Files → Type 0
+AreHeld holds words first (report plan) files = AreAllHeld holds words first files
+AreHeld holds words first wanted files = IsHeld (holds (word_at words first)) (limit_at 0) files.source
+
+-- the shelf has the files before this one, each no more than its limit
 abbrev pub AreHeldBefore : (List ℕ → Held) → List (List ℕ) → ℕ → ℕ → Type 0
 AreHeldBefore holds words first place =
     (k : ℕ) → k < place → (bytes : List ℕ) × IsHeld (holds (word_at words (first + k))) (limit_at k) bytes
 
--- the files before this one, of the three, were fetched
+-- the files before this one were fetched
 abbrev pub WereFetched : (List ℕ → Held) → List (List ℕ) → ℕ → ℕ → Type 0
 WereFetched holds words first place =
     (k : ℕ) → k < place → (bytes : List ℕ) × IsFile (holds (word_at words (first + k))) (limit_at k) bytes
 
--- why the file at a place among the three wasn't fetched: the shelf's faults rose, or it tells that nothing is there;
--- or the file is longer than its limit; or there was no memory
+-- why the file at a place wasn't fetched: the shelf's faults rose, or it tells that nothing is there; or the file is longer
+-- than its limit; or there was no memory
 abbrev pub IsRefused : Held → ℕ → ℕ → Type 0 → Answer → Type 0
 IsRefused held limit word unread (answer.Unreadable w) = (w ≡ word) × (unread ⊎ (held ≡ nothing))
 IsRefused held limit word unread (answer.TooLong w) = (w ≡ word) × Longer held limit
 IsRefused held limit word unread answer.Memory = Unit {0}
 IsRefused held limit word unread end = ⊥
 
-pub record NotFetched (holds : List ℕ → Held) (words : List (List ℕ)) (first : ℕ) (unread : Type 0) (end : Answer) : Type 0 where
+-- one of so many files, the first of which has its word at this place, wasn't fetched
+pub record NotFetched (holds : List ℕ → Held) (words : List (List ℕ)) (first count : ℕ) (unread : Type 0) (end : Answer) : Type 0 where
   pub place : ℕ
-  pub among : place < 3
+  pub among : place < count
   pub before : WereFetched holds words first place
   pub refused : IsRefused (holds (word_at words (first + place))) (limit_at place) (first + place) unread end

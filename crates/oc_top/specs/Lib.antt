@@ -8,3 +8,7 @@ pub mod Verdict
 pub mod Headline
 pub mod Answers
 pub mod Steps
+pub mod RegionLines
+pub mod DeclaredNames
+pub mod RegionDetails
+pub mod Printed

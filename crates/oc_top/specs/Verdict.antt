@@ -1,4 +1,4 @@
--- What a run answers and writes, by what its files say.
+-- What commands answer and write, by what their files say.
 use Rattle.std.specs.Prelude.{ℕ, Bool, true, false, List, []}
 use Rattle.oc_io.specs.declared.period.Period.{Period}
 use Rattle.oc_power.specs.Power.{Power, power_file}
@@ -10,8 +10,12 @@ use Rattle.oc_sensors.specs.History.{history}
 use Rattle.oc_isa.specs.Image.{Parts}
 use Rattle.oc_isa.specs.Power.{power_run}
 use Rattle.oc_isa.specs.Table.{device_of}
-use Rattle.oc_top.specs.Meant.{program_code}
-use Rattle.oc_top.specs.Commands.{Plan}
+use Rattle.oc_isa.specs.Listing.{listing_text}
+use Rattle.oc_tree.specs.Tree.{TProgram}
+use Rattle.oc_budget.specs.Budgets.{budgets}
+use Rattle.oc_top.specs.Meant.{program_marked, program_code}
+use Rattle.oc_top.specs.RegionLines.{regions_text}
+use Rattle.oc_top.specs.Commands.{Plan, Wanted, report, regions, listing}
 use Rattle.oc_top.specs.Files.{Files}
 use Rattle.oc_top.specs.Sources.{Reading, faulty, program}
 use Rattle.oc_top.specs.Sources as source
@@ -24,7 +28,7 @@ pub record Verdict : Type 0 where
   pub answer : Answer
   pub text : List ℕ
 
--- the answer to a run, and not to files that are refused
+-- the answer to a run or to a text that was written, and not to files that are refused
 abbrev pub is_of_run : Answer → Bool
 is_of_run answer.End = true
 is_of_run answer.Trapped = true
@@ -59,3 +63,28 @@ abbrev pub verdict : Reading → Files → Plan → Verdict
 verdict (faulty line) files plan = refuses (answer.Syntax line)
 verdict (source.breaks b) files plan = refuses (answer.Rule b.line b.rule)
 verdict (program p) files plan = with_parts (program_code p) files plan
+
+-- ---- texts of programs
+
+-- the regions of a program, with their budgets
+abbrev pub regions_of : TProgram → List ℕ
+regions_of p = regions_text (program_marked p) (budgets (program_marked p))
+
+-- the listing of its image
+abbrev pub listing_of : TProgram → List ℕ
+listing_of p = listing_text (program_code p)
+
+abbrev pub prints : List ℕ → Verdict
+prints text = record { answer = answer.End; text = text }
+
+-- the verdict on a source that reads so, where this text of its program is wanted
+abbrev pub printed : Reading → (TProgram → List ℕ) → Verdict
+printed (faulty line) text = refuses (answer.Syntax line)
+printed (source.breaks b) text = refuses (answer.Rule b.line b.rule)
+printed (program p) text = prints (text p)
+
+-- the verdict on what is wanted
+abbrev pub verdict_on : Reading → Files → Wanted → Verdict
+verdict_on reading files (report plan) = verdict reading files plan
+verdict_on reading files regions = printed reading regions_of
+verdict_on reading files listing = printed reading listing_of

@@ -10,6 +10,7 @@ use itoa::Buffer;
 use oc_io::Memory;
 use oc_io::pieces::put_pieces;
 use oc_io::sink::{Sink, SinkFault};
+use std::alloc::AllocError;
 
 /// How a call ends. A file is told by the place of its word, lines and rows count from 1.
 #[derive(Clone, Copy, Debug, PartialEq, Eq)]
@@ -46,6 +47,14 @@ impl From<Memory> for Answer {
     ghost from_gives = { λ _ a. a ≡ answers.Memory };
 
     fn from(_: Memory) -> Answer {
+        Answer::Memory
+    }
+}
+
+impl From<AllocError> for Answer {
+    ghost from_gives = { λ _ a. a ≡ answers.Memory };
+
+    fn from(_: AllocError) -> Answer {
         Answer::Memory
     }
 }

@@ -1,9 +1,9 @@
-//! Fetching the files of a run.
+//! Fetching files.
 ghost use Rattle.std.specs.Prelude.{◌≡◌, ℕ, ◌+◌, ◌<◌, ◌≤◌, List, length, map, IfOk, IfErr};
 ghost use Rattle.std.specs.String.{string_bytes};
 ghost use Rattle.oc_io.specs.Faults.{Rose};
 ghost use Rattle.oc_top.specs.Commands.{word_at};
-ghost use Rattle.oc_top.specs.Files.{AreFiles, IsFile, IsRefused, NotFetched, bytes_of};
+ghost use Rattle.oc_top.specs.Files.{AreFiles, IsFile, IsRefused, NotFetched, bytes_of, limit_at};
 
 use crate::answer::Answer;
 use oc_io::shelf::{Shelf, ShelfError};
@@ -56,7 +56,7 @@ pub fn fetch_files<F: Shelf>(
 ) -> Result<Fetched, Answer>
     requires { first + 2 < length words.now }
     ensures files { IfOk result (λ f. AreFiles (F.holds shelf.old) (map string_bytes words.now) first (bytes_of f)) }
-    ensures refused { IfErr result (λ a. NotFetched (F.holds shelf.old) (map string_bytes words.now) first (Rose (F.faults shelf.old) (F.faults shelf.new)) a) }
+    ensures refused { IfErr result (λ a. NotFetched (F.holds shelf.old) (map string_bytes words.now) first 3 (Rose (F.faults shelf.old) (F.faults shelf.new)) a) }
 {
     let source = fetch_word(alloc, words, first, SOURCE_LIMIT, shelf)?;
     let sensors = fetch_word(alloc, words, first + 1, ROWS_LIMIT, shelf)?;
@@ -66,4 +66,19 @@ pub fn fetch_files<F: Shelf>(
         sensors,
         power,
     })
+}
+
+/// The source under the word at a place.
+pub fn fetch_source<F: Shelf>(
+    alloc: Global,
+    words: &[String],
+    first: usize,
+    shelf: &mut F,
+) -> Result<Vec<u8>, Answer>
+    requires { first < length words.now }
+    ensures source { IfOk result (λ v. IsFile (F.holds shelf.old (word_at (map string_bytes words.now) first)) (limit_at 0) v.items) }
+    ensures refused { IfErr result (λ a. NotFetched (F.holds shelf.old) (map string_bytes words.now) first 1 (Rose (F.faults shelf.old) (F.faults shelf.new)) a) }
+{
+    let source = fetch_word(alloc, words, first, SOURCE_LIMIT, shelf)?;
+    Ok(source)
 }

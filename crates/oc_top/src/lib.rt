@@ -2,15 +2,19 @@
 //!
 //! [`top::ocelot`] does what a line of words asks for and answers its status. [`command`] reads the
 //! words, [`files`] fetches, [`build`] goes from a source to its marked program and its image,
-//! [`prepare`] has the steps before the first byte is written, [`report`] writes, and [`answer`] has
-//! the answers with their lines.
+//! [`prepare`] has the steps before the first byte of a report is written, and [`report`] writes it.
+//! [`print`] writes the other texts of a program, [`regions`] that of its regions with the help of
+//! [`names`], and [`answer`] has the answers with their lines.
 #![tactic(auto)]
 
 pub mod answer;
 pub mod build;
 pub mod command;
 pub mod files;
+mod names;
 pub mod prepare;
+pub mod print;
+pub mod regions;
 pub mod report;
 #[cfg(test)]
 mod tests;

@@ -45,7 +45,7 @@ impl From<PowerError> for Answer {
 }
 
 /// The image of the program that a source spells.
-fn build(alloc: Global, source: &[u8]) -> Result<Image, Answer>
+pub fn build(alloc: Global, source: &[u8]) -> Result<Image, Answer>
     requires { length source.now ≤ 1048576 }
     ensures built { IfOk result (λ i. IsBuilt source.now i) }
     ensures refused { IfErr result (λ a. IsNotBuilt source.now a) }

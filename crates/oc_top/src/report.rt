@@ -36,7 +36,7 @@ fn put_nvs<O: Sink>(image: &RawImage, words: &[i32], out: &mut O) -> Result<(), 
 }
 
 /// Flushes at the end of a text. The answer stays, unless that fails.
-fn flushed<O: Sink>(answer: Answer, out: &mut O) -> Answer
+pub fn flushed<O: Sink>(answer: Answer, out: &mut O) -> Answer
     ensures nothing { O.took out.old [] out.new }
     ensures stays { (result ≡ answer) ⊎ ((result ≡ Answer.WriteFault) × Rose (O.faults out.old) (O.faults out.new)) }
     ensures count { O.faults out.old ≤ O.faults out.new }

@@ -1,9 +1,9 @@
-use Rattle.std.proofs.Common.{refl}
-use Rattle.oc_top.proofs.Asking.{by_box, by_none}
+use Rattle.std.proofs.Common.{ap, ◌∙◌, Some}
+use Rattle.oc_top.proofs.Asking.{by_regions, by_build}
 use Rattle.oc_top.proofs.top.obey.Goals as goal
 
-pub returns-in-Some : goal.returns-in-Some
-returns-in-Some g c = by_box _ _ _ _ _ _ _ g.O.Sink.took g.O.Sink.faults _ _ _ c.requires c.in-Some.supply c.in-Some.ensures c.run_with.ensures
+pub returns-in-Regions : goal.returns-in-Regions
+returns-in-Regions g c = by_regions _ _ _ _ _ _ g.O.Sink.took g.O.Sink.faults _ _ _ _ (c.requires ∙ ap Some c.in-Regions.is) c.regions.ensures
 
-pub returns-in-None : goal.returns-in-None
-returns-in-None g c = by_none _ _ _ _ _ _ _ g.O.Sink.took g.O.Sink.faults _ _ _ c.requires c.in-None.ensures refl (g.met.O.Sink.took_nothing _)
+pub returns-in-Build : goal.returns-in-Build
+returns-in-Build g c = by_build _ _ _ _ _ _ g.O.Sink.took g.O.Sink.faults _ _ _ _ (c.requires ∙ ap Some c.in-Build.is) c.build.ensures

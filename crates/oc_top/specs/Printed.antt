@@ -1,0 +1,24 @@
+-- How a text of a source's program comes to be written.
+use Rattle.std.specs.Prelude.{ℕ, ◌≡◌, List, []}
+use Rattle.oc_tree.specs.Tree.{TProgram}
+use Rattle.oc_budget.specs.Budgets.{budgets}
+use Rattle.oc_budget.specs.View.{budgets_view}
+use Rattle.oc_top.specs.Sources.{ReadsAs, program}
+use Rattle.oc_top.specs.Verdict.{prints}
+use Rattle.oc_top.specs.Steps.{IsMarkedOf, IsNotBuilt}
+use Rattle.oc_top.specs.RegionDetails.{HasDetails}
+use Rattle.oc_top.specs.Answers.{IsWritten}
+use Rattle.oc_top.specs.declared.print.Told.{Told}
+use Rattle.oc_top.specs.declared.answer.Answer.{Answer}
+
+-- the regions of the program that a source spells, with all that is written of them
+pub record Tells (source : List ℕ) (t : Told) : Type 0 where
+  pub marked : IsMarkedOf source t.marked
+  pub budgets : budgets_view t.budgets ≡ budgets t.marked
+  pub details : HasDetails t.marked t.details
+
+-- the source is refused with this answer, or there was no memory, and the sink takes nothing; or this text of its program is
+-- written
+pub data IsPrinted {S : Type 0} (source : List ℕ) (text : TProgram → List ℕ) (took : S → List ℕ → S → Type 0) (faults : S → ℕ) (old new : S) (end : Answer) : Type 0 where
+  not_built : IsNotBuilt source end → took old [] new → IsPrinted source text took faults old new end
+  put : (p : TProgram) → ReadsAs source (program p) → IsWritten took faults old new (prints (text p)) end → IsPrinted source text took faults old new end

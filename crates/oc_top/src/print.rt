@@ -1,0 +1,94 @@
+//! Texts of a program: its regions, and the listing of its image.
+ghost use Rattle.std.specs.Prelude.{◌≡◌, ◌≤◌, length, IfOk, IfErr};
+ghost use Rattle.oc_isa.specs.Listing.{listing_text};
+ghost use Rattle.oc_budget.specs.Budgets.{budgets as budgets_of};
+ghost use Rattle.oc_budget.specs.View.{budgets_view};
+ghost use Rattle.oc_top.specs.Answers.{IsWritten};
+ghost use Rattle.oc_top.specs.Printed.{IsPrinted, Tells};
+ghost use Rattle.oc_top.specs.RegionDetails.{HasDetails};
+ghost use Rattle.oc_top.specs.RegionLines.{regions_text};
+ghost use Rattle.oc_top.specs.Steps.{IsNotBuilt};
+ghost use Rattle.oc_top.specs.Verdict.{listing_of, prints, regions_of};
+
+use crate::answer::Answer;
+use crate::build::{image_of, marked_of};
+use crate::prepare::build;
+use crate::regions::{Details, details_of, put_regions};
+use crate::report::flushed;
+use oc_budget::costs::budgets;
+use oc_budget::told::Budgets;
+use oc_io::sink::Sink;
+use oc_isa::image::Image;
+use oc_isa::listing::listing;
+use oc_tree::marked::Marked;
+use std::alloc::Global;
+
+/// The regions of a program, ready to be written.
+#[derive(Drop)]
+pub struct Told {
+    pub marked: Marked,
+    pub budgets: Budgets,
+    pub details: Details,
+}
+
+/// The regions of the program that a source spells, with their budgets.
+fn tell(alloc: Global, source: &[u8]) -> Result<Told, Answer>
+    requires { length source.now ≤ 1048576 }
+    ensures told { IfOk result (λ t. Tells source.now t) }
+    ensures refused { IfErr result (λ a. IsNotBuilt source.now a) }
+{
+    let marked = marked_of(alloc, source)?;
+    let image = image_of(alloc, &marked)?;
+    let budgets = budgets(alloc, &marked, &image)?;
+    let details = details_of(alloc, &marked)?;
+    Ok(Told {
+        marked,
+        budgets,
+        details,
+    })
+}
+
+/// Writes the regions of a program.
+fn put_told<O: Sink>(told: &Told, out: &mut O) -> Answer
+    requires budgets { budgets_view told.now.budgets ≡ budgets_of told.now.marked }
+    requires details { HasDetails told.now.marked told.now.details }
+    ensures { IsWritten O.took O.faults out.old out.new (prints (regions_text told.now.marked (budgets_of told.now.marked))) result }
+{
+    match put_regions(&told.marked, &told.budgets, &told.details, out) {
+        Ok(()) => flushed(Answer::End, out),
+        Err(_) => Answer::WriteFault,
+    }
+}
+
+/// Writes the listing of an image.
+fn put_listing<O: Sink>(image: &Image, out: &mut O) -> Answer
+    ensures { IsWritten O.took O.faults out.old out.new (prints (listing_text image.now)) result }
+{
+    match listing(image, out) {
+        Ok(()) => flushed(Answer::End, out),
+        Err(_) => Answer::WriteFault,
+    }
+}
+
+/// Writes the regions of the program that a source spells, or answers why there is none.
+pub fn print_regions<O: Sink>(alloc: Global, source: &[u8], out: &mut O) -> Answer
+    requires { length source.now ≤ 1048576 }
+    ensures { IsPrinted source.now regions_of O.took O.faults out.old out.new result }
+{
+    match tell(alloc, source) {
+        Ok(told) => put_told(&told, out),
+        Err(answer) => answer,
+    }
+}
+
+/// Writes the listing of the image of the program that a source spells, or answers why there is
+/// none.
+pub fn print_listing<O: Sink>(alloc: Global, source: &[u8], out: &mut O) -> Answer
+    requires { length source.now ≤ 1048576 }
+    ensures { IsPrinted source.now listing_of O.took O.faults out.old out.new result }
+{
+    match build(alloc, source) {
+        Ok(image) => put_listing(&image, out),
+        Err(answer) => answer,
+    }
+}

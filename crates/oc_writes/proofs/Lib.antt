@@ -1,3 +1,13 @@
 pub mod Beyond
 pub mod Standing
 pub mod Same
+pub mod KeptStore
+pub mod KeptNames
+pub mod KeptRuns
+pub mod KeptRules
+pub mod KeptReach
+pub mod KeptKinds
+pub mod KeptFunctions
+pub mod KeptCalls
+pub mod KeptRegion
+pub mod KeptLaw

@@ -1,16 +1,16 @@
 -- In a checked program each statement is found by its number, so the statements around it are those of its effect.
-use Rattle.std.proofs.Common.{◌≡◌, ◌≤◌, refl, sym, ap, ◌∙◌, ℕ, zero, suc, arith, Bool, true, false, ◌==◌, List, [], ◌∷◌, ◌++◌, map, Option, Some, cond}
+use Rattle.std.proofs.Common.{◌≡◌, ◌≤◌, refl, sym, ap, ◌∙◌, ℕ, zero, suc, arith, Bool, true, false, ◌==◌, List, [], ◌∷◌, ◌++◌, map, Some, cond}
 use Rattle.std.specs.List.{find, filter, flat_map, list_any}
 use Rattle.std.proofs.Math.ListN.{get_or}
 use Rattle.std.proofs.lemmas.Bool.{eqb-true, eq-eqb}
 use Rattle.std.proofs.lemmas.List.{map-append}
 use Rattle.oc_tree.specs.Tree.{TKind, if_else, for_in, while_do, TElse, no_else, else_do, stmt, TBlock, block, TStmts, no_stmts, more, TFunction, TProgram}
 use Rattle.oc_tree.specs.declared.tree.VarId.TheVariants as variables
-use Rattle.oc_tree.specs.Numbers.{numbers_on, kind_statements, else_statements, block_statements, stmts_statements, program_statements}
+use Rattle.oc_tree.specs.Numbers.{numbers_on, kind_statements, else_statements, block_statements, stmts_statements}
 use Rattle.oc_tree.specs.Places.{Place, Placed, behind, in_branch, in_loop, at_start, kind_placed, else_placed, block_placed, stmts_placed, program_placed, placed}
 use Rattle.oc_tree.specs.Checked.{Group, IsChecked}
 use Rattle.oc_tree.specs.Marked.{TRegion, around, is_in_region, covers}
-use Rattle.oc_effects.specs.Effects.{TEffect, effect_of, function_effects, effects_at}
+use Rattle.oc_effects.specs.Effects.{effect_of, function_effects, effects_at}
 use Rattle.oc_writes.specs.Targets.{region_effects}
 use Rattle.oc_writes.specs.Seen.{stands_in, standing_in}
 
@@ -41,21 +41,38 @@ functions_ids (f ∷ fs) = map-append (λ a. a.id) (block_placed (at_start f) f.
 
 -- ---- each of a list
 
-abbrev Each : (Placed → Type 0) → List Placed → Type 0
+abbrev pub Each : (Placed → Type 0) → List Placed → Type 0
 Each P [] = Unit {0}
 Each P (a ∷ xs) = P a × Each P xs
 
-each_map : (P Q : Placed → Type 0) → ((a : Placed) → P a → Q a) → (xs : List Placed) → Each P xs → Each Q xs
+pub each_map : (P Q : Placed → Type 0) → ((a : Placed) → P a → Q a) → (xs : List Placed) → Each P xs → Each Q xs
 each_map P Q f [] h = tt
 each_map P Q f (a ∷ xs) h = (f a h.0, each_map P Q f xs h.1)
 
-each_front : (P : Placed → Type 0) (xs ys : List Placed) → Each P (xs ++ ys) → Each P xs
+pub each_front : (P : Placed → Type 0) (xs ys : List Placed) → Each P (xs ++ ys) → Each P xs
 each_front P [] ys h = tt
 each_front P (a ∷ xs) ys h = (h.0, each_front P xs ys h.1)
 
-each_back : (P : Placed → Type 0) (xs ys : List Placed) → Each P (xs ++ ys) → Each P ys
+pub each_back : (P : Placed → Type 0) (xs ys : List Placed) → Each P (xs ++ ys) → Each P ys
 each_back P [] ys h = h
 each_back P (a ∷ xs) ys h = each_back P xs ys h.1
+
+pub each_all : (P : Placed → Type 0) → ((a : Placed) → P a) → (xs : List Placed) → Each P xs
+each_all P f [] = tt
+each_all P f (a ∷ xs) = (f a, each_all P f xs)
+
+pub each_both : (P Q : Placed → Type 0) (xs : List Placed) → Each P xs → Each Q xs → Each (λ a. P a × Q a) xs
+each_both P Q [] h g = tt
+each_both P Q (a ∷ xs) h g = ((h.0, g.0), each_both P Q xs h.1 g.1)
+
+-- for all of one kind at once
+pub each_for : (J : Type 0) (P : J → Placed → Type 0) (xs : List Placed) → ((j : J) → Each (P j) xs) → Each (λ a. (j : J) → P j a) xs
+each_for J P [] h = tt
+each_for J P (a ∷ xs) h = ((λ j. (h j).0), each_for J P xs (λ j. (h j).1))
+
+pub each_join : (P : Placed → Type 0) (xs ys : List Placed) → Each P xs → Each P ys → Each P (xs ++ ys)
+each_join P [] ys h g = g
+each_join P (a ∷ xs) ys h g = (h.0, each_join P xs ys h.1 g)
 
 -- ---- found by their numbers
 

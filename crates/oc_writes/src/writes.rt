@@ -9,6 +9,7 @@ ghost use Rattle.oc_tree.specs.declared.tree.VarId.TheVariants.{Nv, Param as APa
 ghost use Rattle.oc_effects.specs.Effects.{params_at};
 ghost use Rattle.oc_effects.specs.View.{effect_view};
 ghost use Rattle.oc_writes.specs.Targets.{assigns, may_write, region_targets, words_of};
+ghost use Rattle.oc_writes.specs.Kept.{OnlyTargets};
 ghost use Rattle.oc_writes.specs.Seen.{effects_seen, slot_targets, some_assigns, stored_from, stored_targets};
 
 use crate::inside::region_effects;
@@ -205,7 +206,8 @@ fn all_targets(
 }
 
 fn marked_targets(alloc: Global, marked: &Marked) -> Result<Vec<Vec<Target>>, AllocError>
-    ensures { IfOk result (λ t. map (λ v. v.items) t.items ≡ may_write marked.now) }
+    ensures targets { IfOk result (λ t. map (λ v. v.items) t.items ≡ may_write marked.now) }
+    ensures only { IfOk result (λ t. OnlyTargets marked.now (map (λ v. v.items) t.items)) }
 {
     let checked = marked.checked();
     let effects = Effects::new(alloc, checked)?;
@@ -213,9 +215,10 @@ fn marked_targets(alloc: Global, marked: &Marked) -> Result<Vec<Vec<Target>>, Al
     Ok(targets)
 }
 
-/// The write targets of all regions.
+/// The write targets of all regions. A region's statements write no other nonvolatile variable.
 pub fn may_write(alloc: Global, marked: &Marked) -> Result<WriteSets, Memory>
-    ensures { IfOk result (λ w. w ≡ may_write marked.now) }
+    ensures targets { IfOk result (λ w. w ≡ may_write marked.now) }
+    ensures only { IfOk result (λ w. OnlyTargets marked.now w) }
 {
     match marked_targets(alloc, marked) {
         Ok(regions) => Ok(WriteSets { regions }),

@@ -3,6 +3,7 @@ use Rattle.oc_tree.specs.Tree.{TProgram}
 use Rattle.oc_tree.specs.View.{program_view}
 use Rattle.oc_tree.specs.Checked.{TChecked}
 use Rattle.oc_writes.specs.Targets.{region_targets}
+use Rattle.oc_writes.proofs.KeptLaw.{only_targets}
 use Rattle.oc_writes.proofs.Same.{functions_below}
 use Rattle.oc_writes.proofs.writes.marked_targets.Goals as goal
 
@@ -14,4 +15,5 @@ all_targets-requires-clause-functions c =
 pub returns : goal.returns
 returns c =
     let same : program_view c.program.result.now ≡ c.args.marked.now.program = c.program.ensures.same ∙ ap (λ (k : TChecked). k.program) c.checked-checked.ensures.same in
-    c.in_ok-targets.ensures ∙ (λ i. map (region_targets (same i)) (c.regions.ensures i))
+    let targets = c.in_ok-targets.ensures ∙ (λ i. map (region_targets (same i)) (c.regions.ensures i)) in
+    record { targets = targets; only = only_targets c.args.marked.now c.checked-checked.ensures.marked _ targets }

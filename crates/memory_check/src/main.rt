@@ -1,14 +1,15 @@
 //! Calls each function that takes memory, with enough of it, and writes what came: a body that always
 //! answers that there is no memory meets its contract, and shows only so. What isn't called by itself
-//! (`compile`, `Machine::load`) is called by the top call, which is asked with each supply, and at last
-//! with none.
+//! (`Machine::load`) is called by the top call, which is asked with each supply, and at last with none.
 #![tactic(auto)]
 
 ghost use Rattle.std.specs.Prelude.{◌≤◌, ◌≡◌, length, map, IfOk};
 ghost use Rattle.oc_needs.specs.Requirements.{requirements};
 ghost use Rattle.oc_needs.specs.View.{requirement_view};
 
+use oc_budget::costs::budgets;
 use oc_ckpt::Area;
+use oc_codegen::compile;
 use oc_desugar::expand;
 use oc_effects::effects::Effects;
 use oc_flow::flow::summaries;
@@ -19,6 +20,7 @@ use oc_io::period::Period;
 use oc_io::shelf::Shelf;
 use oc_io::sink::Sink;
 use oc_lex::lex;
+use oc_meaning::run::{run_marked, run_source};
 use oc_needs::policy::policies;
 use oc_needs::required::requirements;
 use oc_needs::requirement::Requirement;
@@ -34,6 +36,7 @@ use oc_rows::rows::Rows;
 use oc_sensors::file::read_sensors;
 use oc_top::top::ocelot;
 use oc_tree::checked::Checked;
+use oc_tree::marked::Marked;
 use oc_tree::name::Name;
 use oc_types::check;
 use oc_undo::log::UndoLog;
@@ -88,14 +91,32 @@ fn required<O: Sink>(
     Ok(required)
 }
 
-/// The regions of a program, and what they may overwrite.
+/// The code of a program with regions, what these may overwrite, and its costs.
+fn code<O: Sink>(alloc: Global, marked: &Marked, out: &mut O) -> anyhow::Result<()> {
+    let writes = may_write(alloc, marked)?;
+    fine("may_write", out)?;
+    let image = compile(alloc, marked, &writes)?;
+    fine("compile", out)?;
+    budgets(alloc, marked, &image)?;
+    fine("budgets", out)
+}
+
+/// The runs of a program with regions: that of its source, and the first parts of the marked one.
+fn runs<O: Sink>(alloc: Global, marked: &Marked, out: &mut O) -> anyhow::Result<()> {
+    run_source(alloc, marked.checked(), &[21])?;
+    fine("run_source", out)?;
+    run_marked(alloc, marked, &[21], 3)?;
+    fine("run_marked", out)
+}
+
+/// The regions of a program, its code and its runs.
 fn regions<O: Sink>(alloc: Global, checked: Checked, out: &mut O) -> anyhow::Result<()> {
     let required = required(alloc, &checked, out)?;
     match infer(alloc, checked, &required) {
         Ok(marked) => {
             fine("infer", out)?;
-            may_write(alloc, &marked)?;
-            fine("may_write", out)
+            code(alloc, &marked, out)?;
+            runs(alloc, &marked, out)
         }
         Err((_, memory)) => Err(memory.into()),
     }

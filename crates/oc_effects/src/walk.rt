@@ -9,9 +9,10 @@ use crate::calls::called;
 use crate::effect::Effect;
 use crate::here::{Here, variables};
 use crate::known::Known;
-use crate::names::{own_names, source_names};
+use crate::names::source_names;
 use crate::parts::{declares, is_loop, note, senses, target};
 use crate::scope::Scope;
+use oc_meaning::names::own_names;
 use oc_tree::tree::{Block, BlockId, Stmt, StmtId, StmtKind, VarId};
 use std::alloc::{AllocError, Global};
 

@@ -1,3 +1,4 @@
+-- the meaning
 pub mod Samples
 pub mod Store
 pub mod Eval
@@ -6,3 +7,15 @@ pub mod Blocks
 pub mod Exec
 pub mod Run
 pub mod Unmarked
+-- what the interpreter goes by
+pub mod Cuts
+pub mod Executed
+pub mod Fresh
+pub mod Listed
+pub mod Operands
+pub mod Runs
+pub mod Scopes
+pub mod Seen
+pub mod Stores
+pub mod Telling
+pub mod Traces

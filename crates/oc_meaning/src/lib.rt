@@ -1,5 +1,27 @@
 //! What a source means: its run over a list of samples, where each value carries the samples on
-//! which it depends, and that run with the marks of regions. Definitions in `specs/`, and their laws.
+//! which it depends, and that run with the marks of regions. The definitions stand in `specs/`, their
+//! laws in [`laws`], and [`run`] computes both.
 #![tactic(auto)]
 
+mod arguments;
+mod calls;
+mod completion;
+mod eval;
+mod executed;
+mod held;
+mod homes;
+mod interrupted;
 pub mod laws;
+mod marks;
+pub mod names;
+mod place;
+pub mod run;
+mod running;
+mod samples;
+mod scope;
+mod simple;
+mod statements;
+mod store;
+pub mod trace;
+mod uses;
+mod value;

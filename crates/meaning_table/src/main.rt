@@ -1,0 +1,167 @@
+//! What some programs say over lists of samples, with the samples on which each event depends.
+#![tactic(auto)]
+
+ghost use Rattle.std.specs.Prelude.{◌≤◌, length};
+
+mod sources;
+
+use oc_desugar::expand;
+use oc_io::disk::StdSink;
+use oc_io::sink::Sink;
+use oc_lex::lex;
+use oc_meaning::run::run_source;
+use oc_meaning::trace::{Outcome, SourceTrace};
+use oc_parse::parse;
+use oc_tree::checked::Checked;
+use oc_tree::name::{Name, Names};
+use oc_tree::said::{SourceEvent, TrapKind, Visible};
+use oc_types::check;
+use sources::{Worked, cases};
+use std::alloc::Global;
+
+/// The checked program of a source.
+fn checked(alloc: Global, source: &[u8]) -> anyhow::Result<Checked>
+    requires { length source.now ≤ 1048576 }
+{
+    let tokens = lex(alloc, source)?;
+    let program = parse(alloc, source, tokens.as_slice())?;
+    let written = check(alloc, program)?;
+    match expand(alloc, written) {
+        Ok(checked) => Ok(checked),
+        Err((_, memory)) => Err(memory.into()),
+    }
+}
+
+/// Writes a word, the name of a sensor or a port, and a value.
+fn put_named<O: Sink>(
+    alloc: Global,
+    word: &[u8],
+    names: &[Name],
+    number: u8,
+    value: i32,
+    out: &mut O,
+) -> anyhow::Result<()> {
+    out.put(word)?;
+    if let Some(name) = names.get(usize::from(number)) {
+        out.put(name.bytes())?;
+    }
+    let text = format!(in alloc; " {value}")?;
+    out.put(text.as_bytes())?;
+    Ok(())
+}
+
+/// Writes a word and a statement.
+fn put_stmt<O: Sink>(alloc: Global, word: &str, stmt: u32, out: &mut O) -> anyhow::Result<()> {
+    let text = format!(in alloc; "{word} {stmt}")?;
+    out.put(text.as_bytes())?;
+    Ok(())
+}
+
+fn put_visible<O: Sink>(
+    alloc: Global,
+    names: &Names,
+    visible: Visible,
+    out: &mut O,
+) -> anyhow::Result<()> {
+    match visible {
+        Visible::Sense { sensor, value } => {
+            put_named(alloc, b"sense ", &names.sensors, sensor, value, out)
+        }
+        Visible::Emit { port, value } => {
+            put_named(alloc, b"emit ", &names.ports, port, value, out)
+        }
+        Visible::Use { stmt } => put_stmt(alloc, "use", stmt, out),
+        Visible::Done { stmt } => put_stmt(alloc, "done", stmt, out),
+        Visible::Tag { stmt } => put_stmt(alloc, "tag", stmt, out),
+        Visible::End => {
+            out.put(b"end")?;
+            Ok(())
+        }
+        Visible::Trap {
+            kind: TrapKind::Zero,
+            stmt,
+        } => put_stmt(alloc, "trap zero", stmt, out),
+        Visible::Trap {
+            kind: TrapKind::Index,
+            stmt,
+        } => put_stmt(alloc, "trap index", stmt, out),
+    }
+}
+
+/// Writes a set of samples.
+fn put_samples<O: Sink>(alloc: Global, samples: &[u32], out: &mut O) -> anyhow::Result<()> {
+    out.put(b" {")?;
+    let mut gap = "";
+    for sample in samples {
+        let text = format!(in alloc; "{gap}{sample}")?;
+        out.put(text.as_bytes())?;
+        gap = " ";
+    }
+    out.put(b"}")?;
+    Ok(())
+}
+
+/// Writes an event, its samples, and of a tag which execution of its block it is of.
+fn put_event<O: Sink>(
+    alloc: Global,
+    names: &Names,
+    event: &SourceEvent,
+    out: &mut O,
+) -> anyhow::Result<()> {
+    put_visible(alloc, names, event.visible, out)?;
+    put_samples(alloc, &event.samples.numbers, out)?;
+    let instance = event.instance;
+    if instance != 0 {
+        let text = format!(in alloc; " instance {instance}")?;
+        out.put(text.as_bytes())?;
+    }
+    out.put(b"\n")?;
+    Ok(())
+}
+
+fn outcome_name(outcome: Outcome) -> &'static [u8] {
+    match outcome {
+        Outcome::Ended => b"Ended",
+        Outcome::Trapped => b"Trapped",
+        Outcome::Short => b"Short",
+    }
+}
+
+/// Writes the events, the outcome and the nonvolatile words.
+fn put_trace<O: Sink>(
+    alloc: Global,
+    names: &Names,
+    trace: &SourceTrace,
+    out: &mut O,
+) -> anyhow::Result<()> {
+    for event in &trace.events {
+        put_event(alloc, names, event, out)?;
+    }
+    out.put(outcome_name(trace.outcome))?;
+    for word in &trace.nv {
+        let text = format!(in alloc; " {word}")?;
+        out.put(text.as_bytes())?;
+    }
+    out.put(b"\n\n")?;
+    Ok(())
+}
+
+fn put_worked<O: Sink>(alloc: Global, worked: &Worked, out: &mut O) -> anyhow::Result<()> {
+    let source = worked.source.as_bytes();
+    if source.len() <= 1048576 {
+        let checked = checked(alloc, source)?;
+        let trace = run_source(alloc, &checked, worked.samples)?;
+        put_trace(alloc, &checked.program().names, &trace, out)?;
+    }
+    Ok(())
+}
+
+fn main(rt: HostRuntime) -> anyhow::Result<()> {
+    let alloc = rt.alloc();
+    let mut out = StdSink::out(&rt);
+    for worked in &cases() {
+        put_worked(alloc, worked, &mut out)?;
+    }
+    out.flush()?;
+    Ok(())
+}

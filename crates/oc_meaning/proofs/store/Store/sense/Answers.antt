@@ -1,0 +1,17 @@
+use Rattle.std.proofs.Common.{◌≡◌, pos, [], ◌∷◌, ◌++◌, ap, ◌∙◌, refl, rules, arith}
+use Rattle.std.proofs.Math.ListN.{get_or}
+use Rattle.oc_tree.specs.declared.said.Said.TheVariants.{Sensed}
+use Rattle.oc_meaning.specs.declared.store.Event.{Event}
+use Rattle.oc_meaning.specs.Stores.{store_view, told}
+use Rattle.oc_meaning.proofs.Events.{told-push, sensed}
+use Rattle.oc_meaning.proofs.store.Store.sense.Goals as goal
+
+pub returns-clause-step : goal.returns-clause-step
+returns-clause-step c =
+    let i = c.self.inside in
+    let n = i.taken in
+    let z = get_or i.samples.now n (pos 0) in
+    let e : Event = record { said = Sensed c.args.sensor z; samples = n ∷ []; instance = 0 } in
+    let pushed : c.tell.new.events.items ≡ i.events.items ++ e ∷ [] = search rules in
+    let value : c.new.result ≡ record { num = z; samples = n ∷ [] } = search rules in
+    sensed c.args.sensor i.samples.now z c.new.result (told c.tell.new.events.items) (store_view i) c.args.self.now refl (omega arith) refl value (ap told pushed ∙ told-push i.events.items e) c.self.view_is

@@ -1,0 +1,35 @@
+-- What a store holds, in the meaning's terms.
+use Rattle.std.specs.Prelude.{List, map, reverse, drop, Option, Some, None}
+use Rattle.oc_meaning.specs.Store.{Place, Local, Global, Turn, Nowhere, Held, holding, nothing, plain}
+use Rattle.oc_meaning.specs.Store as meant
+use Rattle.oc_meaning.specs.declared.store.Event.{Event}
+use Rattle.oc_meaning.specs.declared.store.Store.TheInside.{Inside}
+
+abbrev pub event_view : Event → meant.Event
+event_view e = record { said = e.said; samples = e.samples; instance = e.instance }
+
+-- events in the order in which they happened, turned around
+abbrev pub told : List Event → List meant.Event
+told es = reverse (map event_view es)
+
+-- local variables and events stand newest first
+abbrev pub store_view : Inside → meant.Store
+store_view s =
+    record {
+      locals = reverse s.locals.items;
+      nv = s.nv.items;
+      left = drop s.taken s.samples.now;
+      taken = s.taken;
+      depth = s.depth;
+      blocks = s.blocks;
+      events = told s.events.items;
+    }
+
+-- what stands for a place where no variable is
+abbrev pub absent : Place → Held
+absent (Turn z) = holding (plain z)
+absent p = nothing
+
+abbrev pub held_or : Place → Option Held → Held
+held_or p None = absent p
+held_or p (Some h) = h

@@ -1,0 +1,180 @@
+//! The runs of checked and of marked programs.
+ghost use Rattle.std.specs.Prelude.{◌≡◌, [], length, map, take, true, false, IfOk, OnErr};
+ghost use Rattle.oc_tree.specs.View.{program_view};
+ghost use Rattle.oc_tree.specs.Regions.{region_view};
+ghost use Rattle.oc_meaning.specs.Run.{ended, first_store, in_order, marked_run, source_run, trace_at, trace_of};
+ghost use Rattle.oc_meaning.specs.Seen.{completion_at};
+ghost use Rattle.oc_meaning.specs.Cuts.{Begins, Oldest, events_in};
+ghost use Rattle.oc_meaning.specs.Runs.{main_from};
+ghost use Rattle.oc_meaning.specs.Traces.{Rises, ending_of, parts, trace_view};
+
+use crate::calls::function_named;
+use crate::completion::{Completion, Stop};
+use crate::interrupted::Interrupted;
+use crate::running::Running;
+use crate::samples::Samples;
+use crate::statements::call_to;
+use crate::store::Store;
+use crate::trace::{MarkedTrace, Outcome, SourceTrace, marked_trace, source_trace};
+use oc_io::Memory;
+use oc_tree::checked::Checked;
+use oc_tree::marked::{Marked, Region};
+use oc_tree::name::Name;
+use oc_tree::said::{Ending, Said};
+use oc_tree::tree::Program;
+use std::alloc::{AllocError, Global};
+use std::collections::VecDeque;
+
+fn first_store<'a>(
+    alloc: Global,
+    program: &Program,
+    samples: &'a [i32],
+    limit: u64,
+) -> Result<Store<'a>, AllocError>
+    ensures { IfOk result (λ s. s ≡ first_store (program_view program.now) samples.now) }
+{
+    Store::new(alloc, program.nv.as_slice(), samples, limit)
+}
+
+// What `main` does. Calls go at most as deep as there are functions.
+fn execute(
+    alloc: Global,
+    program: &Program,
+    regions: &[Region],
+    store: &mut Store,
+) -> Result<Completion, Interrupted>
+    ensures runs { IfOk result (λ o. completion_at o store.new ≡ main_from (program_view program.now) (map region_view regions.now) store.old) }
+    ensures cut { OnErr result (Oldest store.new.events (events_in (main_from (program_view program.now) (map region_view regions.now) store.old))) }
+{
+    let main = Name::new(Vec::from_slice(alloc, b"main")?);
+    let functions = program.functions.as_slice();
+    let Some(function) = function_named(functions, &main) else {
+        return Ok(Completion::Went);
+    };
+    let run = Running {
+        alloc,
+        program,
+        regions,
+        depth: functions.len() + 1,
+        body: &function.body,
+    };
+    call_to(&run, &main, VecDeque::new(alloc), store)
+}
+
+fn halt(alloc: Global, store: &mut Store) -> Result<Outcome, Interrupted>
+    ensures step { IfOk result (λ o. trace_at (ending_of o) store.new ≡ ended store.old) }
+    ensures kept { OnErr result (store.new ≡ store.old) }
+{
+    let how = Ending::Halted;
+    store.note(Said::Ended { how }, Samples::none(alloc))?;
+    Ok(Outcome::Ended)
+}
+
+// How a run ends that came to this.
+fn end(alloc: Global, completion: Completion, store: &mut Store) -> Result<Outcome, Interrupted>
+    ensures step { IfOk result (λ o. trace_at (ending_of o) store.new ≡ trace_of (completion_at completion store.old)) }
+    ensures kept { OnErr result (store.new ≡ store.old) }
+{
+    match completion {
+        Completion::Went => halt(alloc, store),
+        Completion::Returned { .. } => halt(alloc, store),
+        Completion::Stopped {
+            stop: Stop::Trapped,
+        } => Ok(Outcome::Trapped),
+        Completion::Stopped { stop: Stop::Short } => Ok(Outcome::Short),
+    }
+}
+
+// The run of a program with the marks of these regions. Where it is given up, what was told begins
+// the whole.
+fn run(
+    alloc: Global,
+    program: &Program,
+    regions: &[Region],
+    store: &mut Store,
+) -> Result<Outcome, Interrupted>
+    ensures runs { IfOk result (λ o. trace_at (ending_of o) store.new ≡ trace_of (main_from (program_view program.now) (map region_view regions.now) store.old)) }
+    ensures cut { OnErr result (Begins (in_order store.new.events) (trace_of (main_from (program_view program.now) (map region_view regions.now) store.old)).events) }
+{
+    let completion = execute(alloc, program, regions, store)?;
+    let outcome = end(alloc, completion, store)?;
+    Ok(outcome)
+}
+
+fn trace_source(
+    alloc: Global,
+    program: &Program,
+    samples: &[i32],
+) -> Result<SourceTrace, Interrupted>
+    ensures { IfOk result (λ t. trace_view t ≡ source_run (program_view program.now) samples.now) }
+{
+    let mut store = first_store(alloc, program, samples, u64::MAX)?;
+    let outcome = run(alloc, program, &[], &mut store)?;
+    let trace = source_trace(alloc, store, outcome)?;
+    Ok(trace)
+}
+
+/// The run of a checked program over a list of samples.
+pub fn run_source(alloc: Global, checked: &Checked, samples: &[i32]) -> Result<SourceTrace, Memory>
+    ensures { IfOk result (λ t. trace_view t ≡ source_run checked.now.program samples.now) }
+{
+    match trace_source(alloc, checked.program(), samples) {
+        Ok(trace) => Ok(trace),
+        Err(_) => Err(Memory),
+    }
+}
+
+// The first `limit` parts of a run with the marks of these regions.
+fn trace_marked(
+    alloc: Global,
+    program: &Program,
+    regions: &[Region],
+    samples: &[i32],
+    limit: u64,
+) -> Result<MarkedTrace, Interrupted>
+    ensures parts { IfOk result (λ t. parts t ≡ take limit (marked_run (program_view program.now) (map region_view regions.now) samples.now).events) }
+    ensures whole { IfOk result (λ t. t.whole ≡ true → trace_view t.trace ≡ source_run (program_view program.now) samples.now) }
+    ensures told { IfOk result (λ t. t.whole ≡ true → parts t ≡ (marked_run (program_view program.now) (map region_view regions.now) samples.now).events) }
+    ensures cut { IfOk result (λ t. t.whole ≡ false → length (parts t) ≡ limit) }
+    ensures rises { IfOk result (λ t. Rises 0 t.marks.items (length t.trace.events.items)) }
+{
+    let mut store = first_store(alloc, program, samples, limit)?;
+    match run(alloc, program, regions, &mut store) {
+        Ok(outcome) => {
+            if store.told() as u64 > limit {
+                return Err(Interrupted::Memory);
+            }
+            let trace = marked_trace(alloc, store, outcome, true)?;
+            Ok(trace)
+        }
+        Err(_) => {
+            if store.told() as u64 != limit {
+                return Err(Interrupted::Memory);
+            }
+            let trace = marked_trace(alloc, store, Outcome::Short, false)?;
+            Ok(trace)
+        }
+    }
+}
+
+/// The first `limit` parts of the run of a marked program over a list of samples: the events of the
+/// source, and the marks of the regions. Where `whole`, it is told to its end, and its trace is the
+/// source's run; else its outcome and its nonvolatile words say nothing.
+pub fn run_marked(
+    alloc: Global,
+    marked: &Marked,
+    samples: &[i32],
+    limit: u64,
+) -> Result<MarkedTrace, Memory>
+    ensures parts { IfOk result (λ t. parts t ≡ take limit (marked_run marked.now.program marked.now.regions samples.now).events) }
+    ensures whole { IfOk result (λ t. t.whole ≡ true → trace_view t.trace ≡ source_run marked.now.program samples.now) }
+    ensures told { IfOk result (λ t. t.whole ≡ true → parts t ≡ (marked_run marked.now.program marked.now.regions samples.now).events) }
+    ensures cut { IfOk result (λ t. t.whole ≡ false → length (parts t) ≡ limit) }
+    ensures rises { IfOk result (λ t. Rises 0 t.marks.items (length t.trace.events.items)) }
+{
+    let program = marked.checked().program();
+    match trace_marked(alloc, program, marked.regions(), samples, limit) {
+        Ok(trace) => Ok(trace),
+        Err(_) => Err(Memory),
+    }
+}

@@ -1,0 +1,185 @@
+//! What a run told, once it is over.
+ghost use Rattle.std.specs.Prelude.{◌≡◌, length, map, IfOk, OnOk};
+ghost use Rattle.oc_meaning.specs.Run.{in_order, trace_at, words_of};
+ghost use Rattle.oc_meaning.specs.Unmarked.{without_marks};
+ghost use Rattle.oc_meaning.specs.Stores.{event_view};
+ghost use Rattle.oc_meaning.specs.Telling.{Adds, IsPart, Tells};
+ghost use Rattle.oc_meaning.specs.Traces.{AreParts, Rises, SaysParts, ending_of, parts, said_of, trace_view};
+
+use crate::held::Held;
+use crate::store::{Event, Store};
+use oc_tree::said::{Ending, Said, Shown, SourceEvent, Visible};
+use std::alloc::{AllocError, Global};
+
+/// How a run came to its end: by itself, by a trap, or for want of samples.
+#[derive(Clone, Copy, Debug, PartialEq, Eq)]
+pub enum Outcome {
+    Ended,
+    Trapped,
+    Short,
+}
+
+/// The events of the source in order, how the run ended, and the nonvolatile words at that moment.
+#[derive(Debug, Drop)]
+pub struct SourceTrace {
+    pub events: Vec<SourceEvent>,
+    pub outcome: Outcome,
+    pub nv: Vec<i32>,
+}
+
+/// The begin or the end of a region, with so many events of the source before it.
+#[derive(Clone, Copy, Debug, PartialEq, Eq)]
+pub struct Mark {
+    pub region: u32,
+    pub enter: bool,
+    pub before: u64,
+}
+
+/// A run with the marks of its regions, as far as it is told: `whole` says that it is told to its end.
+#[derive(Debug, Drop)]
+pub struct MarkedTrace {
+    pub trace: SourceTrace,
+    pub marks: Vec<Mark>,
+    pub whole: bool,
+}
+
+/// What something that was noted is in a trace.
+#[derive(Debug, Drop)]
+enum Told {
+    Source { event: SourceEvent },
+    Marked { mark: Mark },
+    Nothing,
+}
+
+fn shown(what: Shown) -> Visible
+    ensures { said_of result ≡ Said.Showed what }
+{
+    match what {
+        Shown::Emitted { port, value } => Visible::Emit { port, value },
+        Shown::Used { stmt } => Visible::Use { stmt },
+        Shown::Finished { stmt } => Visible::Done { stmt },
+        Shown::Tagged { stmt } => Visible::Tag { stmt },
+    }
+}
+
+fn ended(how: Ending) -> Visible
+    ensures { said_of result ≡ Said.Ended how }
+{
+    match how {
+        Ending::Halted => Visible::End,
+        Ending::Trapped { kind, stmt } => Visible::Trap { kind, stmt },
+    }
+}
+
+/// What an event is in a trace, with so many events of the source before it.
+fn part_of(event: Event, before: u64) -> Told
+    ensures { IsPart (event_view event) before result }
+{
+    let visible = match event.said {
+        Said::Sensed { sensor, value } => Visible::Sense { sensor, value },
+        Said::Showed { what } => shown(what),
+        Said::Ended { how } => ended(how),
+        Said::Entered { region } => return Told::Marked {
+            mark: Mark {
+                region,
+                enter: true,
+                before,
+            },
+        },
+        Said::Committed { region } => return Told::Marked {
+            mark: Mark {
+                region,
+                enter: false,
+                before,
+            },
+        },
+        Said::Aborted { .. } | Said::Off { .. } | Said::Dark => return Told::Nothing,
+    };
+    Told::Source {
+        event: SourceEvent {
+            visible,
+            samples: event.samples.into_set(),
+            instance: event.instance,
+        },
+    }
+}
+
+/// Adds an event.
+fn add(events: &mut Vec<SourceEvent>, marks: &mut Vec<Mark>, event: Event) -> Result<(), AllocError>
+    ensures { OnOk result (Adds events.old.items marks.old.items (event_view event) events.new.items marks.new.items) }
+{
+    match part_of(event, events.len() as u64) {
+        Told::Source { event } => events.push(event)?,
+        Told::Marked { mark } => marks.push(mark)?,
+        Told::Nothing => (),
+    }
+    Ok(())
+}
+
+/// The events of the source and the marks among what was noted.
+fn split(alloc: Global, noted: Vec<Event>) -> Result<(Vec<SourceEvent>, Vec<Mark>), AllocError>
+    requires { AreParts (map event_view noted.items) }
+    ensures { IfOk result (λ t. Tells t.0.items t.1.items (map event_view noted.items)) }
+{
+    let mut events = Vec::new(alloc);
+    let mut marks = Vec::new(alloc);
+    for event in noted {
+        add(&mut events, &mut marks, event)?;
+    }
+    Ok((events, marks))
+}
+
+/// The words of all these variables.
+fn words_of(alloc: Global, variables: &[Held]) -> Result<Vec<i32>, AllocError>
+    ensures { IfOk result (λ w. w.items ≡ words_of variables.now) }
+{
+    let mut words = Vec::new(alloc);
+    for variable in variables {
+        words.extend_from_slice(variable.words())?;
+    }
+    Ok(words)
+}
+
+/// What a run told with the marks of its regions, once it is over.
+pub fn marked_trace(
+    alloc: Global,
+    store: Store,
+    outcome: Outcome,
+    whole: bool,
+) -> Result<MarkedTrace, AllocError>
+    requires { AreParts (in_order store.events) }
+    ensures source { IfOk result (λ t. trace_view t.trace ≡ without_marks (trace_at (ending_of outcome) store.entry)) }
+    ensures parts { IfOk result (λ t. parts t ≡ in_order store.entry.events) }
+    ensures rises { IfOk result (λ t. Rises 0 t.marks.items (length t.trace.events.items)) }
+    ensures whole { IfOk result (λ t. t.whole ≡ whole) }
+{
+    let (noted, nv) = store.into_parts();
+    let (events, marks) = split(alloc, noted)?;
+    let nv = words_of(alloc, &nv)?;
+    Ok(MarkedTrace {
+        trace: SourceTrace {
+            events,
+            outcome,
+            nv,
+        },
+        marks,
+        whole,
+    })
+}
+
+/// What a run told, without marks.
+pub fn source_trace(
+    alloc: Global,
+    store: Store,
+    outcome: Outcome,
+) -> Result<SourceTrace, AllocError>
+    requires { AreParts (in_order store.events) }
+    ensures { IfOk result (λ t. trace_view t ≡ without_marks (trace_at (ending_of outcome) store.entry)) }
+{
+    Ok(marked_trace(alloc, store, outcome, true)?.trace)
+}
+
+/// What a run says are parts of a trace.
+pub fn says_parts()
+    ensures { SaysParts }
+{}

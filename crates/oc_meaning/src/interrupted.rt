@@ -1,7 +1,7 @@
 //! Why a run is given up.
 use std::alloc::AllocError;
 
-/// There was no memory, or as much was told as was asked for.
+/// There was no memory, or more was told than was asked for.
 #[derive(Clone, Copy, Debug, PartialEq, Eq)]
 pub enum Interrupted {
     Memory,

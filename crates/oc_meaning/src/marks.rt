@@ -5,6 +5,7 @@ ghost use Rattle.oc_meaning.specs.Samples.{union};
 ghost use Rattle.oc_meaning.specs.Uses.{is_fresh, is_use, use_samples};
 ghost use Rattle.oc_meaning.specs.Exec.{Went, done, used};
 ghost use Rattle.oc_meaning.specs.Seen.{completion_at};
+ghost use Rattle.oc_meaning.specs.Cuts.{Oldest};
 ghost use Rattle.oc_meaning.specs.Runs.{begun, begun_at, ended, ended_at};
 
 use crate::completion::Completion;
@@ -19,7 +20,7 @@ use std::alloc::{AllocError, Global};
 
 fn begin_use(uses: &Option<Samples>, n: StmtId, store: &mut Store) -> Result<(), Interrupted>
     ensures step { OnOk result (store.new ≡ begun uses.now n store.old) }
-    ensures kept { OnErr result (store.new ≡ store.old) }
+    ensures cut { OnErr result (Oldest store.new.events (begun uses.now n store.old).events) }
 {
     match uses {
         None => Ok(()),
@@ -33,7 +34,7 @@ fn begin_use(uses: &Option<Samples>, n: StmtId, store: &mut Store) -> Result<(),
 /// Statement `n` ends its use, if it is one.
 pub fn end_use(uses: Option<Samples>, n: StmtId, store: &mut Store) -> Result<(), Interrupted>
     ensures step { OnOk result (store.new ≡ ended uses n store.old) }
-    ensures kept { OnErr result (store.new ≡ store.old) }
+    ensures cut { OnErr result (Oldest store.new.events (ended uses n store.old).events) }
 {
     match uses {
         None => Ok(()),
@@ -52,7 +53,7 @@ pub fn begin(
     store: &mut Store,
 ) -> Result<(), Interrupted>
     ensures step { OnOk result (store.new ≡ begun_at (kind_view kind.now) uses.now n store.old) }
-    ensures kept { OnErr result (store.new ≡ store.old) }
+    ensures cut { OnErr result (Oldest store.new.events (begun_at (kind_view kind.now) uses.now n store.old).events) }
 {
     match kind {
         StmtKind::While { .. } => Ok(()),
@@ -68,7 +69,7 @@ pub fn end(
     store: &mut Store,
 ) -> Result<(), Interrupted>
     ensures step { OnOk result (store.new ≡ ended_at (kind_view kind.now) uses n store.old) }
-    ensures kept { OnErr result (store.new ≡ store.old) }
+    ensures cut { OnErr result (Oldest store.new.events (ended_at (kind_view kind.now) uses n store.old).events) }
 {
     match kind {
         StmtKind::While { .. } => Ok(()),
@@ -110,7 +111,7 @@ pub fn begin_turn(
 ) -> Result<Samples, Interrupted>
     ensures store { OnOk result (store.new ≡ used (is_use (is_fresh scope.now) (kind_view kind.now)) n (use_samples scope.now (kind_view kind.now) store.old) store.old) }
     ensures samples { IfOk result (λ s. s ≡ union before (use_samples scope.now (kind_view kind.now) store.old)) }
-    ensures kept { OnErr result (store.new ≡ store.old) }
+    ensures cut { OnErr result (Oldest store.new.events (used (is_use (is_fresh scope.now) (kind_view kind.now)) n (use_samples scope.now (kind_view kind.now) store.old) store.old).events) }
 {
     let uses = used(alloc, scope, store, kind)?;
     let taken = samples_of(alloc, &uses)?;
@@ -127,7 +128,7 @@ pub fn end_turns(
     store: &mut Store,
 ) -> Result<Completion, Interrupted>
     ensures step { IfOk result (λ o. completion_at o store.new ≡ Went (done is_use n samples store.old)) }
-    ensures kept { OnErr result (store.new ≡ store.old) }
+    ensures cut { OnErr result (Oldest store.new.events (done is_use n samples store.old).events) }
 {
     if !is_use {
         return Ok(Completion::Went);

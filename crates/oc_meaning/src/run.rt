@@ -1,8 +1,8 @@
 //! The runs of checked and of marked programs.
-ghost use Rattle.std.specs.Prelude.{◌≡◌, [], length, map, take, true, false, IfOk, OnErr};
+ghost use Rattle.std.specs.Prelude.{◌≡◌, [], length, map, nat_le, take, true, false, IfOk, OnErr};
 ghost use Rattle.oc_tree.specs.View.{program_view};
 ghost use Rattle.oc_tree.specs.Regions.{region_view};
-ghost use Rattle.oc_meaning.specs.Run.{ended, first_store, in_order, marked_run, source_run, trace_at, trace_of};
+ghost use Rattle.oc_meaning.specs.Run.{AtShort, ended, first_store, in_order, marked_run, source_run, trace_at, trace_of};
 ghost use Rattle.oc_meaning.specs.Seen.{completion_at};
 ghost use Rattle.oc_meaning.specs.Cuts.{Begins, Oldest, events_in};
 ghost use Rattle.oc_meaning.specs.Runs.{main_from};
@@ -63,7 +63,7 @@ fn execute(
 
 fn halt(alloc: Global, store: &mut Store) -> Result<Outcome, Interrupted>
     ensures step { IfOk result (λ o. trace_at (ending_of o) store.new ≡ ended store.old) }
-    ensures kept { OnErr result (store.new ≡ store.old) }
+    ensures cut { OnErr result (Begins (in_order store.new.events) (ended store.old).events) }
 {
     let how = Ending::Halted;
     store.note(Said::Ended { how }, Samples::none(alloc))?;
@@ -73,7 +73,7 @@ fn halt(alloc: Global, store: &mut Store) -> Result<Outcome, Interrupted>
 // How a run ends that came to this.
 fn end(alloc: Global, completion: Completion, store: &mut Store) -> Result<Outcome, Interrupted>
     ensures step { IfOk result (λ o. trace_at (ending_of o) store.new ≡ trace_of (completion_at completion store.old)) }
-    ensures kept { OnErr result (store.new ≡ store.old) }
+    ensures cut { OnErr result (Begins (in_order store.new.events) (trace_of (completion_at completion store.old)).events) }
 {
     match completion {
         Completion::Went => halt(alloc, store),
@@ -85,8 +85,8 @@ fn end(alloc: Global, completion: Completion, store: &mut Store) -> Result<Outco
     }
 }
 
-// The run of a program with the marks of these regions. Where it is given up, what was told begins
-// the whole.
+// The run of a program with the marks of these regions. What is told begins the whole, also where it
+// is given up.
 fn run(
     alloc: Global,
     program: &Program,
@@ -94,7 +94,7 @@ fn run(
     store: &mut Store,
 ) -> Result<Outcome, Interrupted>
     ensures runs { IfOk result (λ o. trace_at (ending_of o) store.new ≡ trace_of (main_from (program_view program.now) (map region_view regions.now) store.old)) }
-    ensures cut { OnErr result (Begins (in_order store.new.events) (trace_of (main_from (program_view program.now) (map region_view regions.now) store.old)).events) }
+    ensures begins { Begins (in_order store.new.events) (trace_of (main_from (program_view program.now) (map region_view regions.now) store.old)).events }
 {
     let completion = execute(alloc, program, regions, store)?;
     let outcome = end(alloc, completion, store)?;
@@ -133,33 +133,27 @@ fn trace_marked(
     limit: u64,
 ) -> Result<MarkedTrace, Interrupted>
     ensures parts { IfOk result (λ t. parts t ≡ take limit (marked_run (program_view program.now) (map region_view regions.now) samples.now).events) }
-    ensures whole { IfOk result (λ t. t.whole ≡ true → trace_view t.trace ≡ source_run (program_view program.now) samples.now) }
+    ensures whole { IfOk result (λ t. t.whole ≡ nat_le (length (marked_run (program_view program.now) (map region_view regions.now) samples.now).events) limit) }
     ensures told { IfOk result (λ t. t.whole ≡ true → parts t ≡ (marked_run (program_view program.now) (map region_view regions.now) samples.now).events) }
-    ensures cut { IfOk result (λ t. t.whole ≡ false → length (parts t) ≡ limit) }
+    ensures source { IfOk result (λ t. t.whole ≡ true → trace_view t.trace ≡ source_run (program_view program.now) samples.now) }
+    ensures short { IfOk result (λ t. t.whole ≡ false → ending_of t.trace.outcome ≡ AtShort) }
     ensures rises { IfOk result (λ t. Rises 0 t.marks.items (length t.trace.events.items)) }
 {
     let mut store = first_store(alloc, program, samples, limit)?;
-    match run(alloc, program, regions, &mut store) {
-        Ok(outcome) => {
-            if store.told() as u64 > limit {
-                return Err(Interrupted::Memory);
-            }
-            let trace = marked_trace(alloc, store, outcome, true)?;
-            Ok(trace)
-        }
-        Err(_) => {
-            if store.told() as u64 != limit {
-                return Err(Interrupted::Memory);
-            }
-            let trace = marked_trace(alloc, store, Outcome::Short, false)?;
-            Ok(trace)
-        }
+    let ran = run(alloc, program, regions, &mut store);
+    if store.told() as u64 > limit {
+        let trace = marked_trace(alloc, store, Outcome::Short, limit)?;
+        return Ok(trace);
     }
+    let outcome = ran?;
+    let trace = marked_trace(alloc, store, outcome, limit)?;
+    Ok(trace)
 }
 
 /// The first `limit` parts of the run of a marked program over a list of samples: the events of the
-/// source, and the marks of the regions. Where `whole`, it is told to its end, and its trace is the
-/// source's run; else its outcome and its nonvolatile words say nothing.
+/// source, and the marks of the regions. It is `whole` where the run has no more parts: then its trace
+/// is the source's run. Else its outcome is `Short`, and its nonvolatile words are those at the moment
+/// at which the part behind the first `limit` was told.
 pub fn run_marked(
     alloc: Global,
     marked: &Marked,
@@ -167,9 +161,10 @@ pub fn run_marked(
     limit: u64,
 ) -> Result<MarkedTrace, Memory>
     ensures parts { IfOk result (λ t. parts t ≡ take limit (marked_run marked.now.program marked.now.regions samples.now).events) }
-    ensures whole { IfOk result (λ t. t.whole ≡ true → trace_view t.trace ≡ source_run marked.now.program samples.now) }
+    ensures whole { IfOk result (λ t. t.whole ≡ nat_le (length (marked_run marked.now.program marked.now.regions samples.now).events) limit) }
     ensures told { IfOk result (λ t. t.whole ≡ true → parts t ≡ (marked_run marked.now.program marked.now.regions samples.now).events) }
-    ensures cut { IfOk result (λ t. t.whole ≡ false → length (parts t) ≡ limit) }
+    ensures source { IfOk result (λ t. t.whole ≡ true → trace_view t.trace ≡ source_run marked.now.program samples.now) }
+    ensures short { IfOk result (λ t. t.whole ≡ false → ending_of t.trace.outcome ≡ AtShort) }
     ensures rises { IfOk result (λ t. Rises 0 t.marks.items (length t.trace.events.items)) }
 {
     let program = marked.checked().program();

@@ -111,7 +111,7 @@ pub fn assign_index(
     store: &mut Store,
 ) -> Result<Completion, Interrupted>
     ensures step { IfOk result (λ o. completion_at o store.new ≡ with_result (completion_at given store.old) (λ v τ. with_value (value_of scope.now τ (expr_view index.now)) n τ (λ i. element_written (place_of scope.now name.now) (element_of (length (held_at τ (place_of scope.now name.now)).words) i.num) i v n τ))) }
-    ensures kept { OnErr result (store.new ≡ store.old) }
+    ensures cut { OnErr result (Oldest store.new.events (events_in (with_result (completion_at given store.old) (λ v τ. with_value (value_of scope.now τ (expr_view index.now)) n τ (λ i. element_written (place_of scope.now name.now) (element_of (length (held_at τ (place_of scope.now name.now)).words) i.num) i v n τ))))) }
 {
     match settle(alloc, given) {
         Err(stop) => Ok(Completion::Stopped { stop }),
@@ -133,7 +133,7 @@ pub fn evaluate(
     store: &mut Store,
 ) -> Result<Completion, Interrupted>
     ensures step { IfOk result (λ o. completion_at o store.new ≡ with_value (value_of scope.now store.old (expr_view value.now)) n store.old (λ v. Returned v store.old)) }
-    ensures kept { OnErr result (store.new ≡ store.old) }
+    ensures cut { OnErr result (Oldest store.new.events (events_in (with_value (value_of scope.now store.old (expr_view value.now)) n store.old (λ v. Returned v store.old)))) }
 {
     match value_of(alloc, scope, store, value)? {
         Got::Traps { kind } => store.trap(kind, n),
@@ -144,7 +144,7 @@ pub fn evaluate(
 /// An input.
 pub fn sense(run: &Running, sensor: &Name, store: &mut Store) -> Result<Completion, Interrupted>
     ensures step { IfOk result (λ o. completion_at o store.new ≡ sense (number_in run.now.program.now.names.sensors.items sensor.now) store.old.left store.old) }
-    ensures kept { OnErr result (store.new ≡ store.old) }
+    ensures cut { OnErr result (Oldest store.new.events (events_in (sense (number_in run.now.program.now.names.sensors.items sensor.now) store.old.left store.old))) }
 {
     let number = number_in(run.program.names.sensors.as_slice(), sensor)?;
     store.sense(number)
@@ -160,7 +160,7 @@ pub fn emit(
     store: &mut Store,
 ) -> Result<Completion, Interrupted>
     ensures step { IfOk result (λ o. completion_at o store.new ≡ kind_here run.now scope.now n (emit port.now (expr_view value.now)) store.old) }
-    ensures kept { OnErr result (store.new ≡ store.old) }
+    ensures cut { OnErr result (Oldest store.new.events (events_in (kind_here run.now scope.now n (emit port.now (expr_view value.now)) store.old))) }
 {
     match value_of(run.alloc, scope, store, value)? {
         Got::Traps { kind } => store.trap(kind, n),
@@ -186,7 +186,7 @@ pub fn tag(
     store: &mut Store,
 ) -> Result<Completion, Interrupted>
     ensures step { IfOk result (λ o. completion_at o store.new ≡ kind_here run.now scope.now n (consistent name.now id) store.old) }
-    ensures kept { OnErr result (store.new ≡ store.old) }
+    ensures cut { OnErr result (Oldest store.new.events (events_in (kind_here run.now scope.now n (consistent name.now id) store.old))) }
 {
     let samples = store.samples(scope.place(name))?;
     let home = set_home(run.body, id)?;

@@ -4,8 +4,9 @@ ghost use Rattle.oc_meaning.specs.Store.{held_at, left_at, made, noted, nothing,
 ghost use Rattle.oc_meaning.specs.Eval.{element_of, read_element};
 ghost use Rattle.oc_meaning.specs.Exec.{closed, element_written, entered, opened, sense, tagged, trapped};
 ghost use Rattle.oc_meaning.specs.Run.{first_values, in_order};
+ghost use Rattle.oc_meaning.specs.Cuts.{Oldest, events_in};
 ghost use Rattle.oc_meaning.specs.Seen.{got_view, completion_at, place_view};
-ghost use Rattle.oc_meaning.specs.Stores.{absent, event_view, held_or};
+ghost use Rattle.oc_meaning.specs.Stores.{absent, event_view, held_or, told};
 
 use crate::completion::{Completion, Stop};
 use crate::executed::Executed;
@@ -28,9 +29,9 @@ pub struct Event {
     pub instance: u32,
 }
 
-/// The variables, the samples that are left, the open regions, the executed blocks and the events, of
-/// which at most `limit` are told: what would tell one more answers `Cut`. On an error the store is
-/// as before.
+/// The variables, the samples that are left, the open regions, the executed blocks and the events.
+/// What tells one event more than `limit` answers `Cut`: the event is told, and all else is as before.
+/// No further one is told then. Where memory fails, the store is as before.
 /// Contracts see the local variables, the blocks and the events newest first.
 #[derive(Drop)]
 pub struct Store<'a> {
@@ -187,7 +188,7 @@ impl<'a> Store<'a> {
         stmt: StmtId,
     ) -> Result<Completion, Interrupted>
         ensures step { IfOk result (λ o. completion_at o self.new ≡ element_written (place_view place) (element_of (length (held_at self.old (place_view place)).words) index.num) index value stmt self.old) }
-        ensures kept { OnErr result (self.new ≡ self.old) }
+        ensures cut { OnErr result (Oldest self.new.events (events_in (element_written (place_view place) (element_of (length (held_at self.old (place_view place)).words) index.num) index value stmt self.old))) }
     {
         match element_of(self.count(place), index.number()) {
             Some(at) => {
@@ -219,7 +220,7 @@ impl<'a> Store<'a> {
     /// Something was said that depends on these samples.
     pub fn note(&mut self, said: Said, samples: Samples) -> Result<(), Interrupted>
         ensures step { OnOk result (self.new ≡ noted said samples self.old) }
-        ensures kept { OnErr result (self.new ≡ self.old) }
+        ensures cut { OnErr result (Oldest self.new.events (noted said samples self.old).events) }
     {
         let event = Event {
             said,
@@ -233,7 +234,7 @@ impl<'a> Store<'a> {
     /// A statement traps.
     pub fn trap(&mut self, kind: TrapKind, stmt: StmtId) -> Result<Completion, Interrupted>
         ensures step { IfOk result (λ o. completion_at o self.new ≡ trapped kind stmt self.old) }
-        ensures kept { OnErr result (self.new ≡ self.old) }
+        ensures cut { OnErr result (Oldest self.new.events (events_in (trapped kind stmt self.old))) }
     {
         let how = Ending::Trapped { kind, stmt };
         let samples = Samples::none(self.alloc);
@@ -246,7 +247,7 @@ impl<'a> Store<'a> {
     /// An annotation of the set of the block `home`.
     pub fn tag(&mut self, home: BlockId, stmt: StmtId, samples: Samples) -> Result<(), Interrupted>
         ensures step { OnOk result (self.new ≡ tagged home stmt samples self.old) }
-        ensures kept { OnErr result (self.new ≡ self.old) }
+        ensures cut { OnErr result (Oldest self.new.events (tagged home stmt samples self.old).events) }
     {
         let event = Event {
             said: Said::Showed {
@@ -271,7 +272,7 @@ impl<'a> Store<'a> {
     /// A region begins, if one does.
     pub fn open(&mut self, region: Option<u32>) -> Result<(), Interrupted>
         ensures step { OnOk result (self.new ≡ opened region self.old) }
-        ensures kept { OnErr result (self.new ≡ self.old) }
+        ensures cut { OnErr result (Oldest self.new.events (opened region self.old).events) }
     {
         let Some(region) = region else {
             return Ok(());
@@ -290,7 +291,7 @@ impl<'a> Store<'a> {
     /// A region ends, if one does.
     pub fn close(&mut self, region: Option<u32>) -> Result<(), Interrupted>
         ensures step { OnOk result (self.new ≡ closed region self.old) }
-        ensures kept { OnErr result (self.new ≡ self.old) }
+        ensures cut { OnErr result (Oldest self.new.events (closed region self.old).events) }
     {
         let Some(region) = region else {
             return Ok(());
@@ -308,7 +309,7 @@ impl<'a> Store<'a> {
     /// Takes the next sample as an input of a sensor.
     pub fn sense(&mut self, sensor: u8) -> Result<Completion, Interrupted>
         ensures step { IfOk result (λ o. completion_at o self.new ≡ sense sensor self.old.left self.old) }
-        ensures kept { OnErr result (self.new ≡ self.old) }
+        ensures cut { OnErr result (Oldest self.new.events (events_in (sense sensor self.old.left self.old))) }
     {
         if self.taken >= self.samples.len() {
             return Ok(Completion::Stopped { stop: Stop::Short });
@@ -406,15 +407,17 @@ fn write(
     Ok(())
 }
 
-/// Tells an event, of which there are at most `limit`.
+/// Tells an event, unless more than `limit` are told, and answers `Cut` where more than `limit` are
+/// told then.
 fn tell(events: &mut Vec<Event>, limit: u64, event: Event) -> Result<(), Interrupted>
     ensures step { OnOk result (events.new.items ≡ events.old.items ++ event ∷ []) }
-    ensures kept { OnErr result (events.new.items ≡ events.old.items) }
+    ensures cut { OnErr result (Oldest (told events.new.items) (event_view event ∷ told events.old.items)) }
 {
-    if events.len() as u64 >= limit {
+    if events.len() as u64 > limit {
         return Err(Interrupted::Cut);
     }
     match events.push(event) {
+        Ok(()) if events.len() as u64 > limit => Err(Interrupted::Cut),
         Ok(()) => Ok(()),
         Err(error) => Err(AllocError::from(error).into()),
     }
@@ -428,7 +431,7 @@ fn tell_if(
     mark: Event,
 ) -> Result<(), Interrupted>
     ensures step { OnOk result (events.new.items ≡ events.old.items ++ (if outermost then mark ∷ [] else [])) }
-    ensures kept { OnErr result (events.new.items ≡ events.old.items) }
+    ensures cut { OnErr result (Oldest (told events.new.items) (if outermost then event_view mark ∷ told events.old.items else told events.old.items)) }
 {
     if outermost {
         tell(events, limit, mark)?;
@@ -450,7 +453,7 @@ mod tests {
     use std::test::Fail;
 
     #[test]
-    fn tells_as_much_as_was_asked_for(rt: HostRuntime) -> Result<(), Fail> {
+    fn tells_one_more_than_was_asked_for(rt: HostRuntime) -> Result<(), Fail> {
         let alloc = rt.alloc();
         let mut store = Store::new(alloc, &[], &[7, 8], 2)?;
         assert!(rt; store.sense(0).is_ok());
@@ -459,7 +462,7 @@ mod tests {
         assert!(rt; store.close(Some(2)).is_ok());
         assert!(rt; matches!(store.close(Some(1)), Err(Interrupted::Cut)));
         assert!(rt; matches!(store.sense(0), Err(Interrupted::Cut)));
-        assert_eq!(rt; store.told(), 2);
+        assert_eq!(rt; store.told(), 3);
         Ok(())
     }
 }

@@ -1,5 +1,5 @@
 //! What a run told, once it is over.
-ghost use Rattle.std.specs.Prelude.{◌≡◌, length, map, IfOk, OnOk};
+ghost use Rattle.std.specs.Prelude.{◌≡◌, length, map, nat_le, take, true, IfOk, OnOk};
 ghost use Rattle.oc_meaning.specs.Run.{in_order, trace_at, words_of};
 ghost use Rattle.oc_meaning.specs.Unmarked.{without_marks};
 ghost use Rattle.oc_meaning.specs.Stores.{event_view};
@@ -35,7 +35,7 @@ pub struct Mark {
     pub before: u64,
 }
 
-/// A run with the marks of its regions, as far as it is told: `whole` says that it is told to its end.
+/// A run with the marks of its regions, as far as it is told: `whole` says that it has no more parts.
 #[derive(Debug, Drop)]
 pub struct MarkedTrace {
     pub trace: SourceTrace,
@@ -140,28 +140,48 @@ fn words_of(alloc: Global, variables: &[Held]) -> Result<Vec<i32>, AllocError>
     Ok(words)
 }
 
-/// What a run told with the marks of its regions, once it is over.
+/// The trace and the marks of what was noted, with the words of these variables.
+fn traced(
+    alloc: Global,
+    noted: Vec<Event>,
+    nv: Vec<Held>,
+    outcome: Outcome,
+) -> Result<(SourceTrace, Vec<Mark>), AllocError>
+    requires { AreParts (map event_view noted.items) }
+    ensures events { IfOk result (λ t. Tells t.0.events.items t.1.items (map event_view noted.items)) }
+    ensures outcome { IfOk result (λ t. t.0.outcome ≡ outcome) }
+    ensures nv { IfOk result (λ t. t.0.nv.items ≡ words_of nv.items) }
+{
+    let (events, marks) = split(alloc, noted)?;
+    let nv = words_of(alloc, &nv)?;
+    let trace = SourceTrace {
+        events,
+        outcome,
+        nv,
+    };
+    Ok((trace, marks))
+}
+
+/// The first `limit` parts that a run told with the marks of its regions.
 pub fn marked_trace(
     alloc: Global,
     store: Store,
     outcome: Outcome,
-    whole: bool,
+    limit: u64,
 ) -> Result<MarkedTrace, AllocError>
     requires { AreParts (in_order store.events) }
-    ensures source { IfOk result (λ t. trace_view t.trace ≡ without_marks (trace_at (ending_of outcome) store.entry)) }
-    ensures parts { IfOk result (λ t. parts t ≡ in_order store.entry.events) }
+    ensures parts { IfOk result (λ t. parts t ≡ take limit (in_order store.entry.events)) }
+    ensures whole { IfOk result (λ t. t.whole ≡ nat_le (length store.entry.events) limit) }
+    ensures source { IfOk result (λ t. t.whole ≡ true → trace_view t.trace ≡ without_marks (trace_at (ending_of outcome) store.entry)) }
+    ensures outcome { IfOk result (λ t. t.trace.outcome ≡ outcome) }
     ensures rises { IfOk result (λ t. Rises 0 t.marks.items (length t.trace.events.items)) }
-    ensures whole { IfOk result (λ t. t.whole ≡ whole) }
 {
-    let (noted, nv) = store.into_parts();
-    let (events, marks) = split(alloc, noted)?;
-    let nv = words_of(alloc, &nv)?;
+    let (mut noted, nv) = store.into_parts();
+    let whole = noted.len() as u64 <= limit;
+    noted.truncate(limit as usize);
+    let (trace, marks) = traced(alloc, noted, nv, outcome)?;
     Ok(MarkedTrace {
-        trace: SourceTrace {
-            events,
-            outcome,
-            nv,
-        },
+        trace,
         marks,
         whole,
     })
@@ -176,7 +196,9 @@ pub fn source_trace(
     requires { AreParts (in_order store.events) }
     ensures { IfOk result (λ t. trace_view t ≡ without_marks (trace_at (ending_of outcome) store.entry)) }
 {
-    Ok(marked_trace(alloc, store, outcome, true)?.trace)
+    let (noted, nv) = store.into_parts();
+    let (trace, _marks) = traced(alloc, noted, nv, outcome)?;
+    Ok(trace)
 }
 
 /// What a run says are parts of a trace.

@@ -3,9 +3,8 @@ use Rattle.oc_tree.specs.View.{program_view}
 use Rattle.oc_tree.specs.Regions.{region_view}
 use Rattle.oc_meaning.specs.Runs.{main_from}
 use Rattle.oc_meaning.proofs.Beginning.{trace_begins}
-use Rattle.oc_meaning.proofs.Cutting.{on_err}
 use Rattle.oc_meaning.proofs.run.run.Goals as goal
 
-pub returns-in_err-completion-clause-cut : goal.returns-in_err-completion-clause-cut
-returns-in_err-completion-clause-cut c =
-    on_err _ (trace_begins c.execute.new.store.events (main_from (program_view c.args.program.now) (map region_view c.args.regions.now) c.args.store.now) c.in_err-completion.ensures.cut)
+pub returns-in_err-completion-clause-begins : goal.returns-in_err-completion-clause-begins
+returns-in_err-completion-clause-begins c =
+    trace_begins c.execute.new.store.events (main_from (program_view c.args.program.now) (map region_view c.args.regions.now) c.args.store.now) c.in_err-completion.ensures.cut

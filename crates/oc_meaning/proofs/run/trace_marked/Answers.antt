@@ -1,4 +1,4 @@
-use Rattle.std.proofs.Common.{◌≡◌, ◌≤◌, ap, sym, ◌∙◌, subst, length, map, take, arith}
+use Rattle.std.proofs.Common.{◌≡◌, ◌≤◌, ◌<◌, ap, sym, ◌∙◌, subst, length, map, nat_le, arith}
 use Rattle.oc_tree.specs.View.{program_view}
 use Rattle.oc_tree.specs.Regions.{region_view}
 use Rattle.oc_meaning.specs.Store.{Store}
@@ -7,71 +7,83 @@ use Rattle.oc_meaning.specs.Unmarked.{without_marks}
 use Rattle.oc_meaning.proofs.Bare.{only_tell}
 use Rattle.oc_meaning.specs.Cuts.{Begins}
 use Rattle.oc_meaning.specs.Runs.{main_from}
-use Rattle.oc_meaning.specs.Traces.{AreParts, ending_of, parts, trace_view}
-use Rattle.oc_meaning.proofs.Beginning.{first_all, first_told, length-in_order, parts_front}
-use Rattle.oc_meaning.proofs.Parts.{parts_at, says_parts}
+use Rattle.oc_meaning.specs.Traces.{ending_of}
+use Rattle.oc_meaning.proofs.Beginning.{first_all, first_begun, length-in_order, more_begun, parts_begun}
 use Rattle.oc_meaning.proofs.run.trace_marked.Goals as goal
 
 pub marked_trace-requires : goal.marked_trace-requires
 marked_trace-requires c =
     let p = program_view c.args.program.now in
     let rs = map region_view c.args.regions.now in
-    let σ = c.run.new.store in
-    let ending = ending_of c.in-Ok.outcome in
+    let σ = c.run-ran.new.store in
     let start : c.in_ok-store.store ≡ first_store p c.args.samples.now = c.in_ok-store.ensures in
-    let ran : trace_at ending σ ≡ trace_of (main_from p rs c.in_ok-store.store) = c.in-Ok.ensures.runs in
-    parts_at p rs c.args.samples.now ending σ (ran ∙ ap (λ s. trace_of (main_from p rs s)) start)
+    let told : Begins (in_order σ.events) (trace_of (main_from p rs c.in_ok-store.store)).events = c.run-ran.ensures.begins in
+    let begins = subst (λ (s : Store). Begins (in_order σ.events) (trace_of (main_from p rs s)).events) start told in
+    parts_begun p rs c.args.samples.now (in_order σ.events) begins
 
-pub returns-in_ok-trace-in-Ok-clause-parts : goal.returns-in_ok-trace-in-Ok-clause-parts
-returns-in_ok-trace-in-Ok-clause-parts c =
+pub marked_trace-requires-2 : goal.marked_trace-requires-2
+marked_trace-requires-2 c =
     let p = program_view c.args.program.now in
     let rs = map region_view c.args.regions.now in
-    let σ = c.run.new.store in
-    let ending = ending_of c.in-Ok.outcome in
+    let σ = c.run-ran.new.store in
     let start : c.in_ok-store.store ≡ first_store p c.args.samples.now = c.in_ok-store.ensures in
-    let ran : trace_at ending σ ≡ trace_of (main_from p rs c.in_ok-store.store) = c.in-Ok.ensures.runs in
-    let seen : parts c.in_ok-trace-in-Ok.trace ≡ in_order σ.events = c.in_ok-trace-in-Ok.ensures.parts in
-    let told : length σ.events ≤ c.args.limit = omega (arith, c.told.ensures) in
-    seen
-    ∙ sym (first_all c.args.limit σ.events told)
-    ∙ ap (λ t. take c.args.limit t.events) (ran ∙ ap (λ s. trace_of (main_from p rs s)) start)
+    let told : Begins (in_order σ.events) (trace_of (main_from p rs c.in_ok-store.store)).events = c.run-ran.ensures.begins in
+    let begins = subst (λ (s : Store). Begins (in_order σ.events) (trace_of (main_from p rs s)).events) start told in
+    parts_begun p rs c.args.samples.now (in_order σ.events) begins
 
-pub returns-in_ok-trace-in-Ok-clause-whole : goal.returns-in_ok-trace-in-Ok-clause-whole
-returns-in_ok-trace-in-Ok-clause-whole c =
+pub returns-then-told-limit-clause-parts : goal.returns-then-told-limit-clause-parts
+returns-then-told-limit-clause-parts c =
     let p = program_view c.args.program.now in
     let rs = map region_view c.args.regions.now in
-    let σ = c.run.new.store in
-    let ending = ending_of c.in-Ok.outcome in
+    let σ = c.run-ran.new.store in
     let start : c.in_ok-store.store ≡ first_store p c.args.samples.now = c.in_ok-store.ensures in
-    let ran : trace_at ending σ ≡ trace_of (main_from p rs c.in_ok-store.store) = c.in-Ok.ensures.runs in
-    let seen : trace_view c.in_ok-trace-in-Ok.trace.trace ≡ without_marks (trace_at ending σ) = c.in_ok-trace-in-Ok.ensures.source in
-    λ _. seen ∙ ap without_marks (ran ∙ ap (λ s. trace_of (main_from p rs s)) start) ∙ only_tell p rs c.args.samples.now
+    let told : Begins (in_order σ.events) (trace_of (main_from p rs c.in_ok-store.store)).events = c.run-ran.ensures.begins in
+    let begins = subst (λ (s : Store). Begins (in_order σ.events) (trace_of (main_from p rs s)).events) start told in
+    let more : c.args.limit ≤ length σ.events = omega (arith, c.told.ensures) in
+    c.in_ok-trace.ensures.parts ∙ first_begun c.args.limit σ.events (marked_run p rs c.args.samples.now).events more begins
 
-pub marked_trace-requires-in-Err : goal.marked_trace-requires-in-Err
-marked_trace-requires-in-Err c =
+pub returns-then-told-limit-clause-whole : goal.returns-then-told-limit-clause-whole
+returns-then-told-limit-clause-whole c =
     let p = program_view c.args.program.now in
     let rs = map region_view c.args.regions.now in
-    let σ = c.run.new.store in
+    let σ = c.run-ran.new.store in
     let start : c.in_ok-store.store ≡ first_store p c.args.samples.now = c.in_ok-store.ensures in
-    let cut : Begins (in_order σ.events) (trace_of (main_from p rs c.in_ok-store.store)).events = c.in-Err.ensures.cut in
-    let begins = subst (λ (s : Store). Begins (in_order σ.events) (trace_of (main_from p rs s)).events) start cut in
-    parts_front (in_order σ.events) begins.rest (subst AreParts begins.is (says_parts p rs c.args.samples.now))
+    let told : Begins (in_order σ.events) (trace_of (main_from p rs c.in_ok-store.store)).events = c.run-ran.ensures.begins in
+    let begins = subst (λ (s : Store). Begins (in_order σ.events) (trace_of (main_from p rs s)).events) start told in
+    let more : c.args.limit < length σ.events = omega (arith, c.told.ensures) in
+    c.in_ok-trace.ensures.whole ∙ more_begun c.args.limit σ.events (marked_run p rs c.args.samples.now).events more begins
 
-pub returns-in_ok-trace-in-Err-clause-parts : goal.returns-in_ok-trace-in-Err-clause-parts
-returns-in_ok-trace-in-Err-clause-parts c =
+pub returns-clause-whole : goal.returns-clause-whole
+returns-clause-whole c =
     let p = program_view c.args.program.now in
     let rs = map region_view c.args.regions.now in
-    let σ = c.run.new.store in
+    let σ = c.run-ran.new.store in
     let start : c.in_ok-store.store ≡ first_store p c.args.samples.now = c.in_ok-store.ensures in
-    let cut : Begins (in_order σ.events) (trace_of (main_from p rs c.in_ok-store.store)).events = c.in-Err.ensures.cut in
-    let begins = subst (λ (s : Store). Begins (in_order σ.events) (trace_of (main_from p rs s)).events) start cut in
-    let seen : parts c.in_ok-trace-in-Err.trace ≡ in_order σ.events = c.in_ok-trace-in-Err.ensures.parts in
-    let told : length σ.events ≡ c.args.limit = omega (arith, c.told-in-Err.ensures) in
-    seen ∙ sym (first_told c.args.limit σ.events (marked_run p rs c.args.samples.now).events told begins)
+    let ending = ending_of c.in_ok-outcome.outcome in
+    let started : trace_at ending σ ≡ trace_of (main_from p rs c.in_ok-store.store) = c.in_ok-outcome.ensures.runs in
+    let ran : trace_at ending σ ≡ marked_run p rs c.args.samples.now = started ∙ ap (λ s. trace_of (main_from p rs s)) start in
+    c.in_ok-trace-2.ensures.whole
+    ∙ ap (λ n. nat_le n c.args.limit) (sym (length-in_order σ.events) ∙ ap (λ t. length t.events) ran)
 
-pub returns-in_ok-trace-in-Err-clause-cut : goal.returns-in_ok-trace-in-Err-clause-cut
-returns-in_ok-trace-in-Err-clause-cut c =
-    let σ = c.run.new.store in
-    let seen : parts c.in_ok-trace-in-Err.trace ≡ in_order σ.events = c.in_ok-trace-in-Err.ensures.parts in
-    let told : length σ.events ≡ c.args.limit = omega (arith, c.told-in-Err.ensures) in
-    λ _. ap length seen ∙ length-in_order σ.events ∙ told
+pub returns-clause-told : goal.returns-clause-told
+returns-clause-told c =
+    let p = program_view c.args.program.now in
+    let rs = map region_view c.args.regions.now in
+    let σ = c.run-ran.new.store in
+    let start : c.in_ok-store.store ≡ first_store p c.args.samples.now = c.in_ok-store.ensures in
+    let ending = ending_of c.in_ok-outcome.outcome in
+    let started : trace_at ending σ ≡ trace_of (main_from p rs c.in_ok-store.store) = c.in_ok-outcome.ensures.runs in
+    let ran : trace_at ending σ ≡ marked_run p rs c.args.samples.now = started ∙ ap (λ s. trace_of (main_from p rs s)) start in
+    let few : length σ.events ≤ c.args.limit = omega (arith, c.told.ensures) in
+    λ _. c.in_ok-trace-2.ensures.parts ∙ first_all c.args.limit σ.events few ∙ ap (λ t. t.events) ran
+
+pub returns-clause-source : goal.returns-clause-source
+returns-clause-source c =
+    let p = program_view c.args.program.now in
+    let rs = map region_view c.args.regions.now in
+    let σ = c.run-ran.new.store in
+    let start : c.in_ok-store.store ≡ first_store p c.args.samples.now = c.in_ok-store.ensures in
+    let ending = ending_of c.in_ok-outcome.outcome in
+    let started : trace_at ending σ ≡ trace_of (main_from p rs c.in_ok-store.store) = c.in_ok-outcome.ensures.runs in
+    let ran : trace_at ending σ ≡ marked_run p rs c.args.samples.now = started ∙ ap (λ s. trace_of (main_from p rs s)) start in
+    λ whole. c.in_ok-trace-2.ensures.source whole ∙ ap without_marks ran ∙ only_tell p rs c.args.samples.now

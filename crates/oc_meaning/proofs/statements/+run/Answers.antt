@@ -26,7 +26,7 @@ use Rattle.oc_meaning.proofs.Sizes.{largest, less_deep, no_larger}
 use Rattle.oc_meaning.proofs.Turns.{count_more, for_more, for_over, one_left, while_ends, while_more, while_traps}
 use Rattle.oc_meaning.proofs.FreshNames.{begun_if, ended_if}
 use Rattle.oc_meaning.proofs.Growing.{leave_keeps}
-use Rattle.oc_meaning.proofs.Cutting.{all_of_them, along_with, as_before, behind_kind, block_from, call_from, callee_from, closed_from, in_store, index_from, kind_from, on_err, one_more, opened_from, right_from, stmt_from, stmts_from, then_from, turn_from, turns_from, while_from}
+use Rattle.oc_meaning.proofs.Cutting.{all_of_them, along_with, as_before, begun_stmt_from, behind_kind, block_from, call_from, callee_from, closed_from, in_other, index_from, kind_from, on_err, one_more, opened_from, stmt_from, stmts_from, then_from, turn_from, turns_from, while_from}
 use Rattle.oc_meaning.proofs.statements.+run.Goals as goal
 
 pub block-returns-clause-runs : goal.block-returns-clause-runs
@@ -341,12 +341,6 @@ block-returns-in_err-enter-clause-cut t c =
     let τ = c.enter.new.self in
     on_err _ (block_from τ.events c.args.run.now c.args.scope.now (block_view c.args.block.now) c.args.store.now (as_before τ c.args.store.now c.in_err-enter.ensures.kept))
 
-pub call-returns-in-Breaks-clause-cut : goal.call-returns-in-Breaks-clause-cut
-call-returns-in-Breaks-clause-cut t c =
-    let σ = c.args.store.now in
-    let τ = c.trap.new.self in
-    on_err_weaker c.trap.result (λ (kept : τ ≡ σ). call_from τ.events c.args.run.now c.args.scope.now c.args.n σ (call_view c.args.call.now) (as_before τ σ kept)) c.trap.ensures.kept
-
 pub call-returns-in_err-trapped-clause-cut : goal.call-returns-in_err-trapped-clause-cut
 call-returns-in_err-trapped-clause-cut t c =
     let σ = c.args.store.now in
@@ -440,26 +434,6 @@ for_turns-returns-in_err-push-clause-cut t c =
     (along_with σ.events (for_turns (count_of (end -ℤ i)) i body σ) (for_turns (count_of (c.args.to -ℤ c.args.from)) c.args.from body c.args.store.now) whole
     (turns_from σ.events (count_of (end -ℤ i)) i body σ (as_before σ σ refl) (λ j υ m. block_from σ.events r (in_turn x j ∷ env) b υ m)))
 
-pub kind-returns-in-AssignIndex-clause-cut : goal.kind-returns-in-AssignIndex-clause-cut
-unfolding X.roll-StmtKind denote.Hole.Carrier.roll
-kind-returns-in-AssignIndex-clause-cut t c =
-    let r = c.args.run.now in
-    let env = c.args.scope.now in
-    let σ = c.args.store.now in
-    let n = c.args.n in
-    let x = c.in-AssignIndex.name in
-    let e = expr_view c.in-AssignIndex.index in
-    let s = right_view c.in-AssignIndex.side in
-    let view : kind_view c.args.kind.now ≡ assign_index x e s = ap kind_view c.in-AssignIndex.is ∙ fold-roll-StmtKind TKind TBlock TStmt kind_step block_step stmt_step (StmtKind-F.AssignIndex x c.in-AssignIndex.index c.in-AssignIndex.side) in
-    let τ = c.right-in-AssignIndex.new.store in
-    let υ = c.assign_index.new.store in
-    let ran : completion_at c.in_ok-given-in-AssignIndex.given τ ≡ right_here r env n σ s = c.in_ok-given-in-AssignIndex.ensures.runs in
-    on_err_weaker c.assign_index.result
-    (λ (kept : υ ≡ τ). along_with υ.events (kind_here r env n (assign_index x e s) σ) (kind_here r env n (kind_view c.args.kind.now) σ) (ap (λ k. kind_here r env n k σ) (sym view))
-    (index_from υ.events r env n x e s σ
-    (along_with υ.events (completion_at c.in_ok-given-in-AssignIndex.given τ) (right_here r env n σ s) ran (in_store υ.events c.in_ok-given-in-AssignIndex.given τ (as_before υ τ kept)))))
-    c.assign_index.ensures.kept
-
 pub kind-returns-in_err-given-in-AssignIndex-clause-cut : goal.kind-returns-in_err-given-in-AssignIndex-clause-cut
 unfolding X.roll-StmtKind denote.Hole.Carrier.roll
 kind-returns-in_err-given-in-AssignIndex-clause-cut t c =
@@ -477,46 +451,10 @@ kind-returns-in_err-given-in-AssignIndex-clause-cut t c =
     (along_with events (kind_here r env n (assign_index x e s) σ) (kind_here r env n (kind_view c.args.kind.now) σ) (ap (λ k. kind_here r env n k σ) (sym view))
     (index_from events r env n x e s σ cut))
 
-pub kind-returns-in-Consistent-clause-cut : goal.kind-returns-in-Consistent-clause-cut
-kind-returns-in-Consistent-clause-cut t c =
-    let σ = c.args.store.now in
-    let τ = c.tag.new.store in
-    on_err_weaker c.tag.result (λ (kept : τ ≡ σ). kind_from τ.events c.args.run.now c.args.scope.now c.args.n (kind_view c.args.kind.now) σ (as_before τ σ kept)) c.tag.ensures.kept
-
-pub kind-returns-in-Emit-clause-cut : goal.kind-returns-in-Emit-clause-cut
-kind-returns-in-Emit-clause-cut t c =
-    let σ = c.args.store.now in
-    let τ = c.emit.new.store in
-    on_err_weaker c.emit.result (λ (kept : τ ≡ σ). kind_from τ.events c.args.run.now c.args.scope.now c.args.n (kind_view c.args.kind.now) σ (as_before τ σ kept)) c.emit.ensures.kept
-
-pub kind-returns-in-Traps-clause-cut : goal.kind-returns-in-Traps-clause-cut
-kind-returns-in-Traps-clause-cut t c =
-    let σ = c.args.store.now in
-    let τ = c.trap.new.self in
-    on_err_weaker c.trap.result (λ (kept : τ ≡ σ). kind_from τ.events c.args.run.now c.args.scope.now c.args.n (kind_view c.args.kind.now) σ (as_before τ σ kept)) c.trap.ensures.kept
-
-pub kind-returns-in_err-given-in-SenseOnly-clause-cut : goal.kind-returns-in_err-given-in-SenseOnly-clause-cut
-kind-returns-in_err-given-in-SenseOnly-clause-cut t c =
-    let σ = c.args.store.now in
-    let τ = c.sense.new.store in
-    on_err _ (kind_from τ.events c.args.run.now c.args.scope.now c.args.n (kind_view c.args.kind.now) σ (as_before τ σ c.in_err-given-in-SenseOnly.ensures.kept))
-
 pub kind-returns-in_err-trapped-in-If-clause-cut : goal.kind-returns-in_err-trapped-in-If-clause-cut
 kind-returns-in_err-trapped-in-If-clause-cut t c =
     let σ = c.args.store.now in
     on_err _ (kind_from σ.events c.args.run.now c.args.scope.now c.args.n (kind_view c.args.kind.now) σ (as_before σ σ refl))
-
-pub right-returns-in-Sense-clause-cut : goal.right-returns-in-Sense-clause-cut
-right-returns-in-Sense-clause-cut t c =
-    let σ = c.args.store.now in
-    let τ = c.sense.new.store in
-    on_err_weaker c.sense.result (λ (kept : τ ≡ σ). right_from τ.events c.args.run.now c.args.scope.now c.args.n σ (right_view c.args.side.now) (as_before τ σ kept)) c.sense.ensures.kept
-
-pub right-returns-in-Value-clause-cut : goal.right-returns-in-Value-clause-cut
-right-returns-in-Value-clause-cut t c =
-    let σ = c.args.store.now in
-    let τ = c.evaluate.new.store in
-    on_err_weaker c.evaluate.result (λ (kept : τ ≡ σ). right_from τ.events c.args.run.now c.args.scope.now c.args.n σ (right_view c.args.side.now) (as_before τ σ kept)) c.evaluate.ensures.kept
 
 pub statement-returns-in_default : goal.statement-returns-in_default
 statement-returns-in_default t c =
@@ -538,71 +476,6 @@ statement-returns-in_default t c =
       scope = c.in_ok-other.ensures.scope;
       cut = tt;
     }
-
-pub statement-returns-in_err-begin-clause-cut : goal.statement-returns-in_err-begin-clause-cut
-statement-returns-in_err-begin-clause-cut t c =
-    let r = c.args.run.now in
-    let env = c.args.scope.now in
-    let σ = c.args.store.now in
-    let n = c.args.statement.now.id in
-    let k = kind_view c.args.statement.now.kind in
-    let samples = use_samples env k σ in
-    let begins = opened (begun_by (map region_view r.regions.now) n) σ in
-    let open_is : c.open.new.self ≡ begins = c.in_ok-open.ensures.step ∙ ap (λ o. opened o σ) c.begun_by.ensures in
-    let τ = c.begin.new.store in
-    on_err _ (opened_from τ.events r env n k σ (as_before τ begins (c.in_err-begin.ensures.kept ∙ open_is)))
-
-pub statement-returns-in_err-close-in-Went-clause-cut : goal.statement-returns-in_err-close-in-Went-clause-cut
-statement-returns-in_err-close-in-Went-clause-cut t c =
-    let r = c.args.run.now in
-    let env = c.args.scope.now in
-    let σ = c.args.store.now in
-    let n = c.args.statement.now.id in
-    let k = kind_view c.args.statement.now.kind in
-    let samples = use_samples env k σ in
-    let begins = opened (begun_by (map region_view r.regions.now) n) σ in
-    let open_is : c.open.new.self ≡ begins = c.in_ok-open.ensures.step ∙ ap (λ o. opened o σ) c.begun_by.ensures in
-    let υ = used (begins_use (is_fresh env) k) n samples begins in
-    let begun_is : c.begin.new.store ≡ υ =
-    c.in_ok-begin.ensures.step ∙ ap (λ u. begun_at k u n c.open.new.self) c.in_ok-uses.ensures ∙ ap (begun_at k (if is_use (is_fresh env) k then Some samples else None) n) open_is ∙ begun_if (is_fresh env) k n samples begins in
-    let ends : Store → Store = λ s. closed (ended_by (map region_view r.regions.now) n) (done (ends_use (is_fresh env) k) n samples s) in
-    let τ = c.kind.new.store in
-    let went : kind_here r env n k υ ≡ Went τ = sym (c.in_ok-other.ensures.runs ∙ ap (kind_here r env n k) begun_is) ∙ ap (λ o. completion_at o τ) c.in-Went.is in
-    let ω = c.close.new.self in
-    let over = done (ends_use (is_fresh env) k) n samples τ in
-    let end_is : c.end.new.store ≡ over = c.in_ok-end-in-Went.ensures.step ∙ ap (λ u. ended_at k u n τ) c.in_ok-uses.ensures ∙ ended_if (is_fresh env) k n samples τ in
-    on_err _
-    (along_with ω.events (Went (ends τ)) (stmt_here r env n k σ) (ap (finished ends) (sym went))
-    (closed_from ω.events (ended_by (map region_view r.regions.now) n) over (as_before ω over (c.in_err-close-in-Went.ensures.kept ∙ end_is))))
-
-pub statement-returns-in_err-end-in-Went-clause-cut : goal.statement-returns-in_err-end-in-Went-clause-cut
-statement-returns-in_err-end-in-Went-clause-cut t c =
-    let r = c.args.run.now in
-    let env = c.args.scope.now in
-    let σ = c.args.store.now in
-    let n = c.args.statement.now.id in
-    let k = kind_view c.args.statement.now.kind in
-    let samples = use_samples env k σ in
-    let begins = opened (begun_by (map region_view r.regions.now) n) σ in
-    let open_is : c.open.new.self ≡ begins = c.in_ok-open.ensures.step ∙ ap (λ o. opened o σ) c.begun_by.ensures in
-    let υ = used (begins_use (is_fresh env) k) n samples begins in
-    let begun_is : c.begin.new.store ≡ υ =
-    c.in_ok-begin.ensures.step ∙ ap (λ u. begun_at k u n c.open.new.self) c.in_ok-uses.ensures ∙ ap (begun_at k (if is_use (is_fresh env) k then Some samples else None) n) open_is ∙ begun_if (is_fresh env) k n samples begins in
-    let τ = c.kind.new.store in
-    let went : kind_here r env n k υ ≡ Went τ = sym (c.in_ok-other.ensures.runs ∙ ap (kind_here r env n k) begun_is) ∙ ap (λ o. completion_at o τ) c.in-Went.is in
-    let ω = c.end.new.store in
-    on_err _ (behind_kind ω.events r env n k σ (kind_here r env n k υ) (along_with ω.events (Went τ) (kind_here r env n k υ) (sym went) (as_before ω τ c.in_err-end-in-Went.ensures.kept)))
-
-pub statement-returns-in_err-open-clause-cut : goal.statement-returns-in_err-open-clause-cut
-statement-returns-in_err-open-clause-cut t c =
-    let r = c.args.run.now in
-    let env = c.args.scope.now in
-    let σ = c.args.store.now in
-    let n = c.args.statement.now.id in
-    let k = kind_view c.args.statement.now.kind in
-    let samples = use_samples env k σ in
-    let τ = c.open.new.self in
-    on_err _ (stmt_from τ.events r env n k σ (as_before τ σ c.in_err-open.ensures.kept))
 
 pub statement-returns-in_err-other-clause-cut : goal.statement-returns-in_err-other-clause-cut
 statement-returns-in_err-other-clause-cut t c =
@@ -694,49 +567,6 @@ statements-returns-in_err-other-clause-cut t c =
     (along_with τ.events (then_do (stmt_here r γ s.id k σ) go) (stmts_here r env (stmts_in (block_view c.args.block.now)) c.args.store.now) whole
     (then_from τ.events (stmt_here r γ s.id k σ) go c.in_err-other.ensures.cut (λ υ l. stmts_from τ.events r (grown k rest γ σ) rest υ l)))
 
-pub while_turns-returns-clause-cut : goal.while_turns-returns-clause-cut
-while_turns-returns-clause-cut t c =
-    let r = c.args.run.now in
-    let env = c.args.scope.now in
-    let σ = c.loop-turn.store in
-    let n = c.args.n in
-    let k = kind_view c.args.kind.now in
-    let cond = expr_view c.args.condition.now in
-    let b = block_view c.args.body.now in
-    let is = is_use (is_fresh env) k in
-    let taken = use_samples env k in
-    let turns = λ (t : ℕ). while_turns t n is taken (λ s. value_of env s cond) (block_here r env b) in
-    let ω = c.end_turns-2.new.store in
-    on_err_weaker c.end_turns-2.result
-    (λ (kept : ω ≡ σ). along_with ω.events (turns (c.args.bound - c.loop-turn._turn) c.loop-turn.samples σ) (turns c.args.bound [] c.args.store.now) c.loop-turn.invariant.runs
-    (while_from ω.events (c.args.bound - c.loop-turn._turn) n is taken (λ s. value_of env s cond) (block_here r env b) c.loop-turn.samples σ (as_before ω σ kept) (λ s l. block_from ω.events r env b s l)))
-    c.end_turns-2.ensures.kept
-
-pub while_turns-returns-in-Traps-clause-cut : goal.while_turns-returns-in-Traps-clause-cut
-while_turns-returns-in-Traps-clause-cut t c =
-    let r = c.args.run.now in
-    let env = c.args.scope.now in
-    let γ = c.loop-turn.scope in
-    let σ = c.loop-turn.store in
-    let τ = c.begin_turn.new.store in
-    let n = c.args.n in
-    let k = kind_view c.args.kind.now in
-    let cond = expr_view c.args.condition.now in
-    let b = block_view c.args.body.now in
-    let before = c.loop-turn.samples in
-    let is = is_use (is_fresh env) k in
-    let taken = use_samples env k in
-    let left = c.args.bound - (c.loop-turn._turn + 1) in
-    let same : γ ≡ env = c.loop-turn.invariant.scope in
-    let told : τ ≡ used (is_use (is_fresh γ) k) n (use_samples γ k σ) σ = c.in_ok-samples.ensures.store in
-    let began : τ ≡ used is n (taken σ) σ = told ∙ ap (λ g. used (is_use (is_fresh g) k) n (use_samples g k σ) σ) same in
-    let turns = λ (t : ℕ). while_turns t n is taken (λ s. value_of env s cond) (block_here r env b) in
-    let ω = c.trap.new.self in
-    on_err_weaker c.trap.result
-    (λ (kept : ω ≡ τ). along_with ω.events (turns (suc left) before σ) (turns c.args.bound [] c.args.store.now) (ap (λ t. turns t before σ) (sym (one_left c.args.bound c.loop-turn._turn c.loop-turn-test.true)) ∙ c.loop-turn.invariant.runs)
-    (turn_from ω.events left n is taken (λ s. value_of env s cond) (block_here r env b) before σ (as_before ω (used is n (taken σ) σ) (kept ∙ began)) (λ s l. block_from ω.events r env b s l)))
-    c.trap.ensures.kept
-
 pub while_turns-returns-in-Traps-clause-runs : goal.while_turns-returns-in-Traps-clause-runs
 while_turns-returns-in-Traps-clause-runs t c =
     let r = c.args.run.now in
@@ -804,23 +634,6 @@ while_turns-returns-in_err-other-clause-cut t c =
     (along_with events (then_do (block_here r env b (used is n (taken σ) σ)) go) (turns c.args.bound [] c.args.store.now) (sym step ∙ c.loop-turn.invariant.runs)
     (then_from events (block_here r env b (used is n (taken σ) σ)) go ran (λ s l. while_from events left n is taken (λ s. value_of env s cond) (block_here r env b) (union before (taken σ)) s l (λ s l. block_from events r env b s l))))
 
-pub while_turns-returns-in_err-samples-clause-cut : goal.while_turns-returns-in_err-samples-clause-cut
-while_turns-returns-in_err-samples-clause-cut t c =
-    let r = c.args.run.now in
-    let env = c.args.scope.now in
-    let σ = c.loop-turn.store in
-    let n = c.args.n in
-    let k = kind_view c.args.kind.now in
-    let cond = expr_view c.args.condition.now in
-    let b = block_view c.args.body.now in
-    let is = is_use (is_fresh env) k in
-    let taken = use_samples env k in
-    let turns = λ (t : ℕ). while_turns t n is taken (λ s. value_of env s cond) (block_here r env b) in
-    let ω = c.begin_turn.new.store in
-    on_err _
-    (along_with ω.events (turns (c.args.bound - c.loop-turn._turn) c.loop-turn.samples σ) (turns c.args.bound [] c.args.store.now) c.loop-turn.invariant.runs
-    (while_from ω.events (c.args.bound - c.loop-turn._turn) n is taken (λ s. value_of env s cond) (block_here r env b) c.loop-turn.samples σ (as_before ω σ c.in_err-samples.ensures.kept) (λ s l. block_from ω.events r env b s l)))
-
 pub while_turns-returns-in_err-trapped-clause-cut : goal.while_turns-returns-in_err-trapped-clause-cut
 while_turns-returns-in_err-trapped-clause-cut t c =
     let r = c.args.run.now in
@@ -844,6 +657,131 @@ while_turns-returns-in_err-trapped-clause-cut t c =
     (along_with τ.events (turns (suc left) before σ) (turns c.args.bound [] c.args.store.now) (ap (λ t. turns t before σ) (sym (one_left c.args.bound c.loop-turn._turn c.loop-turn-test.true)) ∙ c.loop-turn.invariant.runs)
     (turn_from τ.events left n is taken (λ s. value_of env s cond) (block_here r env b) before σ (as_before τ (used is n (taken σ) σ) began) (λ s l. block_from τ.events r env b s l)))
 
+pub statement-returns-in_err-begin-clause-cut : goal.statement-returns-in_err-begin-clause-cut
+statement-returns-in_err-begin-clause-cut t c =
+    let r = c.args.run.now in
+    let env = c.args.scope.now in
+    let σ = c.args.store.now in
+    let n = c.args.statement.now.id in
+    let k = kind_view c.args.statement.now.kind in
+    let samples = use_samples env k σ in
+    let begins = opened (begun_by (map region_view r.regions.now) n) σ in
+    let open_is : c.open.new.self ≡ begins = c.in_ok-open.ensures.step ∙ ap (λ o. opened o σ) c.begun_by.ensures in
+    let υ = used (begins_use (is_fresh env) k) n samples begins in
+    let ω = c.begin.new.store in
+    let begun_is : begun_at k c.in_ok-uses.uses n c.open.new.self ≡ υ =
+    ap (λ u. begun_at k u n c.open.new.self) c.in_ok-uses.ensures ∙ ap (begun_at k (if is_use (is_fresh env) k then Some samples else None) n) open_is ∙ begun_if (is_fresh env) k n samples begins in
+    on_err _ (begun_stmt_from ω.events r env n k σ (in_other ω.events (begun_at k c.in_ok-uses.uses n c.open.new.self) υ begun_is c.in_err-begin.ensures.cut))
+
+pub statement-returns-in_err-close-in-Went-clause-cut : goal.statement-returns-in_err-close-in-Went-clause-cut
+statement-returns-in_err-close-in-Went-clause-cut t c =
+    let r = c.args.run.now in
+    let env = c.args.scope.now in
+    let σ = c.args.store.now in
+    let n = c.args.statement.now.id in
+    let k = kind_view c.args.statement.now.kind in
+    let samples = use_samples env k σ in
+    let begins = opened (begun_by (map region_view r.regions.now) n) σ in
+    let open_is : c.open.new.self ≡ begins = c.in_ok-open.ensures.step ∙ ap (λ o. opened o σ) c.begun_by.ensures in
+    let υ = used (begins_use (is_fresh env) k) n samples begins in
+    let begun_is : c.begin.new.store ≡ υ =
+    c.in_ok-begin.ensures.step ∙ ap (λ u. begun_at k u n c.open.new.self) c.in_ok-uses.ensures ∙ ap (begun_at k (if is_use (is_fresh env) k then Some samples else None) n) open_is ∙ begun_if (is_fresh env) k n samples begins in
+    let ends : Store → Store = λ s. closed (ended_by (map region_view r.regions.now) n) (done (ends_use (is_fresh env) k) n samples s) in
+    let τ = c.kind.new.store in
+    let went : kind_here r env n k υ ≡ Went τ = sym (c.in_ok-other.ensures.runs ∙ ap (kind_here r env n k) begun_is) ∙ ap (λ o. completion_at o τ) c.in-Went.is in
+    let ω = c.close.new.self in
+    let end_is : c.end.new.store ≡ done (ends_use (is_fresh env) k) n samples τ = c.in_ok-end-in-Went.ensures.step ∙ ap (λ u. ended_at k u n τ) c.in_ok-uses.ensures ∙ ended_if (is_fresh env) k n samples τ in
+    let close_is : closed c.ended_by.result c.end.new.store ≡ ends τ = ap (λ o. closed o c.end.new.store) c.ended_by.ensures ∙ ap (closed (ended_by (map region_view r.regions.now) n)) end_is in
+    on_err _
+    (along_with ω.events (Went (ends τ)) (stmt_here r env n k σ) (ap (finished ends) (sym went))
+    (in_other ω.events (closed c.ended_by.result c.end.new.store) (ends τ) close_is c.in_err-close-in-Went.ensures.cut))
+
+pub statement-returns-in_err-end-in-Went-clause-cut : goal.statement-returns-in_err-end-in-Went-clause-cut
+statement-returns-in_err-end-in-Went-clause-cut t c =
+    let r = c.args.run.now in
+    let env = c.args.scope.now in
+    let σ = c.args.store.now in
+    let n = c.args.statement.now.id in
+    let k = kind_view c.args.statement.now.kind in
+    let samples = use_samples env k σ in
+    let begins = opened (begun_by (map region_view r.regions.now) n) σ in
+    let open_is : c.open.new.self ≡ begins = c.in_ok-open.ensures.step ∙ ap (λ o. opened o σ) c.begun_by.ensures in
+    let υ = used (begins_use (is_fresh env) k) n samples begins in
+    let begun_is : c.begin.new.store ≡ υ =
+    c.in_ok-begin.ensures.step ∙ ap (λ u. begun_at k u n c.open.new.self) c.in_ok-uses.ensures ∙ ap (begun_at k (if is_use (is_fresh env) k then Some samples else None) n) open_is ∙ begun_if (is_fresh env) k n samples begins in
+    let ends : Store → Store = λ s. closed (ended_by (map region_view r.regions.now) n) (done (ends_use (is_fresh env) k) n samples s) in
+    let τ = c.kind.new.store in
+    let went : kind_here r env n k υ ≡ Went τ = sym (c.in_ok-other.ensures.runs ∙ ap (kind_here r env n k) begun_is) ∙ ap (λ o. completion_at o τ) c.in-Went.is in
+    let ω = c.end.new.store in
+    let over = done (ends_use (is_fresh env) k) n samples τ in
+    let end_is : ended_at k c.in_ok-uses.uses n τ ≡ over = ap (λ u. ended_at k u n τ) c.in_ok-uses.ensures ∙ ended_if (is_fresh env) k n samples τ in
+    on_err _
+    (along_with ω.events (Went (ends τ)) (stmt_here r env n k σ) (ap (finished ends) (sym went))
+    (closed_from ω.events (ended_by (map region_view r.regions.now) n) over (in_other ω.events (ended_at k c.in_ok-uses.uses n τ) over end_is c.in_err-end-in-Went.ensures.cut)))
+
+pub statement-returns-in_err-open-clause-cut : goal.statement-returns-in_err-open-clause-cut
+statement-returns-in_err-open-clause-cut t c =
+    let r = c.args.run.now in
+    let env = c.args.scope.now in
+    let σ = c.args.store.now in
+    let n = c.args.statement.now.id in
+    let k = kind_view c.args.statement.now.kind in
+    let ω = c.open.new.self in
+    let open_is : opened c.begun_by.result σ ≡ opened (begun_by (map region_view r.regions.now) n) σ = ap (λ o. opened o σ) c.begun_by.ensures in
+    on_err _ (opened_from ω.events r env n k σ (in_other ω.events (opened c.begun_by.result σ) (opened (begun_by (map region_view r.regions.now) n) σ) open_is c.in_err-open.ensures.cut))
+
+pub while_turns-returns-in_err-samples-clause-cut : goal.while_turns-returns-in_err-samples-clause-cut
+while_turns-returns-in_err-samples-clause-cut t c =
+    let r = c.args.run.now in
+    let env = c.args.scope.now in
+    let γ = c.loop-turn.scope in
+    let σ = c.loop-turn.store in
+    let n = c.args.n in
+    let k = kind_view c.args.kind.now in
+    let cond = expr_view c.args.condition.now in
+    let b = block_view c.args.body.now in
+    let before = c.loop-turn.samples in
+    let is = is_use (is_fresh env) k in
+    let taken = use_samples env k in
+    let left = c.args.bound - (c.loop-turn._turn + 1) in
+    let same : γ ≡ env = c.loop-turn.invariant.scope in
+    let begins : used (is_use (is_fresh γ) k) n (use_samples γ k σ) σ ≡ used is n (taken σ) σ = ap (λ g. used (is_use (is_fresh g) k) n (use_samples g k σ) σ) same in
+    let turns = λ (t : ℕ). while_turns t n is taken (λ s. value_of env s cond) (block_here r env b) in
+    let ω = c.begin_turn.new.store in
+    on_err _
+    (along_with ω.events (turns (suc left) before σ) (turns c.args.bound [] c.args.store.now) (ap (λ t. turns t before σ) (sym (one_left c.args.bound c.loop-turn._turn c.loop-turn-test.true)) ∙ c.loop-turn.invariant.runs)
+    (turn_from ω.events left n is taken (λ s. value_of env s cond) (block_here r env b) before σ
+    (in_other ω.events (used (is_use (is_fresh γ) k) n (use_samples γ k σ) σ) (used is n (taken σ) σ) begins c.in_err-samples.ensures.cut)
+    (λ s l. block_from ω.events r env b s l)))
+
+pub while_turns-returns-in-Traps-clause-cut : goal.while_turns-returns-in-Traps-clause-cut
+while_turns-returns-in-Traps-clause-cut t c =
+    let r = c.args.run.now in
+    let env = c.args.scope.now in
+    let γ = c.loop-turn.scope in
+    let σ = c.loop-turn.store in
+    let τ = c.begin_turn.new.store in
+    let n = c.args.n in
+    let k = kind_view c.args.kind.now in
+    let cond = expr_view c.args.condition.now in
+    let b = block_view c.args.body.now in
+    let before = c.loop-turn.samples in
+    let is = is_use (is_fresh env) k in
+    let taken = use_samples env k in
+    let same : γ ≡ env = c.loop-turn.invariant.scope in
+    let told : τ ≡ used (is_use (is_fresh γ) k) n (use_samples γ k σ) σ = c.in_ok-samples.ensures.store in
+    let began : τ ≡ used is n (taken σ) σ = told ∙ ap (λ g. used (is_use (is_fresh g) k) n (use_samples g k σ) σ) same in
+    let turns = λ (t : ℕ). while_turns t n is taken (λ s. value_of env s cond) (block_here r env b) in
+    let found : value_of env (used is n (taken σ) σ) cond ≡ Traps c.in-Traps.trapped =
+    ap (λ s. value_of env s cond) (sym began) ∙ ap (λ g. value_of g τ cond) (sym same) ∙ sym c.in_ok-trapped.ensures ∙ ap got_view c.in-Traps.is in
+    let ω = c.trap.new.self in
+    on_err_weaker c.trap.result
+    (λ (cut : Oldest ω.events (events_in (trapped c.in-Traps.trapped n τ))). along_with ω.events (trapped c.in-Traps.trapped n τ) (turns c.args.bound [] c.args.store.now)
+    (ap (trapped c.in-Traps.trapped n) began
+    ∙ sym (while_traps n is taken (λ s. value_of env s cond) (block_here r env b) c.args.bound c.loop-turn._turn before σ c.in-Traps.trapped c.loop-turn-test.true found)
+    ∙ c.loop-turn.invariant.runs) cut)
+    c.trap.ensures.cut
+
 pub while_turns-returns-then-is_zero-clause-cut : goal.while_turns-returns-then-is_zero-clause-cut
 while_turns-returns-then-is_zero-clause-cut t c =
     let r = c.args.run.now in
@@ -858,13 +796,40 @@ while_turns-returns-then-is_zero-clause-cut t c =
     let before = c.loop-turn.samples in
     let is = is_use (is_fresh env) k in
     let taken = use_samples env k in
-    let left = c.args.bound - (c.loop-turn._turn + 1) in
     let same : γ ≡ env = c.loop-turn.invariant.scope in
     let told : τ ≡ used (is_use (is_fresh γ) k) n (use_samples γ k σ) σ = c.in_ok-samples.ensures.store in
     let began : τ ≡ used is n (taken σ) σ = told ∙ ap (λ g. used (is_use (is_fresh g) k) n (use_samples g k σ) σ) same in
+    let gathered : c.in_ok-samples.samples ≡ union before (use_samples γ k σ) = c.in_ok-samples.ensures.samples in
+    let all : c.in_ok-samples.samples ≡ union before (taken σ) = gathered ∙ ap (λ g. union before (use_samples g k σ)) same in
+    let counts : c.in_ok-is_use.is_use ≡ is = c.in_ok-is_use.ensures in
     let turns = λ (t : ℕ). while_turns t n is taken (λ s. value_of env s cond) (block_here r env b) in
+    let found : value_of env (used is n (taken σ) σ) cond ≡ Val c.in-Value.value =
+    ap (λ s. value_of env s cond) (sym began) ∙ ap (λ g. value_of g τ cond) (sym same) ∙ sym c.in_ok-trapped.ensures ∙ ap got_view c.in-Value.is in
+    let ends = while_ends n is taken (λ s. value_of env s cond) (block_here r env b) c.args.bound c.loop-turn._turn before σ c.in-Value.value c.loop-turn-test.true found (sym c.is_zero.ensures ∙ c.if-is_zero.true) in
     let ω = c.end_turns.new.store in
     on_err_weaker c.end_turns.result
-    (λ (kept : ω ≡ τ). along_with ω.events (turns (suc left) before σ) (turns c.args.bound [] c.args.store.now) (ap (λ t. turns t before σ) (sym (one_left c.args.bound c.loop-turn._turn c.loop-turn-test.true)) ∙ c.loop-turn.invariant.runs)
-    (turn_from ω.events left n is taken (λ s. value_of env s cond) (block_here r env b) before σ (as_before ω (used is n (taken σ) σ) (kept ∙ began)) (λ s l. block_from ω.events r env b s l)))
-    c.end_turns.ensures.kept
+    (λ (cut : Oldest ω.events (done c.in_ok-is_use.is_use n c.in_ok-samples.samples τ).events). along_with ω.events (Went (done c.in_ok-is_use.is_use n c.in_ok-samples.samples τ)) (turns c.args.bound [] c.args.store.now)
+    (ap (λ u. Went (done u n c.in_ok-samples.samples τ)) counts
+    ∙ ap (λ s. Went (done is n s τ)) all
+    ∙ ap (λ s. Went (done is n (union before (taken σ)) s)) began
+    ∙ sym ends
+    ∙ c.loop-turn.invariant.runs) cut)
+    c.end_turns.ensures.cut
+
+pub kind-returns-in-Consistent-clause-cut : goal.kind-returns-in-Consistent-clause-cut
+unfolding X.roll-StmtKind denote.Hole.Carrier.roll
+kind-returns-in-Consistent-clause-cut t c =
+    let r = c.args.run.now in
+    let env = c.args.scope.now in
+    let σ = c.args.store.now in
+    let n = c.args.n in
+    let x = c.in-Consistent.name in
+    let id = c.in-Consistent.id in
+    let id_is : to_z w32 (of_z w32 id) ≡ id = search rules in
+    let view : kind_view c.args.kind.now ≡ consistent x id = ap kind_view c.in-Consistent.is ∙ fold-roll-StmtKind TKind TBlock TStmt kind_step block_step stmt_step (StmtKind-F.Consistent x id) in
+    let events = c.tag.new.store.events in
+    on_err_weaker c.tag.result
+    (λ (cut : Oldest events (events_in (kind_here r env n (consistent x (to_z w32 (of_z w32 id))) σ))).
+    along_with events (kind_here r env n (consistent x (to_z w32 (of_z w32 id))) σ) (kind_here r env n (kind_view c.args.kind.now) σ)
+    (ap (λ z. kind_here r env n (consistent x z) σ) id_is ∙ ap (λ k. kind_here r env n k σ) (sym view)) cut)
+    c.tag.ensures.cut

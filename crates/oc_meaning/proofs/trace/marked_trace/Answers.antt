@@ -1,0 +1,29 @@
+use Rattle.std.proofs.Common.{rules, ◌≡◌, ap, sym, ◌∙◌, subst, length, map, nat_le, take}
+use Rattle.std.proofs.lemmas.List.{length-map, take-map}
+use Rattle.oc_meaning.specs.Run.{in_order}
+use Rattle.oc_meaning.specs.Stores.{event_view}
+use Rattle.oc_meaning.specs.Traces.{AreParts}
+use Rattle.oc_meaning.proofs.Beginning.{length-in_order, parts_first}
+use Rattle.oc_meaning.proofs.trace.marked_trace.Goals as goal
+
+pub traced-requires : goal.traced-requires
+traced-requires c =
+    let n = c.args.limit in
+    let noted = c.into_parts-noted.result.0.items in
+    let first : map event_view c.truncate.new.self.items ≡ take n (in_order c.args.store.events) =
+    ap (map event_view) c.truncate.ensures.items ∙ sym (take-map event_view n noted) ∙ ap (take n) c.into_parts-noted.ensures.events in
+    subst AreParts (sym first) (parts_first n (in_order c.args.store.events) c.requires)
+
+pub returns-clause-parts : goal.returns-clause-parts
+returns-clause-parts c =
+    let n = c.args.limit in
+    let noted = c.into_parts-noted.result.0.items in
+    c.in_ok-trace.ensures.events.parts
+    ∙ ap (map event_view) c.truncate.ensures.items ∙ sym (take-map event_view n noted) ∙ ap (take n) c.into_parts-noted.ensures.events
+
+pub returns-clause-whole : goal.returns-clause-whole
+returns-clause-whole c =
+    let noted = c.into_parts-noted.result.0.items in
+    let many : c.len.result ≡ length noted = search rules in
+    ap (λ n. nat_le n c.args.limit)
+    (many ∙ sym (length-map noted event_view) ∙ ap length c.into_parts-noted.ensures.events ∙ length-in_order c.args.store.events)

@@ -8,6 +8,7 @@ use oc_tree::name::Name;
 use oc_tree::tree::{Arg, Call, Expr, Right, StmtKind};
 use std::alloc::AllocError;
 
+/// Adds the variables that an expression names.
 #[cycle(names)]
 pub fn expr_names<'a>(expr: &'a Expr, names: &mut Vec<&'a Name>) -> Result<(), AllocError>
     ensures { OnOk result (names_seen names.new.items ≡ names_seen names.old.items ++ expr_names (expr_view expr.now)) }
@@ -31,6 +32,7 @@ pub fn expr_names<'a>(expr: &'a Expr, names: &mut Vec<&'a Name>) -> Result<(), A
     }
 }
 
+/// Adds the variables that an argument names.
 #[cycle(names)]
 pub fn arg_names<'a>(arg: &'a Arg, names: &mut Vec<&'a Name>) -> Result<(), AllocError>
     ensures { OnOk result (names_seen names.new.items ≡ names_seen names.old.items ++ arg_names (arg_view arg.now)) }

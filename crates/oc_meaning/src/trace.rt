@@ -4,7 +4,7 @@ ghost use Rattle.oc_meaning.specs.Run.{in_order, trace_at, words_of};
 ghost use Rattle.oc_meaning.specs.Unmarked.{without_marks};
 ghost use Rattle.oc_meaning.specs.Stores.{event_view};
 ghost use Rattle.oc_meaning.specs.Telling.{Adds, IsPart, Tells};
-ghost use Rattle.oc_meaning.specs.Traces.{AreParts, Rises, SaysParts, ending_of, parts, said_of, trace_view};
+ghost use Rattle.oc_meaning.specs.Traces.{AreParts, Rises, ending_of, parts, said_of, trace_view};
 
 use crate::held::Held;
 use crate::store::{Event, Store};
@@ -200,8 +200,3 @@ pub fn source_trace(
     let (trace, _marks) = traced(alloc, noted, nv, outcome)?;
     Ok(trace)
 }
-
-/// What a run says are parts of a trace.
-pub fn says_parts()
-    ensures { SaysParts }
-{}

@@ -446,23 +446,3 @@ fn one_sample(alloc: Global, number: usize) -> Result<Samples, Interrupted>
     let number = u32::try_from(number).map_err(|_| Interrupted::Memory)?;
     Ok(Samples::one(alloc, number)?)
 }
-
-#[cfg(test)]
-mod tests {
-    use super::*;
-    use std::test::Fail;
-
-    #[test]
-    fn tells_one_more_than_was_asked_for(rt: HostRuntime) -> Result<(), Fail> {
-        let alloc = rt.alloc();
-        let mut store = Store::new(alloc, &[], &[7, 8], 2)?;
-        assert!(rt; store.sense(0).is_ok());
-        assert!(rt; store.open(Some(1)).is_ok());
-        assert!(rt; store.open(Some(2)).is_ok());
-        assert!(rt; store.close(Some(2)).is_ok());
-        assert!(rt; matches!(store.close(Some(1)), Err(Interrupted::Cut)));
-        assert!(rt; matches!(store.sense(0), Err(Interrupted::Cut)));
-        assert_eq!(rt; store.told(), 3);
-        Ok(())
-    }
-}

@@ -25,9 +25,3 @@ pub step : (a b c : Bool) → (b || (a || c)) ≡ ((a || b) || c)
 step true true c = refl
 step true false c = refl
 step false b c = refl
-
--- whether a function has a result, as code reads it
-pub result_read : (xs : List Function) (u : ℕ) (f : Function) → u < length xs → f ≡ get_or xs u f → get_or (map (λ g. is_some g.result) (map function_view xs)) u false ≡ is_some f.result
-result_read [] u f h e = absurd (omega (arith, h))
-result_read (x ∷ xs) zero f h e = ap (λ g. is_some g.result) (sym e)
-result_read (x ∷ xs) (suc u) f h e = result_read xs u f (omega (arith, h)) e

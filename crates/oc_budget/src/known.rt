@@ -6,7 +6,6 @@ ghost use Rattle.std.proofs.Math.ListN.{get_or};
 ghost use Rattle.oc_tree.specs.View.{call_view, function_view};
 ghost use Rattle.oc_tree.specs.Calls.{function_place};
 ghost use Rattle.oc_tree.specs.Marked.{is_in_region};
-ghost use Rattle.oc_tree.specs.Places.{block_of};
 ghost use Rattle.oc_tree.specs.Regions.{region_view};
 ghost use Rattle.oc_tree.specs.Weight.{has_result, result_at};
 ghost use Rattle.oc_budget.specs.Costs.{is_use, marks_at};
@@ -14,10 +13,10 @@ ghost use Rattle.oc_budget.specs.Costs.{is_use, marks_at};
 use crate::tables::{has, mark};
 use crate::uses::use_table;
 use oc_effects::effects::Effects;
-use oc_reach::table::{Table, function_table};
+use oc_reach::table::{Table, function_table, main_place, result_at};
 use oc_tree::marked::{Marked, Region};
 use oc_tree::name::Name;
-use oc_tree::tree::{BlockId, Call, Function, StmtId};
+use oc_tree::tree::{Call, Function, StmtId};
 use std::alloc::{AllocError, Global};
 use std::marker::Model;
 
@@ -73,53 +72,6 @@ fn end_table(alloc: Global, regions: &[Region]) -> Result<Vec<bool>, AllocError>
         mark(&mut table, region.range.last)?;
     }
     Ok(table)
-}
-
-fn result_at(functions: &[Function], place: Option<usize>) -> bool
-    ensures { result ≡ result_at (map function_view functions.now) place }
-{
-    match place {
-        Some(place) => {
-            if place < functions.len() {
-                functions[place].result.is_some()
-            } else {
-                false
-            }
-        }
-        None => false,
-    }
-}
-
-fn main_place(functions: &[Function]) -> Option<usize>
-    ensures { result ≡ function_place (map function_view functions.now) (codes "main") }
-{
-    for (i, function) in functions.iter().enumerate() {
-        if function.name.bytes() == b"main".as_slice() {
-            return Some(i);
-        }
-    }
-    None
-}
-
-fn block_of(effects: &Effects, s: StmtId) -> Option<BlockId>
-    ensures { result ≡ block_of effects.now.program s }
-{
-    match effects.at(s) {
-        Some(effect) => Some(effect.block),
-        None => None,
-    }
-}
-
-fn is_in_region(effects: &Effects, region: &Region, s: StmtId) -> bool
-    ensures { result ≡ is_in_region effects.now.program (region_view region.now) s }
-{
-    let range = region.range;
-    range.first <= s
-        && s <= range.last
-        && match block_of(effects, s) {
-            Some(block) => block == range.block,
-            None => false,
-        }
 }
 
 impl<'a> Known<'a> {
@@ -204,6 +156,6 @@ impl<'a> Known<'a> {
         ensures { result ≡ is_in_region self.now.program (region_view region.now) s }
     {
         let _marked = self.marked;
-        is_in_region(&self.effects, region, s)
+        self.effects.is_in_region(region, s)
     }
 }

@@ -22,7 +22,8 @@ use Rattle.oc_meaning.specs.Run.{Frame, function_named, nv_env, with_params, bod
 use Rattle.oc_code.specs.Scope.{Named, nv_scope, function_scope}
 use Rattle.oc_code.specs.Forms.{placed, one}
 use Rattle.oc_code.proofs.Needs.{function_need, need_to, need_next}
-use Rattle.oc_code.specs.Code.{is_main_name, function_number, close_code, body_code, function_code, functions_code, image_function, image_functions, code_of}
+use Rattle.oc_tree.specs.Rules.{is_main}
+use Rattle.oc_code.specs.Code.{function_number, close_code, body_code, function_code, functions_code, image_function, image_functions, code_of}
 use Rattle.oc_code.specs.Formed.{body_formed, IsFormed}
 use Rattle.oc_code.proofs.Cells.{Cell, Fixed, stack_of, owns, size, Shaped, fixed_at, onto, owns_shaped, length-stack_of, stack_of-append, stack_of_fixed, owns-append, size-append, size_fixed, owns_fixed, shaped_fixed, shaped_back, fixed_more}
 use Rattle.oc_code.proofs.Steps.{Mach, shown, Leads, leads_on, call_step, ret_step, retv_step}
@@ -145,7 +146,7 @@ module _ (p : TProgram) (regions : List TRegion) (targets : List (List Target)) 
   Calls d deep = CallsRun image p.nv small p.names p.functions regions formed.rank d (need_to p.functions d) (call_to p regions deep)
 
   -- one function, where calls go at most d deep
-  function_runs : (d deep : ℕ) → Calls d deep → (f : Text) (g : TFunction) → function_named p.functions f ≡ Some g → is_main_name g.name ≡ false → formed.rank f < suc d → (ps : List Passed) (zs : List ℤ) (σ : Store) (n pc fp : ℕ) (cs : List Cell) (top : List ℤ) → Holds p.nv cs σ → fp ≤ size cs → AreGiven p.nv cs g.params ps zs → length top + size cs + function_need (need_to p.functions d) (Some g) ≤ image.stack → slice_get image.code pc ≡ Some (placed n (Call (function_number p.functions f))) → RightGives image p.nv small 0 fp (is_some g.result) σ.depth (shown pc fp (onto zs (top ++ stack_of cs σ.locals)) σ) (pc + 1) cs top (body_run p regions (call_to p regions deep) g (with_params g.params ps (record { env = nv_env 0 p.names.nvs; locals = σ.locals })) σ)
+  function_runs : (d deep : ℕ) → Calls d deep → (f : Text) (g : TFunction) → function_named p.functions f ≡ Some g → is_main g.name ≡ false → formed.rank f < suc d → (ps : List Passed) (zs : List ℤ) (σ : Store) (n pc fp : ℕ) (cs : List Cell) (top : List ℤ) → Holds p.nv cs σ → fp ≤ size cs → AreGiven p.nv cs g.params ps zs → length top + size cs + function_need (need_to p.functions d) (Some g) ≤ image.stack → slice_get image.code pc ≡ Some (placed n (Call (function_number p.functions f))) → RightGives image p.nv small 0 fp (is_some g.result) σ.depth (shown pc fp (onto zs (top ++ stack_of cs σ.locals)) σ) (pc + 1) cs top (body_run p regions (call_to p regions deep) g (with_params g.params ps (record { env = nv_env 0 p.names.nvs; locals = σ.locals })) σ)
   function_runs d deep calls f g found no_main lower ps zs σ n pc fp cs top h under given room at =
       frame_ends image p.nv small cs top fp fp' k pc (length σ.locals) bound.above P bound.over base_B many_P (owns_shaped cs σ.locals h.shaped) h.low
       (is_some g.result) σ.depth start (e + length bc) (length Z) γ fr.env body_out (omega (arith, room, frame_is)) (omega (arith, room, frame_is, lz, many_P)) (omega (arith, many_P)) close

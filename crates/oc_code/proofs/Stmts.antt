@@ -20,7 +20,8 @@ use Rattle.oc_meaning.specs.Run.{function_named}
 use Rattle.oc_code.specs.Scope.{Named, named, slot_of, words_of as words_in}
 use Rattle.oc_code.specs.Forms.{placed, one, base_code, expr_code, args_code, write_code, one_way_code, two_way_code}
 use Rattle.oc_code.proofs.Needs.{call_depth, right_depth}
-use Rattle.oc_code.specs.Code.{is_main_name, function_number, has_result, called_name, call_code, right_code, gives, element_code}
+use Rattle.oc_tree.specs.Rules.{is_main}
+use Rattle.oc_code.specs.Code.{function_number, has_result, called_name, call_code, right_code, gives, element_code}
 use Rattle.oc_code.specs.Formed.{CallFormed, call_formed, right_formed}
 use Rattle.oc_code.proofs.Cells.{Cell, stack_of, size, onto}
 use Rattle.oc_code.proofs.Steps.{Mach, shown, Leads, leads_on, drop_step, emit_step, sense_step, sense_stop, show_step, test_step}
@@ -34,7 +35,7 @@ module _ (parts : Parts) (ds : List NvDecl) (small : total ds ≤ 65536) (names 
   -- what is asked of the calls that are made
   abbrev pub CallsRun : Type 0
   CallsRun =
-      (f : Text) (g : TFunction) → function_named fs f ≡ Some g → is_main_name g.name ≡ false → rank f < own → (ps : List Passed) (zs : List ℤ) (σ : Store) (n pc fp : ℕ) (cs : List Cell) (top : List ℤ) → Holds ds cs σ → fp ≤ size cs → AreGiven ds cs g.params ps zs → length top + size cs + need f ≤ parts.stack → slice_get parts.code pc ≡ Some (placed n (Call (function_number fs f))) → RightGives parts ds small 0 fp (is_some g.result) σ.depth (shown pc fp (onto zs (top ++ stack_of cs σ.locals)) σ) (pc + 1) cs top (call_of f ps σ)
+      (f : Text) (g : TFunction) → function_named fs f ≡ Some g → is_main g.name ≡ false → rank f < own → (ps : List Passed) (zs : List ℤ) (σ : Store) (n pc fp : ℕ) (cs : List Cell) (top : List ℤ) → Holds ds cs σ → fp ≤ size cs → AreGiven ds cs g.params ps zs → length top + size cs + need f ≤ parts.stack → slice_get parts.code pc ≡ Some (placed n (Call (function_number fs f))) → RightGives parts ds small 0 fp (is_some g.result) σ.depth (shown pc fp (onto zs (top ++ stack_of cs σ.locals)) σ) (pc + 1) cs top (call_of f ps σ)
 
   module _ (calls : CallsRun) (home : ℤ → ℕ) (k fp D n : ℕ) (γ : List Named) (env : List Binding) (cs : List Cell) (under : fp ≤ size cs) (sees : Sees ds cs fp γ env) where
     abbrev pub at_words : ℕ → List ℤ → Store → Mach

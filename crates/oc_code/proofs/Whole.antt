@@ -16,7 +16,8 @@ use Rattle.oc_tree.specs.declared.said.Ending.TheVariants.{Halted}
 use Rattle.oc_tree.specs.declared.said.Target.{Target}
 use Rattle.oc_isa.specs.declared.instr.Placed.{Placed}
 use Rattle.oc_isa.specs.declared.instr.Instr.TheVariants.{Halt, Ret}
-use Rattle.oc_isa.specs.Image.{Parts, is_main, main_of, frame_of, entry_of, initial_words}
+use Rattle.oc_isa.specs.Image as images
+use Rattle.oc_isa.specs.Image.{Parts, main_of, frame_of, entry_of, initial_words}
 use Rattle.oc_isa.specs.Run.{start_of, continuous_run, IsSound}
 use Rattle.oc_isa.specs.Table.{device_of}
 use Rattle.oc_meaning.specs.Store.{Event, Store, Binding, noted}
@@ -29,7 +30,8 @@ use Rattle.oc_meaning.proofs.Bare.{only_tell}
 use Rattle.oc_code.specs.Scope.{Named, params_scope, nv_scope, function_scope}
 use Rattle.oc_code.specs.Forms.{placed, one}
 use Rattle.oc_code.proofs.Needs.{block_depth, function_need, need_to, stack_is}
-use Rattle.oc_code.specs.Code.{is_main_name, function_number, close_code, body_code, function_code, functions_code, image_function, image_functions, image_nv, code_of}
+use Rattle.oc_tree.specs.Rules.{is_main}
+use Rattle.oc_code.specs.Code.{function_number, close_code, body_code, function_code, functions_code, image_function, image_functions, image_nv, code_of}
 use Rattle.oc_code.specs.Formed.{body_formed, IsFormed}
 use Rattle.oc_code.specs.Right.{Shows}
 use Rattle.oc_code.proofs.Cells.{stack_of, length-stack_of, size-append}
@@ -65,7 +67,7 @@ name_eq_sym a b = go (bytes_eq a b) (bytes_eq b a) refl refl
 -- the entry of `main`
 main_at : (p : TProgram) (regions : List TRegion) (code : List Placed) (at : ℕ) (fs : List TFunction) (g : TFunction) → at ≤ length code → HasAt code at (functions_code p regions at fs) → function_named fs (codes "main") ≡ Some g → (e : ℕ) × (main_of (image_functions p regions at fs) ≡ Some (image_function p regions e g)) × HasAt code e (function_code p regions e g) × (e ≤ length code)
 main_at p regions code at [] g le has h = absurd (none-some g h)
-main_at p regions code at (f ∷ fs) g le has h = go (bytes_eq (codes "main") f.name) (is_main (image_function p regions at f)) (name_eq_sym (codes "main") f.name) h (λ h'. main_at p regions code (at + length fc) fs g (has_end code at fc le (has_front code at fc rest has)) (has_back code at fc rest has) h')
+main_at p regions code at (f ∷ fs) g le has h = go (bytes_eq (codes "main") f.name) (images.is_main (image_function p regions at f)) (name_eq_sym (codes "main") f.name) h (λ h'. main_at p regions code (at + length fc) fs g (has_end code at fc le (has_front code at fc rest has)) (has_back code at fc rest has) h')
   where
     fc : List Placed
     fc = function_code p regions at f
@@ -155,7 +157,7 @@ module _ (p : TProgram) (regions : List TRegion) (targets : List (List Target)) 
       found : (slice_get p.functions (function_number p.functions (codes "main")) ≡ Some g) × (codes "main" ≡ g.name)
       found = found_at p.functions (codes "main") g formed.main_found
 
-      is_main_one : is_main_name g.name ≡ true
+      is_main_one : is_main g.name ≡ true
       is_main_one = (bytes_eq-Decides g.name (codes "main")).1 (sym found.1)
 
       lw : link_words g ≡ 0

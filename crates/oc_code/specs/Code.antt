@@ -13,6 +13,7 @@ use Rattle.oc_isa.specs.declared.instr.Instr.TheVariants.{Store, Index, Call, Re
 use Rattle.oc_isa.specs.Image.{Parts}
 use Rattle.oc_meaning.specs.Uses.{is_use, begins_use, ends_use}
 use Rattle.oc_tree.specs.Marked.{TRegion}
+use Rattle.oc_tree.specs.Rules.{is_main}
 use Rattle.oc_tree.specs.Stack.{kind_slots, block_slots, link_words, frame, stack_words}
 use Rattle.oc_meaning.specs.Exec.{begun_by, ended_by, number_in}
 use Rattle.oc_meaning.specs.Run.{function_named}
@@ -115,12 +116,9 @@ module _ (names : NameLists) (fs : List TFunction) (regions : List TRegion) (k :
 
 -- Functions
 
-abbrev pub is_main_name : Text → Bool
-is_main_name x = bytes_eq x (codes "main")
-
 -- what closes a function's code: a `return` has done it where there is a result
 abbrev pub close_code : TFunction → List Placed
-close_code f = if is_main_name f.name then one 0 Halt else (if is_some f.result then [] else one 0 (Ret (length f.params)))
+close_code f = if is_main f.name then one 0 Halt else (if is_some f.result then [] else one 0 (Ret (length f.params)))
 
 module _ (p : TProgram) (regions : List TRegion) where
   abbrev pub body_code : ℕ → TFunction → List Placed

@@ -8,18 +8,18 @@ ghost use Rattle.oc_tree.specs.View.{function_view, program_view};
 ghost use Rattle.oc_tree.specs.Weight.{known_of};
 ghost use Rattle.oc_isa.specs.Image.{parts_of};
 ghost use Rattle.oc_code.specs.Scope.{kind_words, nv_scope, param_slot, params_scope, may_write};
-ghost use Rattle.oc_code.specs.Code.{block_code, close_code, code_of, functions_code, image_functions, image_nv, is_main_name};
+ghost use Rattle.oc_code.specs.Code.{block_code, close_code, code_of, functions_code, image_functions, image_nv};
 ghost use Rattle.oc_code.specs.Formed.{IsFormed};
 ghost use Rattle.oc_codegen.specs.Slots.{slot_view};
 
 use crate::buffer::Buffer;
-use crate::copy::{copy_name, copy_names};
 use crate::numbers::{behind, small};
 use crate::scope::{Scope, Slot, Variable};
 use crate::setting::Setting;
 use crate::stmts::block;
 use oc_isa::image::{ImageFunction, ImageNv, RawImage};
 use oc_isa::instr::Instr;
+use oc_reach::table::main_place;
 use oc_tree::marked::Region;
 use oc_tree::name::Name;
 use oc_tree::said::Target;
@@ -27,12 +27,6 @@ use oc_tree::tree::{Function, NvDecl, Param, Passing, Program, ValueKind};
 use oc_weight::cost::known_of;
 use oc_weight::stacks::stacks;
 use std::alloc::{AllocError, Global};
-
-fn is_main(name: &Name) -> bool
-    ensures { result ≡ is_main_name name.now }
-{
-    name.bytes() == b"main".as_slice()
-}
 
 // The nonvolatile variables, from a word on. The first one is the newest.
 fn declare_nvs<'a>(
@@ -113,14 +107,14 @@ fn declare_params<'a>(scope: &mut Scope<'a>, params: &'a [Param]) -> Result<(), 
 fn link_words(function: &Function) -> u32
     ensures { result ≡ link_words (function_view function.now) }
 {
-    if is_main(&function.name) { 0 } else { 2 }
+    if function.name.is_main() { 0 } else { 2 }
 }
 
 fn close(code: &mut Buffer, function: &Function, params: u32) -> Result<(), AllocError>
     requires { params ≡ length function.now.params.items }
     ensures { OnOk result (code.new ≡ code.old ++ close_code (function_view function.now)) }
 {
-    if is_main(&function.name) {
+    if function.name.is_main() {
         return code.put(0, Instr::Halt);
     }
     if function.result.is_some() {
@@ -154,7 +148,7 @@ fn function<'a>(
     close(code, function, params)?;
     scope.truncate(visible);
     Ok(ImageFunction {
-        name: copy_name(alloc, &function.name)?,
+        name: function.name.try_clone(alloc)?,
         entry,
         params,
         frame,
@@ -172,17 +166,6 @@ fn image_nvs(alloc: Global, nv: &[NvDecl]) -> Result<Vec<ImageNv>, AllocError>
         })?;
     }
     Ok(image)
-}
-
-fn main_place(functions: &[Function]) -> Option<usize>
-    ensures { result ≡ function_place (map function_view functions.now) (codes "main") }
-{
-    for (i, function) in functions.iter().enumerate() {
-        if is_main(&function.name) {
-            return Some(i);
-        }
-    }
-    None
 }
 
 // The stack of `main`, of the functions of an expansion.
@@ -219,7 +202,7 @@ pub fn raw_image(
         functions.push(function(alloc, &mut code, &mut setting, &mut scope, next)?)?;
     }
     Ok(RawImage {
-        names: copy_names(alloc, &program.names)?,
+        names: program.names.try_clone(alloc)?,
         functions,
         targets,
         nv: image_nvs(alloc, program.nv.as_slice())?,

@@ -7,25 +7,14 @@ ghost use Rattle.oc_meaning.specs.Exec.{begun_by, ended_by, number_in};
 ghost use Rattle.oc_code.specs.Code.{function_number, has_result};
 
 use crate::numbers::small;
+use oc_meaning::names::place_in;
+use oc_meaning::regions::{begun_by, ended_by};
 use oc_reach::table::{Table, function_table};
 use oc_tree::marked::Region;
 use oc_tree::name::Name;
 use oc_tree::tree::{Function, Program};
 use std::alloc::{AllocError, Global};
 use std::marker::Model;
-
-fn number_in(names: &[Name], name: &Name) -> usize
-    ensures { result ≡ number_in names.now name.now }
-{
-    let mut number = 0;
-    for other in names {
-        if name.is(other) {
-            return number;
-        }
-        number += 1;
-    }
-    number
-}
 
 /// The program and the regions around the statements of a function with so many parameters.
 #[derive(Drop)]
@@ -88,13 +77,13 @@ impl<'a> Setting<'a> {
     pub fn sensor(&self, name: &Name) -> Result<u32, AllocError>
         ensures { IfOk result (λ s. s ≡ number_in self.now.names.sensors name.now) }
     {
-        small(number_in(self.program.names.sensors.as_slice(), name))
+        small(place_in(self.program.names.sensors.as_slice(), name))
     }
 
     pub fn port(&self, name: &Name) -> Result<u32, AllocError>
         ensures { IfOk result (λ p. p ≡ number_in self.now.names.ports name.now) }
     {
-        small(number_in(self.program.names.ports.as_slice(), name))
+        small(place_in(self.program.names.ports.as_slice(), name))
     }
 
     pub fn function(&self, name: &Name) -> Result<u32, AllocError>
@@ -120,23 +109,13 @@ impl<'a> Setting<'a> {
     pub fn begun_by(&self, n: u32) -> Option<u32>
         ensures { result ≡ begun_by self.now.regions n }
     {
-        for region in self.regions {
-            if n == region.range.first {
-                return Some(region.id);
-            }
-        }
-        None
+        begun_by(self.regions, n)
     }
 
     /// The region that ends with a statement.
     pub fn ended_by(&self, n: u32) -> Option<u32>
         ensures { result ≡ ended_by self.now.regions n }
     {
-        for region in self.regions {
-            if n == region.range.last {
-                return Some(region.id);
-            }
-        }
-        None
+        ended_by(self.regions, n)
     }
 }

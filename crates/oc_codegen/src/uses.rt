@@ -1,13 +1,12 @@
 //! Uses of fresh variables.
 ghost use Rattle.std.specs.Prelude.{◌≡◌, Bool};
 ghost use Rattle.std.specs.List.{list_any};
-ghost use Rattle.oc_tree.specs.View.{arg_view, args_view, call_view, expr_view, kind_view, right_view, stmts_view};
-ghost use Rattle.oc_meaning.specs.Uses.{arg_names, args_names, call_names, expr_names, right_names, is_annotated, is_fresh_note, is_use};
+ghost use Rattle.oc_tree.specs.View.{arg_view, args_view, call_view, expr_view, kind_view, right_view};
+ghost use Rattle.oc_meaning.specs.Uses.{arg_names, args_names, call_names, expr_names, right_names, is_use};
 ghost use Rattle.oc_code.specs.Scope.{is_fresh_in};
 
 use crate::scope::Scope;
-use oc_tree::name::Name;
-use oc_tree::tree::{Arg, Call, Expr, Right, Stmt, StmtKind};
+use oc_tree::tree::{Arg, Call, Expr, Right, StmtKind};
 
 #[cycle(fresh)]
 fn expr_has(scope: &Scope, expr: &Expr) -> bool
@@ -87,25 +86,4 @@ pub fn is_use(scope: &Scope, kind: &StmtKind) -> bool
         StmtKind::Consistent { .. } => false,
         StmtKind::Return { value } => expr_has(scope, value),
     }
-}
-
-fn is_note(name: &Name, kind: &StmtKind) -> bool
-    ensures { result ≡ is_fresh_note name.now (kind_view kind.now) }
-{
-    match kind {
-        StmtKind::Fresh { name: other } => name.is(other),
-        _ => false,
-    }
-}
-
-/// Whether a variable is annotated `Fresh` directly among statements.
-pub fn is_annotated(name: &Name, rest: &[Stmt]) -> bool
-    ensures { result ≡ is_annotated name.now (stmts_view rest.now) }
-{
-    for statement in rest {
-        if is_note(name, &statement.kind) {
-            return true;
-        }
-    }
-    false
 }

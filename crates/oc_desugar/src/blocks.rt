@@ -5,7 +5,6 @@ ghost use Rattle.oc_tree.specs.View.{block_view, else_view, kind_view, right_vie
 ghost use Rattle.oc_tree.specs.Expansion.{block_size, else_size, expand_block, expand_else, expand_kind, expand_stmts, inner_size, pulled, stmts_size, temporaries};
 ghost use Rattle.oc_tree.specs.Pulls.{block_pulls, else_pulls, inner_pulls, own_pulls, stmts_pulls};
 
-use crate::copy::copy_name;
 use crate::parts::{left_call, left_expr, left_right, temporary};
 use crate::pulls::own_pulls;
 use oc_tree::tree::{Block, Right, Stmt, StmtKind};
@@ -155,7 +154,7 @@ fn expand_kind(
             kind,
             right,
         } => {
-            let name = copy_name(alloc, name)?;
+            let name = name.try_clone(alloc)?;
             let right = left_right(alloc, &mut n.pull, pulls, right)?;
             Ok(StmtKind::Let {
                 mutable: *mutable,
@@ -173,25 +172,25 @@ fn expand_kind(
         } => {
             Ok(StmtKind::LetArray {
                 mutable: *mutable,
-                name: copy_name(alloc, name)?,
+                name: name.try_clone(alloc)?,
                 kind: *kind,
                 initial: *initial,
                 words: *words,
             })
         }
         StmtKind::Assign { name, right } => {
-            let name = copy_name(alloc, name)?;
+            let name = name.try_clone(alloc)?;
             let right = left_right(alloc, &mut n.pull, pulls, right)?;
             Ok(StmtKind::Assign { name, right })
         }
         StmtKind::AssignIndex { name, index, right } => {
-            let name = copy_name(alloc, name)?;
+            let name = name.try_clone(alloc)?;
             let index = left_expr(alloc, &mut n.pull, pulls, index)?;
             let right = left_right(alloc, &mut n.pull, pulls, right)?;
             Ok(StmtKind::AssignIndex { name, index, right })
         }
         StmtKind::AssignDeref { name, right } => {
-            let name = copy_name(alloc, name)?;
+            let name = name.try_clone(alloc)?;
             let right = left_right(alloc, &mut n.pull, pulls, right)?;
             Ok(StmtKind::AssignDeref { name, right })
         }
@@ -215,7 +214,7 @@ fn expand_kind(
             to,
             body,
         } => {
-            let name = copy_name(alloc, name)?;
+            let name = name.try_clone(alloc)?;
             let body = expand_block(alloc, n, body)?;
             Ok(StmtKind::For {
                 name,
@@ -243,22 +242,22 @@ fn expand_kind(
         }
         StmtKind::SenseOnly { sensor } => {
             Ok(StmtKind::SenseOnly {
-                sensor: copy_name(alloc, sensor)?,
+                sensor: sensor.try_clone(alloc)?,
             })
         }
         StmtKind::Emit { port, value } => {
-            let port = copy_name(alloc, port)?;
+            let port = port.try_clone(alloc)?;
             let value = left_expr(alloc, &mut n.pull, pulls, value)?;
             Ok(StmtKind::Emit { port, value })
         }
         StmtKind::Fresh { name } => {
             Ok(StmtKind::Fresh {
-                name: copy_name(alloc, name)?,
+                name: name.try_clone(alloc)?,
             })
         }
         StmtKind::Consistent { name, id } => {
             Ok(StmtKind::Consistent {
-                name: copy_name(alloc, name)?,
+                name: name.try_clone(alloc)?,
                 id: *id,
             })
         }

@@ -4,7 +4,6 @@
 
 mod blocks;
 mod checked;
-mod copy;
 mod groups;
 pub mod laws;
 mod parts;

@@ -1,14 +1,13 @@
 //! What is left of expressions, and their pulls.
 ghost use Rattle.std.specs.Prelude.{◌≡◌, ◌<◌, ◌^◌, ◌+◌, ◌++◌, ◌∷◌, [], map, OnOk, IfOk};
-ghost use Rattle.oc_tree.specs.Tree.{variable};
+ghost use Rattle.oc_tree.specs.Tree.{binary, index, right_sense, unary, variable};
 ghost use Rattle.oc_tree.specs.View.{arg_view, args_view, call_view, expr_view, right_view};
 ghost use Rattle.oc_tree.specs.Expansion.{left_arg, left_args, left_call, left_expr, left_right, pulled_arg, pulled_args, pulled_call, pulled_expr, pulled_right, temporary};
 ghost use Rattle.oc_tree.specs.Pulls.{arg_pulls, args_pulls, call_pulls, expr_pulls, right_pulls};
 
-use crate::copy::copy_name;
 use itoa::Buffer;
 use oc_tree::name::Name;
-use oc_tree::tree::{Arg, Call, Expr, Right};
+use oc_tree::tree::{Arg, BinaryOp, Call, Expr, Right, UnaryOp};
 use std::alloc::{AllocError, Global};
 
 /// The name of the temporary of a pull.
@@ -22,7 +21,9 @@ pub fn temporary(alloc: Global, pull: u32) -> Result<Name, AllocError>
     Ok(Name::new(bytes))
 }
 
-// The pull that ends here. It stays out of the frames of deep expressions.
+// The steps from here to `left_expr` stay out of the frames of deep expressions.
+
+// The pull that ends here.
 #[inline(never)]
 fn pull(
     alloc: Global,
@@ -39,6 +40,54 @@ fn pull(
     pulls.push(right)?;
     *k += 1;
     Ok(Expr::Variable { name })
+}
+
+#[inline(never)]
+fn pull_input(
+    alloc: Global,
+    k: &mut u32,
+    pulls: &mut Vec<Right>,
+    sensor: &Name,
+) -> Result<Expr, AllocError>
+    requires { k.old + 1 < 2 ^ 32 }
+    ensures left { IfOk result (λ r. expr_view r ≡ variable (temporary k.old)) }
+    ensures pulled { OnOk result (map right_view pulls.new.items ≡ map right_view pulls.old.items ++ right_sense sensor.now ∷ []) }
+    ensures next { OnOk result (k.new ≡ k.old + 1) }
+{
+    let sensor = sensor.try_clone(alloc)?;
+    pull(alloc, k, pulls, Right::Sense { sensor })
+}
+
+#[inline(never)]
+fn element(alloc: Global, array: &Name, place: Expr) -> Result<Expr, AllocError>
+    ensures { IfOk result (λ r. expr_view r ≡ index array.now (expr_view place)) }
+{
+    let array = array.try_clone(alloc)?;
+    Ok(Expr::Index {
+        array,
+        index: Box::new(alloc, place)?,
+    })
+}
+
+#[inline(never)]
+fn unary(alloc: Global, op: UnaryOp, inner: Expr) -> Result<Expr, AllocError>
+    ensures { IfOk result (λ r. expr_view r ≡ unary op (expr_view inner)) }
+{
+    Ok(Expr::Unary {
+        op,
+        inner: Box::new(alloc, inner)?,
+    })
+}
+
+#[inline(never)]
+fn binary(alloc: Global, op: BinaryOp, left: Expr, right: Expr) -> Result<Expr, AllocError>
+    ensures { IfOk result (λ r. expr_view r ≡ binary op (expr_view left) (expr_view right)) }
+{
+    Ok(Expr::Binary {
+        op,
+        left: Box::new(alloc, left)?,
+        right: Box::new(alloc, right)?,
+    })
 }
 
 /// What is left of an expression; its pulls are added, and `k`, the number of the next pull, counts
@@ -60,42 +109,28 @@ pub fn left_expr(
         Expr::Truth { value } => Ok(Expr::Truth { value: *value }),
         Expr::Variable { name } => {
             Ok(Expr::Variable {
-                name: copy_name(alloc, name)?,
+                name: name.try_clone(alloc)?,
             })
         }
         Expr::Index { array, index } => {
-            let array = copy_name(alloc, array)?;
             let index = left_expr(alloc, k, pulls, index)?;
-            Ok(Expr::Index {
-                array,
-                index: Box::new(alloc, index)?,
-            })
+            element(alloc, array, index)
         }
         Expr::Deref { name } => {
             Ok(Expr::Deref {
-                name: copy_name(alloc, name)?,
+                name: name.try_clone(alloc)?,
             })
         }
         Expr::Unary { op, inner } => {
             let inner = left_expr(alloc, k, pulls, inner)?;
-            Ok(Expr::Unary {
-                op: *op,
-                inner: Box::new(alloc, inner)?,
-            })
+            unary(alloc, *op, inner)
         }
         Expr::Binary { op, left, right } => {
             let left = left_expr(alloc, k, pulls, left)?;
             let right = left_expr(alloc, k, pulls, right)?;
-            Ok(Expr::Binary {
-                op: *op,
-                left: Box::new(alloc, left)?,
-                right: Box::new(alloc, right)?,
-            })
+            binary(alloc, *op, left, right)
         }
-        Expr::Sense { sensor } => {
-            let sensor = copy_name(alloc, sensor)?;
-            pull(alloc, k, pulls, Right::Sense { sensor })
-        }
+        Expr::Sense { sensor } => pull_input(alloc, k, pulls, sensor),
         Expr::Call { call } => {
             let call = left_call(alloc, k, pulls, call)?;
             pull(alloc, k, pulls, Right::Call { call })
@@ -123,12 +158,12 @@ fn left_arg(
         }
         Arg::Shared { name } => {
             Ok(Arg::Shared {
-                name: copy_name(alloc, name)?,
+                name: name.try_clone(alloc)?,
             })
         }
         Arg::Mutable { name } => {
             Ok(Arg::Mutable {
-                name: copy_name(alloc, name)?,
+                name: name.try_clone(alloc)?,
             })
         }
     }
@@ -168,7 +203,7 @@ pub fn left_call(
     ensures pulled { OnOk result (map right_view pulls.new.items ≡ map right_view pulls.old.items ++ pulled_call k.old (call_view call.now)) }
     ensures next { OnOk result (k.new ≡ k.old + call_pulls (call_view call.now)) }
 {
-    let function = copy_name(alloc, &call.function)?;
+    let function = call.function.try_clone(alloc)?;
     let args = left_args(alloc, k, pulls, call.args.as_slice())?;
     Ok(Call { function, args })
 }
@@ -193,7 +228,7 @@ pub fn left_right(
         }
         Right::Sense { sensor } => {
             Ok(Right::Sense {
-                sensor: copy_name(alloc, sensor)?,
+                sensor: sensor.try_clone(alloc)?,
             })
         }
         Right::Call { call } => {

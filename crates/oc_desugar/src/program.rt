@@ -5,10 +5,24 @@ ghost use Rattle.oc_tree.specs.Expansion.{block_size, expand_function, expand_fu
 ghost use Rattle.oc_tree.specs.Pulls.{block_pulls, program_pulls};
 
 use crate::blocks::{Numbers, expand_block};
-use crate::copy::{copy_name, copy_names, copy_params};
 use crate::groups::functions_groups;
-use oc_tree::tree::{Function, Program, StmtId};
+use oc_tree::tree::{Function, Param, Program, StmtId};
 use std::alloc::{AllocError, Global};
+
+fn copy_params(alloc: Global, params: &[Param]) -> Result<Vec<Param>, AllocError>
+    ensures { IfOk result (λ p. p.items ≡ params.now) }
+{
+    let mut copies = Vec::new(alloc);
+    for param in params {
+        let name = param.name.try_clone(alloc)?;
+        copies.push(Param {
+            name,
+            passing: param.passing,
+            kind: param.kind,
+        })?;
+    }
+    Ok(copies)
+}
 
 fn expand_function(
     alloc: Global,
@@ -21,7 +35,7 @@ fn expand_function(
     ensures pull { OnOk result (n.new.pull ≡ n.old.pull + block_pulls (block_view function.now.body)) }
     ensures stmt { OnOk result (n.new.stmt ≡ n.old.stmt + block_size (block_view function.now.body)) }
 {
-    let name = copy_name(alloc, &function.name)?;
+    let name = function.name.try_clone(alloc)?;
     let params = copy_params(alloc, function.params.as_slice())?;
     let body = expand_block(alloc, n, &function.body)?;
     Ok(Function {
@@ -57,7 +71,7 @@ pub fn expand_program(
     ensures expanded { IfOk result (λ r. program_view r.0 ≡ expansion (program_view program.now)) }
     ensures groups { IfOk result (λ r. r.1.items ≡ program_groups (program_view program.now)) }
 {
-    let names = copy_names(alloc, &program.names)?;
+    let names = program.names.try_clone(alloc)?;
     let nv = Vec::from_slice(alloc, program.nv.as_slice())?;
     let functions = expand_functions(alloc, program.functions.as_slice())?;
     let order = Vec::from_slice(alloc, program.order.as_slice())?;

@@ -2,6 +2,5 @@ pub mod Functions
 pub mod Passed
 pub mod WalkLaws
 pub mod Numbering
-pub mod FewFunctions
 pub mod FlatLaws
 pub mod Laws

@@ -2,7 +2,9 @@
 ghost use Rattle.std.specs.Prelude.{◌≡◌, ◌<◌, ◌≤◌, ◌^◌, ◌+◌, ◌++◌, All, map, length, find, nat_eq, option_map, slice_range, OnOk, IfOk};
 ghost use Rattle.std.proofs.Math.ListN.{get_or};
 ghost use Rattle.oc_tree.specs.Numbers.{numbers_on};
-ghost use Rattle.oc_tree.specs.Places.{param_variables, placed};
+ghost use Rattle.oc_tree.specs.Marked.{is_in_region};
+ghost use Rattle.oc_tree.specs.Places.{block_of, param_variables, placed};
+ghost use Rattle.oc_tree.specs.Regions.{region_view};
 ghost use Rattle.oc_tree.specs.View.{function_view, program_view};
 ghost use Rattle.oc_effects.specs.Effects.{effect_of, effects_at, function_effects, is_numbered};
 ghost use Rattle.oc_effects.specs.Flat.{all_effects, starts_from};
@@ -13,7 +15,8 @@ use crate::known::Known;
 use crate::scope::Scope;
 use crate::walk::walk_block;
 use oc_tree::checked::Checked;
-use oc_tree::tree::{Function, Param, StmtId, VarId};
+use oc_tree::marked::Region;
+use oc_tree::tree::{BlockId, Function, Param, StmtId, VarId};
 use std::alloc::{AllocError, Global};
 use std::marker::Model;
 
@@ -185,5 +188,30 @@ impl<'a> Effects<'a> {
             return None;
         }
         self.effects.get(s as usize - 1)
+    }
+
+    /// Directly in which block a statement stands.
+    pub fn block_of(&self, s: StmtId) -> Option<BlockId>
+        ensures { result ≡ block_of self.now.program s }
+    {
+        let _checked = self.checked;
+        match self.at(s) {
+            Some(effect) => Some(effect.block),
+            None => None,
+        }
+    }
+
+    /// Whether a statement stands directly in a region.
+    pub fn is_in_region(&self, region: &Region, s: StmtId) -> bool
+        ensures { result ≡ is_in_region self.now.program (region_view region.now) s }
+    {
+        let _checked = self.checked;
+        let range = region.range;
+        range.first <= s
+            && s <= range.last
+            && match self.block_of(s) {
+                Some(block) => block == range.block,
+                None => false,
+            }
     }
 }

@@ -1,6 +1,6 @@
 //! A statement with all that is visible to it.
 ghost use Rattle.std.specs.Prelude.{◌≡◌, IfOk};
-ghost use Rattle.oc_reach.specs.Views.{names_seen};
+ghost use Rattle.oc_tree.specs.Names.{names_seen};
 ghost use Rattle.oc_effects.specs.Effects.{variable_at, variables_at};
 ghost use Rattle.oc_effects.specs.Walk.{placed_view};
 

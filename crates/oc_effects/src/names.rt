@@ -1,7 +1,7 @@
 //! The names in the values that statements set variables to.
 ghost use Rattle.std.specs.Prelude.{◌≡◌, ◌++◌, OnOk};
 ghost use Rattle.oc_tree.specs.View.{kind_view, right_view};
-ghost use Rattle.oc_reach.specs.Views.{names_seen};
+ghost use Rattle.oc_tree.specs.Names.{names_seen};
 ghost use Rattle.oc_effects.specs.Effects.{source_names, value_names};
 
 use oc_meaning::names::expr_names;

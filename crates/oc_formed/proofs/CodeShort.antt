@@ -16,7 +16,8 @@ use Rattle.oc_tree.specs.Stack.{link_words}
 use Rattle.oc_isa.specs.declared.instr.Instr.TheVariants.{Ret, Halt}
 use Rattle.oc_code.specs.Scope.{function_scope}
 use Rattle.oc_code.specs.Forms.{one}
-use Rattle.oc_code.specs.Code.{is_main_name, close_code, body_code, function_code, functions_code}
+use Rattle.oc_tree.specs.Rules.{is_main}
+use Rattle.oc_code.specs.Code.{close_code, body_code, function_code, functions_code}
 use Rattle.oc_desugar.proofs.FineCalls.{CallFine}
 use Rattle.oc_desugar.proofs.FewStatements.{few_statements}
 use Rattle.oc_desugar.proofs.SizesKept.{unbroken_element}
@@ -49,7 +50,7 @@ module _ (p : TProgram) (within : AllWithin p) where
   module _ (regions : List TRegion) where
     -- what closes a function's code
     close_short : (f : TFunction) → length (close_code f) ≤ 1
-    close_short f = go (is_main_name f.name) (is_some f.result)
+    close_short f = go (is_main f.name) (is_some f.result)
       where
         go : (a b : Bool) → length (if a then one 0 Halt else (if b then [] else one 0 (Ret (length f.params)))) ≤ 1
         go true b = omega arith

@@ -16,7 +16,6 @@ use Rattle.oc_tree.specs.Rules.{is_main, stands_before}
 use Rattle.oc_code.proofs.Whole.{name_eq_sym}
 use Rattle.oc_formed.proofs.BodiesPlaces.{Called, name_called}
 use Rattle.oc_formed.proofs.Declared.{HeadFine, AllWithin}
-use Rattle.oc_code.specs.Code.{is_main_name}
 
 -- ---- the place of a function's name
 
@@ -105,14 +104,14 @@ module _ (p : TProgram) (within : AllWithin p) where
   -- ---- no other function is called so
 
   -- the functions called `main`, with one function more
-  counted_more : (f : TFunction) (fs : List TFunction) → count_by (λ g. is_main_name g.name) (f ∷ fs) ≡ cond {A = ℕ} (is_main_name f.name) 1 0 + count_by (λ g. is_main_name g.name) fs
-  counted_more f fs = sum_by-cons (λ g. cond {A = ℕ} (is_main_name g.name) 1 0) f fs
+  counted_more : (f : TFunction) (fs : List TFunction) → count_by (λ g. is_main g.name) (f ∷ fs) ≡ cond {A = ℕ} (is_main f.name) 1 0 + count_by (λ g. is_main g.name) fs
+  counted_more f fs = sum_by-cons (λ g. cond {A = ℕ} (is_main g.name) 1 0) f fs
 
   -- where none is called so, their number is 0
-  count_none : (fs : List TFunction) → ((i : ℕ) (f : TFunction) → slice_get fs i ≡ Some f → is_main_name f.name ≡ false) → count_by (λ f. is_main_name f.name) fs ≡ 0
+  count_none : (fs : List TFunction) → ((i : ℕ) (f : TFunction) → slice_get fs i ≡ Some f → is_main f.name ≡ false) → count_by (λ f. is_main f.name) fs ≡ 0
   count_none [] h = refl
   count_none (f ∷ fs) h =
-      let own : cond {A = ℕ} (is_main_name f.name) 1 0 ≡ 0 = ap (λ b. cond {A = ℕ} b 1 0) (h 0 f refl) in
+      let own : cond {A = ℕ} (is_main f.name) 1 0 ≡ 0 = ap (λ b. cond {A = ℕ} b 1 0) (h 0 f refl) in
       omega (arith, counted_more f fs, own, count_none fs (λ i g e. h (suc i) g e))
 
   -- what can't hold doesn't
@@ -121,21 +120,21 @@ module _ (p : TProgram) (within : AllWithin p) where
   not_so true h = absurd (h refl)
 
   -- where all of them stand at one place, their number is 1
-  count_one : (fs : List TFunction) (m : ℕ) (g : TFunction) → slice_get fs m ≡ Some g → is_main_name g.name ≡ true → ((i : ℕ) (f : TFunction) → slice_get fs i ≡ Some f → is_main_name f.name ≡ true → i ≡ m) → count_by (λ f. is_main_name f.name) fs ≡ 1
+  count_one : (fs : List TFunction) (m : ℕ) (g : TFunction) → slice_get fs m ≡ Some g → is_main g.name ≡ true → ((i : ℕ) (f : TFunction) → slice_get fs i ≡ Some f → is_main f.name ≡ true → i ≡ m) → count_by (λ f. is_main f.name) fs ≡ 1
   count_one [] m g e is only = absurd (none-some g e)
   count_one (f ∷ fs) zero g e is only =
-      let own : is_main_name f.name ≡ true = subst (λ h. is_main_name h.name ≡ true) (sym (same_Some f g e)) is in
-      let one : cond {A = ℕ} (is_main_name f.name) 1 0 ≡ 1 = ap (λ b. cond {A = ℕ} b 1 0) own in
-      let others = count_none fs (λ i h at. not_so (is_main_name h.name) (λ so. let bad : suc i ≡ 0 = only (suc i) h at so in omega (arith, bad))) in
+      let own : is_main f.name ≡ true = subst (λ h. is_main h.name ≡ true) (sym (same_Some f g e)) is in
+      let one : cond {A = ℕ} (is_main f.name) 1 0 ≡ 1 = ap (λ b. cond {A = ℕ} b 1 0) own in
+      let others = count_none fs (λ i h at. not_so (is_main h.name) (λ so. let bad : suc i ≡ 0 = only (suc i) h at so in omega (arith, bad))) in
       omega (arith, counted_more f fs, one, others)
   count_one (f ∷ fs) (suc m) g e is only =
-      let own : is_main_name f.name ≡ false = not_so (is_main_name f.name) (λ so. let bad : 0 ≡ suc m = only 0 f refl so in omega (arith, bad)) in
-      let zero' : cond {A = ℕ} (is_main_name f.name) 1 0 ≡ 0 = ap (λ b. cond {A = ℕ} b 1 0) own in
+      let own : is_main f.name ≡ false = not_so (is_main f.name) (λ so. let bad : 0 ≡ suc m = only 0 f refl so in omega (arith, bad)) in
+      let zero' : cond {A = ℕ} (is_main f.name) 1 0 ≡ 0 = ap (λ b. cond {A = ℕ} b 1 0) own in
       let others = count_one fs m g e is (λ i h at so. let same : suc i ≡ suc m = only (suc i) h at so in omega (arith, same)) in
       omega (arith, counted_more f fs, zero', others)
 
   -- just one function is called `main`
-  pub main_alone : count_by (λ f. is_main_name f.name) p.functions ≡ 1
+  pub main_alone : count_by (λ f. is_main f.name) p.functions ≡ 1
   main_alone = count_one p.functions main_called.number main_called.callee main_called.stands named_main
       (λ i f e so.
       let name : f.name ≡ codes "main" = (bytes_eq-Decides f.name (codes "main")).0 so in

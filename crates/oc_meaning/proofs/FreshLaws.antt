@@ -1,11 +1,10 @@
 -- The samples of fresh variables from the last name to the first.
 use Rattle.std.proofs.Common.{◌≡◌, ℕ, List, [], ◌∷◌, ◌++◌, Bor, length, arith, refl, ap, ◌∙◌}
 use Rattle.std.proofs.lemmas.List.{map-append}
-use Rattle.oc_tree.specs.Names.{Text}
+use Rattle.oc_tree.specs.Names.{Text, names_seen}
 use Rattle.oc_meaning.specs.Store.{Store, Binding}
 use Rattle.oc_meaning.specs.Uses.{samples_of_fresh}
 use Rattle.oc_meaning.specs.Fresh.{with_name, with_names}
-use Rattle.oc_meaning.specs.Listed.{names_seen}
 
 pub with_names_last : (env : List Binding) (σ : Store) (xs : List Text) (x : Text) (samples : List ℕ) → with_names env σ (xs ++ x ∷ []) samples ≡ with_names env σ xs (with_name env σ x samples)
 with_names_last env σ [] x samples = refl

@@ -11,7 +11,6 @@ pub mod Unmarked
 pub mod Cuts
 pub mod Executed
 pub mod Fresh
-pub mod Listed
 pub mod Operands
 pub mod Runs
 pub mod Scopes

@@ -15,6 +15,7 @@ pub mod laws;
 mod marks;
 pub mod names;
 mod place;
+pub mod regions;
 pub mod run;
 mod running;
 mod samples;

@@ -1,12 +1,27 @@
-//! The names in a statement.
+//! Names: their places in lists, and where statements name variables.
 ghost use Rattle.std.specs.Prelude.{◌≡◌, ◌++◌, OnOk};
-ghost use Rattle.oc_tree.specs.View.{arg_view, call_view, expr_view, kind_view, right_view};
-ghost use Rattle.oc_meaning.specs.Uses.{arg_names, call_names, expr_names, own_names, right_names};
-ghost use Rattle.oc_meaning.specs.Listed.{names_seen};
+ghost use Rattle.oc_tree.specs.View.{arg_view, call_view, expr_view, kind_view, right_view, stmts_view};
+ghost use Rattle.oc_meaning.specs.Exec.{number_in};
+ghost use Rattle.oc_meaning.specs.Uses.{arg_names, call_names, expr_names, is_annotated, is_fresh_note, own_names, right_names};
+ghost use Rattle.oc_tree.specs.Names.{names_seen};
 
 use oc_tree::name::Name;
-use oc_tree::tree::{Arg, Call, Expr, Right, StmtKind};
+use oc_tree::tree::{Arg, Call, Expr, Right, Stmt, StmtKind};
 use std::alloc::AllocError;
+
+/// The place of a name in a list, or past its end.
+pub fn place_in(names: &[Name], name: &Name) -> usize
+    ensures { result ≡ number_in names.now name.now }
+{
+    let mut number = 0;
+    for other in names {
+        if name.is(other) {
+            return number;
+        }
+        number += 1;
+    }
+    number
+}
 
 /// Adds the variables that an expression names.
 #[cycle(names)]
@@ -89,4 +104,25 @@ pub fn own_names<'a>(kind: &'a StmtKind, names: &mut Vec<&'a Name>) -> Result<()
         StmtKind::CallOnly { call } => call_names(call, names),
         StmtKind::Emit { value, .. } | StmtKind::Return { value } => expr_names(value, names),
     }
+}
+
+fn is_note(name: &Name, kind: &StmtKind) -> bool
+    ensures { result ≡ is_fresh_note name.now (kind_view kind.now) }
+{
+    match kind {
+        StmtKind::Fresh { name: noted } => name.is(noted),
+        _ => false,
+    }
+}
+
+/// Whether the variable that stands before these statements is annotated `Fresh` directly among them.
+pub fn is_annotated(name: &Name, rest: &[Stmt]) -> bool
+    ensures { result ≡ is_annotated name.now (stmts_view rest.now) }
+{
+    for statement in rest {
+        if is_note(name, &statement.kind) {
+            return true;
+        }
+    }
+    false
 }

@@ -15,8 +15,10 @@ use crate::completion::{Completion, Passed};
 use crate::eval::value_of;
 use crate::interrupted::Interrupted;
 use crate::marks::{begin, begin_turn, end, end_turns, is_use};
+use crate::names::is_annotated;
 use crate::place::Place;
-use crate::running::{Running, begun_by, ended_by, is_zero};
+use crate::regions::{begun_by, ended_by};
+use crate::running::{Running, is_zero};
 use crate::samples::Samples;
 use crate::scope::{Binding, Scope};
 use crate::simple::{
@@ -24,7 +26,7 @@ use crate::simple::{
     tag,
 };
 use crate::store::Store;
-use crate::uses::{is_annotated, used};
+use crate::uses::used;
 use crate::value::Got;
 use oc_tree::name::Name;
 use oc_tree::tree::{Block, Call, Expr, Right, Stmt, StmtId, StmtKind};

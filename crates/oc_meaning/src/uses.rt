@@ -1,39 +1,18 @@
 //! Uses of fresh variables.
 ghost use Rattle.std.specs.Prelude.{◌≡◌, Some, None, IfOk, if◌then◌else◌};
 ghost use Rattle.std.specs.List.{list_any};
-ghost use Rattle.oc_tree.specs.View.{kind_view, stmts_view};
-ghost use Rattle.oc_meaning.specs.Uses.{is_annotated, is_fresh, is_fresh_note, is_use, samples_of_fresh, use_samples};
+ghost use Rattle.oc_tree.specs.View.{kind_view};
+ghost use Rattle.oc_meaning.specs.Uses.{is_fresh, is_use, samples_of_fresh, use_samples};
 ghost use Rattle.oc_meaning.specs.Fresh.{with_name};
-ghost use Rattle.oc_meaning.specs.Listed.{names_seen};
+ghost use Rattle.oc_tree.specs.Names.{names_seen};
 
 use crate::names::own_names;
 use crate::samples::Samples;
 use crate::scope::Scope;
 use crate::store::Store;
 use oc_tree::name::Name;
-use oc_tree::tree::{Stmt, StmtKind};
+use oc_tree::tree::StmtKind;
 use std::alloc::{AllocError, Global};
-
-fn is_note(name: &Name, kind: &StmtKind) -> bool
-    ensures { result ≡ is_fresh_note name.now (kind_view kind.now) }
-{
-    match kind {
-        StmtKind::Fresh { name: noted } => name.is(noted),
-        _ => false,
-    }
-}
-
-/// Whether the variable that stands before these statements is annotated `Fresh` directly among them.
-pub fn is_annotated(name: &Name, rest: &[Stmt]) -> bool
-    ensures { result ≡ is_annotated name.now (stmts_view rest.now) }
-{
-    for statement in rest {
-        if is_note(name, &statement.kind) {
-            return true;
-        }
-    }
-    false
-}
 
 fn names_fresh(scope: &Scope, names: &[&Name]) -> bool
     ensures { result ≡ list_any (is_fresh scope.now) (names_seen names.now) }

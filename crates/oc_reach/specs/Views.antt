@@ -7,9 +7,6 @@ use Rattle.oc_tree.specs.View.{call_view, kind_view}
 use Rattle.oc_tree.specs.declared.tree.Call.{Call}
 use Rattle.oc_tree.specs.declared.tree.StmtKind.{StmtKind}
 
-abbrev pub names_seen : List (Bor Text) → List Text
-names_seen ns = map (λ n. n.now) ns
-
 abbrev pub calls_seen : List (Bor Call) → List TCall
 calls_seen cs = map (λ c. call_view c.now) cs
 

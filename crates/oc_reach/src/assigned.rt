@@ -49,8 +49,8 @@ fn written_params(
     Ok(marks)
 }
 
-// Marks the parameters that are assigned through.
-fn assigned_params(
+/// Marks the parameters that are assigned through, themselves or by functions that they are passed to.
+pub fn assigned_params(
     alloc: Global,
     calls: &Calls,
     params: &Params,

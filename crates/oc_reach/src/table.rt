@@ -1,12 +1,12 @@
 //! Names by their places in a list.
-ghost use Rattle.std.specs.Prelude.{◌≡◌, ◌<◌, ◌++◌, List, ℕ, [], ◌∷◌, map, length, Option, None, Some, cond, OnOk, IfOk, IfSome};
+ghost use Rattle.std.specs.Prelude.{◌≡◌, ◌<◌, ◌++◌, List, ℕ, [], ◌∷◌, codes, map, length, Option, None, Some, cond, OnOk, IfOk, IfSome};
 ghost use Rattle.std.specs.Str.{bytes_eq};
-ghost use Rattle.oc_tree.specs.Names.{Text};
+ghost use Rattle.oc_tree.specs.Names.{Text, names_seen};
 ghost use Rattle.oc_tree.specs.View.{function_view};
 ghost use Rattle.oc_tree.specs.declared.tree.Param.{Param};
-ghost use Rattle.oc_tree.specs.Calls.{place, place_from, function_names};
+ghost use Rattle.oc_tree.specs.Calls.{place, place_from, function_names, function_place};
+ghost use Rattle.oc_tree.specs.Weight.{result_at};
 ghost use Rattle.oc_reach.specs.Entries.{Entries, number_in, or_else};
-ghost use Rattle.oc_reach.specs.Views.{names_seen};
 
 use indexmap::IndexMap;
 use oc_tree::name::Name;
@@ -130,4 +130,32 @@ pub fn param_table<'a>(alloc: Global, params: &'a [Param]) -> Result<Table<'a>, 
         names.push(&param.name)?;
     }
     Table::new(alloc, names)
+}
+
+/// The place of `main`.
+pub fn main_place(functions: &[Function]) -> Option<usize>
+    ensures { result ≡ function_place (map function_view functions.now) (codes "main") }
+{
+    for (i, function) in functions.iter().enumerate() {
+        if function.name.is_main() {
+            return Some(i);
+        }
+    }
+    None
+}
+
+/// Whether the function at a place has a result.
+pub fn result_at(functions: &[Function], place: Option<usize>) -> bool
+    ensures { result ≡ result_at (map function_view functions.now) place }
+{
+    match place {
+        Some(place) => {
+            if place < functions.len() {
+                functions[place].result.is_some()
+            } else {
+                false
+            }
+        }
+        None => false,
+    }
 }

@@ -5,7 +5,7 @@ ghost use Rattle.oc_tree.specs.Places.{block_of};
 ghost use Rattle.oc_tree.specs.Checked.{group_of};
 ghost use Rattle.oc_region.specs.Views.{group_with};
 
-use crate::places::{block_of, is_in_block};
+use crate::places::is_in_block;
 use oc_effects::effects::Effects;
 use oc_tree::tree::{BlockId, StmtId};
 use std::alloc::{AllocError, Global};
@@ -39,7 +39,7 @@ fn fill(effects: &Effects, group: Group, table: &mut [Option<Group>])
     requires { group.1 < length table.old }
     ensures { (s : ℕ) → get_or table.new s None ≡ group_with effects.now.program group s (get_or table.old s None) }
 {
-    let Some(block) = block_of(effects, group.0) else {
+    let Some(block) = effects.block_of(group.0) else {
         return;
     };
     for i in group.0 as usize..group.1 as usize + 1 {

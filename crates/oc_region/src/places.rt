@@ -10,21 +10,11 @@ use crate::range::Stretch;
 use oc_effects::effects::Effects;
 use oc_tree::tree::{BlockId, StmtId};
 
-/// Directly in which block a statement stands.
-pub fn block_of(effects: &Effects, s: StmtId) -> Option<BlockId>
-    ensures { result ≡ block_of effects.now.program s }
-{
-    match effects.at(s) {
-        Some(effect) => Some(effect.block),
-        None => None,
-    }
-}
-
 /// Whether a statement stands directly in a block.
 pub fn is_in_block(effects: &Effects, s: StmtId, block: BlockId) -> bool
     ensures { result ≡ same_block (block_of effects.now.program s) (Some block) }
 {
-    match block_of(effects, s) {
+    match effects.block_of(s) {
         Some(own) => own == block,
         None => false,
     }
@@ -97,7 +87,7 @@ fn all_in_block(effects: &Effects, sites: &[StmtId], block: BlockId) -> bool
 fn block_holding(effects: &Effects, sites: &[StmtId], s: StmtId) -> Option<BlockId>
     ensures { result ≡ block_holding effects.now.program sites.now s }
 {
-    let block = block_of(effects, s)?;
+    let block = effects.block_of(s)?;
     if all_in_block(effects, sites, block) {
         Some(block)
     } else {

@@ -36,7 +36,7 @@ mutual
   stmts_ids at no_stmts = refl
   stmts_ids at (more (stmt id line k) ss) = ap (λ ns. id ∷ ns) (map-append (λ a. a.id) (kind_placed at id k) (stmts_placed (behind at id k) ss) ∙ (λ i. kind_ids at id k i ++ stmts_ids (behind at id k) ss i))
 
-functions_ids : (fs : List TFunction) → ids (flat_map (λ f. block_placed (at_start f) f.body) fs) ≡ flat_map (λ f. block_statements f.body) fs
+pub functions_ids : (fs : List TFunction) → ids (flat_map (λ f. block_placed (at_start f) f.body) fs) ≡ flat_map (λ f. block_statements f.body) fs
 functions_ids [] = refl
 functions_ids (f ∷ fs) = map-append (λ a. a.id) (block_placed (at_start f) f.body) (flat_map (λ g. block_placed (at_start g) g.body) fs) ∙ (λ i. block_ids (at_start f) f.body i ++ functions_ids fs i)
 

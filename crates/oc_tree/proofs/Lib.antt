@@ -1,7 +1,7 @@
 pub mod ReachLaws
 pub mod Worked
 pub mod WorkedChecked
-pub mod FewVariables
+pub mod Few
 pub mod Maps
 pub mod Resolved
 pub mod Depth

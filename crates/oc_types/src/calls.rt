@@ -7,7 +7,7 @@ ghost use Rattle.oc_tree.specs.Types.{call_type};
 ghost use Rattle.oc_reach.specs.Views.{calls_seen};
 ghost use Rattle.oc_types.specs.Lent.{passes};
 ghost use Rattle.oc_tree.specs.Mentions.{call_mentions};
-ghost use Rattle.oc_tree.specs.Rules.{all_lent, arg_lends, arg_meets, args_differ, args_meet, call_args, call_meets, calls_main, has_kind, is_main, lends_alone, lends_fixed, lent_is, lent_twice, lone_is, mutable_meets, result_missing, shared_meets, used_calls, value_lent_is, value_meets};
+ghost use Rattle.oc_tree.specs.Rules.{all_lent, arg_lends, arg_meets, args_differ, args_meet, call_args, call_meets, calls_main, has_kind, lends_alone, lends_fixed, lent_is, lent_twice, lone_is, mutable_meets, result_missing, shared_meets, used_calls, value_lent_is, value_meets};
 
 use crate::operands::passed_on;
 use crate::scope::Scope;
@@ -20,18 +20,12 @@ use oc_tree::name::Name;
 use oc_tree::scope::Var;
 use oc_tree::tree::{Arg, Call, Expr, Param, Passing, StmtKind, ValueKind};
 
-pub fn is_main(name: &Name) -> bool
-    ensures { result ≡ is_main name.now }
-{
-    name.bytes() == b"main".as_slice()
-}
-
 /// Whether a statement calls `main`.
 pub fn calls_main(statement: &Statement) -> bool
     ensures { result ≡ calls_main (kind_view statement.now) }
 {
     for call in statement.calls() {
-        if is_main(&call.function) {
+        if call.function.is_main() {
             return true;
         }
     }

@@ -5,7 +5,6 @@ ghost use Rattle.oc_tree.specs.View.{block_view, function_view, program_view, st
 ghost use Rattle.oc_tree.specs.Scope.{takes_param, with_params};
 ghost use Rattle.oc_tree.specs.Rules.{block_returns, has_bad_length, is_array_value, is_main, is_return, main_head, return_missing, stmts_return};
 
-use crate::calls::is_main;
 use crate::scope::Scope;
 use crate::sides::{has_bad_length, is_array_value};
 use crate::top::TopLevel;
@@ -44,7 +43,7 @@ pub fn declare_params<'a>(
 pub fn main_head(function: &Function) -> bool
     ensures { result ≡ main_head (function_view function.now) }
 {
-    is_main(&function.name) && (0 < function.params.len() || function.result.is_some())
+    function.name.is_main() && (0 < function.params.len() || function.result.is_some())
 }
 
 /// Whether no function is called `main`.
@@ -52,7 +51,7 @@ pub fn main_missing(functions: &[Function]) -> bool
     ensures { result ≡ not (list_any (λ f. is_main f.name) (map function_view functions.now)) }
 {
     for function in functions {
-        if is_main(&function.name) {
+        if function.name.is_main() {
             return false;
         }
     }

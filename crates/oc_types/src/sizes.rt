@@ -11,9 +11,9 @@ ghost use Rattle.oc_tree.specs.Stack.{stacks_to};
 ghost use Rattle.oc_tree.specs.View.{function_view, program_view};
 ghost use Rattle.oc_tree.specs.Weight.{known_of, weights_to};
 
-use crate::calls::is_main;
 use crate::elements::first_broken;
 use oc_desugar::expand_program;
+use oc_reach::table::main_place;
 use oc_tree::broken::Broken;
 use oc_tree::tree::{Function, Program};
 use oc_weight::cost::known_of;
@@ -45,18 +45,6 @@ fn is_too_heavy(alloc: Global, functions: &[Function]) -> Result<bool, AllocErro
 {
     let weights = weights(alloc, functions)?;
     Ok(some_too_heavy(weights.as_slice()))
-}
-
-/// The place of `main`.
-fn main_place(functions: &[Function]) -> Option<usize>
-    ensures { result ≡ function_place (map function_view functions.now) (codes "main") }
-{
-    for (i, function) in functions.iter().enumerate() {
-        if is_main(&function.name) {
-            return Some(i);
-        }
-    }
-    None
 }
 
 /// Whether `main` takes more words of stack than it may, of the functions of an expansion.

@@ -120,9 +120,3 @@ next_level fs d was now h k =
 pub no_level : (fs : List TFunction) → map capped (weights_to fs 0) ≡ []
 unfolding weights_to
 no_level fs = refl
-
--- whether a function has a result, as code reads it
-pub result_read : (xs : List Function) (u : ℕ) (f : Function) → u < length xs → f ≡ get_or xs u f → get_or (map (λ g. is_some g.result) (map function_view xs)) u false ≡ is_some f.result
-result_read [] u f h e = absurd (omega arith)
-result_read (x ∷ xs) zero f h e = ap (λ g. is_some g.result) (sym e)
-result_read (x ∷ xs) (suc u) f h e = result_read xs u f (omega (arith, h)) e

@@ -8,7 +8,7 @@ ghost use Rattle.oc_tree.specs.declared.tree.BinaryOp.{BinaryOp};
 ghost use Rattle.oc_weight.specs.Capped.{capped};
 
 use crate::caps::{cap, greater, plus, times};
-use oc_reach::table::Table;
+use oc_reach::table::{Table, result_at};
 use oc_tree::tree::{Arg, BinaryOp, Block, Call, Expr, Function, Right, StmtKind};
 
 fn binary_cost(op: BinaryOp, a: u64, b: u64) -> u64
@@ -107,21 +107,6 @@ fn right_cost(functions: &[Function], table: &Table, weights: &[u64], right: &Ri
         Right::Value { value } => expr_cost(value),
         Right::Sense { .. } => 1,
         Right::Call { call } => call_cost(functions, table, weights, call),
-    }
-}
-
-fn result_at(functions: &[Function], place: Option<usize>) -> bool
-    ensures { result ≡ result_at (map function_view functions.now) place }
-{
-    match place {
-        Some(place) => {
-            if place < functions.len() {
-                functions[place].result.is_some()
-            } else {
-                false
-            }
-        }
-        None => false,
     }
 }
 

@@ -9,35 +9,11 @@ use Rattle.oc_tree.specs.declared.tree.VarId.TheVariants as variables
 use Rattle.oc_tree.specs.Numbers.{numbers_on, kind_statements, else_statements, block_statements, stmts_statements}
 use Rattle.oc_tree.specs.Places.{Place, Placed, behind, in_branch, in_loop, at_start, kind_placed, else_placed, block_placed, stmts_placed, program_placed, placed}
 use Rattle.oc_tree.specs.Checked.{Group, IsChecked}
+use Rattle.oc_tree.proofs.Grouped.{ids, functions_ids}
 use Rattle.oc_tree.specs.Marked.{TRegion, around, is_in_region, covers}
 use Rattle.oc_effects.specs.Effects.{effect_of, function_effects, effects_at}
 use Rattle.oc_writes.specs.Targets.{region_effects}
 use Rattle.oc_writes.specs.Seen.{stands_in, standing_in}
-
-abbrev ids : List Placed → List ℕ
-ids ps = map (λ a. a.id) ps
-
-mutual
-  kind_ids : (at : Place) (id : ℕ) (k : TKind) → ids (kind_placed at id k) ≡ kind_statements k
-  kind_ids at id (if_else c a b) = map-append (λ a. a.id) (block_placed (in_branch at id) a) (else_placed (in_branch at id) b) ∙ (λ i. block_ids (in_branch at id) a i ++ else_ids (in_branch at id) b i)
-  kind_ids at id (for_in x m n b) = block_ids (in_loop at id ((x, variables.Declared id) ∷ [])) b
-  kind_ids at id (while_do c n b) = block_ids (in_loop at id []) b
-  kind_ids at id _ = refl
-
-  else_ids : (at : Place) (b : TElse) → ids (else_placed at b) ≡ else_statements b
-  else_ids at no_else = refl
-  else_ids at (else_do b) = block_ids at b
-
-  block_ids : (at : Place) (b : TBlock) → ids (block_placed at b) ≡ block_statements b
-  block_ids at (block id ss) = stmts_ids (record at { block = id }) ss
-
-  stmts_ids : (at : Place) (ss : TStmts) → ids (stmts_placed at ss) ≡ stmts_statements ss
-  stmts_ids at no_stmts = refl
-  stmts_ids at (more (stmt id line k) ss) = ap (λ ns. id ∷ ns) (map-append (λ a. a.id) (kind_placed at id k) (stmts_placed (behind at id k) ss) ∙ (λ i. kind_ids at id k i ++ stmts_ids (behind at id k) ss i))
-
-functions_ids : (fs : List TFunction) → ids (flat_map (λ f. block_placed (at_start f) f.body) fs) ≡ flat_map (λ f. block_statements f.body) fs
-functions_ids [] = refl
-functions_ids (f ∷ fs) = map-append (λ a. a.id) (block_placed (at_start f) f.body) (flat_map (λ g. block_placed (at_start g) g.body) fs) ∙ (λ i. block_ids (at_start f) f.body i ++ functions_ids fs i)
 
 -- ---- each of a list
 

@@ -1,102 +1,19 @@
 //! Which parameters are assigned through, and what statements assign by passing references.
-ghost use Rattle.std.specs.Prelude.{◌≡◌, ◌<◌, ◌^◌, ℕ, [], map, length, option_map, IfOk};
-ghost use Rattle.oc_tree.specs.View.{function_view, program_view};
-ghost use Rattle.oc_tree.specs.Assigned.{first_param, param_assigned, param_count, pass_links, writes_from};
-ghost use Rattle.oc_reach.specs.Marked.{is_in, add_all};
-ghost use Rattle.oc_flow.specs.Variables.{is_variable_of, same_variable};
+ghost use Rattle.std.specs.Prelude.{◌≡◌, ◌<◌, ◌^◌, map, option_map, IfOk};
+ghost use Rattle.oc_tree.specs.View.{program_view};
+ghost use Rattle.oc_tree.specs.Assigned.{first_param, param_assigned};
 ghost use Rattle.oc_effects.specs.View.{called_view, effect_view, passed_view};
 ghost use Rattle.oc_writes.specs.Targets.{assigns, call_assigns, lends};
 
 use oc_effects::effect::{Called, Effect, Passed};
+use oc_flow::known::is_variable_of;
+use oc_reach::assigned::assigned_params;
 use oc_reach::calls::Calls;
 use oc_reach::marks::Marks;
 use oc_reach::params::Params;
-use oc_reach::passes::{pass_links, writes_of};
-use oc_reach::reach::Reach;
-use oc_tree::tree::{Function, Program, VarId};
+use oc_tree::tree::{Program, VarId};
 use std::alloc::{AllocError, Global};
 use std::marker::Model;
-
-fn pass_reach(
-    alloc: Global,
-    calls: &Calls,
-    params: &Params,
-    functions: &[Function],
-) -> Result<Reach, AllocError>
-    requires calls { calls.now ≡ params.now }
-    requires params { functions.now ≡ params.now }
-    ensures { IfOk result (λ r. r ≡ (pass_links (map function_view functions.now), param_count (map function_view functions.now))) }
-{
-    let links = pass_links(alloc, calls, params, functions)?;
-    let count = params.count();
-    Reach::new(alloc, count, links)
-}
-
-fn written_params(
-    alloc: Global,
-    params: &Params,
-    functions: &[Function],
-) -> Result<Marks, AllocError>
-    requires params { functions.now ≡ params.now }
-    ensures bound { IfOk result (λ m. m.1 ≡ param_count (map function_view functions.now)) }
-    ensures marks { IfOk result (λ m. m.0 ≡ add_all [] (writes_from (map function_view functions.now) 0 (map function_view functions.now))) }
-{
-    let writes = writes_of(alloc, params, functions)?;
-    let count = params.count();
-    let mut marks = Marks::new(alloc, count)?;
-    marks.mark_all(writes.as_slice())?;
-    Ok(marks)
-}
-
-// Marks the parameters that are assigned through.
-fn assigned_params(
-    alloc: Global,
-    calls: &Calls,
-    params: &Params,
-    functions: &[Function],
-) -> Result<Marks, AllocError>
-    requires calls { calls.now ≡ params.now }
-    requires params { functions.now ≡ params.now }
-    ensures bound { IfOk result (λ m. m.1 ≡ param_count (map function_view functions.now)) }
-    ensures marked { IfOk result (λ m. (n : ℕ) → is_in m.0 n ≡ param_assigned (map function_view functions.now) n) }
-{
-    let reach = pass_reach(alloc, calls, params, functions)?;
-    let marks = written_params(alloc, params, functions)?;
-    let back = reach.mark_back(marks)?;
-    Ok(back)
-}
-
-fn same_variable(a: VarId, b: VarId) -> bool
-    ensures { result ≡ same_variable a b }
-{
-    match a {
-        VarId::Nv { index: i } => match b {
-            VarId::Nv { index: j } => i == j,
-            _ => false,
-        },
-        VarId::Param { index: i } => match b {
-            VarId::Param { index: j } => i == j,
-            _ => false,
-        },
-        VarId::Declared { stmt: s } => match b {
-            VarId::Declared { stmt: t } => s == t,
-            _ => false,
-        },
-        VarId::Returned => match b {
-            VarId::Returned => true,
-            _ => false,
-        },
-    }
-}
-
-fn is_variable_of(known: Option<VarId>, var: VarId) -> bool
-    ensures { result ≡ is_variable_of known var }
-{
-    match known {
-        Some(other) => same_variable(other, var),
-        None => false,
-    }
-}
 
 /// A program, which contracts see as it is, with the parameters that are assigned through.
 #[derive(Drop)]

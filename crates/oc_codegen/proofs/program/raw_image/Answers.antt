@@ -65,7 +65,7 @@ returns c =
     let inv = c.loop-next.invariant in
     let h : length fs ≤ i = omega arith in
     let z = drop_all i fs h in
-    let names : names_view c.in_ok-copy_names.field-0 ≡ p.names = c.in_ok-copy_names.ensures in
+    let names : names_view c.in_ok-try_clone.field-0 ≡ p.names = c.in_ok-try_clone.ensures in
     let entries : image ≡ image_functions p rs 0 p.functions =
     sym (append-nil image) ∙ ap (λ (gs : List Function). image ++ image_functions p rs (length code) (map function_view gs)) (sym z) ∙ inv.entries in
     let written : c.into_code.result.items ≡ functions_code p rs 0 p.functions =

@@ -1,5 +1,5 @@
 use Rattle.std.proofs.Common.{◌≡◌, ◌++◌, drop}
-use Rattle.oc_reach.specs.Views.{names_seen}
+use Rattle.oc_tree.specs.Names.{names_seen}
 use Rattle.oc_effects.specs.Effects.{variables_at}
 use Rattle.oc_effects.specs.Walk.{placed_view}
 use Rattle.oc_effects.proofs.here.variables.Given as goal

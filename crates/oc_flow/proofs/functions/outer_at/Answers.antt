@@ -5,7 +5,7 @@ use Rattle.oc_tree.specs.View.{function_view}
 use Rattle.oc_tree.specs.Checked.{AnyName}
 use Rattle.oc_tree.specs.Visible.{FewVariables}
 use Rattle.oc_effects.specs.Effects.{params_at}
-use Rattle.oc_tree.proofs.FewVariables.{few_variables}
+use Rattle.oc_tree.proofs.Few.{few_variables}
 use Rattle.oc_flow.proofs.Counts.{params_are, params_get}
 use Rattle.oc_flow.proofs.functions.outer_at.Goals as goal
 

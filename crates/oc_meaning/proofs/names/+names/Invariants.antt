@@ -1,7 +1,7 @@
 use Rattle.std.proofs.Common.{◌≡◌, ◌++◌, drop}
 use Rattle.oc_tree.specs.View.{args_view}
 use Rattle.oc_meaning.specs.Uses.{args_names}
-use Rattle.oc_meaning.specs.Listed.{names_seen}
+use Rattle.oc_tree.specs.Names.{names_seen}
 use Rattle.oc_meaning.proofs.names.+names.Given as goal
 
 abbrev pub invariant-call_names-loop-arg : goal.invariant-call_names-loop-arg

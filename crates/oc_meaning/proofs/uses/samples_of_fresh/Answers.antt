@@ -1,6 +1,6 @@
 use Rattle.std.proofs.Common.{sym, ap, ◌∙◌, arith}
 use Rattle.oc_meaning.specs.Fresh.{with_names}
-use Rattle.oc_meaning.specs.Listed.{names_seen}
+use Rattle.oc_tree.specs.Names.{names_seen}
 use Rattle.oc_meaning.proofs.FreshLaws.{with_names_taken, with_names_none, with_names_is}
 use Rattle.oc_meaning.proofs.uses.samples_of_fresh.Goals as goal
 

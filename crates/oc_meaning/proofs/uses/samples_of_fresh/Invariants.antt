@@ -1,6 +1,6 @@
 use Rattle.std.proofs.Common.{◌≡◌, vec_len}
 use Rattle.oc_meaning.specs.Fresh.{with_names}
-use Rattle.oc_meaning.specs.Listed.{names_seen}
+use Rattle.oc_tree.specs.Names.{names_seen}
 use Rattle.oc_meaning.proofs.uses.samples_of_fresh.Given as goal
 
 abbrev pub invariant-loop-name : goal.invariant-loop-name

@@ -1,7 +1,7 @@
 use Rattle.std.proofs.Common.{◌≡◌, ℕ, List, drop}
 use Rattle.oc_tree.specs.Calls.{place, place_from}
 use Rattle.oc_reach.specs.Entries.{number_in, or_else}
-use Rattle.oc_reach.specs.Views.{names_seen}
+use Rattle.oc_tree.specs.Names.{names_seen}
 use Rattle.oc_reach.proofs.table.numbers_of.Given as goal
 
 abbrev pub invariant-loop-i : goal.invariant-loop-i

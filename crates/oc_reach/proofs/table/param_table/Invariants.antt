@@ -1,5 +1,5 @@
 use Rattle.std.proofs.Common.{◌≡◌, ◌++◌, drop, map}
-use Rattle.oc_reach.specs.Views.{names_seen}
+use Rattle.oc_tree.specs.Names.{names_seen}
 use Rattle.oc_reach.proofs.table.param_table.Given as goal
 
 abbrev pub invariant-loop-param : goal.invariant-loop-param

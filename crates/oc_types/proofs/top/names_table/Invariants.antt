@@ -1,5 +1,5 @@
 use Rattle.std.proofs.Common.{◌≡◌, ◌++◌, drop}
-use Rattle.oc_reach.specs.Views.{names_seen}
+use Rattle.oc_tree.specs.Names.{names_seen}
 use Rattle.oc_types.proofs.top.names_table.Given as goal
 
 abbrev pub invariant-loop-name : goal.invariant-loop-name

@@ -2,9 +2,8 @@ use Rattle.std.proofs.Common.{sym, ap, subst, ◌∙◌, ◌<◌, ◌^◌, lengt
 use Rattle.std.specs.List.{All}
 use Rattle.oc_tree.specs.View.{function_view}
 use Rattle.oc_tree.specs.Checked.{AnyName}
-use Rattle.oc_tree.proofs.FewVariables.{few_variables}
+use Rattle.oc_tree.proofs.Few.{few_functions, few_variables}
 use Rattle.oc_effects.specs.Flat.{all_effects, starts_from}
-use Rattle.oc_effects.proofs.FewFunctions.{few_functions}
 use Rattle.oc_effects.proofs.Numbering.{Consecutive, all_numbered}
 use Rattle.oc_effects.proofs.effects.Effects.new.Goals as goal
 

@@ -2,7 +2,7 @@ use Rattle.std.proofs.Common.{◌∙◌, ap}
 use Rattle.oc_tree.specs.View.{program_view}
 use Rattle.oc_tree.specs.Checked.{AnyName}
 use Rattle.oc_tree.specs.Places.{resolve}
-use Rattle.oc_tree.proofs.FewVariables.{few_variables}
+use Rattle.oc_tree.proofs.Few.{few_variables}
 use Rattle.oc_tree.proofs.Resolved.{variable_is}
 use Rattle.oc_tree.proofs.checked.Checked.resolve.Goals as goal
 

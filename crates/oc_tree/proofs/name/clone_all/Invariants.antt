@@ -1,5 +1,5 @@
 use Rattle.std.proofs.Common.{◌≡◌, ◌++◌, drop}
-use Rattle.oc_desugar.proofs.copy.copy_list.Given as goal
+use Rattle.oc_tree.proofs.name.clone_all.Given as goal
 
 abbrev pub invariant-loop-name : goal.invariant-loop-name
 invariant-loop-name l = l.copies.items ++ drop l.name-index l.names ≡ l.names

@@ -1,4 +1,4 @@
--- Programs that break no rule have few parameters and few nonvolatile variables.
+-- Programs that break no rule have few functions, few parameters and few nonvolatile variables.
 use Rattle.std.proofs.Common.{◌≡◌, refl, subst, ℕ, zero, suc, ◌+◌, ◌<◌, ◌≤◌, ◌^◌, arith, Bool, true, false, ◌==◌, ◌||◌, nat_le, nat_lt, List, [], ◌∷◌, ◌++◌, length, slice_get, slice_index_or, Option, Some, None, cond}
 use Rattle.std.specs.List.{count_by}
 use Rattle.std.proofs.lemmas.Option.{slice_get-get_or}
@@ -23,7 +23,7 @@ use Rattle.oc_tree.specs.Visible.{FewVariables}
 -- what the limits keep of an element
 abbrev Kept : Element → Type 0
 Kept (declared b line (nv_item x d)) = b.nvs < 64
-Kept (declared b line (function_item f)) = length f.params ≤ 8
+Kept (declared b line (function_item f)) = (b.functions < 128) × (length f.params ≤ 8)
 Kept _ = Unit {0}
 
 abbrev Each : List Element → Type 0
@@ -59,7 +59,7 @@ kept p n (declared b line (nv_item x d)) h =
     let passes : (nat_le 64 b.nvs || nat_lt 65536 n.words) ≡ false = tests.1.1.0 in grind (arith, passes)
 kept p n (declared b line (function_item f)) h =
     let tests = are_kept (rules_of p n (declared b line (function_item f))) h in
-    let passes : (nat_le 128 b.functions || (nat_lt 8 (length f.params) || nat_lt 256 n.variables)) ≡ false = tests.1.1.1.1.1.1.0 in grind (arith, passes)
+    let passes : (nat_le 128 b.functions || (nat_lt 8 (length f.params) || nat_lt 256 n.variables)) ≡ false = tests.1.1.1.1.1.1.0 in (grind (arith, passes), grind (arith, passes))
 kept p n (statement h id line k) _ = tt
 kept p n (ending line) _ = tt
 
@@ -95,27 +95,32 @@ module _ (p : TProgram) where
       (subst (λ (n : ℕ). k < b.nvs + n) (sum_by-cons (λ g. cond (is_nv g.kind) 1 0) e ds) to)
       (λ rest from' to'. few_nvs (after_item b e.kind) ds k x d rest named decl from' to')
 
+  abbrev IsFew : ℕ → TFunction → Type 0
+  IsFew k f = (k < 128) × (length f.params ≤ 8)
+
   -- the function `k`, from a declaration on, where `m` are declared behind it
   function_step : (b : Before) (line : ℕ) (kind : DeclKind) (es : List Element) (m k : ℕ) (f : TFunction) → Each (item_elements p b line kind ++ es) →
       slice_get p.functions k ≡ Some f → b.functions ≤ k → k < b.functions + (cond (is_function kind) 1 0 + m) →
-      (Each es → (after_item b kind).functions ≤ k → k < (after_item b kind).functions + m → length f.params ≤ 8) → length f.params ≤ 8
+      (Each es → (after_item b kind).functions ≤ k → k < (after_item b kind).functions + m → IsFew k f) → IsFew k f
   function_step b line decls.Sensor es m k f h found from to on = on (each_second (item_elements p b line decls.Sensor) es h) from (omega (arith, to))
   function_step b line decls.Port es m k f h found from to on = on (each_second (item_elements p b line decls.Port) es h) from (omega (arith, to))
   function_step b line decls.Nv es m k f h found from to on = on (each_second (item_elements p b line decls.Nv) es h) from (omega (arith, to))
   function_step b line decls.Function es m k f h found from to on = by_test (k == b.functions) refl
     where
-      by_test : (t : Bool) → (k == b.functions) ≡ t → length f.params ≤ 8
+      by_test : (t : Bool) → (k == b.functions) ≡ t → IsFew k f
       by_test true is =
-          let here = subst (λ o. Each (function_elements p b line o ++ es)) (subst (λ i. slice_get p.functions i ≡ Some f) (eqb-true k b.functions is) found) h in here.0
+          let same : k ≡ b.functions = eqb-true k b.functions is in
+          let here = subst (λ o. Each (function_elements p b line o ++ es)) (subst (λ i. slice_get p.functions i ≡ Some f) same found) h in
+          let below : b.functions < 128 = here.0.0 in (omega (arith, same, below), here.0.1)
       by_test false is = on (each_second (item_elements p b line decls.Function) es h) (grind (arith, from, is)) (omega (arith, to))
 
-  few_params : (b : Before) (ds : List Decl) (k : ℕ) (f : TFunction) → Each (order_elements p b ds) →
-      slice_get p.functions k ≡ Some f → b.functions ≤ k → k < b.functions + count_by (λ e. is_function e.kind) ds → length f.params ≤ 8
-  few_params b [] k f h found from to = absurd (omega (arith, from, to))
-  few_params b (e ∷ ds) k f h found from to =
+  function_few : (b : Before) (ds : List Decl) (k : ℕ) (f : TFunction) → Each (order_elements p b ds) →
+      slice_get p.functions k ≡ Some f → b.functions ≤ k → k < b.functions + count_by (λ e. is_function e.kind) ds → IsFew k f
+  function_few b [] k f h found from to = absurd (omega (arith, from, to))
+  function_few b (e ∷ ds) k f h found from to =
       function_step b e.line e.kind (order_elements p (after_item b e.kind) ds) (count_by (λ g. is_function g.kind) ds) k f h found from
       (subst (λ (n : ℕ). k < b.functions + n) (sum_by-cons (λ g. cond (is_function g.kind) 1 0) e ds) to)
-      (λ rest from' to'. few_params (after_item b e.kind) ds k f rest found from' to')
+      (λ rest from' to'. function_few (after_item b e.kind) ds k f rest found from' to')
 
 -- ---- programs
 
@@ -143,9 +148,25 @@ module _ (N : Text → Type 0) (p : TProgram) (form : InForm N p) (unbroken : br
           let d = got p.nv 64 (omega (arith, many, form.declared.each_nv)) in
           let less = few_nvs p nothing_before p.order 64 x.0 d.0 each x.1 d.1 (omega arith) (omega (arith, many, form.declared.nvs)) in absurd (omega (arith, less))
 
+  function_at : (k : ℕ) (f : TFunction) → k < length p.functions → slice_get p.functions k ≡ Some f → IsFew p k f
+  function_at k f h found = function_few p nothing_before p.order k f each found (omega arith) (omega (arith, h, form.declared.functions))
+
   params_few : (k : ℕ) (f : TFunction) → k < length p.functions → length (slice_index_or p.functions k f).params < 2 ^ 32
   params_few k f h =
-      let few = few_params p nothing_before p.order k (slice_index_or p.functions k f) each (slice_get-get_or p.functions k f h) (omega arith) (omega (arith, h, form.declared.functions)) in omega (arith, few)
+      let few = function_at k (slice_index_or p.functions k f) h (slice_get-get_or p.functions k f h) in omega (arith, few.1)
 
   pub few_variables : FewVariables p
   few_variables = record { nvs = omega (arith, nvs_few); params = params_few }
+
+  functions_few : length p.functions ≤ 128
+  functions_few = by_test (nat_lt 128 (length p.functions)) refl
+    where
+      by_test : (t : Bool) → nat_lt 128 (length p.functions) ≡ t → length p.functions ≤ 128
+      by_test false is = grind (arith, is)
+      by_test true is =
+          let many : 128 < length p.functions = grind (arith, is) in
+          let f = got p.functions 128 many in
+          let few = function_at 128 f.0 many f.1 in absurd (omega (arith, few.0))
+
+  pub few_functions : length p.functions < 2 ^ 32
+  few_functions = omega (arith, functions_few)

@@ -1,7 +1,7 @@
 use Rattle.std.proofs.Common.{◌≡◌, map, drop}
 use Rattle.oc_tree.specs.Regions.{region_view}
 use Rattle.oc_meaning.specs.Exec.{ended_by}
-use Rattle.oc_meaning.proofs.running.ended_by.Given as goal
+use Rattle.oc_meaning.proofs.regions.ended_by.Given as goal
 
 abbrev pub invariant-loop-region : goal.invariant-loop-region
 invariant-loop-region l = ended_by (map region_view (drop l.region-index l.regions)) l.n ≡ ended_by (map region_view l.regions) l.n

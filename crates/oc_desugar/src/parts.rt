@@ -1,6 +1,6 @@
 //! What is left of expressions, and their pulls.
 ghost use Rattle.std.specs.Prelude.{◌≡◌, ◌<◌, ◌^◌, ◌+◌, ◌++◌, ◌∷◌, [], map, OnOk, IfOk};
-ghost use Rattle.oc_tree.specs.Tree.{binary, index, right_sense, unary, variable};
+ghost use Rattle.oc_tree.specs.Tree.{binary, deref, index, right_sense, unary, variable};
 ghost use Rattle.oc_tree.specs.View.{arg_view, args_view, call_view, expr_view, right_view};
 ghost use Rattle.oc_tree.specs.Expansion.{left_arg, left_args, left_call, left_expr, left_right, pulled_arg, pulled_args, pulled_call, pulled_expr, pulled_right, temporary};
 ghost use Rattle.oc_tree.specs.Pulls.{arg_pulls, args_pulls, call_pulls, expr_pulls, right_pulls};
@@ -59,6 +59,22 @@ fn pull_input(
 }
 
 #[inline(never)]
+fn variable(alloc: Global, name: &Name) -> Result<Expr, AllocError>
+    ensures { IfOk result (λ r. expr_view r ≡ variable name.now) }
+{
+    let name = name.try_clone(alloc)?;
+    Ok(Expr::Variable { name })
+}
+
+#[inline(never)]
+fn deref(alloc: Global, name: &Name) -> Result<Expr, AllocError>
+    ensures { IfOk result (λ r. expr_view r ≡ deref name.now) }
+{
+    let name = name.try_clone(alloc)?;
+    Ok(Expr::Deref { name })
+}
+
+#[inline(never)]
 fn element(alloc: Global, array: &Name, place: Expr) -> Result<Expr, AllocError>
     ensures { IfOk result (λ r. expr_view r ≡ index array.now (expr_view place)) }
 {
@@ -107,20 +123,12 @@ pub fn left_expr(
     match expr {
         Expr::Number { value } => Ok(Expr::Number { value: *value }),
         Expr::Truth { value } => Ok(Expr::Truth { value: *value }),
-        Expr::Variable { name } => {
-            Ok(Expr::Variable {
-                name: name.try_clone(alloc)?,
-            })
-        }
+        Expr::Variable { name } => variable(alloc, name),
         Expr::Index { array, index } => {
             let index = left_expr(alloc, k, pulls, index)?;
             element(alloc, array, index)
         }
-        Expr::Deref { name } => {
-            Ok(Expr::Deref {
-                name: name.try_clone(alloc)?,
-            })
-        }
+        Expr::Deref { name } => deref(alloc, name),
         Expr::Unary { op, inner } => {
             let inner = left_expr(alloc, k, pulls, inner)?;
             unary(alloc, *op, inner)

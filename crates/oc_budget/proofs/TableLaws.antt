@@ -1,8 +1,6 @@
 -- Tables of marked numbers.
-use Rattle.std.proofs.Common.{◌≡◌, ◌<◌, ◌||◌, ◌++◌, ℕ, zero, suc, Bool, true, false, List, [], ◌∷◌, length, refl, sym, ap, arith, set, map}
-use Rattle.std.specs.Prelude.{nat_eq, is_some}
-use Rattle.oc_tree.specs.View.{function_view}
-use Rattle.oc_tree.specs.declared.tree.Function.{Function}
+use Rattle.std.proofs.Common.{◌≡◌, ◌<◌, ◌||◌, ◌++◌, ℕ, zero, suc, Bool, true, false, List, [], ◌∷◌, length, refl, arith, set}
+use Rattle.std.specs.Prelude.{nat_eq}
 use Rattle.std.proofs.Math.ListN.{get_or}
 
 -- with one more number marked

@@ -1,5 +1,5 @@
 -- The code of marked programs is right, and so it is an image.
-use Rattle.std.proofs.Common.{◌≡◌, ◌≤◌, List, length, map, ap, sym, ◌∙◌, subst, arith}
+use Rattle.std.proofs.Common.{◌≡◌, ◌≤◌, List, length, ap, sym, ◌∙◌, subst, arith}
 use Rattle.std.proofs.lemmas.List.{length-map}
 use Rattle.oc_writes.specs.Targets.{may_write, region_targets}
 use Rattle.oc_tree.specs.Tree.{TProgram}

@@ -11,9 +11,8 @@ use Rattle.oc_isa.specs.Image.{Parts}
 use Rattle.oc_isa.specs.Power.{power_run}
 use Rattle.oc_isa.specs.Table.{device_of}
 use Rattle.oc_machine.specs.Kept.{Running}
-use Rattle.oc_isa.specs.Power.{World}
 use Rattle.oc_top.specs.Meant.{program_code}
-use Rattle.oc_top.specs.Commands.{Plan, Wanted, report, regions, listing, Task, command_of, task_of, task_for, with_plan, plans_of, word_at}
+use Rattle.oc_top.specs.Commands.{Plan, report, regions, listing, Task, command_of, task_of, task_for, with_plan, plans_of, word_at}
 use Rattle.oc_top.specs.declared.command.Command.{Command}
 use Rattle.oc_top.specs.declared.command.Command.TheVariants as commands
 use Rattle.oc_tree.specs.Tree.{TProgram}

@@ -1,13 +1,11 @@
 -- The image of an accepted program.
 use Rattle.std.proofs.Common.{◌≡◌, ◌∙◌, ℕ, List, ap, sym, subst}
 use Rattle.oc_tree.specs.Tree.{TProgram}
-use Rattle.oc_tree.specs.Checked.{TChecked}
 use Rattle.oc_tree.specs.Marked.{TMarked}
 use Rattle.oc_isa.specs.Image.{Parts}
 use Rattle.oc_isa.specs.Run.{IsSound}
 use Rattle.oc_isa.specs.Table.{device_of}
 use Rattle.oc_code.specs.Right.{IsRight}
-use Rattle.oc_region.specs.Regions.{marked}
 use Rattle.oc_writes.specs.Targets.{may_write}
 use Rattle.oc_top.specs.Meant.{program_marked, marked_code, program_code, RunsAs}
 use Rattle.oc_top.specs.Steps.{IsAccepted, IsMarkedOf, IsBuilt}

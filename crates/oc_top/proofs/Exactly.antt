@@ -27,7 +27,7 @@ use Rattle.oc_top.specs.Reports.{answer_by, answer_of, last_said}
 use Rattle.oc_tree.specs.Tree.{TProgram}
 use Rattle.oc_top.specs.Verdict.{Verdict, verdict, verdict_on, printed, is_of_run, refuses, with_sensors, with_power, regions_of, listing_of}
 use Rattle.oc_top.specs.Headline.{IsRun}
-use Rattle.oc_top.specs.Answers.{status_of, is_written, IsJudged, IsPrint, IsDone, IsWritten, whole, in_part, Outcome, not_fetched, no_memory, refused, ran, Comes, no_command, for_task}
+use Rattle.oc_top.specs.Answers.{status_of, is_written, IsJudged, IsDone, IsWritten, whole, in_part, Outcome, not_fetched, no_memory, refused, ran, Comes, no_command, for_task}
 use Rattle.oc_top.specs.declared.answer.Answer.{Answer}
 use Rattle.oc_top.specs.declared.answer.Answer.TheVariants as answer
 

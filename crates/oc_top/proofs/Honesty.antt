@@ -16,7 +16,7 @@ use Rattle.oc_outage.specs.Honest.{IsPrefixOf, EndsWith, all_on}
 use Rattle.oc_outage.proofs.Enters.{device_fit}
 use Rattle.oc_outage.proofs.Lasting.{over_exactly}
 use Rattle.oc_outage.proofs.Runs.{every_prefix_later, over_is_whole}
-use Rattle.oc_top.specs.Meant.{RunsAs, program_run, program_said, plain_run, plain_said}
+use Rattle.oc_top.specs.Meant.{RunsAs, program_said, plain_run}
 use Rattle.oc_top.specs.Headline.{IsHonest, IsWholeRun, IsHonestThroughout}
 use Rattle.oc_top.proofs.Unmarking.{plain_is, same_words, prefix_unmarked}
 

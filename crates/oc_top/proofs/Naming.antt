@@ -1,5 +1,5 @@
 -- What a walk that seeks a declaration sees is the name that the statement declares.
-use Rattle.std.proofs.Common.{◌≡◌, refl, sym, ap, ◌∙◌, ℕ, ◌<◌, ◌==◌, length, List, [], ◌∷◌, ◌++◌, Option, Some, None, cond, map, get_or}
+use Rattle.std.proofs.Common.{◌≡◌, refl, sym, ap, ◌∙◌, ℕ, ◌<◌, ◌==◌, length, List, [], ◌∷◌, ◌++◌, Option, Some, cond, map, get_or}
 use Rattle.std.specs.List.{find, flat_map}
 use Rattle.std.specs.Option.{option_map, option_or, unwrap_or}
 use Rattle.std.proofs.lemmas.List.Folds.{find-append}

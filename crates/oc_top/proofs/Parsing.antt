@@ -14,7 +14,7 @@ use Rattle.oc_parse.specs.declared.program.ParseError.{ParseError}
 use Rattle.oc_parse.specs.declared.program.ParseError.TheVariants as parse_error
 use Rattle.oc_parse.specs.Steps.{Faults}
 use Rattle.oc_top.specs.Faults.{token_line}
-use Rattle.oc_top.specs.Sources.{IsFaulty, no_tokens, no_tree}
+use Rattle.oc_top.specs.Sources.{no_tokens, no_tree}
 use Rattle.oc_top.specs.Steps.{IsNotBuilt, for_tokens, for_tree}
 
 -- ---- lines of tokens

@@ -1,5 +1,5 @@
 -- Regions that are written.
-use Rattle.std.proofs.Common.{ℕ, ◌<◌, ◌≡◌, ◌∙◌, refl, sym, ap, subst, List, ◌++◌, map, length, get_or}
+use Rattle.std.proofs.Common.{ℕ, ◌<◌, ◌≡◌, ◌∙◌, sym, ap, subst, List, ◌++◌, map, length, get_or}
 use Rattle.std.proofs.lemmas.List.{length-map}
 use Rattle.oc_io.specs.Faults.{TookPart}
 use Rattle.oc_io.proofs.Going.{Going, Both}

@@ -1,5 +1,5 @@
 -- What a written program means: its regions, its code and its runs are those of its expansion.
-use Rattle.std.specs.Prelude.{ℕ, ℤ, List}
+use Rattle.std.specs.Prelude.{ℤ, List}
 use Rattle.oc_tree.specs.Tree.{TProgram}
 use Rattle.oc_tree.specs.Expansion.{expansion, program_groups}
 use Rattle.oc_tree.specs.Marked.{TMarked}

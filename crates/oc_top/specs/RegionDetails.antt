@@ -1,5 +1,5 @@
 -- What is found out of regions before they are written.
-use Rattle.std.specs.Prelude.{ℕ, ℤ, ◌≡◌, ◌++◌, List, [], ◌∷◌, map, get_or, codes, decimal}
+use Rattle.std.specs.Prelude.{ℕ, ℤ, ◌≡◌, ◌++◌, [], ◌∷◌, map, get_or, codes, decimal}
 use Rattle.std.specs.Fmt.{signed_decimal}
 use Rattle.oc_io.specs.Lines.{line_of}
 use Rattle.oc_tree.specs.Names.{Text}

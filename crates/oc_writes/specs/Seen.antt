@@ -1,5 +1,5 @@
 -- What code holds of a program while it looks for targets.
-use Rattle.std.specs.Prelude.{◌≡◌, ◌<◌, ℕ, ◌+◌, Bool, ◌||◌, List, [], ◌∷◌, ◌++◌, map, length, filter, cond}
+use Rattle.std.specs.Prelude.{ℕ, ◌+◌, Bool, ◌||◌, List, [], ◌∷◌, ◌++◌, map, filter, cond}
 use Rattle.std.specs.List.{list_any}
 use Rattle.std.proofs.Common.{Bor}
 use Rattle.oc_tree.specs.Names.{Text}
@@ -11,7 +11,7 @@ use Rattle.oc_tree.specs.declared.said.Target.{Target}
 use Rattle.oc_tree.specs.declared.said.Target.TheVariants as targets
 use Rattle.oc_tree.specs.Marked.{TRegion, is_in_region}
 use Rattle.oc_effects.specs.declared.effect.Effect.{Effect}
-use Rattle.oc_effects.specs.Effects.{TEffect, effects_at}
+use Rattle.oc_effects.specs.Effects.{TEffect}
 use Rattle.oc_effects.specs.View.{effect_view}
 use Rattle.oc_writes.specs.Targets.{assigns, reaches, words_of}
 

@@ -1,4 +1,4 @@
-use Rattle.std.proofs.Common.{◌+◌, ℕ, List, map, arith, refl, subst, sym, ◌∙◌}
+use Rattle.std.proofs.Common.{List, map, arith, refl, subst}
 use Rattle.oc_io.specs.Faults.{TookPart}
 use Rattle.oc_isa.proofs.Counted.{counted_on, counted_stop}
 use Rattle.oc_tree.specs.Regions.{region_view}

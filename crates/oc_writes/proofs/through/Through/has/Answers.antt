@@ -2,7 +2,7 @@ use Rattle.std.proofs.Common.{◌≡◌, ◌≤◌, map, ap, sym, ◌∙◌, nat
 use Rattle.std.proofs.lemmas.Bool.{le-ltb}
 use Rattle.oc_tree.specs.View.{function_view}
 use Rattle.oc_tree.specs.Tree.{TProgram}
-use Rattle.oc_tree.specs.Assigned.{param_assigned, param_count}
+use Rattle.oc_tree.specs.Assigned.{param_count}
 use Rattle.oc_writes.proofs.Beyond.{no_param}
 use Rattle.oc_writes.proofs.through.Through.has.Goals as goal
 

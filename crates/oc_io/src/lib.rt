@@ -2,7 +2,7 @@
 //!
 //! A [`shelf::Shelf`] gives files by their names, a [`sink::Sink`] takes bytes. Each has a meaning
 //! for contracts and keeps its laws. There are adapters in memory, one that counts, the disk and
-//! the standard streams. Every crate of the product stands on this one for [`Memory`].
+//! streams. Every crate of the product stands on this one for [`Memory`].
 #![tactic(auto)]
 
 pub mod disk;
@@ -12,6 +12,7 @@ pub mod period;
 pub mod pieces;
 pub mod shelf;
 pub mod sink;
+pub mod stream;
 
 use thiserror::Error;
 

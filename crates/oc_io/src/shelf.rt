@@ -1,5 +1,5 @@
 //! Where files come from.
-ghost use Rattle.std.specs.Prelude.{◌≡◌, ℕ, ◌≤◌, List, length, IfOk, IfErr};
+ghost use Rattle.std.specs.Prelude.{◌≡◌, ℕ, ◌≤◌, List, [], ◌∷◌, ◌++◌, length, IfOk, IfErr, OnOk};
 ghost use Rattle.oc_io.specs.Held.{Held, Gives, Explains};
 
 use std::alloc::Global;
@@ -14,7 +14,8 @@ pub enum ShelfError {
     /// The shelf tells what it holds, and has nothing under this name.
     #[error("there is no such file")]
     Absent,
-    /// More bytes than the limit: so many were taken.
+    /// More bytes than the limit. A shelf that tells what it holds says how many; another says
+    /// how many it took.
     #[error("the file has more than {taken} bytes")]
     TooLong { taken: usize },
     #[error("out of memory")]
@@ -22,15 +23,28 @@ pub enum ShelfError {
 }
 
 /// Where files come from, by their names.
+///
+/// `holds` says what stands under a name, and `asked` for which names, each with its limit, a
+/// shelf was asked on the way from one state to another. A fault is counted in `faults` exactly
+/// where a file can't be read.
 pub trait Shelf {
     ghost holds: { Self → List ℕ → Held };
+
+    ghost asked: { Self → List (List ℕ × ℕ) → Self → Type 0 };
 
     ghost faults: { Self → ℕ };
 
     fn fetch(&mut self, alloc: Global, name: &str, limit: usize) -> Result<Vec<u8>, ShelfError>
         ensures short { IfOk result (λ v. length v.items ≤ limit) }
         ensures whole { IfOk result (λ v. Gives (holds self.old name.now) v.items) }
-        ensures cause { IfErr result (λ e. Explains (holds self.old name.now) limit (faults self.old) (faults self.new) e) }
+        ensures calm { OnOk result (faults self.new ≡ faults self.old) }
+        ensures cause { IfErr result
+            (λ e. Explains (holds self.old name.now) limit (faults self.old) (faults self.new) e) }
+        ensures once { asked self.old ((name.now, limit) ∷ []) self.new }
         ensures kept { (n : List ℕ) → holds self.new n ≡ holds self.old n }
         ensures count { faults self.old ≤ faults self.new };
+
+    ghost asked_nothing: { (s : Self) → asked s [] s };
+
+    ghost asked_both: { (a b c : Self) (x y : List (List ℕ × ℕ)) → asked a x b → asked b y c → asked a (x ++ y) c };
 }

@@ -1,5 +1,6 @@
 //! Where bytes go.
-ghost use Rattle.std.specs.Prelude.{◌≡◌, ℕ, ◌≤◌, List, [], ◌++◌, OnOk, OnErr};
+ghost use Rattle.std.specs.Prelude.{◌≡◌, ℕ, ◌≤◌, List, [], ◌++◌, OnOk, OnErr, true};
+ghost use Rattle.std.specs.Result.{is_ok};
 ghost use Rattle.oc_io.specs.Faults.{Rose, TookPart};
 
 use thiserror::Error;
@@ -10,25 +11,32 @@ use thiserror::Error;
 pub struct SinkFault;
 
 /// Where bytes go.
+///
+/// `took` says which bytes a sink took on the way from one state to another, and `held` which of
+/// the bytes taken it still holds back. A fault is counted in `faults` exactly where a call fails.
 pub trait Sink {
     ghost took: { Self → List ℕ → Self → Type 0 };
 
+    ghost held: { Self → List ℕ };
+
     ghost faults: { Self → ℕ };
 
+    /// Takes bytes, all of them or a front part. No bytes are taken without a write.
     fn put(&mut self, bytes: &[u8]) -> Result<(), SinkFault>
         ensures ok { OnOk result (took self.old bytes.now self.new) }
         ensures part { OnErr result (TookPart took self.old bytes.now self.new) }
+        ensures empty { bytes.now ≡ [] → (is_ok result ≡ true) × (self.new ≡ self.old) }
+        ensures calm { OnOk result (faults self.new ≡ faults self.old) }
         ensures cause { OnErr result (Rose (faults self.old) (faults self.new)) }
         ensures count { faults self.old ≤ faults self.new };
 
-    /// Writes what the sink may still hold back. Whoever has put a text calls this at its end.
+    /// Writes what the sink still holds back. Whoever has put a text calls this at its end.
     fn flush(&mut self) -> Result<(), SinkFault>
         ensures nothing { took self.old [] self.new }
+        ensures written { OnOk result (held self.new ≡ []) }
+        ensures calm { OnOk result (faults self.new ≡ faults self.old) }
         ensures cause { OnErr result (Rose (faults self.old) (faults self.new)) }
-        ensures count { faults self.old ≤ faults self.new }
-    {
-        Ok(())
-    }
+        ensures count { faults self.old ≤ faults self.new };
 
     ghost took_nothing: { (s : Self) → took s [] s };
 
@@ -64,11 +72,13 @@ impl CountSink {
 }
 
 impl Sink for CountSink {
-    ghost use Rattle.std.specs.Prelude.{◌≡◌, ℕ, ◌+◌, List, length};
+    ghost use Rattle.std.specs.Prelude.{◌≡◌, ℕ, ◌+◌, List, [], length};
     ghost use Rattle.oc_io.specs.Counts.{capped, line_feeds};
     ghost use Rattle.oc_io.specs.Counting.{counted_nothing, counted_both};
 
     ghost took = { λ a x b. (capped b.bytes ≡ capped (a.bytes + length x)) × (capped b.lines ≡ capped (a.lines + line_feeds x)) };
+
+    ghost held = { λ _. [] };
 
     ghost faults = { λ _. 0 };
 
@@ -76,6 +86,10 @@ impl Sink for CountSink {
         self.bytes = self.bytes.saturating_add(bytes.len() as u64);
         let lines = bytes.iter().filter(|b| **b == 10).count();
         self.lines = self.lines.saturating_add(lines as u64);
+        Ok(())
+    }
+
+    fn flush(&mut self) -> Result<(), SinkFault> {
         Ok(())
     }
 

@@ -15,7 +15,8 @@ use Rattle.oc_lex.specs.declared.token.Token.{Token}
 use Rattle.oc_lex.specs.Bytes.{class_of, in_name, in_number, in_line}
 use Rattle.oc_lex.specs.Spellings.{mark_spelling}
 use Rattle.oc_lex.specs.Pieces.{IsPiece, Longest}
-use Rattle.oc_lex.specs.Tokens.{line_feeds, Lexed, none, between, token, Reads, tokens_of, feeds_of}
+use Rattle.oc_lex.specs.Tokens.{Lexed, none, between, token, Reads, tokens_of, feeds_of}
+use Rattle.oc_io.specs.Counts.{line_feeds}
 use Rattle.oc_lex.proofs.PieceLaws.{positive}
 
 -- ---- line feeds

@@ -19,7 +19,8 @@ use Rattle.oc_lex.specs.declared.lexer.LexError.TheVariants as errors
 use Rattle.oc_lex.specs.Bytes.{class_of, value_of}
 use Rattle.oc_lex.specs.Spellings.{mark_spelling, SpellsNoWord}
 use Rattle.oc_lex.specs.Pieces.{IsPiece, Longest}
-use Rattle.oc_lex.specs.Tokens.{IsBetween, IsRefused, IsKind, line_feeds, token_at, Lexed, none, between, token, AreTokens, IsFault, HasFault, tokens_of}
+use Rattle.oc_lex.specs.Tokens.{IsBetween, IsRefused, IsKind, token_at, Lexed, none, between, token, AreTokens, IsFault, HasFault, tokens_of}
+use Rattle.oc_io.specs.Counts.{line_feeds}
 use Rattle.oc_lex.proofs.Words.{found, word_found, word_read}
 use Rattle.oc_lex.proofs.PieceLaws.{OfClass, piece_class, positive}
 

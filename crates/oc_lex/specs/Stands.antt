@@ -7,7 +7,7 @@ use Rattle.oc_lex.specs.declared.token.Token.{Token}
 use Rattle.oc_lex.specs.Bytes.{value_of}
 use Rattle.oc_lex.specs.Spellings.{word_spelling, mark_spelling, SpellsNoWord}
 use Rattle.oc_lex.specs.Pieces.{IsPiece}
-use Rattle.oc_lex.specs.Tokens.{line_feeds}
+use Rattle.oc_io.specs.Counts.{line_feeds}
 
 -- a letter or `_`, then letters, digits and `_`, and none of the words
 abbrev pub IsName : List ℕ → Type 0

@@ -1,5 +1,6 @@
 -- The tokens of a source, and its first fault.
-use Rattle.std.specs.Prelude.{◌≡◌, ℕ, pos, ◌+◌, ◌<◌, ◌⊎◌, List, [], ◌∷◌, length, take, drop, count_by, ◌==◌, if◌then◌else◌, Option, Some, None, Result, Ok, Err}
+use Rattle.std.specs.Prelude.{◌≡◌, ℕ, pos, ◌+◌, ◌<◌, ◌⊎◌, List, [], ◌∷◌, length, take, drop, ◌==◌, if◌then◌else◌, Option, Some, None, Result, Ok, Err}
+use Rattle.oc_io.specs.Counts.{line_feeds}
 use Rattle.oc_lex.specs.declared.bytes.Class.TheVariants as class
 use Rattle.oc_lex.specs.declared.piece.Piece.{Piece}
 use Rattle.oc_lex.specs.declared.piece.Piece.TheVariants as piece
@@ -33,9 +34,6 @@ IsKind piece.Name text after kinds.Name = SpellsNoWord text
 IsKind piece.Number text after (kinds.Number v) = (v ≡ pos (value_of text)) × ¬ IsRefused text after
 IsKind (piece.Mark m) text after (kinds.Mark n) = m ≡ n
 IsKind _ _ _ _ = ⊥
-
-abbrev pub line_feeds : List ℕ → ℕ
-line_feeds bytes = count_by (λ b. b == 10) bytes
 
 -- the token of n bytes from a place on; its line is 1 plus the number of line feeds before it
 abbrev pub token_at : List ℕ → ℕ → ℕ → Kind → Token

@@ -45,18 +45,21 @@ pub fn lex(alloc: Global, source: &[u8]) -> Result<Vec<Token>, LexError>
     ensures order { IfOk result (λ tokens. InOrder 0 tokens.items (length source.now)) }
     ensures count { IfOk result (λ tokens. length tokens.items ≤ length source.now) }
     // Where the source has tokens, they come, unless memory runs out.
-    ensures only { (ts : List SomeToken) → AreTokens source.now ts → MatchResult result (λ tokens. tokens.items ≡ ts) (λ e. e ≡ LexError.Memory) }
+    ensures only { (ts : List SomeToken) → AreTokens source.now ts
+        → MatchResult result (λ tokens. tokens.items ≡ ts) (λ e. e ≡ LexError.Memory) }
     // What comes with Err is the first fault of the source, or want of memory.
     ensures fault { IfErr result (λ e. (e ≡ LexError.Memory) ⊎ HasFault source.now e) }
     // Where the source has a fault, it comes, unless memory runs out.
-    ensures first { (f : SomeError) → HasFault source.now f → (result ≡ Err f) ⊎ (result ≡ Err LexError.Memory) }
+    ensures first { (f : SomeError) → HasFault source.now f
+        → (result ≡ Err f) ⊎ (result ≡ Err LexError.Memory) }
 {
     read_all(alloc, source)
 }
 
 fn read_all(alloc: Global, source: &[u8]) -> Result<Vec<Token>, LexError>
     requires { length source.now ≤ 1048576 }
-    ensures { MatchResult result (λ tokens. AreTokens source.now tokens.items) (λ e. (e ≡ LexError.Memory) ⊎ HasFault source.now e) }
+    ensures { MatchResult result (λ tokens. AreTokens source.now tokens.items)
+        (λ e. (e ≡ LexError.Memory) ⊎ HasFault source.now e) }
 {
     let mut tokens = Vec::new(alloc);
     let mut at = 0;
@@ -106,7 +109,8 @@ fn add(
     end: usize,
     line: u32,
 ) -> Result<(), LexError>
-    ensures added { OnOk result (tokens.new.items ≡ tokens.old.items ++ tokens_of kind start end line) }
+    ensures added { OnOk result
+        (tokens.new.items ≡ tokens.old.items ++ tokens_of kind start end line) }
     ensures refused { IfErr result (λ e. e ≡ LexError.Memory) }
 {
     if let Some(kind) = kind {

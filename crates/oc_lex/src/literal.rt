@@ -18,7 +18,8 @@ fn add_digit(total: u64, digit: u8) -> u64
 /// The value of digits, if an `i32` has it.
 #[tactic(auto, using(crate::proofs::Values::value_more, crate::proofs::Values::value_large, crate::proofs::Values::value_small))]
 pub fn value(digits: &[u8]) -> Option<i32>
-    ensures { MatchOption result (LARGEST < value_of digits.now) (λ v. (v ≡ pos (value_of digits.now)) × (value_of digits.now ≤ LARGEST)) }
+    ensures { MatchOption result (LARGEST < value_of digits.now)
+        (λ v. (v ≡ pos (value_of digits.now)) × (value_of digits.now ≤ LARGEST)) }
 {
     let mut total = 0;
     for digit in digits {

@@ -6,7 +6,8 @@ use crate::token::Mark;
 
 /// The mark of two bytes.
 pub fn double(first: u8, second: u8) -> Option<Mark>
-    ensures { MatchOption result (SpellsNoMark (first ∷ second ∷ [])) (λ m. mark_spelling m ≡ first ∷ second ∷ []) }
+    ensures { MatchOption result (SpellsNoMark (first ∷ second ∷ []))
+        (λ m. mark_spelling m ≡ first ∷ second ∷ []) }
 {
     match (first, second) {
         (b'-', b'>') => Some(Mark::Arrow),

@@ -35,7 +35,8 @@ pub fn front(bytes: &[u8]) -> Option<(Piece, usize)>
 
 fn comment_or_mark(first: u8, rest: &[u8]) -> Option<(Piece, usize)>
     requires { class_of first ≡ Other }
-    ensures { MatchOption result (BeginNoPiece (first ∷ rest.now)) (λ x. Longest x.0 x.1 (first ∷ rest.now)) }
+    ensures { MatchOption result (BeginNoPiece (first ∷ rest.now))
+        (λ x. Longest x.0 x.1 (first ∷ rest.now)) }
 {
     let [second, text @ ..] = rest else {
         return Some((Piece::Mark(single(first)?), 1));

@@ -88,9 +88,11 @@ fn read_period(rows: &Rows, sum: u64) -> Result<Period, PowerWhat>
 
 /// The periods of the rows left.
 fn read_periods(alloc: Global, rows: &mut Rows) -> Result<Vec<Period>, PowerError>
-    ensures ok { IfOk result (λ v. power_rows (rows.old.number + 1) 0 rows.old.left ≡ periods v.items) }
+    ensures ok { IfOk result
+        (λ v. power_rows (rows.old.number + 1) 0 rows.old.left ≡ periods v.items) }
     ensures sum { IfOk result (λ v. total v.items < 2 ^ 63) }
-    ensures row { IfErr result (λ e. Explains (power_rows (rows.old.number + 1) 0 rows.old.left) e) }
+    ensures row { IfErr result
+        (λ e. Explains (power_rows (rows.old.number + 1) 0 rows.old.left) e) }
 {
     let mut periods = Vec::new(alloc);
     let mut sum: u64 = 0;

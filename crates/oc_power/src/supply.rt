@@ -30,7 +30,8 @@ pub trait Supply: Drop {
 
     /// Tells the first period left, or that there is none. It takes no memory.
     fn next(&mut self) -> Option<Period>
-        ensures first { MatchOption result ((left self.old ≡ []) × (left self.new ≡ [])) (λ p. left self.old ≡ p ∷ left self.new) }
+        ensures first { MatchOption result ((left self.old ≡ []) × (left self.new ≡ []))
+            (λ p. left self.old ≡ p ∷ left self.new) }
         ensures number { number self.new ≡ number self.old }
         ensures plan { (given : List Period) → plan self.new given ≡ plan self.old given };
 }

@@ -4,10 +4,12 @@ use Rattle.std.specs.Borrow.{Bor}
 use Rattle.std.specs.Prelude.{◌==◌, ◌&&◌, not}
 use Rattle.std.proofs.lemmas.Bool.{cases_Bool}
 use Rattle.csv.specs.Machine.{Read, next_record}
-use Rattle.csv.specs.Reading.{NextIs, ReadRecord, Ready, default_config, has_failed, pending_of, reader_config, reader_state, reader_trim, source_of, took_first}
+use Rattle.csv.specs.Reading.{ExplainsRead, NextIs, ReadRecord, Ready, default_config, has_failed, is_flexible, pending_of, reader_config, reader_state, reader_trim, source_of, stops_reader, took_first}
 use Rattle.csv.specs.declared.parser.State.{State}
 use Rattle.csv.specs.declared.reader.Reader.{Reader}
 use Rattle.csv.specs.declared.reader.Trim.TheVariants as trim
+use Rattle.csv.specs.declared.error.ErrorKind.{ErrorKind}
+use Rattle.csv.specs.declared.error.ErrorKind.TheVariants as kind
 use Rattle.oc_rows.specs.Reading.{ReadsPlainly, rows_left, unread}
 use Rattle.oc_rows.proofs.Turns.{records_from-none, records_from-taken}
 
@@ -54,9 +56,9 @@ Reads old new found fields = reader_trim old ≡ trim.None → Ready old → Rea
 
 -- a read that finds a record takes the first row left, and the reader reads on plainly
 pub row_taken : (old new : Reader (Bor (List ℕ))) (fields : List (List ℕ)) (number : ℕ) (ended found : Bool) → ended ≡ false → found ≡ true → ReadsPlainly old number ended
-    → has_failed new ≡ has_failed old → took_first new ≡ true → Reads old new found fields
+    → has_failed new ≡ has_failed old → is_flexible new ≡ is_flexible old → took_first new ≡ true → Reads old new found fields
     → (rows_left ended old ≡ fields ∷ rows_left false new) × ReadsPlainly new (number + 1) false
-row_taken old new fields number ended found e f plain same first reads =
+row_taken old new fields number ended found e f plain same bends first reads =
     let goes = plain.goes e in
     let still : has_failed new ≡ false = same ∙ goes in
     let read = rw f at reads (plain.trim e) (plain.ready e) in
@@ -68,6 +70,7 @@ row_taken old new fields number ended found e f plain same first reads =
         goes = λ _. still;
         config = λ _. read.2 ∙ plain.config e;
         trim = λ _. read.3 ∙ plain.trim e;
+        flexible = λ _. bends ∙ plain.flexible e;
         ready = λ _. inl first;
         few = omega arith;
       },
@@ -79,3 +82,12 @@ pub no_row : (old new : Reader (Bor (List ℕ))) (fields : List (List ℕ)) (num
 no_row old new fields number ended found e f plain same reads =
     let read = rw f at reads (plain.trim e) (plain.ready e) in
     rw e (rows_left-none old new fields (plain.goes e) (same ∙ plain.goes e) (plain.config e) read)
+
+-- a read of a flexible reader fails only for the bytes underneath or for memory
+pub stopped : (old new : Reader (Bor (List ℕ))) (why : ErrorKind) → is_flexible old ≡ true → ExplainsRead (λ s. Some s.now) old new false why → stops_reader why ≡ true
+stopped old new (kind.Io e) bends h = refl
+stopped old new kind.OutOfMemory bends h = refl
+stopped old new (kind.UnequalLengths pos expected len) bends h = cc (bends, h.0)
+stopped old new (kind.Utf8 pos err) bends h = cc h.0
+stopped old new (kind.Serialize text) bends h = absurd h
+stopped old new (kind.Deserialize pos err) bends h = absurd h

@@ -1,7 +1,7 @@
 -- What a reader has left to read.
 use Rattle.std.specs.Prelude.{ℕ, ◌+◌, ◌^◌, ◌<◌, ◌≡◌, Bool, true, false, List, [], length, Some, unwrap_or}
 use Rattle.std.specs.Borrow.{Bor}
-use Rattle.csv.specs.Reading.{Ready, default_config, has_failed, reader_config, reader_state, reader_trim, records_from, source_of}
+use Rattle.csv.specs.Reading.{Ready, default_config, has_failed, is_flexible, reader_config, reader_state, reader_trim, records_from, source_of}
 use Rattle.csv.specs.declared.reader.Reader.{Reader}
 use Rattle.csv.specs.declared.reader.Trim.TheVariants as trim
 
@@ -19,5 +19,6 @@ pub record ReadsPlainly (reader : Reader (Bor (List ℕ))) (number : ℕ) (ended
   pub goes : ended ≡ false → has_failed reader ≡ false
   pub config : ended ≡ false → reader_config reader ≡ default_config
   pub trim : ended ≡ false → reader_trim reader ≡ trim.None
+  pub flexible : ended ≡ false → is_flexible reader ≡ true
   pub ready : ended ≡ false → Ready reader
   pub few : number + length (rows_left ended reader) < 2 ^ 64

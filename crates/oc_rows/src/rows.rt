@@ -1,5 +1,6 @@
 //! Rows, one after the other.
-ghost use Rattle.std.specs.Prelude.{◌≡◌, [], IfOk, OnErr, get_or, length};
+ghost use Rattle.std.specs.Prelude.{◌≡◌, [], true, IfOk, OnErr, get_or, length};
+ghost use Rattle.csv.specs.Reading.{error_kind, stops_reader};
 ghost use Rattle.oc_rows.specs.Rows.{file_rows, StepsOn};
 
 use csv::{ByteRecord, Reader, ReaderBuilder};
@@ -26,6 +27,13 @@ impl<'a> Model for Rows<'a> {
     ghost view = { λ a. record { number = a.number; row = fields_of a.row; left = rows_left a.ended a.reader } };
 
     ghost invariant = { λ a. ReadsPlainly a.reader a.number a.ended };
+}
+
+/// What stops a reader over bytes in memory, which never fail to be read.
+fn want_of_memory(_error: csv::Error) -> Memory
+    requires { stops_reader (error_kind _error) ≡ true }
+{
+    Memory
 }
 
 impl<'a> Rows<'a> {
@@ -55,8 +63,9 @@ impl<'a> Rows<'a> {
             return Ok(false);
         }
         self.ended = true;
-        let Ok(found) = self.reader.read_byte_record(&mut self.row) else {
-            return Err(Memory);
+        let found = match self.reader.read_byte_record(&mut self.row) {
+            Ok(found) => found,
+            Err(error) => return Err(want_of_memory(error)),
         };
         if !found {
             return Ok(false);

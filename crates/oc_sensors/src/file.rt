@@ -1,7 +1,6 @@
 //! Sensor files.
-ghost use Rattle.std.specs.Prelude.{◌≡◌, ◌+◌, ◌≤◌, ℕ, true, length, IfOk, IfErr};
-ghost use Rattle.oc_tree.specs.Word.{is_word};
-ghost use Rattle.oc_sensors.specs.History.{history};
+ghost use Rattle.std.specs.Prelude.{◌≡◌, ◌+◌, length, IfOk, IfErr};
+ghost use Rattle.oc_sensors.specs.History.{ShowsWords};
 ghost use Rattle.oc_sensors.specs.File.{Explains, is_header, readings, sensor_file, sensor_of, sensor_row, sensor_rows, value_of};
 ghost use Rattle.oc_sensors.specs.declared.file.SensorError.TheVariants as error;
 
@@ -66,13 +65,12 @@ fn read_value(bytes: &[u8]) -> Option<i32>
 }
 
 /// The place of a name.
-fn find_sensor(names: &[Name], name: &[u8]) -> Option<u8>
-    requires { length names.now ≤ 256 }
+fn find_sensor(names: &[Name], name: &[u8]) -> Option<usize>
     ensures { result ≡ sensor_of names.now name.now }
 {
     for (place, known) in names.iter().enumerate() {
         if known.bytes() == name {
-            return Some(place as u8);
+            return Some(place);
         }
     }
     None
@@ -89,7 +87,6 @@ fn has_header(rows: &Rows) -> bool
 
 /// The row at hand, after a row of this time.
 fn read_row(rows: &Rows, names: &[Name], before: u64) -> Result<Row, SensorWhat>
-    requires { length names.now ≤ 256 }
     ensures { result ≡ sensor_row names.now before rows.now.row }
 {
     if rows.field_count() != 3 {
@@ -116,9 +113,10 @@ fn read_row(rows: &Rows, names: &[Name], before: u64) -> Result<Row, SensorWhat>
 
 /// The rows left.
 fn read_rows(alloc: Global, rows: &mut Rows, names: &[Name]) -> Result<Vec<Row>, SensorError>
-    requires { length names.now ≤ 256 }
-    ensures ok { IfOk result (λ v. sensor_rows names.now (rows.old.number + 1) 0 rows.old.left ≡ readings v.items) }
-    ensures row { IfErr result (λ e. Explains (sensor_rows names.now (rows.old.number + 1) 0 rows.old.left) e) }
+    ensures ok { IfOk result
+        (λ v. sensor_rows names.now (rows.old.number + 1) 0 rows.old.left ≡ readings v.items) }
+    ensures row { IfErr result
+        (λ e. Explains (sensor_rows names.now (rows.old.number + 1) 0 rows.old.left) e) }
 {
     let mut read: Vec<Row> = Vec::new(alloc);
     let mut before: u64 = 0;
@@ -142,11 +140,10 @@ fn read_rows(alloc: Global, rows: &mut Rows, names: &[Name]) -> Result<Vec<Row>,
 /// The sensors of a sensor file, at tick 0. Its header is `time,sensor,value`; each row after it
 /// has a time, not below that of the row before, the name of a sensor, and a value.
 pub fn read_sensors(alloc: Global, bytes: &[u8], names: &[Name]) -> Result<Sensors, SensorError>
-    requires { length names.now ≤ 256 }
     ensures rows { IfOk result (λ s. sensor_file names.now bytes.now ≡ readings s.rows) }
     ensures sensors { IfOk result (λ s. s.sensors ≡ length names.now) }
     ensures now { IfOk result (λ s. s.now ≡ 0) }
-    ensures words { IfOk result (λ s. (sensor tick : ℕ) → is_word (history s.rows sensor tick) ≡ true) }
+    ensures words { IfOk result (λ s. ShowsWords s.rows) }
     ensures bad { IfErr result (λ e. Explains (sensor_file names.now bytes.now) e) }
 {
     let mut rows = Rows::new(alloc, bytes);
@@ -168,7 +165,7 @@ mod tests {
 
     /// The names `t` and `u`.
     fn two_names(alloc: Global) -> Result<Vec<Name>, AllocError>
-        ensures { IfOk result (λ v. length v.items ≡ 2) }
+        ensures { IfOk result (λ names. length names.items ≡ 2) }
     {
         let mut names = Vec::new(alloc);
         names.push(Name::new(Vec::from_slice(alloc, b"t")?))?;

@@ -1,6 +1,6 @@
 //! Sensors over time.
 ghost use Rattle.std.specs.Prelude.{◌≡◌, ℕ, ◌<◌, ◌≤◌, pos, length, get_or, IfOk};
-ghost use Rattle.oc_sensors.specs.History.{history};
+ghost use Rattle.oc_sensors.specs.History.{ShowsWords, history};
 ghost use Rattle.oc_sensors.specs.Keeping.{Keeps, Ordered};
 
 use oc_io::Memory;
@@ -11,7 +11,7 @@ use std::marker::Model;
 #[derive(Clone, Copy, Debug, PartialEq, Eq)]
 pub struct Row {
     pub time: u64,
-    pub sensor: u8,
+    pub sensor: usize,
     pub value: i32,
 }
 
@@ -27,26 +27,27 @@ pub struct Sensors {
 
 impl Model for Sensors {
     ghost use Rattle.std.specs.Prelude.{length};
-    ghost use Rattle.oc_sensors.specs.History.{Told};
+    ghost use Rattle.oc_sensors.specs.History.{ShowsWords, Told};
     ghost use Rattle.oc_sensors.specs.Keeping.{Keeps};
 
     ghost Value = { Told };
 
     ghost view = { λ a. record { sensors = length a.last.items; rows = a.rows.items; now = a.now } };
 
-    ghost invariant = { λ a. Keeps a.rows.items a.last.items a.place a.now };
+    ghost invariant = { λ a. Keeps a.rows.items a.last.items a.place a.now × ShowsWords a.rows.items };
 }
 
 /// Takes in the rows up to a tick, from a place on, and answers the place of the first later row.
 fn move_on(rows: &[Row], last: &mut [i32], place: usize, now: u64) -> usize
     requires { Keeps rows.now last.old place now }
     ensures kept { Keeps rows.now last.new result now }
-    ensures shown { (sensor : ℕ) → sensor < length last.new → get_or last.new sensor (pos 0) ≡ history rows.now sensor now }
+    ensures shown { (sensor : ℕ) → sensor < length last.new
+        → get_or last.new sensor (pos 0) ≡ history rows.now sensor now }
 {
     let mut at = place;
     while at < rows.len() && rows[at].time <= now {
         let row = rows[at];
-        last[row.sensor as usize] = row.value;
+        last[row.sensor] = row.value;
         at += 1;
     }
     at
@@ -55,7 +56,8 @@ fn move_on(rows: &[Row], last: &mut [i32], place: usize, now: u64) -> usize
 impl Sensors {
     /// So many sensors that show these rows, at tick 0.
     pub fn new(alloc: Global, rows: Vec<Row>, sensors: usize) -> Result<Sensors, Memory>
-        requires { Ordered sensors 0 rows.items }
+        requires ordered { Ordered sensors 0 rows.items }
+        requires words { ShowsWords rows.items }
         ensures { IfOk result (λ s. s ≡ record { sensors = sensors; rows = rows.items; now = 0 }) }
     {
         match vec![in alloc; 0i32; sensors] {
@@ -67,6 +69,14 @@ impl Sensors {
             }),
             Err(_) => Err(Memory),
         }
+    }
+
+    /// The rows, in order. Whatever they show at a tick is a word.
+    pub fn rows(&self) -> &[Row]
+        ensures rows { result.now ≡ self.entry.now.rows }
+        ensures words { ShowsWords self.entry.now.rows }
+    {
+        &self.rows
     }
 
     /// What a sensor shows at a tick, which isn't before that of the last sample: the value of its

@@ -1,5 +1,6 @@
 use Rattle.std.proofs.Common.{◌≡◌, ◌+◌, ◌-◌, ◌≤◌, length, take}
-use Rattle.oc_lex.specs.Tokens.{Lexed, line_feeds}
+use Rattle.oc_lex.specs.Tokens.{Lexed}
+use Rattle.oc_io.specs.Counts.{line_feeds}
 use Rattle.oc_lex.proofs.lexer.read_all.Given as goal
 
 abbrev pub invariant-loop-at : goal.invariant-loop-at

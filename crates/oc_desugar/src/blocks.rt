@@ -28,7 +28,9 @@ fn add_temporaries(
 ) -> Result<(), AllocError>
     requires pulls { k + length (map right_view pulls.items) < 2 ^ 32 }
     requires stmts { i + length (map right_view pulls.items) < 2 ^ 32 }
-    ensures { OnOk result (map stmt_view out.new.items ≡ map stmt_view out.old.items ++ temporaries k i line (map right_view pulls.items)) }
+    ensures { OnOk result
+        (map stmt_view out.new.items ≡ map stmt_view out.old.items
+        ++ temporaries k i line (map right_view pulls.items)) }
 {
     let mut k = k;
     let mut id = i;
@@ -55,7 +57,8 @@ fn add_temporaries(
 pub fn expand_block(alloc: Global, n: &mut Numbers, block: &Block) -> Result<Block, AllocError>
     requires pulls { n.old.pull + block_pulls (block_view block.now) < 2 ^ 32 }
     requires stmts { n.old.stmt + block_size (block_view block.now) < 2 ^ 32 }
-    ensures expanded { IfOk result (λ r. block_view r ≡ expand_block n.old.pull n.old.stmt (block_view block.now)) }
+    ensures expanded { IfOk result
+        (λ r. block_view r ≡ expand_block n.old.pull n.old.stmt (block_view block.now)) }
     ensures pull { OnOk result (n.new.pull ≡ n.old.pull + block_pulls (block_view block.now)) }
     ensures stmt { OnOk result (n.new.stmt ≡ n.old.stmt + block_size (block_view block.now)) }
 {
@@ -74,7 +77,8 @@ fn expand_else(
 ) -> Result<Option<Block>, AllocError>
     requires pulls { n.old.pull + else_pulls (else_view otherwise.now) < 2 ^ 32 }
     requires stmts { n.old.stmt + else_size (else_view otherwise.now) < 2 ^ 32 }
-    ensures expanded { IfOk result (λ r. else_view r ≡ expand_else n.old.pull n.old.stmt (else_view otherwise.now)) }
+    ensures expanded { IfOk result
+        (λ r. else_view r ≡ expand_else n.old.pull n.old.stmt (else_view otherwise.now)) }
     ensures pull { OnOk result (n.new.pull ≡ n.old.pull + else_pulls (else_view otherwise.now)) }
     ensures stmt { OnOk result (n.new.stmt ≡ n.old.stmt + else_size (else_view otherwise.now)) }
 {
@@ -92,7 +96,8 @@ fn expand_stmts(
 ) -> Result<Vec<Stmt>, AllocError>
     requires pulls { n.old.pull + stmts_pulls (stmts_view statements.now) < 2 ^ 32 }
     requires stmts { n.old.stmt + stmts_size (stmts_view statements.now) < 2 ^ 32 }
-    ensures expanded { IfOk result (λ r. stmts_view r.items ≡ expand_stmts n.old.pull n.old.stmt (stmts_view statements.now)) }
+    ensures expanded { IfOk result
+        (λ r. stmts_view r.items ≡ expand_stmts n.old.pull n.old.stmt (stmts_view statements.now)) }
     ensures pull { OnOk result (n.new.pull ≡ n.old.pull + stmts_pulls (stmts_view statements.now)) }
     ensures stmt { OnOk result (n.new.stmt ≡ n.old.stmt + stmts_size (stmts_view statements.now)) }
 {
@@ -112,11 +117,27 @@ fn expand_stmt(
     statement: &Stmt,
     out: &mut Vec<Stmt>,
 ) -> Result<(), AllocError>
-    requires pulls { n.old.pull + (own_pulls (kind_view statement.now.kind) + inner_pulls (kind_view statement.now.kind)) < 2 ^ 32 }
-    requires stmts { n.old.stmt + (own_pulls (kind_view statement.now.kind) + 1 + inner_size (kind_view statement.now.kind)) < 2 ^ 32 }
-    ensures expanded { OnOk result (map stmt_view out.new.items ≡ map stmt_view out.old.items ++ (temporaries n.old.pull n.old.stmt statement.now.line (pulled n.old.pull (kind_view statement.now.kind)) ++ stmt (n.old.stmt + own_pulls (kind_view statement.now.kind)) statement.now.line (expand_kind n.old.pull (n.old.stmt + own_pulls (kind_view statement.now.kind) + 1) (kind_view statement.now.kind)) ∷ [])) }
-    ensures pull { OnOk result (n.new.pull ≡ n.old.pull + (own_pulls (kind_view statement.now.kind) + inner_pulls (kind_view statement.now.kind))) }
-    ensures stmt { OnOk result (n.new.stmt ≡ n.old.stmt + (own_pulls (kind_view statement.now.kind) + 1 + inner_size (kind_view statement.now.kind))) }
+    requires pulls { n.old.pull
+        + (own_pulls (kind_view statement.now.kind) + inner_pulls (kind_view statement.now.kind))
+        < 2 ^ 32 }
+    requires stmts { n.old.stmt
+        + (own_pulls (kind_view statement.now.kind) + 1 + inner_size (kind_view statement.now.kind))
+        < 2 ^ 32 }
+    ensures expanded { OnOk result
+        (map stmt_view out.new.items
+        ≡ map stmt_view out.old.items
+        ++ (temporaries n.old.pull n.old.stmt statement.now.line
+        (pulled n.old.pull (kind_view statement.now.kind))
+        ++ stmt (n.old.stmt + own_pulls (kind_view statement.now.kind)) statement.now.line
+        (expand_kind n.old.pull (n.old.stmt + own_pulls (kind_view statement.now.kind) + 1)
+        (kind_view statement.now.kind)) ∷ [])) }
+    ensures pull { OnOk result
+        (n.new.pull ≡ n.old.pull
+        + (own_pulls (kind_view statement.now.kind) + inner_pulls (kind_view statement.now.kind))) }
+    ensures stmt { OnOk result
+        (n.new.stmt ≡ n.old.stmt
+        + (own_pulls (kind_view statement.now.kind) + 1
+        + inner_size (kind_view statement.now.kind))) }
 {
     let k = n.pull;
     let i = n.stmt;
@@ -140,11 +161,17 @@ fn expand_kind(
     pulls: &mut Vec<Right>,
     kind: &StmtKind,
 ) -> Result<StmtKind, AllocError>
-    requires pulls { n.old.pull + (own_pulls (kind_view kind.now) + inner_pulls (kind_view kind.now)) < 2 ^ 32 }
+    requires pulls { n.old.pull
+        + (own_pulls (kind_view kind.now) + inner_pulls (kind_view kind.now)) < 2 ^ 32 }
     requires stmts { n.old.stmt + inner_size (kind_view kind.now) < 2 ^ 32 }
-    ensures expanded { IfOk result (λ r. kind_view r ≡ expand_kind n.old.pull n.old.stmt (kind_view kind.now)) }
-    ensures pulled { OnOk result (map right_view pulls.new.items ≡ map right_view pulls.old.items ++ pulled n.old.pull (kind_view kind.now)) }
-    ensures pull { OnOk result (n.new.pull ≡ n.old.pull + (own_pulls (kind_view kind.now) + inner_pulls (kind_view kind.now))) }
+    ensures expanded { IfOk result
+        (λ r. kind_view r ≡ expand_kind n.old.pull n.old.stmt (kind_view kind.now)) }
+    ensures pulled { OnOk result
+        (map right_view pulls.new.items
+        ≡ map right_view pulls.old.items ++ pulled n.old.pull (kind_view kind.now)) }
+    ensures pull { OnOk result
+        (n.new.pull ≡ n.old.pull
+        + (own_pulls (kind_view kind.now) + inner_pulls (kind_view kind.now))) }
     ensures stmt { OnOk result (n.new.stmt ≡ n.old.stmt + inner_size (kind_view kind.now)) }
 {
     match kind {

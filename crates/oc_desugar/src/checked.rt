@@ -11,7 +11,8 @@ use std::alloc::Global;
 /// The expansion of a written program, with its groups. Where there is no memory, the written
 /// program comes back.
 pub fn expand(alloc: Global, written: Written) -> Result<Checked, (Written, Memory)>
-    ensures expanded { IfOk result (λ c. c ≡ record { program = expansion written; groups = program_groups written }) }
+    ensures expanded { IfOk result
+        (λ c. c ≡ record { program = expansion written; groups = program_groups written }) }
     ensures back { IfErr result (λ e. e.0 ≡ written) }
 {
     match expand_program(alloc, written.program()) {

@@ -15,7 +15,8 @@ fn inner_groups(
     groups: &mut Vec<(StmtId, StmtId)>,
 ) -> Result<u32, AllocError>
     requires { first + inner_size (kind_view kind.now) < 2 ^ 32 }
-    ensures groups { OnOk result (groups.new.items ≡ groups.old.items ++ inner_groups first (kind_view kind.now)) }
+    ensures groups { OnOk result
+        (groups.new.items ≡ groups.old.items ++ inner_groups first (kind_view kind.now)) }
     ensures next { IfOk result (λ n. n ≡ first + inner_size (kind_view kind.now)) }
 {
     match kind {
@@ -41,7 +42,8 @@ fn else_groups(
     groups: &mut Vec<(StmtId, StmtId)>,
 ) -> Result<u32, AllocError>
     requires { first + else_size (else_view otherwise.now) < 2 ^ 32 }
-    ensures groups { OnOk result (groups.new.items ≡ groups.old.items ++ else_groups first (else_view otherwise.now)) }
+    ensures groups { OnOk result
+        (groups.new.items ≡ groups.old.items ++ else_groups first (else_view otherwise.now)) }
     ensures next { IfOk result (λ n. n ≡ first + else_size (else_view otherwise.now)) }
 {
     match otherwise {
@@ -59,7 +61,8 @@ pub fn block_groups(
     groups: &mut Vec<(StmtId, StmtId)>,
 ) -> Result<u32, AllocError>
     requires { first + block_size (block_view block.now) < 2 ^ 32 }
-    ensures groups { OnOk result (groups.new.items ≡ groups.old.items ++ block_groups first (block_view block.now)) }
+    ensures groups { OnOk result
+        (groups.new.items ≡ groups.old.items ++ block_groups first (block_view block.now)) }
     ensures next { IfOk result (λ n. n ≡ first + block_size (block_view block.now)) }
 {
     let mut next = first;

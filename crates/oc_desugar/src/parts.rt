@@ -51,7 +51,9 @@ fn pull_input(
 ) -> Result<Expr, AllocError>
     requires { k.old + 1 < 2 ^ 32 }
     ensures left { IfOk result (λ r. expr_view r ≡ variable (temporary k.old)) }
-    ensures pulled { OnOk result (map right_view pulls.new.items ≡ map right_view pulls.old.items ++ right_sense sensor.now ∷ []) }
+    ensures pulled { OnOk result
+        (map right_view pulls.new.items
+        ≡ map right_view pulls.old.items ++ right_sense sensor.now ∷ []) }
     ensures next { OnOk result (k.new ≡ k.old + 1) }
 {
     let sensor = sensor.try_clone(alloc)?;
@@ -117,7 +119,9 @@ pub fn left_expr(
 ) -> Result<Expr, AllocError>
     requires { k.old + expr_pulls (expr_view expr.now) < 2 ^ 32 }
     ensures left { IfOk result (λ r. expr_view r ≡ left_expr k.old (expr_view expr.now)) }
-    ensures pulled { OnOk result (map right_view pulls.new.items ≡ map right_view pulls.old.items ++ pulled_expr k.old (expr_view expr.now)) }
+    ensures pulled { OnOk result
+        (map right_view pulls.new.items
+        ≡ map right_view pulls.old.items ++ pulled_expr k.old (expr_view expr.now)) }
     ensures next { OnOk result (k.new ≡ k.old + expr_pulls (expr_view expr.now)) }
 {
     match expr {
@@ -155,7 +159,9 @@ fn left_arg(
 ) -> Result<Arg, AllocError>
     requires { k.old + arg_pulls (arg_view arg.now) < 2 ^ 32 }
     ensures left { IfOk result (λ r. arg_view r ≡ left_arg k.old (arg_view arg.now)) }
-    ensures pulled { OnOk result (map right_view pulls.new.items ≡ map right_view pulls.old.items ++ pulled_arg k.old (arg_view arg.now)) }
+    ensures pulled { OnOk result
+        (map right_view pulls.new.items
+        ≡ map right_view pulls.old.items ++ pulled_arg k.old (arg_view arg.now)) }
     ensures next { OnOk result (k.new ≡ k.old + arg_pulls (arg_view arg.now)) }
 {
     match arg {
@@ -187,7 +193,9 @@ fn left_args(
 ) -> Result<Vec<Arg>, AllocError>
     requires { k.old + args_pulls (args_view args.now) < 2 ^ 32 }
     ensures left { IfOk result (λ r. args_view r.items ≡ left_args k.old (args_view args.now)) }
-    ensures pulled { OnOk result (map right_view pulls.new.items ≡ map right_view pulls.old.items ++ pulled_args k.old (args_view args.now)) }
+    ensures pulled { OnOk result
+        (map right_view pulls.new.items
+        ≡ map right_view pulls.old.items ++ pulled_args k.old (args_view args.now)) }
     ensures next { OnOk result (k.new ≡ k.old + args_pulls (args_view args.now)) }
 {
     let mut out = Vec::new(alloc);
@@ -208,7 +216,9 @@ pub fn left_call(
 ) -> Result<Call, AllocError>
     requires { k.old + call_pulls (call_view call.now) < 2 ^ 32 }
     ensures left { IfOk result (λ r. call_view r ≡ left_call k.old (call_view call.now)) }
-    ensures pulled { OnOk result (map right_view pulls.new.items ≡ map right_view pulls.old.items ++ pulled_call k.old (call_view call.now)) }
+    ensures pulled { OnOk result
+        (map right_view pulls.new.items
+        ≡ map right_view pulls.old.items ++ pulled_call k.old (call_view call.now)) }
     ensures next { OnOk result (k.new ≡ k.old + call_pulls (call_view call.now)) }
 {
     let function = call.function.try_clone(alloc)?;
@@ -225,7 +235,9 @@ pub fn left_right(
 ) -> Result<Right, AllocError>
     requires { k.old + right_pulls (right_view right.now) < 2 ^ 32 }
     ensures left { IfOk result (λ x. right_view x ≡ left_right k.old (right_view right.now)) }
-    ensures pulled { OnOk result (map right_view pulls.new.items ≡ map right_view pulls.old.items ++ pulled_right k.old (right_view right.now)) }
+    ensures pulled { OnOk result
+        (map right_view pulls.new.items
+        ≡ map right_view pulls.old.items ++ pulled_right k.old (right_view right.now)) }
     ensures next { OnOk result (k.new ≡ k.old + right_pulls (right_view right.now)) }
 {
     match right {

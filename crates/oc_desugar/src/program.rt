@@ -31,9 +31,13 @@ fn expand_function(
 ) -> Result<Function, AllocError>
     requires pulls { n.old.pull + block_pulls (block_view function.now.body) < 2 ^ 32 }
     requires stmts { n.old.stmt + block_size (block_view function.now.body) < 2 ^ 32 }
-    ensures expanded { IfOk result (λ f. function_view f ≡ expand_function n.old.pull n.old.stmt (function_view function.now)) }
-    ensures pull { OnOk result (n.new.pull ≡ n.old.pull + block_pulls (block_view function.now.body)) }
-    ensures stmt { OnOk result (n.new.stmt ≡ n.old.stmt + block_size (block_view function.now.body)) }
+    ensures expanded { IfOk result
+        (λ f. function_view f
+        ≡ expand_function n.old.pull n.old.stmt (function_view function.now)) }
+    ensures pull { OnOk result
+        (n.new.pull ≡ n.old.pull + block_pulls (block_view function.now.body)) }
+    ensures stmt { OnOk result
+        (n.new.stmt ≡ n.old.stmt + block_size (block_view function.now.body)) }
 {
     let name = function.name.try_clone(alloc)?;
     let params = copy_params(alloc, function.params.as_slice())?;
@@ -48,9 +52,12 @@ fn expand_function(
 }
 
 fn expand_functions(alloc: Global, functions: &[Function]) -> Result<Vec<Function>, AllocError>
-    requires pulls { sum_by (λ f. block_pulls f.body) (map function_view functions.now) + 1 < 2 ^ 32 }
-    requires stmts { sum_by (λ f. block_size f.body) (map function_view functions.now) + 1 < 2 ^ 32 }
-    ensures { IfOk result (λ r. map function_view r.items ≡ expand_functions 1 1 (map function_view functions.now)) }
+    requires pulls { sum_by (λ f. block_pulls f.body) (map function_view functions.now) + 1
+        < 2 ^ 32 }
+    requires stmts { sum_by (λ f. block_size f.body) (map function_view functions.now) + 1
+        < 2 ^ 32 }
+    ensures { IfOk result (λ r. map function_view r.items
+        ≡ expand_functions 1 1 (map function_view functions.now)) }
 {
     let mut n = Numbers { pull: 1, stmt: 1 };
     let mut out = Vec::new(alloc);

@@ -21,6 +21,8 @@ pub mod Limits
 pub mod Expansion
 pub mod Weight
 pub mod Stack
+pub mod Costs
+pub mod Picked
 pub mod Broken
 pub mod Places
 pub mod Sought
@@ -28,4 +30,5 @@ pub mod Visible
 pub mod Checked
 pub mod Marked
 pub mod Regions
+pub mod Members
 pub mod Example

@@ -69,8 +69,20 @@ impl Model for Marked {
 impl Marked {
     /// A checked program with these policies and regions.
     pub fn new(checked: Checked, policies: Vec<Policy>, regions: Vec<Region>) -> Marked
-        requires { IsMarked (record { program = checked.program; groups = checked.groups; policies = policies.items; regions = map region_view regions.items }) }
-        ensures { result ≡ record { program = checked.program; groups = checked.groups; policies = policies.items; regions = map region_view regions.items } }
+        requires { IsMarked (record {
+          program = checked.program;
+          groups = checked.groups;
+          policies = policies.items;
+          regions
+              = map region_view regions.items;
+        }) }
+        ensures { result ≡ record {
+          program = checked.program;
+          groups = checked.groups;
+          policies = policies.items;
+          regions
+              = map region_view regions.items;
+        } }
     {
         Marked {
             checked,
@@ -80,7 +92,8 @@ impl Marked {
     }
 
     pub fn checked(&self) -> &Checked
-        ensures same { result.now ≡ record { program = self.now.program; groups = self.now.groups } }
+        ensures same { result.now
+            ≡ record { program = self.now.program; groups = self.now.groups } }
         ensures marked { IsMarked self.now }
     {
         &self.checked

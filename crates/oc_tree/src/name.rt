@@ -34,6 +34,7 @@ impl Name {
         self.bytes.as_slice()
     }
 
+    /// A copy of the name.
     #[inline(never)]
     pub fn try_clone(&self, alloc: Global) -> Result<Name, AllocError>
         ensures { IfOk result (λ n. n ≡ self.now) }
@@ -78,6 +79,7 @@ fn clone_all(alloc: Global, names: &[Name]) -> Result<Vec<Name>, AllocError>
 }
 
 impl Names {
+    /// A copy of all names.
     pub fn try_clone(&self, alloc: Global) -> Result<Names, AllocError>
         ensures { IfOk result (λ n. names_view n ≡ names_view self.now) }
     {

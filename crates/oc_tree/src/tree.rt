@@ -18,12 +18,14 @@ pub enum VarId {
     Returned,
 }
 
+/// An operator before its operand.
 #[derive(Clone, Copy, Debug, PartialEq, Eq)]
 pub enum UnaryOp {
     Neg,
     Not,
 }
 
+/// An operator between its operands. `Div` and `Rem` round towards 0.
 #[derive(Clone, Copy, Debug, PartialEq, Eq)]
 pub enum BinaryOp {
     Or,
@@ -41,12 +43,14 @@ pub enum BinaryOp {
     Rem,
 }
 
+/// The type of a value of one word.
 #[derive(Clone, Copy, Debug, PartialEq, Eq)]
 pub enum Scalar {
     Int,
     Bool,
 }
 
+/// How a parameter is passed: by value, by `&` or by `&mut`.
 #[derive(Clone, Copy, Debug, PartialEq, Eq)]
 pub enum Passing {
     Value,
@@ -54,6 +58,7 @@ pub enum Passing {
     Mutable,
 }
 
+/// The type of a variable: a number, a truth value, or an array of so many numbers.
 #[derive(Clone, Copy, Debug, PartialEq, Eq)]
 pub enum ValueKind {
     Int,
@@ -65,34 +70,43 @@ pub enum ValueKind {
 #[cycle(expression)]
 #[derive(Debug, Drop)]
 pub enum Expr {
+    /// A number, as `21`.
     Number {
         value: i32,
     },
+    /// `true` or `false`.
     Truth {
         value: bool,
     },
+    /// A variable by its name.
     Variable {
         name: Name,
     },
+    /// An element of an array, `a[e]`.
     Index {
         array: Name,
         index: Box<Expr>,
     },
+    /// What a reference stands for, `*x`.
     Deref {
         name: Name,
     },
+    /// `-e` or `!e`.
     Unary {
         op: UnaryOp,
         inner: Box<Expr>,
     },
+    /// Two operands with an operator between them.
     Binary {
         op: BinaryOp,
         left: Box<Expr>,
         right: Box<Expr>,
     },
+    /// An input inside an expression; a checked program has none.
     Sense {
         sensor: Name,
     },
+    /// A call inside an expression; a checked program has none.
     Call {
         call: Call,
     },
@@ -107,6 +121,7 @@ pub enum Arg {
     Mutable { name: Name },
 }
 
+/// A call of a function by its name.
 #[cycle(expression)]
 #[derive(Debug, Drop)]
 pub struct Call {
@@ -122,15 +137,18 @@ pub enum Right {
     Call { call: Call },
 }
 
+/// What a statement does.
 #[cycle(tree)]
 #[derive(Debug, Drop)]
 pub enum StmtKind {
+    /// `let x: T = right;`, where `mut` and the type may stand or not.
     Let {
         mutable: bool,
         name: Name,
         kind: Option<ValueKind>,
         right: Right,
     },
+    /// `let a: [i32; words] = [initial; words];`, where `mut` and the type may stand or not.
     LetArray {
         mutable: bool,
         name: Name,
@@ -138,52 +156,64 @@ pub enum StmtKind {
         initial: i32,
         words: u32,
     },
+    /// `x = right;`
     Assign {
         name: Name,
         right: Right,
     },
+    /// `a[index] = right;`
     AssignIndex {
         name: Name,
         index: Expr,
         right: Right,
     },
+    /// `*x = right;`
     AssignDeref {
         name: Name,
         right: Right,
     },
+    /// `if condition { .. } else { .. }`; an `else if` is an `else` with that `if` alone.
     If {
         condition: Expr,
         then: Block,
         otherwise: Option<Block>,
     },
+    /// `for x in from..to { .. }`
     For {
         name: Name,
         from: i32,
         to: i32,
         body: Block,
     },
+    /// `while condition bound n { .. }`
     While {
         condition: Expr,
         bound: u32,
         body: Block,
     },
+    /// `f(..);`
     CallOnly {
         call: Call,
     },
+    /// `sense(s);`
     SenseOnly {
         sensor: Name,
     },
+    /// `emit(p, e);`
     Emit {
         port: Name,
         value: Expr,
     },
+    /// `Fresh(x);`
     Fresh {
         name: Name,
     },
+    /// `Consistent(x, id);`
     Consistent {
         name: Name,
         id: i32,
     },
+    /// `return e;`
     Return {
         value: Expr,
     },
@@ -198,6 +228,7 @@ pub struct Stmt {
     pub kind: StmtKind,
 }
 
+/// The statements between two braces.
 #[cycle(tree)]
 #[derive(Debug, Drop)]
 pub struct Block {
@@ -205,6 +236,7 @@ pub struct Block {
     pub statements: Vec<Stmt>,
 }
 
+/// A parameter of a function.
 #[derive(Debug, Drop)]
 pub struct Param {
     pub name: Name,
@@ -212,6 +244,7 @@ pub struct Param {
     pub kind: ValueKind,
 }
 
+/// A function, with the line of its `fn`.
 #[derive(Debug, Drop)]
 pub struct Function {
     pub name: Name,
@@ -229,6 +262,7 @@ pub struct NvDecl {
     pub initial: i32,
 }
 
+/// What is declared at the top level.
 #[derive(Clone, Copy, Debug, PartialEq, Eq)]
 pub enum DeclKind {
     Sensor,

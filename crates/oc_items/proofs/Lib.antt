@@ -5,3 +5,8 @@ pub mod Places
 pub mod Back
 pub mod NvBack
 pub mod Spelled
+pub mod Tells
+pub mod ErasedLaws
+pub mod Bodies
+pub mod Stripped
+pub mod Numerals

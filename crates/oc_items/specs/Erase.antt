@@ -1,5 +1,5 @@
 -- A report without its aborted attempts.
-use Rattle.std.specs.Prelude.{ℤ, List, [], ◌∷◌, Option, Some, None, Bool, true, false, ◌==◌, if◌then◌else◌}
+use Rattle.std.specs.Prelude.{◌≡◌, ℤ, List, [], ◌∷◌, ◌++◌, Option, Some, None, Bool, true, false, ◌==◌, if◌then◌else◌}
 use Rattle.oc_tree.specs.Said.{Told}
 use Rattle.oc_tree.specs.declared.said.Said.{Said}
 use Rattle.oc_tree.specs.declared.said.Said.TheVariants.{Sensed, Entered, Committed, Aborted, Off, Dark}
@@ -102,3 +102,9 @@ MayStand inside s = Unit {0}
 abbrev pub HasNoOffInside : Bool → List Told → Type 0
 HasNoOffInside inside [] = Unit {0}
 HasNoOffInside inside (i ∷ is) = MayStand inside i.said × HasNoOffInside (inside_after inside i.said) is
+
+-- these items tell a front part of what a run says, but for outages, of which none stands in a region
+pub record Tells (said : List Said) (items : List Told) : Type 0 where
+  pub rest : List Said
+  pub is : without_offs items ++ rest ≡ said
+  pub outside : HasNoOffInside false items

@@ -7,6 +7,7 @@
 
 pub mod item;
 pub mod laws;
+pub mod read;
 #[cfg(test)]
 mod tests;
 pub mod text;

@@ -24,8 +24,11 @@ fn trap_words(kind: TrapKind) -> &'static [u8]
 
 /// Writes a line of a tick, a word and a number.
 fn put_number<O: Sink>(tick: u64, word: &[u8], number: u64, sink: &mut O) -> Result<(), SinkFault>
-    ensures ok { OnOk result (O.took sink.old (decimal tick ++ (word.now ++ (decimal number ++ codes "\n"))) sink.new) }
-    ensures part { OnErr result (TookPart O.took sink.old (decimal tick ++ (word.now ++ (decimal number ++ codes "\n"))) sink.new) }
+    ensures ok { OnOk result
+        (O.took sink.old (decimal tick ++ (word.now ++ (decimal number ++ codes "\n"))) sink.new) }
+    ensures part { OnErr result
+        (TookPart O.took sink.old (decimal tick ++ (word.now ++ (decimal number ++ codes "\n")))
+        sink.new) }
     ensures cause { OnErr result (Rose (O.faults sink.old) (O.faults sink.new)) }
     ensures count { O.faults sink.old ≤ O.faults sink.new }
 {
@@ -43,8 +46,14 @@ fn put_value<O: Sink>(
     value: i32,
     sink: &mut O,
 ) -> Result<(), SinkFault>
-    ensures ok { OnOk result (O.took sink.old (decimal tick ++ (word.now ++ (name.now ++ (codes " " ++ (signed_decimal value ++ codes "\n"))))) sink.new) }
-    ensures part { OnErr result (TookPart O.took sink.old (decimal tick ++ (word.now ++ (name.now ++ (codes " " ++ (signed_decimal value ++ codes "\n"))))) sink.new) }
+    ensures ok { OnOk result
+        (O.took sink.old (decimal tick
+        ++ (word.now ++ (name.now ++ (codes " " ++ (signed_decimal value ++ codes "\n")))))
+        sink.new) }
+    ensures part { OnErr result
+        (TookPart O.took sink.old (decimal tick
+        ++ (word.now ++ (name.now ++ (codes " " ++ (signed_decimal value ++ codes "\n")))))
+        sink.new) }
     ensures cause { OnErr result (Rose (O.faults sink.old) (O.faults sink.new)) }
     ensures count { O.faults sink.old ≤ O.faults sink.new }
 {
@@ -72,8 +81,10 @@ fn put_end<O: Sink>(tick: u64, word: &[u8], sink: &mut O) -> Result<(), SinkFaul
 /// part of the line was taken.
 pub fn put_item<O: Sink>(item: &Item, names: &Names, sink: &mut O) -> Result<(), SinkFault>
     requires { IsNamed (names_view names.now) item.now }
-    ensures ok { OnOk result (O.took sink.old (item_line (names_view names.now) item.now) sink.new) }
-    ensures part { OnErr result (TookPart O.took sink.old (item_line (names_view names.now) item.now) sink.new) }
+    ensures ok { OnOk result
+        (O.took sink.old (item_line (names_view names.now) item.now) sink.new) }
+    ensures part { OnErr result
+        (TookPart O.took sink.old (item_line (names_view names.now) item.now) sink.new) }
     ensures cause { OnErr result (Rose (O.faults sink.old) (O.faults sink.new)) }
     ensures count { O.faults sink.old ≤ O.faults sink.new }
 {
@@ -127,7 +138,8 @@ fn put_word<O: Sink>(word: &i32, sink: &mut O) -> Result<(), SinkFault>
 /// Writes the line of a nonvolatile variable of this name.
 fn put_words<O: Sink>(name: &[u8], words: &[i32], sink: &mut O) -> Result<(), SinkFault>
     ensures ok { OnOk result (O.took sink.old (words_line name.now words.now) sink.new) }
-    ensures part { OnErr result (TookPart O.took sink.old (words_line name.now words.now) sink.new) }
+    ensures part { OnErr result
+        (TookPart O.took sink.old (words_line name.now words.now) sink.new) }
     ensures cause { OnErr result (Rose (O.faults sink.old) (O.faults sink.new)) }
     ensures count { O.faults sink.old ≤ O.faults sink.new }
 {
@@ -151,8 +163,10 @@ pub fn put_nv<O: Sink>(
     sink: &mut O,
 ) -> Result<(), SinkFault>
     requires { name < length (names_view names.now).nvs }
-    ensures ok { OnOk result (O.took sink.old (nv_line (names_view names.now) name words.now) sink.new) }
-    ensures part { OnErr result (TookPart O.took sink.old (nv_line (names_view names.now) name words.now) sink.new) }
+    ensures ok { OnOk result
+        (O.took sink.old (nv_line (names_view names.now) name words.now) sink.new) }
+    ensures part { OnErr result
+        (TookPart O.took sink.old (nv_line (names_view names.now) name words.now) sink.new) }
     ensures cause { OnErr result (Rose (O.faults sink.old) (O.faults sink.new)) }
     ensures count { O.faults sink.old ≤ O.faults sink.new }
 {

@@ -22,3 +22,4 @@ pub mod TogetherPrograms
 pub mod Outcomes
 pub mod FaultLaws
 pub mod OneFault
+pub mod PlainLaws

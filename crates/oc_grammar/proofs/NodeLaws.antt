@@ -7,7 +7,7 @@ use Rattle.oc_tree.specs.Nodes.{expr_nodes, arg_nodes, args_nodes, right_nodes, 
 use Rattle.oc_grammar.specs.Limits.{Limits}
 use Rattle.oc_grammar.specs.Lexemes.{Lexemes}
 use Rattle.oc_grammar.specs.Expressions.{Spells, literal, yes, no, name, element, target, parens, minus, negation, input, result, one, more, compare, SpellsArg, by_value, by_shared, by_mutable, SpellsArgs, closed, last, further}
-use Rattle.oc_grammar.specs.Statements.{right_of, SpellsRight, a_right, SpellsSimple, let_right, let_fill, assigns, assigns_index, assigns_deref, calls, senses, emits, marks_fresh, marks_consistent, returns, Place, SpellsKind, simple, if_form, for_form, while_form, SpellsElse, without, otherwise, else_if, SpellsStmt, statement, SpellsBlock, braces, SpellsStmts, end, first}
+use Rattle.oc_grammar.specs.Statements.{right_of, SpellsRight, a_right, SpellsSimple, let_right, let_fill, assigns, assigns_index, assigns_deref, calls, senses, emits, marks_fresh, marks_consistent, returns, Place, SpellsKind, simple, if_form, for_form, while_form, atomic_form, SpellsElse, without, otherwise, else_if, SpellsStmt, statement, SpellsBlock, braces, SpellsStmts, end, first}
 use Rattle.oc_grammar.specs.Programs.{SpellsFunction, a_function, SpellsItem, sensor_item, port_item, nv_item, function_item, SpellsItems, no_item, an_item, SpellsProgram}
 use Rattle.oc_grammar.proofs.FrontLaws.{sign_shorter, keyword_shorter, name_shorter, number_shorter, infix_shorter}
 use Rattle.oc_grammar.proofs.SimpleLaws.{simple_shorter, const_shorter, head_shorter}
@@ -77,6 +77,7 @@ module _ (limits : Limits) where
     kind_within (if_form k c t o) = let a = keyword_shorter k in let d = expr_within c.spelled in let e = block_within t in let f = else_within o in omega arith
     kind_within (for_form k i n c r d t) = let a = keyword_shorter k in let b = name_shorter i in let e = keyword_shorter n in let f = const_shorter c in let g = sign_shorter r in let h = const_shorter d in let l = block_within t in omega arith
     kind_within (while_form k c w i t) = let a = keyword_shorter k in let b = expr_within c.spelled in let d = keyword_shorter w in let e = number_shorter i in let f = block_within t in omega arith
+    kind_within (atomic_form k t) = let a = keyword_shorter k in let b = block_within t in omega arith
 
     else_within : {room : ℕ} {o : TElse} {p q : Place} → SpellsElse limits room o p q → else_nodes o + length q.2 ≤ length p.2
     else_within without = omega arith

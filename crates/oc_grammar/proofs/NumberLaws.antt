@@ -8,7 +8,7 @@ use Rattle.oc_lex.specs.Stands.{IsName}
 use Rattle.oc_tree.specs.declared.tree.Decl.{Decl}
 use Rattle.oc_grammar.specs.Limits.{Limits}
 use Rattle.oc_grammar.specs.Lexemes.{Lexemes, LexemesInForm}
-use Rattle.oc_grammar.specs.Statements.{SpellsSimple, let_right, let_fill, assigns, assigns_index, assigns_deref, calls, senses, emits, marks_fresh, marks_consistent, returns, Place, SpellsKind, simple, if_form, for_form, while_form, SpellsElse, without, otherwise, else_if, SpellsStmt, statement, SpellsBlock, braces, SpellsStmts, end, first}
+use Rattle.oc_grammar.specs.Statements.{SpellsSimple, let_right, let_fill, assigns, assigns_index, assigns_deref, calls, senses, emits, marks_fresh, marks_consistent, returns, Place, SpellsKind, simple, if_form, for_form, while_form, atomic_form, SpellsElse, without, otherwise, else_if, SpellsStmt, statement, SpellsBlock, braces, SpellsStmts, end, first}
 use Rattle.oc_grammar.specs.Programs.{SpellsFunction, a_function, SpellsItem, sensor_item, port_item, nv_item, function_item, SpellsItems, no_item, an_item, SpellsProgram, empty_program}
 use Rattle.oc_grammar.proofs.FormLaws.{program_spellable}
 use Rattle.oc_grammar.proofs.NodeLaws.{nodes_within}
@@ -58,6 +58,7 @@ mutual
       (run_then n (block_statements t) p.0 (else_statements e) q.0 a.0 f.0, run_then b (block_blocks t) p.1 (else_blocks e) q.1 a.1 f.1)
   kind_between (for_form k i n c r d t) = block_between t
   kind_between (while_form k c w i t) = block_between t
+  kind_between (atomic_form {n = n} {b = b} {t = t} {p = p} k d) = let a = block_between d in (run_then n (block_statements t) p.0 [] p.0 a.0 refl, run_then b (block_blocks t) p.1 [] p.1 a.1 refl)
 
   else_between : {limits : Limits} {room : ℕ} {o : TElse} {p q : Place} → SpellsElse limits room o p q → Between (else_statements o) (else_blocks o) p q
   else_between without = (refl, refl)

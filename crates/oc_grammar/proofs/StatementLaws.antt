@@ -9,8 +9,8 @@ use Rattle.oc_grammar.specs.Lexemes.{Lexeme, Lexemes, keyword}
 use Rattle.oc_grammar.specs.Fronts.{Keyword, a_keyword}
 use Rattle.oc_grammar.specs.Reading.{with_some, too_deep, next_at, strip_mark, strip_word, expect_mark, expect_word, name_at, number_at}
 use Rattle.oc_grammar.specs.ReadingExpressions.{whole_at}
-use Rattle.oc_grammar.specs.Statements.{Place, SpellsKind, simple, if_form, for_form, while_form, SpellsElse, without, otherwise, else_if, SpellsStmt, statement, SpellsBlock, braces, SpellsStmts, end, first}
-use Rattle.oc_grammar.specs.ReadingStatements.{const_at, simple_from, Reader, if_by, for_by, while_by, simple_by, kind_by, stmt_by, stmts_by, braces_by, no_block, chained_by, no_chained, else_by, stmt_at, block_at}
+use Rattle.oc_grammar.specs.Statements.{Place, SpellsKind, simple, if_form, for_form, while_form, atomic_form, SpellsElse, without, otherwise, else_if, SpellsStmt, statement, SpellsBlock, braces, SpellsStmts, end, first}
+use Rattle.oc_grammar.specs.ReadingStatements.{const_at, simple_from, Reader, if_by, for_by, while_by, atomic_by, simple_by, kind_by, stmt_by, stmts_by, braces_by, no_block, chained_by, no_chained, else_by, stmt_at, block_at}
 use Rattle.oc_grammar.proofs.FrontLaws.{bind_ok, done, ok_is, with_some_ok, strip_mark_ok, strip_word_ok, expect_mark_ok, expect_word_ok, name_ok, number_ok, next_ok, sign_shorter, keyword_shorter, name_shorter, number_shorter}
 use Rattle.oc_grammar.proofs.ExpressionLaws.{whole_sound, Inside}
 use Rattle.oc_grammar.proofs.SimpleLaws.{simple_sound, simple_shorter, const_sound, const_shorter, whole_shorter}
@@ -51,6 +51,10 @@ module _ (limits : Limits) where
       let t = bind_ok (body n b z.0.1) _ y z.2 in
       moved (SpellsKind limits room) (n, b, from) _ y t.2 (while_form k (whole_sound limits ts c.0 c.1) (expect_word_ok words.Bound c.0.1 w.0 w.1) (number_ok w.0 z.0.0 z.0.1 z.1) (bs n b z.0.1 t.0 t.1))
 
+  atomic_sound : (room : ℕ) (body : Reader TBlock) → Takes (SpellsBlock limits room) body → (n b : ℕ) (from ts : Lexemes) (y : TKind × ℕ × ℕ × Lexemes) → Keyword words.Atomic from ts → atomic_by body n b ts ≡ Ok y → SpellsKind limits room y.0 (n, b, from) (y.1, y.2, y.3)
+  unfolding atomic_by
+  atomic_sound room body bs n b from ts y k e = let t = bind_ok (body n b ts) _ y e in moved (SpellsKind limits room) (n, b, from) _ y t.2 (atomic_form k (bs n b ts t.0 t.1))
+
   simple_by_sound : (room n b : ℕ) (t : Lexeme) (ts : Lexemes) (y : TKind × ℕ × ℕ × Lexemes) → simple_by n b (simple_from limits t ts) ≡ Ok y → SpellsKind limits room y.0 (n, b, t ∷ ts) (y.1, y.2, y.3)
   simple_by_sound room n b t ts y e =
       let k = bind_ok (simple_from limits t ts) _ y e in
@@ -60,6 +64,7 @@ module _ (limits : Limits) where
   kind_sound room body other bs es (keyword line words.If) n b ts y e = if_sound room body other bs es n b _ ts y a_keyword e
   kind_sound room body other bs es (keyword line words.For) n b ts y e = for_sound room body bs n b _ ts y a_keyword e
   kind_sound room body other bs es (keyword line words.While) n b ts y e = while_sound room body bs n b _ ts y a_keyword e
+  kind_sound room body other bs es (keyword line words.Atomic) n b ts y e = atomic_sound room body bs n b _ ts y a_keyword e
   kind_sound room body other bs es t n b ts y e = simple_by_sound room n b t ts y e
 
   stmt_by_sound : (room : ℕ) (body : Reader TBlock) (other : Reader TElse) → Takes (SpellsBlock limits room) body → Takes (SpellsElse limits room) other → Takes (SpellsStmt limits room) (stmt_by limits body other)
@@ -144,6 +149,7 @@ module _ (limits : Limits) where
     kind_shorter (if_form k c t o) = let a = keyword_shorter k in let d = whole_shorter limits c in let e = block_shorter t in let f = else_shorter o in omega arith
     kind_shorter (for_form k i n c r d t) = let a = keyword_shorter k in let b = name_shorter i in let e = keyword_shorter n in let f = const_shorter c in let g = sign_shorter r in let h = const_shorter d in let l = block_shorter t in omega arith
     kind_shorter (while_form k c w i t) = let a = keyword_shorter k in let b = whole_shorter limits c in let d = keyword_shorter w in let e = number_shorter i in let f = block_shorter t in omega arith
+    kind_shorter (atomic_form k t) = let a = keyword_shorter k in let b = block_shorter t in omega arith
 
     pub else_shorter : {room : ℕ} {o : TElse} {p q : Place} → SpellsElse limits room o p q → length q.2 ≤ length p.2
     else_shorter without = omega arith

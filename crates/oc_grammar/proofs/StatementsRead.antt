@@ -8,8 +8,8 @@ use Rattle.oc_grammar.specs.Limits.{Limits}
 use Rattle.oc_grammar.specs.Lexemes.{Lexemes, front_line}
 use Rattle.oc_grammar.specs.Fronts.{a_name, a_keyword, a_sign}
 use Rattle.oc_grammar.specs.Reading.{next_at, strip_mark, strip_word}
-use Rattle.oc_grammar.specs.Statements.{Place, SpellsSimple, let_right, let_fill, let_head, assigns, assigns_index, assigns_deref, calls, senses, emits, marks_fresh, marks_consistent, returns, SpellsKind, simple, if_form, for_form, while_form, SpellsElse, without, otherwise, else_if, SpellsStmt, statement, SpellsBlock, braces, SpellsStmts, end, first}
-use Rattle.oc_grammar.specs.ReadingStatements.{Reader, if_by, for_by, while_by, stmt_by, stmts_by, stmt_at, block_at, chained_at, else_at, stmt_here}
+use Rattle.oc_grammar.specs.Statements.{Place, SpellsSimple, let_right, let_fill, let_head, assigns, assigns_index, assigns_deref, calls, senses, emits, marks_fresh, marks_consistent, returns, SpellsKind, simple, if_form, for_form, while_form, atomic_form, SpellsElse, without, otherwise, else_if, SpellsStmt, statement, SpellsBlock, braces, SpellsStmts, end, first}
+use Rattle.oc_grammar.specs.ReadingStatements.{Reader, if_by, for_by, while_by, atomic_by, stmt_by, stmts_by, stmt_at, block_at, chained_at, else_at, stmt_here}
 use Rattle.oc_grammar.proofs.FrontLaws.{sign_strip, sign_expect, keyword_strip, keyword_expect, name_read, number_read}
 use Rattle.oc_grammar.proofs.ExpressionsRead.{Stops, stops_sign, stops_keyword, whole_read}
 use Rattle.oc_grammar.proofs.SimpleLaws.{KindRead, simple_read, const_read}
@@ -54,6 +54,7 @@ module _ (limits : Limits) where
   kind_front (if_form a_keyword c t o) = (refl, refl)
   kind_front (for_form a_keyword i n c r d t) = (refl, refl)
   kind_front (while_form a_keyword c w i t) = (refl, refl)
+  kind_front (atomic_form a_keyword t) = (refl, refl)
 
   stmt_front : {room : ℕ} {s : TStmt} {p q : Place} → SpellsStmt limits room s p q → (strip_mark marks.CloseCurly p.2 ≡ None) × (strip_word words.Else p.2 ≡ None)
   stmt_front (statement d) = kind_front d
@@ -78,13 +79,14 @@ module _ (limits : Limits) where
   with_line body other n b (t ∷ ts) k p e = rw e refl
 
   mutual
-    unfolding next_at stmt_list if_by for_by while_by stmts_by block_at chained_at else_at stmt_here
+    unfolding next_at stmt_list if_by for_by while_by atomic_by stmts_by block_at chained_at else_at stmt_here
 
     kind_read : {room : ℕ} {k : TKind} {p q : Place} → SpellsKind limits room k p q → strip_word words.Else q.2 ≡ None → KindRead limits (block_at limits room) (else_at limits room) k p.0 p.1 p.2 q
     kind_read (simple {room = room} {n = n} {b = b} d) h = simple_read limits (block_at limits room) (else_at limits room) n b d
     kind_read (if_form a_keyword c t o) h = rw (whole_read limits c (block_stops t), block_read t, else_read o h) refl
     kind_read (for_form a_keyword i w c r d t) h = rw (name_read i, keyword_expect w, const_read c, sign_expect r, const_read d, block_read t) refl
     kind_read (while_form a_keyword c w i t) h = rw (whole_read limits c (stops_keyword 6 w), keyword_expect w, number_read i, block_read t) refl
+    kind_read (atomic_form a_keyword t) h = rw (block_read t) refl
 
     else_read : {room : ℕ} {o : TElse} {p q : Place} → SpellsElse limits room o p q → strip_word words.Else q.2 ≡ None → else_at limits room p.0 p.1 p.2 ≡ Ok (o, q.0, q.1, q.2)
     else_read without h = rw h refl

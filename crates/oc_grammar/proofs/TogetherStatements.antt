@@ -1,7 +1,7 @@
 -- Statements and blocks, read together.
 use Rattle.std.proofs.Common.{◌≡◌, ℕ, zero, suc, true, false, List, [], ◌∷◌, length, Result, Ok, refl, sym, subst, ◌∙◌, arith, inl, inr, ◌⊎◌}
 use Rattle.std.specs.Prelude.{unsigned_abs}
-use Rattle.oc_tree.specs.Tree.{TExpr, TArg, TKind, if_else, for_in, while_do, TElse, no_else, else_do, TStmt, stmt, TBlock, block, no_stmts, more}
+use Rattle.oc_tree.specs.Tree.{TExpr, truth, TArg, TKind, if_else, for_in, while_do, TElse, no_else, else_do, TStmt, stmt, TBlock, block, no_stmts, more}
 use Rattle.oc_tree.specs.View.{stmts_of}
 use Rattle.oc_lex.specs.declared.token.Word.TheVariants as words
 use Rattle.oc_lex.specs.declared.token.Mark.TheVariants as marks
@@ -10,7 +10,7 @@ use Rattle.oc_grammar.specs.Depths.{curly}
 use Rattle.oc_grammar.specs.Lexemes.{Lexeme, Lexemes, keyword, sign, line_of}
 use Rattle.oc_grammar.specs.Reading.{Fault, ◌>>=◌, with_some, refuse, too_deep, strip_mark, strip_word, expect_mark}
 use Rattle.oc_grammar.specs.ReadingExpressions.{args_at, whole_at}
-use Rattle.oc_grammar.specs.ReadingStatements.{simple_from, ReadNumbered, if_by, for_by, while_by, simple_by, kind_by, stmts_by, stmt_at, stmts_at, stmt_here, block_at, chained_at, else_at}
+use Rattle.oc_grammar.specs.ReadingStatements.{simple_from, ReadNumbered, if_by, for_by, while_by, atomic_by, simple_by, kind_by, stmts_by, stmt_at, stmts_at, stmt_here, block_at, chained_at, else_at}
 use Rattle.oc_grammar.proofs.FrontLaws.{bind_ok}
 use Rattle.oc_grammar.proofs.StatementsRead.{stmt_is}
 use Rattle.oc_grammar.proofs.Turns.{stmt_at_shorter, onward, stmts_go}
@@ -97,6 +97,10 @@ module _ (gap : Depth → ℕ) (asks : Lexeme → Type 0) (small large : Limits)
           mostly_bind gap asks _ _ (number_good gap asks) (λ z.
           loops (λ t. while_do c (unsigned_abs z) t) n b)))
 
+      atomic_mostly : (n b : ℕ) → Mostly gap asks (numbered TKind) (atomic_by (block_at small room) n b) (atomic_by (block_at large room') n b)
+      unfolding atomic_by
+      atomic_mostly n b = loops (λ t. if_else (truth true) t no_else) n b
+
       simple_step : (n b k : ℕ) (t : Lexeme) → Simply gap asks small large whole args t → Step gap asks (numbered TKind) true k t (λ ts. simple_by n b (simple_from small t ts)) (λ ts. simple_by n b (simple_from large t ts))
       simple_step n b k t (inl f) = go gap asks (fair_wide gap asks (fair_bind gap asks _ _ f (λ i. given gap asks (i, n, b)))) tt
       simple_step n b k t (inr h) = refused (λ ts. rw (h.0 ts) refl) (λ ts. rw (h.1 ts) refl)
@@ -105,6 +109,7 @@ module _ (gap : Depth → ℕ) (asks : Lexeme → Type 0) (small large : Limits)
       kind_step n b k (keyword line words.If) = taken ((if_mostly n b).online k) tt (λ a. ((if_mostly n b).ready (keyword line words.If) a refl).live)
       kind_step n b k (keyword line words.For) = taken ((for_mostly n b).online k) tt (λ a. ((for_mostly n b).ready (keyword line words.For) a refl).live)
       kind_step n b k (keyword line words.While) = taken ((while_mostly n b).online k) tt (λ a. ((while_mostly n b).ready (keyword line words.While) a refl).live)
+      kind_step n b k (keyword line words.Atomic) = taken ((atomic_mostly n b).online k) tt (λ a. ((atomic_mostly n b).ready (keyword line words.Atomic) a refl).live)
       kind_step n b k t = simple_step n b k t (simply gap asks small large whole args t)
 
       stmt_of : (n b k : ℕ) → Online gap asks (numbered TStmt) true k (stmt_at small room n b) (stmt_at large room' n b)

@@ -1,9 +1,10 @@
 -- Tokens as the grammar sees them: what each says, and its line.
-use Rattle.std.specs.Prelude.{ℕ, ℤ, List, [], ◌∷◌, map, slice_range}
+use Rattle.std.specs.Prelude.{ℕ, ℤ, Bool, true, false, not, ◌||◌, cond, List, [], ◌∷◌, map, slice_range}
 use Rattle.oc_tree.specs.Names.{Text}
 use Rattle.oc_lex.specs.declared.token.Kind.{Kind}
 use Rattle.oc_lex.specs.declared.token.Kind.TheVariants as kinds
 use Rattle.oc_lex.specs.declared.token.Word.{Word}
+use Rattle.oc_lex.specs.declared.token.Word.TheVariants as words
 use Rattle.oc_lex.specs.declared.token.Mark.{Mark}
 use Rattle.oc_lex.specs.declared.token.Token.{Token}
 use Rattle.oc_lex.specs.Stands.{IsName}
@@ -14,22 +15,35 @@ pub data Lexeme : Type 0 where
   numeral : (line : ℕ) → ℤ → Lexeme
   keyword : (line : ℕ) → Word → Lexeme
   sign : (line : ℕ) → Mark → Lexeme
+  -- a word that stands in no form
+  reserved : (line : ℕ) → Lexeme
 
 abbrev pub Lexemes : Type 0
 Lexemes = List Lexeme
 
-abbrev pub lexeme_by : ℕ → Text → Kind → Lexeme
-lexeme_by line text kinds.Name = named line text
-lexeme_by line text (kinds.Number v) = numeral line v
-lexeme_by line text (kinds.Word w) = keyword line w
-lexeme_by line text (kinds.Mark m) = sign line m
+abbrev pub is_atomic : Word → Bool
+is_atomic words.Atomic = true
+is_atomic _ = false
+
+-- `atomic` is a word of the larger grammar alone
+abbrev pub says : Bool → Word → Bool
+says atomic w = not (is_atomic w) || atomic
+
+abbrev pub lexeme_by : Bool → ℕ → Text → Kind → Lexeme
+lexeme_by atomic line text kinds.Name = named line text
+lexeme_by atomic line text (kinds.Number v) = numeral line v
+lexeme_by atomic line text (kinds.Word w) = cond (says atomic w) (keyword line w) (reserved line)
+lexeme_by atomic line text (kinds.Mark m) = sign line m
 
 -- a token of a source
-abbrev pub lexeme_of : List ℕ → Token → Lexeme
-lexeme_of source t = lexeme_by t.line (slice_range source t.start t.end) t.kind
+abbrev pub lexeme_of : Bool → List ℕ → Token → Lexeme
+lexeme_of atomic source t = lexeme_by atomic t.line (slice_range source t.start t.end) t.kind
+
+abbrev pub lexemes_in : Bool → List ℕ → List Token → Lexemes
+lexemes_in atomic source tokens = map (lexeme_of atomic source) tokens
 
 abbrev pub lexemes_of : List ℕ → List Token → Lexemes
-lexemes_of source tokens = map (lexeme_of source) tokens
+lexemes_of source tokens = lexemes_in false source tokens
 
 -- a name of the language, or a number that it can say
 abbrev pub LexemeInForm : Lexeme → Type 0
@@ -46,6 +60,7 @@ line_of (named line x) = line
 line_of (numeral line v) = line
 line_of (keyword line w) = line
 line_of (sign line m) = line
+line_of (reserved line) = line
 
 -- the line of the token in front
 abbrev pub front_line : Lexemes → ℕ

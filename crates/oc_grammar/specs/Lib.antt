@@ -9,3 +9,4 @@ pub mod ReadingStatements
 pub mod Programs
 pub mod ReadingPrograms
 pub mod Depths
+pub mod Plain

@@ -1,7 +1,7 @@
 -- Reading statements.
-use Rattle.std.specs.Prelude.{ℕ, zero, suc, ℤ, unsigned_abs, Bool, List, [], ◌∷◌, length, Option, Some, None, Result, Ok, Err}
+use Rattle.std.specs.Prelude.{ℕ, zero, suc, ℤ, unsigned_abs, Bool, true, List, [], ◌∷◌, length, Option, Some, None, Result, Ok, Err}
 use Rattle.oc_tree.specs.Names.{Text}
-use Rattle.oc_tree.specs.Tree.{call, TRight, TKind, let_to, let_array, assign, assign_index, assign_deref, if_else, for_in, while_do, call_only, sense_only, emit, fresh, consistent, return, TElse, no_else, else_do, TStmt, stmt, TBlock, block, no_stmts, more}
+use Rattle.oc_tree.specs.Tree.{truth, call, TRight, TKind, let_to, let_array, assign, assign_index, assign_deref, if_else, for_in, while_do, call_only, sense_only, emit, fresh, consistent, return, TElse, no_else, else_do, TStmt, stmt, TBlock, block, no_stmts, more}
 use Rattle.oc_tree.specs.View.{args_of, stmts_of}
 use Rattle.oc_tree.specs.declared.tree.ValueKind.{ValueKind}
 use Rattle.oc_tree.specs.declared.tree.ValueKind.TheVariants as types
@@ -193,6 +193,11 @@ while_by limits body n b ts = do
   t ← body n b z.1
   Ok (while_do c.0 (unsigned_abs z.0) t.0, t.1, t.2, t.3)
 
+unfoldable pub atomic_by : Reader TBlock → Reader TKind
+atomic_by body n b ts = do
+  t ← body n b ts
+  Ok (if_else (truth true) t.0 no_else, t.1, t.2, t.3)
+
 abbrev pub simple_by : ℕ → ℕ → Read TKind → ReadNumbered TKind
 simple_by n b read = read >>= λ k. Ok (k.0, n, b, k.1)
 
@@ -200,6 +205,7 @@ abbrev pub kind_by : Limits → Reader TBlock → Reader TElse → Lexeme → Re
 kind_by limits body other (keyword line words.If) n b ts = if_by limits body other n b ts
 kind_by limits body other (keyword line words.For) n b ts = for_by body n b ts
 kind_by limits body other (keyword line words.While) n b ts = while_by limits body n b ts
+kind_by limits body other (keyword line words.Atomic) n b ts = atomic_by body n b ts
 kind_by limits body other t n b ts = simple_by n b (simple_from limits t ts)
 
 abbrev pub stmt_by : Limits → Reader TBlock → Reader TElse → Reader TStmt

@@ -2,7 +2,7 @@
 use Rattle.std.specs.Prelude.{ℕ, suc, ℤ, unsigned_abs, Bool, true, false, Option, Some, None}
 use Rattle.std.specs.Int.{w32, int_wrapping_neg}
 use Rattle.oc_tree.specs.Names.{Text}
-use Rattle.oc_tree.specs.Tree.{TExpr, sensed, called, call, TArgs, TRight, right_value, right_sense, right_call, TKind, let_to, let_array, assign, assign_index, assign_deref, if_else, for_in, while_do, call_only, sense_only, emit, fresh, consistent, return, TElse, no_else, else_do, TStmt, stmt, TBlock, block, TStmts, no_stmts, more}
+use Rattle.oc_tree.specs.Tree.{TExpr, truth, sensed, called, call, TArgs, TRight, right_value, right_sense, right_call, TKind, let_to, let_array, assign, assign_index, assign_deref, if_else, for_in, while_do, call_only, sense_only, emit, fresh, consistent, return, TElse, no_else, else_do, TStmt, stmt, TBlock, block, TStmts, no_stmts, more}
 use Rattle.oc_tree.specs.declared.tree.Scalar.{Scalar}
 use Rattle.oc_tree.specs.declared.tree.Scalar.TheVariants as scalars
 use Rattle.oc_tree.specs.declared.tree.ValueKind.{ValueKind}
@@ -89,6 +89,8 @@ mutual
     if_form : {room n b : ℕ} {c : TExpr} {t : TBlock} {o : TElse} {from a d : Lexemes} {p q : Place} → Keyword words.If from a → SpellsWhole limits c a d → SpellsBlock limits room t (n, b, d) p → SpellsElse limits room o p q → SpellsKind limits room (if_else c t o) (n, b, from) q
     for_form : {room n b : ℕ} {x : Text} {i j : ℤ} {t : TBlock} {from a c d e f g : Lexemes} {p : Place} → Keyword words.For from a → Named x a c → Keyword words.In c d → SpellsConst i d e → Sign marks.Range e f → SpellsConst j f g → SpellsBlock limits room t (n, b, g) p → SpellsKind limits room (for_in x i j t) (n, b, from) p
     while_form : {room n b : ℕ} {c : TExpr} {z : ℤ} {t : TBlock} {from a d e f : Lexemes} {p : Place} → Keyword words.While from a → SpellsWhole limits c a d → Keyword words.Bound d e → Numeral z e f → SpellsBlock limits room t (n, b, f) p → SpellsKind limits room (while_do c (unsigned_abs z) t) (n, b, from) p
+    -- `atomic` and a block has the tree of `if true` and that block
+    atomic_form : {room n b : ℕ} {t : TBlock} {from a : Lexemes} {p : Place} → Keyword words.Atomic from a → SpellsBlock limits room t (n, b, a) p → SpellsKind limits room (if_else (truth true) t no_else) (n, b, from) p
 
   pub data SpellsElse (limits : Limits) : ℕ → TElse → Place → Place → Type 0 where
     without : {room : ℕ} {p : Place} → SpellsElse limits room no_else p p

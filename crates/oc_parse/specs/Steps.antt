@@ -2,10 +2,10 @@
 use Rattle.std.specs.Prelude.{◌≡◌, ℕ, ◌+◌, ◌≤◌, length, Result, Ok, Err}
 use Rattle.oc_tree.specs.Tree.{TExpr}
 use Rattle.oc_grammar.specs.Limits.{operators_depth, brackets_depth, blocks_depth}
-use Rattle.oc_grammar.specs.Lexemes.{Lexemes, lexemes_of}
+use Rattle.oc_grammar.specs.Lexemes.{Lexemes, says, lexemes_in}
 use Rattle.oc_grammar.specs.Reading.{Fault, syntax_fault, depth_fault, Read}
 use Rattle.oc_grammar.specs.ReadingExpressions.{ReadExpr}
-use Rattle.std.specs.Prelude.{Bool, false}
+use Rattle.std.specs.Prelude.{Bool, false, ◌&&◌}
 use Rattle.oc_lex.specs.declared.token.Kind.{Kind}
 use Rattle.oc_lex.specs.declared.token.Kind.TheVariants as kinds
 use Rattle.oc_lex.specs.declared.token.Mark.{Mark}
@@ -29,7 +29,7 @@ use Rattle.oc_grammar.specs.ReadingStatements as reading
 
 -- the tokens that are left
 abbrev pub left : Reader → Lexemes
-left r = lexemes_of r.source.now r.rest.now
+left r = lexemes_in r.atomic r.source.now r.rest.now
 
 -- reading stops with the same fault, or for want of memory
 abbrev pub Stopped : {Y : Type 0} → Stop → Result Y Fault → Type 0
@@ -56,9 +56,9 @@ abbrev pub mark_is : Mark → Kind → Bool
 mark_is m (kinds.Mark k) = same_mark k m
 mark_is m _ = false
 
-abbrev pub word_is : Word → Kind → Bool
-word_is w (kinds.Word k) = same_word k w
-word_is w _ = false
+abbrev pub word_is : Bool → Word → Kind → Bool
+word_is atomic w (kinds.Word k) = says atomic k && same_word k w
+word_is atomic w _ = false
 
 abbrev pub kind_operator : ℕ → Kind → Option BinaryOp
 kind_operator level (kinds.Mark m) = at_level level (mark_operator m)

@@ -32,7 +32,8 @@ impl Reader<'_> {
     #[cycle(expression)]
     #[tactic(auto, unfolding(oc_grammar::specs::ReadingExpressions::unary_here, oc_grammar::specs::ReadingExpressions::named_at))]
     fn unary(&mut self, room: u32, operators: &mut u32) -> Result<Expr, Stop>
-        ensures exact { ReadsExpr expr_view result operators.new (left self.new) (unary_here the_depths room operators.old (left self.old)) }
+        ensures exact { ReadsExpr expr_view result operators.new (left self.new)
+            (unary_here the_depths room operators.old (left self.old)) }
         ensures shorter { OnOk result (length self.new.rest.now < length self.old.rest.now) }
     {
         let token = self.next()?;
@@ -68,7 +69,8 @@ impl Reader<'_> {
     #[cycle(expression)]
     #[tactic(auto, unfolding(oc_grammar::specs::ReadingExpressions::named_at))]
     fn named(&mut self, room: u32, operators: &mut u32, name: Name) -> Result<Expr, Stop>
-        ensures exact { ReadsExpr expr_view result operators.new (left self.new) (named_at the_depths room name operators.old (left self.old)) }
+        ensures exact { ReadsExpr expr_view result operators.new (left self.new)
+            (named_at the_depths room name operators.old (left self.old)) }
         ensures shorter { OnOk result (length self.new.rest.now ≤ length self.old.rest.now) }
     {
         if self.take(Mark::OpenRound) {
@@ -94,7 +96,8 @@ impl Reader<'_> {
     #[cycle(expression)]
     #[tactic(auto, unfolding(oc_grammar::specs::ReadingExpressions::prefixed_at))]
     fn prefixed(&mut self, room: u32, operators: &mut u32, op: UnaryOp) -> Result<Expr, Stop>
-        ensures exact { ReadsExpr expr_view result operators.new (left self.new) (prefix_by (prefixed_at the_depths room) op operators.old (left self.old)) }
+        ensures exact { ReadsExpr expr_view result operators.new (left self.new)
+            (prefix_by (prefixed_at the_depths room) op operators.old (left self.old)) }
         ensures shorter { OnOk result (length self.new.rest.now < length self.old.rest.now) }
     {
         if room == 0 {
@@ -111,7 +114,8 @@ impl Reader<'_> {
     #[cycle(expression)]
     #[tactic(auto, unfolding(oc_grammar::specs::ReadingExpressions::inner_at))]
     fn inner(&mut self, room: u32, operators: &mut u32) -> Result<Expr, Stop>
-        ensures exact { ReadsExpr expr_view result operators.new (left self.new) (inner_at the_depths room operators.old (left self.old)) }
+        ensures exact { ReadsExpr expr_view result operators.new (left self.new)
+            (inner_at the_depths room operators.old (left self.old)) }
         ensures shorter { OnOk result (length self.new.rest.now < length self.old.rest.now) }
     {
         if room == 0 {
@@ -124,7 +128,8 @@ impl Reader<'_> {
     #[cycle(expression)]
     #[tactic(auto, unfolding(oc_grammar::specs::ReadingExpressions::inner_args_at))]
     fn inner_args(&mut self, room: u32) -> Result<Vec<Arg>, Stop>
-        ensures exact { Reads (λ args. map arg_view args.items) result (left self.new) (inner_args_at the_depths room (left self.old)) }
+        ensures exact { Reads (λ args. map arg_view args.items) result (left self.new)
+            (inner_args_at the_depths room (left self.old)) }
         ensures shorter { OnOk result (length self.new.rest.now < length self.old.rest.now) }
     {
         if room == 0 {
@@ -136,7 +141,8 @@ impl Reader<'_> {
     /// Takes the sensor and the `)` behind the `(` just taken, in an expression.
     #[tactic(auto, unfolding(oc_grammar::specs::ReadingExpressions::inner_sensor_at))]
     fn inner_sensor(&mut self, room: u32) -> Result<Name, Stop>
-        ensures exact { Reads (λ x. x) result (left self.new) (inner_sensor_at room (left self.old)) }
+        ensures exact { Reads (λ x. x) result (left self.new)
+            (inner_sensor_at room (left self.old)) }
         ensures shorter { OnOk result (length self.new.rest.now < length self.old.rest.now) }
     {
         if room == 0 {
@@ -159,7 +165,8 @@ impl Reader<'_> {
     /// Takes the arguments of a call up to its `)`, where brackets have this room.
     #[cycle(expression)]
     pub fn args(&mut self, room: u32) -> Result<Vec<Arg>, Stop>
-        ensures exact { Reads (λ args. map arg_view args.items) result (left self.new) (args_at the_depths room (left self.old)) }
+        ensures exact { Reads (λ args. map arg_view args.items) result (left self.new)
+            (args_at the_depths room (left self.old)) }
         ensures shorter { OnOk result (length self.new.rest.now < length self.old.rest.now) }
     {
         let mut args = Vec::new(self.alloc);
@@ -176,7 +183,8 @@ impl Reader<'_> {
     #[cycle(expression)]
     #[tactic(auto, unfolding(oc_grammar::specs::ReadingExpressions::arg_at, oc_grammar::specs::ReadingExpressions::part_at, oc_grammar::specs::Reading::take_word))]
     fn arg(&mut self, room: u32) -> Result<Arg, Stop>
-        ensures exact { Reads arg_view result (left self.new) (arg_at the_depths room (left self.old)) }
+        ensures exact { Reads arg_view result (left self.new)
+            (arg_at the_depths room (left self.old)) }
         ensures shorter { OnOk result (length self.new.rest.now < length self.old.rest.now) }
     {
         if !self.take(Mark::Ampersand) {
@@ -195,7 +203,8 @@ impl Reader<'_> {
     #[cycle(expression)]
     #[tactic(auto, unfolding(oc_grammar::specs::ReadingExpressions::part_at))]
     fn part(&mut self, room: u32) -> Result<Expr, Stop>
-        ensures exact { Reads expr_view result (left self.new) (part_at the_depths room (left self.old)) }
+        ensures exact { Reads expr_view result (left self.new)
+            (part_at the_depths room (left self.old)) }
         ensures shorter { OnOk result (length self.new.rest.now < length self.old.rest.now) }
     {
         let mut operators = OPERATORS;
@@ -208,7 +217,8 @@ impl Reader<'_> {
     #[tactic(auto, unfolding(oc_grammar::specs::ReadingExpressions::levels))]
     fn level(&mut self, room: u32, operators: &mut u32, level: u32) -> Result<Expr, Stop>
         requires { level ≤ 5 }
-        ensures exact { ReadsExpr expr_view result operators.new (left self.new) (level_at the_depths level room operators.old (left self.old)) }
+        ensures exact { ReadsExpr expr_view result operators.new (left self.new)
+            (level_at the_depths level room operators.old (left self.old)) }
         ensures shorter { OnOk result (length self.new.rest.now < length self.old.rest.now) }
     {
         if level == UNARY {
@@ -233,7 +243,8 @@ impl Reader<'_> {
     #[cycle(expression)]
     #[tactic(auto, unfolding(oc_grammar::specs::ReadingExpressions::levels, oc_grammar::specs::ReadingExpressions::chain))]
     fn comparison(&mut self, room: u32, operators: &mut u32) -> Result<Expr, Stop>
-        ensures exact { ReadsExpr expr_view result operators.new (left self.new) (level_at the_depths 3 room operators.old (left self.old)) }
+        ensures exact { ReadsExpr expr_view result operators.new (left self.new)
+            (level_at the_depths 3 room operators.old (left self.old)) }
         ensures shorter { OnOk result (length self.new.rest.now < length self.old.rest.now) }
     {
         let left = self.level(room, operators, COMPARISON - 1)?;
@@ -252,7 +263,8 @@ impl Reader<'_> {
     /// Takes a whole expression.
     #[tactic(auto, unfolding(oc_grammar::specs::ReadingExpressions::whole_at))]
     pub fn expression(&mut self) -> Result<Expr, Stop>
-        ensures exact { Reads expr_view result (left self.new) (whole_at the_depths (left self.old)) }
+        ensures exact { Reads expr_view result (left self.new)
+            (whole_at the_depths (left self.old)) }
         ensures shorter { OnOk result (length self.new.rest.now < length self.old.rest.now) }
     {
         self.part(BRACKETS)

@@ -49,7 +49,8 @@ impl Reader<'_> {
 
     /// Takes the parameters of a function up to their `)`.
     fn params(&mut self) -> Result<Vec<Param>, Stop>
-        ensures exact { Reads (λ params. params.items) result (left self.new) (params_at (left self.old)) }
+        ensures exact { Reads (λ params. params.items) result (left self.new)
+            (params_at (left self.old)) }
         ensures shorter { OnOk result (length self.new.rest.now < length self.old.rest.now) }
     {
         let mut params = Vec::new(self.alloc);
@@ -139,7 +140,9 @@ impl Reader<'_> {
 }
 
 fn add_sensor(program: &mut Program, line: u32, name: Name) -> Result<(), Stop>
-    ensures { MatchResult result (λ x. program_view program.new ≡ with_sensor line name (program_view program.old)) (λ e. e ≡ Stop.Memory) }
+    ensures { MatchResult result
+        (λ x. program_view program.new ≡ with_sensor line name (program_view program.old))
+        (λ e. e ≡ Stop.Memory) }
 {
     program.names.sensors.push(name)?;
     let kind = DeclKind::Sensor;
@@ -148,7 +151,9 @@ fn add_sensor(program: &mut Program, line: u32, name: Name) -> Result<(), Stop>
 }
 
 fn add_port(program: &mut Program, line: u32, name: Name) -> Result<(), Stop>
-    ensures { MatchResult result (λ x. program_view program.new ≡ with_port line name (program_view program.old)) (λ e. e ≡ Stop.Memory) }
+    ensures { MatchResult result
+        (λ x. program_view program.new ≡ with_port line name (program_view program.old))
+        (λ e. e ≡ Stop.Memory) }
 {
     program.names.ports.push(name)?;
     let kind = DeclKind::Port;
@@ -157,7 +162,9 @@ fn add_port(program: &mut Program, line: u32, name: Name) -> Result<(), Stop>
 }
 
 fn add_nv(program: &mut Program, line: u32, name: Name, declaration: NvDecl) -> Result<(), Stop>
-    ensures { MatchResult result (λ x. program_view program.new ≡ with_nv line name declaration (program_view program.old)) (λ e. e ≡ Stop.Memory) }
+    ensures { MatchResult result
+        (λ x. program_view program.new ≡ with_nv line name declaration (program_view program.old))
+        (λ e. e ≡ Stop.Memory) }
 {
     program.names.nvs.push(name)?;
     program.nv.push(declaration)?;
@@ -167,7 +174,10 @@ fn add_nv(program: &mut Program, line: u32, name: Name, declaration: NvDecl) -> 
 }
 
 fn add_function(program: &mut Program, function: Function) -> Result<(), Stop>
-    ensures { MatchResult result (λ x. program_view program.new ≡ with_function (function_view function) (program_view program.old)) (λ e. e ≡ Stop.Memory) }
+    ensures { MatchResult result
+        (λ x. program_view program.new
+        ≡ with_function (function_view function) (program_view program.old))
+        (λ e. e ≡ Stop.Memory) }
 {
     let kind = DeclKind::Function;
     let line = function.line;
@@ -181,9 +191,11 @@ impl Parser<'_> {
     #[tactic(auto, unfolding(oc_grammar::specs::ReadingPrograms::function_at))]
     fn function(&mut self, line: u32) -> Result<Function, Stop>
         requires { Fits self.old }
-        ensures exact { ReadsTo function_view result self.new (from (function_at the_depths line) self.old) }
+        ensures exact { ReadsTo function_view result self.new
+            (from (function_at the_depths line) self.old) }
         ensures fits { OnOk result (Fits self.new) }
-        ensures shorter { OnOk result (length self.new.reader.rest.now < length self.old.reader.rest.now) }
+        ensures shorter { OnOk result
+            (length self.new.reader.rest.now < length self.old.reader.rest.now) }
     {
         let name = self.reader.name()?;
         self.reader.expect(Mark::OpenRound)?;
@@ -203,9 +215,11 @@ impl Parser<'_> {
     #[tactic(auto, unfolding(oc_grammar::specs::ReadingPrograms::item_at))]
     pub fn item(&mut self, program: &mut Program) -> Result<(), Stop>
         requires { Fits self.old }
-        ensures exact { ReadsTo (λ x. program_view program.new) result self.new (from (item_at the_depths (program_view program.old)) self.old) }
+        ensures exact { ReadsTo (λ x. program_view program.new) result self.new
+            (from (item_at the_depths (program_view program.old)) self.old) }
         ensures fits { OnOk result (Fits self.new) }
-        ensures shorter { OnOk result (length self.new.reader.rest.now < length self.old.reader.rest.now) }
+        ensures shorter { OnOk result
+            (length self.new.reader.rest.now < length self.old.reader.rest.now) }
     {
         let token = self.reader.next()?;
         match token.kind {

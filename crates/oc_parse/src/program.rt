@@ -1,5 +1,5 @@
 //! Whole programs.
-ghost use Rattle.std.specs.Prelude.{◌≡◌, ◌≤◌, ◌-◌, ℕ, List, length, IfOk, MatchResult};
+ghost use Rattle.std.specs.Prelude.{◌≡◌, ◌≤◌, ◌-◌, ℕ, Bool, List, length, IfOk, MatchResult};
 ghost use Rattle.oc_tree.specs.Tree.{TProgram};
 ghost use Rattle.oc_tree.specs.Nodes.{program_nodes};
 ghost use Rattle.oc_tree.specs.View.{program_view};
@@ -7,7 +7,7 @@ ghost use Rattle.oc_lex.specs.Tokens.{AreTokens};
 ghost use Rattle.oc_lex.specs.Stands.{IsName};
 ghost use Rattle.oc_tree.specs.Form.{InForm};
 ghost use Rattle.oc_grammar.specs.Limits.{the_depths};
-ghost use Rattle.oc_grammar.specs.Lexemes.{last_line as last_line_of, lexemes_of};
+ghost use Rattle.oc_grammar.specs.Lexemes.{last_line as last_line_of, lexemes_in, lexemes_of};
 ghost use Rattle.oc_grammar.specs.Programs.{SpellsProgram, empty_program};
 ghost use Rattle.oc_grammar.specs.ReadingPrograms.{program_at};
 ghost use Rattle.oc_parse.specs.Steps.{Whole, Faults};
@@ -41,9 +41,11 @@ pub fn parse(alloc: Global, source: &[u8], tokens: &[Token]) -> Result<Program, 
     requires tokens { AreTokens source.now tokens.now }
     requires small { length source.now ≤ 1048576 }
     // What comes with Ok is spelled by the tokens.
-    ensures found { IfOk result (λ p. SpellsProgram the_depths (program_view p) (lexemes_of source.now tokens.now)) }
+    ensures found { IfOk result
+        (λ p. SpellsProgram the_depths (program_view p) (lexemes_of source.now tokens.now)) }
     // What the tokens spell comes, unless memory runs out.
-    ensures only { (p : TProgram) → SpellsProgram the_depths p (lexemes_of source.now tokens.now) → MatchResult result (λ q. program_view q ≡ p) (λ e. e ≡ ParseError.Memory) }
+    ensures only { (p : TProgram) → SpellsProgram the_depths p (lexemes_of source.now tokens.now)
+        → MatchResult result (λ q. program_view q ≡ p) (λ e. e ≡ ParseError.Memory) }
     // It is in form: names, numbers and the places of declarations are those of the language, and
     // statements and blocks are numbered in source order.
     ensures form { IfOk result (λ p. InForm IsName (program_view p)) }
@@ -54,7 +56,7 @@ pub fn parse(alloc: Global, source: &[u8], tokens: &[Token]) -> Result<Program, 
     // passes a depth while a program begins up to and with it.
     ensures fault { Faults result (lexemes_of source.now tokens.now) }
 {
-    match whole(alloc, source, tokens) {
+    match whole(alloc, source, tokens, false) {
         Ok(program) => Ok(program),
         Err(Stop::Memory) => Err(ParseError::Memory),
         Err(Stop::Syntax { left }) => Err(ParseError::Syntax {
@@ -79,15 +81,16 @@ fn place(tokens: &[Token], left: usize) -> usize
     tokens.len().saturating_sub(left)
 }
 
-fn whole(alloc: Global, source: &[u8], tokens: &[Token]) -> Result<Program, Stop>
+fn whole(alloc: Global, source: &[u8], tokens: &[Token], atomic: bool) -> Result<Program, Stop>
     requires { length tokens.now ≤ 1048576 }
-    ensures { Whole result (program_at the_depths (lexemes_of source.now tokens.now)) }
+    ensures { Whole result (program_at the_depths (lexemes_in atomic source.now tokens.now)) }
 {
     let mut program = empty(alloc, last_line(tokens));
     let reader = Reader {
         alloc,
         source,
         rest: tokens,
+        atomic,
     };
     let mut parser = Parser {
         reader,
@@ -102,7 +105,8 @@ fn whole(alloc: Global, source: &[u8], tokens: &[Token]) -> Result<Program, Stop
 
 /// The line of the last token, or 1 where there is none.
 fn last_line(tokens: &[Token]) -> u32
-    ensures { (source : List ℕ) → result ≡ last_line_of (lexemes_of source tokens.now) }
+    ensures { (atomic : Bool) (source : List ℕ)
+        → result ≡ last_line_of (lexemes_in atomic source tokens.now) }
 {
     match tokens {
         [] => 1,

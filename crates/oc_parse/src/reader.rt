@@ -3,7 +3,7 @@ ghost use Rattle.std.specs.Prelude.{◌≡◌, suc, ◌+◌, length, Ok, Some, N
 ghost use Rattle.oc_grammar.specs.Reading.{next_at, strip_mark, strip_word, expect_mark, expect_word, name_at, number_at, take_word, operator_front};
 ghost use Rattle.oc_grammar.specs.ReadingExpressions.{spend_at};
 ghost use Rattle.std.specs.Bool.{OnFalse};
-ghost use Rattle.oc_grammar.specs.Lexemes.{lexeme_of};
+ghost use Rattle.oc_grammar.specs.Lexemes.{lexeme_of, says};
 ghost use Rattle.oc_parse.specs.Steps.{Reads, ReadsOver, Stopped, left, mark_is, word_is, kind_operator};
 
 use crate::stop::Stop;
@@ -18,6 +18,8 @@ pub struct Reader<'a> {
     pub alloc: Global,
     pub source: &'a [u8],
     pub rest: &'a [Token],
+    /// Whether `atomic` is a word of the grammar.
+    pub atomic: bool,
 }
 
 /// The operator that a token is, if it is one of this level.
@@ -52,11 +54,20 @@ fn is_mark(token: Token, mark: Mark) -> bool
     }
 }
 
-fn is_word(token: Token, word: Word) -> bool
-    ensures { result ≡ word_is word token.kind }
+fn says(atomic: bool, word: Word) -> bool
+    ensures { result ≡ says atomic word }
+{
+    match word {
+        Word::Atomic => atomic,
+        _ => true,
+    }
+}
+
+fn is_word(atomic: bool, token: Token, word: Word) -> bool
+    ensures { result ≡ word_is atomic word token.kind }
 {
     match token.kind {
-        Kind::Word(found) => found == word,
+        Kind::Word(found) => says(atomic, found) && found == word,
         _ => false,
     }
 }
@@ -74,7 +85,8 @@ impl Reader<'_> {
     /// Takes the token in front.
     #[tactic(auto, unfolding(oc_grammar::specs::Reading::next_at))]
     pub fn next(&mut self) -> Result<Token, Stop>
-        ensures exact { Reads (lexeme_of self.new.source.now) result (left self.new) (next_at (left self.old)) }
+        ensures exact { Reads (lexeme_of self.new.atomic self.new.source.now) result (left self.new)
+            (next_at (left self.old)) }
         ensures shorter { OnOk result (length self.new.rest.now + 1 ≡ length self.old.rest.now) }
     {
         match self.rest {
@@ -89,9 +101,11 @@ impl Reader<'_> {
     /// Takes this mark, if it is in front.
     #[tactic(auto, unfolding(oc_grammar::specs::Reading::strip_mark))]
     pub fn take(&mut self, mark: Mark) -> bool
-        ensures exact { MatchBool result (strip_mark mark (left self.old) ≡ Some (left self.new)) (strip_mark mark (left self.old) ≡ None) }
+        ensures exact { MatchBool result (strip_mark mark (left self.old) ≡ Some (left self.new))
+            (strip_mark mark (left self.old) ≡ None) }
         ensures kept { OnFalse result (left self.new ≡ left self.old) }
-        ensures shorter { MatchBool result (length self.new.rest.now + 1 ≡ length self.old.rest.now) (length self.new.rest.now ≡ length self.old.rest.now) }
+        ensures shorter { MatchBool result (length self.new.rest.now + 1 ≡ length self.old.rest.now)
+            (length self.new.rest.now ≡ length self.old.rest.now) }
     {
         let [token, rest @ ..] = self.rest else {
             return false;
@@ -107,14 +121,16 @@ impl Reader<'_> {
     #[tactic(auto, unfolding(oc_grammar::specs::Reading::strip_word, oc_grammar::specs::Reading::take_word))]
     pub fn take_word(&mut self, word: Word) -> bool
         ensures pair { (result, left self.new) ≡ take_word word (left self.old) }
-        ensures exact { MatchBool result (strip_word word (left self.old) ≡ Some (left self.new)) (strip_word word (left self.old) ≡ None) }
+        ensures exact { MatchBool result (strip_word word (left self.old) ≡ Some (left self.new))
+            (strip_word word (left self.old) ≡ None) }
         ensures kept { OnFalse result (left self.new ≡ left self.old) }
-        ensures shorter { MatchBool result (length self.new.rest.now + 1 ≡ length self.old.rest.now) (length self.new.rest.now ≡ length self.old.rest.now) }
+        ensures shorter { MatchBool result (length self.new.rest.now + 1 ≡ length self.old.rest.now)
+            (length self.new.rest.now ≡ length self.old.rest.now) }
     {
         let [token, rest @ ..] = self.rest else {
             return false;
         };
-        let found = is_word(*token, word);
+        let found = is_word(self.atomic, *token, word);
         if found {
             self.rest = rest;
         }
@@ -174,7 +190,9 @@ impl Reader<'_> {
 
     /// The name that a token is.
     pub fn name_of(&self, token: Token) -> Result<Name, Stop>
-        ensures { MatchResult result (λ name. name ≡ slice_range self.now.source.now token.start token.end) (λ e. e ≡ Stop.Memory) }
+        ensures { MatchResult result
+            (λ name. name ≡ slice_range self.now.source.now token.start token.end)
+            (λ e. e ≡ Stop.Memory) }
     {
         let bytes = self.text(token).iter().copied().collect(self.alloc)?;
         Ok(Name::new(bytes))
@@ -200,9 +218,11 @@ impl Reader<'_> {
     /// Takes an operator of this level, if one is in front.
     #[tactic(auto, unfolding(oc_grammar::specs::Reading::operator_front))]
     pub fn operator(&mut self, level: u32) -> Option<BinaryOp>
-        ensures exact { MatchOption result (operator_front level (left self.old) ≡ None) (λ op. operator_front level (left self.old) ≡ Some (op, left self.new)) }
+        ensures exact { MatchOption result (operator_front level (left self.old) ≡ None)
+            (λ op. operator_front level (left self.old) ≡ Some (op, left self.new)) }
         ensures kept { IfNone result (left self.new ≡ left self.old) }
-        ensures shorter { IfSome result (λ op. length self.new.rest.now + 1 ≡ length self.old.rest.now) }
+        ensures shorter { IfSome result
+            (λ op. length self.new.rest.now + 1 ≡ length self.old.rest.now) }
     {
         let [token, rest @ ..] = self.rest else {
             return None;
@@ -256,14 +276,16 @@ impl Reader<'_> {
         let [token, ..] = self.rest else {
             return false;
         };
-        is_word(*token, word)
+        is_word(self.atomic, *token, word)
     }
 
     /// Takes one from the binary operators that an expression may still have, for the operator just
     /// taken.
     #[tactic(auto, unfolding(oc_grammar::specs::ReadingExpressions::spend_at))]
     pub fn spend(&self, operators: &mut u32) -> Result<(), Stop>
-        ensures { MatchResult result (λ x. spend_at operators.old (left self.now) ≡ Ok operators.new) (λ e. Stopped e (spend_at operators.old (left self.now))) }
+        ensures { MatchResult result
+            (λ x. spend_at operators.old (left self.now) ≡ Ok operators.new)
+            (λ e. Stopped e (spend_at operators.old (left self.now))) }
     {
         if *operators == 0 {
             return Err(Stop::Operators {

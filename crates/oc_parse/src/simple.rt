@@ -73,7 +73,8 @@ impl Reader<'_> {
     /// Takes a right side and the `;`.
     #[tactic(auto, unfolding(oc_grammar::specs::ReadingStatements::right_at))]
     fn right(&mut self) -> Result<Right, Stop>
-        ensures exact { Reads right_view result (left self.new) (right_at the_depths (left self.old)) }
+        ensures exact { Reads right_view result (left self.new)
+            (right_at the_depths (left self.old)) }
         ensures shorter { OnOk result (length self.new.rest.now < length self.old.rest.now) }
     {
         let value = self.expression()?;
@@ -115,7 +116,8 @@ impl Reader<'_> {
         name: Name,
         kind: Option<ValueKind>,
     ) -> Result<StmtKind, Stop>
-        ensures exact { Reads kind_view result (left self.new) (bind_at the_depths mutable name kind (left self.old)) }
+        ensures exact { Reads kind_view result (left self.new)
+            (bind_at the_depths mutable name kind (left self.old)) }
         ensures shorter { OnOk result (length self.new.rest.now < length self.old.rest.now) }
     {
         if self.take(Mark::OpenSquare) {
@@ -133,7 +135,8 @@ impl Reader<'_> {
     /// Takes the words of a new array behind the `[`.
     #[tactic(auto, unfolding(oc_grammar::specs::ReadingStatements::fill_at))]
     fn fill(&mut self, mutable: bool, name: Name, kind: Option<ValueKind>) -> Result<StmtKind, Stop>
-        ensures exact { Reads kind_view result (left self.new) (fill_at mutable name kind (left self.old)) }
+        ensures exact { Reads kind_view result (left self.new)
+            (fill_at mutable name kind (left self.old)) }
         ensures shorter { OnOk result (length self.new.rest.now < length self.old.rest.now) }
     {
         let initial = self.constant()?;
@@ -153,7 +156,8 @@ impl Reader<'_> {
     /// Takes a call or an assignment behind its name.
     #[tactic(auto, unfolding(oc_grammar::specs::ReadingStatements::set_at))]
     fn named_statement(&mut self, name: Name) -> Result<StmtKind, Stop>
-        ensures exact { Reads kind_view result (left self.new) (set_at the_depths name (left self.old)) }
+        ensures exact { Reads kind_view result (left self.new)
+            (set_at the_depths name (left self.old)) }
         ensures shorter { OnOk result (length self.new.rest.now < length self.old.rest.now) }
     {
         if self.take(Mark::OpenRound) {
@@ -168,7 +172,8 @@ impl Reader<'_> {
 
     #[tactic(auto, unfolding(oc_grammar::specs::ReadingStatements::call_at))]
     fn call_statement(&mut self, function: Name) -> Result<StmtKind, Stop>
-        ensures exact { Reads kind_view result (left self.new) (call_at the_depths function (left self.old)) }
+        ensures exact { Reads kind_view result (left self.new)
+            (call_at the_depths function (left self.old)) }
         ensures shorter { OnOk result (length self.new.rest.now < length self.old.rest.now) }
     {
         let args = self.args(BRACKETS)?;
@@ -179,7 +184,8 @@ impl Reader<'_> {
 
     #[tactic(auto, unfolding(oc_grammar::specs::ReadingStatements::element_to_at))]
     fn element_assignment(&mut self, name: Name) -> Result<StmtKind, Stop>
-        ensures exact { Reads kind_view result (left self.new) (element_to_at the_depths name (left self.old)) }
+        ensures exact { Reads kind_view result (left self.new)
+            (element_to_at the_depths name (left self.old)) }
         ensures shorter { OnOk result (length self.new.rest.now < length self.old.rest.now) }
     {
         let index = self.expression()?;
@@ -191,7 +197,8 @@ impl Reader<'_> {
 
     #[tactic(auto, unfolding(oc_grammar::specs::ReadingStatements::assign_at))]
     fn assignment(&mut self, name: Name) -> Result<StmtKind, Stop>
-        ensures exact { Reads kind_view result (left self.new) (assign_at the_depths name (left self.old)) }
+        ensures exact { Reads kind_view result (left self.new)
+            (assign_at the_depths name (left self.old)) }
         ensures shorter { OnOk result (length self.new.rest.now < length self.old.rest.now) }
     {
         let right = self.right()?;
@@ -201,7 +208,8 @@ impl Reader<'_> {
     /// Takes an assignment through a reference behind its `*`.
     #[tactic(auto, unfolding(oc_grammar::specs::ReadingStatements::target_at))]
     fn target_assignment(&mut self) -> Result<StmtKind, Stop>
-        ensures exact { Reads kind_view result (left self.new) (target_at the_depths (left self.old)) }
+        ensures exact { Reads kind_view result (left self.new)
+            (target_at the_depths (left self.old)) }
         ensures shorter { OnOk result (length self.new.rest.now < length self.old.rest.now) }
     {
         let name = self.name()?;
@@ -224,7 +232,8 @@ impl Reader<'_> {
 
     #[tactic(auto, unfolding(oc_grammar::specs::ReadingStatements::emit_at))]
     fn emit_statement(&mut self) -> Result<StmtKind, Stop>
-        ensures exact { Reads kind_view result (left self.new) (emit_at the_depths (left self.old)) }
+        ensures exact { Reads kind_view result (left self.new)
+            (emit_at the_depths (left self.old)) }
         ensures shorter { OnOk result (length self.new.rest.now < length self.old.rest.now) }
     {
         self.expect(Mark::OpenRound)?;
@@ -264,7 +273,8 @@ impl Reader<'_> {
 
     #[tactic(auto, unfolding(oc_grammar::specs::ReadingStatements::return_at))]
     fn return_statement(&mut self) -> Result<StmtKind, Stop>
-        ensures exact { Reads kind_view result (left self.new) (return_at the_depths (left self.old)) }
+        ensures exact { Reads kind_view result (left self.new)
+            (return_at the_depths (left self.old)) }
         ensures shorter { OnOk result (length self.new.rest.now < length self.old.rest.now) }
     {
         let value = self.expression()?;
@@ -274,7 +284,9 @@ impl Reader<'_> {
 
     /// Takes a statement without blocks, whose first token was just taken.
     pub fn simple(&mut self, token: Token) -> Result<StmtKind, Stop>
-        ensures exact { Reads kind_view result (left self.new) (simple_from the_depths (lexeme_of self.old.source.now token) (left self.old)) }
+        ensures exact { Reads kind_view result (left self.new)
+            (simple_from the_depths (lexeme_of self.old.atomic self.old.source.now token)
+            (left self.old)) }
         ensures shorter { OnOk result (length self.new.rest.now < length self.old.rest.now) }
     {
         match token.kind {

@@ -3,13 +3,13 @@ ghost use Rattle.std.specs.Prelude.{◌≡◌, ◌+◌, ◌<◌, ◌≤◌, leng
 ghost use Rattle.oc_tree.specs.View.{block_view, else_view, kind_view, stmt_view, stmts_view};
 ghost use Rattle.oc_grammar.specs.Limits.{the_depths};
 ghost use Rattle.oc_grammar.specs.Lexemes.{lexeme_of};
-ghost use Rattle.oc_grammar.specs.ReadingStatements.{kind_by, if_by, for_by, while_by, stmt_here, stmt_at, stmts_at, block_at, chained_at, else_at};
+ghost use Rattle.oc_grammar.specs.ReadingStatements.{kind_by, if_by, for_by, while_by, atomic_by, stmt_here, stmt_at, stmts_at, block_at, chained_at, else_at};
 ghost use Rattle.oc_parse.specs.Steps.{Fits, ReadsTo, from, left};
 
 use crate::reader::Reader;
 use crate::stop::Stop;
 use oc_lex::{Kind, Mark, Token, Word};
-use oc_tree::tree::{Block, Stmt, StmtKind};
+use oc_tree::tree::{Block, Expr, Stmt, StmtKind};
 
 /// How many blocks may be in one another.
 pub const BLOCKS: u32 = 32;
@@ -28,9 +28,11 @@ impl Parser<'_> {
     #[tactic(auto, unfolding(oc_grammar::specs::ReadingStatements::stmt_here))]
     fn statement(&mut self, room: u32) -> Result<Stmt, Stop>
         requires { Fits self.old }
-        ensures exact { ReadsTo stmt_view result self.new (from (stmt_here the_depths room) self.old) }
+        ensures exact { ReadsTo stmt_view result self.new
+            (from (stmt_here the_depths room) self.old) }
         ensures fits { OnOk result (Fits self.new) }
-        ensures shorter { OnOk result (length self.new.reader.rest.now < length self.old.reader.rest.now) }
+        ensures shorter { OnOk result
+            (length self.new.reader.rest.now < length self.old.reader.rest.now) }
     {
         let token = self.reader.next()?;
         let id = self.statements;
@@ -47,14 +49,24 @@ impl Parser<'_> {
     #[cycle(statement)]
     fn kind(&mut self, room: u32, token: Token) -> Result<StmtKind, Stop>
         requires { Fits self.old }
-        ensures exact { ReadsTo kind_view result self.new (from (kind_by the_depths (block_at the_depths room) (else_at the_depths room) (lexeme_of self.old.reader.source.now token)) self.old) }
+        ensures exact { ReadsTo kind_view result self.new
+            (from (kind_by the_depths (block_at the_depths room) (else_at the_depths room)
+            (lexeme_of self.old.reader.atomic self.old.reader.source.now token)) self.old) }
         ensures fits { OnOk result (Fits self.new) }
-        ensures shorter { OnOk result (length self.new.reader.rest.now < length self.old.reader.rest.now) }
+        ensures shorter { OnOk result
+            (length self.new.reader.rest.now < length self.old.reader.rest.now) }
     {
         match token.kind {
             Kind::Word(Word::If) => self.if_statement(room),
             Kind::Word(Word::For) => self.for_statement(room),
             Kind::Word(Word::While) => self.while_statement(room),
+            Kind::Word(Word::Atomic) => {
+                if self.reader.atomic {
+                    self.atomic_statement(room)
+                } else {
+                    Err(self.reader.refuse_last())
+                }
+            }
             _ => {
                 let kind = self.reader.simple(token)?;
                 Ok(kind)
@@ -66,9 +78,12 @@ impl Parser<'_> {
     #[tactic(auto, unfolding(oc_grammar::specs::ReadingStatements::if_by))]
     fn if_statement(&mut self, room: u32) -> Result<StmtKind, Stop>
         requires { Fits self.old }
-        ensures exact { ReadsTo kind_view result self.new (from (if_by the_depths (block_at the_depths room) (else_at the_depths room)) self.old) }
+        ensures exact { ReadsTo kind_view result self.new
+            (from (if_by the_depths (block_at the_depths room) (else_at the_depths room))
+            self.old) }
         ensures fits { OnOk result (Fits self.new) }
-        ensures shorter { OnOk result (length self.new.reader.rest.now < length self.old.reader.rest.now) }
+        ensures shorter { OnOk result
+            (length self.new.reader.rest.now < length self.old.reader.rest.now) }
     {
         let condition = self.reader.expression()?;
         let then = self.block(room)?;
@@ -84,9 +99,11 @@ impl Parser<'_> {
     #[tactic(auto, unfolding(oc_grammar::specs::ReadingStatements::for_by))]
     fn for_statement(&mut self, room: u32) -> Result<StmtKind, Stop>
         requires { Fits self.old }
-        ensures exact { ReadsTo kind_view result self.new (from (for_by (block_at the_depths room)) self.old) }
+        ensures exact { ReadsTo kind_view result self.new
+            (from (for_by (block_at the_depths room)) self.old) }
         ensures fits { OnOk result (Fits self.new) }
-        ensures shorter { OnOk result (length self.new.reader.rest.now < length self.old.reader.rest.now) }
+        ensures shorter { OnOk result
+            (length self.new.reader.rest.now < length self.old.reader.rest.now) }
     {
         let name = self.reader.name()?;
         self.reader.expect_word(Word::In)?;
@@ -106,9 +123,11 @@ impl Parser<'_> {
     #[tactic(auto, unfolding(oc_grammar::specs::ReadingStatements::while_by))]
     fn while_statement(&mut self, room: u32) -> Result<StmtKind, Stop>
         requires { Fits self.old }
-        ensures exact { ReadsTo kind_view result self.new (from (while_by the_depths (block_at the_depths room)) self.old) }
+        ensures exact { ReadsTo kind_view result self.new
+            (from (while_by the_depths (block_at the_depths room)) self.old) }
         ensures fits { OnOk result (Fits self.new) }
-        ensures shorter { OnOk result (length self.new.reader.rest.now < length self.old.reader.rest.now) }
+        ensures shorter { OnOk result
+            (length self.new.reader.rest.now < length self.old.reader.rest.now) }
     {
         let condition = self.reader.expression()?;
         self.reader.expect_word(Word::Bound)?;
@@ -121,14 +140,35 @@ impl Parser<'_> {
         })
     }
 
+    /// Takes the block of an `atomic`.
+    #[cycle(statement)]
+    #[tactic(auto, unfolding(oc_grammar::specs::ReadingStatements::atomic_by))]
+    fn atomic_statement(&mut self, room: u32) -> Result<StmtKind, Stop>
+        requires { Fits self.old }
+        ensures exact { ReadsTo kind_view result self.new
+            (from (atomic_by (block_at the_depths room)) self.old) }
+        ensures fits { OnOk result (Fits self.new) }
+        ensures shorter { OnOk result
+            (length self.new.reader.rest.now < length self.old.reader.rest.now) }
+    {
+        let then = self.block(room)?;
+        Ok(StmtKind::If {
+            condition: Expr::Truth { value: true },
+            then,
+            otherwise: None,
+        })
+    }
+
     /// Takes an `else` with its block or `if`, if there is one.
     #[cycle(statement)]
     #[tactic(auto, unfolding(oc_grammar::specs::ReadingStatements::else_at))]
     fn otherwise(&mut self, room: u32) -> Result<Option<Block>, Stop>
         requires { Fits self.old }
-        ensures exact { ReadsTo else_view result self.new (from (else_at the_depths room) self.old) }
+        ensures exact { ReadsTo else_view result self.new
+            (from (else_at the_depths room) self.old) }
         ensures fits { OnOk result (Fits self.new) }
-        ensures shorter { OnOk result (length self.new.reader.rest.now ≤ length self.old.reader.rest.now) }
+        ensures shorter { OnOk result
+            (length self.new.reader.rest.now ≤ length self.old.reader.rest.now) }
     {
         if !self.reader.take_word(Word::Else) {
             return Ok(None);
@@ -146,9 +186,11 @@ impl Parser<'_> {
     fn chained(&mut self, room: u32) -> Result<Block, Stop>
         requires fits { Fits self.old }
         requires more { self.old.blocks + length self.old.reader.rest.now < 4294967295 }
-        ensures exact { ReadsTo block_view result self.new (from (chained_at the_depths room) self.old) }
+        ensures exact { ReadsTo block_view result self.new
+            (from (chained_at the_depths room) self.old) }
         ensures fits { OnOk result (Fits self.new) }
-        ensures shorter { OnOk result (length self.new.reader.rest.now < length self.old.reader.rest.now) }
+        ensures shorter { OnOk result
+            (length self.new.reader.rest.now < length self.old.reader.rest.now) }
     {
         if room == 0 {
             return Err(self.reader.too_many_chained());
@@ -165,9 +207,11 @@ impl Parser<'_> {
     #[cycle(statement)]
     pub fn block(&mut self, room: u32) -> Result<Block, Stop>
         requires { Fits self.old }
-        ensures exact { ReadsTo block_view result self.new (from (block_at the_depths room) self.old) }
+        ensures exact { ReadsTo block_view result self.new
+            (from (block_at the_depths room) self.old) }
         ensures fits { OnOk result (Fits self.new) }
-        ensures shorter { OnOk result (length self.new.reader.rest.now < length self.old.reader.rest.now) }
+        ensures shorter { OnOk result
+            (length self.new.reader.rest.now < length self.old.reader.rest.now) }
     {
         self.reader.expect(Mark::OpenCurly)?;
         if room == 0 {
@@ -183,9 +227,11 @@ impl Parser<'_> {
     #[cycle(statement)]
     fn statements(&mut self, room: u32) -> Result<Vec<Stmt>, Stop>
         requires { Fits self.old }
-        ensures exact { ReadsTo (λ ss. map stmt_view ss.items) result self.new (from (stmts_at the_depths room) self.old) }
+        ensures exact { ReadsTo (λ ss. map stmt_view ss.items) result self.new
+            (from (stmts_at the_depths room) self.old) }
         ensures fits { OnOk result (Fits self.new) }
-        ensures shorter { OnOk result (length self.new.reader.rest.now < length self.old.reader.rest.now) }
+        ensures shorter { OnOk result
+            (length self.new.reader.rest.now < length self.old.reader.rest.now) }
     {
         let mut statements = Vec::new(self.reader.alloc);
         while !self.reader.take(Mark::CloseCurly) {

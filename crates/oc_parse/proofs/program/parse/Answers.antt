@@ -1,4 +1,4 @@
-use Rattle.std.proofs.Common.{◌≡◌, length, sym, ◌∙◌, arith}
+use Rattle.std.proofs.Common.{false, ◌≡◌, length, sym, ◌∙◌, arith}
 use Rattle.std.proofs.lemmas.List.{length-map}
 use Rattle.oc_tree.specs.View.{program_view}
 use Rattle.oc_lex.proofs.StandsLaws.{tokens_count}
@@ -64,7 +64,7 @@ returns-in-Ok-clause-form c =
     let k : length ts ≡ length tokens = length-map tokens _ in
     let few = tokens_count source tokens c.requires.tokens in
     let small = c.requires.small in
-    in_form the_depths ts (program_view c.in-Ok.program) (program_sound the_depths ts (program_view c.in-Ok.program) c.in-Ok.ensures) (lexemes_in_form source tokens c.requires.tokens) (omega (arith, k, few, small))
+    in_form the_depths ts (program_view c.in-Ok.program) (program_sound the_depths ts (program_view c.in-Ok.program) c.in-Ok.ensures) (lexemes_in_form false source tokens c.requires.tokens) (omega (arith, k, few, small))
 
 pub returns-in-Err-Syntax-clause-fault : goal.returns-in-Err-Syntax-clause-fault
 returns-in-Err-Syntax-clause-fault c = syntax_is c.args.source.now c.args.tokens.now c.in-Err-Syntax.field-0 c.in-Err-Syntax.left _ c.in-Err-Syntax.ensures c.in-Err-Syntax.field-0-is c.place.ensures

@@ -24,6 +24,9 @@ decreases-for_statement l = 8 * l.room + 3
 abbrev pub decreases-while_statement : goal.decreases-while_statement
 decreases-while_statement l = 8 * l.room + 3
 
+abbrev pub decreases-atomic_statement : goal.decreases-atomic_statement
+decreases-atomic_statement l = 8 * l.room + 3
+
 abbrev pub decreases-otherwise : goal.decreases-otherwise
 decreases-otherwise l = 8 * l.room + 2
 

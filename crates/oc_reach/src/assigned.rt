@@ -26,7 +26,13 @@ fn pass_reach(
 ) -> Result<Reach, AllocError>
     requires calls { calls.now ≡ params.now }
     requires params { functions.now ≡ params.now }
-    ensures { IfOk result (λ r. r ≡ (pass_links (map function_view functions.now), param_count (map function_view functions.now))) }
+    ensures { IfOk result
+        (λ r. r
+        ≡ (
+          pass_links (map function_view functions.now),
+          param_count
+              (map function_view functions.now),
+        )) }
 {
     let links = pass_links(alloc, calls, params, functions)?;
     let count = params.count();
@@ -40,7 +46,9 @@ fn written_params(
 ) -> Result<Marks, AllocError>
     requires params { functions.now ≡ params.now }
     ensures bound { IfOk result (λ m. m.1 ≡ param_count (map function_view functions.now)) }
-    ensures marks { IfOk result (λ m. m.0 ≡ add_all [] (writes_from (map function_view functions.now) 0 (map function_view functions.now))) }
+    ensures marks { IfOk result
+        (λ m. m.0 ≡ add_all []
+        (writes_from (map function_view functions.now) 0 (map function_view functions.now))) }
 {
     let writes = writes_of(alloc, params, functions)?;
     let count = params.count();
@@ -59,7 +67,8 @@ pub fn assigned_params(
     requires calls { calls.now ≡ params.now }
     requires params { functions.now ≡ params.now }
     ensures bound { IfOk result (λ m. m.1 ≡ param_count (map function_view functions.now)) }
-    ensures marked { IfOk result (λ m. (n : ℕ) → is_in m.0 n ≡ param_assigned (map function_view functions.now) n) }
+    ensures marked { IfOk result (λ m. (n : ℕ)
+        → is_in m.0 n ≡ param_assigned (map function_view functions.now) n) }
 {
     let reach = pass_reach(alloc, calls, params, functions)?;
     let marks = written_params(alloc, params, functions)?;
@@ -130,7 +139,8 @@ impl<'a> Assigned<'a> {
 
     fn arg_assigns(&self, name: &Name, callee: usize, place: usize, arg: &Arg) -> bool
         requires { callee < length self.now }
-        ensures { result ≡ arg_assigns (map function_view self.now) name.now callee place (arg_view arg.now) }
+        ensures { result ≡ arg_assigns (map function_view self.now) name.now callee place
+            (arg_view arg.now) }
     {
         match arg {
             Arg::Mutable { name: other } => {
@@ -146,7 +156,8 @@ impl<'a> Assigned<'a> {
 
     fn args_assign(&self, name: &Name, callee: usize, args: &[Arg]) -> bool
         requires { callee < length self.now }
-        ensures { result ≡ args_assign (map function_view self.now) name.now callee 0 (args_view args.now) }
+        ensures { result ≡ args_assign (map function_view self.now) name.now callee 0
+            (args_view args.now) }
     {
         for (place, arg) in args.iter().enumerate() {
             if self.arg_assigns(name, callee, place, arg) {
@@ -167,7 +178,8 @@ impl<'a> Assigned<'a> {
     }
 
     fn some_assigns(&self, name: &Name, calls: &[&Call]) -> bool
-        ensures { result ≡ list_any (call_assigns (map function_view self.now) name.now) (calls_seen calls.now) }
+        ensures { result
+            ≡ list_any (call_assigns (map function_view self.now) name.now) (calls_seen calls.now) }
     {
         for call in calls {
             if self.call_assigns(name, *call) {
@@ -178,7 +190,8 @@ impl<'a> Assigned<'a> {
     }
 
     fn own_assigns(&self, alloc: Global, name: &Name, kind: &StmtKind) -> Result<bool, AllocError>
-        ensures { IfOk result (λ b. b ≡ own_assigns (map function_view self.now) name.now (kind_view kind.now)) }
+        ensures { IfOk result
+            (λ b. b ≡ own_assigns (map function_view self.now) name.now (kind_view kind.now)) }
     {
         let mut calls = Vec::new(alloc);
         own_calls(kind, &mut calls)?;
@@ -191,7 +204,9 @@ impl<'a> Assigned<'a> {
         name: &Name,
         kinds: &[&StmtKind],
     ) -> Result<bool, AllocError>
-        ensures { IfOk result (λ b. b ≡ list_any (own_assigns (map function_view self.now) name.now) (kinds_seen kinds.now)) }
+        ensures { IfOk result
+            (λ b. b
+            ≡ list_any (own_assigns (map function_view self.now) name.now) (kinds_seen kinds.now)) }
     {
         for kind in kinds {
             if self.own_assigns(alloc, name, *kind)? {
@@ -207,7 +222,9 @@ impl<'a> Assigned<'a> {
         name: &Name,
         function: &Function,
     ) -> Result<bool, AllocError>
-        ensures { IfOk result (λ b. b ≡ function_assigns (map function_view self.now) name.now (function_view function.now)) }
+        ensures { IfOk result
+            (λ b. b
+            ≡ function_assigns (map function_view self.now) name.now (function_view function.now)) }
     {
         if has_param(function.params.as_slice(), name) {
             return Ok(false);
@@ -223,7 +240,10 @@ impl<'a> Assigned<'a> {
         name: &Name,
         functions: &[Function],
     ) -> Result<Vec<bool>, AllocError>
-        ensures { IfOk result (λ t. t.items ≡ map (function_assigns (map function_view self.now) name.now) (map function_view functions.now)) }
+        ensures { IfOk result
+            (λ t. t.items
+            ≡ map (function_assigns (map function_view self.now) name.now)
+            (map function_view functions.now)) }
     {
         let mut tests = Vec::new(alloc);
         for function in functions {
@@ -237,7 +257,8 @@ impl<'a> Assigned<'a> {
     /// through others.
     pub fn assigning(&self, alloc: Global, name: &Name) -> Result<Marks, AllocError>
         ensures bound { IfOk result (λ m. m.1 ≡ length self.now) }
-        ensures marked { IfOk result (λ m. (u : ℕ) → is_in m.0 u ≡ reaches_assign (map function_view self.now) name.now u) }
+        ensures marked { IfOk result (λ m. (u : ℕ)
+            → is_in m.0 u ≡ reaches_assign (map function_view self.now) name.now u) }
     {
         let tests = self.tests(alloc, name, self.functions)?;
         self.calls.back_from(alloc, tests.as_slice())

@@ -28,7 +28,9 @@ fn add_links(
     calls: &[&Call],
     links: &mut Vec<(usize, usize)>,
 ) -> Result<(), AllocError>
-    ensures { OnOk result (links.new.items ≡ links.old.items ++ map (λ v. (caller, v)) (called_places table.now (calls_seen calls.now))) }
+    ensures { OnOk result
+        (links.new.items ≡ links.old.items
+        ++ map (λ v. (caller, v)) (called_places table.now (calls_seen calls.now))) }
 {
     for call in calls {
         if let Some(callee) = table.place(&call.function) {
@@ -43,7 +45,8 @@ fn call_links(
     functions: &[Function],
     table: &Table,
 ) -> Result<Vec<(usize, usize)>, AllocError>
-    ensures { IfOk result (λ l. l.items ≡ links_from table.now 0 (map function_view functions.now)) }
+    ensures { IfOk result
+        (λ l. l.items ≡ links_from table.now 0 (map function_view functions.now)) }
 {
     let mut links = Vec::new(alloc);
     for (i, function) in functions.iter().enumerate() {
@@ -92,7 +95,8 @@ fn mention_tests(
     functions: &[Function],
     name: &Name,
 ) -> Result<Vec<bool>, AllocError>
-    ensures { IfOk result (λ t. t.items ≡ map (function_mentions name.now) (map function_view functions.now)) }
+    ensures { IfOk result
+        (λ t. t.items ≡ map (function_mentions name.now) (map function_view functions.now)) }
 {
     let mut tests = Vec::new(alloc);
     for function in functions {
@@ -153,7 +157,9 @@ impl<'a> Calls<'a> {
     pub fn callers(&self, alloc: Global, function: usize) -> Result<Marks, AllocError>
         requires { function < length self.now }
         ensures bound { IfOk result (λ m. m.1 ≡ length self.now) }
-        ensures marked { IfOk result (λ m. (u : ℕ) → is_in m.0 u ≡ reaches (call_links (map function_view self.now)) (length self.now) u function) }
+        ensures marked { IfOk result (λ m. (u : ℕ)
+            → is_in m.0 u
+            ≡ reaches (call_links (map function_view self.now)) (length self.now) u function) }
     {
         let mut marks = Marks::new(alloc, self.functions.len())?;
         marks.mark(function)?;
@@ -165,7 +171,10 @@ impl<'a> Calls<'a> {
     pub fn back_from(&self, alloc: Global, tests: &[bool]) -> Result<Marks, AllocError>
         requires { length tests.now ≡ length self.now }
         ensures bound { IfOk result (λ m. m.1 ≡ length self.now) }
-        ensures marked { IfOk result (λ m. (u : ℕ) → is_in m.0 u ≡ reaches_some (call_links (map function_view self.now)) (length self.now) (λ v. get_or tests.now v false) u) }
+        ensures marked { IfOk result (λ m. (u : ℕ)
+            → is_in m.0 u
+            ≡ reaches_some (call_links (map function_view self.now)) (length self.now)
+            (λ v. get_or tests.now v false) u) }
     {
         let _functions = self.functions;
         self.reach.back_from(alloc, tests)
@@ -175,7 +184,8 @@ impl<'a> Calls<'a> {
     /// through others.
     pub fn mentioning(&self, alloc: Global, name: &Name) -> Result<Marks, AllocError>
         ensures bound { IfOk result (λ m. m.1 ≡ length self.now) }
-        ensures marked { IfOk result (λ m. (u : ℕ) → is_in m.0 u ≡ reaches_mention (map function_view self.now) name.now u) }
+        ensures marked { IfOk result
+            (λ m. (u : ℕ) → is_in m.0 u ≡ reaches_mention (map function_view self.now) name.now u) }
     {
         let tests = mention_tests(alloc, self.functions, name)?;
         self.back_from(alloc, tests.as_slice())

@@ -24,7 +24,8 @@ fn add_params<'a>(params: &'a [Param], all: &mut Vec<&'a Param>) -> Result<(), A
 
 // The number of each function's first parameter, and how many parameters there are.
 fn first_params(alloc: Global, functions: &[Function]) -> Result<(Vec<usize>, usize), AllocError>
-    ensures firsts { IfOk result (λ r. r.0.items ≡ first_params 0 (map function_view functions.now)) }
+    ensures firsts { IfOk result
+        (λ r. r.0.items ≡ first_params 0 (map function_view functions.now)) }
     ensures count { IfOk result (λ r. r.1 ≡ param_count (map function_view functions.now)) }
     ensures small { IfOk result (λ r. r.1 < 2 ^ 63) }
 {
@@ -124,7 +125,9 @@ impl<'a> Params<'a> {
     pub fn first(&self, function: usize) -> usize
         requires { function < length self.now }
         ensures first { result ≡ first_param (map function_view self.now) function }
-        ensures room { result + length (get_or (map (λ f. f.params) (map function_view self.now)) function []) < 2 ^ 63 }
+        ensures room { result
+            + length (get_or (map (λ f. f.params) (map function_view self.now)) function [])
+            < 2 ^ 63 }
     {
         let _functions = self.functions;
         self.firsts[function]

@@ -10,7 +10,9 @@ use std::alloc::{AllocError, Global};
 
 #[cycle(calls)]
 fn expr_calls<'a>(expr: &'a Expr, calls: &mut Vec<&'a Call>) -> Result<(), AllocError>
-    ensures { OnOk result (calls_seen calls.new.items ≡ calls_seen calls.old.items ++ expr_calls (expr_view expr.now)) }
+    ensures { OnOk result
+        (calls_seen calls.new.items
+        ≡ calls_seen calls.old.items ++ expr_calls (expr_view expr.now)) }
 {
     match expr {
         Expr::Number { .. }
@@ -30,7 +32,8 @@ fn expr_calls<'a>(expr: &'a Expr, calls: &mut Vec<&'a Call>) -> Result<(), Alloc
 
 #[cycle(calls)]
 fn arg_calls<'a>(arg: &'a Arg, calls: &mut Vec<&'a Call>) -> Result<(), AllocError>
-    ensures { OnOk result (calls_seen calls.new.items ≡ calls_seen calls.old.items ++ arg_calls (arg_view arg.now)) }
+    ensures { OnOk result
+        (calls_seen calls.new.items ≡ calls_seen calls.old.items ++ arg_calls (arg_view arg.now)) }
 {
     match arg {
         Arg::Value { value } => expr_calls(value, calls),
@@ -41,7 +44,9 @@ fn arg_calls<'a>(arg: &'a Arg, calls: &mut Vec<&'a Call>) -> Result<(), AllocErr
 // The calls in the arguments, and then the call.
 #[cycle(calls)]
 fn call_calls<'a>(call: &'a Call, calls: &mut Vec<&'a Call>) -> Result<(), AllocError>
-    ensures { OnOk result (calls_seen calls.new.items ≡ calls_seen calls.old.items ++ call_calls (call_view call.now)) }
+    ensures { OnOk result
+        (calls_seen calls.new.items
+        ≡ calls_seen calls.old.items ++ call_calls (call_view call.now)) }
 {
     for arg in &call.args {
         arg_calls(arg, calls)?;
@@ -51,7 +56,9 @@ fn call_calls<'a>(call: &'a Call, calls: &mut Vec<&'a Call>) -> Result<(), Alloc
 }
 
 fn right_calls<'a>(right: &'a Right, calls: &mut Vec<&'a Call>) -> Result<(), AllocError>
-    ensures { OnOk result (calls_seen calls.new.items ≡ calls_seen calls.old.items ++ right_calls (right_view right.now)) }
+    ensures { OnOk result
+        (calls_seen calls.new.items
+        ≡ calls_seen calls.old.items ++ right_calls (right_view right.now)) }
 {
     match right {
         Right::Value { value } => expr_calls(value, calls),
@@ -62,7 +69,9 @@ fn right_calls<'a>(right: &'a Right, calls: &mut Vec<&'a Call>) -> Result<(), Al
 
 /// Adds the calls of a statement itself, in the order in which they end.
 pub fn own_calls<'a>(kind: &'a StmtKind, calls: &mut Vec<&'a Call>) -> Result<(), AllocError>
-    ensures { OnOk result (calls_seen calls.new.items ≡ calls_seen calls.old.items ++ own_calls (kind_view kind.now)) }
+    ensures { OnOk result
+        (calls_seen calls.new.items
+        ≡ calls_seen calls.old.items ++ own_calls (kind_view kind.now)) }
 {
     match kind {
         StmtKind::LetArray { .. }
@@ -109,7 +118,9 @@ fn kind_kinds<'a>(
     of: Option<&Name>,
     kinds: &mut Vec<&'a StmtKind>,
 ) -> Result<(), AllocError>
-    ensures { OnOk result (kinds_seen kinds.new.items ≡ kinds_seen kinds.old.items ++ kind_kinds (name_seen of.entry) (kind_view kind.now)) }
+    ensures { OnOk result
+        (kinds_seen kinds.new.items ≡ kinds_seen kinds.old.items
+        ++ kind_kinds (name_seen of.entry) (kind_view kind.now)) }
 {
     kinds.push(kind)?;
     match kind {
@@ -138,7 +149,9 @@ fn else_kinds<'a>(
     of: Option<&Name>,
     kinds: &mut Vec<&'a StmtKind>,
 ) -> Result<(), AllocError>
-    ensures { OnOk result (kinds_seen kinds.new.items ≡ kinds_seen kinds.old.items ++ else_kinds (name_seen of.entry) (else_view otherwise.now)) }
+    ensures { OnOk result
+        (kinds_seen kinds.new.items ≡ kinds_seen kinds.old.items
+        ++ else_kinds (name_seen of.entry) (else_view otherwise.now)) }
 {
     match otherwise {
         Some(block) => block_kinds(block, of, kinds),
@@ -154,7 +167,9 @@ pub fn block_kinds<'a>(
     of: Option<&Name>,
     kinds: &mut Vec<&'a StmtKind>,
 ) -> Result<(), AllocError>
-    ensures { OnOk result (kinds_seen kinds.new.items ≡ kinds_seen kinds.old.items ++ block_kinds (name_seen of.entry) (block_view block.now)) }
+    ensures { OnOk result
+        (kinds_seen kinds.new.items ≡ kinds_seen kinds.old.items
+        ++ block_kinds (name_seen of.entry) (block_view block.now)) }
 {
     for statement in &block.statements {
         kind_kinds(&statement.kind, of, kinds)?;

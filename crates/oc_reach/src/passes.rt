@@ -58,7 +58,10 @@ fn add_arg(
 ) -> Result<(), AllocError>
     requires callee { callee < length params.now }
     requires small { first + length names.now < 2 ^ 63 }
-    ensures { OnOk result (links.new.items ≡ links.old.items ++ arg_links (map function_view params.now) first names.now callee place (arg_view arg.now)) }
+    ensures { OnOk result
+        (links.new.items ≡ links.old.items
+        ++ arg_links (map function_view params.now) first names.now callee place
+        (arg_view arg.now)) }
 {
     match arg {
         Arg::Value { value } => {
@@ -79,7 +82,10 @@ fn add_args(
 ) -> Result<(), AllocError>
     requires callee { callee < length params.now }
     requires small { first + length names.now < 2 ^ 63 }
-    ensures { OnOk result (links.new.items ≡ links.old.items ++ args_links (map function_view params.now) first names.now callee 0 (args_view args.now)) }
+    ensures { OnOk result
+        (links.new.items ≡ links.old.items
+        ++ args_links (map function_view params.now) first names.now callee 0
+        (args_view args.now)) }
 {
     for (place, arg) in args.iter().enumerate() {
         add_arg(params, first, names, callee, place, arg, links)?;
@@ -97,7 +103,9 @@ fn add_call(
 ) -> Result<(), AllocError>
     requires same { calls.now ≡ params.now }
     requires small { first + length names.now < 2 ^ 63 }
-    ensures { OnOk result (links.new.items ≡ links.old.items ++ pass_call (map function_view params.now) first names.now (call_view call.now)) }
+    ensures { OnOk result
+        (links.new.items ≡ links.old.items
+        ++ pass_call (map function_view params.now) first names.now (call_view call.now)) }
 {
     match calls.place(&call.function) {
         Some(callee) => add_args(params, first, names, callee, call.args.as_slice(), links),
@@ -115,7 +123,10 @@ fn add_calls(
 ) -> Result<(), AllocError>
     requires same { calls.now ≡ params.now }
     requires small { first + length names.now < 2 ^ 63 }
-    ensures { OnOk result (links.new.items ≡ links.old.items ++ flat_map (pass_call (map function_view params.now) first names.now) (calls_seen body.now)) }
+    ensures { OnOk result
+        (links.new.items ≡ links.old.items
+        ++ flat_map (pass_call (map function_view params.now) first names.now)
+        (calls_seen body.now)) }
 {
     for call in body {
         add_call(calls, params, first, names, *call, links)?;
@@ -133,7 +144,9 @@ fn add_function(
 ) -> Result<(), AllocError>
     requires same { calls.now ≡ params.now }
     requires small { first + length (function_view function.now).params < 2 ^ 63 }
-    ensures { OnOk result (links.new.items ≡ links.old.items ++ function_links (map function_view params.now) first (function_view function.now)) }
+    ensures { OnOk result
+        (links.new.items ≡ links.old.items
+        ++ function_links (map function_view params.now) first (function_view function.now)) }
 {
     let names = param_table(alloc, function.params.as_slice())?;
     let body = body_calls(alloc, function)?;
@@ -175,7 +188,10 @@ fn add_written(
     writes: &mut Vec<usize>,
 ) -> Result<(), AllocError>
     requires small { first + length names.now < 2 ^ 63 }
-    ensures { OnOk result (writes.new.items ≡ writes.old.items ++ flat_map (λ k. option_to_list (own_param first names.now (written_through k))) (kinds_seen kinds.now)) }
+    ensures { OnOk result
+        (writes.new.items ≡ writes.old.items
+        ++ flat_map (λ k. option_to_list (own_param first names.now (written_through k)))
+        (kinds_seen kinds.now)) }
 {
     for kind in kinds {
         if let Some(number) = own_param(first, names, written_through(*kind)) {
@@ -192,7 +208,9 @@ fn add_writes(
     writes: &mut Vec<usize>,
 ) -> Result<(), AllocError>
     requires small { first + length (function_view function.now).params < 2 ^ 63 }
-    ensures { OnOk result (writes.new.items ≡ writes.old.items ++ function_writes first (function_view function.now)) }
+    ensures { OnOk result
+        (writes.new.items ≡ writes.old.items
+        ++ function_writes first (function_view function.now)) }
 {
     let names = param_table(alloc, function.params.as_slice())?;
     let mut kinds = Vec::new(alloc);
@@ -207,7 +225,9 @@ pub fn writes_of(
     functions: &[Function],
 ) -> Result<Vec<usize>, AllocError>
     requires functions { functions.now ≡ params.now }
-    ensures { IfOk result (λ w. w.items ≡ writes_from (map function_view functions.now) 0 (map function_view functions.now)) }
+    ensures { IfOk result
+        (λ w. w.items
+        ≡ writes_from (map function_view functions.now) 0 (map function_view functions.now)) }
 {
     let mut writes = Vec::new(alloc);
     for (i, function) in functions.iter().enumerate() {

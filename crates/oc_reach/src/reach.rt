@@ -43,7 +43,8 @@ fn leaders_of(
 ) -> Result<Vec<Vec<usize>>, AllocError>
     requires { IsWithin links.now bound }
     ensures bound { IfOk result (λ r. length r.items ≡ bound) }
-    ensures leaders { IfOk result (λ r. (u v : ℕ) → is_in (get_or (rows r.items) v []) u ≡ linked links.now u v) }
+    ensures leaders { IfOk result (λ r. (u v : ℕ)
+        → is_in (get_or (rows r.items) v []) u ≡ linked links.now u v) }
 {
     let mut leaders = no_leaders(alloc, bound)?;
     for link in links {
@@ -75,9 +76,11 @@ impl Reach {
         requires number { number < self.now.1 }
         requires bound { marks.old.1 ≡ self.now.1 }
         ensures bound { OnOk result (marks.new.1 ≡ marks.old.1) }
-        ensures old { OnOk result ((j : ℕ) → j < length marks.old.0 → get_or marks.new.0 j 0 ≡ get_or marks.old.0 j 0) }
+        ensures old { OnOk result ((j : ℕ) → j < length marks.old.0
+            → get_or marks.new.0 j 0 ≡ get_or marks.old.0 j 0) }
         ensures more { OnOk result (length marks.old.0 ≤ length marks.new.0) }
-        ensures marked { OnOk result ((u : ℕ) → is_in marks.new.0 u ≡ is_in marks.old.0 u || linked self.now.0 u number) }
+        ensures marked { OnOk result ((u : ℕ)
+            → is_in marks.new.0 u ≡ is_in marks.old.0 u || linked self.now.0 u number) }
     {
         marks.mark_all(self.leaders[number].as_slice())?;
         Ok(())
@@ -88,7 +91,8 @@ impl Reach {
         requires bound { marks.1 ≡ self.now.1 }
         requires inside { (v : ℕ) → is_in marks.0 v ≡ true → v < self.now.1 }
         ensures bound { IfOk result (λ m. m.1 ≡ self.now.1) }
-        ensures marked { IfOk result (λ m. (u : ℕ) → is_in m.0 u ≡ reaches_some self.now.0 self.now.1 (is_in marks.0) u) }
+        ensures marked { IfOk result
+            (λ m. (u : ℕ) → is_in m.0 u ≡ reaches_some self.now.0 self.now.1 (is_in marks.0) u) }
     {
         let _bound = self.bound();
         for i in 0..usize::MAX {
@@ -106,7 +110,9 @@ impl Reach {
     pub fn back_from(&self, alloc: Global, tests: &[bool]) -> Result<Marks, AllocError>
         requires { length tests.now ≡ self.now.1 }
         ensures bound { IfOk result (λ m. m.1 ≡ self.now.1) }
-        ensures marked { IfOk result (λ m. (u : ℕ) → is_in m.0 u ≡ reaches_some self.now.0 self.now.1 (λ v. get_or tests.now v false) u) }
+        ensures marked { IfOk result
+            (λ m. (u : ℕ)
+            → is_in m.0 u ≡ reaches_some self.now.0 self.now.1 (λ v. get_or tests.now v false) u) }
     {
         let marks = Marks::of(alloc, tests)?;
         self.mark_back(marks)

@@ -55,7 +55,9 @@ impl<'a> Numbers<'a> {
 
     // Adds a name, unless it is there.
     fn add_first(&mut self, name: &'a Name, number: usize) -> Result<(), AllocError>
-        ensures { OnOk result ((x : List ℕ) (rest : Option ℕ) → or_else (number_in self.new x) rest ≡ or_else (number_in self.old x) (cond (bytes_eq x name.now) (Some number) rest)) }
+        ensures { OnOk result ((x : List ℕ) (rest : Option ℕ)
+            → or_else (number_in self.new x) rest
+            ≡ or_else (number_in self.old x) (cond (bytes_eq x name.now) (Some number) rest)) }
     {
         match self.get(name) {
             Some(_) => Ok(()),

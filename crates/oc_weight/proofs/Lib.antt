@@ -1,2 +1,4 @@
 pub mod CappedLaws
 pub mod StackLaws
+pub mod Callees
+pub mod WeightCallees

@@ -89,7 +89,8 @@ pub fn known_of(weights: &[u64], place: Option<usize>) -> u64
 
 fn call_cost(functions: &[Function], table: &Table, weights: &[u64], call: &Call) -> u64
     requires { table.now ≡ function_names (map function_view functions.now) }
-    ensures cost { result ≡ capped (call_cost (map function_view functions.now) weights.now (call_view call.now)) }
+    ensures cost { result
+        ≡ capped (call_cost (map function_view functions.now) weights.now (call_view call.now)) }
     ensures small { result ≤ 4294967297 }
 {
     plus(
@@ -100,7 +101,8 @@ fn call_cost(functions: &[Function], table: &Table, weights: &[u64], call: &Call
 
 fn right_cost(functions: &[Function], table: &Table, weights: &[u64], right: &Right) -> u64
     requires { table.now ≡ function_names (map function_view functions.now) }
-    ensures cost { result ≡ capped (right_cost (map function_view functions.now) weights.now (right_view right.now)) }
+    ensures cost { result
+        ≡ capped (right_cost (map function_view functions.now) weights.now (right_view right.now)) }
     ensures small { result ≤ 4294967297 }
 {
     match right {
@@ -128,7 +130,8 @@ fn turns(from: i32, to: i32) -> u32
 #[cycle(cost)]
 pub fn block_cost(functions: &[Function], table: &Table, weights: &[u64], block: &Block) -> u64
     requires { table.now ≡ function_names (map function_view functions.now) }
-    ensures cost { result ≡ capped (block_cost (map function_view functions.now) weights.now (block_view block.now)) }
+    ensures cost { result
+        ≡ capped (block_cost (map function_view functions.now) weights.now (block_view block.now)) }
     ensures small { result ≤ 4294967297 }
 {
     let mut cost = 0;
@@ -149,7 +152,9 @@ fn else_cost(
 ) -> u64
     requires table { table.now ≡ function_names (map function_view functions.now) }
     requires small { then ≤ 4294967297 }
-    ensures cost { result ≡ capped (else_cost (map function_view functions.now) weights.now then (else_view otherwise.now)) }
+    ensures cost { result
+        ≡ capped (else_cost (map function_view functions.now) weights.now then
+        (else_view otherwise.now)) }
     ensures small { result ≤ 4294967297 }
 {
     match otherwise {
@@ -162,7 +167,8 @@ fn else_cost(
 #[tactic(auto, using(crate::proofs::CappedLaws::capped_while, crate::proofs::CappedLaws::capped_for, crate::proofs::CappedLaws::else_capped))]
 fn kind_cost(functions: &[Function], table: &Table, weights: &[u64], kind: &StmtKind) -> u64
     requires { table.now ≡ function_names (map function_view functions.now) }
-    ensures cost { result ≡ capped (kind_cost (map function_view functions.now) weights.now (kind_view kind.now)) }
+    ensures cost { result
+        ≡ capped (kind_cost (map function_view functions.now) weights.now (kind_view kind.now)) }
     ensures small { result ≤ 4294967297 }
 {
     match kind {
@@ -231,7 +237,9 @@ pub fn function_cost(
     function: &Function,
 ) -> u64
     requires { table.now ≡ function_names (map function_view functions.now) }
-    ensures cost { result ≡ capped (function_cost (map function_view functions.now) weights.now (function_view function.now)) }
+    ensures cost { result
+        ≡ capped
+        (function_cost (map function_view functions.now) weights.now (function_view function.now)) }
     ensures small { result ≤ 4294967297 }
 {
     let returns = if function.result.is_some() { 0 } else { 1 };

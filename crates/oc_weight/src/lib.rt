@@ -4,6 +4,7 @@
 
 pub mod caps;
 pub mod cost;
+pub mod laws;
 pub mod stack;
 pub mod stacks;
 pub mod weights;

@@ -140,7 +140,8 @@ fn args_depth(args: &[Arg]) -> u64
 
 fn call_depth(functions: &[Function], table: &Table, stacks: &[u64], call: &Call) -> u64
     requires { table.now ≡ function_names (map function_view functions.now) }
-    ensures depth { result ≡ capped (call_depth (map function_view functions.now) stacks.now (call_view call.now)) }
+    ensures depth { result
+        ≡ capped (call_depth (map function_view functions.now) stacks.now (call_view call.now)) }
     ensures small { result ≤ 4294967297 }
 {
     let callee = known_of(stacks, table.place(&call.function));
@@ -149,7 +150,8 @@ fn call_depth(functions: &[Function], table: &Table, stacks: &[u64], call: &Call
 
 fn right_depth(functions: &[Function], table: &Table, stacks: &[u64], right: &Right) -> u64
     requires { table.now ≡ function_names (map function_view functions.now) }
-    ensures depth { result ≡ capped (right_depth (map function_view functions.now) stacks.now (right_view right.now)) }
+    ensures depth { result
+        ≡ capped (right_depth (map function_view functions.now) stacks.now (right_view right.now)) }
     ensures small { result ≤ 4294967297 }
 {
     match right {
@@ -167,7 +169,9 @@ fn else_depth(
     otherwise: &Option<Block>,
 ) -> u64
     requires { table.now ≡ function_names (map function_view functions.now) }
-    ensures depth { result ≡ capped (else_depth (map function_view functions.now) stacks.now (else_view otherwise.now)) }
+    ensures depth { result
+        ≡ capped
+        (else_depth (map function_view functions.now) stacks.now (else_view otherwise.now)) }
     ensures small { result ≤ 4294967297 }
 {
     match otherwise {
@@ -179,7 +183,8 @@ fn else_depth(
 #[cycle(depth)]
 fn kind_depth(functions: &[Function], table: &Table, stacks: &[u64], kind: &StmtKind) -> u64
     requires { table.now ≡ function_names (map function_view functions.now) }
-    ensures depth { result ≡ capped (kind_depth (map function_view functions.now) stacks.now (kind_view kind.now)) }
+    ensures depth { result
+        ≡ capped (kind_depth (map function_view functions.now) stacks.now (kind_view kind.now)) }
     ensures small { result ≤ 4294967297 }
 {
     match kind {
@@ -231,7 +236,8 @@ fn kind_depth(functions: &[Function], table: &Table, stacks: &[u64], kind: &Stmt
 #[cycle(depth)]
 fn block_depth(functions: &[Function], table: &Table, stacks: &[u64], block: &Block) -> u64
     requires { table.now ≡ function_names (map function_view functions.now) }
-    ensures depth { result ≡ capped (block_depth (map function_view functions.now) stacks.now (block_view block.now)) }
+    ensures depth { result
+        ≡ capped (block_depth (map function_view functions.now) stacks.now (block_view block.now)) }
     ensures small { result ≤ 4294967297 }
 {
     let mut depth = 0;
@@ -249,7 +255,9 @@ pub fn function_stack(
     function: &Function,
 ) -> u64
     requires { table.now ≡ function_names (map function_view functions.now) }
-    ensures stack { result ≡ capped (function_stack (map function_view functions.now) stacks.now (function_view function.now)) }
+    ensures stack { result
+        ≡ capped
+        (function_stack (map function_view functions.now) stacks.now (function_view function.now)) }
     ensures small { result ≤ 4294967297 }
 {
     plus(

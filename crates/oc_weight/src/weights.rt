@@ -6,6 +6,7 @@ ghost use Rattle.oc_tree.specs.Weight.{function_cost, weights_to};
 ghost use Rattle.oc_weight.specs.Capped.{capped};
 
 use crate::cost::function_cost;
+use oc_reach::levels::is_same;
 use oc_reach::table::{Table, function_table};
 use oc_tree::tree::Function;
 use std::alloc::{AllocError, Global};
@@ -18,7 +19,9 @@ fn next_level(
     weights: &[u64],
 ) -> Result<Vec<u64>, AllocError>
     requires { table.now ≡ function_names (map function_view functions.now) }
-    ensures { IfOk result (λ w. w.items ≡ map (λ f. capped (function_cost (map function_view functions.now) weights.now f)) (map function_view functions.now)) }
+    ensures { IfOk result (λ w. w.items
+        ≡ map (λ f. capped (function_cost (map function_view functions.now) weights.now f))
+        (map function_view functions.now)) }
 {
     let mut next = Vec::new(alloc);
     for function in functions {
@@ -30,12 +33,18 @@ fn next_level(
 /// The weights of the functions of an expansion, each exactly or as one more than any weight that
 /// is allowed.
 pub fn weights(alloc: Global, functions: &[Function]) -> Result<Vec<u64>, AllocError>
-    ensures { IfOk result (λ w. w.items ≡ map capped (weights_to (map function_view functions.now) (length functions.now))) }
+    ensures { IfOk result
+        (λ w. w.items
+        ≡ map capped (weights_to (map function_view functions.now) (length functions.now))) }
 {
     let table = function_table(alloc, functions)?;
     let mut weights = Vec::new(alloc);
     for _depth in 0..functions.len() {
-        weights = next_level(alloc, functions, &table, weights.as_slice())?;
+        let next = next_level(alloc, functions, &table, weights.as_slice())?;
+        if is_same(next.as_slice(), weights.as_slice()) {
+            return Ok(next);
+        }
+        weights = next;
     }
     Ok(weights)
 }

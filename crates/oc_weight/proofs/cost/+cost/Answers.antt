@@ -1,7 +1,7 @@
 use Rattle.std.proofs.Common.{rules, ◌≡◌, ◌+◌, ◌*◌, map, ap, sym, ◌∙◌}
 use Rattle.oc_tree.specs.Tree.{TKind, TBlock, TStmt}
 use Rattle.oc_tree.specs.View.{expr_view, kind_view, block_view, function_view, kind_step, block_step, stmt_step}
-use Rattle.oc_tree.specs.declared.tree.StmtKind.{StmtKind, fold-roll-StmtKind}
+use Rattle.oc_tree.specs.declared.tree.StmtKind.{fold-roll-StmtKind}
 use Rattle.oc_tree.specs.declared.tree.StmtKind.TheOpen.{StmtKind-F}
 use Rattle.oc_tree.specs.declared.tree.StmtKind as X
 use denote.Hole.Carrier

@@ -1,7 +1,7 @@
 use Rattle.std.proofs.Common.{◌≡◌, ap, sym, ◌∙◌}
 use Rattle.oc_tree.specs.Tree.{TArg, TExpr, TCall}
 use Rattle.oc_tree.specs.View.{expr_view, arg_step, expr_step, call_step}
-use Rattle.oc_tree.specs.declared.tree.Expr.{Expr, fold-roll-Expr}
+use Rattle.oc_tree.specs.declared.tree.Expr.{fold-roll-Expr}
 use Rattle.oc_tree.specs.declared.tree.Arg.TheOpen.{Expr-F}
 use Rattle.oc_tree.specs.declared.tree.Expr as X
 use denote.Hole.Carrier

@@ -21,3 +21,8 @@ pub record IsMentioning (p : TProgram) (x : Text) (m : List ℕ × ℕ) : Type 0
 pub record IsAssigning (p : TProgram) (x : Text) (m : List ℕ × ℕ) : Type 0 where
   pub bound : m.1 ≡ length p.functions
   pub marked : (u : ℕ) → is_in m.0 u ≡ reaches_assign p.functions x u
+
+-- both marks of the nonvolatile variable `x`
+pub record IsNoted (p : TProgram) (x : Text) (assigning mentioning : List ℕ × ℕ) : Type 0 where
+  pub assigns : IsAssigning p x assigning
+  pub mentions : IsMentioning p x mentioning

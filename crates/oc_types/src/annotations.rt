@@ -43,7 +43,9 @@ pub fn returns_elsewhere<'a>(
     scope: &Scope<'a>,
     kind: &StmtKind,
 ) -> bool
-    ensures { result ≡ returns_elsewhere (program_view top.now) (here_of place.entry scope.now) (kind_view kind.now) }
+    ensures { result
+        ≡ returns_elsewhere (program_view top.now) (here_of place.entry scope.now)
+        (kind_view kind.now) }
 {
     match kind {
         StmtKind::Return { value } => !(place.last

@@ -48,7 +48,8 @@ fn value_meets<'a>(
     kind: ValueKind,
     expr: &Expr,
 ) -> bool
-    ensures { result ≡ value_meets (program_view top.now) scope.now passing kind (expr_view expr.now) }
+    ensures { result
+        ≡ value_meets (program_view top.now) scope.now passing kind (expr_view expr.now) }
 {
     match passing {
         Passing::Value => is_same(scalar_of(kind), type_of(top, scope, expr)),
@@ -134,7 +135,8 @@ pub fn args_differ<'a>(top: &TopLevel<'a>, scope: &Scope<'a>, statement: &Statem
 }
 
 fn have_results(top: &TopLevel, calls: &[&Call]) -> bool
-    ensures { result ≡ list_all (λ c. is_some (call_type (program_view top.now) c)) (calls_seen calls.now) }
+    ensures { result ≡ list_all (λ c. is_some (call_type (program_view top.now) c))
+        (calls_seen calls.now) }
 {
     for call in calls {
         if call_type(top, call).is_none() {
@@ -147,7 +149,8 @@ fn have_results(top: &TopLevel, calls: &[&Call]) -> bool
 /// All calls but the last.
 #[tactic(auto, using(crate::proofs::Args::all_but_last))]
 fn without_last<'a, 'b>(calls: &'b [&'a Call]) -> &'b [&'a Call]
-    ensures { (front : List TCall) (last : TCall) → calls_seen calls.now ≡ front ++ last ∷ [] → calls_seen result.now ≡ front }
+    ensures { (front : List TCall) (last : TCall) → calls_seen calls.now ≡ front ++ last ∷ []
+        → calls_seen result.now ≡ front }
 {
     &calls[..calls.len().saturating_sub(1)]
 }
@@ -171,7 +174,8 @@ pub fn result_missing(top: &TopLevel, statement: &Statement) -> bool
 }
 
 fn lends_rightly<'a>(top: &TopLevel<'a>, scope: &Scope<'a>, call: &Call) -> bool
-    ensures { result ≡ list_all (arg_lends (program_view top.now) scope.now) (call_args (call_view call.now)) }
+    ensures { result
+        ≡ list_all (arg_lends (program_view top.now) scope.now) (call_args (call_view call.now)) }
 {
     for arg in &call.args {
         if !arg_lends(top, scope, arg) {
@@ -195,7 +199,8 @@ pub fn lends_fixed<'a>(top: &TopLevel<'a>, scope: &Scope<'a>, statement: &Statem
 
 /// The name that an argument passes by `&mut`.
 pub fn lent<'b>(param: &Param, arg: &'b Arg) -> Option<&'b Name>
-    ensures { (test : List ℕ → Bool) → lent_is test param.now (arg_view arg.now) ≡ passes test result }
+    ensures { (test : List ℕ → Bool)
+        → lent_is test param.now (arg_view arg.now) ≡ passes test result }
 {
     match arg {
         Arg::Value { value } => match param.passing {
@@ -220,7 +225,8 @@ fn is_alone(name: Option<&Name>, call: &Call) -> bool
 }
 
 fn all_alone(params: &[Param], args: &[Arg], call: &Call) -> bool
-    ensures { result ≡ all_lent (λ x. call_mentions x (call_view call.now) == 1) params.now (args_view args.now) }
+    ensures { result ≡ all_lent (λ x. call_mentions x (call_view call.now) == 1) params.now
+        (args_view args.now) }
 {
     for (i, arg) in args.iter().enumerate() {
         match params.get(i) {

@@ -65,7 +65,9 @@ fn note_policy<'a>(
     scope: &Scope<'a>,
     kind: &StmtKind,
 ) -> Result<(), AllocError>
-    ensures { OnOk result (policies.new.items ≡ policies_after policies.old.items (here_of place.entry scope.now) (kind_view kind.now)) }
+    ensures { OnOk result
+        (policies.new.items ≡ policies_after policies.old.items (here_of place.entry scope.now)
+        (kind_view kind.now)) }
 {
     match kind {
         StmtKind::Fresh { name } => match scope.get(name) {
@@ -151,7 +153,9 @@ impl Counts {
     ) -> Result<(), AllocError>
         requires small { IsSmall self.old }
         requires nodes { kind_nodes (kind_view statement.now) < 2 ^ 32 }
-        ensures { OnOk result (self.new ≡ with_statement self.old (here_of place.entry scope.now) (kind_view statement.now)) }
+        ensures { OnOk result
+            (self.new ≡ with_statement self.old (here_of place.entry scope.now)
+            (kind_view statement.now)) }
     {
         let kind = statement.kind();
         let pulls = u64::from(own_pulls(kind));
@@ -170,7 +174,8 @@ impl Counts {
     }
 
     pub fn function_passes(&self, before: Before, function: &Function) -> bool
-        ensures passes { result ≡ item_passes self.now before (function_item (function_view function.now)) }
+        ensures passes { result
+            ≡ item_passes self.now before (function_item (function_view function.now)) }
         ensures small { result ≡ false → self.now.variables ≤ 256 }
     {
         128 <= before.functions || 8 < function.params.len() || 256 < self.variables
@@ -178,7 +183,8 @@ impl Counts {
 
     pub fn statement_passes(&self) -> bool
         ensures passes { result ≡ statement_passes self.now }
-        ensures small { result ≡ false → (self.now.variables ≤ 256) × (self.now.statements ≤ 8192) × (self.now.calls ≤ 1024) }
+        ensures small { result ≡ false
+            → (self.now.variables ≤ 256) × (self.now.statements ≤ 8192) × (self.now.calls ≤ 1024) }
     {
         256 < self.variables
             || 8192 < self.statements

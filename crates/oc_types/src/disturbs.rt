@@ -30,7 +30,8 @@ fn stands_once(name: Option<&Name>, kind: &StmtKind) -> bool
 }
 
 fn all_apart(params: &[Param], args: &[Arg], kind: &StmtKind) -> bool
-    ensures { result ≡ all_lent (λ x. own_mentions x (kind_view kind.now) == 1) params.now (args_view args.now) }
+    ensures { result ≡ all_lent (λ x. own_mentions x (kind_view kind.now) == 1) params.now
+        (args_view args.now) }
 {
     for (i, arg) in args.iter().enumerate() {
         match params.get(i) {
@@ -44,14 +45,17 @@ fn all_apart(params: &[Param], args: &[Arg], kind: &StmtKind) -> bool
 }
 
 fn lends_apart(top: &TopLevel, kind: &StmtKind, call: &Call) -> bool
-    ensures { result ≡ lends_apart (program_view top.now) (kind_view kind.now) (call_view call.now) }
+    ensures { result
+        ≡ lends_apart (program_view top.now) (kind_view kind.now) (call_view call.now) }
 {
     all_apart(top.params(call), call.args.as_slice(), kind)
 }
 
 /// Whether what the calls pass by `&mut` stands just there in the statement.
 fn all_lend_apart(top: &TopLevel, statement: &Statement) -> bool
-    ensures { result ≡ list_all (lends_apart (program_view top.now) (kind_view statement.now)) (own_calls (kind_view statement.now)) }
+    ensures { result
+        ≡ list_all (lends_apart (program_view top.now) (kind_view statement.now))
+        (own_calls (kind_view statement.now)) }
 {
     let kind = statement.kind();
     for call in statement.calls() {
@@ -64,7 +68,9 @@ fn all_lend_apart(top: &TopLevel, statement: &Statement) -> bool
 
 fn callee_assigns(top: &TopLevel, name: &Name, marks: &Marks, call: &Call) -> bool
     requires { IsAssigning (program_view top.now) name.now marks.now }
-    ensures { result ≡ callee_is (reaches_assign (program_view top.now).functions name.now) (program_view top.now) (call_view call.now) }
+    ensures { result
+        ≡ callee_is (reaches_assign (program_view top.now).functions name.now)
+        (program_view top.now) (call_view call.now) }
 {
     let _name = name;
     match top.function_place(&call.function) {
@@ -75,7 +81,10 @@ fn callee_assigns(top: &TopLevel, name: &Name, marks: &Marks, call: &Call) -> bo
 
 fn some_callee_assigns(top: &TopLevel, name: &Name, marks: &Marks, statement: &Statement) -> bool
     requires { IsAssigning (program_view top.now) name.now marks.now }
-    ensures { result ≡ list_any (callee_is (reaches_assign (program_view top.now).functions name.now) (program_view top.now)) (own_calls (kind_view statement.now)) }
+    ensures { result
+        ≡ list_any
+        (callee_is (reaches_assign (program_view top.now).functions name.now)
+        (program_view top.now)) (own_calls (kind_view statement.now)) }
 {
     for call in statement.calls() {
         if callee_assigns(top, name, marks, call) {
@@ -93,7 +102,8 @@ fn nv_disturbed(
     statement: &Statement,
     name: &Name,
 ) -> Result<bool, AllocError>
-    ensures { IfOk result (λ r. r ≡ nv_disturbed (program_view top.now) (kind_view statement.now) name.now) }
+    ensures { IfOk result
+        (λ r. r ≡ nv_disturbed (program_view top.now) (kind_view statement.now) name.now) }
 {
     if own_mentions(statement.kind(), name) == 0 {
         return Ok(false);
@@ -101,8 +111,13 @@ fn nv_disturbed(
     if statement.calls().is_empty() {
         return Ok(false);
     }
-    let marks = top.assigning(alloc, name)?;
-    Ok(some_callee_assigns(top, name, &marks, statement))
+    match top.noted(name) {
+        Some(noted) => Ok(some_callee_assigns(top, name, &noted.assigning, statement)),
+        None => {
+            let marks = top.assigning(alloc, name)?;
+            Ok(some_callee_assigns(top, name, &marks, statement))
+        }
+    }
 }
 
 fn some_nv_disturbed(
@@ -110,7 +125,10 @@ fn some_nv_disturbed(
     top: &TopLevel,
     statement: &Statement,
 ) -> Result<bool, AllocError>
-    ensures { IfOk result (λ r. r ≡ list_any (nv_disturbed (program_view top.now) (kind_view statement.now)) (program_view top.now).names.nvs) }
+    ensures { IfOk result
+        (λ r. r
+        ≡ list_any (nv_disturbed (program_view top.now) (kind_view statement.now))
+        (program_view top.now).names.nvs) }
 {
     let names = top.program().names.nvs.as_slice();
     for name in names {
@@ -128,7 +146,8 @@ pub fn pulls_disturb(
     statement: &Statement,
 ) -> Result<bool, AllocError>
     requires { own_pulls (kind_view statement.now) < 2 ^ 32 }
-    ensures { IfOk result (λ r. r ≡ pulls_disturb (program_view top.now) (kind_view statement.now)) }
+    ensures { IfOk result
+        (λ r. r ≡ pulls_disturb (program_view top.now) (kind_view statement.now)) }
 {
     if own_pulls(statement.kind()) == 0 {
         return Ok(false);

@@ -36,7 +36,8 @@ fn at_line(line: u32, rule: Option<u8>) -> Option<Broken>
 
 /// The lowest rule that a sensor or a port breaks.
 fn name_rule(top: &TopLevel, before: Before, name: &Name, full: bool) -> Option<u8>
-    ensures { result ≡ lowest ((1, declared_before (program_view top.now) before name.now) ∷ (22, full) ∷ []) }
+    ensures { result ≡ lowest
+        ((1, declared_before (program_view top.now) before name.now) ∷ (22, full) ∷ []) }
 {
     if top.declares_before(before, name) {
         return Some(1);
@@ -45,7 +46,8 @@ fn name_rule(top: &TopLevel, before: Before, name: &Name, full: bool) -> Option<
 }
 
 fn nv_rule(top: &TopLevel, before: Before, counts: &Counts, name: &Name, nv: NvDecl) -> Option<u8>
-    ensures lowest { result ≡ lowest (item_rules (program_view top.now) counts.now before (nv_item name.now nv)) }
+    ensures lowest { result
+        ≡ lowest (item_rules (program_view top.now) counts.now before (nv_item name.now nv)) }
     ensures small { result ≡ None → counts.now.words ≤ 65536 }
 {
     if top.declares_before(before, name) {
@@ -70,7 +72,9 @@ fn function_rule(
     taken: bool,
 ) -> Option<u8>
     requires { taken ≡ takes_param (program_view top.now) [] function.now.params.items }
-    ensures lowest { result ≡ lowest (item_rules (program_view top.now) counts.now before (function_item (function_view function.now))) }
+    ensures lowest { result
+        ≡ lowest (item_rules (program_view top.now) counts.now before
+        (function_item (function_view function.now))) }
     ensures untaken { result ≡ None → taken ≡ false }
     ensures small { result ≡ None → counts.now.variables ≤ 256 }
 {
@@ -109,7 +113,8 @@ fn walk_nv(
     nv: NvDecl,
 ) -> Option<Broken>
     requires { IsSmall counts.old }
-    ensures found { outcome result counts.new ≡ declaration_walk (program_view top.now) before counts.old line (nv_item name.now nv) }
+    ensures found { outcome result counts.new
+        ≡ declaration_walk (program_view top.now) before counts.old line (nv_item name.now nv) }
     ensures small { result ≡ None → IsSmall counts.new }
 {
     counts.add_nv(name, nv);
@@ -132,7 +137,10 @@ fn walk_body<'a>(
     requires nodes { block_nodes (block_view function.now.body) < 2 ^ 32 }
     requires below { before.functions < length (program_view top.now).functions }
     requires counts { IsSmall counts.old }
-    ensures found { IfOk result (λ r. outcome r counts.new ≡ function_walk (program_view top.now) before counts.old line (Some (function_view function.now))) }
+    ensures found { IfOk result
+        (λ r. outcome r counts.new
+        ≡ function_walk (program_view top.now) before counts.old line
+        (Some (function_view function.now))) }
     ensures small { IfOk result (λ r. r ≡ None → IsSmall counts.new) }
 {
     counts.begin(function);
@@ -170,7 +178,10 @@ fn walk_function<'a>(
 ) -> Result<Option<Broken>, AllocError>
     requires nodes { program_nodes (program_view top.now) < 2 ^ 32 }
     requires counts { IsSmall counts.old }
-    ensures found { IfOk result (λ r. outcome r counts.new ≡ function_walk (program_view top.now) before counts.old line (slice_get (program_view top.now).functions before.functions)) }
+    ensures found { IfOk result
+        (λ r. outcome r counts.new
+        ≡ function_walk (program_view top.now) before counts.old line
+        (slice_get (program_view top.now).functions before.functions)) }
     ensures small { IfOk result (λ r. r ≡ None → IsSmall counts.new) }
 {
     match top.function_at(before.functions) {
@@ -189,7 +200,9 @@ fn walk_item<'a>(
 ) -> Result<Option<Broken>, AllocError>
     requires nodes { program_nodes (program_view top.now) < 2 ^ 32 }
     requires counts { IsSmall counts.old }
-    ensures found { IfOk result (λ r. outcome r counts.new ≡ item_walk (program_view top.now) before counts.old decl.line decl.kind) }
+    ensures found { IfOk result
+        (λ r. outcome r counts.new
+        ≡ item_walk (program_view top.now) before counts.old decl.line decl.kind) }
     ensures small { IfOk result (λ r. r ≡ None → IsSmall counts.new) }
 {
     let names = &top.program().names;

@@ -8,6 +8,7 @@ mod disturbs;
 mod elements;
 mod heads;
 mod known;
+mod notes;
 mod operands;
 mod place;
 mod pulls;

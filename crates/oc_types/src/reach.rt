@@ -17,7 +17,9 @@ use std::alloc::{AllocError, Global};
 
 fn leads_back(top: &TopLevel, number: usize, callers: &Marks, call: &Call) -> bool
     requires { IsCallers (program_view top.now) number callers.now }
-    ensures { result ≡ callee_is (back_to (program_view top.now) number) (program_view top.now) (call_view call.now) }
+    ensures { result
+        ≡ callee_is (back_to (program_view top.now) number) (program_view top.now)
+        (call_view call.now) }
 {
     match top.function_place(&call.function) {
         Some(place) => callers.has(place),
@@ -46,13 +48,21 @@ fn name_exposes<'a>(
     name: &Name,
 ) -> Result<bool, AllocError>
     requires { place < length (program_view top.now).functions }
-    ensures { IfOk result (λ r. r ≡ (passes_nv (program_view top.now) scope.now name.now && reaches_mention (program_view top.now).functions name.now place)) }
+    ensures { IfOk result
+        (λ r. r
+        ≡ (passes_nv (program_view top.now) scope.now name.now && reaches_mention
+        (program_view top.now).functions name.now place)) }
 {
     if !is_nv(top.variable(scope, name)) {
         return Ok(false);
     }
-    let marks = top.mentioning(alloc, name)?;
-    Ok(marks.has(place))
+    match top.noted(name) {
+        Some(noted) => Ok(noted.mentioning.has(place)),
+        None => {
+            let marks = top.mentioning(alloc, name)?;
+            Ok(marks.has(place))
+        }
+    }
 }
 
 fn arg_exposes<'a>(
@@ -63,7 +73,8 @@ fn arg_exposes<'a>(
     arg: &Arg,
 ) -> Result<bool, AllocError>
     requires { place < length (program_view top.now).functions }
-    ensures { IfOk result (λ r. r ≡ arg_exposes (program_view top.now) scope.now place (arg_view arg.now)) }
+    ensures { IfOk result
+        (λ r. r ≡ arg_exposes (program_view top.now) scope.now place (arg_view arg.now)) }
 {
     match arg {
         Arg::Value { .. } => Ok(false),
@@ -81,7 +92,10 @@ fn args_expose<'a>(
     args: &[Arg],
 ) -> Result<bool, AllocError>
     requires { place < length (program_view top.now).functions }
-    ensures { IfOk result (λ r. r ≡ list_any (arg_exposes (program_view top.now) scope.now place) (args_list (args_view args.now))) }
+    ensures { IfOk result
+        (λ r. r
+        ≡ list_any (arg_exposes (program_view top.now) scope.now place)
+        (args_list (args_view args.now))) }
 {
     for arg in args {
         if arg_exposes(alloc, top, scope, place, arg)? {
@@ -97,7 +111,8 @@ fn call_exposes<'a>(
     scope: &Scope<'a>,
     call: &Call,
 ) -> Result<bool, AllocError>
-    ensures { IfOk result (λ r. r ≡ call_exposes (program_view top.now) scope.now (call_view call.now)) }
+    ensures { IfOk result
+        (λ r. r ≡ call_exposes (program_view top.now) scope.now (call_view call.now)) }
 {
     match top.function_place(&call.function) {
         Some(place) => args_expose(alloc, top, scope, place, call.args.as_slice()),
@@ -113,7 +128,8 @@ pub fn exposes_nv<'a>(
     scope: &Scope<'a>,
     statement: &Statement,
 ) -> Result<bool, AllocError>
-    ensures { IfOk result (λ r. r ≡ exposes_nv (program_view top.now) scope.now (kind_view statement.now)) }
+    ensures { IfOk result
+        (λ r. r ≡ exposes_nv (program_view top.now) scope.now (kind_view statement.now)) }
 {
     for call in statement.calls() {
         if call_exposes(alloc, top, scope, call)? {

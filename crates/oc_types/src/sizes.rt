@@ -41,7 +41,9 @@ fn some_too_heavy(weights: &[u64]) -> bool
 /// Whether a function of an expansion weighs more than it may.
 #[tactic(auto, using(crate::proofs::SizeLaws::some_pass))]
 fn is_too_heavy(alloc: Global, functions: &[Function]) -> Result<bool, AllocError>
-    ensures { IfOk result (λ b. b ≡ list_any (nat_lt 4294967296) (weights_to (map function_view functions.now) (length functions.now))) }
+    ensures { IfOk result
+        (λ b. b ≡ list_any (nat_lt 4294967296)
+        (weights_to (map function_view functions.now) (length functions.now))) }
 {
     let weights = weights(alloc, functions)?;
     Ok(some_too_heavy(weights.as_slice()))
@@ -50,7 +52,10 @@ fn is_too_heavy(alloc: Global, functions: &[Function]) -> Result<bool, AllocErro
 /// Whether `main` takes more words of stack than it may, of the functions of an expansion.
 #[tactic(auto, using(crate::proofs::SizeLaws::known_passes))]
 fn is_too_deep(alloc: Global, functions: &[Function]) -> Result<bool, AllocError>
-    ensures { IfOk result (λ b. b ≡ nat_lt 65536 (known_of (stacks_to (map function_view functions.now) (length functions.now)) (function_place (map function_view functions.now) (codes "main")))) }
+    ensures { IfOk result
+        (λ b. b ≡ nat_lt 65536
+        (known_of (stacks_to (map function_view functions.now) (length functions.now))
+        (function_place (map function_view functions.now) (codes "main")))) }
 {
     let stacks = stacks(alloc, functions)?;
     Ok(MOST_WORDS < known_of(stacks.as_slice(), main_place(functions)))
@@ -74,7 +79,10 @@ fn size_rule(alloc: Global, program: &Program) -> Result<Option<u8>, AllocError>
 
 fn broken_size(alloc: Global, program: &Program) -> Result<Option<Broken>, AllocError>
     requires { program_size (program_view program.now) ≤ 8192 }
-    ensures { IfOk result (λ r. r ≡ or_later (program_view program.now).last_line (lowest (size_rules (program_view program.now))) None) }
+    ensures { IfOk result
+        (λ r. r
+        ≡ or_later (program_view program.now).last_line
+        (lowest (size_rules (program_view program.now))) None) }
 {
     match size_rule(alloc, program)? {
         Some(rule) => Ok(Some(Broken {

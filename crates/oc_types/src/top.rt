@@ -7,11 +7,11 @@ ghost use Rattle.oc_tree.specs.Nodes.{block_nodes, program_nodes};
 ghost use Rattle.oc_tree.specs.View.{block_view, call_view, function_view, program_view};
 ghost use Rattle.oc_tree.specs.Calls.{function_place, place};
 ghost use Rattle.oc_tree.specs.Scope.{function_named, is_declared, is_taken, nv_kind, nv_named, variable_of};
-ghost use Rattle.oc_types.specs.Marks.{IsAssigning, IsCallers, IsMentioning};
+ghost use Rattle.oc_types.specs.Marks.{IsAssigning, IsCallers, IsMentioning, IsNoted};
 ghost use Rattle.oc_tree.specs.Rules.{callee_params, declared_before, stands_before};
 
+use crate::notes::{Noted, Notes};
 use crate::scope::Scope;
-use oc_reach::assigned::Assigned;
 use oc_reach::calls::Calls;
 use oc_reach::marks::Marks;
 use oc_reach::table::Table;
@@ -30,7 +30,7 @@ pub struct TopLevel<'a> {
     ports: Table<'a>,
     nvs: Table<'a>,
     calls: Calls<'a>,
-    assigned: Assigned<'a>,
+    notes: Notes<'a>,
 }
 
 impl<'a> Model for TopLevel<'a> {
@@ -45,7 +45,7 @@ impl<'a> Model for TopLevel<'a> {
         × (t.ports ≡ (program_view t.program.now).names.ports)
         × (t.nvs ≡ (program_view t.program.now).names.nvs)
         × (t.calls ≡ t.program.now.functions.items)
-        × (t.assigned ≡ t.program.now.functions.items) };
+        × (t.notes ≡ t.program.now) };
 }
 
 /// The kind of a nonvolatile variable.
@@ -86,14 +86,14 @@ impl<'a> TopLevel<'a> {
         let ports = names_table(alloc, program.names.ports.as_slice())?;
         let nvs = names_table(alloc, program.names.nvs.as_slice())?;
         let calls = Calls::new(alloc, program.functions.as_slice())?;
-        let assigned = Assigned::new(alloc, program.functions.as_slice())?;
+        let notes = Notes::new(alloc, program)?;
         Ok(TopLevel {
             program,
             sensors,
             ports,
             nvs,
             calls,
-            assigned,
+            notes,
         })
     }
 
@@ -151,13 +151,22 @@ impl<'a> TopLevel<'a> {
     pub fn assigning(&self, alloc: Global, name: &Name) -> Result<Marks, AllocError>
         ensures { IfOk result (λ m. IsAssigning (program_view self.now) name.now m) }
     {
-        let marks = self.assigned.assigning(alloc, name)?;
+        let marks = self.notes.assigning(alloc, name)?;
         Ok(marks)
+    }
+
+    /// The marks of a nonvolatile variable, where they are worked out.
+    pub fn noted(&self, name: &Name) -> Option<&Noted<'a>>
+        ensures { IfSome result
+            (λ n. IsNoted (program_view self.now) name.now n.now.assigning n.now.mentioning) }
+    {
+        self.notes.noted(name)
     }
 
     /// The first function of that name.
     pub fn function(&self, name: &Name) -> Option<&'a Function>
-        ensures { option_map (λ f. function_view f.now) result ≡ function_named (program_view self.now) name.now }
+        ensures { option_map (λ f. function_view f.now) result
+            ≡ function_named (program_view self.now) name.now }
     {
         let functions = self.program().functions.as_slice();
         match self.function_place(name) {
@@ -167,7 +176,8 @@ impl<'a> TopLevel<'a> {
     }
 
     fn nth(&self, number: usize) -> Option<&'a Function>
-        ensures { option_map (λ f. function_view f.now) result ≡ slice_get (program_view self.now).functions number }
+        ensures { option_map (λ f. function_view f.now) result
+            ≡ slice_get (program_view self.now).functions number }
     {
         let functions = self.program().functions.as_slice();
         functions.get(number)
@@ -175,9 +185,11 @@ impl<'a> TopLevel<'a> {
 
     /// The function with that number.
     pub fn function_at(&self, number: usize) -> Option<&'a Function>
-        ensures found { option_map (λ f. function_view f.now) result ≡ slice_get (program_view self.now).functions number }
+        ensures found { option_map (λ f. function_view f.now) result
+            ≡ slice_get (program_view self.now).functions number }
         ensures below { IfSome result (λ f. number < length (program_view self.now).functions) }
-        ensures nodes { IfSome result (λ f. block_nodes (block_view f.now.body) ≤ program_nodes (program_view self.now)) }
+        ensures nodes { IfSome result
+            (λ f. block_nodes (block_view f.now.body) ≤ program_nodes (program_view self.now)) }
     {
         self.nth(number)
     }

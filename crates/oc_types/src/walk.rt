@@ -46,9 +46,17 @@ fn statement_rule<'a>(
 ) -> Result<Option<u8>, AllocError>
     requires pulls { own_pulls (kind_view statement.now) < 2 ^ 32 }
     requires callers { IsCallers (program_view top.now) place.number callers.now }
-    ensures lowest { IfOk result (λ r. r ≡ lowest (statement_rules (program_view top.now) counts.now (here_of place.entry scope.now) (kind_view statement.now))) }
-    ensures untaken { IfOk result (λ r. r ≡ None → takes_name (program_view top.now) scope.now (kind_view statement.now) ≡ false) }
-    ensures small { IfOk result (λ r. r ≡ None → (counts.now.variables ≤ 256) × (counts.now.statements ≤ 8192) × (counts.now.calls ≤ 1024)) }
+    ensures lowest { IfOk result
+        (λ r. r
+        ≡ lowest (statement_rules (program_view top.now) counts.now (here_of place.entry scope.now)
+        (kind_view statement.now))) }
+    ensures untaken { IfOk result
+        (λ r. r ≡ None
+        → takes_name (program_view top.now) scope.now (kind_view statement.now) ≡ false) }
+    ensures small { IfOk result
+        (λ r. r ≡ None
+        → (counts.now.variables ≤ 256) × (counts.now.statements ≤ 8192)
+        × (counts.now.calls ≤ 1024)) }
 {
     let kind = statement.kind();
     if takes_name(top, scope, kind) {
@@ -138,7 +146,9 @@ fn declare<'a>(
     statement: &'a Stmt,
 ) -> Result<(), AllocError>
     requires { takes_name (program_view top.now) scope.old (kind_view statement.now.kind) ≡ false }
-    ensures after { OnOk result (scope.new ≡ scope_after (program_view top.now) (here_of place.entry scope.old) statement.now.id (kind_view statement.now.kind)) }
+    ensures after { OnOk result
+        (scope.new ≡ scope_after (program_view top.now) (here_of place.entry scope.old)
+        statement.now.id (kind_view statement.now.kind)) }
     ensures longer { OnOk result (take (length scope.old) scope.new ≡ scope.old) }
 {
     let stmt = statement.id;
@@ -198,7 +208,10 @@ pub fn walk_block<'a>(
     requires nodes { block_nodes (block_view block.now) < 2 ^ 32 }
     requires callers { IsCallers (program_view top.now) place.number callers.now }
     requires counts { IsSmall counts.old }
-    ensures found { IfOk result (λ r. outcome r counts.new ≡ block_walk (program_view top.now) (here_of place.entry scope.old) counts.old (block_view block.now)) }
+    ensures found { IfOk result
+        (λ r. outcome r counts.new
+        ≡ block_walk (program_view top.now) (here_of place.entry scope.old) counts.old
+        (block_view block.now)) }
     ensures kept { OnOk result (scope.new ≡ scope.old) }
     ensures small { IfOk result (λ r. r ≡ None → IsSmall counts.new) }
 {
@@ -235,10 +248,15 @@ fn walk_stmt<'a>(
     requires nodes { stmt_nodes (stmt_view statement.now) < 2 ^ 32 }
     requires callers { IsCallers (program_view top.now) place.number callers.now }
     requires counts { IsSmall counts.old }
-    ensures found { IfOk result (λ r. outcome r counts.new ≡ stmt_walk (program_view top.now) (here_of place.entry scope.old) counts.old (stmt_view statement.now)) }
+    ensures found { IfOk result
+        (λ r. outcome r counts.new
+        ≡ stmt_walk (program_view top.now) (here_of place.entry scope.old) counts.old
+        (stmt_view statement.now)) }
     ensures kept { OnOk result (scope.new ≡ scope.old) }
     ensures small { IfOk result (λ r. r ≡ None → IsSmall counts.new) }
-    ensures untaken { IfOk result (λ r. r ≡ None → takes_name (program_view top.now) scope.old (kind_view statement.now.kind) ≡ false) }
+    ensures untaken { IfOk result
+        (λ r. r ≡ None
+        → takes_name (program_view top.now) scope.old (kind_view statement.now.kind) ≡ false) }
 {
     match rule_of(alloc, top, place, callers, scope, counts, &statement.kind)? {
         Some(rule) => Ok(Some(Broken {
@@ -263,9 +281,17 @@ fn rule_of<'a>(
     requires nodes { kind_nodes (kind_view kind.now) < 2 ^ 32 }
     requires callers { IsCallers (program_view top.now) place.number callers.now }
     requires counts { IsSmall counts.old }
-    ensures counted { OnOk result (counts.new ≡ with_statement counts.old (here_of place.entry scope.now) (kind_view kind.now)) }
-    ensures lowest { IfOk result (λ r. r ≡ lowest (statement_rules (program_view top.now) (with_statement counts.old (here_of place.entry scope.now) (kind_view kind.now)) (here_of place.entry scope.now) (kind_view kind.now))) }
-    ensures untaken { IfOk result (λ r. r ≡ None → takes_name (program_view top.now) scope.now (kind_view kind.now) ≡ false) }
+    ensures counted { OnOk result
+        (counts.new ≡ with_statement counts.old (here_of place.entry scope.now)
+        (kind_view kind.now)) }
+    ensures lowest { IfOk result
+        (λ r. r
+        ≡ lowest
+        (statement_rules (program_view top.now)
+        (with_statement counts.old (here_of place.entry scope.now) (kind_view kind.now))
+        (here_of place.entry scope.now) (kind_view kind.now))) }
+    ensures untaken { IfOk result
+        (λ r. r ≡ None → takes_name (program_view top.now) scope.now (kind_view kind.now) ≡ false) }
     ensures small { IfOk result (λ r. r ≡ None → IsSmall counts.new) }
 {
     let statement = Statement::new(alloc, kind)?;
@@ -288,7 +314,10 @@ fn walk_parts<'a>(
     requires callers { IsCallers (program_view top.now) place.number callers.now }
     requires counts { IsSmall counts.old }
     requires untaken { takes_name (program_view top.now) scope.old (kind_view kind.now) ≡ false }
-    ensures found { IfOk result (λ r. outcome r counts.new ≡ kind_walk (program_view top.now) (here_of place.entry scope.old) counts.old (kind_view kind.now)) }
+    ensures found { IfOk result
+        (λ r. outcome r counts.new
+        ≡ kind_walk (program_view top.now) (here_of place.entry scope.old) counts.old
+        (kind_view kind.now)) }
     ensures kept { OnOk result (scope.new ≡ scope.old) }
     ensures small { IfOk result (λ r. r ≡ None → IsSmall counts.new) }
 {

@@ -1,0 +1,155 @@
+//! Marks of functions for the nonvolatile variables that stand beside calls, worked out once for
+//! each name.
+ghost use Rattle.std.specs.Prelude.{◌≡◌, IfOk, IfSome};
+ghost use Rattle.std.specs.Coded.{codes};
+ghost use Rattle.std.specs.List.{All};
+ghost use Rattle.oc_tree.specs.declared.tree.Program.{Program};
+ghost use Rattle.oc_tree.specs.contracts.tree.Block as b;
+ghost use Rattle.oc_tree.specs.View.{program_view};
+ghost use Rattle.oc_types.specs.Marks.{IsAssigning, IsNoted};
+
+use crate::statement::Statement;
+use oc_reach::assigned::Assigned;
+use oc_reach::marks::Marks;
+use oc_reach::mentions::own_mentions;
+use oc_reach::parts::block_kinds;
+use oc_tree::name::Name;
+use oc_tree::tree::{Function, Program, StmtKind};
+use std::alloc::{AllocError, Global};
+use std::marker::Model;
+
+/// A program has at most so many nonvolatile variables.
+const MOST_NAMES: usize = 64;
+
+/// The name of a nonvolatile variable, with the functions that assign it or name it, and those that
+/// call one, directly or through others.
+#[derive(Drop)]
+pub struct Noted<'a> {
+    pub name: &'a Name,
+    pub assigning: Marks,
+    pub mentioning: Marks,
+}
+
+/// A program with marks for names that stand beside calls, which contracts see as the program.
+#[derive(Drop)]
+pub struct Notes<'a> {
+    program: &'a Program,
+    assigned: Assigned<'a>,
+    noted: Vec<Noted<'a>>,
+}
+
+impl<'a> Model for Notes<'a> {
+    ghost Value = { Program };
+
+    ghost coded = { Prim.hlevel (codes, b.the_row.coded) };
+
+    ghost view = { λ t. t.program.now };
+
+    ghost invariant = { λ t.
+        (t.assigned ≡ t.program.now.functions.items)
+        × (All (λ n. IsNoted (program_view t.program.now) n.name.now n.assigning n.mentioning)
+        t.noted.items) };
+}
+
+fn note<'a>(
+    alloc: Global,
+    program: &Program,
+    assigned: &Assigned,
+    name: &'a Name,
+) -> Result<Noted<'a>, AllocError>
+    requires { assigned.now ≡ program.now.functions.items }
+    ensures { IfOk result
+        (λ n. IsNoted (program_view program.now) n.name.now n.assigning n.mentioning) }
+{
+    let assigning = assigned.assigning(alloc, name)?;
+    let mentioning = assigned.calls().mentioning(alloc, name)?;
+    Ok(Noted {
+        name,
+        assigning,
+        mentioning,
+    })
+}
+
+// The statements that call functions.
+fn calling<'a>(alloc: Global, functions: &'a [Function]) -> Result<Vec<Statement<'a>>, AllocError> {
+    let mut calling = Vec::new(alloc);
+    for function in functions {
+        let mut kinds = Vec::new(alloc);
+        block_kinds(&function.body, None, &mut kinds)?;
+        for kind in &kinds {
+            let statement = Statement::new(alloc, *kind)?;
+            if !statement.calls().is_empty() {
+                calling.push(statement)?;
+            }
+        }
+    }
+    Ok(calling)
+}
+
+// Whether a name stands in one of these statements.
+fn stands_in_some(statements: &[Statement], name: &Name) -> bool {
+    statements
+        .iter()
+        .any(|statement| own_mentions(statement.kind(), name) > 0)
+}
+
+// Marks for names that stand beside calls. Which of them are noted changes no answer.
+fn note_all<'a>(
+    alloc: Global,
+    program: &'a Program,
+    assigned: &Assigned,
+) -> Result<Vec<Noted<'a>>, AllocError>
+    requires { assigned.now ≡ program.now.functions.items }
+    ensures { IfOk result
+        (λ r. All (λ n. IsNoted (program_view program.now) n.name.now n.assigning n.mentioning)
+        r.items) }
+{
+    let statements = calling(alloc, program.functions.as_slice())?;
+    let mut noted = Vec::new(alloc);
+    for name in program.names.nvs.as_slice() {
+        if noted.len() >= MOST_NAMES {
+            return Ok(noted);
+        }
+        if stands_in_some(statements.as_slice(), name) {
+            noted.push(note(alloc, program, assigned, name)?)?;
+        }
+    }
+    Ok(noted)
+}
+
+impl<'a> Notes<'a> {
+    pub fn new(alloc: Global, program: &'a Program) -> Result<Notes<'a>, AllocError>
+        ensures { IfOk result (λ n. n ≡ program.now) }
+    {
+        let assigned = Assigned::new(alloc, program.functions.as_slice())?;
+        let noted = note_all(alloc, program, &assigned)?;
+        Ok(Notes {
+            program,
+            assigned,
+            noted,
+        })
+    }
+
+    /// Marks the functions that assign a nonvolatile variable, and those that call one, directly or
+    /// through others.
+    pub fn assigning(&self, alloc: Global, name: &Name) -> Result<Marks, AllocError>
+        ensures { IfOk result (λ m. IsAssigning (program_view self.now) name.now m) }
+    {
+        let marks = self.assigned.assigning(alloc, name)?;
+        Ok(marks)
+    }
+
+    /// The marks of a nonvolatile variable, where they are worked out.
+    pub fn noted(&self, name: &Name) -> Option<&Noted<'a>>
+        ensures { IfSome result
+            (λ n. IsNoted (program_view self.now) name.now n.now.assigning n.now.mentioning) }
+    {
+        let _program = self.program;
+        for noted in &self.noted {
+            if name.is(noted.name) {
+                return Some(noted);
+            }
+        }
+        None
+    }
+}

@@ -6,13 +6,15 @@ ghost use Rattle.std.specs.Prelude.{◌≤◌, length};
 
 mod sources;
 
-use oc_io::disk::StdSink;
+use itoa::Buffer;
 use oc_io::sink::Sink;
+use oc_io::stream::StreamSink;
 use oc_lex::lex;
 use oc_parse::parse;
 use oc_types::{RuleError, check};
-use sources::{long_sources, sources};
+use sources::{Source, long_sources, of_calls_and_places, of_names_and_types, of_runs_and_sizes};
 use std::alloc::{AllocError, Global};
+use std::io;
 
 /// The line and the number of the rule that a source breaks.
 fn broken(alloc: Global, source: &[u8]) -> anyhow::Result<Option<(u32, u8)>>
@@ -27,12 +29,26 @@ fn broken(alloc: Global, source: &[u8]) -> anyhow::Result<Option<(u32, u8)>>
     }
 }
 
+/// Writes a piece, in which a `#` stands for the number of its turn.
+fn put_piece(source: &mut Vec<u8>, piece: &str, turn: u32) -> Result<(), AllocError> {
+    let mut number = Buffer::new();
+    let digits = number.format(turn).as_bytes();
+    for byte in piece.as_bytes() {
+        if *byte == b'#' {
+            source.extend_from_slice(digits)?;
+        } else {
+            source.push(*byte)?;
+        }
+    }
+    Ok(())
+}
+
 /// A text, then a piece so many times, and a text.
-fn repeated(alloc: Global, parts: [&str; 3], count: usize) -> Result<Vec<u8>, AllocError> {
+fn repeated(alloc: Global, parts: [&str; 3], count: u32) -> Result<Vec<u8>, AllocError> {
     let mut source = Vec::new(alloc);
     source.extend_from_slice(parts[0].as_bytes())?;
-    for _ in 0..count {
-        source.extend_from_slice(parts[1].as_bytes())?;
+    for turn in 0..count {
+        put_piece(&mut source, parts[1], turn)?;
     }
     source.extend_from_slice(parts[2].as_bytes())?;
     Ok(source)
@@ -61,23 +77,37 @@ fn is_as_expected<O: Sink>(
     Ok(false)
 }
 
-fn main(rt: HostRuntime) -> anyhow::Result<()> {
-    let alloc = rt.alloc();
-    let mut out = StdSink::out(&rt);
+/// How many of these sources are as expected.
+fn count_right<O: Sink>(alloc: Global, sources: &[Source], out: &mut O) -> anyhow::Result<u64> {
     let mut right: u64 = 0;
-    for (text, expected) in sources() {
-        if is_as_expected(alloc, text.as_bytes(), expected, &mut out)? {
+    for (text, expected) in sources {
+        if is_as_expected(alloc, text.as_bytes(), *expected, out)? {
             right = right.saturating_add(1);
         }
     }
+    Ok(right)
+}
+
+/// Asks about each source, and writes how many are as expected.
+fn tell<O: Sink>(alloc: Global, out: &mut O) -> anyhow::Result<()> {
+    let mut right = count_right(alloc, &of_names_and_types(), out)?
+        .saturating_add(count_right(alloc, &of_calls_and_places(), out)?)
+        .saturating_add(count_right(alloc, &of_runs_and_sizes(), out)?);
     for (parts, count, expected) in long_sources() {
         let source = repeated(alloc, parts, count)?;
-        if is_as_expected(alloc, source.as_slice(), expected, &mut out)? {
+        if is_as_expected(alloc, source.as_slice(), expected, out)? {
             right = right.saturating_add(1);
         }
     }
     let text = format!(in alloc; "{right} sources as expected\n")?;
     out.put(text.as_bytes())?;
-    out.flush()?;
     Ok(())
+}
+
+fn main(rt: HostRuntime) -> anyhow::Result<()> {
+    let alloc = rt.alloc();
+    let mut out = StreamSink::new(alloc, io::writer(&rt))?;
+    let told = tell(alloc, &mut out);
+    out.flush()?;
+    told
 }

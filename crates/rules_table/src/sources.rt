@@ -1,7 +1,10 @@
-//! The sources.
+//! The sources, each with the line and the number of the rule that it breaks.
 
-/// A source, and the line and the number of the rule that it breaks.
-pub fn sources() -> [(&'static str, Option<(u32, u8)>); 97] {
+/// A source that fits in a line, and what it breaks.
+pub type Source = (&'static str, Option<(u32, u8)>);
+
+/// Sources on names, operands and sides.
+pub fn of_names_and_types() -> [Source; 37] {
     [
         ("", Some((1, 4))),
         ("fn main() { }", None),
@@ -76,6 +79,12 @@ pub fn sources() -> [(&'static str, Option<(u32, u8)>); 97] {
             "fn f(b: &mut bool) { *b = true; } fn main() { let mut a: [i32; 2] = [0; 2]; a[0] = 1; let mut b: bool = false; b = 1 < 2; }",
             None,
         ),
+    ]
+}
+
+/// Sources on conditions, calls, what is lent, and where annotations stand.
+pub fn of_calls_and_places() -> [Source; 36] {
+    [
         // Conditions.
         ("fn main() { if 1 { } }", Some((1, 7))),
         ("fn main() { while 1 bound 2 { } }", Some((1, 7))),
@@ -163,6 +172,17 @@ pub fn sources() -> [(&'static str, Option<(u32, u8)>); 97] {
             "nv n: i32 = 0; nv m: i32 = 0; fn f(a: &mut i32) { m = *a; } fn g() { n = 1; } fn main() { f(&mut n); g(); }",
             None,
         ),
+        // Arrays by value.
+        ("fn f(a: [i32; 2]) { } fn main() { }", Some((1, 17))),
+        (
+            "fn f(a: i32,\nb: [i32; 65536]) { } fn main() { }",
+            Some((1, 17)),
+        ),
+        ("fn f(a: [i32; 0]) { } fn main() { }", Some((1, 10))),
+        (
+            "fn f(a: i32, b: bool, c: &[i32; 2], d: &mut [i32; 2]) { } fn main() { }",
+            None,
+        ),
         // Annotations.
         (
             "fn main() { let x = 1; if true { Fresh(x); } }",
@@ -176,6 +196,12 @@ pub fn sources() -> [(&'static str, Option<(u32, u8)>); 97] {
             "fn main() { if true { let x = 1; Fresh(x); Consistent(x, 1); } }",
             None,
         ),
+    ]
+}
+
+/// Sources on returns, calls that lead back, pulls, and sizes.
+pub fn of_runs_and_sizes() -> [Source; 44] {
+    [
         // Returns.
         ("fn f() -> i32 { } fn main() { }", Some((1, 19))),
         ("fn f() {\nreturn 1; } fn main() { }", Some((2, 19))),
@@ -197,6 +223,11 @@ pub fn sources() -> [(&'static str, Option<(u32, u8)>); 97] {
         // Turns.
         ("fn main() { for i in -1..65535 { } }", Some((1, 21))),
         (
+            "fn main() {\nfor i in -2147483647..2147483647 { } }",
+            Some((2, 21)),
+        ),
+        ("fn main() { while true bound 65536 { } }", Some((1, 21))),
+        (
             "fn main() { for i in 0..65535 { } while true bound 65535 { } for i in 9..-9 { } }",
             None,
         ),
@@ -208,6 +239,58 @@ pub fn sources() -> [(&'static str, Option<(u32, u8)>); 97] {
         (
             "sensor t; fn main() { if 1 < 2 && sense(t) > 0 { } }",
             Some((1, 25)),
+        ),
+        // What a pull may change, named beside it.
+        (
+            "fn f(a: &mut i32) -> i32 { return *a; } fn main() { let mut x = 1;\nlet y = f(&mut x) + x; }",
+            Some((2, 26)),
+        ),
+        (
+            "fn f(a: &mut i32) -> i32 { return *a; } fn main() { let mut x = 1; let z = 2; let y = f(&mut x) + z; x = f(&mut x) + z; }",
+            None,
+        ),
+        (
+            "fn f(a: &mut i32) -> i32 { return *a; } fn g(a: &mut i32) {\nlet y = *a + f(a); } fn main() { }",
+            Some((2, 26)),
+        ),
+        (
+            "fn f(a: &i32) -> i32 { return *a; } fn main() { let x = 1; let y = f(&x) + x; }",
+            None,
+        ),
+        (
+            "nv n: i32 = 0; fn g() -> i32 { h(); return 1; } fn h() { n = 2; } fn main() {\nlet y = g() + n; }",
+            Some((2, 26)),
+        ),
+        (
+            "nv n: i32 = 0; fn g() -> i32 { h(); return 1; } fn h() { let m = n; } fn main() { let y = g() + n; }",
+            None,
+        ),
+        (
+            "nv n: i32 = 0; fn g() -> i32 { n = 2; return 1; } fn main() { n = g(); let y = g(); }",
+            None,
+        ),
+        (
+            "port p; nv n: i32 = 0; fn g() -> i32 { n = 2; return 1; } fn main() { let m = n; emit(p, m + g()); }",
+            None,
+        ),
+        (
+            "port p; nv n: i32 = 0; fn g() -> i32 { n = 2; return 1; } fn main() { emit(p, n + g()); }",
+            Some((1, 26)),
+        ),
+        // Counts.
+        (
+            "fn f(a: i32, b: i32, c: i32, d: i32, e: i32, g: i32, h: i32, i: i32) { } fn main() { }",
+            None,
+        ),
+        (
+            "fn main() { }\nfn f(a: i32, b: i32, c: i32, d: i32, e: i32, g: i32, h: i32, i: i32, j: i32) { }",
+            Some((2, 22)),
+        ),
+        ("nv a: [i32; 65536] = 0; fn main() { }", None),
+        ("nv a: [i32; 65535] = 0; nv b: i32 = 0; fn main() { }", None),
+        (
+            "nv a: [i32; 65535] = 0; nv b: i32 = 0;\nnv c: i32 = 0; fn main() { }",
+            Some((2, 22)),
         ),
         // Weight: 7 + 8251 * (15 + 57836 * 9) is 2^32.
         (
@@ -276,8 +359,9 @@ pub fn sources() -> [(&'static str, Option<(u32, u8)>); 97] {
     ]
 }
 
-/// A text, a piece that is repeated, and a text; how often; and what the whole breaks.
-pub fn long_sources() -> [([&'static str; 3], usize, Option<(u32, u8)>); 6] {
+/// A text, a piece that is repeated with the number of its turn for each `#`, and a text; how often;
+/// and what the whole breaks.
+pub fn long_sources() -> [([&'static str; 3], u32, Option<(u32, u8)>); 20] {
     [
         (
             ["sensor t; fn main() { let x = 0", " + sense(t)", "; }"],
@@ -289,6 +373,72 @@ pub fn long_sources() -> [([&'static str; 3], usize, Option<(u32, u8)>); 6] {
                 "sensor t; fn main() { let x = 0",
                 " + sense(t)",
                 ";\nlet y = 1; }",
+            ],
+            255,
+            Some((2, 22)),
+        ),
+        (["fn main() { }", " fn f#() { }", ""], 127, None),
+        (
+            ["fn main() { }", " fn f#() { }", "\nfn f() { }"],
+            127,
+            Some((2, 22)),
+        ),
+        (["", "sensor s#; ", "fn main() { }"], 64, None),
+        (
+            ["", "sensor s#; ", "\nsensor s; fn main() { }"],
+            64,
+            Some((2, 22)),
+        ),
+        (["", "port p#; ", "fn main() { }"], 64, None),
+        (
+            ["", "port p#; ", "\nport p; fn main() { }"],
+            64,
+            Some((2, 22)),
+        ),
+        (["", "nv n#: i32 = 0; ", "fn main() { }"], 64, None),
+        (
+            ["", "nv n#: i32 = 0; ", "\nnv n: i32 = 0; fn main() { }"],
+            64,
+            Some((2, 22)),
+        ),
+        (
+            ["fn main() { ", "let x# = 1; Fresh(x#); ", "Fresh(x0); }"],
+            64,
+            None,
+        ),
+        (
+            [
+                "fn main() { ",
+                "let x# = 1; Fresh(x#); ",
+                "\nConsistent(x0, 1); }",
+            ],
+            64,
+            Some((2, 22)),
+        ),
+        (
+            [
+                "fn main() { let x = 1; ",
+                "Consistent(x, #); ",
+                "Consistent(x, 0); }",
+            ],
+            64,
+            None,
+        ),
+        (
+            [
+                "fn main() { let x = 1; ",
+                "Consistent(x, #); ",
+                "\nConsistent(x, 64); }",
+            ],
+            64,
+            Some((2, 22)),
+        ),
+        (["fn main() { let x0 = 1; ", "let y# = 1; ", "}"], 255, None),
+        (
+            [
+                "fn main() { let x0 = 1; ",
+                "let y# = 1; ",
+                "\nfor i in 0..2 { } }",
             ],
             255,
             Some((2, 22)),

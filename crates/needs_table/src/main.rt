@@ -8,8 +8,8 @@ mod sources;
 use oc_desugar::expand;
 use oc_flow::flow::summaries;
 use oc_io::Memory;
-use oc_io::disk::StdSink;
 use oc_io::sink::Sink;
+use oc_io::stream::StreamSink;
 use oc_lex::lex;
 use oc_needs::required::requirements;
 use oc_needs::requirement::Requirement;
@@ -18,6 +18,7 @@ use oc_tree::checked::Checked;
 use oc_types::check;
 use sources::sources;
 use std::alloc::Global;
+use std::io;
 
 /// The checked program of a source.
 fn checked(alloc: Global, source: &[u8]) -> anyhow::Result<Checked>
@@ -49,10 +50,12 @@ fn put_requirement<O: Sink>(
     Ok(())
 }
 
-/// Writes what a source requires.
+/// Writes a source and what it requires.
 fn put_requirements<O: Sink>(alloc: Global, source: &[u8], out: &mut O) -> anyhow::Result<()>
     requires { length source.now ≤ 1048576 }
 {
+    out.put(source)?;
+    out.put(b"\n")?;
     let checked = checked(alloc, source)?;
     let summaries = summaries(alloc, &checked)?;
     let required = requirements(alloc, &checked, &summaries)?;
@@ -65,7 +68,7 @@ fn put_requirements<O: Sink>(alloc: Global, source: &[u8], out: &mut O) -> anyho
 
 fn main(rt: HostRuntime) -> anyhow::Result<()> {
     let alloc = rt.alloc();
-    let mut out = StdSink::out(&rt);
+    let mut out = StreamSink::new(alloc, io::writer(&rt))?;
     for source in sources() {
         if source.len() <= 1048576 {
             put_requirements(alloc, source.as_bytes(), &mut out)?;

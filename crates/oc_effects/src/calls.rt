@@ -40,7 +40,8 @@ fn lent_name(arg: &Arg) -> Option<&Name>
 
 // The variable that an argument lends to a parameter.
 fn lent(here: &Here, param: &Param, arg: &Arg) -> Option<VarId>
-    ensures { result ≡ (passed here.now.known.now (placed_view here.now) param.now (arg_view arg.now)).lent }
+    ensures { result
+        ≡ (passed here.now.known.now (placed_view here.now) param.now (arg_view arg.now)).lent }
 {
     if !is_mutable(param.passing) {
         return None;
@@ -50,7 +51,9 @@ fn lent(here: &Here, param: &Param, arg: &Arg) -> Option<VarId>
 }
 
 fn passed(alloc: Global, here: &Here, param: &Param, arg: &Arg) -> Result<Passed, AllocError>
-    ensures { IfOk result (λ a. passed_view a ≡ passed here.now.known.now (placed_view here.now) param.now (arg_view arg.now)) }
+    ensures { IfOk result
+        (λ a. passed_view a
+        ≡ passed here.now.known.now (placed_view here.now) param.now (arg_view arg.now)) }
 {
     let mut names = Vec::new(alloc);
     arg_names(arg, &mut names)?;
@@ -67,7 +70,9 @@ fn all_passed(
     params: &[Param],
     args: &[Arg],
 ) -> Result<Vec<Passed>, AllocError>
-    ensures { IfOk result (λ a. map passed_view a.items ≡ all_passed here.now.known.now (placed_view here.now) params.now (args_view args.now)) }
+    ensures { IfOk result
+        (λ a. map passed_view a.items
+        ≡ all_passed here.now.known.now (placed_view here.now) params.now (args_view args.now)) }
 {
     let mut all = Vec::new(alloc);
     for (i, arg) in args.iter().enumerate() {
@@ -80,7 +85,9 @@ fn all_passed(
 }
 
 fn called_by(alloc: Global, here: &Here, call: &Call) -> Result<Option<Called>, AllocError>
-    ensures { IfOk result (λ c. option_map called_view c ≡ called_by here.now.known.now (placed_view here.now) (call_view call.now)) }
+    ensures { IfOk result
+        (λ c. option_map called_view c
+        ≡ called_by here.now.known.now (placed_view here.now) (call_view call.now)) }
 {
     match here.known.function(&call.function) {
         Some(function) => {
@@ -107,7 +114,10 @@ fn call_of(kind: &StmtKind) -> Option<&Call>
 
 /// The call of a statement.
 pub fn called(alloc: Global, here: &Here) -> Result<Option<Called>, AllocError>
-    ensures { IfOk result (λ c. option_map called_view c ≡ option_and_then (called_by here.now.known.now (placed_view here.now)) (call_of (kind_view here.now.kind.now))) }
+    ensures { IfOk result
+        (λ c. option_map called_view c
+        ≡ option_and_then (called_by here.now.known.now (placed_view here.now))
+        (call_of (kind_view here.now.kind.now))) }
 {
     match call_of(here.kind) {
         Some(call) => called_by(alloc, here, call),

@@ -40,7 +40,10 @@ fn add_function<'a>(
     effects: &mut Vec<Effect>,
 ) -> Result<(), AllocError>
     requires { length function.now.params.items < 2 ^ 32 }
-    ensures { OnOk result (map effect_view effects.new.items ≡ map effect_view effects.old.items ++ function_effects known.now (function_view function.now)) }
+    ensures { OnOk result
+        (map effect_view effects.new.items
+        ≡ map effect_view effects.old.items
+        ++ function_effects known.now (function_view function.now)) }
 {
     let mut scope = param_scope(alloc, function.params.as_slice())?;
     let around = Vec::new(alloc);
@@ -62,8 +65,10 @@ fn all_effects<'a>(
     functions: &'a [Function],
 ) -> Result<(Vec<Effect>, Vec<usize>), AllocError>
     requires { All (λ f. length f.params < 2 ^ 32) (map function_view functions.now) }
-    ensures all { IfOk result (λ r. map effect_view r.0.items ≡ all_effects known.now (map function_view functions.now)) }
-    ensures starts { IfOk result (λ r. r.1.items ≡ starts_from known.now 0 (map function_view functions.now)) }
+    ensures all { IfOk result
+        (λ r. map effect_view r.0.items ≡ all_effects known.now (map function_view functions.now)) }
+    ensures starts { IfOk result
+        (λ r. r.1.items ≡ starts_from known.now 0 (map function_view functions.now)) }
 {
     let mut effects = Vec::new(alloc);
     let mut starts = Vec::new(alloc);
@@ -80,7 +85,8 @@ fn part<'e>(effects: &'e [Effect], starts: &[usize], function: usize) -> &'e [Ef
     requires below { function + 1 < length starts.now }
     requires order { get_or starts.now function 0 ≤ get_or starts.now (function + 1) 0 }
     requires within { get_or starts.now (function + 1) 0 ≤ length effects.now }
-    ensures { result.now ≡ slice_range effects.now (get_or starts.now function 0) (get_or starts.now (function + 1) 0) }
+    ensures { result.now ≡ slice_range effects.now (get_or starts.now function 0)
+        (get_or starts.now (function + 1) 0) }
 {
     &effects[starts[function]..starts[function + 1]]
 }
@@ -155,7 +161,9 @@ impl<'a> Effects<'a> {
     /// are numbered in source order; 0 where it has none.
     pub fn first(&self, function: usize) -> StmtId
         requires { function < length self.now.program.functions }
-        ensures { map (λ e. e.stmt) (effects_at self.now.program function) ≡ numbers_on result (length (effects_at self.now.program function)) }
+        ensures numbered { map (λ e. e.stmt) (effects_at self.now.program function)
+            ≡ numbers_on result (length (effects_at self.now.program function)) }
+        ensures none { length (effects_at self.now.program function) ≡ 0 → result ≡ 0 }
     {
         let _checked = self.checked;
         let effects = self.of_function(function);
@@ -181,7 +189,8 @@ impl<'a> Effects<'a> {
 
     /// The effect of the statement of a number; none where there is no such statement.
     pub fn at(&self, s: StmtId) -> Option<&Effect>
-        ensures { effect_seen result ≡ option_map (effect_of self.now.program) (placed self.now.program s) }
+        ensures { effect_seen result
+            ≡ option_map (effect_of self.now.program) (placed self.now.program s) }
     {
         let _checked = self.checked;
         if s == 0 {

@@ -35,7 +35,9 @@ pub fn variable(here: &Here, name: &Name) -> Option<VarId>
 
 /// The variables that names stand for.
 pub fn variables(alloc: Global, here: &Here, names: &[&Name]) -> Result<Vec<VarId>, AllocError>
-    ensures { IfOk result (λ v. v.items ≡ variables_at here.now.known.now (placed_view here.now) (names_seen names.now)) }
+    ensures { IfOk result
+        (λ v. v.items
+        ≡ variables_at here.now.known.now (placed_view here.now) (names_seen names.now)) }
 {
     let mut found = Vec::new(alloc);
     for name in names {

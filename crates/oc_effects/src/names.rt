@@ -10,7 +10,9 @@ use oc_tree::tree::{Right, StmtKind};
 use std::alloc::AllocError;
 
 fn value_names<'a>(right: &'a Right, names: &mut Vec<&'a Name>) -> Result<(), AllocError>
-    ensures { OnOk result (names_seen names.new.items ≡ names_seen names.old.items ++ value_names (right_view right.now)) }
+    ensures { OnOk result
+        (names_seen names.new.items
+        ≡ names_seen names.old.items ++ value_names (right_view right.now)) }
 {
     match right {
         Right::Value { value } => expr_names(value, names),
@@ -20,7 +22,9 @@ fn value_names<'a>(right: &'a Right, names: &mut Vec<&'a Name>) -> Result<(), Al
 
 /// Adds the variables in the value that a statement sets a variable to, and in its target's index.
 pub fn source_names<'a>(kind: &'a StmtKind, names: &mut Vec<&'a Name>) -> Result<(), AllocError>
-    ensures { OnOk result (names_seen names.new.items ≡ names_seen names.old.items ++ source_names (kind_view kind.now)) }
+    ensures { OnOk result
+        (names_seen names.new.items
+        ≡ names_seen names.old.items ++ source_names (kind_view kind.now)) }
 {
     match kind {
         StmtKind::Let { right, .. }

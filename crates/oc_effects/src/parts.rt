@@ -52,7 +52,8 @@ pub fn senses(kind: &StmtKind) -> bool
 
 /// The variable that a statement sets.
 pub fn target(here: &Here) -> Option<VarId>
-    ensures { result ≡ target_of here.now.known.now (placed_view here.now) (kind_view here.now.kind.now) }
+    ensures { result
+        ≡ target_of here.now.known.now (placed_view here.now) (kind_view here.now.kind.now) }
 {
     match here.kind {
         StmtKind::Let { .. } | StmtKind::LetArray { .. } => Some(VarId::Declared {
@@ -68,7 +69,8 @@ pub fn target(here: &Here) -> Option<VarId>
 
 /// The annotation that a statement is.
 pub fn note(here: &Here) -> Option<Note>
-    ensures { result ≡ note_of here.now.known.now (placed_view here.now) (kind_view here.now.kind.now) }
+    ensures { result
+        ≡ note_of here.now.known.now (placed_view here.now) (kind_view here.now.kind.now) }
 {
     match here.kind {
         StmtKind::Fresh { name } => {

@@ -26,7 +26,8 @@ fn name(alloc: Global, text: &str) -> Result<Name, AllocError>
 
 /// `let a = 1;` in the line of its number.
 fn let_one(alloc: Global, id: u32) -> Result<Stmt, AllocError>
-    ensures { IfOk result (λ s. stmt_view s ≡ stmt id id (let_to false (codes "a") None (right_value (number (pos 1))))) }
+    ensures { IfOk result (λ s. stmt_view s
+        ≡ stmt id id (let_to false (codes "a") None (right_value (number (pos 1))))) }
 {
     let kind = StmtKind::Let {
         mutable: false,
@@ -41,7 +42,10 @@ fn let_one(alloc: Global, id: u32) -> Result<Stmt, AllocError>
 
 /// `for i in 0..2 { let a = 1; }` in two lines.
 fn two_turns(alloc: Global) -> Result<Stmt, AllocError>
-    ensures { IfOk result (λ s. stmt_view s ≡ stmt 1 1 (for_in (codes "i") (pos 0) (pos 2) (block 2 (more (stmt 2 2 (let_to false (codes "a") None (right_value (number (pos 1))))) no_stmts)))) }
+    ensures { IfOk result (λ s. stmt_view s
+        ≡ stmt 1 1 (for_in (codes "i") (pos 0) (pos 2)
+        (block 2 (more (stmt 2 2 (let_to false (codes "a") None (right_value (number (pos 1)))))
+        no_stmts)))) }
 {
     let mut statements = Vec::new(alloc);
     statements.push(let_one(alloc, 2)?)?;

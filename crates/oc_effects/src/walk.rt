@@ -18,7 +18,8 @@ use std::alloc::{AllocError, Global};
 
 // What a statement does by itself.
 fn effect(alloc: Global, here: &Here) -> Result<Effect, AllocError>
-    ensures { IfOk result (λ e. effect_view e ≡ effect_of here.now.known.now (placed_view here.now)) }
+    ensures { IfOk result
+        (λ e. effect_view e ≡ effect_of here.now.known.now (placed_view here.now)) }
 {
     let mut own = Vec::new(alloc);
     own_names(here.kind, &mut own)?;
@@ -81,7 +82,10 @@ pub fn walk_block<'a>(
     block: &'a Block,
     effects: &mut Vec<Effect>,
 ) -> Result<(), AllocError>
-    ensures effects { OnOk result (map effect_view effects.new.items ≡ map effect_view effects.old.items ++ block_effects known.now around.now scope.old (block_view block.now)) }
+    ensures effects { OnOk result
+        (map effect_view effects.new.items
+        ≡ map effect_view effects.old.items
+        ++ block_effects known.now around.now scope.old (block_view block.now)) }
     ensures kept { OnOk result (scope.new ≡ scope.old) }
 {
     let mark = scope.len();
@@ -103,7 +107,10 @@ fn walk_stmt<'a>(
     statement: &'a Stmt,
     effects: &mut Vec<Effect>,
 ) -> Result<(), AllocError>
-    ensures effects { OnOk result (map effect_view effects.new.items ≡ map effect_view effects.old.items ++ stmt_effects known.now block around.now scope.old (stmt_view statement.now)) }
+    ensures effects { OnOk result
+        (map effect_view effects.new.items
+        ≡ map effect_view effects.old.items
+        ++ stmt_effects known.now block around.now scope.old (stmt_view statement.now)) }
     ensures kept { OnOk result (scope.new ≡ scope.old) }
 {
     let own = own_effect(alloc, known, block, around, scope, statement)?;
@@ -127,7 +134,11 @@ fn own_effect<'a>(
     scope: &Scope<'a>,
     statement: &'a Stmt,
 ) -> Result<Effect, AllocError>
-    ensures { IfOk result (λ e. effect_view e ≡ effect_of known.now (standing block around.now scope.now statement.now.id statement.now.line (kind_view statement.now.kind))) }
+    ensures { IfOk result
+        (λ e. effect_view e
+        ≡ effect_of known.now
+        (standing block around.now scope.now statement.now.id statement.now.line
+        (kind_view statement.now.kind))) }
 {
     let here = Here {
         known,
@@ -152,7 +163,10 @@ fn walk_parts<'a>(
     kind: &'a StmtKind,
     effects: &mut Vec<Effect>,
 ) -> Result<(), AllocError>
-    ensures effects { OnOk result (map effect_view effects.new.items ≡ map effect_view effects.old.items ++ kind_effects known.now around.now scope.old stmt (kind_view kind.now)) }
+    ensures effects { OnOk result
+        (map effect_view effects.new.items
+        ≡ map effect_view effects.old.items
+        ++ kind_effects known.now around.now scope.old stmt (kind_view kind.now)) }
     ensures kept { OnOk result (scope.new ≡ scope.old) }
 {
     match kind {

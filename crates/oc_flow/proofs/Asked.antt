@@ -13,7 +13,8 @@ use Rattle.oc_tree.specs.Places.{Placed, at_start, block_placed, program_placed,
 use Rattle.oc_tree.specs.Checked.{Group, IsChecked}
 use Rattle.oc_tree.proofs.Grouped.{ids, program_ids}
 use Rattle.oc_effects.specs.Effects.{TCalled, TEffect, effect_of, function_effects, effects_at}
-use Rattle.oc_flow.specs.Variables.{IsOf, is_among, variables, is_variable, same_variable}
+use Rattle.oc_flow.specs.Variables.{is_among, variables, is_variable, same_variable}
+use Rattle.oc_tree.specs.Members.{IsOf}
 use Rattle.oc_flow.specs.Flow.{chain, leads, flows_to, flows, brings, brings_at}
 use Rattle.oc_flow.specs.Known.{TKnown, Knowns, known_at, is_ready, AllKnown, known_flows, brings_seen}
 use Rattle.oc_flow.proofs.Fixpoint.{Ranked}

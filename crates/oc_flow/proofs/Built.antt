@@ -2,7 +2,8 @@
 use Rattle.std.proofs.Common.{◌≡◌, ◌<◌, ◌+◌, ◌-◌, ◌++◌, map, ℕ, suc, Bool, true, false, List, [], ◌∷◌, refl, ap, sym, ◌∙◌, subst, arith, append_assoc, filter, inl, inr}
 use Rattle.std.specs.Prelude.{◌||◌, ◌&&◌}
 use Rattle.oc_tree.specs.declared.tree.VarId.{VarId}
-use Rattle.oc_flow.specs.Variables.{IsOf, is_among, from}
+use Rattle.oc_flow.specs.Variables.{is_among, from}
+use Rattle.oc_tree.specs.Members.{IsOf}
 use Rattle.oc_flow.specs.Flow.{chain}
 use Rattle.std.specs.List.{list_any}
 use Rattle.oc_effects.specs.Effects.{TEffect}

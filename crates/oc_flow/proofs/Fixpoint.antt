@@ -5,7 +5,8 @@ use Rattle.std.specs.List.{list_any}
 use Rattle.oc_tree.specs.Tree.{TProgram}
 use Rattle.oc_tree.specs.declared.tree.VarId.{VarId}
 use Rattle.oc_effects.specs.Effects.{TCalled, TEffect, effects_at}
-use Rattle.oc_flow.specs.Variables.{IsOf, is_among, same_variable, variables, is_variable, begins, ends, is_variable_of}
+use Rattle.oc_flow.specs.Variables.{is_among, same_variable, variables, is_variable, begins, ends, is_variable_of}
+use Rattle.oc_tree.specs.Members.{IsOf}
 use Rattle.oc_flow.specs.Flow.{Between, chain, leads_by_value, leads_by_call, leads, flow_by, flows_to, flows, Bringing, receives, brings_by_call, brings_by, brings_to, brings}
 use Rattle.oc_flow.proofs.Lists.{any_cong}
 

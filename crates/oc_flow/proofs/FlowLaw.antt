@@ -6,7 +6,8 @@ use Rattle.oc_tree.specs.Tree.{TProgram}
 use Rattle.oc_tree.specs.declared.tree.VarId.{VarId}
 use Rattle.oc_tree.proofs.ReachLaws.{or_left, or_right, or_elim}
 use Rattle.oc_effects.specs.Effects.{TCalled, TEffect, effects_at}
-use Rattle.oc_flow.specs.Variables.{IsOf, is_among, same_variable, variables, is_variable, begins, ends, is_variable_of}
+use Rattle.oc_flow.specs.Variables.{is_among, same_variable, variables, is_variable, begins, ends, is_variable_of}
+use Rattle.oc_tree.specs.Members.{IsOf}
 use Rattle.oc_flow.specs.Relations.{Flow, itself, by_value, by_call, Brings, by_input, by_callee}
 use Rattle.oc_flow.specs.Flow.{Between, chain, leads_by_value, leads_by_call, leads, flow_by, flows_to, flows, receives, brings_by_call, brings_to, brings}
 use Rattle.oc_flow.specs.Laws.{Decides}

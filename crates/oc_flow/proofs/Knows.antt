@@ -2,8 +2,7 @@
 use Rattle.std.proofs.Common.{◌≡◌, ◌≢◌, ◌<◌, ◌⊎◌, inl, inr, ◌+◌, ◌++◌, map, ℕ, zero, suc, Bool, true, false, true≢false, List, [], ◌∷◌, Option, Some, None, cond, refl, ap, sym, ◌∙◌, subst, length, arith, append_assoc, filter}
 use Rattle.std.specs.Prelude.{◌||◌, ◌&&◌, nat_lt, is_some, slice_set}
 use Rattle.std.specs.List.{list_any, list_all}
-use Rattle.std.proofs.Math.ListN.{get_or}
-use Rattle.std.proofs.Math.ListN.{length-set}
+use Rattle.std.proofs.Math.ListN.{length-set, get_or}
 use Rattle.std.proofs.lemmas.List.{get_or-set_same, get_or-set_other}
 use Rattle.std.proofs.lemmas.Bool.Decides.{nat_tests}
 use Rattle.std.proofs.lemmas.Option.{none-some, same_Some}
@@ -11,7 +10,8 @@ use Rattle.oc_tree.specs.Tree.{TProgram}
 use Rattle.oc_tree.specs.declared.tree.VarId.{VarId}
 use Rattle.oc_tree.specs.declared.tree.VarId.TheVariants.{Nv, Param, Declared, Returned}
 use Rattle.oc_effects.specs.Effects.{TCalled, TEffect, effects_at, params_at}
-use Rattle.oc_flow.specs.Variables.{IsOf, same_variable, is_among, is_variable_of, variables, begins, ends, from}
+use Rattle.oc_flow.specs.Variables.{same_variable, is_among, is_variable_of, variables, begins, ends, from}
+use Rattle.oc_tree.specs.Members.{IsOf}
 use Rattle.oc_flow.specs.Flow.{chain, leads_by_value, leads_by_call, leads, flows, receives, brings_by_call, brings}
 use Rattle.oc_flow.specs.Known.{number_from, number_in, cell, cell_at, TTable, linked, Links, flows_between, table_flows, TKnown, known_receives, received_at, Knowns, known_at, leads_from, leads_to_callee, leads_called, leads_known, brings_from_callee, brings_called, brings_known, is_ready, outer_of, declared_of, some_leads, some_brings, KnownBy, KnownIs, Right, Learns, Learning, Below, function_rank}
 use Rattle.oc_flow.proofs.Lists.{both, first_of_both, second_of_both, same_tests, any_in, in_any, any_cong}

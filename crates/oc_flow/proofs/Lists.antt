@@ -7,7 +7,8 @@ use Rattle.std.proofs.lemmas.Bool.{eqb-true}
 use Rattle.oc_tree.specs.declared.tree.VarId.{VarId}
 use Rattle.oc_tree.specs.declared.tree.VarId.TheVariants.{Nv, Param, Declared, Returned}
 use Rattle.oc_tree.proofs.ReachLaws.{or_left, or_right, or_elim}
-use Rattle.oc_flow.specs.Variables.{IsOf, same_variable, is_among, is_variable_of}
+use Rattle.oc_flow.specs.Variables.{same_variable, is_among, is_variable_of}
+use Rattle.oc_tree.specs.Members.{IsOf}
 
 -- ---- tests
 

@@ -21,7 +21,7 @@ use Rattle.oc_formed.proofs.BodiesPass.{function_fine}
 use Rattle.oc_formed.proofs.BodiesCalls.{Lower, each_kind, last_call}
 use Rattle.oc_formed.proofs.Declared.{AllWithin, all_within}
 use Rattle.oc_formed.proofs.Mains.{own_place}
-use Rattle.oc_flow.specs.Variables.{IsOf}
+use Rattle.oc_tree.specs.Members.{IsOf}
 use Rattle.oc_flow.proofs.Lists.{row_within, image_of}
 use Rattle.oc_flow.proofs.Fixpoint.{Ranked}
 

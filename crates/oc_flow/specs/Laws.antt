@@ -4,7 +4,7 @@ use Rattle.oc_tree.specs.Tree.{TProgram}
 use Rattle.oc_tree.specs.Checked.{Group, IsChecked}
 use Rattle.oc_tree.specs.declared.tree.VarId.{VarId}
 use Rattle.oc_effects.specs.Effects.{TEffect, effects_at}
-use Rattle.oc_flow.specs.Variables.{IsOf}
+use Rattle.oc_tree.specs.Members.{IsOf}
 use Rattle.oc_flow.specs.Relations.{Flow, Brings}
 use Rattle.oc_flow.specs.Flow.{flow_by, flows, brings_by, brings}
 

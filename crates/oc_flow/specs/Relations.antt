@@ -3,7 +3,8 @@ use Rattle.std.specs.Prelude.{◌≡◌, ℕ, true, Some}
 use Rattle.oc_tree.specs.Tree.{TProgram}
 use Rattle.oc_tree.specs.declared.tree.VarId.{VarId}
 use Rattle.oc_effects.specs.Effects.{TCalled, TEffect, effects_at}
-use Rattle.oc_flow.specs.Variables.{is_among, is_variable, begins, ends, IsOf}
+use Rattle.oc_flow.specs.Variables.{is_among, is_variable, begins, ends}
+use Rattle.oc_tree.specs.Members.{IsOf}
 
 -- `Flow p f u v`: in the function `f` the variable `u` flows into `v`. It is `v`, or it leads to a variable that flows into
 -- `v`: by the value that a statement sets it to, or by a call, as the callee's variables flow.

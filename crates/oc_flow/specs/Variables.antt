@@ -1,5 +1,5 @@
 -- The variables of a function, and what stands for them where the function is called.
-use Rattle.std.specs.Prelude.{◌≡◌, ◌⊎◌, ℕ, zero, suc, ◌+◌, Bool, true, false, ◌&&◌, List, [], ◌∷◌, ◌++◌, map, length, filter, Option, Some, None, nat_eq, nat_lt}
+use Rattle.std.specs.Prelude.{ℕ, zero, suc, ◌+◌, Bool, true, false, ◌&&◌, List, [], ◌∷◌, ◌++◌, map, length, filter, Option, Some, None, nat_eq, nat_lt}
 use Rattle.std.specs.List.{list_any}
 use Rattle.std.proofs.Math.ListN.{get_or}
 use Rattle.oc_tree.specs.Tree.{TProgram}
@@ -64,8 +64,3 @@ ends a c (Nv i) v = same_variable (Nv i) v
 ends a c (Param i) v = is_variable_of (arg_at c i).lent v
 ends a c (Declared s) v = false
 ends a c Returned v = is_variable_of a.target v
-
--- one of these
-abbrev pub IsOf : {A : Type 0} → A → List A → Type 0
-IsOf x [] = ⊥
-IsOf x (y ∷ ys) = (x ≡ y) ⊎ IsOf x ys

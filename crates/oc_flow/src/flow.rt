@@ -2,7 +2,7 @@
 ghost use Rattle.std.specs.Prelude.{◌≡◌, ℕ, IfOk};
 ghost use Rattle.oc_tree.specs.declared.tree.VarId.{VarId};
 ghost use Rattle.oc_effects.specs.Effects.{TEffect, effects_at};
-ghost use Rattle.oc_flow.specs.Variables.{IsOf};
+ghost use Rattle.oc_tree.specs.Members.{IsOf};
 ghost use Rattle.oc_flow.specs.Relations.{Brings, Flow};
 ghost use Rattle.oc_flow.specs.Flow.{brings, flows};
 ghost use Rattle.oc_flow.specs.Laws.{Decides};
@@ -29,8 +29,11 @@ fn summarized(alloc: Global, checked: &Checked) -> Result<Summaries, AllocError>
 pub fn summaries(alloc: Global, checked: &Checked) -> Result<Summaries, Memory>
     ensures summaries { IfOk result (λ s. s ≡ checked.now) }
     // The tests decide the relations.
-    ensures flow { IfOk result (λ s. (f : ℕ) (u v : VarId) → Decides (flows s.program f u v) (Flow s.program f u v)) }
-    ensures brings { IfOk result (λ s. (f : ℕ) (a : TEffect) (v : VarId) → IsOf a (effects_at s.program f) → Decides (brings s.program a v) (Brings s.program f a v)) }
+    ensures flow { IfOk result (λ s. (f : ℕ) (u v : VarId)
+        → Decides (flows s.program f u v) (Flow s.program f u v)) }
+    ensures brings { IfOk result (λ s. (f : ℕ) (a : TEffect) (v : VarId)
+        → IsOf a (effects_at s.program f)
+        → Decides (brings s.program a v) (Brings s.program f a v)) }
 {
     match summarized(alloc, checked) {
         Ok(summaries) => Ok(summaries),

@@ -40,7 +40,8 @@ fn add_params(variables: &mut Vec<VarId>, count: u32) -> Result<(), AllocError>
 }
 
 fn add_declared(variables: &mut Vec<VarId>, effects: &[Effect]) -> Result<(), AllocError>
-    ensures { OnOk result (variables.new.items ≡ variables.old.items ++ declared_of (map effect_view effects.now)) }
+    ensures { OnOk result
+        (variables.new.items ≡ variables.old.items ++ declared_of (map effect_view effects.now)) }
 {
     for effect in effects {
         if effect.declares {
@@ -68,7 +69,9 @@ fn outer_of(alloc: Global, outer: Outer) -> Result<Vec<VarId>, AllocError>
 }
 
 fn variables_of(alloc: Global, outer: Outer, effects: &[Effect]) -> Result<Vec<VarId>, AllocError>
-    ensures { IfOk result (λ r. r.items ≡ outer_of outer.nonvolatile outer.params ++ declared_of (map effect_view effects.now)) }
+    ensures { IfOk result
+        (λ r. r.items
+        ≡ outer_of outer.nonvolatile outer.params ++ declared_of (map effect_view effects.now)) }
 {
     let mut variables = outer_of(alloc, outer)?;
     add_declared(&mut variables, effects)?;
@@ -82,7 +85,9 @@ fn table_of(
     variables: Vec<VarId>,
 ) -> Result<Table, AllocError>
     ensures variables { IfOk result (λ t. t.variables ≡ variables.items) }
-    ensures links { IfOk result (λ t. Links t (λ a b. chain (some_leads known.now (map effect_view effects.now)) variables.items a b)) }
+    ensures links { IfOk result
+        (λ t. Links t
+        (λ a b. chain (some_leads known.now (map effect_view effects.now)) variables.items a b)) }
 {
     let mut table = Table::new(alloc, variables)?;
     all_leads(&mut table, known, effects);
@@ -96,7 +101,8 @@ fn know(
     effects: &[Effect],
     outer: Outer,
 ) -> Result<Known, AllocError>
-    ensures { IfOk result (λ k. KnownBy outer.nonvolatile outer.params known.now (map effect_view effects.now) k) }
+    ensures { IfOk result
+        (λ k. KnownBy outer.nonvolatile outer.params known.now (map effect_view effects.now) k) }
 {
     let variables = variables_of(alloc, outer, effects)?;
     let table = table_of(alloc, known, effects, variables)?;
@@ -124,7 +130,8 @@ fn learn_ready(
 ) -> Result<(), AllocError>
     requires f { f < length effects.now.program.functions }
     requires right { Right effects.now.program known.old.items }
-    requires ready { list_all (λ e. is_ready known.old.items e.call) (effects_at effects.now.program f) ≡ true }
+    requires ready { list_all (λ e. is_ready known.old.items e.call)
+        (effects_at effects.now.program f) ≡ true }
     ensures { OnOk result (Learns effects.now.program f known.old.items known.new.items) }
 {
     let checked = effects.checked();
@@ -198,7 +205,9 @@ fn nothing_known(alloc: Global, count: usize) -> Result<Vec<Option<Known>>, Allo
 /// What is known of each function.
 pub fn learn_all(alloc: Global, effects: &Effects) -> Result<Vec<Option<Known>>, AllocError>
     ensures right { IfOk result (λ r. Right effects.now.program r.items) }
-    ensures all { IfOk result (λ r. (f : ℕ) → f < length effects.now.program.functions → is_some (known_at r.items f) ≡ true) }
+    ensures all { IfOk result
+        (λ r. (f : ℕ) → f < length effects.now.program.functions
+        → is_some (known_at r.items f) ≡ true) }
 {
     let checked = effects.checked();
     let count = checked.program().functions.len();

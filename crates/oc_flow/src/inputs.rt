@@ -14,13 +14,16 @@ use std::alloc::{AllocError, Global};
 
 // By the input that a callee's variable receives.
 fn brings_through(callee: &Known, effect: &Effect, call: &Called, y: VarId, v: VarId) -> bool
-    ensures { result ≡ known_receives callee.now y && ends (effect_view effect.now) (called_view call.now) y v }
+    ensures { result ≡ known_receives callee.now y && ends (effect_view effect.now)
+        (called_view call.now) y v }
 {
     callee.receives(y) && ends_at(effect, call, y, v)
 }
 
 fn brings_from_callee(callee: &Known, effect: &Effect, call: &Called, v: VarId) -> bool
-    ensures { result ≡ list_any (λ y. known_receives callee.now y && ends (effect_view effect.now) (called_view call.now) y v) callee.now.outer }
+    ensures { result ≡ list_any
+        (λ y. known_receives callee.now y && ends (effect_view effect.now) (called_view call.now) y
+        v) callee.now.outer }
 {
     for y in callee.outer() {
         if brings_through(callee, effect, call, *y, v) {
@@ -31,7 +34,8 @@ fn brings_from_callee(callee: &Known, effect: &Effect, call: &Called, v: VarId) 
 }
 
 fn brings_by_call(known: &[Option<Known>], effect: &Effect, call: &Called, v: VarId) -> bool
-    ensures { result ≡ brings_called known.now (effect_view effect.now) (Some (called_view call.now)) v }
+    ensures { result
+        ≡ brings_called known.now (effect_view effect.now) (Some (called_view call.now)) v }
 {
     match known.get(call.function as usize) {
         Some(Some(callee)) => brings_from_callee(callee, effect, call, v),
@@ -70,7 +74,9 @@ fn brought(
     effects: &[Effect],
     variables: &[VarId],
 ) -> Result<Vec<VarId>, AllocError>
-    ensures { IfOk result (λ r. r.items ≡ filter (λ v. list_any (λ e. brings_known known.now e v) (map effect_view effects.now)) variables.now) }
+    ensures { IfOk result (λ r. r.items
+        ≡ filter (λ v. list_any (λ e. brings_known known.now e v) (map effect_view effects.now))
+        variables.now) }
 {
     let mut brought = Vec::new(alloc);
     for v in variables {
@@ -99,7 +105,8 @@ fn received_from(
     from: &[VarId],
     variables: &[VarId],
 ) -> Result<Vec<bool>, AllocError>
-    ensures { IfOk result (λ r. r.items ≡ map (λ y. list_any (λ u. table_flows table.now u y) from.now) variables.now) }
+    ensures { IfOk result (λ r. r.items
+        ≡ map (λ y. list_any (λ u. table_flows table.now u y) from.now) variables.now) }
 {
     let mut received = Vec::new(alloc);
     for v in variables {
@@ -115,7 +122,10 @@ pub fn received(
     known: &[Option<Known>],
     effects: &[Effect],
 ) -> Result<Vec<bool>, AllocError>
-    ensures { IfOk result (λ r. r.items ≡ map (λ y. list_any (λ u. table_flows table.now u y) (filter (λ v. list_any (λ e. brings_known known.now e v) (map effect_view effects.now)) table.now.variables)) table.now.variables) }
+    ensures { IfOk result (λ r. r.items
+        ≡ map (λ y. list_any (λ u. table_flows table.now u y)
+        (filter (λ v. list_any (λ e. brings_known known.now e v) (map effect_view effects.now))
+        table.now.variables)) table.now.variables) }
 {
     let from = brought(alloc, known, effects, table.variables())?;
     let received = received_from(alloc, table, from.as_slice(), table.variables())?;

@@ -31,7 +31,8 @@ impl Model for Known {
 
 impl Known {
     pub fn new(table: Table, outer: Vec<VarId>, received: Vec<bool>) -> Known
-        ensures { result ≡ record { table = table; outer = outer.items; received = received.items } }
+        ensures { result ≡ record
+            { table = table; outer = outer.items; received = received.items } }
     {
         Known {
             table,

@@ -22,7 +22,8 @@ fn link_all(table: &mut Table, from: &[VarId], t: VarId)
 }
 
 fn link_named(table: &mut Table, call: &Called, i: u32, t: VarId)
-    ensures { Adds (λ a b. is_among a (arg_at (called_view call.now) i).named && same_variable b t) table.old table.new }
+    ensures { Adds (λ a b. is_among a (arg_at (called_view call.now) i).named && same_variable b t)
+        table.old table.new }
 {
     if let Some(arg) = call.args.get(i as usize) {
         link_all(table, arg.named.as_slice(), t);
@@ -31,7 +32,8 @@ fn link_named(table: &mut Table, call: &Called, i: u32, t: VarId)
 
 // Lets the variables that stand for a callee's variable lead to one.
 fn link_begins(table: &mut Table, call: &Called, x: VarId, t: VarId)
-    ensures { Adds (λ a b. begins (called_view call.now) x a && same_variable b t) table.old table.new }
+    ensures { Adds (λ a b. begins (called_view call.now) x a && same_variable b t) table.old
+        table.new }
 {
     match x {
         VarId::Nv { .. } => table.link(x, t),
@@ -57,7 +59,9 @@ struct Flow {
 
 // By a callee's variables, where one flows into the other.
 fn leads_along(table: &mut Table, callee: &Known, effect: &Effect, call: &Called, flow: Flow)
-    ensures { Adds (λ a b. begins (called_view call.now) flow.from a && (table_flows callee.now.table flow.from flow.to && ends (effect_view effect.now) (called_view call.now) flow.to b)) table.old table.new }
+    ensures { Adds (λ a b. begins (called_view call.now) flow.from a &&
+        (table_flows callee.now.table flow.from flow.to && ends (effect_view effect.now)
+        (called_view call.now) flow.to b)) table.old table.new }
 {
     if callee.flows(flow.from, flow.to) {
         if let Some(t) = end_of(effect, call, flow.to) {
@@ -68,7 +72,8 @@ fn leads_along(table: &mut Table, callee: &Known, effect: &Effect, call: &Called
 
 // By the flows of a callee's variable.
 fn leads_from(table: &mut Table, callee: &Known, effect: &Effect, call: &Called, x: VarId)
-    ensures { Adds (leads_from callee.now (effect_view effect.now) (called_view call.now) x) table.old table.new }
+    ensures { Adds (leads_from callee.now (effect_view effect.now) (called_view call.now) x)
+        table.old table.new }
 {
     for y in callee.outer() {
         leads_along(table, callee, effect, call, Flow { from: x, to: *y });
@@ -76,7 +81,9 @@ fn leads_from(table: &mut Table, callee: &Known, effect: &Effect, call: &Called,
 }
 
 fn leads_to_callee(table: &mut Table, callee: &Known, effect: &Effect, call: &Called)
-    ensures { Adds (λ a b. list_any (λ x. leads_from callee.now (effect_view effect.now) (called_view call.now) x a b) callee.now.outer) table.old table.new }
+    ensures { Adds (λ a b. list_any
+        (λ x. leads_from callee.now (effect_view effect.now) (called_view call.now) x a b)
+        callee.now.outer) table.old table.new }
 {
     for x in callee.outer() {
         leads_from(table, callee, effect, call, *x);
@@ -84,7 +91,8 @@ fn leads_to_callee(table: &mut Table, callee: &Known, effect: &Effect, call: &Ca
 }
 
 fn call_leads(table: &mut Table, known: &[Option<Known>], effect: &Effect, call: &Called)
-    ensures { Adds (leads_called known.now (effect_view effect.now) (Some (called_view call.now))) table.old table.new }
+    ensures { Adds (leads_called known.now (effect_view effect.now) (Some (called_view call.now)))
+        table.old table.new }
 {
     if let Some(Some(callee)) = known.get(call.function as usize) {
         leads_to_callee(table, callee, effect, call);
@@ -102,7 +110,8 @@ fn effect_leads(table: &mut Table, known: &[Option<Known>], effect: &Effect)
 
 /// Lets variables lead to others by all statements of a function.
 pub fn all_leads(table: &mut Table, known: &[Option<Known>], effects: &[Effect])
-    ensures { Adds (λ a b. list_any (λ e. leads_known known.now e a b) (map effect_view effects.now)) table.old table.new }
+    ensures { Adds (λ a b. list_any (λ e. leads_known known.now e a b)
+        (map effect_view effects.now)) table.old table.new }
 {
     for effect in effects {
         effect_leads(table, known, effect);

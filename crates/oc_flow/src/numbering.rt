@@ -1,9 +1,8 @@
 //! The variables of a function by numbers.
-ghost use Rattle.std.specs.Prelude.{◌≡◌, ◌<◌, ◌++◌, ℕ, [], ◌∷◌, length, Option, Some, None, cond, nat_eq, OnOk, IfOk, IfSome};
+ghost use Rattle.std.specs.Prelude.{◌≡◌, ◌<◌, ℕ, [], length, Option, Some, None, cond, nat_eq, OnOk, IfOk, IfSome};
 ghost use Rattle.oc_flow.specs.Variables.{same_variable};
 ghost use Rattle.oc_flow.specs.Known.{Entries, entry_of, number_in, or_else, slot};
 
-use indexmap::IndexMap;
 use oc_tree::tree::VarId;
 use std::alloc::{AllocError, Global};
 use std::marker::Model;
@@ -16,27 +15,53 @@ pub fn is_same(a: VarId, b: VarId) -> bool
 }
 
 // Different variables have different slots.
-fn slot(v: VarId) -> u64
+fn slot(v: VarId) -> usize
     ensures { result ≡ slot v }
 {
     match v {
-        VarId::Nv { index } => 3 * index as u64 + 1,
-        VarId::Param { index } => 3 * index as u64 + 2,
-        VarId::Declared { stmt } => 3 * stmt as u64 + 3,
+        VarId::Nv { index } => 3 * index as usize + 1,
+        VarId::Param { index } => 3 * index as usize + 2,
+        VarId::Declared { stmt } => 3 * stmt as usize + 3,
         VarId::Returned => 0,
     }
 }
 
-// Slots with numbers, each slot once.
+// A number as a `u32`; a list that is too long for that counts as one that there is no memory for.
+fn short(number: usize) -> Result<u32, AllocError>
+    ensures { IfOk result (λ n. n ≡ number) }
+{
+    match u32::try_from(number) {
+        Ok(number) => Ok(number),
+        Err(_) => Err(AllocError),
+    }
+}
+
+// Makes room for a slot.
+#[tactic(auto, using(crate::proofs::Numbers::entry_more))]
+fn reach(places: &mut Vec<Option<u32>>, slot: usize) -> Result<(), AllocError>
+    ensures room { OnOk result (slot < length places.new.items) }
+    ensures same { OnOk result
+        ((x : ℕ) → entry_of places.new.items x ≡ entry_of places.old.items x) }
+{
+    for _i in places.len()..slot {
+        places.push(None)?;
+    }
+    if places.len() <= slot {
+        places.push(None)?;
+    }
+    Ok(())
+}
+
+// The number at each slot, where there is one.
 #[derive(Drop)]
 struct Numbers {
-    entries: IndexMap<u64, usize>,
+    places: Vec<Option<u32>>,
 }
 
 impl Model for Numbers {
     ghost Value = { Entries };
 
-    ghost view = { λ s. s.entries.entries };
+    ghost view = { λ s. s.places.items };
 }
 
 impl Numbers {
@@ -44,36 +69,43 @@ impl Numbers {
         ensures { result ≡ [] }
     {
         Numbers {
-            entries: IndexMap::new(alloc),
+            places: Vec::new(alloc),
         }
     }
 
-    fn get(&self, slot: u64) -> Option<usize>
+    fn get(&self, slot: usize) -> Option<usize>
         ensures { result ≡ entry_of self.now slot }
     {
-        let found = self.entries.get(&slot);
-        match found {
-            Some(number) => Some(*number),
+        if slot >= self.places.len() {
+            return None;
+        }
+        match self.places[slot] {
+            Some(number) => Some(number as usize),
             None => None,
         }
     }
 
-    fn add(&mut self, slot: u64, number: usize) -> Result<(), AllocError>
+    fn put(&mut self, slot: usize, number: u32) -> Result<(), AllocError>
         requires { entry_of self.old slot ≡ None }
-        ensures { OnOk result (self.new ≡ self.old ++ (slot, number) ∷ []) }
+        ensures { OnOk result ((x : ℕ)
+            → entry_of self.new x ≡ cond (nat_eq x slot) (Some number) (entry_of self.old x)) }
     {
-        self.entries.insert(slot, number)?;
+        reach(&mut self.places, slot)?;
+        self.places[slot] = Some(number);
         Ok(())
     }
 
     // Adds a slot, unless it is there.
-    fn add_first(&mut self, slot: u64, number: usize) -> Result<(), AllocError>
-        ensures { OnOk result ((x : ℕ) (rest : Option ℕ) → or_else (entry_of self.new x) rest ≡ or_else (entry_of self.old x) (cond (nat_eq x slot) (Some number) rest)) }
+    fn add_first(&mut self, slot: usize, number: usize) -> Result<(), AllocError>
+        ensures { OnOk result ((x : ℕ) (rest : Option ℕ)
+            → or_else (entry_of self.new x) rest
+            ≡ or_else (entry_of self.old x) (cond (nat_eq x slot) (Some number) rest)) }
     {
         match self.get(slot) {
             Some(_) => Ok(()),
             None => {
-                self.add(slot, number)?;
+                let number = short(number)?;
+                self.put(slot, number)?;
                 Ok(())
             }
         }

@@ -82,7 +82,8 @@ fn join_each(rows: &mut Vec<Vec<bool>>, number: usize, other: &[bool])
     requires number { number < length rows.old.items }
     requires other { length other.now ≡ length rows.old.items }
     ensures height { length rows.new.items ≡ length rows.old.items }
-    ensures cells { JoinedEach number other.now (cells_of rows.old.items) (cells_of rows.new.items) }
+    ensures cells { JoinedEach number other.now (cells_of rows.old.items)
+        (cells_of rows.new.items) }
 {
     for i in 0..rows.len() {
         if at(rows.as_slice(), i, number) {
@@ -96,7 +97,9 @@ fn join_through(alloc: Global, rows: &mut Vec<Vec<bool>>, number: usize) -> Resu
     requires square { IsSquare (length rows.old.items) (cells_of rows.old.items) }
     requires number { number < length rows.old.items }
     ensures square { IsSquare (length rows.old.items) (cells_of rows.new.items) }
-    ensures cells { OnOk result (JoinedEach number (get_or (cells_of rows.old.items) number []) (cells_of rows.old.items) (cells_of rows.new.items)) }
+    ensures cells { OnOk result
+        (JoinedEach number (get_or (cells_of rows.old.items) number []) (cells_of rows.old.items)
+        (cells_of rows.new.items)) }
 {
     let other = copied(alloc, rows[number].as_slice())?;
     join_each(rows, number, other.as_slice());
@@ -153,7 +156,8 @@ impl Table {
     /// Lets one variable lead to the other, where both are in the table.
     pub fn link(&mut self, u: VarId, v: VarId)
         ensures variables { self.new.variables ≡ self.old.variables }
-        ensures links { Links self.new (λ a b. linked self.old a b || (same_variable a u && same_variable b v)) }
+        ensures links { Links self.new
+            (λ a b. linked self.old a b || (same_variable a u && same_variable b v)) }
     {
         if let Some(i) = self.number(u) {
             if let Some(j) = self.number(v) {
@@ -166,7 +170,9 @@ impl Table {
     fn through(&mut self, alloc: Global, w: VarId) -> Result<(), AllocError>
         requires { is_among w self.now.variables ≡ true }
         ensures variables { self.new.variables ≡ self.old.variables }
-        ensures links { OnOk result (Links self.new (λ a b. linked self.old a b || (linked self.old a w && linked self.old w b))) }
+        ensures links { OnOk result
+            (Links self.new (λ a b. linked self.old a b ||
+            (linked self.old a w && linked self.old w b))) }
     {
         if let Some(k) = self.number(w) {
             join_through(alloc, &mut self.rows, k)?;
@@ -177,7 +183,8 @@ impl Table {
     /// Lets variables lead on through each other.
     pub fn close(&mut self, alloc: Global) -> Result<(), AllocError>
         ensures variables { self.new.variables ≡ self.old.variables }
-        ensures links { OnOk result (Links self.new (λ a b. chain (linked self.old) self.old.variables a b)) }
+        ensures links { OnOk result
+            (Links self.new (λ a b. chain (linked self.old) self.old.variables a b)) }
     {
         let count = self.variables().len();
         for i in 0..count {

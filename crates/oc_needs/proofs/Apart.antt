@@ -12,7 +12,7 @@ use Rattle.oc_tree.specs.Places.{Placed, block_placed, at_start}
 use Rattle.oc_tree.specs.Checked.{Group, IsChecked}
 use Rattle.oc_tree.proofs.Grouped.{ids, program_ids}
 use Rattle.oc_effects.specs.Effects.{TEffect, effect_of, function_effects, effects, effects_at, is_numbered}
-use Rattle.oc_flow.specs.Variables.{IsOf}
+use Rattle.oc_tree.specs.Members.{IsOf}
 use Rattle.oc_flow.specs.Flow.{brings, brings_at}
 use Rattle.oc_needs.specs.Code.{found_is}
 use Rattle.oc_needs.proofs.Tests.{any_flat_map, or_same}

@@ -9,5 +9,7 @@ pub mod NeedLevels
 pub mod Apart
 pub mod Locals
 pub mod SitesLaw
+pub mod SitesOnce
 pub mod RequiredLaw
 pub mod NeedLaw
+pub mod SiteTables

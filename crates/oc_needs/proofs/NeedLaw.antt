@@ -8,7 +8,8 @@ use Rattle.oc_tree.specs.Checked.{Group, IsChecked}
 use Rattle.oc_tree.specs.declared.tree.VarId.{VarId}
 use Rattle.oc_tree.specs.declared.marked.Policy.{Policy}
 use Rattle.oc_effects.specs.Effects.{TCalled, TEffect, effects_at}
-use Rattle.oc_flow.specs.Variables.{variables, is_variable, is_given, begins, IsOf}
+use Rattle.oc_flow.specs.Variables.{variables, is_variable, is_given, begins}
+use Rattle.oc_tree.specs.Members.{IsOf}
 use Rattle.oc_flow.specs.Relations.{Flow}
 use Rattle.oc_flow.specs.Flow.{flows, flows_to}
 use Rattle.oc_flow.specs.Laws.{Decides}

@@ -10,7 +10,8 @@ use Rattle.oc_tree.specs.Tree.{TProgram}
 use Rattle.oc_tree.specs.declared.tree.VarId.{VarId}
 use Rattle.oc_tree.specs.declared.marked.Policy.{Policy}
 use Rattle.oc_effects.specs.Effects.{TCalled, TEffect, effects, effects_at, function_effects}
-use Rattle.oc_flow.specs.Variables.{from, variables, is_variable, is_given, begins, same_variable, IsOf}
+use Rattle.oc_flow.specs.Variables.{from, variables, is_variable, is_given, begins, same_variable}
+use Rattle.oc_tree.specs.Members.{IsOf}
 use Rattle.oc_flow.specs.Flow.{flows, flows_to}
 use Rattle.oc_needs.specs.Policies.{annotated, held, is_note_of, note_variable}
 use Rattle.oc_needs.specs.Need.{Needed, is_empty, is_needed_at, needs_by_call, needs_itself, needs_by, needs_to, needs}
@@ -277,6 +278,51 @@ level_ends p q k level e i =
   where
     rows_at : (p : TProgram) (q : Policy) → (level_at p q (length p.functions)).rows ≡ rows_of p (needs p q)
     rows_at p q = let l = level_is p q (length p.functions) in l.rows_are
+
+-- ---- a depth that changes nothing
+
+at_same : (p : TProgram) (new before : Needed) → ((g : ℕ) (w : VarId) → new g w ≡ before g w) → (o : Option TCalled) (y : VarId) → is_needed_at p new o y ≡ is_needed_at p before o y
+at_same p new before h None y = refl
+at_same p new before h (Some c) y = any_same (λ x. new c.function x && begins c x y) (λ x. before c.function x && begins c x y) (variables p c.function) (λ x. ap (λ b. b && begins c x y) (h c.function x))
+
+by_same : (p : TProgram) (q : Policy) (new before : Needed) → ((g : ℕ) (w : VarId) → new g w ≡ before g w) → (g : ℕ) (w : VarId) → needs_by p q new g w ≡ needs_by p q before g w
+by_same p q new before h g w =
+    ap (λ b. is_given w && (needs_itself p q g w || b))
+    (any_same (λ a. list_any (λ y. is_needed_at p new a.call y && flows p g w y) (variables p g)) (λ a. list_any (λ y. is_needed_at p before a.call y && flows p g w y) (variables p g)) (effects_at p g)
+    (λ a. any_same (λ y. is_needed_at p new a.call y && flows p g w y) (λ y. is_needed_at p before a.call y && flows p g w y) (variables p g) (λ y. ap (λ b. b && flows p g w y) (at_same p new before h a.call y))))
+
+stays : (p : TProgram) (q : Policy) (d : ℕ) → ((g : ℕ) (w : VarId) → needs_to p q (suc d) g w ≡ needs_to p q d g w) → (m : ℕ) → d ≤ m → (g : ℕ) (w : VarId) → needs_to p q m g w ≡ needs_to p q d g w
+stays p q d h zero l g w = let e : zero ≡ d = omega (arith, l) in ap (λ n. needs_to p q n g w) e
+stays p q d h (suc m) l g w = by_order (cases_lt m d) (λ i f v. stays p q d h m i f v)
+  where
+    by_order : (m < d) ⊎ (d ≤ m) → (d ≤ m → (f : ℕ) (v : VarId) → needs_to p q m f v ≡ needs_to p q d f v) → needs_to p q (suc m) g w ≡ needs_to p q d g w
+    by_order (inl i) r = let e : suc m ≡ d = omega (arith, l, i) in ap (λ n. needs_to p q n g w) e
+    by_order (inr i) r = needs_more p q m g w ∙ (by_same p q (needs_to p q m) (needs_to p q d) (r i) g w ∙ (sym (needs_more p q d g w) ∙ h g w))
+
+none_at : (bs : List Bool) (i : ℕ) → list_any (λ b. b) bs ≡ false → i < length bs → get_or bs i true ≡ false
+none_at [] i h l = absurd (omega (arith, l))
+none_at (b ∷ bs) zero h l = let parts = or_no b (list_any (λ c. c) bs) h in parts.0
+none_at (b ∷ bs) (suc i) h l = let parts = or_no b (list_any (λ c. c) bs) h in none_at bs i parts.1 (omega (arith, l))
+
+pub level_settles : (p : TProgram) (q : Policy) (k : ℕ) (old new : TLevel) → k < length p.functions → new ≡ next_level p q old → old ≡ level_at p q k → list_any (λ b. b) new.changed ≡ false → new.rows ≡ rows_of p (needs p q)
+level_settles p q k old new l e i none =
+    ap (λ r. r.rows) same ∙ (now.rows_are ∙ map_from_same (row_of p (needs_to p q (suc k))) (row_of p (needs p q)) 0 (length p.functions) (λ g h. filter_same (needs_to p q (suc k) g) (needs p q g) (variables p g) (λ w. settled g w ∙ sym (stays p q k settled (length p.functions) (omega (arith, l)) g w))))
+  where
+    same : new ≡ next_level p q (level_at p q k)
+    same = e ∙ ap (next_level p q) i
+
+    now : IsLevel p q (suc k) (next_level p q (level_at p q k))
+    now = next_is p q k (level_at p q k) (level_is p q k)
+
+    no_change : list_any (λ b. b) (map (is_row_changed p q (level_at p q k)) (from 0 (length p.functions))) ≡ false
+    no_change = sym (ap (λ r. list_any (λ b. b) r.changed) same) ∙ none
+
+    settled : (g : ℕ) (w : VarId) → needs_to p q (suc k) g w ≡ needs_to p q k g w
+    settled g w = by_place (cases_lt g (length p.functions))
+      where
+        by_place : (g < length p.functions) ⊎ (length p.functions ≤ g) → needs_to p q (suc k) g w ≡ needs_to p q k g w
+        by_place (inl h) = settled_step p q k (level_at p q k) (level_is p q k) g w (none_at (map (is_row_changed p q (level_at p q k)) (from 0 (length p.functions))) g no_change (omega (arith, h, length_map_from (is_row_changed p q (level_at p q k)) 0 (length p.functions))))
+        by_place (inr h) = needs_past p q (suc k) g w h ∙ sym (needs_past p q k g w h)
 
 -- ---- what the code makes of a depth
 

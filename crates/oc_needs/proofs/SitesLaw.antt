@@ -10,7 +10,8 @@ use Rattle.oc_tree.specs.Checked.{Group, IsChecked}
 use Rattle.oc_tree.specs.declared.tree.VarId.{VarId}
 use Rattle.oc_tree.specs.declared.tree.VarId.TheVariants.{Nv, Param, Declared, Returned}
 use Rattle.oc_effects.specs.Effects.{TEffect, effects_at}
-use Rattle.oc_flow.specs.Variables.{variables, IsOf}
+use Rattle.oc_flow.specs.Variables.{variables}
+use Rattle.oc_tree.specs.Members.{IsOf}
 use Rattle.oc_flow.specs.Flow.{flows, brings, brings_at}
 use Rattle.oc_needs.specs.Sites.{is_loop_at, loops_of, stands_in, is_outside, carries, lifts, site, is_input, input_sites}
 use Rattle.oc_needs.specs.Need.{is_empty}

@@ -3,7 +3,7 @@ use Rattle.std.proofs.Common.{◌≡◌, refl, sym, ap, ◌∙◌, subst, Bool, 
 use Rattle.std.specs.Prelude.{◌&&◌, ◌||◌, filter, flat_map}
 use Rattle.std.specs.List.{list_any}
 use Rattle.std.proofs.lemmas.List.Folds.{list_any-append}
-use Rattle.oc_flow.specs.Variables.{IsOf}
+use Rattle.oc_tree.specs.Members.{IsOf}
 
 pub bool_same : (a b : Bool) → (a ≡ true → b ≡ true) → (b ≡ true → a ≡ true) → a ≡ b
 bool_same true true f g = refl

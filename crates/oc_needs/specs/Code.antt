@@ -14,7 +14,7 @@ use Rattle.oc_flow.specs.Flow.{flows, brings_at}
 use Rattle.oc_needs.specs.Policies.{kind_of_note, note_variable, is_note_of, is_held, annotated, held}
 use Rattle.oc_needs.specs.Sites.{stands_in, carries}
 use Rattle.oc_needs.specs.Need.{Needed, is_empty, needs}
-use Rattle.oc_needs.specs.Requirements.{TRequirement, with_inputs, with_list, in_order}
+use Rattle.oc_needs.specs.Requirements.{TRequirement, rising, with_inputs, with_list, in_order}
 
 -- what the annotations of the function at the place `f` ask for
 abbrev pub asked_by : ℕ → List TEffect → List Policy
@@ -80,6 +80,27 @@ sites_from p f xs s us = flat_map (λ u. sites_between p f s u xs) us
 
 abbrev pub source_sites : TProgram → ℕ → List VarId → List TSource → List ℕ
 source_sites p f xs ss = flat_map (λ s. sites_from p f xs s s.brought) ss
+
+-- The same with fewer repetitions: a statement in no loop is its own site, once; and the sites of those in loops are the
+-- same for all policies, so that each variable has one list of them.
+abbrev pub flows_to_some : TProgram → ℕ → List VarId → VarId → Bool
+flows_to_some p f xs u = list_any (flows p f u) xs
+
+abbrev pub sites_outside : TProgram → ℕ → List VarId → TSource → List ℕ
+sites_outside p f xs s = cond (is_empty s.loops) (cond (list_any (flows_to_some p f xs) s.brought) (s.stmt ∷ []) []) []
+
+abbrev pub sites_inside : TProgram → ℕ → VarId → TSource → List ℕ
+sites_inside p f x s = cond (is_empty s.loops) [] (sites_from p f (x ∷ []) s s.brought)
+
+abbrev pub looped_sites : TProgram → ℕ → List TSource → VarId → List ℕ
+looped_sites p f ss x = rising (flat_map (sites_inside p f x) ss)
+
+abbrev pub all_sites_once : TProgram → ℕ → List VarId → List TSource → List ℕ
+all_sites_once p f xs ss = flat_map (sites_outside p f xs) ss ++ flat_map (looped_sites p f ss) xs
+
+-- those of inputs in loops, for each variable of a function
+abbrev pub looped_at : TProgram → ℕ → List (List ℕ)
+looped_at p f = map (looped_sites p f (sources p f (effects_at p f))) (variables p f)
 
 -- ---- what is known of a function for all policies
 
@@ -180,7 +201,7 @@ level_at p q (suc depth) = next_level p q (level_at p q depth)
 
 -- what is required for variables that are needed
 abbrev pub sites_for : TProgram → ℕ → List VarId → List ℕ → List (List ℕ)
-sites_for p g needed others = with_inputs (source_sites p g needed (sources p g (effects_at p g))) others
+sites_for p g needed others = with_inputs (all_sites_once p g needed (sources p g (effects_at p g))) others
 
 abbrev pub own_list : TProgram → Policy → ℕ → List (List ℕ)
 own_list p q g = sites_for p g (needed_itself p q g) (held p q)

@@ -5,6 +5,7 @@ mod asked;
 pub mod laws;
 mod lists;
 mod local;
+mod looped;
 mod need;
 mod place;
 pub mod policy;

@@ -1,12 +1,13 @@
 //! What is known of a function for all policies.
 ghost use Rattle.std.specs.Prelude.{◌≡◌, ◌<◌, ℕ, ◌+◌, ◌++◌, [], ◌∷◌, map, filter, flat_map, length, reverse, IfOk, OnOk};
+ghost use Rattle.std.proofs.Math.ListN.{get_or};
 ghost use Rattle.oc_tree.specs.declared.tree.VarId.TheVariants.{Nv, Param};
 ghost use Rattle.oc_effects.specs.Effects.{effects_at, params_at};
 ghost use Rattle.oc_effects.specs.View.{effect_view};
 ghost use Rattle.oc_flow.specs.Flow.{brings_at};
 ghost use Rattle.oc_flow.specs.Variables.{from, variables};
-ghost use Rattle.oc_needs.specs.Code.{declared_by, is_loop_by, all_locals, local_at, loops_by, source_list, source_of, sources};
-ghost use Rattle.oc_needs.specs.CodeView.{local_view, source_view, IsBody};
+ghost use Rattle.oc_needs.specs.Code.{declared_by, is_loop_by, all_locals, local_at, looped_at, loops_by, source_list, source_of, sources};
+ghost use Rattle.oc_needs.specs.CodeView.{local_view, sites_view, source_view, tables_view, IsBody};
 
 use crate::place::{function_count, number_of};
 use oc_effects::effect::Effect;
@@ -36,6 +37,8 @@ pub struct Body<'s, 'a, 'l> {
     pub summaries: &'s Summaries<'a>,
     pub function: u32,
     pub local: &'l Local,
+    // The sites of inputs in loops for the function's variables, as far as they are known.
+    pub looped: &'l [Vec<StmtId>],
 }
 
 // Whether the statement of a number is a loop.
@@ -74,7 +77,8 @@ fn brought_by(
     s: StmtId,
     variables: &[VarId],
 ) -> Result<Vec<VarId>, AllocError>
-    ensures { IfOk result (λ v. v.items ≡ filter (brings_at summaries.now.program s) variables.now) }
+    ensures { IfOk result
+        (λ v. v.items ≡ filter (brings_at summaries.now.program s) variables.now) }
 {
     variables
         .iter()
@@ -117,7 +121,8 @@ fn add_params(variables: &mut Vec<VarId>, count: usize) -> Result<(), AllocError
 }
 
 fn add_declared(variables: &mut Vec<VarId>, effects: &[Effect]) -> Result<(), AllocError>
-    ensures { OnOk result (variables.new.items ≡ variables.old.items ++ declared_by (map effect_view effects.now)) }
+    ensures { OnOk result
+        (variables.new.items ≡ variables.old.items ++ declared_by (map effect_view effects.now)) }
 {
     for effect in effects {
         if effect.declares {
@@ -151,7 +156,10 @@ fn add_source(
 ) -> Result<(), AllocError>
     requires function { function < length summaries.now.program.functions }
     requires own { own.now ≡ variables summaries.now.program function }
-    ensures { OnOk result (map source_view sources.new.items ≡ map source_view sources.old.items ++ source_list (source_of summaries.now.program function (effect_view effect.now))) }
+    ensures { OnOk result
+        (map source_view sources.new.items
+        ≡ map source_view sources.old.items
+        ++ source_list (source_of summaries.now.program function (effect_view effect.now))) }
 {
     let brought = brought_by(alloc, summaries, effect.stmt, own)?;
     if brought.is_empty() {
@@ -176,7 +184,9 @@ fn sources_of(
 ) -> Result<Vec<Source>, AllocError>
     requires function { function < length summaries.now.program.functions }
     requires own { own.now ≡ variables summaries.now.program function }
-    ensures { IfOk result (λ s. map source_view s.items ≡ sources summaries.now.program function (effects_at summaries.now.program function)) }
+    ensures { IfOk result
+        (λ s. map source_view s.items
+        ≡ sources summaries.now.program function (effects_at summaries.now.program function)) }
 {
     let mut sources = Vec::new(alloc);
     for effect in summaries.effects().of_function(function) {
@@ -206,23 +216,38 @@ pub fn locals(alloc: Global, summaries: &Summaries) -> Result<Vec<Local>, AllocE
     Ok(locals)
 }
 
+// The sites that are known of a function; none where it isn't there.
+fn table_at<'l>(tables: &'l [Vec<Vec<StmtId>>], function: usize) -> &'l [Vec<StmtId>]
+    ensures { sites_view result.now ≡ get_or (tables_view tables.now) function [] }
+{
+    match tables.get(function) {
+        Some(table) => table.as_slice(),
+        None => &[],
+    }
+}
+
 /// The function at a place, with what is known of it.
 pub fn body_at<'s, 'a, 'l>(
     summaries: &'s Summaries<'a>,
     locals: &'l [Local],
+    looped: &'l [Vec<Vec<StmtId>>],
     function: usize,
 ) -> Result<Body<'s, 'a, 'l>, AllocError>
     requires locals { map local_view locals.now ≡ all_locals summaries.now.program }
+    requires looped { tables_view looped.now
+        ≡ map (looped_at summaries.now.program) (from 0 (length looped.now)) }
     requires function { function < length locals.now }
     ensures body { IfOk result IsBody }
     ensures function { IfOk result (λ b. b.function ≡ function) }
     ensures summaries { IfOk result (λ b. b.summaries.now ≡ summaries.now) }
 {
     let local = &locals[function];
+    let looped = table_at(looped, function);
     let function = number_of(function)?;
     Ok(Body {
         summaries,
         function,
         local,
+        looped,
     })
 }

@@ -73,7 +73,8 @@ fn standing_for(
     row: &[VarId],
     variables: &[VarId],
 ) -> Result<Vec<VarId>, AllocError>
-    ensures { IfOk result (λ v. v.items ≡ filter (stands_for (called_view call.now) row.now) variables.now) }
+    ensures { IfOk result
+        (λ v. v.items ≡ filter (stands_for (called_view call.now) row.now) variables.now) }
 {
     variables
         .iter()
@@ -99,7 +100,9 @@ pub fn needed_in_call(
     variables: &[VarId],
     effect: &Effect,
 ) -> Result<Vec<VarId>, AllocError>
-    ensures { IfOk result (λ v. v.items ≡ needed_in_call (rows_view rows.now) variables.now (effect_view effect.now).call) }
+    ensures { IfOk result
+        (λ v. v.items
+        ≡ needed_in_call (rows_view rows.now) variables.now (effect_view effect.now).call) }
 {
     match &effect.call {
         Some(call) => {
@@ -118,7 +121,9 @@ fn add_needed_in_calls(
     variables: &[VarId],
     effects: &[Effect],
 ) -> Result<(), AllocError>
-    ensures { OnOk result (needing.new.items ≡ needing.old.items ++ needed_in_calls (rows_view rows.now) variables.now (map effect_view effects.now)) }
+    ensures { OnOk result
+        (needing.new.items ≡ needing.old.items
+        ++ needed_in_calls (rows_view rows.now) variables.now (map effect_view effects.now)) }
 {
     for effect in effects {
         let needed = needed_in_call(alloc, rows, variables, effect)?;
@@ -130,7 +135,9 @@ fn add_needed_in_calls(
 /// The annotated variables, in the policy's own function, where anything is held.
 pub fn needed_itself(alloc: Global, body: &Body, asked: &Asked) -> Result<Vec<VarId>, AllocError>
     requires { IsAsked body.now.summaries.now.program asked.now }
-    ensures { IfOk result (λ v. v.items ≡ needed_itself body.now.summaries.now.program asked.now.policy body.now.function) }
+    ensures { IfOk result
+        (λ v. v.items
+        ≡ needed_itself body.now.summaries.now.program asked.now.policy body.now.function) }
 {
     if body.function == asked.policy.function && !asked.held.is_empty() {
         return Vec::from_slice(alloc, asked.annotated.as_slice());
@@ -147,7 +154,10 @@ fn needing(
 ) -> Result<Vec<VarId>, AllocError>
     requires body { IsBody body.now }
     requires asked { IsAsked body.now.summaries.now.program asked.now }
-    ensures { IfOk result (λ v. v.items ≡ needing body.now.summaries.now.program asked.now.policy (rows_view rows.now) body.now.function) }
+    ensures { IfOk result
+        (λ v. v.items
+        ≡ needing body.now.summaries.now.program asked.now.policy (rows_view rows.now)
+        body.now.function) }
 {
     let mut needing = needed_itself(alloc, body, asked)?;
     let variables = body.local.variables.as_slice();
@@ -158,7 +168,8 @@ fn needing(
 }
 
 fn flows_to_any(body: &Body, w: VarId, needing: &[VarId]) -> bool
-    ensures { result ≡ list_any (flows body.now.summaries.now.program body.now.function w) needing.now }
+    ensures { result
+        ≡ list_any (flows body.now.summaries.now.program body.now.function w) needing.now }
 {
     needing.iter().any(|y| flows(body, w, *y))
 }
@@ -180,7 +191,10 @@ fn row(
 ) -> Result<Vec<VarId>, AllocError>
     requires body { IsBody body.now }
     requires asked { IsAsked body.now.summaries.now.program asked.now }
-    ensures { IfOk result (λ v. v.items ≡ row_by body.now.summaries.now.program asked.now.policy (rows_view rows.now) body.now.function) }
+    ensures { IfOk result
+        (λ v. v.items
+        ≡ row_by body.now.summaries.now.program asked.now.policy (rows_view rows.now)
+        body.now.function) }
 {
     let ends = needing(alloc, body, asked, rows)?;
     let needing = ends.as_slice();
@@ -225,7 +239,9 @@ fn any_changed(changed: &[bool], effects: &[Effect]) -> bool
 // Whether the row of a function is to be made anew.
 fn is_stale(body: &Body, policy: Policy, changed: &[bool]) -> bool
     requires { IsBody body.now }
-    ensures { result ≡ is_stale policy body.now.function (effects_at body.now.summaries.now.program body.now.function) changed.now }
+    ensures { result
+        ≡ is_stale policy body.now.function
+        (effects_at body.now.summaries.now.program body.now.function) changed.now }
 {
     let effects = body.summaries.effects();
     let statements = effects.of_function(body.function as usize);
@@ -264,8 +280,14 @@ fn made_row(
 ) -> Result<(Vec<VarId>, bool), AllocError>
     requires body { IsBody body.now }
     requires asked { IsAsked body.now.summaries.now.program asked.now }
-    ensures row { IfOk result (λ r. r.0.items ≡ row_by body.now.summaries.now.program asked.now.policy (rows_view rows.now) body.now.function) }
-    ensures changed { IfOk result (λ r. r.1 ≡ is_changed_row body.now.summaries.now.program asked.now.policy (rows_view rows.now) body.now.function) }
+    ensures row { IfOk result
+        (λ r. r.0.items
+        ≡ row_by body.now.summaries.now.program asked.now.policy (rows_view rows.now)
+        body.now.function) }
+    ensures changed { IfOk result
+        (λ r. r.1
+        ≡ is_changed_row body.now.summaries.now.program asked.now.policy (rows_view rows.now)
+        body.now.function) }
 {
     let made = row(alloc, body, asked, rows)?;
     let old = row_at(rows, body.function as usize);
@@ -294,8 +316,14 @@ fn next_row(
 ) -> Result<(Vec<VarId>, bool), AllocError>
     requires body { IsBody body.now }
     requires asked { IsAsked body.now.summaries.now.program asked.now }
-    ensures row { IfOk result (λ r. r.0.items ≡ next_row body.now.summaries.now.program asked.now.policy (level_view old.now) body.now.function) }
-    ensures changed { IfOk result (λ r. r.1 ≡ is_row_changed body.now.summaries.now.program asked.now.policy (level_view old.now) body.now.function) }
+    ensures row { IfOk result
+        (λ r. r.0.items
+        ≡ next_row body.now.summaries.now.program asked.now.policy (level_view old.now)
+        body.now.function) }
+    ensures changed { IfOk result
+        (λ r. r.1
+        ≡ is_row_changed body.now.summaries.now.program asked.now.policy (level_view old.now)
+        body.now.function) }
 {
     let rows = old.rows.as_slice();
     let changed = old.changed.as_slice();
@@ -330,12 +358,14 @@ fn next_level(
 ) -> Result<Level, AllocError>
     requires locals { map local_view locals.now ≡ all_locals summaries.now.program }
     requires asked { IsAsked summaries.now.program asked.now }
-    ensures { IfOk result (λ l. level_view l ≡ next_level summaries.now.program asked.now.policy (level_view old.now)) }
+    ensures { IfOk result
+        (λ l. level_view l
+        ≡ next_level summaries.now.program asked.now.policy (level_view old.now)) }
 {
     let mut rows = Vec::new(alloc);
     let mut changed = Vec::new(alloc);
     for function in 0..locals.len() {
-        let body = body_at(summaries, locals, function)?;
+        let body = body_at(summaries, locals, &[], function)?;
         let (row, differs) = next_row(alloc, &body, asked, old)?;
         rows.push(row)?;
         changed.push(differs)?;
@@ -343,7 +373,15 @@ fn next_level(
     Ok(Level { rows, changed })
 }
 
-/// The needed variables of all functions. Calls go no deeper than there are functions.
+// Whether any of these is so.
+fn any_of(answers: &[bool]) -> bool
+    ensures { result ≡ list_any (λ b. b) answers.now }
+{
+    answers.iter().any(|answer| *answer)
+}
+
+/// The needed variables of all functions. Calls go no deeper than there are functions, and what
+/// stays from one depth to the next stays from there on.
 pub fn needed_rows(
     alloc: Global,
     summaries: &Summaries,
@@ -352,11 +390,16 @@ pub fn needed_rows(
 ) -> Result<Vec<Vec<VarId>>, AllocError>
     requires locals { map local_view locals.now ≡ all_locals summaries.now.program }
     requires asked { IsAsked summaries.now.program asked.now }
-    ensures { IfOk result (λ r. rows_view r.items ≡ rows_of summaries.now.program (needs summaries.now.program asked.now.policy)) }
+    ensures { IfOk result
+        (λ r. rows_view r.items
+        ≡ rows_of summaries.now.program (needs summaries.now.program asked.now.policy)) }
 {
     let mut level = start(alloc, locals.len())?;
     for _depth in 0..locals.len() {
         let next = next_level(alloc, summaries, locals, asked, &level)?;
+        if !any_of(next.changed.as_slice()) {
+            return Ok(next.rows);
+        }
         level = next;
     }
     Ok(level.rows)

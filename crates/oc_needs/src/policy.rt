@@ -73,7 +73,9 @@ fn add(seen: &mut Vec<Policy>, policy: Policy) -> Result<(), AllocError>
 
 // The policies of the annotations in a function.
 fn add_all(seen: &mut Vec<Policy>, function: u32, effects: &[Effect]) -> Result<(), AllocError>
-    ensures { OnOk result (seen.new.items ≡ each_once seen.old.items (asked_by function (map effect_view effects.now))) }
+    ensures { OnOk result
+        (seen.new.items ≡ each_once seen.old.items
+        (asked_by function (map effect_view effects.now))) }
 {
     for effect in effects {
         if let Some(note) = effect.note {
@@ -91,7 +93,9 @@ fn add_function(
     function: usize,
 ) -> Result<(), AllocError>
     requires { function < length effects.now.program.functions }
-    ensures { OnOk result (seen.new.items ≡ each_once seen.old.items (asked_by function (effects_at effects.now.program function))) }
+    ensures { OnOk result
+        (seen.new.items ≡ each_once seen.old.items
+        (asked_by function (effects_at effects.now.program function))) }
 {
     let number = number_of(function)?;
     add_all(seen, number, effects.of_function(function))?;

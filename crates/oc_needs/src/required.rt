@@ -5,8 +5,9 @@ ghost use Rattle.oc_effects.specs.View.{effect_view};
 ghost use Rattle.oc_tree.specs.declared.marked.Policy.{Policy};
 ghost use Rattle.oc_tree.specs.declared.tree.VarId.{VarId};
 ghost use Rattle.oc_flow.specs.Laws.{Decides};
-ghost use Rattle.oc_needs.specs.Code.{added, all_locals, call_list, call_lists, lists_in, own_list, required_by, required_by_from, required_here, requirements_in, sites_for};
-ghost use Rattle.oc_needs.specs.CodeView.{local_view, rows_view, sites_view, IsAsked, IsBody};
+ghost use Rattle.oc_flow.specs.Variables.{from};
+ghost use Rattle.oc_needs.specs.Code.{added, all_locals, call_list, call_lists, lists_in, looped_at, own_list, required_by, required_by_from, required_here, requirements_in, sites_for};
+ghost use Rattle.oc_needs.specs.CodeView.{local_view, rows_view, sites_view, tables_view, IsAsked, IsBody};
 ghost use Rattle.oc_needs.specs.Need.{Need, needs};
 ghost use Rattle.oc_needs.specs.Requirements.{in_order, required_from, required_in, required_of, requirements};
 ghost use Rattle.oc_needs.specs.View.{requirement_view};
@@ -14,6 +15,7 @@ ghost use Rattle.oc_needs.specs.View.{requirement_view};
 use crate::asked::{Asked, spoken_of};
 use crate::lists::{add_list, with_inputs};
 use crate::local::{Body, Local, body_at, locals};
+use crate::looped::all_looped;
 use crate::need::{needed_in_call, needed_itself, needed_rows};
 use crate::place::number_of;
 use crate::policy::policies;
@@ -35,17 +37,21 @@ fn sites_for(
     others: &[StmtId],
 ) -> Result<Option<Vec<StmtId>>, AllocError>
     requires { IsBody body.now }
-    ensures { IfOk result (λ s. option_to_list (option_map (λ v. v.items) s) ≡ sites_for body.now.summaries.now.program body.now.function needed.now others.now) }
+    ensures { IfOk result
+        (λ s. option_to_list (option_map (λ v. v.items) s)
+        ≡ sites_for body.now.summaries.now.program body.now.function needed.now others.now) }
 {
     let inputs = input_sites(alloc, body, needed)?;
-    with_inputs(inputs, others)
+    with_inputs(alloc, inputs, others)
 }
 
 // The sites of a policy in its own function; none in another one.
 fn own_sites(alloc: Global, body: &Body, asked: &Asked) -> Result<Option<Vec<StmtId>>, AllocError>
     requires body { IsBody body.now }
     requires asked { IsAsked body.now.summaries.now.program asked.now }
-    ensures { IfOk result (λ s. option_to_list (option_map (λ v. v.items) s) ≡ own_list body.now.summaries.now.program asked.now.policy body.now.function) }
+    ensures { IfOk result
+        (λ s. option_to_list (option_map (λ v. v.items) s)
+        ≡ own_list body.now.summaries.now.program asked.now.policy body.now.function) }
 {
     let needed = needed_itself(alloc, body, asked)?;
     sites_for(alloc, body, needed.as_slice(), asked.held.as_slice())
@@ -59,7 +65,10 @@ fn call_sites(
     effect: &Effect,
 ) -> Result<Option<Vec<StmtId>>, AllocError>
     requires { IsBody body.now }
-    ensures { IfOk result (λ s. option_to_list (option_map (λ v. v.items) s) ≡ call_list body.now.summaries.now.program body.now.function (rows_view rows.now) (effect_view effect.now)) }
+    ensures { IfOk result
+        (λ s. option_to_list (option_map (λ v. v.items) s)
+        ≡ call_list body.now.summaries.now.program body.now.function (rows_view rows.now)
+        (effect_view effect.now)) }
 {
     let variables = body.local.variables.as_slice();
     let needed = needed_in_call(alloc, rows, variables, effect)?;
@@ -69,7 +78,9 @@ fn call_sites(
 
 // Adds sites to lists in order, if there are any.
 fn add_sites(lists: &mut Vec<Vec<StmtId>>, sites: Option<Vec<StmtId>>) -> Result<(), AllocError>
-    ensures { OnOk result (sites_view lists.new.items ≡ added (option_to_list (option_map (λ v. v.items) sites)) (sites_view lists.old.items)) }
+    ensures { OnOk result
+        (sites_view lists.new.items ≡ added (option_to_list (option_map (λ v. v.items) sites))
+        (sites_view lists.old.items)) }
 {
     match sites {
         Some(sites) => add_list(lists, sites),
@@ -86,7 +97,11 @@ fn call_lists(
     effects: &[Effect],
 ) -> Result<Vec<Vec<StmtId>>, AllocError>
     requires { IsBody body.now }
-    ensures { IfOk result (λ l. sites_view l.items ≡ in_order (call_lists body.now.summaries.now.program body.now.function (rows_view rows.now) (map effect_view effects.now))) }
+    ensures { IfOk result
+        (λ l. sites_view l.items
+        ≡ in_order
+        (call_lists body.now.summaries.now.program body.now.function (rows_view rows.now)
+        (map effect_view effects.now))) }
 {
     let mut lists = Vec::new(alloc);
     let count = effects.len();
@@ -107,7 +122,10 @@ fn lists_in(
 ) -> Result<Vec<Vec<StmtId>>, AllocError>
     requires body { IsBody body.now }
     requires asked { IsAsked body.now.summaries.now.program asked.now }
-    ensures { IfOk result (λ l. sites_view l.items ≡ lists_in body.now.summaries.now.program asked.now.policy (rows_view rows.now) body.now.function) }
+    ensures { IfOk result
+        (λ l. sites_view l.items
+        ≡ lists_in body.now.summaries.now.program asked.now.policy (rows_view rows.now)
+        body.now.function) }
 {
     let effects = body.summaries.effects();
     let statements = effects.of_function(body.function as usize);
@@ -124,7 +142,10 @@ fn add_requirements(
     function: u32,
     lists: Vec<Vec<StmtId>>,
 ) -> Result<(), AllocError>
-    ensures { OnOk result (map requirement_view required.new.items ≡ map requirement_view required.old.items ++ requirements_in policy function (sites_view lists.items)) }
+    ensures { OnOk result
+        (map requirement_view required.new.items
+        ≡ map requirement_view required.old.items
+        ++ requirements_in policy function (sites_view lists.items)) }
 {
     for sites in lists {
         required.push(Requirement {
@@ -147,7 +168,11 @@ fn add_in_function(
 ) -> Result<(), AllocError>
     requires body { IsBody body.now }
     requires asked { IsAsked body.now.summaries.now.program asked.now }
-    ensures { OnOk result (map requirement_view required.new.items ≡ map requirement_view required.old.items ++ required_here body.now.summaries.now.program policy asked.now.policy (rows_view rows.now) body.now.function) }
+    ensures { OnOk result
+        (map requirement_view required.new.items
+        ≡ map requirement_view required.old.items
+        ++ required_here body.now.summaries.now.program policy asked.now.policy (rows_view rows.now)
+        body.now.function) }
 {
     let lists = lists_in(alloc, body, asked, rows)?;
     add_requirements(required, policy, body.function, lists)?;
@@ -162,14 +187,20 @@ fn add_of_policy(
     asked: &Asked,
     summaries: &Summaries,
     locals: &[Local],
+    looped: &[Vec<Vec<StmtId>>],
 ) -> Result<(), AllocError>
     requires locals { map local_view locals.now ≡ all_locals summaries.now.program }
+    requires looped { tables_view looped.now
+        ≡ map (looped_at summaries.now.program) (from 0 (length looped.now)) }
     requires asked { IsAsked summaries.now.program asked.now }
-    ensures { OnOk result (map requirement_view required.new.items ≡ map requirement_view required.old.items ++ required_by summaries.now.program policy asked.now.policy) }
+    ensures { OnOk result
+        (map requirement_view required.new.items
+        ≡ map requirement_view required.old.items
+        ++ required_by summaries.now.program policy asked.now.policy) }
 {
     let rows = needed_rows(alloc, summaries, locals, asked)?;
     for function in 0..locals.len() {
-        let body = body_at(summaries, locals, function)?;
+        let body = body_at(summaries, locals, looped, function)?;
         add_in_function(alloc, required, policy, &body, asked, rows.as_slice())?;
     }
     Ok(())
@@ -183,13 +214,19 @@ fn add_numbered(
     policy: Policy,
     summaries: &Summaries,
     locals: &[Local],
+    looped: &[Vec<Vec<StmtId>>],
 ) -> Result<(), AllocError>
-    requires { map local_view locals.now ≡ all_locals summaries.now.program }
-    ensures { OnOk result (map requirement_view required.new.items ≡ map requirement_view required.old.items ++ required_by summaries.now.program number policy) }
+    requires locals { map local_view locals.now ≡ all_locals summaries.now.program }
+    requires looped { tables_view looped.now
+        ≡ map (looped_at summaries.now.program) (from 0 (length looped.now)) }
+    ensures { OnOk result
+        (map requirement_view required.new.items
+        ≡ map requirement_view required.old.items
+        ++ required_by summaries.now.program number policy) }
 {
     let number = number_of(number)?;
     let asked = spoken_of(alloc, summaries.effects(), policy)?;
-    add_of_policy(alloc, required, number, &asked, summaries, locals)?;
+    add_of_policy(alloc, required, number, &asked, summaries, locals, looped)?;
     Ok(())
 }
 
@@ -199,10 +236,16 @@ fn required_by(
     policies: &[Policy],
     summaries: &Summaries,
 ) -> Result<Vec<Requirement>, AllocError>
-    ensures { IfOk result (λ r. map requirement_view r.items ≡ required_by_from summaries.now.program 0 policies.now) }
+    ensures { IfOk result
+        (λ r. map requirement_view r.items
+        ≡ required_by_from summaries.now.program 0 policies.now) }
 {
+    if policies.is_empty() {
+        return Ok(Vec::new(alloc));
+    }
     let locals = locals(alloc, summaries)?;
     let known = locals.as_slice();
+    let looped = all_looped(alloc, summaries, known)?;
     let mut required = Vec::new(alloc);
     for number in 0..policies.len() {
         add_numbered(
@@ -212,6 +255,7 @@ fn required_by(
             policies[number],
             summaries,
             known,
+            looped.as_slice(),
         )?;
     }
     Ok(required)
@@ -235,9 +279,11 @@ pub fn requirements(
     summaries: &Summaries,
 ) -> Result<Vec<Requirement>, Memory>
     requires { summaries.now ≡ checked.now }
-    ensures requirements { IfOk result (λ r. map requirement_view r.items ≡ requirements checked.now.program) }
+    ensures requirements { IfOk result
+        (λ r. map requirement_view r.items ≡ requirements checked.now.program) }
     // The test of need decides the relation.
-    ensures need { IfOk result (λ r. (q : Policy) (f : ℕ) (w : VarId) → Decides (needs checked.now.program q f w) (Need checked.now.program q f w)) }
+    ensures need { IfOk result (λ r. (q : Policy) (f : ℕ) (w : VarId)
+        → Decides (needs checked.now.program q f w) (Need checked.now.program q f w)) }
 {
     let _program = checked.program();
     match all_required(alloc, summaries) {

@@ -1,5 +1,4 @@
-use Rattle.std.proofs.Common.{◌<◌, suc, length, ap, ◌∙◌, sym, subst, arith}
-use Rattle.std.proofs.Common.{Vec, Global}
+use Rattle.std.proofs.Common.{Vec, Global, ◌<◌, suc, length, ap, ◌∙◌, sym, subst, arith}
 use Rattle.std.specs.Prelude.{Bool}
 use Rattle.std.proofs.Math.Numerals.{add-one}
 use Rattle.oc_flow.specs.Known.{cells_of, cell, Joined, JoinedTo}

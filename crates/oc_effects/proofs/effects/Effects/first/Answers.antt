@@ -3,8 +3,8 @@ use Rattle.oc_effects.specs.Effects.{effects_at}
 use Rattle.oc_effects.proofs.Numbering.{Consecutive, function_numbered, first_is}
 use Rattle.oc_effects.proofs.effects.Effects.first.Goals as goal
 
-pub returns-else-is_empty : goal.returns-else-is_empty
-returns-else-is_empty c =
+pub returns-else-is_empty-clause-numbered : goal.returns-else-is_empty-clause-numbered
+returns-else-is_empty-clause-numbered c =
     let i = c.self.inside.checked.now.program in
     let p = c.args.self.now.program in
     let same : i ≡ p = ap (λ t. t.program) c.self.view_is in

@@ -44,7 +44,8 @@ impl Area {
     /// An area of so many words, all 0, where nothing was ever saved. It answers `Memory` where
     /// there is none.
     pub fn new(alloc: Global, words: usize) -> Result<Area, Memory>
-        ensures { IfOk result (λ area. area ≡ record { words = replicate words (pos 0); state = AreaState.Fresh }) }
+        ensures { IfOk result (λ area. area
+            ≡ record { words = replicate words (pos 0); state = AreaState.Fresh }) }
     {
         match vec![in alloc; 0; words] {
             Ok(words) => Ok(Area {
@@ -97,7 +98,12 @@ impl Area {
     pub fn save_all(&mut self, pc: i32, fp: i32, stack: &[i32])
         requires short { length stack.now ≤ 65536 }
         requires room { length stack.now + 3 ≤ length self.old.words }
-        ensures value { self.new ≡ record { words = save_all (saved_words pc fp stack.now) self.old.words; state = AreaState.Sealed } }
+        ensures value { self.new
+            ≡ record {
+              words = save_all (saved_words pc fp stack.now) self.old.words;
+              state =
+                  AreaState.Sealed;
+            } }
         ensures size { length self.new.words ≡ length self.old.words }
     {
         self.words[0] = pc;

@@ -1,4 +1,5 @@
 pub mod Enters
 pub mod Counted
 pub mod Ending
+pub mod Fields
 pub mod Stretches

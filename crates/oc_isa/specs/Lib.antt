@@ -5,4 +5,5 @@ pub mod Table
 pub mod Run
 pub mod Power
 pub mod Listing
+pub mod Bytes
 pub mod Worked

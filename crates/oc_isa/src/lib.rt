@@ -2,6 +2,7 @@
 //! without outages and runs over periods of power.
 #![tactic(auto)]
 
+pub mod bytes;
 pub mod image;
 pub mod instr;
 pub mod listing;

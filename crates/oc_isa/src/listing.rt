@@ -70,7 +70,8 @@ fn probe_bytes(kind: ProbeKind) -> &'static [u8]
 /// Ends a line by a word and a field.
 fn put_field<O: Sink>(word: &[u8], field: &[u8], sink: &mut O) -> Result<(), SinkFault>
     ensures ok { OnOk result (O.took sink.old (word.now ++ (field.now ++ codes "\n")) sink.new) }
-    ensures part { OnErr result (TookPart O.took sink.old (word.now ++ (field.now ++ codes "\n")) sink.new) }
+    ensures part { OnErr result
+        (TookPart O.took sink.old (word.now ++ (field.now ++ codes "\n")) sink.new) }
     ensures cause { OnErr result (Rose (O.faults sink.old) (O.faults sink.new)) }
     ensures count { O.faults sink.old ≤ O.faults sink.new }
 {
@@ -79,8 +80,10 @@ fn put_field<O: Sink>(word: &[u8], field: &[u8], sink: &mut O) -> Result<(), Sin
 
 /// Ends a line by a word and a number.
 fn put_number<O: Sink>(word: &[u8], number: u32, sink: &mut O) -> Result<(), SinkFault>
-    ensures ok { OnOk result (O.took sink.old (word.now ++ (decimal number ++ codes "\n")) sink.new) }
-    ensures part { OnErr result (TookPart O.took sink.old (word.now ++ (decimal number ++ codes "\n")) sink.new) }
+    ensures ok { OnOk result
+        (O.took sink.old (word.now ++ (decimal number ++ codes "\n")) sink.new) }
+    ensures part { OnErr result
+        (TookPart O.took sink.old (word.now ++ (decimal number ++ codes "\n")) sink.new) }
     ensures cause { OnErr result (Rose (O.faults sink.old) (O.faults sink.new)) }
     ensures count { O.faults sink.old ≤ O.faults sink.new }
 {
@@ -90,8 +93,11 @@ fn put_number<O: Sink>(word: &[u8], number: u32, sink: &mut O) -> Result<(), Sin
 
 /// Ends a line by `push` and its number.
 fn put_push<O: Sink>(number: i32, sink: &mut O) -> Result<(), SinkFault>
-    ensures ok { OnOk result (O.took sink.old (codes " push " ++ (signed_decimal number ++ codes "\n")) sink.new) }
-    ensures part { OnErr result (TookPart O.took sink.old (codes " push " ++ (signed_decimal number ++ codes "\n")) sink.new) }
+    ensures ok { OnOk result
+        (O.took sink.old (codes " push " ++ (signed_decimal number ++ codes "\n")) sink.new) }
+    ensures part { OnErr result
+        (TookPart O.took sink.old (codes " push " ++ (signed_decimal number ++ codes "\n"))
+        sink.new) }
     ensures cause { OnErr result (Rose (O.faults sink.old) (O.faults sink.new)) }
     ensures count { O.faults sink.old ≤ O.faults sink.new }
 {
@@ -101,8 +107,12 @@ fn put_push<O: Sink>(number: i32, sink: &mut O) -> Result<(), SinkFault>
 
 /// Ends a line by `probe`, what it reports, and its number.
 fn put_probe<O: Sink>(kind: ProbeKind, number: u32, sink: &mut O) -> Result<(), SinkFault>
-    ensures ok { OnOk result (O.took sink.old (codes " probe " ++ (probe_word kind ++ (codes " " ++ (decimal number ++ codes "\n")))) sink.new) }
-    ensures part { OnErr result (TookPart O.took sink.old (codes " probe " ++ (probe_word kind ++ (codes " " ++ (decimal number ++ codes "\n")))) sink.new) }
+    ensures ok { OnOk result (O.took sink.old
+        (codes " probe " ++ (probe_word kind ++ (codes " " ++ (decimal number ++ codes "\n"))))
+        sink.new) }
+    ensures part { OnErr result
+        (TookPart O.took sink.old (codes " probe "
+        ++ (probe_word kind ++ (codes " " ++ (decimal number ++ codes "\n")))) sink.new) }
     ensures cause { OnErr result (Rose (O.faults sink.old) (O.faults sink.new)) }
     ensures count { O.faults sink.old ≤ O.faults sink.new }
 {
@@ -114,8 +124,10 @@ fn put_probe<O: Sink>(kind: ProbeKind, number: u32, sink: &mut O) -> Result<(), 
 /// Ends a line by an instruction, whose function, sensor or port is one of the image's.
 fn put_instr<O: Sink>(instr: &Instr, image: &RawImage, sink: &mut O) -> Result<(), SinkFault>
     requires { Exists (parts_of image.now) instr.now }
-    ensures ok { OnOk result (O.took sink.old (further (fields_of (parts_of image.now) instr.now)) sink.new) }
-    ensures part { OnErr result (TookPart O.took sink.old (further (fields_of (parts_of image.now) instr.now)) sink.new) }
+    ensures ok { OnOk result
+        (O.took sink.old (further (fields_of (parts_of image.now) instr.now)) sink.new) }
+    ensures part { OnErr result
+        (TookPart O.took sink.old (further (fields_of (parts_of image.now) instr.now)) sink.new) }
     ensures cause { OnErr result (Rose (O.faults sink.old) (O.faults sink.new)) }
     ensures count { O.faults sink.old ≤ O.faults sink.new }
 {
@@ -149,8 +161,10 @@ fn put_instr<O: Sink>(instr: &Instr, image: &RawImage, sink: &mut O) -> Result<(
 
 /// Begins a line by an address and a site.
 fn put_front<O: Sink>(address: usize, site: u32, sink: &mut O) -> Result<(), SinkFault>
-    ensures ok { OnOk result (O.took sink.old (decimal address ++ (codes " " ++ decimal site)) sink.new) }
-    ensures part { OnErr result (TookPart O.took sink.old (decimal address ++ (codes " " ++ decimal site)) sink.new) }
+    ensures ok { OnOk result
+        (O.took sink.old (decimal address ++ (codes " " ++ decimal site)) sink.new) }
+    ensures part { OnErr result
+        (TookPart O.took sink.old (decimal address ++ (codes " " ++ decimal site)) sink.new) }
     ensures cause { OnErr result (Rose (O.faults sink.old) (O.faults sink.new)) }
     ensures count { O.faults sink.old ≤ O.faults sink.new }
 {
@@ -169,8 +183,10 @@ fn put_placed<O: Sink>(
     sink: &mut O,
 ) -> Result<(), SinkFault>
     requires { Exists (parts_of image.now) placed.now.instr }
-    ensures ok { OnOk result (O.took sink.old (code_line (parts_of image.now) address placed.now) sink.new) }
-    ensures part { OnErr result (TookPart O.took sink.old (code_line (parts_of image.now) address placed.now) sink.new) }
+    ensures ok { OnOk result
+        (O.took sink.old (code_line (parts_of image.now) address placed.now) sink.new) }
+    ensures part { OnErr result
+        (TookPart O.took sink.old (code_line (parts_of image.now) address placed.now) sink.new) }
     ensures cause { OnErr result (Rose (O.faults sink.old) (O.faults sink.new)) }
     ensures count { O.faults sink.old ≤ O.faults sink.new }
 {
@@ -183,8 +199,11 @@ fn put_placed<O: Sink>(
 /// Writes a line for each address of the image's code.
 fn put_code<O: Sink>(image: &RawImage, sink: &mut O) -> Result<(), SinkFault>
     requires { IsWellMade (parts_of image.now) }
-    ensures ok { OnOk result (O.took sink.old (code_lines (parts_of image.now) 0 (parts_of image.now).code) sink.new) }
-    ensures part { OnErr result (TookPart O.took sink.old (code_lines (parts_of image.now) 0 (parts_of image.now).code) sink.new) }
+    ensures ok { OnOk result
+        (O.took sink.old (code_lines (parts_of image.now) 0 (parts_of image.now).code) sink.new) }
+    ensures part { OnErr result
+        (TookPart O.took sink.old (code_lines (parts_of image.now) 0 (parts_of image.now).code)
+        sink.new) }
     ensures cause { OnErr result (Rose (O.faults sink.old) (O.faults sink.new)) }
     ensures count { O.faults sink.old ≤ O.faults sink.new }
 {
@@ -204,8 +223,14 @@ fn put_place<O: Sink>(
     len: u32,
     sink: &mut O,
 ) -> Result<(), SinkFault>
-    ensures ok { OnOk result (O.took sink.old (codes "log " ++ (decimal region ++ (kind.now ++ (decimal place ++ (codes " " ++ (decimal len ++ codes "\n")))))) sink.new) }
-    ensures part { OnErr result (TookPart O.took sink.old (codes "log " ++ (decimal region ++ (kind.now ++ (decimal place ++ (codes " " ++ (decimal len ++ codes "\n")))))) sink.new) }
+    ensures ok { OnOk result
+        (O.took sink.old (codes "log "
+        ++ (decimal region ++ (kind.now
+        ++ (decimal place ++ (codes " " ++ (decimal len ++ codes "\n")))))) sink.new) }
+    ensures part { OnErr result
+        (TookPart O.took sink.old (codes "log "
+        ++ (decimal region ++ (kind.now
+        ++ (decimal place ++ (codes " " ++ (decimal len ++ codes "\n")))))) sink.new) }
     ensures cause { OnErr result (Rose (O.faults sink.old) (O.faults sink.new)) }
     ensures count { O.faults sink.old ≤ O.faults sink.new }
 {
@@ -221,7 +246,8 @@ fn put_place<O: Sink>(
 /// Writes the line of a target of a region.
 fn put_target<O: Sink>(region: usize, target: &Target, sink: &mut O) -> Result<(), SinkFault>
     ensures ok { OnOk result (O.took sink.old (target_line region target.now) sink.new) }
-    ensures part { OnErr result (TookPart O.took sink.old (target_line region target.now) sink.new) }
+    ensures part { OnErr result
+        (TookPart O.took sink.old (target_line region target.now) sink.new) }
     ensures cause { OnErr result (Rose (O.faults sink.old) (O.faults sink.new)) }
     ensures count { O.faults sink.old ≤ O.faults sink.new }
 {
@@ -234,7 +260,8 @@ fn put_target<O: Sink>(region: usize, target: &Target, sink: &mut O) -> Result<(
 /// Writes a line for each target of a region.
 fn put_region<O: Sink>(region: usize, targets: &[Target], sink: &mut O) -> Result<(), SinkFault>
     ensures ok { OnOk result (O.took sink.old (region_lines region targets.now) sink.new) }
-    ensures part { OnErr result (TookPart O.took sink.old (region_lines region targets.now) sink.new) }
+    ensures part { OnErr result
+        (TookPart O.took sink.old (region_lines region targets.now) sink.new) }
     ensures cause { OnErr result (Rose (O.faults sink.old) (O.faults sink.new)) }
     ensures count { O.faults sink.old ≤ O.faults sink.new }
 {
@@ -248,8 +275,10 @@ fn put_region<O: Sink>(region: usize, targets: &[Target], sink: &mut O) -> Resul
 
 /// Writes a line for each target of each region, which are numbered from 1.
 fn put_targets<O: Sink>(regions: &[Vec<Target>], sink: &mut O) -> Result<(), SinkFault>
-    ensures ok { OnOk result (O.took sink.old (target_lines 1 (map (λ v. v.items) regions.now)) sink.new) }
-    ensures part { OnErr result (TookPart O.took sink.old (target_lines 1 (map (λ v. v.items) regions.now)) sink.new) }
+    ensures ok { OnOk result
+        (O.took sink.old (target_lines 1 (map (λ v. v.items) regions.now)) sink.new) }
+    ensures part { OnErr result
+        (TookPart O.took sink.old (target_lines 1 (map (λ v. v.items) regions.now)) sink.new) }
     ensures cause { OnErr result (Rose (O.faults sink.old) (O.faults sink.new)) }
     ensures count { O.faults sink.old ≤ O.faults sink.new }
 {

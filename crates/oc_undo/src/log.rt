@@ -34,7 +34,8 @@ impl Model for UndoLog {
 /// Takes away the marks of these entries, where there are no others.
 fn unmark(entries: &[Entry], marks: &mut [bool])
     requires inside { All (λ e. e.addr < length marks.old) entries.now }
-    requires told { (a : ℕ) → a < length marks.old → slice_index_or marks.old a false ≡ has_entry entries.now a }
+    requires told { (a : ℕ) → a < length marks.old
+        → slice_index_or marks.old a false ≡ has_entry entries.now a }
     ensures { (a : ℕ) → slice_index_or marks.new a false ≡ false }
 {
     for entry in entries {
@@ -96,7 +97,8 @@ impl UndoLog {
     pub fn note(&mut self, addr: u32, old: i32)
         requires within { addr < self.old.words }
         requires unmarked { has_entry self.old.entries addr ≡ false }
-        ensures { self.new ≡ record self.old { entries = self.old.entries ++ record { addr = addr; old = old } ∷ []; back = 0 } }
+        ensures { self.new ≡ record self.old
+            { entries = self.old.entries ++ record { addr = addr; old = old } ∷ []; back = 0 } }
     {
         self.restart();
         let _ = self.entries.push(Entry { addr, old });

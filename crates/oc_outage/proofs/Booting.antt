@@ -19,84 +19,8 @@ use Rattle.oc_outage.proofs.Continues.{IsAt}
 use Rattle.oc_outage.proofs.Facts.{state_at, regs_at, IsRestored, IsSealed, IsRestoring, IsWaking, IsUndoing, IsUndone, IsSettled, OnArmed, AreHonest, Stays}
 use Rattle.oc_outage.proofs.Reports.{settled_later, entry_later, honest_later, at_more, grown}
 use Rattle.oc_outage.proofs.Undone.{undo-set, undo-last, entry_number}
+use Rattle.oc_outage.proofs.Restored.{restored_one, none_restored, more_restored, all_restored}
 use Rattle.oc_outage.proofs.Words.{IsSaved, length-words_of, saved_word, held-saved}
-
--- the saved word number `done` is restored
-abbrev restored_one : Device → ℕ → State → Stepped
-restored_one d done s = quietly (record s {
-  phase = Restoring (suc done);
-  pc = restored_pc done (word_of s.words done) s.pc;
-  fp = restored_fp done (word_of s.words done) s.fp;
-  stack = restored_stack d.room done (word_of s.words done) s.stack;
-})
-
-stack_word : (done : ℕ) (saved : Regs) → 3 ≤ done → word_of (words_of saved) done ≡ get_or (reverse saved.stack) (done - 3) (pos 0)
-stack_word zero saved le = absurd (omega arith)
-stack_word (suc zero) saved le = absurd (omega arith)
-stack_word (suc (suc zero)) saved le = absurd (omega arith)
-stack_word (suc (suc (suc k))) saved le = let e : suc (suc (suc k)) - 3 ≡ k = omega arith in ap (λ n. get_or (reverse saved.stack) n (pos 0)) (sym e)
-
--- nothing was restored yet
-pub none_restored : (d : Device) (pc fp : ℕ) (stack : List ℤ) (saved : Regs) → IsRestored d 0 pc fp stack saved
-none_restored d pc fp stack saved = record { upto = omega arith; pc_is = λ z. absurd (omega arith); fp_is = λ z. absurd (omega arith); stack_is = λ z. absurd (omega arith) }
-
-restored_stack-below : (room done : ℕ) (word : ℤ) (stack : List ℤ) → done < 3 → restored_stack room done word stack ≡ []
-restored_stack-below room done word stack lt = ap (λ b. if b then [] else (if nat_lt (length stack) room then word ∷ stack else stack)) (lt-ltb done 3 lt)
-
-restored_stack-from : (room done : ℕ) (word : ℤ) (stack : List ℤ) → 3 ≤ done → length stack < room → restored_stack room done word stack ≡ word ∷ stack
-restored_stack-from room done word stack le lt =
-    ap (λ b. if b then [] else (if nat_lt (length stack) room then word ∷ stack else stack)) (le-ltb done 3 le)
-    ∙ ap (λ b. if b then word ∷ stack else stack) (lt-ltb (length stack) room lt)
-
--- one more word of the bottom of a stack
-reverse-take : (bottom : List ℤ) (k : ℕ) → k < length bottom → reverse (take (suc k) bottom) ≡ get_or bottom k (pos 0) ∷ reverse (take k bottom)
-reverse-take bottom k lt = ap reverse (take-suc bottom k (pos 0) lt) ∙ reverse-append (take k bottom) (get_or bottom k (pos 0) ∷ [])
-
-module _ (d : Device) (words : List ℤ) (saved : Regs) (is_saved : IsSaved words saved) where
-  more_pc : (done pc fp : ℕ) (stack : List ℤ) → IsRestored d done pc fp stack saved → restored_pc done (word_of words done) pc ≡ saved.pc
-  more_pc zero pc fp stack b = ap number_of (saved_word words saved 0 is_saved (omega arith))
-  more_pc (suc n) pc fp stack b = b.pc_is (omega arith)
-
-  more_fp : (done pc fp : ℕ) (stack : List ℤ) → IsRestored d done pc fp stack saved → 1 < suc done → restored_fp done (word_of words done) fp ≡ saved.fp
-  more_fp zero pc fp stack b lt = absurd (omega arith)
-  more_fp (suc zero) pc fp stack b lt = ap number_of (saved_word words saved 1 is_saved (omega arith))
-  more_fp (suc (suc n)) pc fp stack b lt = b.fp_is (omega arith)
-
-  more_stack : (done pc fp : ℕ) (stack : List ℤ) → IsRestored d done pc fp stack saved → done < length (words_of saved) → length saved.stack ≤ d.room → restored_stack d.room done (word_of words done) stack ≡ reverse (take (suc done - 3) (reverse saved.stack))
-  more_stack done pc fp stack b lt f =
-      let bottom = reverse saved.stack in
-      let same : length bottom ≡ length saved.stack = length-reverse saved.stack in
-      ⊎_elim
-      (λ l. let n : suc done - 3 ≡ 0 = omega arith in restored_stack-below d.room done _ stack l ∙ ap (λ n. reverse (take n bottom)) (sym n))
-      (λ g.
-      let e : stack ≡ reverse (take (done - 3) bottom) = b.stack_is (omega arith) in
-      let all = length-words_of saved in
-      let low : done - 3 < length bottom = omega arith in
-      let size : length stack ≡ done - 3 = ap length e ∙ length-reverse (take (done - 3) bottom) ∙ length-take-le (done - 3) bottom (omega arith) in
-      let n : suc done - 3 ≡ suc (done - 3) = omega arith in
-      let w : word_of words done ≡ get_or bottom (done - 3) (pos 0) = saved_word words saved done is_saved lt ∙ stack_word done saved g in
-      restored_stack-from d.room done (word_of words done) stack g (omega arith)
-      ∙ ap (λ x. x ∷ stack) w ∙ ap (λ l. get_or bottom (done - 3) (pos 0) ∷ l) e
-      ∙ sym (reverse-take bottom (done - 3) low) ∙ ap (λ n. reverse (take n bottom)) (sym n))
-      (cases_lt done 3)
-
-  -- one more word is restored
-  more_restored : (done pc fp : ℕ) (stack : List ℤ) → IsRestored d done pc fp stack saved → done < held words → length saved.stack ≤ d.room → IsRestored d (suc done) (restored_pc done (word_of words done) pc) (restored_fp done (word_of words done) fp) (restored_stack d.room done (word_of words done) stack) saved
-  more_restored done pc fp stack b ne f =
-      let e = held-saved words saved is_saved in
-      let u = b.upto in
-      let lt : done < length (words_of saved) = omega arith in
-      record { upto = omega arith; pc_is = λ z. more_pc done pc fp stack b; fp_is = λ z. more_fp done pc fp stack b z; stack_is = λ z. more_stack done pc fp stack b lt f }
-
-  -- all were restored
-  all_restored : (done pc fp : ℕ) (stack : List ℤ) → IsRestored d done pc fp stack saved → held words ≤ done → regs_at pc fp stack ≡ saved
-  all_restored done pc fp stack b e =
-      let q = held-saved words saved is_saved in
-      let u = b.upto in
-      let bottom = reverse saved.stack in
-      let n : done - 3 ≡ length bottom = omega arith in
-      let k : stack ≡ saved.stack = b.stack_is (omega arith) ∙ ap (λ n. reverse (take n bottom)) n ∙ ap reverse (take-length bottom) ∙ reverse-reverse saved.stack in
-      ap (λ p. regs_at p fp stack) (b.pc_is (omega arith)) ∙ ap (λ f. regs_at saved.pc f stack) (b.fp_is (omega arith)) ∙ ap (regs_at saved.pc saved.fp) k
 
 module _ (d : Device) (report : List Told) (made : ℕ) where
   pub sealed_later : (nv words : List ℤ) → IsSealed d report made nv words → IsSealed d report (suc made) nv words

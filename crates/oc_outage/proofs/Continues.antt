@@ -8,7 +8,7 @@ use Rattle.oc_tree.specs.declared.said.Said.TheVariants.{Sensed, Showed, Entered
 use Rattle.oc_tree.specs.declared.said.Shown.{Shown}
 use Rattle.oc_isa.specs.Next.{pushed, Regs, Write, Next, Goes, Senses, Enters, Commits, Ends, Stuck, Device, written}
 use Rattle.oc_isa.specs.Run.{Core, start_of, core_at, Ran, stops, Onward, then_shown, then_entered, run_sense, run_commit, follow, run_on, continuous_run, safe_next, Safe, AreWords, IsSound}
-use Rattle.oc_outage.specs.Honest.{IsPrefixOf}
+use Rattle.oc_items.specs.Reports.{IsPrefixOf}
 
 abbrev IsWord : ℤ → Type 0
 IsWord x = is_word x ≡ true

@@ -6,7 +6,8 @@ use Rattle.oc_tree.specs.declared.said.Ending.{Ending}
 use Rattle.oc_tree.specs.declared.said.Said.{Said}
 use Rattle.oc_tree.specs.declared.said.Said.TheVariants.{Sensed, Showed, Entered, Committed, Aborted, Off, Dark, Ended}
 use Rattle.oc_items.specs.Erase.{mark_or, erase, without_off, without_offs, marked, without_mark, without_marks, kept, sampled, samples_of, kept_samples, inside_after, HasNoOffInside}
-use Rattle.oc_outage.specs.Honest.{IsRead, AreRead, EndsWith}
+use Rattle.oc_outage.specs.Honest.{IsRead, AreRead}
+use Rattle.oc_items.specs.Reports.{EndsWith}
 use Rattle.oc_outage.proofs.Erasing.{item, IsNoAbort, erase-append}
 
 without_off-append : (s : Said) (xs ys : List Said) → without_off s (xs ++ ys) ≡ without_off s xs ++ ys

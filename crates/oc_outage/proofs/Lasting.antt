@@ -12,7 +12,8 @@ use Rattle.oc_isa.specs.declared.phase.Phase.{Phase}
 use Rattle.oc_isa.specs.declared.phase.Phase.TheVariants.{Waking, Undoing, Restoring, Running, Entering, Over, Lost}
 use Rattle.oc_isa.specs.Next.{Regs, Next, Goes, Senses, Enters, Commits, Ends, Stuck, Device}
 use Rattle.oc_isa.specs.Power.{State, Stepped, checkpoint, World, told, held, undo_phase, wake, restore, resume, enter, enters, enter_on, commits, goes, to_log, run_next, next_at, words_of, ticked, tick_on, ticks_on, power_fails, darkness, one_period, through, first_world, power_run}
-use Rattle.oc_outage.specs.Honest.{EndsWith, IsLeft, is_armed, loses, loses_checkpoint}
+use Rattle.oc_outage.specs.Honest.{IsLeft, is_armed, loses, loses_checkpoint}
+use Rattle.oc_items.specs.Reports.{EndsWith}
 
 -- a step of a run that isn't over loses no checkpoint, and ends the run only where it says so
 abbrev IsTold : Phase → Option Said → Type 0

@@ -7,6 +7,7 @@ pub mod Facts
 pub mod Reports
 pub mod Outside
 pub mod Inside
+pub mod Restored
 pub mod Booting
 pub mod Outages
 pub mod Runs

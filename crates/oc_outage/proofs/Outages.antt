@@ -13,7 +13,7 @@ use Rattle.oc_isa.specs.Next.{Regs, Device}
 use Rattle.oc_isa.specs.Run.{core_at, continuous_run}
 use Rattle.oc_isa.specs.Power.{State, World, words_of, word_of, number_of, power_fails}
 use Rattle.oc_items.specs.Erase.{erase, without_offs, without_marks, samples_of, HasNoOffInside}
-use Rattle.oc_outage.specs.Honest.{IsPrefixOf}
+use Rattle.oc_items.specs.Reports.{IsPrefixOf}
 use Rattle.oc_outage.proofs.Continues.{IsAt, fits}
 use Rattle.oc_outage.proofs.Erasing.{item, erase-attempt}
 use Rattle.oc_outage.proofs.Facts.{state_at, regs_at, IsSettled, IsEntry, IsAttempt, IsSealed, IsWaking, IsRunning, Holds, AreHonest, IsGood}

@@ -8,7 +8,8 @@ use Rattle.oc_undo.specs.declared.Entry.{Entry}
 use Rattle.oc_isa.specs.Next.{Regs, Ends, Device}
 use Rattle.oc_isa.specs.Run.{Core, Ran, core_at, stops, continuous_run}
 use Rattle.oc_items.specs.Erase.{mark_or, erase, marked, kept_samples, HasNoOffInside, IsOutside}
-use Rattle.oc_outage.specs.Honest.{IsPrefixOf, IsRead, IsHonest, IsWhole}
+use Rattle.oc_outage.specs.Honest.{IsRead, IsHonest, IsWhole}
+use Rattle.oc_items.specs.Reports.{IsPrefixOf}
 use Rattle.oc_outage.proofs.Erasing.{item, IsNoAbort}
 use Rattle.oc_outage.proofs.Growing.{inside, marked_more, samples_more, inside_more, outside_more, read_more, prefix_last}
 use Rattle.oc_outage.proofs.Continues.{IsAt, said_by, ends}

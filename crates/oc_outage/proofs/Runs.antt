@@ -14,7 +14,8 @@ use Rattle.oc_isa.specs.Next.{Device}
 use Rattle.oc_isa.specs.Run.{IsSound}
 use Rattle.oc_isa.specs.Power.{State, World, step_in, ticked, tick_on, ticks_on, darkness, one_period, through, first_world, power_run}
 use Rattle.oc_outage.specs.Honest.{IsFit, all_on, IsHonest, IsWhole}
-use Rattle.oc_outage.proofs.Booting.{none_restored, sealed_later, sealed_keeps, armed_wakes, undo_keeps, undone_keeps}
+use Rattle.oc_outage.proofs.Restored.{none_restored}
+use Rattle.oc_outage.proofs.Booting.{sealed_later, sealed_keeps, armed_wakes, undo_keeps, undone_keeps}
 use Rattle.oc_outage.proofs.Continues.{at_start}
 use Rattle.oc_outage.proofs.Facts.{state_at, Holds, AreHonest, IsGood, Stays}
 use Rattle.oc_outage.proofs.Inside.{armed_keeps}

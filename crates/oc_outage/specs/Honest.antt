@@ -1,5 +1,5 @@
 -- What a report keeps, whenever power fails, and how a run is left.
-use Rattle.std.specs.Prelude.{◌≡◌, ◌≤◌, ℕ, suc, ◌+◌, ℤ, List, [], ◌∷◌, ◌++◌, Bool, true, false, not, if◌then◌else◌}
+use Rattle.std.specs.Prelude.{◌≡◌, ◌≤◌, ℕ, suc, ◌+◌, ℤ, List, [], ◌∷◌, Bool, true, false, not, if◌then◌else◌}
 use Rattle.oc_io.specs.declared.period.Period.{Period}
 use Rattle.oc_tree.specs.Said.{Told}
 use Rattle.oc_tree.specs.declared.said.Said.{Said}
@@ -12,6 +12,7 @@ use Rattle.oc_isa.specs.Next.{Regs, Enters, Device}
 use Rattle.oc_isa.specs.Run.{continuous_run}
 use Rattle.oc_isa.specs.Power.{State, World, is_over, ticks_on, one_period}
 use Rattle.oc_items.specs.Erase.{erase, marked, kept_samples, HasNoOffInside}
+use Rattle.oc_items.specs.Reports.{IsPrefixOf, EndsWith}
 
 -- an `enter` is found before the address that it leads to
 pub record IsFit (d : Device) : Type 0 where
@@ -21,9 +22,6 @@ pub record IsFit (d : Device) : Type 0 where
 abbrev pub all_on : List Period → ℕ
 all_on [] = 0
 all_on (p ∷ periods) = p.on + all_on periods
-
-abbrev pub IsPrefixOf : List Said → List Said → Type 0
-IsPrefixOf xs ys = (rest : List Said) × (xs ++ rest ≡ ys)
 
 -- an input has what the sensor's history has at its tick
 abbrev pub IsRead : (ℕ → ℕ → ℤ) → ℕ → Said → Type 0
@@ -47,10 +45,11 @@ pub record IsWhole (d : Device) (n : ℕ) (report : List Told) (nv : List ℤ) :
   pub said : (more : ℕ) → n ≤ more → (continuous_run d (kept_samples report) more).out ≡ marked report
   pub left : (more : ℕ) → n ≤ more → (continuous_run d (kept_samples report) more).core.nv ≡ nv
 
--- How a run is left
+-- over each list of samples the continuous run has said just this, from some number of instructions on
+abbrev pub IsSaidBy : Device → (List ℤ → List Said) → Type 0
+IsSaidBy d said = (samples : List ℤ) → (n : ℕ) × ((more : ℕ) → n ≤ more → (continuous_run d samples more).out ≡ said samples)
 
-abbrev pub EndsWith : List Told → Said → Type 0
-EndsWith report s = (before : List Told) × (tick : ℕ) × (report ≡ before ++ record { tick = tick; said = s } ∷ [])
+-- How a run is left
 
 -- the last item, where the run ended by itself, lost a checkpoint, or used the periods up
 abbrev pub IsLeft : Phase → List Told → Type 0

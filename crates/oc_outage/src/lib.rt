@@ -18,16 +18,23 @@ ghost use Rattle.oc_isa.specs.Next.{Device};
 ghost use Rattle.oc_isa.specs.Run.{IsSound};
 ghost use Rattle.oc_isa.specs.Power.{World, is_over, ticks_on, power_fails, one_period, through, first_world, power_run};
 ghost use Rattle.oc_isa.specs.Table.{device_of};
-ghost use Rattle.oc_items.specs.Erase.{marked};
-ghost use Rattle.oc_outage.specs.Honest.{IsFit, IsHonest, IsWhole, EndsWith, IsLeft, all_on, loses_checkpoint, begun};
+ghost use Rattle.oc_items.specs.Erase.{Tells, erase, kept_samples, marked};
+ghost use Rattle.oc_outage.specs.Honest.{IsFit, IsHonest, IsWhole, IsLeft, IsSaidBy, all_on, loses_checkpoint, begun};
+ghost use Rattle.oc_items.specs.Reports.{EndsWith};
 
 /// Every prefix of the report of a run over any periods of power is honest: without its aborted
 /// attempts it says what the run without outages says, no outage lies in a region, and each input
-/// has the value that its sensor had then.
+/// has the value that its sensor had then. What the run without outages says in the end over the
+/// kept samples, the prefix without its aborted attempts tells a front part of, with outages
+/// outside of regions alone.
 pub fn honest()
-    ensures { (d : Device) (h : ℕ → ℕ → ℤ) (periods : List Period) (q rest : List Told) →
+    ensures front { (d : Device) (h : ℕ → ℕ → ℤ) (periods : List Period) (q rest : List Told) →
         IsFit d → IsSound d → ((sensor tick : ℕ) → is_word (h sensor tick) ≡ true) →
         q ++ rest ≡ (power_run d h periods).report → IsHonest d h (all_on periods) q }
+    ensures tells { (d : Device) (h : ℕ → ℕ → ℤ) (said : List ℤ → List Said) →
+        IsFit d → IsSound d → ((sensor tick : ℕ) → is_word (h sensor tick) ≡ true) →
+        IsSaidBy d said → (periods : List Period) (q rest : List Told) →
+        q ++ rest ≡ (power_run d h periods).report → Tells (said (kept_samples q)) (erase q) }
 {}
 
 /// Where a run ends by itself, its report says the whole of the run without outages over the kept

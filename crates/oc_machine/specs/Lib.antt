@@ -1,4 +1,6 @@
 pub mod Acting
 pub mod Kept
+pub mod Quiet
+pub mod Rows
 pub mod Stacked
 pub mod Telling

@@ -55,7 +55,11 @@ pub(crate) fn number_of(word: i32) -> u32
 
 /// Restores a saved word: the first three are no words of the stack.
 fn restore_word(stack: &mut Stack, done: usize, word: i32)
-    ensures { stack.new ≡ record { words = Power.restored_stack stack.old.room done word stack.old.words; room = stack.old.room } }
+    ensures { stack.new ≡ record {
+      words = Power.restored_stack stack.old.room done word stack.old.words;
+      room =
+          stack.old.room;
+    } }
 {
     if done < 3 {
         stack.truncate(0);
@@ -67,8 +71,14 @@ fn restore_word(stack: &mut Stack, done: usize, word: i32)
 impl Machine {
     /// The first step of a boot.
     pub(crate) fn wake(&mut self) -> Option<Said>
-        ensures state { self.new ≡ record { parts = self.old.parts; state = (Power.wake (device_of self.old.parts) self.old.state.area self.old.state).state } }
-        ensures said { result ≡ (Power.wake (device_of self.old.parts) self.old.state.area self.old.state).said }
+        ensures state { self.new
+            ≡ record {
+              parts = self.old.parts;
+              state =
+                  (Power.wake (device_of self.old.parts) self.old.state.area self.old.state).state;
+            } }
+        ensures said { result
+            ≡ (Power.wake (device_of self.old.parts) self.old.state.area self.old.state).said }
         ensures named { IsNamedSaid self.old.parts.names result }
     {
         match self.area.state() {
@@ -87,7 +97,11 @@ impl Machine {
 
     /// The run begins, at the entry of `main`.
     fn start(&mut self)
-        ensures { self.new ≡ record { parts = self.old.parts; state = Power.in_area (Power.running self.old.state (device_of self.old.parts).start 0) AreaState.Open } }
+        ensures { self.new ≡ record {
+          parts = self.old.parts;
+          state = Power.in_area
+              (Power.running self.old.state (device_of self.old.parts).start 0) AreaState.Open;
+        } }
     {
         self.stack.truncate(0);
         self.stack.push_zeros(self.frame as usize);
@@ -101,7 +115,11 @@ impl Machine {
     /// Puts an entry of the undo log back.
     pub(crate) fn undo_step(&mut self, next: usize) -> Option<Said>
         requires { self.old.state.phase ≡ Phase.Undoing next }
-        ensures state { self.new ≡ record { parts = self.old.parts; state = (Power.undo_step next self.old.state).state } }
+        ensures state { self.new
+            ≡ record {
+              parts = self.old.parts;
+              state = (Power.undo_step next self.old.state).state;
+            } }
         ensures said { result ≡ (Power.undo_step next self.old.state).said }
         ensures named { IsNamedSaid self.old.parts.names result }
     {
@@ -114,8 +132,14 @@ impl Machine {
 
     /// Restores a saved word, or resumes where all are restored.
     pub(crate) fn restore(&mut self, done: usize) -> Option<Said>
-        ensures state { self.new ≡ record { parts = self.old.parts; state = (Power.restore (device_of self.old.parts) done self.old.state).state } }
-        ensures said { result ≡ (Power.restore (device_of self.old.parts) done self.old.state).said }
+        ensures state { self.new
+            ≡ record {
+              parts = self.old.parts;
+              state =
+                  (Power.restore (device_of self.old.parts) done self.old.state).state;
+            } }
+        ensures said { result
+            ≡ (Power.restore (device_of self.old.parts) done self.old.state).said }
         ensures named { IsNamedSaid self.old.parts.names result }
     {
         let held = 3 + number_of(self.saved(2)) as usize;
@@ -129,7 +153,11 @@ impl Machine {
 
     fn restore_one(&mut self, done: usize)
         requires { done < 2 ^ 32 }
-        ensures { self.new ≡ record { parts = self.old.parts; state = (Power.restore_one (device_of self.old.parts) done self.old.state).state } }
+        ensures { self.new ≡ record {
+          parts = self.old.parts;
+          state =
+              (Power.restore_one (device_of self.old.parts) done self.old.state).state;
+        } }
     {
         let word = self.saved(done);
         match done {
@@ -154,8 +182,14 @@ impl Machine {
 
     /// The last step of a boot.
     fn resume(&mut self) -> Option<Said>
-        ensures state { self.new ≡ record { parts = self.old.parts; state = (Power.resume (device_of self.old.parts) self.old.state.area self.old.state).state } }
-        ensures said { result ≡ (Power.resume (device_of self.old.parts) self.old.state.area self.old.state).said }
+        ensures state { self.new
+            ≡ record {
+              parts = self.old.parts;
+              state =
+                  (Power.resume (device_of self.old.parts) self.old.state.area self.old.state).state;
+            } }
+        ensures said { result
+            ≡ (Power.resume (device_of self.old.parts) self.old.state.area self.old.state).said }
         ensures named { IsNamedSaid self.old.parts.names result }
     {
         match self.area.state() {

@@ -8,8 +8,9 @@ ghost use Rattle.oc_isa.specs.Table;
 ghost use Rattle.oc_isa.specs.Table.{device_of};
 ghost use Rattle.oc_machine.specs.Acting.{IsNamedSaid, IsSampled, may_store, regs_at, write_at, writing};
 
-use crate::act::{NV_BASE, Outcome, act, address};
+use crate::act::{Outcome, act};
 use crate::machine::Machine;
+use crate::quiet::{NV_BASE, address};
 use oc_isa::image::Image;
 use oc_isa::instr::{Instr, Placed};
 use oc_isa::phase::Phase;
@@ -40,8 +41,11 @@ fn said_of(shown: Option<Shown>) -> Option<Said>
 impl Machine {
     /// Whether an address is logged before it is written: in a region, where it has no entry.
     fn must_log(&self, addr: u32) -> bool
-        ensures logged { (word : ℤ) → Power.to_log self.now.state.depth (Some (write_at addr word)) self.now.state.log ≡ (if result then Some addr else None) }
-        ensures new { has_entry self.now.state.log addr ≡ (if result then false else has_entry self.now.state.log addr) }
+        ensures logged { (word : ℤ)
+            → Power.to_log self.now.state.depth (Some (write_at addr word)) self.now.state.log
+            ≡ (if result then Some addr else None) }
+        ensures new { has_entry self.now.state.log addr
+            ≡ (if result then false else has_entry self.now.state.log addr) }
     {
         if self.depth == 0 {
             false
@@ -56,8 +60,17 @@ impl Machine {
         requires pc { self.old.state.pc + 1 < 2 ^ 31 }
         requires operands { operands ≤ length self.old.state.stack }
         requires running { self.old.state.phase ≡ Phase.Running }
-        ensures state { self.new ≡ record { parts = self.old.parts; state = (writing addr word (regs_at (self.old.state.pc + 1) self.old.state.fp (drop operands self.old.state.stack)) self.old.state).state } }
-        ensures said { result ≡ (writing addr word (regs_at (self.old.state.pc + 1) self.old.state.fp (drop operands self.old.state.stack)) self.old.state).said }
+        ensures state { self.new ≡ record {
+          parts = self.old.parts;
+          state =
+              (writing addr word
+              (regs_at (self.old.state.pc + 1) self.old.state.fp (drop operands self.old.state.stack))
+              self.old.state).state;
+        } }
+        ensures said { result
+            ≡ (writing addr word
+            (regs_at (self.old.state.pc + 1) self.old.state.fp (drop operands self.old.state.stack))
+            self.old.state).said }
         ensures named { IsNamedSaid self.old.parts.names result }
     {
         if self.must_log(addr) {
@@ -72,7 +85,11 @@ impl Machine {
         requires addr { addr < length self.old.state.nv }
         requires new { has_entry self.old.state.log addr ≡ false }
         requires running { self.old.state.phase ≡ Phase.Running }
-        ensures { self.new ≡ record { parts = self.old.parts; state = record self.old.state { log = self.old.state.log ++ Power.entry_at self.old.state.nv addr ∷ [] } } }
+        ensures { self.new ≡ record {
+          parts = self.old.parts;
+          state = record self.old.state
+              { log = self.old.state.log ++ Power.entry_at self.old.state.nv addr ∷ [] };
+        } }
     {
         let old = self.nvm.read(addr);
         self.log.note(addr, old);
@@ -82,7 +99,13 @@ impl Machine {
         requires addr { addr < length self.old.state.nv }
         requires pc { self.old.state.pc + 1 < 2 ^ 31 }
         requires operands { operands ≤ length self.old.state.stack }
-        ensures { self.new ≡ record { parts = self.old.parts; state = record (Power.running self.old.state (regs_at (self.old.state.pc + 1) self.old.state.fp (drop operands self.old.state.stack)) self.old.state.depth) { nv = slice_set self.old.state.nv addr word } } }
+        ensures { self.new ≡ record {
+          parts = self.old.parts;
+          state = record
+              (Power.running self.old.state
+              (regs_at (self.old.state.pc + 1) self.old.state.fp (drop operands self.old.state.stack))
+              self.old.state.depth) { nv = slice_set self.old.state.nv addr word };
+        } }
     {
         self.stack.drop_top(operands);
         self.nvm.write(addr, word);
@@ -94,8 +117,18 @@ impl Machine {
     fn nstore(&mut self, a: u32) -> Option<Said>
         requires pc { self.old.state.pc + 1 < 2 ^ 31 }
         requires running { self.old.state.phase ≡ Phase.Running }
-        ensures state { (sample : ℕ → ℤ) → self.new ≡ record { parts = self.old.parts; state = (Power.run_next sample (Table.nstores (self.old.state.pc + 1) self.old.state.fp self.old.state.stack self.old.state.nv a) self.old.state).state } }
-        ensures said { (sample : ℕ → ℤ) → result ≡ (Power.run_next sample (Table.nstores (self.old.state.pc + 1) self.old.state.fp self.old.state.stack self.old.state.nv a) self.old.state).said }
+        ensures state { (sample : ℕ → ℤ)
+            → self.new ≡ record {
+              parts = self.old.parts;
+              state =
+                  (Power.run_next sample
+                  (Table.nstores (self.old.state.pc + 1) self.old.state.fp self.old.state.stack
+                  self.old.state.nv a) self.old.state).state;
+            } }
+        ensures said { (sample : ℕ → ℤ)
+            → result ≡ (Power.run_next sample
+            (Table.nstores (self.old.state.pc + 1) self.old.state.fp self.old.state.stack
+            self.old.state.nv a) self.old.state).said }
         ensures named { IsNamedSaid self.old.parts.names result }
     {
         match self.stack.top(self.fp as usize) {
@@ -114,8 +147,18 @@ impl Machine {
     fn put(&mut self) -> Option<Said>
         requires pc { self.old.state.pc + 1 < 2 ^ 31 }
         requires running { self.old.state.phase ≡ Phase.Running }
-        ensures state { (sample : ℕ → ℤ) → self.new ≡ record { parts = self.old.parts; state = (Power.run_next sample (Table.puts (self.old.state.pc + 1) self.old.state.fp self.old.state.stack self.old.state.nv) self.old.state).state } }
-        ensures said { (sample : ℕ → ℤ) → result ≡ (Power.run_next sample (Table.puts (self.old.state.pc + 1) self.old.state.fp self.old.state.stack self.old.state.nv) self.old.state).said }
+        ensures state { (sample : ℕ → ℤ)
+            → self.new ≡ record {
+              parts = self.old.parts;
+              state =
+                  (Power.run_next sample
+                  (Table.puts (self.old.state.pc + 1) self.old.state.fp self.old.state.stack
+                  self.old.state.nv) self.old.state).state;
+            } }
+        ensures said { (sample : ℕ → ℤ)
+            → result ≡ (Power.run_next sample
+            (Table.puts (self.old.state.pc + 1) self.old.state.fp self.old.state.stack
+            self.old.state.nv) self.old.state).said }
         ensures named { IsNamedSaid self.old.parts.names result }
     {
         match self.stack.top_two(self.fp as usize) {
@@ -132,8 +175,18 @@ impl Machine {
         requires pc { self.old.state.pc + 1 < 2 ^ 31 }
         requires running { self.old.state.phase ≡ Phase.Running }
         requires operands { 2 ≤ length self.old.state.stack }
-        ensures state { (sample : ℕ → ℤ) → self.new ≡ record { parts = self.old.parts; state = (Power.run_next sample (Table.puts_at (self.old.state.pc + 1) self.old.state.fp self.old.state.stack (drop 2 self.old.state.stack) self.old.state.nv a word) self.old.state).state } }
-        ensures said { (sample : ℕ → ℤ) → result ≡ (Power.run_next sample (Table.puts_at (self.old.state.pc + 1) self.old.state.fp self.old.state.stack (drop 2 self.old.state.stack) self.old.state.nv a word) self.old.state).said }
+        ensures state { (sample : ℕ → ℤ)
+            → self.new ≡ record {
+              parts = self.old.parts;
+              state =
+                  (Power.run_next sample
+                  (Table.puts_at (self.old.state.pc + 1) self.old.state.fp self.old.state.stack
+                  (drop 2 self.old.state.stack) self.old.state.nv a word) self.old.state).state;
+            } }
+        ensures said { (sample : ℕ → ℤ)
+            → result ≡ (Power.run_next sample
+            (Table.puts_at (self.old.state.pc + 1) self.old.state.fp self.old.state.stack
+            (drop 2 self.old.state.stack) self.old.state.nv a word) self.old.state).said }
         ensures named { IsNamedSaid self.old.parts.names result }
     {
         if a < NV_BASE {
@@ -157,8 +210,16 @@ impl Machine {
         requires depth { self.old.state.depth < 2 ^ 63 }
         requires sensors { h.old.sensors ≡ length self.old.parts.names.sensors }
         requires later { h.old.now ≤ now }
-        ensures state { self.new ≡ record { parts = self.old.parts; state = (Power.run_next (λ sensor. history h.old.rows sensor now) (Power.next_at (device_of self.old.parts) self.old.state) self.old.state).state } }
-        ensures said { result ≡ (Power.run_next (λ sensor. history h.old.rows sensor now) (Power.next_at (device_of self.old.parts) self.old.state) self.old.state).said }
+        ensures state { self.new
+            ≡ record {
+              parts = self.old.parts;
+              state =
+                  (Power.run_next (λ sensor. history h.old.rows sensor now)
+                  (Power.next_at (device_of self.old.parts) self.old.state) self.old.state).state;
+            } }
+        ensures said { result
+            ≡ (Power.run_next (λ sensor. history h.old.rows sensor now)
+            (Power.next_at (device_of self.old.parts) self.old.state) self.old.state).said }
         ensures named { IsNamedSaid self.old.parts.names result }
         ensures sensors { IsSampled h.old h.new now }
     {
@@ -175,8 +236,18 @@ impl Machine {
         requires later { h.old.now ≤ now }
         requires exists { Exists self.old.parts placed.instr }
         requires pc { self.old.state.pc + 1 < 2 ^ 31 }
-        ensures state { self.new ≡ record { parts = self.old.parts; state = (Power.run_next (λ sensor. history h.old.rows sensor now) (Table.act self.old.parts placed.site placed.instr (Power.regs_of self.old.state) self.old.state.nv) self.old.state).state } }
-        ensures said { result ≡ (Power.run_next (λ sensor. history h.old.rows sensor now) (Table.act self.old.parts placed.site placed.instr (Power.regs_of self.old.state) self.old.state.nv) self.old.state).said }
+        ensures state { self.new
+            ≡ record {
+              parts = self.old.parts;
+              state =
+                  (Power.run_next (λ sensor. history h.old.rows sensor now)
+                  (Table.act self.old.parts placed.site placed.instr (Power.regs_of self.old.state)
+                  self.old.state.nv) self.old.state).state;
+            } }
+        ensures said { result
+            ≡ (Power.run_next (λ sensor. history h.old.rows sensor now)
+            (Table.act self.old.parts placed.site placed.instr (Power.regs_of self.old.state)
+            self.old.state.nv) self.old.state).said }
         ensures named { IsNamedSaid self.old.parts.names result }
         ensures sensors { IsSampled h.old h.new now }
     {
@@ -196,8 +267,18 @@ impl Machine {
         requires later { h.old.now ≤ now }
         requires exists { Exists self.old.parts placed.instr }
         requires pc { self.old.state.pc + 1 < 2 ^ 31 }
-        ensures state { self.new ≡ record { parts = self.old.parts; state = (Power.run_next (λ sensor. history h.old.rows sensor now) (Table.act self.old.parts placed.site placed.instr (Power.regs_of self.old.state) self.old.state.nv) self.old.state).state } }
-        ensures said { result ≡ (Power.run_next (λ sensor. history h.old.rows sensor now) (Table.act self.old.parts placed.site placed.instr (Power.regs_of self.old.state) self.old.state.nv) self.old.state).said }
+        ensures state { self.new
+            ≡ record {
+              parts = self.old.parts;
+              state =
+                  (Power.run_next (λ sensor. history h.old.rows sensor now)
+                  (Table.act self.old.parts placed.site placed.instr (Power.regs_of self.old.state)
+                  self.old.state.nv) self.old.state).state;
+            } }
+        ensures said { result
+            ≡ (Power.run_next (λ sensor. history h.old.rows sensor now)
+            (Table.act self.old.parts placed.site placed.instr (Power.regs_of self.old.state)
+            self.old.state.nv) self.old.state).said }
         ensures named { IsNamedSaid self.old.parts.names result }
         ensures sensors { IsSampled h.old h.new now }
     {

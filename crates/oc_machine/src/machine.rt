@@ -6,6 +6,7 @@ ghost use Rattle.oc_isa.specs.Table.{device_of};
 ghost use Rattle.oc_isa.specs.Run.{IsSound};
 ghost use Rattle.oc_isa.specs.Power.{first_state};
 
+use crate::prepared::{Row, prepare};
 use crate::stack::Stack;
 use oc_ckpt::Area;
 use oc_io::Memory;
@@ -21,6 +22,7 @@ use std::marker::Model;
 #[derive(Drop)]
 pub struct Machine {
     pub(crate) image: Image,
+    pub(crate) rows: Vec<Row>,
     pub(crate) entry: u32,
     pub(crate) frame: u32,
     pub(crate) phase: Phase,
@@ -43,7 +45,7 @@ impl Model for Machine {
       state = record { phase = m.phase; pc = m.pc; fp = m.fp; depth = m.depth; stack = m.stack.words; nv = m.nvm; log = m.log.entries; area = m.area.state; words = m.area.words };
     } };
 
-    ghost invariant = { λ m. IsKept m.image m.entry m.frame m.phase m.pc m.fp m.stack m.nvm m.log m.area };
+    ghost invariant = { λ m. IsKept m.image m.rows.items m.entry m.frame m.phase m.pc m.fp m.stack m.nvm m.log m.area };
 }
 
 /// Where `main` begins, and how many words its frame has.
@@ -100,11 +102,13 @@ impl Machine {
     /// A machine for an image, before its first period. It answers `Memory` where there is none.
     pub fn load(alloc: Global, image: Image) -> Result<Machine, Memory>
         requires { IsSound (device_of image) }
-        ensures { IfOk result (λ m. m ≡ record { parts = image; state = first_state (device_of image) }) }
+        ensures { IfOk result (λ m. m
+            ≡ record { parts = image; state = first_state (device_of image) }) }
     {
         let raw = image.raw();
         let room = raw.stack as usize;
         let start = find_main(&raw.functions);
+        let rows = prepare(alloc, &raw.code)?;
         let words = initial_words(alloc, &raw.nv)?;
         let stack = Stack::new(alloc, room)?;
         let nvm = Nvm::new(alloc, &words)?;
@@ -112,6 +116,7 @@ impl Machine {
         let area = Area::new(alloc, 3 + room)?;
         Ok(Machine {
             image,
+            rows,
             entry: start.entry,
             frame: start.frame,
             phase: Phase::Waking,
@@ -134,7 +139,8 @@ impl Machine {
 
     /// The area, where registers and the stack are saved.
     pub fn area(&self) -> &Area
-        ensures { result.now ≡ record { words = self.now.state.words; state = self.now.state.area } }
+        ensures { result.now ≡ record
+            { words = self.now.state.words; state = self.now.state.area } }
     {
         &self.area
     }

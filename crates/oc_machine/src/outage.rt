@@ -13,8 +13,15 @@ use oc_tree::said::Said;
 impl Machine {
     /// The power fails; where it is `cut`, a low-power checkpoint doesn't complete.
     pub(crate) fn fail(&mut self, cut: bool) -> Option<Said>
-        ensures state { self.new ≡ record { parts = self.old.parts; state = (Power.fail_in (device_of self.old.parts) cut self.old.state.phase self.old.state).state } }
-        ensures said { result ≡ (Power.fail_in (device_of self.old.parts) cut self.old.state.phase self.old.state).said }
+        ensures state { self.new
+            ≡ record {
+              parts = self.old.parts;
+              state =
+                  (Power.fail_in (device_of self.old.parts) cut self.old.state.phase self.old.state).state;
+            } }
+        ensures said { result
+            ≡ (Power.fail_in (device_of self.old.parts) cut self.old.state.phase
+            self.old.state).said }
         ensures named { IsNamedSaid self.old.parts.names result }
     {
         match self.phase {
@@ -29,8 +36,14 @@ impl Machine {
 
     /// The power fails, and boot is over.
     fn fail_awake(&mut self, cut: bool) -> Option<Said>
-        ensures state { self.new ≡ record { parts = self.old.parts; state = (Power.fail_awake (device_of self.old.parts) cut self.old.state).state } }
-        ensures said { result ≡ (Power.fail_awake (device_of self.old.parts) cut self.old.state).said }
+        ensures state { self.new
+            ≡ record {
+              parts = self.old.parts;
+              state =
+                  (Power.fail_awake (device_of self.old.parts) cut self.old.state).state;
+            } }
+        ensures said { result
+            ≡ (Power.fail_awake (device_of self.old.parts) cut self.old.state).said }
         ensures named { IsNamedSaid self.old.parts.names result }
     {
         match self.area.state() {
@@ -48,7 +61,8 @@ impl Machine {
 
     /// The low-power checkpoint, outside of regions.
     fn checkpoint(&mut self, cut: bool)
-        ensures { self.new ≡ record { parts = self.old.parts; state = Power.checkpoint_outside cut self.old.state } }
+        ensures { self.new ≡ record
+            { parts = self.old.parts; state = Power.checkpoint_outside cut self.old.state } }
     {
         if cut {
             self.clear();
@@ -62,7 +76,8 @@ impl Machine {
 
     /// An outage clears registers and stack.
     fn clear(&mut self)
-        ensures { self.new ≡ record { parts = self.old.parts; state = Power.cleared self.old.state } }
+        ensures { self.new ≡ record
+            { parts = self.old.parts; state = Power.cleared self.old.state } }
     {
         self.phase = Phase::Waking;
         self.pc = 0;

@@ -15,7 +15,9 @@ impl Machine {
     fn word_to_save(&self, to: u32, at: usize) -> i32
         requires to { to < 2 ^ 31 }
         requires at { at < 3 + length self.now.state.stack }
-        ensures { result ≡ Power.word_of (Power.words_of (regs_at to self.now.state.fp self.now.state.stack)) at }
+        ensures { result
+            ≡ Power.word_of (Power.words_of (regs_at to self.now.state.fp self.now.state.stack))
+            at }
     {
         match at {
             0 => to as i32,
@@ -28,8 +30,15 @@ impl Machine {
     /// One step of an outermost `enter`, which leads to the address `to`: a word is saved, or it arms.
     pub(crate) fn enter(&mut self, done: usize, region: u32, to: u32) -> Option<Said>
         requires { to < 2 ^ 31 }
-        ensures state { self.new ≡ record { parts = self.old.parts; state = (Power.enter done region (regs_at to self.old.state.fp self.old.state.stack) self.old.state).state } }
-        ensures said { result ≡ (Power.enter done region (regs_at to self.old.state.fp self.old.state.stack) self.old.state).said }
+        ensures state { self.new ≡ record {
+          parts = self.old.parts;
+          state =
+              (Power.enter done region (regs_at to self.old.state.fp self.old.state.stack)
+              self.old.state).state;
+        } }
+        ensures said { result
+            ≡ (Power.enter done region (regs_at to self.old.state.fp self.old.state.stack)
+            self.old.state).said }
         ensures named { IsNamedSaid self.old.parts.names result }
     {
         if done < 3 + self.stack.len() {
@@ -50,8 +59,16 @@ impl Machine {
     pub(crate) fn enters(&mut self, region: u32, to: u32) -> Option<Said>
         requires depth { self.old.state.depth < 2 ^ 63 }
         requires to { to < 2 ^ 31 }
-        ensures state { self.new ≡ record { parts = self.old.parts; state = (Power.enters self.old.state.depth region (regs_at to self.old.state.fp self.old.state.stack) self.old.state).state } }
-        ensures said { result ≡ (Power.enters self.old.state.depth region (regs_at to self.old.state.fp self.old.state.stack) self.old.state).said }
+        ensures state { self.new
+            ≡ record {
+              parts = self.old.parts;
+              state =
+                  (Power.enters self.old.state.depth region
+                  (regs_at to self.old.state.fp self.old.state.stack) self.old.state).state;
+            } }
+        ensures said { result
+            ≡ (Power.enters self.old.state.depth region
+            (regs_at to self.old.state.fp self.old.state.stack) self.old.state).said }
         ensures named { IsNamedSaid self.old.parts.names result }
     {
         if self.depth == 0 {
@@ -67,8 +84,16 @@ impl Machine {
     /// The instruction `commit`, which leads to the address `to`.
     pub(crate) fn commits(&mut self, region: u32, to: u32) -> Option<Said>
         requires { to < 2 ^ 31 }
-        ensures state { self.new ≡ record { parts = self.old.parts; state = (Power.commits self.old.state.depth region (regs_at to self.old.state.fp self.old.state.stack) self.old.state).state } }
-        ensures said { result ≡ (Power.commits self.old.state.depth region (regs_at to self.old.state.fp self.old.state.stack) self.old.state).said }
+        ensures state { self.new
+            ≡ record {
+              parts = self.old.parts;
+              state =
+                  (Power.commits self.old.state.depth region
+                  (regs_at to self.old.state.fp self.old.state.stack) self.old.state).state;
+            } }
+        ensures said { result
+            ≡ (Power.commits self.old.state.depth region
+            (regs_at to self.old.state.fp self.old.state.stack) self.old.state).said }
         ensures named { IsNamedSaid self.old.parts.names result }
     {
         match self.depth {
@@ -92,8 +117,16 @@ impl Machine {
 
     /// Goes on with an `enter` that is under way.
     pub(crate) fn enter_on(&mut self, done: usize) -> Option<Said>
-        ensures state { self.new ≡ record { parts = self.old.parts; state = (Power.enter_on done (Power.next_at (device_of self.old.parts) self.old.state) self.old.state).state } }
-        ensures said { result ≡ (Power.enter_on done (Power.next_at (device_of self.old.parts) self.old.state) self.old.state).said }
+        ensures state { self.new
+            ≡ record {
+              parts = self.old.parts;
+              state =
+                  (Power.enter_on done (Power.next_at (device_of self.old.parts) self.old.state)
+                  self.old.state).state;
+            } }
+        ensures said { result
+            ≡ (Power.enter_on done (Power.next_at (device_of self.old.parts) self.old.state)
+            self.old.state).said }
         ensures named { IsNamedSaid self.old.parts.names result }
     {
         match enter_at(&self.image.raw().code, self.pc) {

@@ -17,9 +17,9 @@ mod program;
 
 use counting::counting;
 use oc_ckpt::{Area, AreaState};
-use oc_io::disk::StdSink;
 use oc_io::period::Period;
 use oc_io::sink::Sink;
+use oc_io::stream::StreamSink;
 use oc_items::text::put_nv;
 use oc_machine::machine::Machine;
 use oc_power::cutter::Cutter;
@@ -29,6 +29,7 @@ use oc_power::supply::Supply;
 use oc_sensors::file::read_sensors;
 use program::{names, program};
 use std::alloc::Global;
+use std::io;
 
 fn period(on: u64, off: u64) -> Period
     ensures { result ≡ record { on = on; off = off; cut = false } }
@@ -134,7 +135,7 @@ fn count_over<O: Sink>(
 
 fn main(rt: HostRuntime) -> anyhow::Result<()> {
     let alloc = rt.alloc();
-    let mut out = StdSink::out(&rt);
+    let mut out = StreamSink::new(alloc, io::writer(&rt))?;
     let one_value = b"time,sensor,value\n0,t,21\n";
     for first in 0..25 {
         for second in 0..17 {

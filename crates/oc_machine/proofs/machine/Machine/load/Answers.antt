@@ -18,6 +18,7 @@ invariant_of-result c =
     let stack : c.raw-raw.result.now.stack ≡ c.args.image.stack = search rules in
     record {
       made = made;
+      prepared = search rules;
       entry_is = search rules;
       frame_is = search rules;
       entry_low = omega (arith, starts, low);

@@ -6,8 +6,8 @@ ghost use Rattle.std.specs.Prelude.{◌≤◌, length};
 mod sources;
 
 use oc_desugar::expand;
-use oc_io::disk::StdSink;
 use oc_io::sink::Sink;
+use oc_io::stream::StreamSink;
 use oc_lex::lex;
 use oc_meaning::run::run_source;
 use oc_meaning::trace::{Outcome, SourceTrace};
@@ -18,6 +18,7 @@ use oc_tree::said::{SourceEvent, TrapKind, Visible};
 use oc_types::check;
 use sources::{Worked, cases};
 use std::alloc::Global;
+use std::io;
 
 /// The checked program of a source.
 fn checked(alloc: Global, source: &[u8]) -> anyhow::Result<Checked>
@@ -146,9 +147,23 @@ fn put_trace<O: Sink>(
     Ok(())
 }
 
+/// Writes a source and the samples that it is given.
+fn put_given<O: Sink>(alloc: Global, worked: &Worked, out: &mut O) -> anyhow::Result<()> {
+    out.put(worked.source.as_bytes())?;
+    out.put(b"\nsamples")?;
+    for sample in worked.samples {
+        let text = format!(in alloc; " {sample}")?;
+        out.put(text.as_bytes())?;
+    }
+    out.put(b"\n")?;
+    Ok(())
+}
+
+/// Writes a source, its samples, and what it says over them.
 fn put_worked<O: Sink>(alloc: Global, worked: &Worked, out: &mut O) -> anyhow::Result<()> {
     let source = worked.source.as_bytes();
     if source.len() <= 1048576 {
+        put_given(alloc, worked, out)?;
         let checked = checked(alloc, source)?;
         let trace = run_source(alloc, &checked, worked.samples)?;
         put_trace(alloc, &checked.program().names, &trace, out)?;
@@ -158,7 +173,7 @@ fn put_worked<O: Sink>(alloc: Global, worked: &Worked, out: &mut O) -> anyhow::R
 
 fn main(rt: HostRuntime) -> anyhow::Result<()> {
     let alloc = rt.alloc();
-    let mut out = StdSink::out(&rt);
+    let mut out = StreamSink::new(alloc, io::writer(&rt))?;
     for worked in &cases() {
         put_worked(alloc, worked, &mut out)?;
     }

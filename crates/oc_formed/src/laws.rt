@@ -13,5 +13,6 @@ pub fn checked_is_formed()
 
 /// With the regions of a marked program it is defined too, where each region has its targets.
 pub fn marked_is_formed()
-    ensures { (m : TMarked) (targets : List (List Target)) → IsMarked m → length m.regions ≤ length targets → IsFormed m.program m.regions targets }
+    ensures { (m : TMarked) (targets : List (List Target)) → IsMarked m
+        → length m.regions ≤ length targets → IsFormed m.program m.regions targets }
 {}

@@ -46,7 +46,9 @@ fn argument(
     store: &Store,
     arg: &Arg,
 ) -> Result<Result<Passed, TrapKind>, AllocError>
-    ensures { IfOk result (λ r. (rest : runs.Passing) → arg_first scope.now store.now (arg_view arg.now) rest ≡ before r rest) }
+    ensures { IfOk result
+        (λ r. (rest : runs.Passing)
+        → arg_first scope.now store.now (arg_view arg.now) rest ≡ before r rest) }
 {
     match arg {
         Arg::Value { value } => match passed_on(scope, value) {

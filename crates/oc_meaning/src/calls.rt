@@ -16,7 +16,8 @@ use std::collections::VecDeque;
 
 /// The function of a name.
 pub fn function_named<'a>(functions: &'a [Function], name: &Name) -> Option<&'a Function>
-    ensures named { option_map (λ f. function_view f.now) result ≡ function_named (map function_view functions.now) name.now }
+    ensures named { option_map (λ f. function_view f.now) result
+        ≡ function_named (map function_view functions.now) name.now }
     ensures among { IfSome result (λ f. Contains functions.now f.now) }
 {
     for function in functions {
@@ -53,8 +54,14 @@ fn bind<'a>(
     given: Passed,
     store: &mut Store,
 ) -> Result<(), AllocError>
-    ensures scope { OnOk result (scope.new ≡ (with_param param.now.name (passed_view given) (record { env = scope.old; locals = store.old.locals })).env) }
-    ensures store { OnOk result (store.new ≡ record store.old { locals = (with_param param.now.name (passed_view given) (record { env = scope.old; locals = store.old.locals })).locals }) }
+    ensures scope { OnOk result
+        (scope.new ≡ (with_param param.now.name (passed_view given)
+        (record { env = scope.old; locals = store.old.locals })).env) }
+    ensures store { OnOk result
+        (store.new ≡ record store.old {
+          locals = (with_param param.now.name (passed_view given)
+              (record { env = scope.old; locals = store.old.locals })).locals;
+        }) }
     ensures kept { OnErr result (store.new.events ≡ store.old.events) }
 {
     match given {
@@ -92,8 +99,16 @@ pub fn frame<'a>(
     passed: VecDeque<Passed>,
     store: &mut Store,
 ) -> Result<Scope<'a>, AllocError>
-    ensures scope { IfOk result (λ s. s ≡ (with_params function.now.params.items (map passed_view passed.items) (record { env = nv_env 0 program.now.names.nvs.items; locals = store.old.locals })).env) }
-    ensures store { OnOk result (store.new ≡ record store.old { locals = (with_params function.now.params.items (map passed_view passed.items) (record { env = nv_env 0 program.now.names.nvs.items; locals = store.old.locals })).locals }) }
+    ensures scope { IfOk result
+        (λ s. s
+        ≡ (with_params function.now.params.items (map passed_view passed.items)
+        (record { env = nv_env 0 program.now.names.nvs.items; locals = store.old.locals })).env) }
+    ensures store { OnOk result
+        (store.new ≡ record store.old {
+          locals =
+              (with_params function.now.params.items (map passed_view passed.items)
+              (record { env = nv_env 0 program.now.names.nvs.items; locals = store.old.locals })).locals;
+        }) }
     ensures kept { OnErr result (store.new.events ≡ store.old.events) }
 {
     let mut scope = nonvolatile(alloc, program.names.nvs.as_slice())?;

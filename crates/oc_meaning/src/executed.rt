@@ -64,7 +64,8 @@ fn entry(counts: &[u32], block: BlockId) -> u32
 /// Gives a block an entry.
 fn grow(counts: &mut Vec<u32>, block: BlockId) -> Result<(), AllocError>
     ensures within { OnOk result (block < length counts.new.items) }
-    ensures same { (k : ℕ) → slice_index_or counts.new.items k 0 ≡ slice_index_or counts.old.items k 0 }
+    ensures same { (k : ℕ)
+        → slice_index_or counts.new.items k 0 ≡ slice_index_or counts.old.items k 0 }
 {
     let at = block as usize;
     if counts.len() <= at {

@@ -87,7 +87,9 @@ impl Held {
 
     /// The element that an index names, which depends on what the array and the index depend on.
     pub fn element(&self, index: Value) -> Result<Got, AllocError>
-        ensures { IfOk result (λ g. got_view g ≡ read_element self.now (element_of (length self.now.words) index.num) index.samples) }
+        ensures { IfOk result
+            (λ g. got_view g
+            ≡ read_element self.now (element_of (length self.now.words) index.num) index.samples) }
     {
         let Some(at) = element_of(self.words.len(), index.number()) else {
             return Ok(Got::Traps {

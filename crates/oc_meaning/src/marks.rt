@@ -53,7 +53,8 @@ pub fn begin(
     store: &mut Store,
 ) -> Result<(), Interrupted>
     ensures step { OnOk result (store.new ≡ begun_at (kind_view kind.now) uses.now n store.old) }
-    ensures cut { OnErr result (Oldest store.new.events (begun_at (kind_view kind.now) uses.now n store.old).events) }
+    ensures cut { OnErr result
+        (Oldest store.new.events (begun_at (kind_view kind.now) uses.now n store.old).events) }
 {
     match kind {
         StmtKind::While { .. } => Ok(()),
@@ -69,7 +70,8 @@ pub fn end(
     store: &mut Store,
 ) -> Result<(), Interrupted>
     ensures step { OnOk result (store.new ≡ ended_at (kind_view kind.now) uses n store.old) }
-    ensures cut { OnErr result (Oldest store.new.events (ended_at (kind_view kind.now) uses n store.old).events) }
+    ensures cut { OnErr result
+        (Oldest store.new.events (ended_at (kind_view kind.now) uses n store.old).events) }
 {
     match kind {
         StmtKind::While { .. } => Ok(()),
@@ -109,9 +111,14 @@ pub fn begin_turn(
     before: Samples,
     store: &mut Store,
 ) -> Result<Samples, Interrupted>
-    ensures store { OnOk result (store.new ≡ used (is_use (is_fresh scope.now) (kind_view kind.now)) n (use_samples scope.now (kind_view kind.now) store.old) store.old) }
-    ensures samples { IfOk result (λ s. s ≡ union before (use_samples scope.now (kind_view kind.now) store.old)) }
-    ensures cut { OnErr result (Oldest store.new.events (used (is_use (is_fresh scope.now) (kind_view kind.now)) n (use_samples scope.now (kind_view kind.now) store.old) store.old).events) }
+    ensures store { OnOk result
+        (store.new ≡ used (is_use (is_fresh scope.now) (kind_view kind.now)) n
+        (use_samples scope.now (kind_view kind.now) store.old) store.old) }
+    ensures samples { IfOk result
+        (λ s. s ≡ union before (use_samples scope.now (kind_view kind.now) store.old)) }
+    ensures cut { OnErr result
+        (Oldest store.new.events (used (is_use (is_fresh scope.now) (kind_view kind.now)) n
+        (use_samples scope.now (kind_view kind.now) store.old) store.old).events) }
 {
     let uses = used(alloc, scope, store, kind)?;
     let taken = samples_of(alloc, &uses)?;
@@ -127,7 +134,8 @@ pub fn end_turns(
     n: StmtId,
     store: &mut Store,
 ) -> Result<Completion, Interrupted>
-    ensures step { IfOk result (λ o. completion_at o store.new ≡ Went (done is_use n samples store.old)) }
+    ensures step { IfOk result
+        (λ o. completion_at o store.new ≡ Went (done is_use n samples store.old)) }
     ensures cut { OnErr result (Oldest store.new.events (done is_use n samples store.old).events) }
 {
     if !is_use {

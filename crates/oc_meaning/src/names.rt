@@ -26,7 +26,9 @@ pub fn place_in(names: &[Name], name: &Name) -> usize
 /// Adds the variables that an expression names.
 #[cycle(names)]
 pub fn expr_names<'a>(expr: &'a Expr, names: &mut Vec<&'a Name>) -> Result<(), AllocError>
-    ensures { OnOk result (names_seen names.new.items ≡ names_seen names.old.items ++ expr_names (expr_view expr.now)) }
+    ensures { OnOk result
+        (names_seen names.new.items
+        ≡ names_seen names.old.items ++ expr_names (expr_view expr.now)) }
 {
     match expr {
         Expr::Number { .. } | Expr::Truth { .. } | Expr::Sense { .. } => Ok(()),
@@ -50,7 +52,8 @@ pub fn expr_names<'a>(expr: &'a Expr, names: &mut Vec<&'a Name>) -> Result<(), A
 /// Adds the variables that an argument names.
 #[cycle(names)]
 pub fn arg_names<'a>(arg: &'a Arg, names: &mut Vec<&'a Name>) -> Result<(), AllocError>
-    ensures { OnOk result (names_seen names.new.items ≡ names_seen names.old.items ++ arg_names (arg_view arg.now)) }
+    ensures { OnOk result
+        (names_seen names.new.items ≡ names_seen names.old.items ++ arg_names (arg_view arg.now)) }
 {
     match arg {
         Arg::Value { value } => expr_names(value, names),
@@ -63,7 +66,9 @@ pub fn arg_names<'a>(arg: &'a Arg, names: &mut Vec<&'a Name>) -> Result<(), Allo
 
 #[cycle(names)]
 fn call_names<'a>(call: &'a Call, names: &mut Vec<&'a Name>) -> Result<(), AllocError>
-    ensures { OnOk result (names_seen names.new.items ≡ names_seen names.old.items ++ call_names (call_view call.now)) }
+    ensures { OnOk result
+        (names_seen names.new.items
+        ≡ names_seen names.old.items ++ call_names (call_view call.now)) }
 {
     for arg in &call.args {
         arg_names(arg, names)?;
@@ -72,7 +77,9 @@ fn call_names<'a>(call: &'a Call, names: &mut Vec<&'a Name>) -> Result<(), Alloc
 }
 
 fn right_names<'a>(right: &'a Right, names: &mut Vec<&'a Name>) -> Result<(), AllocError>
-    ensures { OnOk result (names_seen names.new.items ≡ names_seen names.old.items ++ right_names (right_view right.now)) }
+    ensures { OnOk result
+        (names_seen names.new.items
+        ≡ names_seen names.old.items ++ right_names (right_view right.now)) }
 {
     match right {
         Right::Value { value } => expr_names(value, names),
@@ -83,7 +90,9 @@ fn right_names<'a>(right: &'a Right, names: &mut Vec<&'a Name>) -> Result<(), Al
 
 /// Adds the variables that a statement names in its own expressions or arguments.
 pub fn own_names<'a>(kind: &'a StmtKind, names: &mut Vec<&'a Name>) -> Result<(), AllocError>
-    ensures { OnOk result (names_seen names.new.items ≡ names_seen names.old.items ++ own_names (kind_view kind.now)) }
+    ensures { OnOk result
+        (names_seen names.new.items
+        ≡ names_seen names.old.items ++ own_names (kind_view kind.now)) }
 {
     match kind {
         StmtKind::LetArray { .. }

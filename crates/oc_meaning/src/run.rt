@@ -43,8 +43,13 @@ fn execute(
     regions: &[Region],
     store: &mut Store,
 ) -> Result<Completion, Interrupted>
-    ensures runs { IfOk result (λ o. completion_at o store.new ≡ main_from (program_view program.now) (map region_view regions.now) store.old) }
-    ensures cut { OnErr result (Oldest store.new.events (events_in (main_from (program_view program.now) (map region_view regions.now) store.old))) }
+    ensures runs { IfOk result
+        (λ o. completion_at o store.new
+        ≡ main_from (program_view program.now) (map region_view regions.now) store.old) }
+    ensures cut { OnErr result
+        (Oldest store.new.events
+        (events_in (main_from (program_view program.now) (map region_view regions.now)
+        store.old))) }
 {
     let main = Name::new(Vec::from_slice(alloc, b"main")?);
     let functions = program.functions.as_slice();
@@ -72,8 +77,11 @@ fn halt(alloc: Global, store: &mut Store) -> Result<Outcome, Interrupted>
 
 // How a run ends that came to this.
 fn end(alloc: Global, completion: Completion, store: &mut Store) -> Result<Outcome, Interrupted>
-    ensures step { IfOk result (λ o. trace_at (ending_of o) store.new ≡ trace_of (completion_at completion store.old)) }
-    ensures cut { OnErr result (Begins (in_order store.new.events) (trace_of (completion_at completion store.old)).events) }
+    ensures step { IfOk result
+        (λ o. trace_at (ending_of o) store.new ≡ trace_of (completion_at completion store.old)) }
+    ensures cut { OnErr result
+        (Begins (in_order store.new.events)
+        (trace_of (completion_at completion store.old)).events) }
 {
     match completion {
         Completion::Went => halt(alloc, store),
@@ -93,8 +101,12 @@ fn run(
     regions: &[Region],
     store: &mut Store,
 ) -> Result<Outcome, Interrupted>
-    ensures runs { IfOk result (λ o. trace_at (ending_of o) store.new ≡ trace_of (main_from (program_view program.now) (map region_view regions.now) store.old)) }
-    ensures begins { Begins (in_order store.new.events) (trace_of (main_from (program_view program.now) (map region_view regions.now) store.old)).events }
+    ensures runs { IfOk result
+        (λ o. trace_at (ending_of o) store.new
+        ≡ trace_of (main_from (program_view program.now) (map region_view regions.now) store.old)) }
+    ensures begins { Begins (in_order store.new.events)
+        (trace_of (main_from (program_view program.now) (map region_view regions.now)
+        store.old)).events }
 {
     let completion = execute(alloc, program, regions, store)?;
     let outcome = end(alloc, completion, store)?;
@@ -132,10 +144,23 @@ fn trace_marked(
     samples: &[i32],
     limit: u64,
 ) -> Result<MarkedTrace, Interrupted>
-    ensures parts { IfOk result (λ t. parts t ≡ take limit (marked_run (program_view program.now) (map region_view regions.now) samples.now).events) }
-    ensures whole { IfOk result (λ t. t.whole ≡ nat_le (length (marked_run (program_view program.now) (map region_view regions.now) samples.now).events) limit) }
-    ensures told { IfOk result (λ t. t.whole ≡ true → parts t ≡ (marked_run (program_view program.now) (map region_view regions.now) samples.now).events) }
-    ensures source { IfOk result (λ t. t.whole ≡ true → trace_view t.trace ≡ source_run (program_view program.now) samples.now) }
+    ensures parts { IfOk result
+        (λ t. parts t
+        ≡ take limit
+        (marked_run (program_view program.now) (map region_view regions.now) samples.now).events) }
+    ensures whole { IfOk result
+        (λ t. t.whole
+        ≡ nat_le (length
+        (marked_run (program_view program.now) (map region_view regions.now) samples.now).events)
+        limit) }
+    ensures told { IfOk result
+        (λ t. t.whole ≡ true
+        → parts t
+        ≡ (marked_run (program_view program.now) (map region_view regions.now)
+        samples.now).events) }
+    ensures source { IfOk result
+        (λ t. t.whole ≡ true
+        → trace_view t.trace ≡ source_run (program_view program.now) samples.now) }
     ensures short { IfOk result (λ t. t.whole ≡ false → ending_of t.trace.outcome ≡ AtShort) }
     ensures rises { IfOk result (λ t. Rises 0 t.marks.items (length t.trace.events.items)) }
 {
@@ -160,10 +185,18 @@ pub fn run_marked(
     samples: &[i32],
     limit: u64,
 ) -> Result<MarkedTrace, Memory>
-    ensures parts { IfOk result (λ t. parts t ≡ take limit (marked_run marked.now.program marked.now.regions samples.now).events) }
-    ensures whole { IfOk result (λ t. t.whole ≡ nat_le (length (marked_run marked.now.program marked.now.regions samples.now).events) limit) }
-    ensures told { IfOk result (λ t. t.whole ≡ true → parts t ≡ (marked_run marked.now.program marked.now.regions samples.now).events) }
-    ensures source { IfOk result (λ t. t.whole ≡ true → trace_view t.trace ≡ source_run marked.now.program samples.now) }
+    ensures parts { IfOk result
+        (λ t. parts t
+        ≡ take limit (marked_run marked.now.program marked.now.regions samples.now).events) }
+    ensures whole { IfOk result
+        (λ t. t.whole
+        ≡ nat_le (length (marked_run marked.now.program marked.now.regions samples.now).events)
+        limit) }
+    ensures told { IfOk result
+        (λ t. t.whole ≡ true
+        → parts t ≡ (marked_run marked.now.program marked.now.regions samples.now).events) }
+    ensures source { IfOk result
+        (λ t. t.whole ≡ true → trace_view t.trace ≡ source_run marked.now.program samples.now) }
     ensures short { IfOk result (λ t. t.whole ≡ false → ending_of t.trace.outcome ≡ AtShort) }
     ensures rises { IfOk result (λ t. Rises 0 t.marks.items (length t.trace.events.items)) }
 {

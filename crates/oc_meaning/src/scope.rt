@@ -55,7 +55,14 @@ impl<'a> Scope<'a> {
 
     /// One more variable.
     pub fn push(&mut self, binding: Binding<'a>) -> Result<(), AllocError>
-        ensures { OnOk result (self.new ≡ record { name = binding.entry.name.now; place = place_view binding.entry.place; reference = binding.entry.reference; fresh = binding.entry.fresh } ∷ self.old) }
+        ensures { OnOk result
+            (self.new ≡ record {
+              name = binding.entry.name.now;
+              place = place_view binding.entry.place;
+              reference =
+                  binding.entry.reference;
+              fresh = binding.entry.fresh;
+            } ∷ self.old) }
     {
         self.bindings.push(binding)?;
         Ok(())
@@ -108,7 +115,8 @@ impl<'a> Scope<'a> {
 
 // The last variable of a name.
 fn newest<'a, 'b>(bindings: &'b [Binding<'a>], name: &Name) -> Option<&'b Binding<'a>>
-    ensures { option_map (λ b. b.now) result ≡ find (λ b. bytes_eq name.now b.name.now) (reverse bindings.now) }
+    ensures { option_map (λ b. b.now) result
+        ≡ find (λ b. bytes_eq name.now b.name.now) (reverse bindings.now) }
 {
     bindings.iter().rev().find(|binding| name.is(binding.name))
 }

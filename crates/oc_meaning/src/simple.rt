@@ -31,7 +31,8 @@ use std::alloc::Global;
 
 // The value of a right side. A call without a result gives 0.
 fn settle(alloc: Global, given: Completion) -> Result<Value, Stop>
-    ensures { (go : Value → Store → Outcome) (σ : Store) → with_result (completion_at given σ) go ≡ settled result go σ }
+    ensures { (go : Value → Store → Outcome) (σ : Store)
+        → with_result (completion_at given σ) go ≡ settled result go σ }
 {
     match given {
         Completion::Went => Ok(Value::plain(alloc, 0)),
@@ -53,7 +54,9 @@ pub fn drop_value(given: Completion) -> Completion
 
 /// A `let` of one word.
 pub fn make(alloc: Global, given: Completion, store: &mut Store) -> Result<Completion, Interrupted>
-    ensures step { IfOk result (λ o. completion_at o store.new ≡ with_result (completion_at given store.old) (λ v τ. Went (made (holding v) τ))) }
+    ensures step { IfOk result
+        (λ o. completion_at o store.new
+        ≡ with_result (completion_at given store.old) (λ v τ. Went (made (holding v) τ))) }
     ensures kept { OnErr result (store.new ≡ store.old) }
 {
     match settle(alloc, given) {
@@ -73,7 +76,8 @@ pub fn make_array(
     words: u32,
     store: &mut Store,
 ) -> Result<Completion, Interrupted>
-    ensures step { IfOk result (λ o. completion_at o store.new ≡ Went (made (array_of initial words) store.old)) }
+    ensures step { IfOk result
+        (λ o. completion_at o store.new ≡ Went (made (array_of initial words) store.old)) }
     ensures kept { OnErr result (store.new ≡ store.old) }
 {
     let held = Held::array(alloc, initial, words)?;
@@ -89,7 +93,12 @@ pub fn assign(
     given: Completion,
     store: &mut Store,
 ) -> Result<Completion, Interrupted>
-    ensures step { IfOk result (λ o. completion_at o store.new ≡ with_result (completion_at given store.old) (λ v τ. Went (put τ (place_of scope.now name.now) (replaced (held_at τ (place_of scope.now name.now)) v)))) }
+    ensures step { IfOk result
+        (λ o. completion_at o store.new
+        ≡ with_result (completion_at given store.old)
+        (λ v τ. Went
+        (put τ (place_of scope.now name.now)
+        (replaced (held_at τ (place_of scope.now name.now)) v)))) }
     ensures kept { OnErr result (store.new ≡ store.old) }
 {
     match settle(alloc, given) {
@@ -111,8 +120,18 @@ pub fn assign_index(
     given: Completion,
     store: &mut Store,
 ) -> Result<Completion, Interrupted>
-    ensures step { IfOk result (λ o. completion_at o store.new ≡ with_result (completion_at given store.old) (λ v τ. with_value (value_of scope.now τ (expr_view index.now)) n τ (λ i. element_written (place_of scope.now name.now) (element_of (length (held_at τ (place_of scope.now name.now)).words) i.num) i v n τ))) }
-    ensures cut { OnErr result (Oldest store.new.events (events_in (with_result (completion_at given store.old) (λ v τ. with_value (value_of scope.now τ (expr_view index.now)) n τ (λ i. element_written (place_of scope.now name.now) (element_of (length (held_at τ (place_of scope.now name.now)).words) i.num) i v n τ))))) }
+    ensures step { IfOk result
+        (λ o. completion_at o store.new
+        ≡ with_result (completion_at given store.old)
+        (λ v τ. with_value (value_of scope.now τ (expr_view index.now)) n τ
+        (λ i. element_written (place_of scope.now name.now)
+        (element_of (length (held_at τ (place_of scope.now name.now)).words) i.num) i v n τ))) }
+    ensures cut { OnErr result
+        (Oldest store.new.events (events_in
+        (with_result (completion_at given store.old)
+        (λ v τ. with_value (value_of scope.now τ (expr_view index.now)) n τ
+        (λ i. element_written (place_of scope.now name.now)
+        (element_of (length (held_at τ (place_of scope.now name.now)).words) i.num) i v n τ))))) }
 {
     match settle(alloc, given) {
         Err(stop) => Ok(Completion::Stopped { stop }),
@@ -133,8 +152,14 @@ pub fn evaluate(
     value: &Expr,
     store: &mut Store,
 ) -> Result<Completion, Interrupted>
-    ensures step { IfOk result (λ o. completion_at o store.new ≡ with_value (value_of scope.now store.old (expr_view value.now)) n store.old (λ v. Returned v store.old)) }
-    ensures cut { OnErr result (Oldest store.new.events (events_in (with_value (value_of scope.now store.old (expr_view value.now)) n store.old (λ v. Returned v store.old)))) }
+    ensures step { IfOk result
+        (λ o. completion_at o store.new
+        ≡ with_value (value_of scope.now store.old (expr_view value.now)) n store.old
+        (λ v. Returned v store.old)) }
+    ensures cut { OnErr result
+        (Oldest store.new.events
+        (events_in (with_value (value_of scope.now store.old (expr_view value.now)) n store.old
+        (λ v. Returned v store.old)))) }
 {
     match value_of(alloc, scope, store, value)? {
         Got::Traps { kind } => store.trap(kind, n),
@@ -144,8 +169,15 @@ pub fn evaluate(
 
 /// An input.
 pub fn sense(run: &Running, sensor: &Name, store: &mut Store) -> Result<Completion, Interrupted>
-    ensures step { IfOk result (λ o. completion_at o store.new ≡ sense (number_in run.now.program.now.names.sensors.items sensor.now) store.old.left store.old) }
-    ensures cut { OnErr result (Oldest store.new.events (events_in (sense (number_in run.now.program.now.names.sensors.items sensor.now) store.old.left store.old))) }
+    ensures step { IfOk result
+        (λ o. completion_at o store.new
+        ≡ sense (number_in run.now.program.now.names.sensors.items sensor.now) store.old.left
+        store.old) }
+    ensures cut { OnErr result
+        (Oldest store.new.events
+        (events_in
+        (sense (number_in run.now.program.now.names.sensors.items sensor.now) store.old.left
+        store.old))) }
 {
     let number = number_in(run.program.names.sensors.as_slice(), sensor)?;
     store.sense(number)
@@ -160,8 +192,12 @@ pub fn emit(
     value: &Expr,
     store: &mut Store,
 ) -> Result<Completion, Interrupted>
-    ensures step { IfOk result (λ o. completion_at o store.new ≡ kind_here run.now scope.now n (emit port.now (expr_view value.now)) store.old) }
-    ensures cut { OnErr result (Oldest store.new.events (events_in (kind_here run.now scope.now n (emit port.now (expr_view value.now)) store.old))) }
+    ensures step { IfOk result
+        (λ o. completion_at o store.new
+        ≡ kind_here run.now scope.now n (emit port.now (expr_view value.now)) store.old) }
+    ensures cut { OnErr result
+        (Oldest store.new.events (events_in
+        (kind_here run.now scope.now n (emit port.now (expr_view value.now)) store.old))) }
 {
     match value_of(run.alloc, scope, store, value)? {
         Got::Traps { kind } => store.trap(kind, n),
@@ -186,8 +222,12 @@ pub fn tag(
     id: i32,
     store: &mut Store,
 ) -> Result<Completion, Interrupted>
-    ensures step { IfOk result (λ o. completion_at o store.new ≡ kind_here run.now scope.now n (consistent name.now id) store.old) }
-    ensures cut { OnErr result (Oldest store.new.events (events_in (kind_here run.now scope.now n (consistent name.now id) store.old))) }
+    ensures step { IfOk result
+        (λ o. completion_at o store.new
+        ≡ kind_here run.now scope.now n (consistent name.now id) store.old) }
+    ensures cut { OnErr result
+        (Oldest store.new.events (events_in
+        (kind_here run.now scope.now n (consistent name.now id) store.old))) }
 {
     let samples = store.samples(scope.place(name))?;
     let home = set_home(run.body, id)?;
@@ -204,8 +244,20 @@ pub fn return_value(
     value: &Expr,
     store: &mut Store,
 ) -> Result<Completion, Interrupted>
-    ensures step { IfOk result (λ o. completion_at o store.new ≡ with_value (value_of scope.now store.old (expr_view value.now)) n store.old (λ v. Returned v (closed (ended_by (map region_view run.now.regions.now) n) (done (is_use (is_fresh scope.now) (kind_view kind.now)) n (use_samples scope.now (kind_view kind.now) store.old) store.old)))) }
-    ensures cut { OnErr result (Oldest store.new.events (events_in (with_value (value_of scope.now store.old (expr_view value.now)) n store.old (λ v. Returned v (closed (ended_by (map region_view run.now.regions.now) n) (done (is_use (is_fresh scope.now) (kind_view kind.now)) n (use_samples scope.now (kind_view kind.now) store.old) store.old)))))) }
+    ensures step { IfOk result
+        (λ o. completion_at o store.new
+        ≡ with_value (value_of scope.now store.old (expr_view value.now)) n store.old
+        (λ v. Returned v
+        (closed (ended_by (map region_view run.now.regions.now) n)
+        (done (is_use (is_fresh scope.now) (kind_view kind.now)) n
+        (use_samples scope.now (kind_view kind.now) store.old) store.old)))) }
+    ensures cut { OnErr result
+        (Oldest store.new.events
+        (events_in (with_value (value_of scope.now store.old (expr_view value.now)) n store.old
+        (λ v. Returned v
+        (closed (ended_by (map region_view run.now.regions.now) n)
+        (done (is_use (is_fresh scope.now) (kind_view kind.now)) n
+        (use_samples scope.now (kind_view kind.now) store.old) store.old)))))) }
 {
     match value_of(run.alloc, scope, store, value)? {
         Got::Traps { kind } => store.trap(kind, n),

@@ -41,7 +41,8 @@ fn grow<'a>(
     kind: &'a StmtKind,
     rest: &[Stmt],
 ) -> Result<(), AllocError>
-    ensures { OnOk result ((σ : meant.Store) → length σ.locals ≡ level → scope.new ≡ grown (kind_view kind.now) (stmts_view rest.now) scope.old σ) }
+    ensures { OnOk result ((σ : meant.Store) → length σ.locals ≡ level
+        → scope.new ≡ grown (kind_view kind.now) (stmts_view rest.now) scope.old σ) }
 {
     match kind {
         StmtKind::Let { name, .. } => scope.push(Binding {
@@ -68,9 +69,13 @@ pub fn block<'a>(
     block: &'a Block,
     store: &mut Store,
 ) -> Result<Completion, Interrupted>
-    ensures runs { IfOk result (λ o. completion_at o store.new ≡ block_here run.now scope.old (block_view block.now) store.old) }
+    ensures runs { IfOk result
+        (λ o. completion_at o store.new
+        ≡ block_here run.now scope.old (block_view block.now) store.old) }
     ensures scope { OnOk result (scope.new ≡ scope.old) }
-    ensures cut { OnErr result (Oldest store.new.events (events_in (block_here run.now scope.old (block_view block.now) store.old))) }
+    ensures cut { OnErr result
+        (Oldest store.new.events
+        (events_in (block_here run.now scope.old (block_view block.now) store.old))) }
 {
     let visible = scope.len();
     let locals = store.locals();
@@ -88,9 +93,13 @@ fn statements<'a>(
     block: &'a Block,
     store: &mut Store,
 ) -> Result<Completion, Interrupted>
-    ensures runs { IfOk result (λ o. completion_at o store.new ≡ stmts_here run.now scope.old (stmts_in (block_view block.now)) store.old) }
+    ensures runs { IfOk result
+        (λ o. completion_at o store.new
+        ≡ stmts_here run.now scope.old (stmts_in (block_view block.now)) store.old) }
     ensures scope { OnOk result (drop (length scope.new - length scope.old) scope.new ≡ scope.old) }
-    ensures cut { OnErr result (Oldest store.new.events (events_in (stmts_here run.now scope.old (stmts_in (block_view block.now)) store.old))) }
+    ensures cut { OnErr result
+        (Oldest store.new.events
+        (events_in (stmts_here run.now scope.old (stmts_in (block_view block.now)) store.old))) }
 {
     let all = block.statements.as_slice();
     let mut done = 0;
@@ -113,9 +122,14 @@ fn statement<'a>(
     statement: &'a Stmt,
     store: &mut Store,
 ) -> Result<Completion, Interrupted>
-    ensures runs { IfOk result (λ o. completion_at o store.new ≡ stmt_here run.now scope.old statement.now.id (kind_view statement.now.kind) store.old) }
+    ensures runs { IfOk result
+        (λ o. completion_at o store.new
+        ≡ stmt_here run.now scope.old statement.now.id (kind_view statement.now.kind) store.old) }
     ensures scope { OnOk result (scope.new ≡ scope.old) }
-    ensures cut { OnErr result (Oldest store.new.events (events_in (stmt_here run.now scope.old statement.now.id (kind_view statement.now.kind) store.old))) }
+    ensures cut { OnErr result
+        (Oldest store.new.events
+        (events_in (stmt_here run.now scope.old statement.now.id (kind_view statement.now.kind)
+        store.old))) }
 {
     let n = statement.id;
     let uses = used(run.alloc, scope, store, &statement.kind)?;
@@ -140,9 +154,13 @@ fn kind<'a>(
     kind: &'a StmtKind,
     store: &mut Store,
 ) -> Result<Completion, Interrupted>
-    ensures runs { IfOk result (λ o. completion_at o store.new ≡ kind_here run.now scope.old n (kind_view kind.now) store.old) }
+    ensures runs { IfOk result
+        (λ o. completion_at o store.new
+        ≡ kind_here run.now scope.old n (kind_view kind.now) store.old) }
     ensures scope { OnOk result (scope.new ≡ scope.old) }
-    ensures cut { OnErr result (Oldest store.new.events (events_in (kind_here run.now scope.old n (kind_view kind.now) store.old))) }
+    ensures cut { OnErr result
+        (Oldest store.new.events (events_in
+        (kind_here run.now scope.old n (kind_view kind.now) store.old))) }
 {
     match kind {
         StmtKind::Let { right: side, .. } => {
@@ -221,9 +239,16 @@ fn for_turns<'a>(
     body: &'a Block,
     store: &mut Store,
 ) -> Result<Completion, Interrupted>
-    ensures runs { IfOk result (λ o. completion_at o store.new ≡ for_turns (count_of (to -ℤ from)) from (λ i. block_here run.now (in_turn name.now i ∷ scope.old) (block_view body.now)) store.old) }
+    ensures runs { IfOk result
+        (λ o. completion_at o store.new
+        ≡ for_turns (count_of (to -ℤ from)) from
+        (λ i. block_here run.now (in_turn name.now i ∷ scope.old) (block_view body.now))
+        store.old) }
     ensures scope { OnOk result (scope.new ≡ scope.old) }
-    ensures cut { OnErr result (Oldest store.new.events (events_in (for_turns (count_of (to -ℤ from)) from (λ i. block_here run.now (in_turn name.now i ∷ scope.old) (block_view body.now)) store.old))) }
+    ensures cut { OnErr result
+        (Oldest store.new.events (events_in (for_turns (count_of (to -ℤ from)) from
+        (λ i. block_here run.now (in_turn name.now i ∷ scope.old) (block_view body.now))
+        store.old))) }
 {
     let visible = scope.len();
     let mut turn = from;
@@ -256,9 +281,19 @@ fn while_turns<'a>(
     body: &'a Block,
     store: &mut Store,
 ) -> Result<Completion, Interrupted>
-    ensures runs { IfOk result (λ o. completion_at o store.new ≡ while_turns bound n (is_use (is_fresh scope.old) (kind_view kind.now)) (use_samples scope.old (kind_view kind.now)) (λ τ. value_of scope.old τ (expr_view condition.now)) (block_here run.now scope.old (block_view body.now)) [] store.old) }
+    ensures runs { IfOk result
+        (λ o. completion_at o store.new
+        ≡ while_turns bound n (is_use (is_fresh scope.old) (kind_view kind.now))
+        (use_samples scope.old (kind_view kind.now))
+        (λ τ. value_of scope.old τ (expr_view condition.now))
+        (block_here run.now scope.old (block_view body.now)) [] store.old) }
     ensures scope { OnOk result (scope.new ≡ scope.old) }
-    ensures cut { OnErr result (Oldest store.new.events (events_in (while_turns bound n (is_use (is_fresh scope.old) (kind_view kind.now)) (use_samples scope.old (kind_view kind.now)) (λ τ. value_of scope.old τ (expr_view condition.now)) (block_here run.now scope.old (block_view body.now)) [] store.old))) }
+    ensures cut { OnErr result
+        (Oldest store.new.events (events_in
+        (while_turns bound n (is_use (is_fresh scope.old) (kind_view kind.now))
+        (use_samples scope.old (kind_view kind.now))
+        (λ τ. value_of scope.old τ (expr_view condition.now))
+        (block_here run.now scope.old (block_view body.now)) [] store.old))) }
 {
     let is_use = is_use(run.alloc, scope, store, kind)?;
     let mut samples = Samples::none(run.alloc);
@@ -289,8 +324,12 @@ fn right<'a>(
     side: &'a Right,
     store: &mut Store,
 ) -> Result<Completion, Interrupted>
-    ensures runs { IfOk result (λ o. completion_at o store.new ≡ right_here run.now scope.now n store.old (right_view side.now)) }
-    ensures cut { OnErr result (Oldest store.new.events (events_in (right_here run.now scope.now n store.old (right_view side.now)))) }
+    ensures runs { IfOk result
+        (λ o. completion_at o store.new
+        ≡ right_here run.now scope.now n store.old (right_view side.now)) }
+    ensures cut { OnErr result
+        (Oldest store.new.events (events_in
+        (right_here run.now scope.now n store.old (right_view side.now)))) }
 {
     match side {
         Right::Value { value } => evaluate(run.alloc, scope, n, value, store),
@@ -308,8 +347,12 @@ fn call<'a>(
     call: &'a Call,
     store: &mut Store,
 ) -> Result<Completion, Interrupted>
-    ensures runs { IfOk result (λ o. completion_at o store.new ≡ call_here run.now scope.now n store.old (call_view call.now)) }
-    ensures cut { OnErr result (Oldest store.new.events (events_in (call_here run.now scope.now n store.old (call_view call.now)))) }
+    ensures runs { IfOk result
+        (λ o. completion_at o store.new
+        ≡ call_here run.now scope.now n store.old (call_view call.now)) }
+    ensures cut { OnErr result
+        (Oldest store.new.events (events_in
+        (call_here run.now scope.now n store.old (call_view call.now)))) }
 {
     match args(run.alloc, scope, store, call.args.as_slice())? {
         Passing::Breaks { kind: trapped } => store.trap(trapped, n),
@@ -325,8 +368,12 @@ pub fn call_to<'a>(
     passed: VecDeque<Passed>,
     store: &mut Store,
 ) -> Result<Completion, Interrupted>
-    ensures runs { IfOk result (λ o. completion_at o store.new ≡ callee run.now name.now (map passed_view passed.items) store.old) }
-    ensures cut { OnErr result (Oldest store.new.events (events_in (callee run.now name.now (map passed_view passed.items) store.old))) }
+    ensures runs { IfOk result
+        (λ o. completion_at o store.new
+        ≡ callee run.now name.now (map passed_view passed.items) store.old) }
+    ensures cut { OnErr result
+        (Oldest store.new.events (events_in
+        (callee run.now name.now (map passed_view passed.items) store.old))) }
 {
     if run.depth == 0 {
         return Ok(Completion::Went);

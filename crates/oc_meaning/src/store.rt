@@ -63,7 +63,16 @@ impl<'a> Store<'a> {
         samples: &'a [i32],
         limit: u64,
     ) -> Result<Store<'a>, AllocError>
-        ensures { IfOk result (λ s. s ≡ record { locals = []; nv = first_values decls.now; left = samples.now; taken = 0; depth = 0; blocks = []; events = [] }) }
+        ensures { IfOk result (λ s. s
+            ≡ record {
+              locals = [];
+              nv = first_values decls.now;
+              left = samples.now;
+              taken = 0;
+              depth = 0;
+              blocks = [];
+              events = [];
+            }) }
     {
         Ok(Store {
             alloc,
@@ -94,7 +103,8 @@ impl<'a> Store<'a> {
 
     // The variable at a place, where there is one.
     fn held(&self, place: Place) -> Option<&Held>
-        ensures { held_or (place_view place) (option_map (λ h. h.now) result) ≡ held_at self.now (place_view place) }
+        ensures { held_or (place_view place) (option_map (λ h. h.now) result)
+            ≡ held_at self.now (place_view place) }
     {
         match place {
             Place::Local { level } => local(&self.locals, level),
@@ -126,7 +136,11 @@ impl<'a> Store<'a> {
 
     /// The element of the array at a place that an index names.
     pub fn element(&self, place: Place, index: Value) -> Result<Got, AllocError>
-        ensures { IfOk result (λ g. got_view g ≡ read_element (held_at self.now (place_view place)) (element_of (length (held_at self.now (place_view place)).words) index.num) index.samples) }
+        ensures { IfOk result
+            (λ g. got_view g
+            ≡ read_element (held_at self.now (place_view place))
+            (element_of (length (held_at self.now (place_view place)).words) index.num)
+            index.samples) }
     {
         match self.held(place) {
             Some(held) => held.element(index),
@@ -136,7 +150,9 @@ impl<'a> Store<'a> {
 
     /// Writes the scalar at a place.
     pub fn assign(&mut self, place: Place, value: Value) -> Result<(), AllocError>
-        ensures step { OnOk result (self.new ≡ put self.old (place_view place) (replaced (held_at self.old (place_view place)) value)) }
+        ensures step { OnOk result
+            (self.new ≡ put self.old (place_view place)
+            (replaced (held_at self.old (place_view place)) value)) }
         ensures kept { OnErr result (self.new ≡ self.old) }
     {
         match place {
@@ -166,7 +182,9 @@ impl<'a> Store<'a> {
         word: i32,
         samples: Samples,
     ) -> Result<(), AllocError>
-        ensures step { OnOk result (self.new ≡ put self.old (place_view place) (with_element (held_at self.old (place_view place)) at word samples)) }
+        ensures step { OnOk result
+            (self.new ≡ put self.old (place_view place)
+            (with_element (held_at self.old (place_view place)) at word samples)) }
         ensures kept { OnErr result (self.new ≡ self.old) }
     {
         match place {
@@ -187,8 +205,16 @@ impl<'a> Store<'a> {
         value: Value,
         stmt: StmtId,
     ) -> Result<Completion, Interrupted>
-        ensures step { IfOk result (λ o. completion_at o self.new ≡ element_written (place_view place) (element_of (length (held_at self.old (place_view place)).words) index.num) index value stmt self.old) }
-        ensures cut { OnErr result (Oldest self.new.events (events_in (element_written (place_view place) (element_of (length (held_at self.old (place_view place)).words) index.num) index value stmt self.old))) }
+        ensures step { IfOk result
+            (λ o. completion_at o self.new
+            ≡ element_written (place_view place)
+            (element_of (length (held_at self.old (place_view place)).words) index.num) index value
+            stmt self.old) }
+        ensures cut { OnErr result
+            (Oldest self.new.events
+            (events_in (element_written (place_view place)
+            (element_of (length (held_at self.old (place_view place)).words) index.num) index value
+            stmt self.old))) }
     {
         match element_of(self.count(place), index.number()) {
             Some(at) => {
@@ -234,7 +260,8 @@ impl<'a> Store<'a> {
     /// A statement traps.
     pub fn trap(&mut self, kind: TrapKind, stmt: StmtId) -> Result<Completion, Interrupted>
         ensures step { IfOk result (λ o. completion_at o self.new ≡ trapped kind stmt self.old) }
-        ensures cut { OnErr result (Oldest self.new.events (events_in (trapped kind stmt self.old))) }
+        ensures cut { OnErr result
+            (Oldest self.new.events (events_in (trapped kind stmt self.old))) }
     {
         let how = Ending::Trapped { kind, stmt };
         let samples = Samples::none(self.alloc);
@@ -247,7 +274,8 @@ impl<'a> Store<'a> {
     /// An annotation of the set of the block `home`.
     pub fn tag(&mut self, home: BlockId, stmt: StmtId, samples: Samples) -> Result<(), Interrupted>
         ensures step { OnOk result (self.new ≡ tagged home stmt samples self.old) }
-        ensures cut { OnErr result (Oldest self.new.events (tagged home stmt samples self.old).events) }
+        ensures cut { OnErr result
+            (Oldest self.new.events (tagged home stmt samples self.old).events) }
     {
         let event = Event {
             said: Said::Showed {
@@ -308,8 +336,10 @@ impl<'a> Store<'a> {
 
     /// Takes the next sample as an input of a sensor.
     pub fn sense(&mut self, sensor: u8) -> Result<Completion, Interrupted>
-        ensures step { IfOk result (λ o. completion_at o self.new ≡ sense sensor self.old.left self.old) }
-        ensures cut { OnErr result (Oldest self.new.events (events_in (sense sensor self.old.left self.old))) }
+        ensures step { IfOk result
+            (λ o. completion_at o self.new ≡ sense sensor self.old.left self.old) }
+        ensures cut { OnErr result
+            (Oldest self.new.events (events_in (sense sensor self.old.left self.old))) }
     {
         if self.taken >= self.samples.len() {
             return Ok(Completion::Stopped { stop: Stop::Short });
@@ -381,7 +411,9 @@ fn absent_value(alloc: Global, place: Place) -> Value
 
 /// Writes a scalar, where there is one.
 fn replace(variables: &mut Vec<Held>, variable: usize, value: Value)
-    ensures { variables.new.items ≡ slice_set variables.old.items variable (replaced (slice_index_or variables.old.items variable nothing) value) }
+    ensures { variables.new.items
+        ≡ slice_set variables.old.items variable
+        (replaced (slice_index_or variables.old.items variable nothing) value) }
 {
     if variable < variables.len() {
         let held = &mut variables[variable];
@@ -397,7 +429,9 @@ fn write(
     word: i32,
     samples: Samples,
 ) -> Result<(), AllocError>
-    ensures step { OnOk result (variables.new.items ≡ slice_set variables.old.items variable (with_element (slice_index_or variables.old.items variable nothing) at word samples)) }
+    ensures step { OnOk result
+        (variables.new.items ≡ slice_set variables.old.items variable
+        (with_element (slice_index_or variables.old.items variable nothing) at word samples)) }
     ensures kept { OnErr result (variables.new.items ≡ variables.old.items) }
 {
     if variable < variables.len() {
@@ -411,7 +445,8 @@ fn write(
 /// told then.
 fn tell(events: &mut Vec<Event>, limit: u64, event: Event) -> Result<(), Interrupted>
     ensures step { OnOk result (events.new.items ≡ events.old.items ++ event ∷ []) }
-    ensures cut { OnErr result (Oldest (told events.new.items) (event_view event ∷ told events.old.items)) }
+    ensures cut { OnErr result
+        (Oldest (told events.new.items) (event_view event ∷ told events.old.items)) }
 {
     if events.len() as u64 > limit {
         return Err(Interrupted::Cut);
@@ -430,8 +465,11 @@ fn tell_if(
     outermost: bool,
     mark: Event,
 ) -> Result<(), Interrupted>
-    ensures step { OnOk result (events.new.items ≡ events.old.items ++ (if outermost then mark ∷ [] else [])) }
-    ensures cut { OnErr result (Oldest (told events.new.items) (if outermost then event_view mark ∷ told events.old.items else told events.old.items)) }
+    ensures step { OnOk result
+        (events.new.items ≡ events.old.items ++ (if outermost then mark ∷ [] else [])) }
+    ensures cut { OnErr result
+        (Oldest (told events.new.items)
+        (if outermost then event_view mark ∷ told events.old.items else told events.old.items)) }
 {
     if outermost {
         tell(events, limit, mark)?;

@@ -106,7 +106,9 @@ fn part_of(event: Event, before: u64) -> Told
 
 /// Adds an event.
 fn add(events: &mut Vec<SourceEvent>, marks: &mut Vec<Mark>, event: Event) -> Result<(), AllocError>
-    ensures { OnOk result (Adds events.old.items marks.old.items (event_view event) events.new.items marks.new.items) }
+    ensures { OnOk result
+        (Adds events.old.items marks.old.items (event_view event) events.new.items
+        marks.new.items) }
 {
     match part_of(event, events.len() as u64) {
         Told::Source { event } => events.push(event)?,
@@ -148,7 +150,8 @@ fn traced(
     outcome: Outcome,
 ) -> Result<(SourceTrace, Vec<Mark>), AllocError>
     requires { AreParts (map event_view noted.items) }
-    ensures events { IfOk result (λ t. Tells t.0.events.items t.1.items (map event_view noted.items)) }
+    ensures events { IfOk result
+        (λ t. Tells t.0.events.items t.1.items (map event_view noted.items)) }
     ensures outcome { IfOk result (λ t. t.0.outcome ≡ outcome) }
     ensures nv { IfOk result (λ t. t.0.nv.items ≡ words_of nv.items) }
 {
@@ -172,7 +175,9 @@ pub fn marked_trace(
     requires { AreParts (in_order store.events) }
     ensures parts { IfOk result (λ t. parts t ≡ take limit (in_order store.entry.events)) }
     ensures whole { IfOk result (λ t. t.whole ≡ nat_le (length store.entry.events) limit) }
-    ensures source { IfOk result (λ t. t.whole ≡ true → trace_view t.trace ≡ without_marks (trace_at (ending_of outcome) store.entry)) }
+    ensures source { IfOk result
+        (λ t. t.whole ≡ true
+        → trace_view t.trace ≡ without_marks (trace_at (ending_of outcome) store.entry)) }
     ensures outcome { IfOk result (λ t. t.trace.outcome ≡ outcome) }
     ensures rises { IfOk result (λ t. Rises 0 t.marks.items (length t.trace.events.items)) }
 {
@@ -194,7 +199,8 @@ pub fn source_trace(
     outcome: Outcome,
 ) -> Result<SourceTrace, AllocError>
     requires { AreParts (in_order store.events) }
-    ensures { IfOk result (λ t. trace_view t ≡ without_marks (trace_at (ending_of outcome) store.entry)) }
+    ensures { IfOk result
+        (λ t. trace_view t ≡ without_marks (trace_at (ending_of outcome) store.entry)) }
 {
     let (noted, nv) = store.into_parts();
     let (trace, _marks) = traced(alloc, noted, nv, outcome)?;

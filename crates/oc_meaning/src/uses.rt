@@ -48,7 +48,8 @@ fn samples_of_fresh(
     store: &Store,
     mut names: Vec<&Name>,
 ) -> Result<Samples, AllocError>
-    ensures { IfOk result (λ s. s ≡ samples_of_fresh scope.now store.now (names_seen names.entry.items)) }
+    ensures { IfOk result
+        (λ s. s ≡ samples_of_fresh scope.now store.now (names_seen names.entry.items)) }
 {
     let mut samples = Samples::none(alloc);
     while let Some(name) = names.pop() {
@@ -64,7 +65,9 @@ pub fn used(
     store: &Store,
     kind: &StmtKind,
 ) -> Result<Option<Samples>, AllocError>
-    ensures { IfOk result (λ o. o ≡ (if is_use (is_fresh scope.now) (kind_view kind.now) then Some (use_samples scope.now (kind_view kind.now) store.now) else None)) }
+    ensures { IfOk result (λ o. o
+        ≡ (if is_use (is_fresh scope.now) (kind_view kind.now) then Some
+        (use_samples scope.now (kind_view kind.now) store.now) else None)) }
 {
     let mut names = Vec::new(alloc);
     own_names(kind, &mut names)?;

@@ -65,7 +65,8 @@ impl Value {
 
     /// A value that depends on these samples too.
     pub fn depending(self, samples: &Samples) -> Result<Value, AllocError>
-        ensures { IfOk result (λ v. v ≡ record { num = self.num; samples = union samples.now self.samples }) }
+        ensures { IfOk result (λ v. v
+            ≡ record { num = self.num; samples = union samples.now self.samples }) }
     {
         Ok(Value {
             number: self.number,

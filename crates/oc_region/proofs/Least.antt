@@ -125,19 +125,19 @@ module _ (p : TProgram) where
   standing_around : (t : ℕ) (l : List ℕ) → Standing p t l → around (placed p t) ≡ l
   standing_around t l s = ap around s.there ∙ s.around
 
-  shorter : (u : ℕ) (ls : List ℕ) → Chain p ls → In u ls → length (around (placed p u)) < length ls
+  pub shorter : (u : ℕ) (ls : List ℕ) → Chain p ls → In u ls → length (around (placed p u)) < length ls
   shorter u [] c h = absurd h
   shorter u (t ∷ l) c (inl s) = let e = ap length (ap (λ n. around (placed p n)) s ∙ standing_around t l c.0) in omega (arith, e)
   shorter u (t ∷ l) c (inr h) = let rest = shorter u l c.1 h in omega (arith, rest)
 
   -- what is around one of them is one of them
-  beyond : (w u : ℕ) (ls : List ℕ) → Chain p ls → In w ls → In u (around (placed p w)) → In u ls
+  pub beyond : (w u : ℕ) (ls : List ℕ) → Chain p ls → In w ls → In u (around (placed p w)) → In u ls
   beyond w u [] c h i = absurd h
   beyond w u (t ∷ l) c (inl s) i = inr (subst (λ m. In u m) (ap (λ n. around (placed p n)) s ∙ standing_around t l c.0) i)
   beyond w u (t ∷ l) c (inr h) i = inr (beyond w u l c.1 h i)
 
   module _ (form : Numbered p) where
-    same_around : (t u b : ℕ) → block_of p t ≡ Some b → block_of p u ≡ Some b → around (placed p t) ≡ around (placed p u)
+    pub same_around : (t u b : ℕ) → block_of p t ≡ Some b → block_of p u ≡ Some b → around (placed p t) ≡ around (placed p u)
     same_around t u b h k = around_is p form t b h ∙ sym (around_is p form u b k)
 
     -- one of each block

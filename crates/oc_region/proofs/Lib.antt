@@ -9,3 +9,5 @@ pub mod Reasons
 pub mod Chains
 pub mod Least
 pub mod Exists
+pub mod Covers
+pub mod United

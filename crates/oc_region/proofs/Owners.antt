@@ -140,13 +140,13 @@ function_fits f = block_fits (λ n. has n (own_statements f) ≡ true) (λ b. ha
 
 -- ---- the function of a statement that is found
 
-record Owner (fs : List TFunction) (s : ℕ) (a : Placed) : Type 0 where
+pub record Owner (fs : List TFunction) (s : ℕ) (a : Placed) : Type 0 where
   pub place : ℕ
   pub statement : Owns own_statements fs place s
   pub block : Owns own_blocks fs place a.at.block
   pub around : Each (Owns own_statements fs place) a.at.around
 
-owner : (fs : List TFunction) (s : ℕ) (a : Placed) → find (λ b. b.id == s) (flat_map (λ f. block_placed (at_start f) f.body) fs) ≡ Some a → Owner fs s a
+pub owner : (fs : List TFunction) (s : ℕ) (a : Placed) → find (λ b. b.id == s) (flat_map (λ f. block_placed (at_start f) f.body) fs) ≡ Some a → Owner fs s a
 owner [] s a e = cc
 owner (f ∷ fs) s a e = by_case (find_append (λ b. b.id == s) (block_placed (at_start f) f.body) (flat_map (λ g. block_placed (at_start g) g.body) fs) a e) (owner fs s a)
   where

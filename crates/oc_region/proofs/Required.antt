@@ -78,7 +78,7 @@ module _ (p : TProgram) where
   effects_own (f ∷ fs) zero = each_mapped (InFunction f) (λ a. Owns own_statements (f ∷ fs) 0 a.stmt) (effect_of p) (λ a h. h.0) (block_placed (at_start f) f.body) (function_fits f)
   effects_own (f ∷ fs) (suc g) = effects_own fs g
 
-  own_effects : (g : ℕ) → Each (λ a. Own g a.stmt) (effects_at p g)
+  pub own_effects : (g : ℕ) → Each (λ a. Own g a.stmt) (effects_at p g)
   own_effects g = effects_own p.functions g
 
   -- loops are such

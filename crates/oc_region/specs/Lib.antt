@@ -2,3 +2,4 @@ pub mod Smallest
 pub mod Regions
 pub mod Law
 pub mod Views
+pub mod United

@@ -24,7 +24,9 @@ pub fn asks(
     grouped: &Grouped,
     required: &[Requirement],
 ) -> Result<Vec<Ask>, AllocError>
-    ensures { IfOk result (λ v. map ask_view v.items ≡ asks grouped.now.program grouped.now.groups (map requirement_view required.now)) }
+    ensures { IfOk result
+        (λ v. map ask_view v.items
+        ≡ asks grouped.now.program grouped.now.groups (map requirement_view required.now)) }
 {
     let mut asks = Vec::new(alloc);
     for requirement in required {
@@ -74,7 +76,8 @@ pub fn reasons(
     asks: &[Ask],
     r: Stretch,
 ) -> Result<Vec<u32>, AllocError>
-    ensures { IfOk result (λ v. v.items ≡ ask_reasons effects.now.program (map ask_view asks.now) (stretch_view r)) }
+    ensures { IfOk result
+        (λ v. v.items ≡ ask_reasons effects.now.program (map ask_view asks.now) (stretch_view r)) }
 {
     let mut found = Vec::new(alloc);
     let mut left = asks;

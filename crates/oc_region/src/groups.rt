@@ -37,7 +37,9 @@ fn group_with(
 /// The statements directly in a group get it, unless they have one.
 fn fill(effects: &Effects, group: Group, table: &mut [Option<Group>])
     requires { group.1 < length table.old }
-    ensures { (s : ℕ) → get_or table.new s None ≡ group_with effects.now.program group s (get_or table.old s None) }
+    ensures { (s : ℕ)
+        → get_or table.new s None
+        ≡ group_with effects.now.program group s (get_or table.old s None) }
 {
     let Some(block) = effects.block_of(group.0) else {
         return;
@@ -50,7 +52,8 @@ fn fill(effects: &Effects, group: Group, table: &mut [Option<Group>])
 /// Makes room for the statements below a number.
 fn grow(table: &mut Vec<Option<Group>>, len: usize) -> Result<(), AllocError>
     ensures room { OnOk result (len ≤ vec_len table.new) }
-    ensures same { OnOk result ((s : ℕ) → get_or table.new.items s None ≡ get_or table.old.items s None) }
+    ensures same { OnOk result
+        ((s : ℕ) → get_or table.new.items s None ≡ get_or table.old.items s None) }
 {
     while table.len() < len {
         table.push(None)?;
@@ -60,7 +63,8 @@ fn grow(table: &mut Vec<Option<Group>>, len: usize) -> Result<(), AllocError>
 
 /// The group of each statement of a program, in one pass over the groups.
 pub fn group_table(alloc: Global, effects: &Effects) -> Result<Vec<Option<Group>>, AllocError>
-    ensures { IfOk result (λ t. (s : ℕ) → get_or t.items s None ≡ group_of effects.now.program effects.now.groups s) }
+    ensures { IfOk result (λ t. (s : ℕ)
+        → get_or t.items s None ≡ group_of effects.now.program effects.now.groups s) }
 {
     let mut table = Vec::new(alloc);
     for group in effects.checked().groups() {

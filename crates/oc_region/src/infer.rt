@@ -2,10 +2,13 @@
 ghost use Rattle.std.specs.Prelude.{◌≡◌, map, All, IfOk, IfErr};
 ghost use Rattle.std.specs.List.{list_any};
 ghost use Rattle.oc_tree.specs.Checked.{IsChecked};
+ghost use Rattle.oc_tree.specs.Members.{IsOf};
 ghost use Rattle.oc_tree.specs.Regions.{region_view};
 ghost use Rattle.oc_needs.specs.Policies.{policies};
-ghost use Rattle.oc_needs.specs.Requirements.{requirements};
+ghost use Rattle.oc_needs.specs.Requirements.{TRequirement, requirements};
 ghost use Rattle.oc_needs.specs.View.{requirement_view};
+ghost use Rattle.oc_honest.specs.Timely.{RunsAreTimely};
+ghost use Rattle.oc_timely.specs.Covering.{IsMet};
 ghost use Rattle.oc_region.specs.Law.{HasSmallest};
 ghost use Rattle.oc_region.specs.Regions.{by_first, is_inside, marked, outermost, regions, united};
 ghost use Rattle.oc_region.specs.Views.{ask_view, numbered_for, stretch_view, with_reasons};
@@ -25,7 +28,8 @@ use std::alloc::{AllocError, Global};
 
 /// Whether a range stands inside a statement of one of these.
 fn is_inside_some(effects: &Effects, r: Stretch, ranges: &[Stretch]) -> bool
-    ensures { result ≡ list_any (is_inside effects.now.program (stretch_view r)) (map stretch_view ranges.now) }
+    ensures { result
+        ≡ list_any (is_inside effects.now.program (stretch_view r)) (map stretch_view ranges.now) }
 {
     for q in ranges {
         if is_within(effects, *q, r.range.first) {
@@ -41,7 +45,9 @@ fn outermost(
     effects: &Effects,
     ranges: &[Stretch],
 ) -> Result<Vec<Stretch>, AllocError>
-    ensures { IfOk result (λ v. map stretch_view v.items ≡ outermost effects.now.program (map stretch_view ranges.now)) }
+    ensures { IfOk result
+        (λ v. map stretch_view v.items
+        ≡ outermost effects.now.program (map stretch_view ranges.now)) }
 {
     let mut kept = Vec::new(alloc);
     for r in ranges {
@@ -60,7 +66,9 @@ fn region(
     id: u32,
     r: Stretch,
 ) -> Result<Region, AllocError>
-    ensures { IfOk result (λ q. region_view q ≡ with_reasons effects.now.program (map ask_view asks.now) id (stretch_view r)) }
+    ensures { IfOk result
+        (λ q. region_view q
+        ≡ with_reasons effects.now.program (map ask_view asks.now) id (stretch_view r)) }
 {
     let reasons = reasons(alloc, effects, asks, r)?;
     Ok(Region {
@@ -78,7 +86,10 @@ fn numbered(
     asks: &[Ask],
     ranges: &[Stretch],
 ) -> Result<Vec<Region>, AllocError>
-    ensures { IfOk result (λ v. map region_view v.items ≡ numbered_for effects.now.program (map ask_view asks.now) 1 (map stretch_view ranges.now)) }
+    ensures { IfOk result
+        (λ v. map region_view v.items
+        ≡ numbered_for effects.now.program (map ask_view asks.now) 1
+        (map stretch_view ranges.now)) }
 {
     let mut regions = Vec::new(alloc);
     let mut id: u32 = 0;
@@ -96,7 +107,8 @@ fn regions(
     required: &[Requirement],
 ) -> Result<Vec<Region>, AllocError>
     requires { map requirement_view required.now ≡ requirements effects.now.program }
-    ensures { IfOk result (λ v. map region_view v.items ≡ regions effects.now.program effects.now.groups) }
+    ensures { IfOk result
+        (λ v. map region_view v.items ≡ regions effects.now.program effects.now.groups) }
 {
     let grouped = Grouped::new(alloc, effects)?;
     let asks = asks(alloc, &grouped, required)?;
@@ -113,7 +125,8 @@ fn parts(
 ) -> Result<(Vec<Policy>, Vec<Region>), AllocError>
     requires { map requirement_view required.now ≡ requirements checked.now.program }
     ensures policies { IfOk result (λ v. v.0.items ≡ policies checked.now.program) }
-    ensures regions { IfOk result (λ v. map region_view v.1.items ≡ regions checked.now.program checked.now.groups) }
+    ensures regions { IfOk result
+        (λ v. map region_view v.1.items ≡ regions checked.now.program checked.now.groups) }
     ensures checked { IsChecked checked.now.program checked.now.groups }
 {
     let _program = checked.program();
@@ -134,7 +147,13 @@ pub fn infer(
     ensures marked { IfOk result (λ m. m ≡ marked checked.program checked.groups) }
     ensures back { IfErr result (λ e. e.0 ≡ checked) }
     // Each requirement has a range, which is the smallest one that holds its sites.
-    ensures smallest { IfOk result (λ _. All (HasSmallest checked.program checked.groups) (requirements checked.program)) }
+    ensures smallest { IfOk result
+        (λ _. All (HasSmallest checked.program checked.groups) (requirements checked.program)) }
+    // One region covers all sites of a requirement.
+    ensures met { IfOk result
+        (λ m. (r : TRequirement) → IsOf r (requirements m.program) → IsMet m r) }
+    // With outages anywhere outside of regions, each run is timely.
+    ensures timely { IfOk result (λ m. RunsAreTimely m) }
 {
     match parts(alloc, &checked, required) {
         Ok((policies, regions)) => Ok(Marked::new(checked, policies, regions)),

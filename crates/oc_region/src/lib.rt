@@ -4,6 +4,7 @@
 mod asks;
 mod groups;
 pub mod infer;
+pub mod laws;
 mod places;
 mod range;
 mod smallest;

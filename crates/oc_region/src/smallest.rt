@@ -70,7 +70,9 @@ impl<'a> Grouped<'a> {
 
     /// The group in a block in which a statement stands.
     fn group_in(&self, block: BlockId, s: StmtId) -> Option<Group>
-        ensures { result ≡ option_and_then (group_of self.now.program self.now.groups) (in_block self.now.program block s) }
+        ensures { result
+            ≡ option_and_then (group_of self.now.program self.now.groups)
+            (in_block self.now.program block s) }
     {
         let own = in_block(self.effects, block, s)?;
         self.group_of(own)
@@ -91,7 +93,8 @@ impl<'a> Grouped<'a> {
 
     /// The smallest range that holds the sites of a requirement.
     pub fn smallest(&self, required: &Requirement) -> Option<Stretch>
-        ensures { option_map stretch_view result ≡ smallest self.now.program self.now.groups (requirement_view required.now) }
+        ensures { option_map stretch_view result
+            ≡ smallest self.now.program self.now.groups (requirement_view required.now) }
     {
         let block = common_block(self.effects, &required.sites)?;
         let group = self.spread(block, &required.sites)?;

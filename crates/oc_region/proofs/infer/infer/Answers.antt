@@ -1,7 +1,12 @@
-use Rattle.std.proofs.Common.{List, sym, subst}
-use Rattle.oc_tree.specs.Marked.{IsMarked, TRegion}
+use Rattle.std.proofs.Common.{◌≡◌, List, rules, sym, subst}
+use Rattle.oc_tree.specs.Marked.{IsMarked, TMarked, TRegion}
+use Rattle.oc_tree.specs.Members.{IsOf}
 use Rattle.oc_tree.specs.declared.marked.Policy.{Policy}
-use Rattle.oc_region.specs.Regions.{regions}
+use Rattle.oc_needs.specs.Requirements.{TRequirement, requirements}
+use Rattle.oc_honest.specs.Timely.{RunsAreTimely}
+use Rattle.oc_timely.specs.Covering.{IsMet}
+use Rattle.oc_region.specs.Regions.{marked, regions}
+use Rattle.oc_region.proofs.Covers.{is_met, runs_timely}
 use Rattle.oc_region.proofs.Exists.{each_smallest}
 use Rattle.oc_region.proofs.Regions.{is_marked}
 use Rattle.oc_region.proofs.infer.infer.Goals as goal
@@ -16,3 +21,17 @@ new-requires c =
 
 pub returns-in-Ok-clause-smallest : goal.returns-in-Ok-clause-smallest
 returns-in-Ok-clause-smallest c = each_smallest c.args.checked.program c.args.checked.groups c.in-Ok.ensures.checked
+
+pub returns-in-Ok-clause-timely : goal.returns-in-Ok-clause-timely
+returns-in-Ok-clause-timely c =
+    let p = c.args.checked.program in
+    let groups = c.args.checked.groups in
+    let is : c.new.result ≡ marked p groups = search rules in
+    subst RunsAreTimely (sym is) (runs_timely p groups c.in-Ok.ensures.checked)
+
+pub returns-in-Ok-clause-met : goal.returns-in-Ok-clause-met
+returns-in-Ok-clause-met c =
+    let p = c.args.checked.program in
+    let groups = c.args.checked.groups in
+    let is : c.new.result ≡ marked p groups = search rules in
+    subst (λ (m : TMarked). (r : TRequirement) → IsOf r (requirements m.program) → IsMet m r) (sym is) (is_met p groups c.in-Ok.ensures.checked)

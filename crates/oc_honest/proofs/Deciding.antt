@@ -1,0 +1,88 @@
+-- What passes the tests is timely.
+use Rattle.std.proofs.Common.{◌≡◌, ℕ, inl, inr, Bool, true, false, true≢false, List, [], ◌∷◌, Option, Some, refl, sym, ap, ◌∙◌, subst, ◌==◌, cond, arith}
+use Rattle.std.specs.Prelude.{ℤ, ◌&&◌, ◌||◌}
+use Rattle.std.specs.List.{list_all, list_any}
+use Rattle.std.specs.Cmp.Derive.{both_true}
+use Rattle.std.specs.Ordering.{int_eq}
+use Rattle.std.proofs.lemmas.Bool.{eqb-true}
+use Rattle.oc_tree.specs.Tree.{TProgram}
+use Rattle.oc_tree.specs.Members.{IsOf}
+use Rattle.oc_tree.specs.declared.said.Said.{Said}
+use Rattle.oc_tree.specs.declared.said.Said.TheVariants.{Sensed, Showed, Entered, Committed, Aborted, Off, Dark, Ended}
+use Rattle.oc_tree.specs.declared.said.Shown.TheVariants.{Emitted, Used, Finished, Tagged}
+use Rattle.oc_meaning.specs.Store.{Event}
+use Rattle.oc_honest.specs.Timely.{Lived, IsInput, IsUse, AreTogether, AreTimely, set_of}
+use Rattle.oc_honest.specs.Deciding.{input_of, uses, tag_of, holds, feeds, same_set, tags_one_set, together, use_is_fresh, inputs_meet, is_timely, TestsTell}
+
+first_true : (a b : Bool) → (a && b) ≡ true → a ≡ true
+first_true true b h = refl
+first_true false b h = absurd (true≢false (sym h))
+
+second_true : (a b : Bool) → (a && b) ≡ true → b ≡ true
+second_true true b h = h
+second_true false b h = absurd (true≢false (sym h))
+
+each : {A : Type 0} (f : A → Bool) (xs : List A) (x : A) → list_all f xs ≡ true → IsOf x xs → f x ≡ true
+each f [] x h o = elim o [ ]
+each f (y ∷ ys) x h (inl e) = ap f e ∙ first_true (f y) (list_all f ys) h
+each f (y ∷ ys) x h (inr o) = each f ys x (second_true (f y) (list_all f ys) h) o
+
+same : (n : ℕ) → (n == n) ≡ true
+same n = grind arith
+
+either_true : (a b : Bool) → b ≡ true → (a || b) ≡ true
+either_true true b h = refl
+either_true false b h = h
+
+any_of : (j : ℕ) (js : List ℕ) → IsOf j js → list_any (λ k. k == j) js ≡ true
+any_of j [] o = elim o [ ]
+any_of j (k ∷ ks) (inl e) = ap (λ b. b || list_any (λ i. i == j) ks) (subst (λ i. (i == j) ≡ true) e (same j))
+any_of j (k ∷ ks) (inr o) = either_true (k == j) _ (any_of j ks o)
+
+fed : (j : ℕ) (a u : Event) → IsInput j a → IsOf j u.samples → feeds a u ≡ true
+fed j a u i o = subst (λ (s : Said). holds (input_of s a.samples) u.samples ≡ true) (sym i.2) (subst (λ js. holds (input_of (Sensed i.0 i.1) js) u.samples ≡ true) (sym i.3) (any_of j u.samples o))
+
+used : (s : Said) → IsUse s → uses s ≡ true
+used (Showed (Used n)) h = refl
+used (Showed (Finished n)) h = refl
+used (Showed (Emitted port value)) h = elim h [ ]
+used (Showed (Tagged n)) h = elim h [ ]
+used (Sensed sensor value) h = elim h [ ]
+used (Entered r) h = elim h [ ]
+used (Committed r) h = elim h [ ]
+used (Aborted r) h = elim h [ ]
+used (Off ticks) h = elim h [ ]
+used Dark h = elim h [ ]
+used (Ended how) h = elim h [ ]
+
+-- a condition that holds makes its numbers equal
+equal_where : (b : Bool) (m n : ℕ) → b ≡ true → cond b (m == n) true ≡ true → m ≡ n
+equal_where true m n h e = eqb-true m n e
+equal_where false m n h e = absurd (true≢false (sym h))
+
+same_number : (k : ℤ) → int_eq k k ≡ true
+same_number k = grind arith
+
+one_set : (s : ℕ × ℤ) → same_set (Some s) (Some s) ≡ true
+one_set s = both_true (same s.0) (same_number s.1)
+
+stand_together : (p : TProgram) (t u : Event) → AreTogether p t u → together p t u ≡ true
+stand_together p t u h =
+    let sets : tags_one_set p (Some h.one) (Some h.other) ≡ true =
+    subst (λ s. same_set s (set_of p h.other) ≡ true) (sym h.first_set) (subst (λ s. same_set (Some h.set) s ≡ true) (sym h.second_set) (one_set h.set)) in
+    let tags : tags_one_set p (tag_of t.said) (tag_of u.said) ≡ true =
+    subst (λ (s : Said). tags_one_set p (tag_of s) (tag_of u.said) ≡ true) (sym h.first) (subst (λ (s : Said). tags_one_set p (Some h.one) (tag_of s) ≡ true) (sym h.second) sets) in
+    both_true tags (subst (λ i. (t.instance == i) ≡ true) h.instance (same t.instance))
+
+pub tests_tell : TestsTell
+tests_tell p all h = record {
+  fresh = λ a u j ina inu i it o.
+      let passes = each (λ v. use_is_fresh a v) all u (each (λ b. list_all (λ v. use_is_fresh b v) all) all a (first_true (list_all (λ b. list_all (λ v. use_is_fresh b v) all) all) _ h) ina) inu in
+      equal_where _ a.offs u.offs (both_true (fed j a.event u.event i o) (used u.event.said it)) passes;
+  consistent = λ a b t u j k ina inb int inu i l tags o q.
+      let at_a = each _ all a (second_true (list_all (λ b. list_all (λ v. use_is_fresh b v) all) all) _ h) ina in
+      let at_b = each _ all b at_a inb in
+      let at_t = each _ all t at_b int in
+      let passes = each (λ v. inputs_meet p a b t v) all u at_t inu in
+      equal_where _ a.offs b.offs (both_true (fed j a.event t.event i o) (both_true (fed k b.event u.event l q) (stand_together p t.event u.event tags))) passes;
+}

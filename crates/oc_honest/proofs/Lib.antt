@@ -1,0 +1,4 @@
+pub mod Items
+pub mod Untimely
+pub mod Deciding
+pub mod Worked

@@ -1,0 +1,4 @@
+pub mod Timely
+pub mod Held
+pub mod Deciding
+pub mod Worked

@@ -1,0 +1,244 @@
+-- Statements are numbered in source order, and each block of which a part has a statement has all of them there.
+use Rattle.std.proofs.Common.{◌≡◌, ◌<◌, ◌≤◌, ◌⊎◌, inl, inr, ℕ, zero, suc, ◌+◌, Bool, true, false, List, [], ◌∷◌, ◌++◌, length, Some, cond, refl, sym, ◌∙◌, subst, arith, length-append, append-nil, flat_map}
+use Rattle.std.specs.Prelude.{◌==◌, slice_get}
+use Rattle.std.proofs.lemmas.Bool.{eqb-true}
+use Rattle.std.proofs.lemmas.Option.{none-some, same_Some}
+use Rattle.oc_tree.specs.Tree.{TKind, let_to, let_array, assign, assign_index, assign_deref, if_else, for_in, while_do, call_only, sense_only, emit, fresh, consistent, return, TElse, no_else, else_do, stmt, TBlock, block, TStmts, no_stmts, more, TFunction, TProgram}
+use Rattle.oc_tree.specs.Form.{Numbered}
+use Rattle.oc_tree.specs.Numbers.{kind_statements, else_statements, block_statements, stmts_statements, kind_blocks, else_blocks, block_blocks, stmts_blocks}
+use Rattle.oc_tree.specs.Places.{block_of}
+use Rattle.oc_desugar.proofs.NumberLists.{Follow, first_of, parts}
+use Rattle.oc_desugar.proofs.BlockPairs.{Pair, kind_pairs, else_pairs, block_pairs, stmts_pairs, program_pairs, block_beside, block_is_beside}
+use Rattle.oc_formed.proofs.BlockRanges.{EachPair, pairs_join, pairs_map, From, Ranged, RangedIn, kind_ranged, else_ranged, block_ranged, stmts_ranged, functions_ranged}
+use Rattle.oc_formed.proofs.PairsAround.{Outside, Earlier, Later, Around, around_first, around_second, around_less}
+use Rattle.oc_timely.specs.Laid.{IsClosed, LaidKind, LaidElse, LaidBlock, LaidStmts}
+
+-- what is in a range is behind what ends where it begins
+later_part : (a z c d j : ℕ) (xs : List Pair) → EachPair (Ranged a z c d) xs → EachPair (Later a j c) xs
+later_part a z c d j xs h = pairs_map (Ranged a z c d) (Later a j c) (λ x r. (r.0.0, inr r.1.0)) xs h
+
+-- and before what begins where it ends
+earlier_part : (a z c d e : ℕ) (xs : List Pair) → EachPair (Ranged a z c d) xs → EachPair (Earlier z d e) xs
+earlier_part a z c d e xs h = pairs_map (Ranged a z c d) (Earlier z d e) (λ x r. (r.0.1, inl r.1.1)) xs h
+
+-- what is found beside a number stands in the list
+found : (P : Pair → Type 0) (xs : List Pair) → EachPair P xs → (s b : ℕ) → block_beside xs s ≡ Some b → P (s, b)
+found P [] h s b e = absurd (none-some b e)
+found P (x ∷ xs) h s b e = go (x.0 == s) refl e (found P xs h.1 s b)
+  where
+    go : (c : Bool) → (x.0 == s) ≡ c → cond c (Some x.1) (block_beside xs s) ≡ Some b → (block_beside xs s ≡ Some b → P (s, b)) → P (s, b)
+    go true is e rest = subst (λ m. P (s, m)) (same_Some x.1 b e) (subst (λ m. P (m, x.1)) (eqb-true x.0 s is) h.0)
+    go false is e rest = rest e
+
+module _ (p : TProgram) where
+  -- the statements and blocks of a part, with what is around it
+  abbrev Part : (i j : ℕ) (statements blocks : List ℕ) (pairs : List Pair) → Type 0
+  Part i j statements blocks pairs = Around p i (i + length statements) j (j + length blocks) pairs
+
+  -- the first of two parts
+  part_first : (i j : ℕ) (us vs bs cs : List ℕ) (xs ys : List Pair) → EachPair (Ranged (i + length us) (i + length us + length vs) (j + length bs) (j + length bs + length cs)) ys →
+      Part i j (us ++ vs) (bs ++ cs) (xs ++ ys) → Part i j us bs xs
+  part_first i j us vs bs cs xs ys r a =
+      let m = length-append us vs in
+      let n = length-append bs cs in
+      around_first p i (i + length (us ++ vs)) j (j + length (bs ++ cs)) (i + length us) j (j + length bs) xs ys (omega (arith, m)) (omega arith) (omega (arith, n))
+      (later_part (i + length us) (i + length us + length vs) (j + length bs) (j + length bs + length cs) j ys r) a
+
+  -- the second of two parts
+  part_second : (i j : ℕ) (us vs bs cs : List ℕ) (xs ys : List Pair) → EachPair (Ranged i (i + length us) j (j + length bs)) xs → Part i j (us ++ vs) (bs ++ cs) (xs ++ ys) →
+      Part (i + length us) (j + length bs) vs cs ys
+  part_second i j us vs bs cs xs ys r a =
+      let m : i + length (us ++ vs) ≡ i + length us + length vs = omega (arith, length-append us vs) in
+      let n : j + length (bs ++ cs) ≡ j + length bs + length cs = omega (arith, length-append bs cs) in
+      let b = subst (λ d. Around p i (i + length (us ++ vs)) j d (xs ++ ys)) n a in
+      let c = subst (λ z. Around p i z j (j + length bs + length cs) (xs ++ ys)) m b in
+      around_second p i (i + length us + length vs) j (j + length bs + length cs) (i + length us) (j + length bs) (j + length bs + length cs) xs ys (omega arith) (omega arith) (omega arith)
+      (earlier_part i (i + length us) j (j + length bs) (j + length bs + length cs) xs r) c
+
+  -- a statement of the block b, with those inside it and those behind it
+  module _ (b i j : ℕ) (n : ℕ) (k : TKind) (rest : TStmts) where
+    -- the statements inside it
+    abbrev inner : List ℕ
+    inner = kind_statements k
+
+    -- the number of the statement behind it
+    abbrev next : ℕ
+    next = i + suc (length inner)
+
+    -- the number of the block behind those inside it
+    abbrev after : ℕ
+    after = j + length (kind_blocks k)
+
+    -- what a row of statements is
+    abbrev Row : Type 0
+    Row = Around p i (next + length (stmts_statements rest)) j (after + length (stmts_blocks rest)) ((i, b) ∷ (kind_pairs k ++ stmts_pairs b rest))
+
+    -- what is known of it
+    record Known : Type 0 where
+      row : Row
+      below : b < j
+      inside : EachPair (Ranged (suc i) next j after) (kind_pairs k)
+      others : EachPair (RangedIn b next (next + length (stmts_statements rest)) after (after + length (stmts_blocks rest))) (stmts_pairs b rest)
+
+    -- around what is inside and behind it
+    behind_own : Known → Around p (suc i) (next + length (stmts_statements rest)) j (after + length (stmts_blocks rest)) (kind_pairs k ++ stmts_pairs b rest)
+    behind_own h =
+        around_second p i (next + length (stmts_statements rest)) j (after + length (stmts_blocks rest)) (suc i) j (after + length (stmts_blocks rest)) ((i, b) ∷ []) (kind_pairs k ++ stmts_pairs b rest) (omega arith) (omega arith) (omega arith)
+        ((omega arith, inl h.below), tt) h.row
+
+    -- around the statements inside it
+    inside_part : Known → Around p (suc i) next j after (kind_pairs k)
+    inside_part h =
+        around_first p (suc i) (next + length (stmts_statements rest)) j (after + length (stmts_blocks rest)) next j after (kind_pairs k) (stmts_pairs b rest) (omega arith) (omega arith) (omega arith)
+        (pairs_map (RangedIn b next (next + length (stmts_statements rest)) after (after + length (stmts_blocks rest))) (Later next j after) (λ x r. (r.0.0, apart x r.1)) (stmts_pairs b rest) h.others) (behind_own h)
+      where
+        apart : (x : Pair) → (x.1 ≡ b) ⊎ From after (after + length (stmts_blocks rest)) x.1 → Outside j after x.1
+        apart x (inl e) = let below = h.below in inl (omega (arith, e, below))
+        apart x (inr r) = inr r.0
+
+    -- around the statements behind it
+    rest_part : Known → Around p next (next + length (stmts_statements rest)) after (after + length (stmts_blocks rest)) (stmts_pairs b rest)
+    rest_part h =
+        around_second p (suc i) (next + length (stmts_statements rest)) j (after + length (stmts_blocks rest)) next after (after + length (stmts_blocks rest)) (kind_pairs k) (stmts_pairs b rest) (omega arith) (omega arith) (omega arith)
+        (earlier_part (suc i) next j after (after + length (stmts_blocks rest)) (kind_pairs k) h.inside) (behind_own h)
+
+  -- what holds of each statement and its block
+  told : (P : Pair → Type 0) (i z j d : ℕ) (part : List Pair) (a : Around p i z j d part) → EachPair P a.front → EachPair P part → EachPair P a.back → (s b : ℕ) → block_of p s ≡ Some b → P (s, b)
+  told P i z j d part a f g h s b e =
+      let all = subst (EachPair P) (sym a.is) (pairs_join P a.front (part ++ a.back) f (pairs_join P part a.back g h)) in
+      found P (program_pairs p) all s b (sym (block_is_beside p s) ∙ e)
+
+  outside_not : (j d c : ℕ) → Outside j d c → From j d c → ⊥
+  outside_not j d c (inl o) r = omega (arith, o, r.0)
+  outside_not j d c (inr o) r = omega (arith, o, r.1)
+
+  closed : (i z j d : ℕ) (xs : List Pair) → EachPair (Ranged i z j d) xs → Around p i z j d xs → IsClosed p i z
+  closed i z j d xs r a s t b low high e h =
+      let block : From j d b = told P i z j d xs a
+      (pairs_map (Earlier i j d) P (λ x o l k. absurd (let q = o.0 in omega (arith, q, l))) a.front a.before)
+      (pairs_map (Ranged i z j d) P (λ x o l k. o.1) xs r)
+      (pairs_map (Later z j d) P (λ x o l k. absurd (let q = o.0 in omega (arith, q, k))) a.back a.behind)
+      s b e low high in
+      told Q i z j d xs a
+      (pairs_map (Earlier i j d) Q (λ x o f. absurd (outside_not j d x.1 o.1 f)) a.front a.before)
+      (pairs_map (Ranged i z j d) Q (λ x o f. o.0) xs r)
+      (pairs_map (Later z j d) Q (λ x o f. absurd (outside_not j d x.1 o.1 f)) a.back a.behind)
+      t b h block
+    where
+      P : Pair → Type 0
+      P x = i ≤ x.0 → x.0 < z → From j d x.1
+
+      Q : Pair → Type 0
+      Q x = From j d x.1 → From i z x.0
+
+  straight : (i : ℕ) → i ≡ i + 0
+  straight i = omega arith
+
+  mutual
+    kind_laid : (i j : ℕ) (k : TKind) → Follow i (kind_statements k) → Follow j (kind_blocks k) → Part i j (kind_statements k) (kind_blocks k) (kind_pairs k) →
+        LaidKind p i k (i + length (kind_statements k))
+    kind_laid i j (if_else c a b) f g h =
+        let s = parts i (block_statements a) (else_statements b) f in
+        let t = parts j (block_blocks a) (else_blocks b) g in
+        let i' = i + length (block_statements a) in
+        let j' = j + length (block_blocks a) in
+        let n : i' + length (else_statements b) ≡ i + length (block_statements a ++ else_statements b) = omega (arith, length-append (block_statements a) (else_statements b)) in (
+          i',
+          block_laid i j a s.0 t.0 (part_first i j (block_statements a) (else_statements b) (block_blocks a) (else_blocks b) (block_pairs a) (else_pairs b) (else_ranged i' j' b s.1 t.1) h),
+          subst (λ k. LaidElse p i' b k) n (else_laid i' j' b s.1 t.1 (part_second i j (block_statements a) (else_statements b) (block_blocks a) (else_blocks b) (block_pairs a) (else_pairs b) (block_ranged i j a s.0 t.0) h)),
+        )
+    kind_laid i j (for_in x m n b) f g h = block_laid i j b f g h
+    kind_laid i j (while_do c n b) f g h = block_laid i j b f g h
+    kind_laid i j (let_to m x t r) f g h = straight i
+    kind_laid i j (let_array m x t z n) f g h = straight i
+    kind_laid i j (assign x r) f g h = straight i
+    kind_laid i j (assign_index x e r) f g h = straight i
+    kind_laid i j (assign_deref x r) f g h = straight i
+    kind_laid i j (call_only c) f g h = straight i
+    kind_laid i j (sense_only s) f g h = straight i
+    kind_laid i j (emit q e) f g h = straight i
+    kind_laid i j (fresh x) f g h = straight i
+    kind_laid i j (consistent x n) f g h = straight i
+    kind_laid i j (return e) f g h = straight i
+
+    else_laid : (i j : ℕ) (b : TElse) → Follow i (else_statements b) → Follow j (else_blocks b) → Part i j (else_statements b) (else_blocks b) (else_pairs b) →
+        LaidElse p i b (i + length (else_statements b))
+    else_laid i j no_else f g h = straight i
+    else_laid i j (else_do b) f g h = block_laid i j b f g h
+
+    block_laid : (i j : ℕ) (b : TBlock) → Follow i (block_statements b) → Follow j (block_blocks b) → Part i j (block_statements b) (block_blocks b) (block_pairs b) →
+        LaidBlock p i b (i + length (block_statements b))
+    block_laid i j (block id ss) f g h =
+        let o = first_of id j (stmts_blocks ss) g in
+        let z = i + length (stmts_statements ss) in
+        let d : j + suc (length (stmts_blocks ss)) ≡ suc j + length (stmts_blocks ss) = omega arith in
+        let less = subst (λ d. Around p i z (suc j) d (stmts_pairs id ss)) d (around_less p i z j (j + suc (length (stmts_blocks ss))) (suc j) (stmts_pairs id ss) (omega arith) h) in
+        (closed i z j (j + suc (length (stmts_blocks ss))) (stmts_pairs id ss) (block_ranged i j (block id ss) f g) h, stmts_laid id i (suc j) ss f o.1 less (omega (arith, o.0)))
+
+    stmts_laid : (b i j : ℕ) (ss : TStmts) → Follow i (stmts_statements ss) → Follow j (stmts_blocks ss) → Part i j (stmts_statements ss) (stmts_blocks ss) (stmts_pairs b ss) → b < j →
+        LaidStmts p i ss (i + length (stmts_statements ss))
+    stmts_laid b i j no_stmts f g h below = straight i
+    stmts_laid b i j (more (stmt n line k) rest) f g h below =
+        let s = parts i (n ∷ kind_statements k) (stmts_statements rest) f in
+        let t = parts j (kind_blocks k) (stmts_blocks rest) g in
+        let o = first_of n i (kind_statements k) s.0 in
+        let next = i + suc (length (kind_statements k)) in
+        let after = j + length (kind_blocks k) in
+        let top : i + length (n ∷ (kind_statements k ++ stmts_statements rest)) ≡ next + length (stmts_statements rest) = omega (arith, length-append (kind_statements k) (stmts_statements rest)) in
+        let deep : j + length (kind_blocks k ++ stmts_blocks rest) ≡ after + length (stmts_blocks rest) = omega (arith, length-append (kind_blocks k) (stmts_blocks rest)) in
+        let row1 = subst (λ m. Around p i (i + length (n ∷ (kind_statements k ++ stmts_statements rest))) j (j + length (kind_blocks k ++ stmts_blocks rest)) ((m, b) ∷ (kind_pairs k ++ stmts_pairs b rest))) o.0 h in
+        let row2 = subst (λ z. Around p i z j (j + length (kind_blocks k ++ stmts_blocks rest)) ((i, b) ∷ (kind_pairs k ++ stmts_pairs b rest))) top row1 in
+        let row3 = subst (λ d. Around p i (next + length (stmts_statements rest)) j d ((i, b) ∷ (kind_pairs k ++ stmts_pairs b rest))) deep row2 in
+        let width : suc i + length (kind_statements k) ≡ next = omega arith in
+        let known : Known b i j n k rest = record {
+          row = row3;
+          below = below;
+          inside = subst (λ z. EachPair (Ranged (suc i) z j after) (kind_pairs k)) width (kind_ranged (suc i) j k o.1 t.0);
+          others = stmts_ranged b next after rest s.1 t.1;
+        } in
+        let inner = subst (λ z. Around p (suc i) z j after (kind_pairs k)) (sym width) (inside_part b i j n k rest known) in
+        let own : LaidKind p (suc i) k next = subst (λ z. LaidKind p (suc i) k z) width (kind_laid (suc i) j k o.1 t.0 inner) in (
+          o.0,
+          next,
+          subst (λ m. LaidKind p (suc m) k next) (sym o.0) own,
+          subst (λ z. LaidStmts p next rest z) (sym top) (stmts_laid b next after rest s.1 t.1 (rest_part b i j n k rest known) (omega (arith, below))),
+        )
+
+  -- a function of the list
+  record IsLaid (i : ℕ) (g : TFunction) : Type 0 where
+    pub first : ℕ
+    pub from : i ≤ first
+    pub follows : Follow first (block_statements g.body)
+    pub laid : LaidBlock p first g.body (first + length (block_statements g.body))
+
+  functions_laid : (i j : ℕ) (fs : List TFunction) → Follow i (flat_map (λ f. block_statements f.body) fs) → Follow j (flat_map (λ f. block_blocks f.body) fs) →
+      Part i j (flat_map (λ f. block_statements f.body) fs) (flat_map (λ f. block_blocks f.body) fs) (flat_map (λ f. block_pairs f.body) fs) → (u : ℕ) (g : TFunction) → slice_get fs u ≡ Some g →
+      IsLaid i g
+  functions_laid i j [] f g h u x e = absurd (none-some x e)
+  functions_laid i j (y ∷ fs) f g h u x e =
+      let us = block_statements y.body in
+      let vs = flat_map (λ f. block_statements f.body) fs in
+      let bs = block_blocks y.body in
+      let cs = flat_map (λ f. block_blocks f.body) fs in
+      let s = parts i us vs f in
+      let t = parts j bs cs g in
+      let own : IsLaid i y = record { first = i; from = omega arith; follows = s.0; laid = block_laid i j y.body s.0 t.0 (part_first i j us vs bs cs (block_pairs y.body) (flat_map (λ f. block_pairs f.body) fs) (functions_ranged (i + length us) (j + length bs) fs s.1 t.1) h) } in
+      let others = functions_laid (i + length us) (j + length bs) fs s.1 t.1 (part_second i j us vs bs cs (block_pairs y.body) (flat_map (λ f. block_pairs f.body) fs) (block_ranged i j y.body s.0 t.0) h) in
+      go u e own others
+    where
+      go : (u : ℕ) → slice_get (y ∷ fs) u ≡ Some x → IsLaid i y → ((v : ℕ) (z : TFunction) → slice_get fs v ≡ Some z → IsLaid (i + length (block_statements y.body)) z) → IsLaid i x
+      go zero e own others = subst (λ (z : TFunction). IsLaid i z) (same_Some y x e) own
+      go (suc v) e own others = let r = others v x e in record { first = r.first; from = (let l = r.from in omega (arith, l)); follows = r.follows; laid = r.laid }
+
+  -- each function's statements are laid from its first number on
+  pub bodies_laid : Numbered p → (u : ℕ) (g : TFunction) → slice_get p.functions u ≡ Some g →
+      (first : ℕ) × Follow first (block_statements g.body) × LaidBlock p first g.body (first + length (block_statements g.body))
+  bodies_laid numbered u g e =
+      let r = functions_laid 1 1 p.functions numbered.statements numbered.blocks (record {
+        front = [];
+        back = [];
+        is = sym (append-nil (program_pairs p));
+        before = tt;
+        behind = tt;
+      }) u g e in
+      (r.first, r.follows, r.laid)

@@ -1,0 +1,4 @@
+pub mod Outer
+pub mod Joined
+pub mod Guards
+pub mod Marked

@@ -1,0 +1,217 @@
+-- Erasing, as a report grows.
+use Rattle.std.proofs.Common.{◌≡◌, ℕ, List, [], ◌∷◌, ◌++◌, Option, Some, None, refl, sym, ap, ◌∙◌, Bool, true, false, eq-eqb, eqb-true, append-nil}
+use Rattle.std.specs.Prelude.{◌≢◌, ◌==◌, if◌then◌else◌}
+use Rattle.oc_tree.specs.Said.{Told}
+use Rattle.oc_tree.specs.declared.said.Said.{Said}
+use Rattle.oc_tree.specs.declared.said.Said.TheVariants.{Sensed, Showed, Entered, Committed, Aborted, Off, Dark, Ended}
+use Rattle.oc_steps.specs.Erasing.{item, newer, last_mark, IsUnmarked, AreUnmarked, LeftOver, LeavesNothing, IsAdded, Erases}
+use Rattle.oc_items.specs.Erase.{mark_or, next_mark, begins_stretch, goes_on, erase_from, erase}
+
+-- the mark is an `abort`
+abbrev pub IsAbort : Option Said → Type 0
+IsAbort (Some (Aborted r)) = Unit {0}
+IsAbort mark = ⊥
+
+abbrev pub NoAbort : Option Said → Type 0
+NoAbort (Some (Aborted r)) = ⊥
+NoAbort mark = Unit {0}
+
+begins-no_abort : (s : Said) (m : Option Said) → NoAbort m → begins_stretch s m ≡ false
+begins-no_abort (Entered r) None n = refl
+begins-no_abort (Entered r) (Some (Sensed a b)) n = refl
+begins-no_abort (Entered r) (Some (Showed a)) n = refl
+begins-no_abort (Entered r) (Some (Entered a)) n = refl
+begins-no_abort (Entered r) (Some (Committed a)) n = refl
+begins-no_abort (Entered r) (Some (Aborted a)) n = absurd n
+begins-no_abort (Entered r) (Some (Off a)) n = refl
+begins-no_abort (Entered r) (Some Dark) n = refl
+begins-no_abort (Entered r) (Some (Ended a)) n = refl
+begins-no_abort (Sensed a b) m n = refl
+begins-no_abort (Showed a) m n = refl
+begins-no_abort (Committed a) m n = refl
+begins-no_abort (Aborted a) m n = refl
+begins-no_abort (Off a) m n = refl
+begins-no_abort Dark m n = refl
+begins-no_abort (Ended a) m n = refl
+
+begins-abort : (s : Said) (m : Option Said) → begins_stretch s m ≡ true → IsAbort m
+begins-abort (Entered r) None e = absurd (cc)
+begins-abort (Entered r) (Some (Sensed a b)) e = absurd (cc)
+begins-abort (Entered r) (Some (Showed a)) e = absurd (cc)
+begins-abort (Entered r) (Some (Entered a)) e = absurd (cc)
+begins-abort (Entered r) (Some (Committed a)) e = absurd (cc)
+begins-abort (Entered r) (Some (Aborted a)) e = tt
+begins-abort (Entered r) (Some (Off a)) e = absurd (cc)
+begins-abort (Entered r) (Some Dark) e = absurd (cc)
+begins-abort (Entered r) (Some (Ended a)) e = absurd (cc)
+begins-abort (Sensed a b) m e = absurd (cc)
+begins-abort (Showed a) m e = absurd (cc)
+begins-abort (Committed a) m e = absurd (cc)
+begins-abort (Aborted a) m e = absurd (cc)
+begins-abort (Off a) m e = absurd (cc)
+begins-abort Dark m e = absurd (cc)
+begins-abort (Ended a) m e = absurd (cc)
+
+-- what comes after a mark doesn't matter
+later : (s i : Said) (m n : Option Said) → begins_stretch s m ≡ begins_stretch s n → begins_stretch s (mark_or i m) ≡ begins_stretch s (mark_or i n)
+later s (Sensed a b) m n e = e
+later s (Showed a) m n e = e
+later s (Entered a) m n e = refl
+later s (Committed a) m n e = refl
+later s (Aborted a) m n e = refl
+later s (Off a) m n e = e
+later s Dark m n e = e
+later s (Ended a) m n e = e
+
+-- what is appended begins with no `abort`, so it ends no stretch that began before
+begins-append : (s : Said) (xs ys : List Told) → NoAbort (next_mark ys) → begins_stretch s (next_mark (xs ++ ys)) ≡ begins_stretch s (next_mark xs)
+begins-append s [] ys n = begins-no_abort s (next_mark ys) n ∙ sym (begins-no_abort s None tt)
+begins-append s (i ∷ xs) ys n = later s i.said (next_mark (xs ++ ys)) (next_mark xs) (begins-append s xs ys n)
+
+-- an `abort` is ahead where the place lies in a stretch
+abbrev HasAhead : Bool → List Told → Type 0
+HasAhead true xs = IsAbort (next_mark xs)
+HasAhead false xs = Unit {0}
+
+ahead_on : (i : Said) (xs : List Told) → IsAbort (mark_or i (next_mark xs)) → HasAhead (goes_on i) xs
+ahead_on (Sensed a b) xs h = h
+ahead_on (Showed a) xs h = h
+ahead_on (Entered a) xs h = absurd h
+ahead_on (Committed a) xs h = absurd h
+ahead_on (Aborted a) xs h = tt
+ahead_on (Off a) xs h = h
+ahead_on Dark xs h = h
+ahead_on (Ended a) xs h = h
+
+choice-append : (c : Bool) (i : Told) (xs ys : List Told) → begins_stretch i.said (next_mark xs) ≡ c → (HasAhead true xs → erase_from true (xs ++ ys) ≡ erase_from true xs ++ erase_from false ys) → erase_from false (xs ++ ys) ≡ erase_from false xs ++ erase_from false ys → (if c then erase_from true (xs ++ ys) else i ∷ erase_from false (xs ++ ys)) ≡ (if c then erase_from true xs else i ∷ erase_from false xs) ++ erase_from false ys
+choice-append true i xs ys e ht hf = ht (begins-abort i.said (next_mark xs) e)
+choice-append false i xs ys e ht hf = ap (λ l. i ∷ l) hf
+
+erase_from-append : (b : Bool) (xs ys : List Told) → HasAhead b xs → NoAbort (next_mark ys) → erase_from b (xs ++ ys) ≡ erase_from b xs ++ erase_from false ys
+erase_from-append true [] ys a n = absurd a
+erase_from-append false [] ys a n = refl
+erase_from-append true (i ∷ xs) ys a n = erase_from-append (goes_on i.said) xs ys (ahead_on i.said xs a) n
+erase_from-append false (i ∷ xs) ys a n =
+    ap (λ c. if c then erase_from true (xs ++ ys) else i ∷ erase_from false (xs ++ ys)) (begins-append i.said xs ys n)
+    ∙ choice-append (begins_stretch i.said (next_mark xs)) i xs ys refl (λ h. erase_from-append true xs ys h n) (erase_from-append false xs ys tt n)
+
+pub erase-append : (xs ys : List Told) → NoAbort (next_mark ys) → erase (xs ++ ys) ≡ erase xs ++ erase ys
+erase-append xs ys n = erase_from-append false xs ys tt n
+
+-- marks
+
+unmarked_mark : (s : Said) (m : Option Said) → IsUnmarked s → mark_or s m ≡ m
+unmarked_mark (Sensed a b) m p = refl
+unmarked_mark (Showed a) m p = refl
+unmarked_mark (Entered a) m p = absurd p
+unmarked_mark (Committed a) m p = absurd p
+unmarked_mark (Aborted a) m p = absurd p
+unmarked_mark (Off a) m p = refl
+unmarked_mark Dark m p = refl
+unmarked_mark (Ended a) m p = refl
+
+unmarked_goes_on : (s : Said) → IsUnmarked s → goes_on s ≡ true
+unmarked_goes_on (Sensed a b) p = refl
+unmarked_goes_on (Showed a) p = refl
+unmarked_goes_on (Entered a) p = absurd p
+unmarked_goes_on (Committed a) p = absurd p
+unmarked_goes_on (Aborted a) p = absurd p
+unmarked_goes_on (Off a) p = refl
+unmarked_goes_on Dark p = refl
+unmarked_goes_on (Ended a) p = refl
+
+mark_after : (body ys : List Told) → AreUnmarked body → next_mark (body ++ ys) ≡ next_mark ys
+mark_after [] ys p = refl
+mark_after (i ∷ body) ys p = unmarked_mark i.said (next_mark (body ++ ys)) p.0 ∙ mark_after body ys p.1
+
+-- a later mark hides an earlier one
+hides : (m : Option Said) (is : List Told) (e : Said) → last_mark None is ≡ Some e → last_mark m is ≡ Some e
+hides m [] e h = absurd (cc (h))
+hides m (i ∷ is) e h = by i.said (λ k. hides m is e k) h
+  where
+    by : (s : Said) → (last_mark None is ≡ Some e → last_mark m is ≡ Some e) → last_mark (newer s None) is ≡ Some e → last_mark (newer s m) is ≡ Some e
+    by (Sensed a b) ih h = ih h
+    by (Showed a) ih h = ih h
+    by (Entered a) ih h = h
+    by (Committed a) ih h = h
+    by (Aborted a) ih h = h
+    by (Off a) ih h = ih h
+    by Dark ih h = ih h
+    by (Ended a) ih h = ih h
+
+module _ (t r : ℕ) where
+  skips_all : (body : List Told) → AreUnmarked body → erase_from true (body ++ item t (Aborted r) ∷ []) ≡ []
+  skips_all [] p = refl
+  skips_all (i ∷ body) p = ap (λ b. erase_from b (body ++ item t (Aborted r) ∷ [])) (unmarked_goes_on i.said p.0) ∙ skips_all body p.1
+
+  attempt_gone : (u : ℕ) (body : List Told) → AreUnmarked body → erase (item u (Entered r) ∷ (body ++ item t (Aborted r) ∷ [])) ≡ []
+  attempt_gone u body p =
+      let after = body ++ item t (Aborted r) ∷ [] in
+      ap (λ m. if begins_stretch (Entered r) m then erase_from true after else item u (Entered r) ∷ erase_from false after) (mark_after body (item t (Aborted r) ∷ []) p)
+      ∙ ap (λ b. if b then erase_from true after else item u (Entered r) ∷ erase_from false after) (eq-eqb r r refl)
+      ∙ skips_all body p
+
+  abbrev end : List Told
+  end = item t (Aborted r) ∷ []
+
+  not_same : (k : ℕ) (b : Bool) → (k == r) ≡ b → (Some (Entered k) ≢ Some (Entered r)) → b ≡ false
+  not_same k true e h = absurd (h (ap (λ n. Some (Entered n)) (eqb-true k r e)))
+  not_same k false e h = refl
+
+  entered_same : (k : ℕ) (is : List Told) → last_mark (Some (Entered k)) is ≢ Some (Entered r) → begins_stretch (Entered k) (next_mark (is ++ end)) ≡ begins_stretch (Entered k) (next_mark is)
+  entered_same k [] h = not_same k (k == r) refl h
+  entered_same k (i ∷ is) h = by i.said h (entered_same k is)
+    where
+      by : (s : Said) → last_mark (newer s (Some (Entered k))) is ≢ Some (Entered r) → (last_mark (Some (Entered k)) is ≢ Some (Entered r) → begins_stretch (Entered k) (next_mark (is ++ end)) ≡ begins_stretch (Entered k) (next_mark is)) → begins_stretch (Entered k) (mark_or s (next_mark (is ++ end))) ≡ begins_stretch (Entered k) (mark_or s (next_mark is))
+      by (Sensed a b) h ih = ih h
+      by (Showed a) h ih = ih h
+      by (Entered a) h ih = refl
+      by (Committed a) h ih = refl
+      by (Aborted a) h ih = refl
+      by (Off a) h ih = ih h
+      by Dark h ih = ih h
+      by (Ended a) h ih = ih h
+
+  begins_same : (s : Said) (is : List Told) → last_mark (newer s None) is ≢ Some (Entered r) → begins_stretch s (next_mark (is ++ end)) ≡ begins_stretch s (next_mark is)
+  begins_same (Entered k) is h = entered_same k is h
+  begins_same (Sensed a b) is h = refl
+  begins_same (Showed a) is h = refl
+  begins_same (Committed a) is h = refl
+  begins_same (Aborted a) is h = refl
+  begins_same (Off a) is h = refl
+  begins_same Dark is h = refl
+  begins_same (Ended a) is h = refl
+
+  choice : (c : Bool) (i : Told) (is : List Told) → begins_stretch i.said (next_mark is) ≡ c → (HasAhead true is → erase_from true (is ++ end) ≡ erase_from true is ++ end) → erase_from false (is ++ end) ≡ erase_from false is ++ end → (if c then erase_from true (is ++ end) else i ∷ erase_from false (is ++ end)) ≡ (if c then erase_from true is else i ∷ erase_from false is) ++ end
+  choice true i is e ht hf = ht (begins-abort i.said (next_mark is) e)
+  choice false i is e ht hf = ap (λ l. i ∷ l) hf
+
+  left_from : (b : Bool) (q : List Told) → HasAhead b q → last_mark None q ≢ Some (Entered r) → erase_from b (q ++ end) ≡ erase_from b q ++ end
+  left_from true [] a h = absurd a
+  left_from false [] a h = refl
+  left_from true (i ∷ is) a h = left_from (goes_on i.said) is (ahead_on i.said is a) (λ e. h (hides (newer i.said None) is (Entered r) e))
+  left_from false (i ∷ is) a h =
+      ap (λ c. if c then erase_from true (is ++ end) else i ∷ erase_from false (is ++ end)) (begins_same i.said is h)
+      ∙ choice (begins_stretch i.said (next_mark is)) i is refl
+      (λ ahead. left_from true is ahead (λ e. h (hides (newer i.said None) is (Entered r) e)))
+      (left_from false is tt (λ e. h (hides (newer i.said None) is (Entered r) e)))
+
+one_added : (t : ℕ) (s : Said) → Rattle.oc_steps.specs.Erasing.IsNoAbort s → (NoAbort (mark_or s None)) × (erase (item t s ∷ []) ≡ item t s ∷ [])
+one_added t (Sensed a b) h = (tt, refl)
+one_added t (Showed a) h = (tt, refl)
+one_added t (Entered a) h = (tt, refl)
+one_added t (Committed a) h = (tt, refl)
+one_added t (Aborted a) h = absurd h
+one_added t (Off a) h = (tt, refl)
+one_added t Dark h = (tt, refl)
+one_added t (Ended a) h = (tt, refl)
+
+pub erases : Erases
+erases = record {
+  left_over = λ q t r h. left_from t r false q tt h;
+  leaves_nothing = λ q body u t r p.
+      erase-append q (item u (Entered r) ∷ (body ++ item t (Aborted r) ∷ [])) tt ∙ ap (λ l. erase q ++ l) (attempt_gone t r u body p) ∙ append-nil (erase q);
+  is_added = λ q t s h.
+      let one = one_added t s h in
+      erase-append q (item t s ∷ []) one.0 ∙ ap (λ l. erase q ++ l) one.1;
+}

@@ -1,0 +1,16 @@
+pub mod Sets
+pub mod Steps
+pub mod Follow
+pub mod Ages
+pub mod Heard
+pub mod Hearing
+pub mod Honest
+pub mod Fold
+pub mod Erasing
+pub mod AgesTell
+pub mod Watching
+pub mod Freshness
+pub mod Little
+pub mod Starting
+pub mod Resting
+pub mod Auditing

@@ -2,3 +2,12 @@ pub mod TableLaws
 pub mod SpentLaws
 pub mod LevelLaws
 pub mod ToldLaws
+mod BoundSums
+mod BoundPlain
+mod BoundUses
+mod BoundBegun
+mod BoundAccess
+mod BoundWithin
+mod BoundWritten
+mod BoundTargets
+mod BoundLaw

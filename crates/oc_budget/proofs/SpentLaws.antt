@@ -9,8 +9,10 @@ use Rattle.oc_tree.specs.Places.{Place, Placed, kind_placed, else_placed, block_
 use Rattle.oc_tree.specs.Marked.{TMarked, TRegion, is_in_region}
 use Rattle.oc_budget.specs.Budgets.{budget, held_cost, logged}
 use Rattle.oc_tree.specs.Weight.{expr_cost}
-use Rattle.oc_budget.specs.Costs.{costs, inner_cost, is_use, probes}
-use Rattle.oc_budget.specs.Spent.{kind_spent, else_spent, block_spent, stmts_spent, functions_spent, returned}
+use Rattle.oc_budget.specs.Costs.{costs, is_use}
+use Rattle.oc_tree.specs.Costs.{probes, inner_cost}
+use Rattle.oc_budget.specs.Spent.{returned}
+use Rattle.oc_tree.specs.Picked.{kind_spent, else_spent, block_spent, stmts_spent, functions_spent}
 
 module _ (picks : ℕ → Bool) (cost : ℕ → TKind → ℕ) where
   abbrev pub picked : List Placed → ℕ

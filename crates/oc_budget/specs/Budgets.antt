@@ -8,7 +8,8 @@ use Rattle.oc_tree.specs.Stack.{stack_words}
 use Rattle.oc_tree.specs.Places.{Placed, program_placed}
 use Rattle.oc_tree.specs.Marked.{TRegion, TMarked, is_in_region}
 use Rattle.oc_writes.specs.Targets.{region_targets}
-use Rattle.oc_budget.specs.Costs.{inner_cost, probes, is_use, costs, total}
+use Rattle.oc_budget.specs.Costs.{is_use, costs, total}
+use Rattle.oc_tree.specs.Costs.{probes, inner_cost}
 
 abbrev pub target_words : Target → ℕ
 target_words (targets.Nv base len) = len

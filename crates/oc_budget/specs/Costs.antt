@@ -1,18 +1,16 @@
--- What an execution costs at most: the greatest number of its instructions, with probes and with the marks of regions.
--- It speaks of a program without pulls.
-use Rattle.std.specs.Prelude.{ℕ, zero, suc, ◌+◌, ◌*◌, Bool, false, ◌&&◌, List, [], map, max, length, codes, Option, Some, is_some, cond, nat_eq}
+-- Which statements use fresh variables, and what the functions of a marked program and its runs cost at most.
+use Rattle.std.specs.Prelude.{ℕ, Bool, false, ◌&&◌, List, length, codes, Option, Some, nat_eq}
 use Rattle.std.specs.List.{list_any}
-use Rattle.oc_tree.specs.Tree.{TKind, if_else, for_in, while_do, consistent, TElse, no_else, else_do, stmt, TBlock, block, TStmts, no_stmts, more, TFunction, TProgram}
+use Rattle.oc_tree.specs.Tree.{TProgram}
 use Rattle.oc_tree.specs.declared.tree.VarId.{VarId}
 use Rattle.oc_tree.specs.Calls.{function_place}
-use Rattle.oc_tree.specs.Weight.{expr_cost, kind_cost, turns, known_of}
-use Rattle.oc_tree.specs.Marked.{TRegion, TMarked}
+use Rattle.oc_tree.specs.Weight.{known_of}
+use Rattle.oc_tree.specs.Costs.{costs_to}
+use Rattle.oc_tree.specs.Marked.{TMarked}
 use Rattle.oc_effects.specs.declared.effect.Note.{Note}
 use Rattle.oc_effects.specs.declared.effect.Note.TheVariants as notes
 use Rattle.oc_effects.specs.Effects.{TEffect, effects}
 use Rattle.oc_flow.specs.Variables.{same_variable}
-
--- ---- uses
 
 abbrev pub is_fresh_note : VarId → Option Note → Bool
 is_fresh_note v (Some (notes.Fresh w)) = same_variable v w
@@ -25,52 +23,6 @@ uses_in s es = list_any (λ a. nat_eq a.stmt s && list_any (λ v. list_any (λ b
 -- the statement of the number `s` uses a fresh variable
 abbrev pub is_use : TProgram → ℕ → Bool
 is_use p s = list_any (uses_in s) (effects p)
-
-abbrev pub one : Bool → ℕ
-one b = cond b 1 0
-
--- ---- statements
-
--- the marks at a statement: a region begins with it, or ends with it
-abbrev pub marks_at : List TRegion → ℕ → ℕ
-marks_at regions n = one (list_any (λ r. nat_eq r.first n) regions) + one (list_any (λ r. nat_eq r.last n) regions)
-
--- A statement has two probes where it uses a fresh variable; a `while` has one at each test and one behind the loop.
-abbrev pub probes : Bool → TKind → ℕ
-probes uses (while_do c n b) = 0
-probes uses k = 2 * one uses
-
--- `uses` tells the statements that use a fresh variable, and `ws` what functions cost
-module _ (fs : List TFunction) (uses : ℕ → Bool) (regions : List TRegion) (ws : List ℕ) where
-  abbrev mutual
-    -- without the probes and marks around it
-    pub inner_cost : ℕ → TKind → ℕ
-    inner_cost n (if_else c a b) = expr_cost c + 1 + else_cost (block_cost a) b
-    inner_cost n (for_in x from to b) = 6 + turns from to * (9 + block_cost b)
-    inner_cost n (while_do c bound b) = 6 + bound * (10 + one (uses n) + expr_cost c + block_cost b) + one (uses n)
-    inner_cost n (consistent x k) = 1
-    inner_cost n k = kind_cost fs ws k
-
-    -- both branches of an `if`, the first of which has the cost `a`, with the jump over the second
-    pub else_cost : ℕ → TElse → ℕ
-    else_cost a no_else = a
-    else_cost a (else_do b) = max (a + 1) (block_cost b)
-
-    pub block_cost : TBlock → ℕ
-    block_cost (block id ss) = stmts_cost ss
-
-    pub stmts_cost : TStmts → ℕ
-    stmts_cost no_stmts = 0
-    stmts_cost (more (stmt n line k) ss) = marks_at regions n + (inner_cost n k + probes (uses n) k) + stmts_cost ss
-
-  -- the `ret` of a function without a result, or the `halt` of `main`; a `return` has its own
-  abbrev pub function_cost : TFunction → ℕ
-  function_cost f = block_cost f.body + cond (is_some f.result) 0 1
-
--- what functions cost, where calls go at most so deep
-unfoldable pub costs_to : List TFunction → (ℕ → Bool) → List TRegion → ℕ → List ℕ
-costs_to fs uses regions zero = []
-costs_to fs uses regions (suc depth) = map (function_cost fs uses regions (costs_to fs uses regions depth)) fs
 
 -- what the functions of a marked program cost
 abbrev pub costs : TMarked → List ℕ

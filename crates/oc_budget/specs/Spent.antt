@@ -1,9 +1,9 @@
--- The costs of the statements that a test picks, over the tree.
-use Rattle.std.specs.Prelude.{ℕ, ◌+◌, Bool, List, [], ◌∷◌, cond, Option, Some, None, option_map}
+-- What code sees of the expressions of statements.
+use Rattle.std.specs.Prelude.{Option, Some, None, option_map}
 use Rattle.std.proofs.Common.{Bor}
 use Rattle.oc_tree.specs.declared.tree.Expr.{Expr}
 use Rattle.oc_tree.specs.View.{expr_view}
-use Rattle.oc_tree.specs.Tree.{TExpr, TKind, return, if_else, for_in, while_do, TElse, no_else, else_do, stmt, TBlock, block, TStmts, no_stmts, more, TFunction}
+use Rattle.oc_tree.specs.Tree.{TExpr, TKind, return}
 
 -- the value that a `return` returns
 abbrev pub returned : TKind → Option TExpr
@@ -13,28 +13,3 @@ returned _ = None
 -- an expression that code may hold
 abbrev pub expr_seen : Option (Bor Expr) → Option TExpr
 expr_seen e = option_map (λ x. expr_view x.now) e
-
--- `picks` tells the statements by their numbers, and `cost` what each costs
-module _ (picks : ℕ → Bool) (cost : ℕ → TKind → ℕ) where
-  abbrev mutual
-    -- of the statements inside a statement
-    pub kind_spent : TKind → ℕ
-    kind_spent (if_else c a b) = block_spent a + else_spent b
-    kind_spent (for_in x m n b) = block_spent b
-    kind_spent (while_do c n b) = block_spent b
-    kind_spent _ = 0
-
-    pub else_spent : TElse → ℕ
-    else_spent no_else = 0
-    else_spent (else_do b) = block_spent b
-
-    pub block_spent : TBlock → ℕ
-    block_spent (block id ss) = stmts_spent ss
-
-    pub stmts_spent : TStmts → ℕ
-    stmts_spent no_stmts = 0
-    stmts_spent (more (stmt n line k) ss) = cond (picks n) (cost n k) 0 + kind_spent k + stmts_spent ss
-
-  abbrev pub functions_spent : List TFunction → ℕ
-  functions_spent [] = 0
-  functions_spent (f ∷ fs) = block_spent f.body + functions_spent fs

@@ -1,10 +1,12 @@
 //! The costs of regions and of runs.
-ghost use Rattle.std.specs.Prelude.{◌≡◌, ◌+◌, ◌*◌, ◌++◌, List, map, max, sum_by, IfOk, IfSome};
-ghost use Rattle.std.specs.Prelude.{Some};
+ghost use Rattle.std.specs.Prelude.{Some, ◌≡◌, ◌+◌, ◌*◌, ◌++◌, List, map, max, sum_by, IfOk, IfSome};
 ghost use Rattle.oc_code.specs.Code.{code_of};
 ghost use Rattle.oc_tree.specs.Regions.{region_view};
 ghost use Rattle.oc_tree.specs.declared.said.Target.{Target};
+ghost use Rattle.oc_bounds.specs.Bounds.{IsBounded};
+ghost use Rattle.oc_isa.specs.Table.{device_of};
 ghost use Rattle.oc_writes.specs.Targets.{may_write};
+ghost use Rattle.oc_budget.specs.Bounding.{bounds_of};
 ghost use Rattle.oc_budget.specs.Budgets.{budget, budgets, greatest, logged, safe_for, target_words};
 ghost use Rattle.oc_budget.specs.Costs.{costs, total};
 ghost use Rattle.oc_budget.specs.View.{budgets_view};
@@ -128,11 +130,15 @@ fn all_told(alloc: Global, marked: &Marked, image: &Image) -> Result<Budgets, Al
 }
 
 /// The budgets of a program with regions, of which this is the image. A number that doesn't fit is
-/// answered as out of memory: no program that the compiler accepts has such a cost.
+/// answered as out of memory: no program that the compiler accepts has such a cost. These numbers
+/// bound every run of the image.
 pub fn budgets(alloc: Global, marked: &Marked, image: &Image) -> Result<Budgets, Memory>
     requires { image.now ≡ code_of marked.now.program marked.now.regions (may_write marked.now) }
-    ensures { IfOk result (λ b. budgets_view b ≡ budgets marked.now) }
+    ensures told { IfOk result (λ b. budgets_view b ≡ budgets marked.now) }
+    ensures bounds { IfOk result
+        (λ b. IsBounded (device_of image.now) (bounds_of (budgets_view b))) }
 {
+    marked.checked();
     match all_told(alloc, marked, image) {
         Ok(told) => Ok(told),
         Err(_) => Err(Memory),

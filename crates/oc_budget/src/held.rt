@@ -5,7 +5,8 @@ ghost use Rattle.oc_tree.specs.Regions.{region_view};
 ghost use Rattle.oc_tree.specs.View.{block_view, else_view, function_view, kind_view};
 ghost use Rattle.oc_budget.specs.Budgets.{held_cost};
 ghost use Rattle.oc_budget.specs.Costs.{costs};
-ghost use Rattle.oc_budget.specs.Spent.{block_spent, else_spent, expr_seen, functions_spent, kind_spent, returned};
+ghost use Rattle.oc_budget.specs.Spent.{expr_seen, returned};
+ghost use Rattle.oc_tree.specs.Picked.{kind_spent, else_spent, block_spent, functions_spent};
 
 use crate::exprs::expr_cost;
 use crate::known::Known;
@@ -45,7 +46,10 @@ fn own_cost(
     kind: &StmtKind,
 ) -> Option<u64>
     requires { callees.now ≡ costs known.now }
-    ensures { IfSome result (λ c. c ≡ cond (is_in_region known.now.program (region_view region.now) s) (held_cost known.now s (kind_view kind.now)) 0) }
+    ensures { IfSome result
+        (λ c. c
+        ≡ cond (is_in_region known.now.program (region_view region.now) s)
+        (held_cost known.now s (kind_view kind.now)) 0) }
 {
     if known.is_in_region(region, s) {
         held_cost(known, callees, s, kind)
@@ -57,7 +61,10 @@ fn own_cost(
 #[cycle(spent)]
 fn kind_spent(known: &Known, callees: &[u64], region: &Region, kind: &StmtKind) -> Option<u64>
     requires { callees.now ≡ costs known.now }
-    ensures { IfSome result (λ c. c ≡ kind_spent (is_in_region known.now.program (region_view region.now)) (held_cost known.now) (kind_view kind.now)) }
+    ensures { IfSome result
+        (λ c. c
+        ≡ kind_spent (is_in_region known.now.program (region_view region.now)) (held_cost known.now)
+        (kind_view kind.now)) }
 {
     match kind {
         StmtKind::If {
@@ -83,7 +90,10 @@ fn else_spent(
     otherwise: &Option<Block>,
 ) -> Option<u64>
     requires { callees.now ≡ costs known.now }
-    ensures { IfSome result (λ c. c ≡ else_spent (is_in_region known.now.program (region_view region.now)) (held_cost known.now) (else_view otherwise.now)) }
+    ensures { IfSome result
+        (λ c. c
+        ≡ else_spent (is_in_region known.now.program (region_view region.now)) (held_cost known.now)
+        (else_view otherwise.now)) }
 {
     match otherwise {
         Some(block) => block_spent(known, callees, region, block),
@@ -94,7 +104,10 @@ fn else_spent(
 #[cycle(spent)]
 fn block_spent(known: &Known, callees: &[u64], region: &Region, block: &Block) -> Option<u64>
     requires { callees.now ≡ costs known.now }
-    ensures { IfSome result (λ c. c ≡ block_spent (is_in_region known.now.program (region_view region.now)) (held_cost known.now) (block_view block.now)) }
+    ensures { IfSome result
+        (λ c. c
+        ≡ block_spent (is_in_region known.now.program (region_view region.now))
+        (held_cost known.now) (block_view block.now)) }
 {
     let mut spent = 0;
     for statement in &block.statements {
@@ -108,7 +121,10 @@ fn block_spent(known: &Known, callees: &[u64], region: &Region, block: &Block) -
 /// The costs of all statements directly in a region.
 pub fn region_spent(known: &Known, callees: &[u64], region: &Region) -> Option<u64>
     requires { callees.now ≡ costs known.now }
-    ensures { IfSome result (λ c. c ≡ functions_spent (is_in_region known.now.program (region_view region.now)) (held_cost known.now) known.now.program.functions) }
+    ensures { IfSome result
+        (λ c. c
+        ≡ functions_spent (is_in_region known.now.program (region_view region.now))
+        (held_cost known.now) known.now.program.functions) }
 {
     let mut spent = 0;
     for function in known.functions() {

@@ -8,7 +8,8 @@ ghost use Rattle.oc_tree.specs.Calls.{function_place};
 ghost use Rattle.oc_tree.specs.Marked.{is_in_region};
 ghost use Rattle.oc_tree.specs.Regions.{region_view};
 ghost use Rattle.oc_tree.specs.Weight.{has_result, result_at};
-ghost use Rattle.oc_budget.specs.Costs.{is_use, marks_at};
+ghost use Rattle.oc_budget.specs.Costs.{is_use};
+ghost use Rattle.oc_tree.specs.Costs.{marks_at};
 
 use crate::tables::{has, mark};
 use crate::uses::use_table;
@@ -54,7 +55,8 @@ impl<'a> Model for Known<'a> {
 
 // The table of the statements with which regions begin.
 fn begin_table(alloc: Global, regions: &[Region]) -> Result<Vec<bool>, AllocError>
-    ensures { IfOk result (λ t. (n : ℕ) → get_or t.items n false ≡ list_any (λ r. nat_eq r.first n) (map region_view regions.now)) }
+    ensures { IfOk result (λ t. (n : ℕ)
+        → get_or t.items n false ≡ list_any (λ r. nat_eq r.first n) (map region_view regions.now)) }
 {
     let mut table = Vec::new(alloc);
     for region in regions {
@@ -65,7 +67,8 @@ fn begin_table(alloc: Global, regions: &[Region]) -> Result<Vec<bool>, AllocErro
 
 // The table of the statements with which regions end.
 fn end_table(alloc: Global, regions: &[Region]) -> Result<Vec<bool>, AllocError>
-    ensures { IfOk result (λ t. (n : ℕ) → get_or t.items n false ≡ list_any (λ r. nat_eq r.last n) (map region_view regions.now)) }
+    ensures { IfOk result (λ t. (n : ℕ)
+        → get_or t.items n false ≡ list_any (λ r. nat_eq r.last n) (map region_view regions.now)) }
 {
     let mut table = Vec::new(alloc);
     for region in regions {

@@ -1,16 +1,22 @@
 //! The costs of all functions.
 ghost use Rattle.std.specs.Prelude.{◌≡◌, map, length, IfOk};
 ghost use Rattle.oc_tree.specs.View.{function_view};
-ghost use Rattle.oc_budget.specs.Costs.{costs, function_cost, is_use};
+ghost use Rattle.oc_budget.specs.Costs.{costs, is_use};
+ghost use Rattle.oc_tree.specs.Costs.{function_cost};
 
 use crate::known::Known;
 use crate::sums::fitting;
 use crate::walk::function_cost;
+use oc_reach::levels::is_same;
 use std::alloc::{AllocError, Global};
 
 // The costs with one more level of calls.
 fn next_level(alloc: Global, known: &Known, costs: &[u64]) -> Result<Vec<u64>, AllocError>
-    ensures { IfOk result (λ w. w.items ≡ map (function_cost known.now.program.functions (is_use known.now.program) known.now.regions costs.now) known.now.program.functions) }
+    ensures { IfOk result
+        (λ w. w.items
+        ≡ map
+        (function_cost known.now.program.functions (is_use known.now.program) known.now.regions
+        costs.now) known.now.program.functions) }
 {
     let mut next = Vec::new(alloc);
     for function in known.functions() {
@@ -25,7 +31,11 @@ pub fn all_costs(alloc: Global, known: &Known) -> Result<Vec<u64>, AllocError>
 {
     let mut costs = Vec::new(alloc);
     for _depth in 0..known.functions().len() {
-        costs = next_level(alloc, known, costs.as_slice())?;
+        let next = next_level(alloc, known, costs.as_slice())?;
+        if is_same(next.as_slice(), costs.as_slice()) {
+            return Ok(next);
+        }
+        costs = next;
     }
     Ok(costs)
 }

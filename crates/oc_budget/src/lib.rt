@@ -5,6 +5,7 @@ pub mod costs;
 mod exprs;
 mod held;
 mod known;
+pub mod laws;
 mod levels;
 mod sums;
 mod tables;

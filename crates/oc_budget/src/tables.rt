@@ -20,7 +20,8 @@ pub fn has(table: &[bool], s: StmtId) -> bool
 // Makes a table longer, so that it has this place.
 fn reach(table: &mut Vec<bool>, place: usize) -> Result<(), AllocError>
     ensures long { OnOk result (place < length table.new.items) }
-    ensures same { OnOk result ((n : ℕ) → get_or table.new.items n false ≡ get_or table.old.items n false) }
+    ensures same { OnOk result
+        ((n : ℕ) → get_or table.new.items n false ≡ get_or table.old.items n false) }
 {
     while table.len() <= place {
         table.push(false)?;
@@ -30,7 +31,8 @@ fn reach(table: &mut Vec<bool>, place: usize) -> Result<(), AllocError>
 
 /// Marks a statement.
 pub fn mark(table: &mut Vec<bool>, s: StmtId) -> Result<(), AllocError>
-    ensures { OnOk result ((n : ℕ) → get_or table.new.items n false ≡ nat_eq s n || get_or table.old.items n false) }
+    ensures { OnOk result ((n : ℕ)
+        → get_or table.new.items n false ≡ nat_eq s n || get_or table.old.items n false) }
 {
     let place = s as usize;
     reach(table, place)?;

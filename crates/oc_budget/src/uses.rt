@@ -16,7 +16,9 @@ use std::alloc::{AllocError, Global};
 
 // The variables that are annotated `Fresh` among these statements.
 fn fresh_variables(alloc: Global, effects: &[Effect]) -> Result<Vec<VarId>, AllocError>
-    ensures { IfOk result (λ f. (v : VarId) → list_any (same_variable v) f.items ≡ list_any (λ b. is_fresh_note v b.note) (map effect_view effects.now)) }
+    ensures { IfOk result (λ f. (v : VarId)
+        → list_any (same_variable v) f.items
+        ≡ list_any (λ b. is_fresh_note v b.note) (map effect_view effects.now)) }
 {
     let mut fresh = Vec::new(alloc);
     for effect in effects {
@@ -51,7 +53,10 @@ fn names_fresh(fresh: &[VarId], named: &[VarId]) -> bool
 
 // Marks those of these statements that name one of these variables.
 fn mark_named(fresh: &[VarId], effects: &[Effect], uses: &mut Vec<bool>) -> Result<(), AllocError>
-    ensures { OnOk result ((s : ℕ) → get_or uses.new.items s false ≡ list_any (λ a. nat_eq a.stmt s && list_any (λ v. list_any (same_variable v) fresh.now) a.named) (map effect_view effects.now) || get_or uses.old.items s false) }
+    ensures { OnOk result ((s : ℕ)
+        → get_or uses.new.items s false
+        ≡ list_any (λ a. nat_eq a.stmt s && list_any (λ v. list_any (same_variable v) fresh.now)
+        a.named) (map effect_view effects.now) || get_or uses.old.items s false) }
 {
     for effect in effects {
         if names_fresh(fresh, effect.named.as_slice()) {
@@ -63,7 +68,9 @@ fn mark_named(fresh: &[VarId], effects: &[Effect], uses: &mut Vec<bool>) -> Resu
 
 // Marks those of a function's statements that use a fresh variable.
 fn mark_uses(alloc: Global, effects: &[Effect], uses: &mut Vec<bool>) -> Result<(), AllocError>
-    ensures { OnOk result ((s : ℕ) → get_or uses.new.items s false ≡ uses_in s (map effect_view effects.now) || get_or uses.old.items s false) }
+    ensures { OnOk result ((s : ℕ)
+        → get_or uses.new.items s false
+        ≡ uses_in s (map effect_view effects.now) || get_or uses.old.items s false) }
 {
     let fresh = fresh_variables(alloc, effects)?;
     mark_named(fresh.as_slice(), effects, uses)?;

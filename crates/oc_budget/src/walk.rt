@@ -2,7 +2,8 @@
 ghost use Rattle.std.specs.Prelude.{◌≡◌, ◌+◌, ◌*◌, map, max, cond, IfSome};
 ghost use Rattle.oc_tree.specs.View.{block_view, call_view, else_view, expr_view, function_view, kind_view, right_view};
 ghost use Rattle.oc_tree.specs.Weight.{call_cost, known_of, right_cost, turns};
-ghost use Rattle.oc_budget.specs.Costs.{block_cost, else_cost, function_cost, inner_cost, is_use, probes};
+ghost use Rattle.oc_budget.specs.Costs.{is_use};
+ghost use Rattle.oc_tree.specs.Costs.{probes, inner_cost, else_cost, block_cost, function_cost};
 
 use crate::exprs::{args_cost, expr_cost};
 use crate::known::Known;
@@ -20,14 +21,16 @@ pub fn known_of(costs: &[u64], place: Option<usize>) -> u64
 }
 
 fn call_cost(known: &Known, costs: &[u64], call: &Call) -> Option<u64>
-    ensures { IfSome result (λ c. c ≡ call_cost known.now.program.functions costs.now (call_view call.now)) }
+    ensures { IfSome result
+        (λ c. c ≡ call_cost known.now.program.functions costs.now (call_view call.now)) }
 {
     let arguments = plus(args_cost(call.args.as_slice())?, 1)?;
     plus(arguments, known_of(costs, known.place(&call.function)))
 }
 
 fn right_cost(known: &Known, costs: &[u64], right: &Right) -> Option<u64>
-    ensures { IfSome result (λ c. c ≡ right_cost known.now.program.functions costs.now (right_view right.now)) }
+    ensures { IfSome result
+        (λ c. c ≡ right_cost known.now.program.functions costs.now (right_view right.now)) }
 {
     match right {
         Right::Value { value } => expr_cost(value),
@@ -56,7 +59,10 @@ pub fn probes(uses: bool, kind: &StmtKind) -> u64
 /// The cost of a block.
 #[cycle(cost)]
 pub fn block_cost(known: &Known, costs: &[u64], block: &Block) -> Option<u64>
-    ensures { IfSome result (λ c. c ≡ block_cost known.now.program.functions (is_use known.now.program) known.now.regions costs.now (block_view block.now)) }
+    ensures { IfSome result
+        (λ c. c
+        ≡ block_cost known.now.program.functions (is_use known.now.program) known.now.regions
+        costs.now (block_view block.now)) }
 {
     let mut cost = 0;
     for statement in &block.statements {
@@ -71,7 +77,10 @@ pub fn block_cost(known: &Known, costs: &[u64], block: &Block) -> Option<u64>
 // Both branches of an `if`, the first of which has the cost `then`.
 #[cycle(cost)]
 fn else_cost(known: &Known, costs: &[u64], then: u64, otherwise: &Option<Block>) -> Option<u64>
-    ensures { IfSome result (λ c. c ≡ else_cost known.now.program.functions (is_use known.now.program) known.now.regions costs.now then (else_view otherwise.now)) }
+    ensures { IfSome result
+        (λ c. c
+        ≡ else_cost known.now.program.functions (is_use known.now.program) known.now.regions
+        costs.now then (else_view otherwise.now)) }
 {
     match otherwise {
         Some(block) => Some(greater(plus(then, 1)?, block_cost(known, costs, block)?)),
@@ -82,7 +91,10 @@ fn else_cost(known: &Known, costs: &[u64], then: u64, otherwise: &Option<Block>)
 /// The cost of a statement, without the probes and marks around it.
 #[cycle(cost)]
 pub fn inner_cost(known: &Known, costs: &[u64], s: StmtId, kind: &StmtKind) -> Option<u64>
-    ensures { IfSome result (λ c. c ≡ inner_cost known.now.program.functions (is_use known.now.program) known.now.regions costs.now s (kind_view kind.now)) }
+    ensures { IfSome result
+        (λ c. c
+        ≡ inner_cost known.now.program.functions (is_use known.now.program) known.now.regions
+        costs.now s (kind_view kind.now)) }
 {
     match kind {
         StmtKind::Let { right, .. } | StmtKind::Assign { right, .. } => {
@@ -104,8 +116,12 @@ pub fn inner_cost(known: &Known, costs: &[u64], s: StmtId, kind: &StmtKind) -> O
             plus(test, else_cost(known, costs, then, otherwise)?)
         }
         StmtKind::For { from, to, body, .. } => {
+            let turns = turns(*from, *to);
+            if turns == 0 {
+                return Some(6);
+            }
             let turn = plus(9, block_cost(known, costs, body)?)?;
-            plus(6, times(turns(*from, *to), turn)?)
+            plus(6, times(turns, turn)?)
         }
         StmtKind::While {
             condition,
@@ -113,6 +129,9 @@ pub fn inner_cost(known: &Known, costs: &[u64], s: StmtId, kind: &StmtKind) -> O
             body,
         } => {
             let probe = if known.uses(s) { 1 } else { 0 };
+            if *bound == 0 {
+                return Some(6 + probe);
+            }
             let test = plus(10 + probe, expr_cost(condition)?)?;
             let turn = plus(test, block_cost(known, costs, body)?)?;
             plus(plus(6, times(*bound, turn)?)?, probe)
@@ -130,7 +149,10 @@ pub fn inner_cost(known: &Known, costs: &[u64], s: StmtId, kind: &StmtKind) -> O
 
 /// The cost of a function.
 pub fn function_cost(known: &Known, costs: &[u64], function: &Function) -> Option<u64>
-    ensures { IfSome result (λ c. c ≡ function_cost known.now.program.functions (is_use known.now.program) known.now.regions costs.now (function_view function.now)) }
+    ensures { IfSome result
+        (λ c. c
+        ≡ function_cost known.now.program.functions (is_use known.now.program) known.now.regions
+        costs.now (function_view function.now)) }
 {
     let returns = if function.result.is_some() { 0 } else { 1 };
     plus(block_cost(known, costs, &function.body)?, returns)

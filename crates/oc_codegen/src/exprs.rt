@@ -94,7 +94,9 @@ fn word_of(value: bool) -> i32
 // The end of `&&`: its left side has left the test that is still open, and its right side stands.
 fn close_and(code: &mut Buffer, n: u32, test: u32) -> Result<(), AllocError>
     requires { test < length code.old }
-    ensures { OnOk result (code.new ≡ slice_set code.old test (placed n (Jfalse (length code.old + 1))) ++ placed n (Jump (length code.old + 2)) ∷ one n (Push (pos 0))) }
+    ensures { OnOk result (code.new
+        ≡ slice_set code.old test (placed n (Jfalse (length code.old + 1)))
+        ++ placed n (Jump (length code.old + 2)) ∷ one n (Push (pos 0))) }
 {
     let end = code.address();
     code.set(test, n, Instr::Jfalse { t: end + 1 });
@@ -104,7 +106,9 @@ fn close_and(code: &mut Buffer, n: u32, test: u32) -> Result<(), AllocError>
 
 // What stands between the sides of `||`, and the address of its jump, which is still open.
 fn open_or(code: &mut Buffer, n: u32) -> Result<u32, AllocError>
-    ensures code { OnOk result (code.new ≡ code.old ++ placed n (Jfalse (length code.old + 3)) ∷ placed n (Push (pos 1)) ∷ one n (Jump 0)) }
+    ensures code { OnOk result
+        (code.new ≡ code.old ++ placed n (Jfalse (length code.old + 3)) ∷ placed n (Push (pos 1))
+        ∷ one n (Jump 0)) }
     ensures jump { IfOk result (λ a. a ≡ length code.old + 2) }
 {
     let test = code.address();
@@ -116,7 +120,9 @@ fn open_or(code: &mut Buffer, n: u32) -> Result<u32, AllocError>
 
 /// The code of an expression of the statement `n`.
 pub fn expr(code: &mut Buffer, scope: &Scope, n: u32, expression: &Expr) -> Result<(), AllocError>
-    ensures { OnOk result (code.new ≡ code.old ++ expr_code n scope.now (length code.old) (expr_view expression.now)) }
+    ensures { OnOk result
+        (code.new ≡ code.old
+        ++ expr_code n scope.now (length code.old) (expr_view expression.now)) }
 {
     match expression {
         Expr::Number { value } => code.put(n, Instr::Push { c: *value }),
@@ -181,7 +187,8 @@ fn passed_slot(scope: &Scope, expression: &Expr) -> Option<u32>
 
 // The code of an argument.
 fn arg(code: &mut Buffer, scope: &Scope, n: u32, arg: &Arg) -> Result<(), AllocError>
-    ensures { OnOk result (code.new ≡ code.old ++ arg_code n scope.now (length code.old) (arg_view arg.now)) }
+    ensures { OnOk result
+        (code.new ≡ code.old ++ arg_code n scope.now (length code.old) (arg_view arg.now)) }
 {
     match arg {
         Arg::Value { value } => match passed_slot(scope, value) {
@@ -195,7 +202,8 @@ fn arg(code: &mut Buffer, scope: &Scope, n: u32, arg: &Arg) -> Result<(), AllocE
 
 /// The code of the arguments of a call.
 pub fn args(code: &mut Buffer, scope: &Scope, n: u32, args: &[Arg]) -> Result<(), AllocError>
-    ensures { OnOk result (code.new ≡ code.old ++ args_code n scope.now (length code.old) (args_view args.now)) }
+    ensures { OnOk result
+        (code.new ≡ code.old ++ args_code n scope.now (length code.old) (args_view args.now)) }
 {
     for next in args {
         arg(code, scope, n, next)?;

@@ -32,7 +32,8 @@ use std::alloc::{AllocError, Global};
 
 fn raw(alloc: Global, marked: &Marked, writes: &WriteSets) -> Result<RawImage, AllocError>
     requires { writes.now ≡ may_write marked.now }
-    ensures { IfOk result (λ i. parts_of i ≡ code_of marked.now.program marked.now.regions (may_write marked.now)) }
+    ensures { IfOk result
+        (λ i. parts_of i ≡ code_of marked.now.program marked.now.regions (may_write marked.now)) }
 {
     let checked = marked.checked();
     let targets = copy_targets(alloc, writes)?;
@@ -45,7 +46,8 @@ fn raw(alloc: Global, marked: &Marked, writes: &WriteSets) -> Result<RawImage, A
 pub fn compile(alloc: Global, marked: &Marked, writes: &WriteSets) -> Result<Image, Memory>
     requires { writes.now ≡ may_write marked.now }
     // It is the program's code.
-    ensures code { IfOk result (λ i. i ≡ code_of marked.now.program marked.now.regions (may_write marked.now)) }
+    ensures code { IfOk result
+        (λ i. i ≡ code_of marked.now.program marked.now.regions (may_write marked.now)) }
     // Its runs are those of the program.
     ensures right { IsRight marked.now.program marked.now.regions (may_write marked.now) }
 {

@@ -18,7 +18,8 @@ pub fn open_count(
     from: i32,
     to: i32,
 ) -> Result<u32, AllocError>
-    ensures code { OnOk result (code.new ≡ code.old ++ placed n (Push from) ∷ placed n (Store slot) ∷ below_code n slot to 0) }
+    ensures code { OnOk result (code.new
+        ≡ code.old ++ placed n (Push from) ∷ placed n (Store slot) ∷ below_code n slot to 0) }
     ensures start { IfOk result (λ a. a ≡ length code.old) }
 {
     let start = code.address();
@@ -34,7 +35,9 @@ pub fn open_count(
 /// The end of a loop that begins at an address, behind the code of a turn.
 pub fn close_count(code: &mut Buffer, n: u32, slot: u32, start: u32) -> Result<(), AllocError>
     requires { start + 5 < length code.old }
-    ensures { OnOk result (code.new ≡ slice_set code.old (start + 5) (placed n (Jfalse (length code.old + 5))) ++ again_code n slot (start + 2)) }
+    ensures { OnOk result (code.new
+        ≡ slice_set code.old (start + 5) (placed n (Jfalse (length code.old + 5)))
+        ++ again_code n slot (start + 2)) }
 {
     let end = code.address() + 5;
     code.set(start + 5, n, Instr::Jfalse { t: end });
@@ -55,7 +58,9 @@ pub fn close_while(
 ) -> Result<(), AllocError>
     requires start { start + 5 < length code.old }
     requires exit { exit < length code.old }
-    ensures { OnOk result (code.new ≡ slice_set (slice_set code.old exit (placed n (Jfalse (length code.old + 5)))) (start + 5) (placed n (Jfalse (length code.old + 5))) ++ again_code n slot (start + 2)) }
+    ensures { OnOk result
+        (code.new ≡ slice_set (slice_set code.old exit (placed n (Jfalse (length code.old + 5))))
+        (start + 5) (placed n (Jfalse (length code.old + 5))) ++ again_code n slot (start + 2)) }
 {
     let end = code.address() + 5;
     code.set(exit, n, Instr::Jfalse { t: end });
@@ -81,7 +86,8 @@ pub fn array(
     initial: i32,
     words: u32,
 ) -> Result<(), AllocError>
-    ensures { OnOk result (code.new ≡ code.old ++ array_code n (length code.old) slot initial words) }
+    ensures { OnOk result
+        (code.new ≡ code.old ++ array_code n (length code.old) slot initial words) }
 {
     let start = open_count(code, n, slot, 0, word(words)?)?;
     fill(code, n, slot, initial, words)?;

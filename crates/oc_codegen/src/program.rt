@@ -131,8 +131,21 @@ fn function<'a>(
     scope: &mut Scope<'a>,
     function: &'a Function,
 ) -> Result<ImageFunction, AllocError>
-    ensures code { OnOk result (code.new ≡ code.old ++ (block_code setting.old.names setting.old.functions setting.old.regions (length function.now.params.items) (params_scope function.now.params.items 0 scope.old) (length function.now.params.items + link_words (function_view function.now)) (length code.old) (function_view function.now).body ++ close_code (function_view function.now))) }
-    ensures image { IfOk result (λ f. f ≡ record { name = function.now.name; entry = length code.old; params = length function.now.params.items; frame = frame (function_view function.now) }) }
+    ensures code { OnOk result
+        (code.new ≡ code.old
+        ++ (block_code setting.old.names setting.old.functions setting.old.regions
+        (length function.now.params.items) (params_scope function.now.params.items 0 scope.old)
+        (length function.now.params.items + link_words (function_view function.now))
+        (length code.old) (function_view function.now).body
+        ++ close_code (function_view function.now))) }
+    ensures image { IfOk result
+        (λ f. f ≡ record {
+          name = function.now.name;
+          entry = length code.old;
+          params = length
+              function.now.params.items;
+          frame = frame (function_view function.now);
+        }) }
     ensures names { setting.new.names ≡ setting.old.names }
     ensures functions { setting.new.functions ≡ setting.old.functions }
     ensures regions { setting.new.regions ≡ setting.old.regions }
@@ -170,8 +183,12 @@ fn image_nvs(alloc: Global, nv: &[NvDecl]) -> Result<Vec<ImageNv>, AllocError>
 
 // The stack of `main`, of the functions of an expansion.
 fn main_stack(alloc: Global, functions: &[Function]) -> Result<u32, AllocError>
-    requires { known_of (stacks_to (map function_view functions.now) (length functions.now)) (function_place (map function_view functions.now) (codes "main")) ≤ 65536 }
-    ensures { IfOk result (λ s. s ≡ known_of (stacks_to (map function_view functions.now) (length functions.now)) (function_place (map function_view functions.now) (codes "main"))) }
+    requires { known_of (stacks_to (map function_view functions.now) (length functions.now))
+        (function_place (map function_view functions.now) (codes "main")) ≤ 65536 }
+    ensures { IfOk result
+        (λ s. s
+        ≡ known_of (stacks_to (map function_view functions.now) (length functions.now))
+        (function_place (map function_view functions.now) (codes "main"))) }
 {
     let stacks = stacks(alloc, functions)?;
     let stack = known_of(stacks.as_slice(), main_place(functions));
@@ -185,8 +202,12 @@ pub fn raw_image(
     regions: &[Region],
     targets: Vec<Vec<Target>>,
 ) -> Result<RawImage, AllocError>
-    requires { IsFormed (program_view program.now) (map region_view regions.now) (map (λ v. v.items) targets.items) }
-    ensures { IfOk result (λ raw. parts_of raw ≡ code_of (program_view program.now) (map region_view regions.now) (map (λ v. v.items) targets.items)) }
+    requires { IsFormed (program_view program.now) (map region_view regions.now)
+        (map (λ v. v.items) targets.items) }
+    ensures { IfOk result
+        (λ raw. parts_of raw
+        ≡ code_of (program_view program.now) (map region_view regions.now)
+        (map (λ v. v.items) targets.items)) }
 {
     let mut setting = Setting::new(alloc, program, regions)?;
     let mut scope = Scope::new(alloc);

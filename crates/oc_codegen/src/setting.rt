@@ -50,7 +50,14 @@ impl<'a> Setting<'a> {
         program: &'a Program,
         regions: &'a [Region],
     ) -> Result<Setting<'a>, AllocError>
-        ensures { IfOk result (λ s. s ≡ record { names = names_view program.now.names; functions = map function_view program.now.functions.items; regions = map region_view regions.now; params = 0 }) }
+        ensures { IfOk result (λ s. s
+            ≡ record {
+              names = names_view program.now.names;
+              functions = map function_view
+                  program.now.functions.items;
+              regions = map region_view regions.now;
+              params = 0;
+            }) }
     {
         let table = function_table(alloc, program.functions.as_slice())?;
         Ok(Setting {

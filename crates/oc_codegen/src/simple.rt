@@ -30,7 +30,10 @@ pub fn call(
     n: u32,
     call: &Call,
 ) -> Result<(), AllocError>
-    ensures { OnOk result (code.new ≡ code.old ++ call_code setting.now.names setting.now.functions setting.now.regions setting.now.params n scope.now (length code.old) (call_view call.now)) }
+    ensures { OnOk result
+        (code.new ≡ code.old
+        ++ call_code setting.now.names setting.now.functions setting.now.regions setting.now.params
+        n scope.now (length code.old) (call_view call.now)) }
 {
     args(code, scope, n, call.args.as_slice())?;
     let function = setting.function(&call.function)?;
@@ -45,7 +48,10 @@ pub fn right(
     n: u32,
     right: &Right,
 ) -> Result<(), AllocError>
-    ensures { OnOk result (code.new ≡ code.old ++ right_code setting.now.names setting.now.functions setting.now.regions setting.now.params n scope.now (length code.old) (right_view right.now)) }
+    ensures { OnOk result
+        (code.new ≡ code.old
+        ++ right_code setting.now.names setting.now.functions setting.now.regions setting.now.params
+        n scope.now (length code.old) (right_view right.now)) }
 {
     match right {
         Right::Value { value } => expr(code, scope, n, value),
@@ -66,7 +72,11 @@ pub fn assign(
     name: &Name,
     side: &Right,
 ) -> Result<(), AllocError>
-    ensures { OnOk result (code.new ≡ code.old ++ (right_code setting.now.names setting.now.functions setting.now.regions setting.now.params n scope.now (length code.old) (right_view side.now) ++ write_code n (slot_of scope.now name.now))) }
+    ensures { OnOk result
+        (code.new ≡ code.old
+        ++ (right_code setting.now.names setting.now.functions setting.now.regions
+        setting.now.params n scope.now (length code.old) (right_view side.now)
+        ++ write_code n (slot_of scope.now name.now))) }
 {
     right(code, setting, scope, n, side)?;
     write(code, n, scope.slot(name))
@@ -81,7 +91,11 @@ pub fn let_to(
     slot: u32,
     side: &Right,
 ) -> Result<(), AllocError>
-    ensures { OnOk result (code.new ≡ code.old ++ (right_code setting.now.names setting.now.functions setting.now.regions setting.now.params n scope.now (length code.old) (right_view side.now) ++ one n (Store slot))) }
+    ensures { OnOk result
+        (code.new ≡ code.old
+        ++ (right_code setting.now.names setting.now.functions setting.now.regions
+        setting.now.params n scope.now (length code.old) (right_view side.now)
+        ++ one n (Store slot))) }
 {
     right(code, setting, scope, n, side)?;
     code.put(n, Instr::Store { s: slot })
@@ -97,7 +111,12 @@ pub fn assign_index(
     index: &Expr,
     side: &Right,
 ) -> Result<(), AllocError>
-    ensures { OnOk result (code.new ≡ code.old ++ element_code setting.now.names setting.now.functions setting.now.regions setting.now.params n scope.now (length code.old) name.now (expr_view index.now) (right_code setting.now.names setting.now.functions setting.now.regions setting.now.params n scope.now (length code.old) (right_view side.now))) }
+    ensures { OnOk result
+        (code.new ≡ code.old
+        ++ element_code setting.now.names setting.now.functions setting.now.regions
+        setting.now.params n scope.now (length code.old) name.now (expr_view index.now)
+        (right_code setting.now.names setting.now.functions setting.now.regions setting.now.params n
+        scope.now (length code.old) (right_view side.now))) }
 {
     right(code, setting, scope, n, side)?;
     base(code, n, scope.slot(name))?;
@@ -119,7 +138,12 @@ pub fn call_only(
     n: u32,
     inner: &Call,
 ) -> Result<(), AllocError>
-    ensures { OnOk result (code.new ≡ code.old ++ (call_code setting.now.names setting.now.functions setting.now.regions setting.now.params n scope.now (length code.old) (call_view inner.now) ++ (if has_result setting.now.functions (called_name (call_view inner.now)) then one n Drop else []))) }
+    ensures { OnOk result
+        (code.new ≡ code.old
+        ++ (call_code setting.now.names setting.now.functions setting.now.regions setting.now.params
+        n scope.now (length code.old) (call_view inner.now)
+        ++ (if has_result setting.now.functions (called_name (call_view inner.now)) then one n Drop
+        else []))) }
 {
     call(code, setting, scope, n, inner)?;
     if setting.has_result(&inner.function) {
@@ -136,7 +160,9 @@ pub fn sense_only(
     n: u32,
     sensor: &Name,
 ) -> Result<(), AllocError>
-    ensures { OnOk result (code.new ≡ code.old ++ (placed n (Sense (number_in setting.now.names.sensors sensor.now)) ∷ one n Drop)) }
+    ensures { OnOk result
+        (code.new ≡ code.old
+        ++ (placed n (Sense (number_in setting.now.names.sensors sensor.now)) ∷ one n Drop)) }
 {
     let sensor = setting.sensor(sensor)?;
     code.put(n, Instr::Sense { s: sensor })?;
@@ -152,7 +178,9 @@ pub fn emit(
     port: &Name,
     value: &Expr,
 ) -> Result<(), AllocError>
-    ensures { OnOk result (code.new ≡ code.old ++ (expr_code n scope.now (length code.old) (expr_view value.now) ++ one n (Emit (number_in setting.now.names.ports port.now)))) }
+    ensures { OnOk result
+        (code.new ≡ code.old ++ (expr_code n scope.now (length code.old) (expr_view value.now)
+        ++ one n (Emit (number_in setting.now.names.ports port.now)))) }
 {
     expr(code, scope, n, value)?;
     let port = setting.port(port)?;
@@ -198,7 +226,10 @@ pub fn return_value(
     value: &Expr,
 ) -> Result<(), AllocError>
     requires { used ≡ is_use (is_fresh_in scope.now) (return (expr_view value.now)) }
-    ensures { OnOk result (code.new ≡ code.old ++ return_code setting.now.names setting.now.functions setting.now.regions setting.now.params n scope.now (length code.old) (expr_view value.now)) }
+    ensures { OnOk result
+        (code.new ≡ code.old
+        ++ return_code setting.now.names setting.now.functions setting.now.regions
+        setting.now.params n scope.now (length code.old) (expr_view value.now)) }
 {
     expr(code, scope, n, value)?;
     probe(code, n, used, ProbeKind::Done)?;
@@ -219,7 +250,10 @@ pub fn test(
     used: bool,
     condition: &Expr,
 ) -> Result<(), AllocError>
-    ensures { OnOk result (code.new ≡ code.old ++ (probe_code n used Use ++ expr_code n scope.now (length code.old + length (probe_code n used Use)) (expr_view condition.now))) }
+    ensures { OnOk result (code.new
+        ≡ code.old ++ (probe_code n used Use
+        ++ expr_code n scope.now (length code.old + length (probe_code n used Use))
+        (expr_view condition.now))) }
 {
     probe(code, n, used, ProbeKind::Use)?;
     expr(code, scope, n, condition)
@@ -252,7 +286,10 @@ pub fn before(
     n: u32,
     kind: &StmtKind,
 ) -> Result<(), AllocError>
-    ensures { OnOk result (code.new ≡ code.old ++ first_code setting.now.names setting.now.functions setting.now.regions setting.now.params scope.now n (kind_view kind.now)) }
+    ensures { OnOk result
+        (code.new ≡ code.old
+        ++ first_code setting.now.names setting.now.functions setting.now.regions setting.now.params
+        scope.now n (kind_view kind.now)) }
 {
     enter(code, n, setting.begun_by(n))?;
     probe(code, n, begins_use(scope, kind), ProbeKind::Use)
@@ -275,7 +312,10 @@ pub fn after(
     n: u32,
     kind: &StmtKind,
 ) -> Result<(), AllocError>
-    ensures { OnOk result (code.new ≡ code.old ++ after_code n (ended_by setting.now.regions n) (ends_use (is_fresh_in scope.now) (kind_view kind.now)) (kind_view kind.now)) }
+    ensures { OnOk result
+        (code.new ≡ code.old
+        ++ after_code n (ended_by setting.now.regions n)
+        (ends_use (is_fresh_in scope.now) (kind_view kind.now)) (kind_view kind.now)) }
 {
     probe(code, n, ends_use(scope, kind), ProbeKind::Done)?;
     last(code, n, setting.ended_by(n), kind)
@@ -288,7 +328,8 @@ pub fn declare<'a>(
     kind: &'a StmtKind,
     rest: &[Stmt],
 ) -> Result<(), AllocError>
-    ensures { OnOk result (scope.new ≡ in_scope (kind_view kind.now) slot (stmts_view rest.now) scope.old) }
+    ensures { OnOk result
+        (scope.new ≡ in_scope (kind_view kind.now) slot (stmts_view rest.now) scope.old) }
 {
     match kind {
         StmtKind::Let { name, .. } => {

@@ -29,7 +29,9 @@ use std::alloc::AllocError;
 // answers the address of the jump over that, which is still open.
 fn close_then(code: &mut Buffer, n: u32, test: u32) -> Result<u32, AllocError>
     requires { test < length code.old }
-    ensures code { OnOk result (code.new ≡ slice_set code.old test (placed n (Jfalse (length code.old + 1))) ++ one n (Jump 0)) }
+    ensures code { OnOk result
+        (code.new ≡ slice_set code.old test (placed n (Jfalse (length code.old + 1)))
+        ++ one n (Jump 0)) }
     ensures jump { IfOk result (λ a. a ≡ length code.old) }
 {
     let jump = code.address();
@@ -50,8 +52,12 @@ fn for_in<'a>(
     to: i32,
     body: &'a Block,
 ) -> Result<u32, AllocError>
-    ensures code { OnOk result (code.new ≡ code.old ++ kind_code setting.now.names setting.now.functions setting.now.regions setting.now.params scope.old n slot (length code.old) (for_in name.now from to (block_view body.now))) }
-    ensures next { IfOk result (λ next. next ≡ slot + kind_slots (for_in name.now from to (block_view body.now))) }
+    ensures code { OnOk result
+        (code.new ≡ code.old
+        ++ kind_code setting.now.names setting.now.functions setting.now.regions setting.now.params
+        scope.old n slot (length code.old) (for_in name.now from to (block_view body.now))) }
+    ensures next { IfOk result
+        (λ next. next ≡ slot + kind_slots (for_in name.now from to (block_view body.now))) }
     ensures scope { OnOk result (scope.new ≡ scope.old) }
 {
     let visible = scope.len();
@@ -79,7 +85,10 @@ fn kind<'a>(
     slot: u32,
     kind: &'a StmtKind,
 ) -> Result<u32, AllocError>
-    ensures code { OnOk result (code.new ≡ code.old ++ kind_code setting.now.names setting.now.functions setting.now.regions setting.now.params scope.old n slot (length code.old) (kind_view kind.now)) }
+    ensures code { OnOk result
+        (code.new ≡ code.old
+        ++ kind_code setting.now.names setting.now.functions setting.now.regions setting.now.params
+        scope.old n slot (length code.old) (kind_view kind.now)) }
     ensures next { IfOk result (λ next. next ≡ slot + kind_slots (kind_view kind.now)) }
     ensures scope { OnOk result (scope.new ≡ scope.old) }
 {
@@ -189,9 +198,20 @@ fn statement<'a>(
     statement: &'a Stmt,
     rest: &[Stmt],
 ) -> Result<u32, AllocError>
-    ensures code { OnOk result (code.new ≡ code.old ++ whole_code setting.now.names setting.now.functions setting.now.regions setting.now.params scope.old statement.now.id (kind_view statement.now.kind) (kind_code setting.now.names setting.now.functions setting.now.regions setting.now.params scope.old statement.now.id slot (length code.old + length (first_code setting.now.names setting.now.functions setting.now.regions setting.now.params scope.old statement.now.id (kind_view statement.now.kind))) (kind_view statement.now.kind))) }
+    ensures code { OnOk result
+        (code.new ≡ code.old
+        ++ whole_code setting.now.names setting.now.functions setting.now.regions setting.now.params
+        scope.old statement.now.id (kind_view statement.now.kind)
+        (kind_code setting.now.names setting.now.functions setting.now.regions setting.now.params
+        scope.old statement.now.id slot
+        (length code.old
+        + length
+        (first_code setting.now.names setting.now.functions setting.now.regions setting.now.params
+        scope.old statement.now.id (kind_view statement.now.kind)))
+        (kind_view statement.now.kind))) }
     ensures next { IfOk result (λ next. next ≡ slot + kind_slots (kind_view statement.now.kind)) }
-    ensures scope { OnOk result (scope.new ≡ in_scope (kind_view statement.now.kind) slot (stmts_view rest.now) scope.old) }
+    ensures scope { OnOk result
+        (scope.new ≡ in_scope (kind_view statement.now.kind) slot (stmts_view rest.now) scope.old) }
 {
     let n = statement.id;
     before(code, setting, scope, n, &statement.kind)?;
@@ -211,7 +231,10 @@ pub fn block<'a>(
     slot: u32,
     block: &'a Block,
 ) -> Result<u32, AllocError>
-    ensures code { OnOk result (code.new ≡ code.old ++ block_code setting.now.names setting.now.functions setting.now.regions setting.now.params scope.old slot (length code.old) (block_view block.now)) }
+    ensures code { OnOk result
+        (code.new ≡ code.old
+        ++ block_code setting.now.names setting.now.functions setting.now.regions setting.now.params
+        scope.old slot (length code.old) (block_view block.now)) }
     ensures next { IfOk result (λ next. next ≡ slot + block_slots (block_view block.now)) }
     ensures scope { OnOk result (scope.new ≡ scope.old) }
 {

@@ -46,7 +46,7 @@ use Rattle.oc_writes.proofs.KeptKinds.{hidden, none_hidden, block_each}
 -- ---- names of nonvolatile variables
 
 -- what is found at a place stands there
-place_there : (n : ℕ) (xs : List Text) (y : Text) (i : ℕ) → place_from n xs y ≡ Some i → (k : ℕ) × (i ≡ n + k) × (slice_get xs k ≡ Some y)
+pub place_there : (n : ℕ) (xs : List Text) (y : Text) (i : ℕ) → place_from n xs y ≡ Some i → (k : ℕ) × (i ≡ n + k) × (slice_get xs k ≡ Some y)
 place_there n [] y i h = absurd (none-some i h)
 place_there n (z ∷ xs) y i h = by (bytes_eq y z) refl h (place_there (n + 1) xs y i)
   where
@@ -55,7 +55,7 @@ place_there n (z ∷ xs) y i h = by (bytes_eq y z) refl h (place_there (n + 1) x
     by false is e rest = let r = rest e in (suc r.0, omega (arith, r.1), r.2)
 
 -- what stands in a list is among it
-stands_among : (n : ℕ) (xs : List Text) (i : ℕ) (x : Text) → slice_get xs i ≡ Some x → is_some (place_from n xs x) ≡ true
+pub stands_among : (n : ℕ) (xs : List Text) (i : ℕ) (x : Text) → slice_get xs i ≡ Some x → is_some (place_from n xs x) ≡ true
 stands_among n [] i x h = absurd (none-some x h)
 stands_among n (z ∷ xs) zero x h = ap (λ b. is_some (cond b (Some n) (place_from (n + 1) xs x))) ((bytes_eq-Decides x z).1 (sym (same_Some z x h)))
 stands_among n (z ∷ xs) (suc i) x h = by (bytes_eq x z) (stands_among (n + 1) xs i x h)
@@ -66,17 +66,17 @@ stands_among n (z ∷ xs) (suc i) x h = by (bytes_eq x z) (stands_among (n + 1) 
 
 -- ---- small tests
 
-so : (b : Bool) → not b ≡ false → b ≡ true
+pub so : (b : Bool) → not b ≡ false → b ≡ true
 so true h = refl
 so false h = absurd (true≢false h)
 
-mutable_both : (q : Passing) → is_mutable_passing q ≡ true → is_mutable q ≡ true
+pub mutable_both : (q : Passing) → is_mutable_passing q ≡ true → is_mutable q ≡ true
 mutable_both passings.Value h = h
 mutable_both passings.Shared h = h
 mutable_both passings.Mutable h = h
 
 -- an array that may be written, and is a parameter, is one by `&mut`
-array_param : (q : Passing) → is_writable_array (origins.Param q) ≡ true → is_mutable q ≡ true
+pub array_param : (q : Passing) → is_writable_array (origins.Param q) ≡ true → is_mutable q ≡ true
 array_param q h = mutable_both q h
 
 -- what stands alone
@@ -95,7 +95,7 @@ module _ (p : TProgram) (scope : Scope) where
       by false e = absurd (true≢false (sym e))
 
   -- a name that meets a parameter by `&mut` is such a parameter
-  value_mutable : (q : Passing) (kind : ValueKind) (y : Text) → is_mutable q ≡ true → value_meets p scope q kind (variable y) ≡ true → origin_is is_mutable_param (variable_of p scope y) ≡ true
+  pub value_mutable : (q : Passing) (kind : ValueKind) (y : Text) → is_mutable q ≡ true → value_meets p scope q kind (variable y) ≡ true → origin_is is_mutable_param (variable_of p scope y) ≡ true
   value_mutable passings.Value kind y m h = absurd (true≢false (sym m))
   value_mutable passings.Shared kind y m h = absurd (true≢false (sym m))
   value_mutable passings.Mutable kind y m h = only_mutable (variable_of p scope y) (first_holds _ (has_kind kind (only_reference (variable_of p scope y))) h)
@@ -120,12 +120,12 @@ takes_at (g ∷ fs) zero m = refl
 takes_at (g ∷ fs) (suc v) m = takes_at fs v m
 
 -- what holds of each call for all of one kind
-calls_for : (J : Type 0) (P : J → TCall → Type 0) (cs : List TCall) → ((j : J) → EachCall (P j) cs) → EachCall (λ c. (j : J) → P j c) cs
+pub calls_for : (J : Type 0) (P : J → TCall → Type 0) (cs : List TCall) → ((j : J) → EachCall (P j) cs) → EachCall (λ c. (j : J) → P j c) cs
 calls_for J P [] h = tt
 calls_for J P (c ∷ cs) h = ((λ j. (h j).0), calls_for J P cs (λ j. (h j).1))
 
 -- a link links
-linked_is : (a b : ℕ) → linked (link_of (Some a) (Some b)) a b ≡ true
+pub linked_is : (a b : ℕ) → linked (link_of (Some a) (Some b)) a b ≡ true
 linked_is a b = or_left (nat_eq a a && nat_eq b b) false (and_both (nat_eq a a) (nat_eq b b) (eq-eqb a a refl) (eq-eqb b b refl))
 
 module _ (p : TProgram) (i : ℕ) (x : Text) (named : slice_get p.names.nvs i ≡ Some x) where
@@ -148,14 +148,14 @@ module _ (p : TProgram) (i : ℕ) (x : Text) (named : slice_get p.names.nvs i �
           absurd (true≢false (sym among ∙ first_fails (is_among p.names.nvs y) (is_some (function_place p.functions y)) past))
 
   -- no parameter has it
-  no_param : (scope : Scope) (qs : List Param) → takes_param p scope qs ≡ false → has_param x qs ≡ false
+  pub no_param : (scope : Scope) (qs : List Param) → takes_param p scope qs ≡ false → has_param x qs ≡ false
   no_param scope [] h = refl
   no_param scope (q ∷ qs) h =
       let free = apart q.name (second_fails (is_in_scope scope q.name) (is_declared p q.name) (first_fails (is_taken p scope q.name) _ h)) in
       ap (λ b. b || has_param x qs) free ∙ no_param (with_param scope q) qs (second_fails (is_taken p scope q.name) _ h)
 
   -- no statement hides it
-  not_hidden : (scope : Scope) (k : TKind) → takes_name p scope k ≡ false → hidden (Some x) k ≡ false
+  pub not_hidden : (scope : Scope) (k : TKind) → takes_name p scope k ≡ false → hidden (Some x) k ≡ false
   not_hidden scope (let_to m y t r) h = apart y (second_fails (is_in_scope scope y) (is_declared p y) h)
   not_hidden scope (let_array m y t z n) h = apart y (second_fails (is_in_scope scope y) (is_declared p y) h)
   not_hidden scope (for_in y m n b) h = apart y (second_fails (is_in_scope scope y) (is_declared p y) h)

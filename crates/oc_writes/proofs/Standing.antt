@@ -50,7 +50,7 @@ each_join P (a ∷ xs) ys h g = (h.0, each_join P xs ys h.1 g)
 
 -- ---- found by their numbers
 
-abbrev Found : (k : ℕ) → List Placed → Placed → Type 0
+abbrev pub Found : (k : ℕ) → List Placed → Placed → Type 0
 Found k xs a = (find (λ b. b.id == a.id) xs ≡ Some a) × (k ≤ a.id)
 
 behind_first : (k : ℕ) (x : Placed) (xs : List Placed) → x.id ≡ k → (a : Placed) → Found (suc k) xs a → Found k (x ∷ xs) a
@@ -60,7 +60,7 @@ behind_first k x xs e a h = (by_test (x.id == a.id) refl, let l : suc k ≤ a.id
     by_test true t = absurd (let s : x.id ≡ a.id = eqb-true x.id a.id t in let l : suc k ≤ a.id = h.1 in omega (arith, s, l, e))
     by_test false t = h.0
 
-found : (k n : ℕ) (xs : List Placed) → ids xs ≡ numbers_on k n → Each (Found k xs) xs
+pub found : (k n : ℕ) (xs : List Placed) → ids xs ≡ numbers_on k n → Each (Found k xs) xs
 found k zero [] e = tt
 found k (suc n) [] e = tt
 found k zero (x ∷ xs) e = cc

@@ -1,4 +1,4 @@
--- What a region leaves alone: its statements, and the functions that they call, write no nonvolatile variable but its
+-- What a region leaves alone: its statements, and the functions that they call, change no nonvolatile variable but its
 -- targets.
 use Rattle.std.specs.Prelude.{◌≡◌, ◌<◌, ◌==◌, ℕ, ℤ, Bool, true, false, List, [], ◌∷◌, ◌++◌, All, length, take, sum_by, Option, Some, None, slice_get}
 use Rattle.std.specs.List.{list_any}

@@ -12,7 +12,8 @@ use std::alloc::{AllocError, Global};
 
 // Whether a statement stands in a region, or in a statement of it.
 fn stands_in(effects: &Effects, region: &Region, effect: &Effect) -> bool
-    ensures { result ≡ stands_in effects.now.program (region_view region.now) (effect_view effect.now) }
+    ensures { result
+        ≡ stands_in effects.now.program (region_view region.now) (effect_view effect.now) }
 {
     if effects.is_in_region(region, effect.stmt) {
         return true;
@@ -32,7 +33,8 @@ pub fn region_effects<'a>(
     region: &Region,
 ) -> Result<Vec<&'a Effect>, AllocError>
     requires { region.now.function < length effects.now.program.functions }
-    ensures { IfOk result (λ e. effects_seen e.items ≡ region_effects effects.now.program (region_view region.now)) }
+    ensures { IfOk result
+        (λ e. effects_seen e.items ≡ region_effects effects.now.program (region_view region.now)) }
 {
     let _checked = effects.checked().program();
     let mut inside = Vec::new(alloc);

@@ -48,7 +48,8 @@ impl<'a> Stored<'a> {
     /// Whether the function that is called assigns the variable, or one that it calls, directly or
     /// through others.
     pub fn is_assigned_by(&self, call: &Option<Called>) -> bool
-        ensures { result ≡ reaches self.now.program (option_map called_view call.now) self.now.name }
+        ensures { result
+            ≡ reaches self.now.program (option_map called_view call.now) self.now.name }
     {
         let _name = self.name;
         match call {
@@ -74,7 +75,9 @@ fn add_stored<'a>(
     stored: &mut Vec<Stored<'a>>,
 ) -> Result<(), AllocError>
     requires { assigned.now ≡ program.now.functions.items }
-    ensures { OnOk result (stored.new.items ≡ stored.old.items ++ stored_from (program_view program.now) index base names.now nv.now) }
+    ensures { OnOk result
+        (stored.new.items ≡ stored.old.items
+        ++ stored_from (program_view program.now) index base names.now nv.now) }
 {
     match names.split_first() {
         None => Ok(()),
@@ -106,7 +109,10 @@ pub fn all_stored<'a>(
     assigned: &Assigned,
 ) -> Result<Vec<Stored<'a>>, AllocError>
     requires { assigned.now ≡ program.now.functions.items }
-    ensures { IfOk result (λ s. s.items ≡ stored_from (program_view program.now) 0 0 (program_view program.now).names.nvs (program_view program.now).nv) }
+    ensures { IfOk result
+        (λ s. s.items
+        ≡ stored_from (program_view program.now) 0 0 (program_view program.now).names.nvs
+        (program_view program.now).nv) }
 {
     let mut stored = Vec::new(alloc);
     let names = program.names.nvs.as_slice();

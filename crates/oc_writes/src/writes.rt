@@ -63,7 +63,9 @@ fn add_stored(
     all: &[Stored],
     targets: &mut Vec<Target>,
 ) -> Result<(), AllocError>
-    ensures { OnOk result (targets.new.items ≡ targets.old.items ++ stored_targets through.now (effects_seen effects.now) all.now) }
+    ensures { OnOk result
+        (targets.new.items ≡ targets.old.items
+        ++ stored_targets through.now (effects_seen effects.now) all.now) }
 {
     for stored in all {
         if assigns_stored(through, effects, stored) {
@@ -103,7 +105,9 @@ fn add_params(
     params: &[Param],
     targets: &mut Vec<Target>,
 ) -> Result<(), AllocError>
-    ensures { OnOk result (targets.new.items ≡ targets.old.items ++ slot_targets through.now (effects_seen effects.now) 0 params.now) }
+    ensures { OnOk result
+        (targets.new.items ≡ targets.old.items
+        ++ slot_targets through.now (effects_seen effects.now) 0 params.now) }
 {
     let mut slot = 0;
     for param in params {
@@ -128,9 +132,12 @@ fn region_targets(
 ) -> Result<Vec<Target>, AllocError>
     requires same { effects.now.program ≡ program_view program.now }
     requires through { through.now ≡ program_view program.now }
-    requires stored { stored.now ≡ stored_from (program_view program.now) 0 0 (program_view program.now).names.nvs (program_view program.now).nv }
+    requires stored { stored.now
+        ≡ stored_from (program_view program.now) 0 0 (program_view program.now).names.nvs
+        (program_view program.now).nv }
     requires function { region.now.function < length program.now.functions.items }
-    ensures { IfOk result (λ t. t.items ≡ region_targets (program_view program.now) (region_view region.now)) }
+    ensures { IfOk result
+        (λ t. t.items ≡ region_targets (program_view program.now) (region_view region.now)) }
 {
     let inside = region_effects(alloc, effects, region)?;
     let function = &program.functions[region.function as usize];
@@ -155,9 +162,13 @@ fn targets_of(
 ) -> Result<Vec<Vec<Target>>, AllocError>
     requires same { effects.now.program ≡ program_view program.now }
     requires through { through.now ≡ program_view program.now }
-    requires stored { stored.now ≡ stored_from (program_view program.now) 0 0 (program_view program.now).names.nvs (program_view program.now).nv }
-    requires functions { (k : ℕ) (d : Region) → k < length regions.now → (get_or regions.now k d).function < length program.now.functions.items }
-    ensures { IfOk result (λ t. map (λ v. v.items) t.items ≡ map (region_targets (program_view program.now)) (map region_view regions.now)) }
+    requires stored { stored.now
+        ≡ stored_from (program_view program.now) 0 0 (program_view program.now).names.nvs
+        (program_view program.now).nv }
+    requires functions { (k : ℕ) (d : Region) → k < length regions.now
+        → (get_or regions.now k d).function < length program.now.functions.items }
+    ensures { IfOk result (λ t. map (λ v. v.items) t.items
+        ≡ map (region_targets (program_view program.now)) (map region_view regions.now)) }
 {
     let mut all = Vec::new(alloc);
     for region in regions {
@@ -176,8 +187,10 @@ fn tabled_targets(
 ) -> Result<Vec<Vec<Target>>, AllocError>
     requires same { effects.now.program ≡ program_view program.now }
     requires assigned { assigned.now ≡ program.now.functions.items }
-    requires functions { (k : ℕ) (d : Region) → k < length regions.now → (get_or regions.now k d).function < length program.now.functions.items }
-    ensures { IfOk result (λ t. map (λ v. v.items) t.items ≡ map (region_targets (program_view program.now)) (map region_view regions.now)) }
+    requires functions { (k : ℕ) (d : Region) → k < length regions.now
+        → (get_or regions.now k d).function < length program.now.functions.items }
+    ensures { IfOk result (λ t. map (λ v. v.items) t.items
+        ≡ map (region_targets (program_view program.now)) (map region_view regions.now)) }
 {
     let stored = all_stored(alloc, program, assigned)?;
     let through = Through::new(alloc, assigned.calls(), program)?;
@@ -198,8 +211,10 @@ fn all_targets(
     regions: &[Region],
 ) -> Result<Vec<Vec<Target>>, AllocError>
     requires same { effects.now.program ≡ program_view program.now }
-    requires functions { (k : ℕ) (d : Region) → k < length regions.now → (get_or regions.now k d).function < length program.now.functions.items }
-    ensures { IfOk result (λ t. map (λ v. v.items) t.items ≡ map (region_targets (program_view program.now)) (map region_view regions.now)) }
+    requires functions { (k : ℕ) (d : Region) → k < length regions.now
+        → (get_or regions.now k d).function < length program.now.functions.items }
+    ensures { IfOk result (λ t. map (λ v. v.items) t.items
+        ≡ map (region_targets (program_view program.now)) (map region_view regions.now)) }
 {
     let assigned = Assigned::new(alloc, program.functions.as_slice())?;
     tabled_targets(alloc, program, effects, &assigned, regions)
@@ -215,7 +230,8 @@ fn marked_targets(alloc: Global, marked: &Marked) -> Result<Vec<Vec<Target>>, Al
     Ok(targets)
 }
 
-/// The write targets of all regions. A region's statements write no other nonvolatile variable.
+/// The write targets of all regions. Behind a region's statements every other nonvolatile variable
+/// is as it was.
 pub fn may_write(alloc: Global, marked: &Marked) -> Result<WriteSets, Memory>
     ensures targets { IfOk result (λ w. w ≡ may_write marked.now) }
     ensures only { IfOk result (λ w. OnlyTargets marked.now w) }

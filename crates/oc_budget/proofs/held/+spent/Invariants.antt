@@ -3,7 +3,7 @@ use Rattle.oc_tree.specs.View.{block_view, stmts_view}
 use Rattle.oc_tree.specs.Marked.{is_in_region}
 use Rattle.oc_tree.specs.Regions.{region_view}
 use Rattle.oc_budget.specs.Budgets.{held_cost}
-use Rattle.oc_budget.specs.Spent.{block_spent, stmts_spent}
+use Rattle.oc_tree.specs.Picked.{block_spent, stmts_spent}
 use Rattle.oc_budget.proofs.held.+spent.Given as goal
 
 abbrev pub invariant-block_spent-loop-statement : goal.invariant-block_spent-loop-statement

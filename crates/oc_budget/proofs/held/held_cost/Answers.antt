@@ -1,7 +1,8 @@
 use Rattle.std.proofs.Common.{◌≡◌, ◌+◌, ℕ, List, None, ap, sym, ◌∙◌}
 use Rattle.oc_tree.specs.View.{kind_view}
 use Rattle.oc_budget.specs.Budgets.{held_cost}
-use Rattle.oc_budget.specs.Costs.{costs, inner_cost, is_use, probes}
+use Rattle.oc_budget.specs.Costs.{costs, is_use}
+use Rattle.oc_tree.specs.Costs.{probes, inner_cost}
 use Rattle.oc_budget.specs.Spent.{expr_seen, returned}
 use Rattle.oc_budget.proofs.SpentLaws.{held_other, some_same}
 use Rattle.oc_budget.proofs.held.held_cost.Goals as goal

@@ -3,7 +3,7 @@ use Rattle.oc_tree.specs.View.{function_view}
 use Rattle.oc_tree.specs.Marked.{is_in_region}
 use Rattle.oc_tree.specs.Regions.{region_view}
 use Rattle.oc_budget.specs.Budgets.{held_cost}
-use Rattle.oc_budget.specs.Spent.{functions_spent}
+use Rattle.oc_tree.specs.Picked.{functions_spent}
 use Rattle.oc_budget.proofs.held.region_spent.Given as goal
 
 abbrev pub invariant-loop-function : goal.invariant-loop-function

@@ -1,5 +1,6 @@
 use Rattle.std.proofs.Common.{◌≡◌}
-use Rattle.oc_budget.specs.Costs.{costs_to, is_use}
+use Rattle.oc_budget.specs.Costs.{is_use}
+use Rattle.oc_tree.specs.Costs.{costs_to}
 use Rattle.oc_budget.proofs.levels.all_costs.Given as goal
 
 abbrev pub invariant-loop-depth : goal.invariant-loop-depth

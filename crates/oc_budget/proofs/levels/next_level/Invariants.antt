@@ -1,6 +1,7 @@
 use Rattle.std.proofs.Common.{◌≡◌, ◌++◌, drop, map}
 use Rattle.oc_tree.specs.View.{function_view}
-use Rattle.oc_budget.specs.Costs.{function_cost, is_use}
+use Rattle.oc_budget.specs.Costs.{is_use}
+use Rattle.oc_tree.specs.Costs.{function_cost}
 use Rattle.oc_budget.proofs.levels.next_level.Given as goal
 
 abbrev pub invariant-loop-function : goal.invariant-loop-function

@@ -1,6 +1,7 @@
 use Rattle.std.proofs.Common.{◌≡◌, ◌+◌, drop}
 use Rattle.oc_tree.specs.View.{block_view, stmts_view}
-use Rattle.oc_budget.specs.Costs.{block_cost, stmts_cost, is_use}
+use Rattle.oc_budget.specs.Costs.{is_use}
+use Rattle.oc_tree.specs.Costs.{block_cost, stmts_cost}
 use Rattle.oc_budget.proofs.walk.+cost.Given as goal
 
 abbrev pub invariant-block_cost-loop-statement : goal.invariant-block_cost-loop-statement

@@ -1,0 +1,10 @@
+pub mod Lasting
+pub mod Leaving
+pub mod Bounded
+pub mod Compared
+pub mod Words
+pub mod Deeper
+pub mod Costed
+pub mod Summed
+pub mod Bare
+pub mod Settled

@@ -13,12 +13,13 @@ use oc_codegen::compile;
 use oc_desugar::expand;
 use oc_effects::effects::Effects;
 use oc_flow::flow::summaries;
-use oc_io::disk::{DiskShelf, StdSink};
+use oc_io::disk::DiskShelf;
 use oc_io::memory_shelf::MemoryShelf;
 use oc_io::memory_sink::MemorySink;
 use oc_io::period::Period;
 use oc_io::shelf::Shelf;
 use oc_io::sink::Sink;
+use oc_io::stream::StreamSink;
 use oc_lex::lex;
 use oc_meaning::run::{run_marked, run_source};
 use oc_needs::policy::policies;
@@ -42,6 +43,7 @@ use oc_types::check;
 use oc_undo::log::UndoLog;
 use oc_writes::writes::may_write;
 use std::alloc::{AllocError, Global};
+use std::io;
 
 /// Takes a sample and emits it.
 const SOURCE: &[u8] = b"sensor t; port r; fn main() { let x = sense(t); emit(r, x); }";
@@ -270,7 +272,7 @@ fn put_held<F: Shelf, O: Sink>(
 
 fn main(rt: HostRuntime) -> anyhow::Result<()> {
     let alloc = rt.alloc();
-    let mut out = StdSink::out(&rt);
+    let mut out = StreamSink::new(alloc, io::writer(&rt))?;
     parts(alloc, &mut out)?;
     tree(alloc, FRESH, &mut out)?;
     sensors(alloc, &mut out)?;

@@ -2,6 +2,7 @@ pub mod Taking
 pub mod Fetching
 pub mod Readings
 pub mod Unmarking
+pub mod Ending
 pub mod Honesty
 pub mod Building
 pub mod Preparing
@@ -12,6 +13,8 @@ pub mod Asking
 pub mod Parsing
 pub mod OneReading
 pub mod Exactly
+pub mod Working
+pub mod StandardPlans
 pub mod Naming
 pub mod Showing
 pub mod Printing

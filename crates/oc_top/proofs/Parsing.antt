@@ -1,5 +1,5 @@
 -- Sources that are no program.
-use Rattle.std.proofs.Common.{ℕ, zero, suc, ◌-◌, ◌≡◌, ◌⊎◌, ◌∙◌, sym, ap, refl, List, [], ◌∷◌, length, min, drop, Some, Err, inl, inr}
+use Rattle.std.proofs.Common.{Bool, true, false, cond, ℕ, zero, suc, ◌-◌, ◌≡◌, ◌⊎◌, ◌∙◌, sym, ap, refl, List, [], ◌∷◌, length, min, drop, Some, Err, inl, inr}
 use Rattle.std.specs.Prelude.{slice_get}
 use Rattle.std.proofs.lemmas.List.{length-map}
 use Rattle.oc_tree.specs.Names.{Text}
@@ -9,7 +9,8 @@ use Rattle.oc_lex.specs.declared.lexer.LexError.TheVariants as lex_error
 use Rattle.oc_lex.specs.declared.token.Kind.{Kind}
 use Rattle.oc_lex.specs.declared.token.Kind.TheVariants as kinds
 use Rattle.oc_lex.specs.declared.token.Token.{Token}
-use Rattle.oc_grammar.specs.Lexemes.{lexeme_by, lexemes_of, line_of, front_line}
+use Rattle.oc_lex.specs.declared.token.Word.{Word}
+use Rattle.oc_grammar.specs.Lexemes.{keyword, reserved, says, lexeme_by, lexemes_of, line_of, front_line}
 use Rattle.oc_parse.specs.declared.program.ParseError.{ParseError}
 use Rattle.oc_parse.specs.declared.program.ParseError.TheVariants as parse_error
 use Rattle.oc_parse.specs.Steps.{Faults}
@@ -19,10 +20,14 @@ use Rattle.oc_top.specs.Steps.{IsNotBuilt, for_tokens, for_tree}
 
 -- ---- lines of tokens
 
-line_by : (line : ℕ) (text : Text) (k : Kind) → line_of (lexeme_by line text k) ≡ line
+word_line : (line : ℕ) (w : Word) (b : Bool) → line_of (cond b (keyword line w) (reserved line)) ≡ line
+word_line line w true = refl
+word_line line w false = refl
+
+line_by : (line : ℕ) (text : Text) (k : Kind) → line_of (lexeme_by false line text k) ≡ line
 line_by line text kinds.Name = refl
 line_by line text (kinds.Number v) = refl
-line_by line text (kinds.Word w) = refl
+line_by line text (kinds.Word w) = word_line line w (says false w)
 line_by line text (kinds.Mark m) = refl
 
 module _ (source : List ℕ) where

@@ -7,16 +7,16 @@ use Rattle.oc_budget.specs.Budgets.{budgets}
 use Rattle.oc_top.specs.RegionLines.{regions_text}
 use Rattle.oc_top.specs.Verdict.{prints, regions_of, listing_of}
 use Rattle.oc_top.specs.Steps.{IsBuilt}
-use Rattle.oc_top.specs.Answers.{IsWritten}
+use Rattle.oc_top.specs.Answers.{Writes, IsWritten}
 use Rattle.oc_top.specs.Printed.{Tells, IsPrinted, put}
 use Rattle.oc_top.specs.declared.print.Told.{Told}
 use Rattle.oc_top.specs.declared.answer.Answer.{Answer}
 
-module _ {S : Type 0} (took : S → List ℕ → S → Type 0) (faults : S → ℕ) (old new : S) (end : Answer) (source : List ℕ) where
-  pub regions_printed : (t : Told) → Tells source t → IsWritten took faults old new (prints (regions_text t.marked (budgets t.marked))) end → IsPrinted source regions_of took faults old new end
+module _ (sink : Writes) (end : Answer) (source : List ℕ) where
+  pub regions_printed : (t : Told) → Tells source t → IsWritten sink (prints (regions_text t.marked (budgets t.marked))) end → IsPrinted source regions_of sink end
   regions_printed t told w =
       put told.marked.written told.marked.reads
-      (subst (λ (m : TMarked). IsWritten took faults old new (prints (regions_text m (budgets m))) end) told.marked.is_marked w)
+      (subst (λ (m : TMarked). IsWritten sink (prints (regions_text m (budgets m))) end) told.marked.is_marked w)
 
-  pub listing_printed : (parts : Parts) → IsBuilt source parts → IsWritten took faults old new (prints (listing_text parts)) end → IsPrinted source listing_of took faults old new end
-  listing_printed parts b w = put b.written b.reads (subst (λ (i : Parts). IsWritten took faults old new (prints (listing_text i)) end) b.is_code w)
+  pub listing_printed : (parts : Parts) → IsBuilt source parts → IsWritten sink (prints (listing_text parts)) end → IsPrinted source listing_of sink end
+  listing_printed parts b w = put b.written b.reads (subst (λ (i : Parts). IsWritten sink (prints (listing_text i)) end) b.is_code w)

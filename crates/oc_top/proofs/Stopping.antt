@@ -16,14 +16,15 @@ use Rattle.oc_items.specs.Told.{item_of}
 use Rattle.oc_machine.specs.Telling.{stop_of}
 use Rattle.oc_machine.specs.declared.stop.Stop.{Stop}
 use Rattle.oc_machine.specs.declared.stop.Stop.TheVariants as stops
-use Rattle.oc_outage.specs.Honest.{EndsWith, IsLeft, loses_checkpoint}
+use Rattle.oc_outage.specs.Honest.{IsLeft, loses_checkpoint}
+use Rattle.oc_items.specs.Reports.{EndsWith}
 use Rattle.oc_outage.proofs.Lasting.{last_item, lost_exactly}
 use Rattle.oc_io.specs.Faults.{Rose, TookPart}
 use Rattle.oc_io.proofs.Going.{Both}
 use Rattle.oc_sensors.specs.declared.sensors.Row.{Row}
 use Rattle.oc_sensors.specs.History.{history}
 use Rattle.oc_top.specs.Verdict.{Verdict, runs}
-use Rattle.oc_top.specs.Answers.{IsWritten, in_part}
+use Rattle.oc_top.specs.Answers.{writes, IsWritten, in_part}
 use Rattle.oc_top.proofs.Writing.{Stays, flushed_written, written_after}
 use Rattle.oc_top.specs.Reports.{last_said, answer_by, answer_of, text_of}
 use Rattle.oc_top.specs.declared.answer.Answer.{Answer}
@@ -105,7 +106,7 @@ module _ (parts : Parts) (h : ℕ → ℕ → ℤ) (periods : List Period) where
 same_verdict : (x y : Answer) (s t : List ℕ) → x ≡ y → s ≡ t → ◌≡◌ {A = Verdict} (record { answer = x; text = s }) (record { answer = y; text = t })
 same_verdict x y s t p q = ap (λ (z : Answer). record { answer = z; text = s }) p ∙ ap (λ (z : List ℕ). record { answer = y; text = z }) q
 
-module _ {S : Type 0} (took : S → List ℕ → S → Type 0) (faults : S → ℕ) (both : Both took) (parts : Parts) (rows : List Row) (periods : List Period) where
+module _ {S : Type 0} (took : S → List ℕ → S → Type 0) (held : S → List ℕ) (faults : S → ℕ) (both : Both took) (parts : Parts) (rows : List Row) (periods : List Period) where
   abbrev run : World
   run = world parts (history rows) periods
 
@@ -135,31 +136,32 @@ module _ {S : Type 0} (took : S → List ℕ → S → Type 0) (faults : S → �
       (ap (λ (z : Answer). text ++ cond (is_over_with parts (history rows) periods z) (variables parts (history rows) periods) []) e ∙ sym (text_is parts (history rows) periods))
 
   as_run : (a c : S) (x end : Answer) → x ≡ answer_at parts (history rows) periods run.state.phase
-      → IsWritten took faults a c (record { answer = x; text = text ++ cond (is_over_with parts (history rows) periods x) (variables parts (history rows) periods) [] }) end → IsWritten took faults a c (runs parts rows periods) end
-  as_run a c x end e w = subst (λ (v : Verdict). IsWritten took faults a c v end) (verdict_at x e) w
+      → IsWritten (writes took held faults a c) (record { answer = x; text = text ++ cond (is_over_with parts (history rows) periods x) (variables parts (history rows) periods) [] }) end → IsWritten (writes took held faults a c) (runs parts rows periods) end
+  as_run a c x end e w = subst (λ (v : Verdict). IsWritten (writes took held faults a c) v end) (verdict_at x e) w
 
   pub ended_written : (a b c : S) (count : ℕ) (end : Answer) → stops.End ≡ stop_of count run.state.phase → faults a ≤ faults b → took a text b
-      → IsWritten took faults b c (record { answer = answer.End; text = variables parts (history rows) periods }) end → IsWritten took faults a c (runs parts rows periods) end
-  ended_written a b c count end e le t w = as_run a c answer.End end (stopped_at stops.End count e) (written_after took faults both a b c text _ end le t w)
+      → IsWritten (writes took held faults b c) (record { answer = answer.End; text = variables parts (history rows) periods }) end → IsWritten (writes took held faults a c) (runs parts rows periods) end
+  ended_written a b c count end e le t w = as_run a c answer.End end (stopped_at stops.End count e) (written_after took held faults both a b c text _ end le t w)
 
   pub trapped_written : (a b c : S) (count : ℕ) (end : Answer) (kind : TrapKind) (site : ℕ) → stops.Trap kind site ≡ stop_of count run.state.phase → faults a ≤ faults b → took a text b
-      → IsWritten took faults b c (record { answer = answer.Trapped; text = variables parts (history rows) periods }) end → IsWritten took faults a c (runs parts rows periods) end
-  trapped_written a b c count end kind site e le t w = as_run a c answer.Trapped end (stopped_at (stops.Trap kind site) count e) (written_after took faults both a b c text _ end le t w)
+      → IsWritten (writes took held faults b c) (record { answer = answer.Trapped; text = variables parts (history rows) periods }) end → IsWritten (writes took held faults a c) (runs parts rows periods) end
+  trapped_written a b c count end kind site e le t w = as_run a c answer.Trapped end (stopped_at (stops.Trap kind site) count e) (written_after took held faults both a b c text _ end le t w)
 
-  flushed_run : (a b c : S) (x end : Answer) → x ≡ answer_at parts (history rows) periods run.state.phase → is_over_with parts (history rows) periods x ≡ false → faults a ≤ faults b → took a text b → took b [] c → Stays x end (Rose (faults b) (faults c)) → IsWritten took faults a c (runs parts rows periods) end
+  flushed_run : (a b c : S) (x end : Answer) → x ≡ answer_at parts (history rows) periods run.state.phase → is_over_with parts (history rows) periods x ≡ false → faults a ≤ faults b → took a text b → took b [] c → Stays x end (held c) (Rose (faults b) (faults c)) → IsWritten (writes took held faults a c) (runs parts rows periods) end
   flushed_run a b c x end e no_more le t n s =
       let whole_text : text ≡ text ++ cond (is_over_with parts (history rows) periods x) (variables parts (history rows) periods) [] = rw no_more (sym (append-nil text)) in
-      as_run a c x end e (subst (λ (u : List ℕ). IsWritten took faults a c (record { answer = x; text = u }) end) whole_text (flushed_written took faults both a b c x end text le t n s))
+      as_run a c x end e (subst (λ (u : List ℕ). IsWritten (writes took held faults a c) (record { answer = x; text = u }) end) whole_text (flushed_written took held faults both a b c x end text le t n s))
 
-  pub dark_written : (a b c : S) (count : ℕ) (end : Answer) → stops.Dark ≡ stop_of count run.state.phase → faults a ≤ faults b → took a text b → took b [] c → Stays answer.Dark end (Rose (faults b) (faults c)) → IsWritten took faults a c (runs parts rows periods) end
+  pub dark_written : (a b c : S) (count : ℕ) (end : Answer) → stops.Dark ≡ stop_of count run.state.phase → faults a ≤ faults b → took a text b → took b [] c → Stays answer.Dark end (held c) (Rose (faults b) (faults c)) → IsWritten (writes took held faults a c) (runs parts rows periods) end
   dark_written a b c count end e = flushed_run a b c answer.Dark end (stopped_at stops.Dark count e) refl
 
-  pub cut_written : (a b c : S) (count period : ℕ) (end : Answer) → stops.Cut period ≡ stop_of count run.state.phase → faults a ≤ faults b → took a text b → took b [] c → Stays answer.Cut end (Rose (faults b) (faults c)) → IsWritten took faults a c (runs parts rows periods) end
+  pub cut_written : (a b c : S) (count period : ℕ) (end : Answer) → stops.Cut period ≡ stop_of count run.state.phase → faults a ≤ faults b → took a text b → took b [] c → Stays answer.Cut end (held c) (Rose (faults b) (faults c)) → IsWritten (writes took held faults a c) (runs parts rows periods) end
   cut_written a b c count period end e = flushed_run a b c answer.Cut end (stopped_at (stops.Cut period) count e) refl
 
   abbrev rest : List ℕ
   rest = cond (is_over (map item_of run.report)) (variables parts (history rows) periods) []
 
   -- a part of the items' lines is a part of the text
-  pub part_written : (a c : S) (end : Answer) → end ≡ answer.WriteFault → Rose (faults a) (faults c) → TookPart took a text c → IsWritten took faults a c (runs parts rows periods) end
-  part_written a c end e rose p = in_part e rose (record { front = p.front; back = p.back ++ rest; split = ap (λ (t : List ℕ). t ++ rest) p.split ∙ append_assoc p.front p.back rest; taken = p.taken })
+  pub part_written : (a c : S) (end : Answer) → end ≡ answer.WriteFault → Rose (faults a) (faults c) → TookPart took a text c → IsWritten (writes took held faults a c) (runs parts rows periods) end
+  part_written a c end e rose p =
+      in_part e (record { rose = rose; front = p.front; back = p.back ++ rest; split = ap (λ (t : List ℕ). t ++ rest) p.split ∙ append_assoc p.front p.back rest; taken = p.taken })

@@ -9,7 +9,7 @@ use Rattle.oc_meaning.specs.Store.{Event}
 use Rattle.oc_meaning.specs.Run.{Trace, said_in}
 use Rattle.oc_meaning.specs.Unmarked.{is_mark, unmarked}
 use Rattle.oc_meaning.proofs.Bare.{only_tell}
-use Rattle.oc_outage.specs.Honest.{IsPrefixOf}
+use Rattle.oc_items.specs.Reports.{IsPrefixOf}
 use Rattle.oc_top.specs.Meant.{program_marked, program_run, program_said, plain_run, plain_said}
 
 said_on : (e : Event) (rest : List Event) (s : Said) → e.said ≡ s → map (λ (d : Event). d.said) (if is_mark s then rest else e ∷ rest) ≡ without_mark s (map (λ (d : Event). d.said) rest)

@@ -1,12 +1,12 @@
 -- What is answered, and why.
-use Rattle.std.specs.Prelude.{ℕ, ◌≡◌, ◌==◌, ◌||◌, ◌++◌, Bool, false, List, [], codes, decimal, Some, None}
-use Rattle.oc_io.specs.Faults.{Rose, TookPart}
-use Rattle.oc_io.specs.Held.{Held}
+use Rattle.std.specs.Prelude.{ℕ, suc, ◌+◌, ◌<◌, ◌≤◌, ◌≡◌, ◌⊎◌, ◌==◌, ◌||◌, ◌++◌, Bool, List, [], codes, decimal, Option, Some, None}
+use Rattle.oc_io.specs.Faults.{Rose}
+use Rattle.oc_io.specs.Held.{Held, nothing, Longer}
 use Rattle.oc_tree.specs.Tree.{TProgram}
-use Rattle.oc_top.specs.Commands.{Plans, Wanted, report, regions, listing, files_of, Task, task_of, word_at}
-use Rattle.oc_top.specs.Files.{Files, AreWanted, NotFetched}
+use Rattle.oc_top.specs.Commands.{Wanted, report, regions, listing, files_of, Task, word_at}
+use Rattle.oc_top.specs.Files.{Files, Fetches, AreWanted, WereFetched, limit_at, names_of}
 use Rattle.oc_top.specs.Sources.{Reading, ReadsAs, program}
-use Rattle.oc_top.specs.Verdict.{Verdict, verdict_on, is_of_run, refuses, prints, regions_of, listing_of}
+use Rattle.oc_top.specs.Verdict.{Verdict, verdict_on, refuses, prints, regions_of, listing_of}
 use Rattle.oc_top.specs.Headline.{IsRun}
 use Rattle.oc_top.specs.declared.answer.Answer.{Answer}
 use Rattle.oc_top.specs.declared.answer.Answer.TheVariants as answer
@@ -65,21 +65,119 @@ IsDone files (report plan) run = IsRun files plan run
 IsDone files regions run = IsPrint files regions_of run
 IsDone files listing run = IsPrint files listing_of run
 
--- the sink took all of a run's text, and this is its answer; or its faults rose, and it took a part
-pub data IsWritten {S : Type 0} (took : S → List ℕ → S → Type 0) (faults : S → ℕ) (old new : S) (run : Verdict) (end : Answer) : Type 0 where
-  whole : end ≡ run.answer → took old run.text new → IsWritten took faults old new run end
-  in_part : end ≡ answer.WriteFault → Rose (faults old) (faults new) → TookPart took old run.text new → IsWritten took faults old new run end
+-- ---- what is written
 
--- how an answer to a task comes of its files: one of them wasn't fetched; there was no memory; they are refused; or what is
--- wanted is done. Until that begins the sink takes nothing
-pub data Outcome {S : Type 0} (holds : List ℕ → Held) (words : List (List ℕ)) (task : Task) (unread : Type 0) (took : S → List ℕ → S → Type 0) (faults : S → ℕ) (old new : S) (end : Answer) : Type 0 where
-  not_fetched : NotFetched holds words task.first (files_of task.wanted) unread end → took old [] new → Outcome holds words task unread took faults old new end
-  no_memory : end ≡ answer.Memory → took old [] new → Outcome holds words task unread took faults old new end
-  refused : (files : Files) → AreWanted holds words task.first task.wanted files → is_of_run end ≡ false → IsJudged files task.wanted (refuses end) → took old [] new → Outcome holds words task unread took faults old new end
-  ran : (files : Files) → AreWanted holds words task.first task.wanted files → (run : Verdict) → IsDone files task.wanted run → IsWritten took faults old new run end → Outcome holds words task unread took faults old new end
+-- what a sink did in a call: which bytes it took, which of them it still holds back, and whether its faults rose
+pub record Writes : Type 1 where
+  pub took : List ℕ → Type 0
+  pub held : List ℕ
+  pub rose : Type 0
 
--- how an answer comes of the words, the supplies, what the shelf holds, and faults of shelf and sink that rose in this
--- call; and what the sink took
-pub data Comes {S : Type 0} (holds : List ℕ → Held) (plans : Plans) (words : List (List ℕ)) (unread : Type 0) (took : S → List ℕ → S → Type 0) (faults : S → ℕ) (old new : S) (end : Answer) : Type 0 where
-  no_command : task_of plans words ≡ None → end ≡ answer.Usage → took old [] new → Comes holds plans words unread took faults old new end
-  for_task : (task : Task) → task_of plans words ≡ Some task → Outcome holds words task unread took faults old new end → Comes holds plans words unread took faults old new end
+-- what a sink did from one state to another
+abbrev pub writes : {S : Type 0} → (S → List ℕ → S → Type 0) → (S → List ℕ) → (S → ℕ) → S → S → Writes
+writes took held faults old new = record {
+  took = λ text. took old text new;
+  held = held new;
+  rose = Rose (faults old) (faults new);
+}
+
+-- the sink took all of a text, and holds nothing back
+pub record TookAll (sink : Writes) (text : List ℕ) : Type 0 where
+  pub taken : sink.took text
+  pub written : sink.held ≡ []
+
+-- its faults rose, and it took a front part of the text
+pub record TookFront (sink : Writes) (text : List ℕ) : Type 0 where
+  pub rose : sink.rose
+  pub front : List ℕ
+  pub back : List ℕ
+  pub split : text ≡ front ++ back
+  pub taken : sink.took front
+
+-- all of a run's text was written, and this is its answer; or a part was
+pub data IsWritten (sink : Writes) (run : Verdict) (end : Answer) : Type 0 where
+  whole : end ≡ run.answer → TookAll sink run.text → IsWritten sink run end
+  in_part : end ≡ answer.WriteFault → TookFront sink run.text → IsWritten sink run end
+
+-- ---- calls
+
+-- a call: its words, what they ask for, if anything, and what the shelf and the standard output did
+pub record Call : Type 1 where
+  pub words : List (List ℕ)
+  pub task : Option Task
+  pub shelf : Fetches
+  pub out : Writes
+
+abbrev pub call_of : List (List ℕ) → Option Task → Fetches → Writes → Call
+call_of words task shelf out = record { words = words; task = task; shelf = shelf; out = out }
+
+-- no file is asked for, and nothing is written
+pub record IsNoTask (c : Call) : Type 0 where
+  pub none : c.task ≡ None
+  pub asked : c.shelf.asked []
+  pub silent : c.out.took []
+
+-- the files before this word were fetched, and its own wasn't, for this cause; none behind it was asked for
+pub record IsUnfetched (c : Call) (word : ℕ) (cause : Held → (limit : ℕ) → Type 0) : Type 0 where
+  pub task : Task
+  pub is_task : c.task ≡ Some task
+  pub place : ℕ
+  pub among : place < files_of task.wanted
+  pub is_word : word ≡ task.first + place
+  pub before : WereFetched c.shelf.holds c.words task.first place
+  pub asked : c.shelf.asked (names_of c.words task.first (suc place))
+  pub is_cause : cause (c.shelf.holds (word_at c.words (task.first + place))) (limit_at place)
+  pub silent : c.out.took []
+
+-- these are the files of what is asked for, and each was asked for once
+pub record HasFiles (c : Call) (task : Task) (files : Files) : Type 0 where
+  pub is_task : c.task ≡ Some task
+  pub are_files : AreWanted c.shelf.holds c.words task.first task.wanted files
+  pub asked : c.shelf.asked (names_of c.words task.first (files_of task.wanted))
+
+-- the files were fetched, and are refused with this answer
+pub record AreRefused (c : Call) (end : Answer) : Type 0 where
+  pub task : Task
+  pub files : Files
+  pub fetched : HasFiles c task files
+  pub judged : IsJudged files task.wanted (refuses end)
+  pub silent : c.out.took []
+
+-- the files were fetched, and of what was done with them this came
+pub record WasDone (c : Call) (outcome : Verdict → Type 0) : Type 0 where
+  pub task : Task
+  pub files : Files
+  pub fetched : HasFiles c task files
+  pub run : Verdict
+  pub done : IsDone files task.wanted run
+  pub came : outcome run
+
+-- all that was to be written was, and this is the answer
+pub record IsWhole (c : Call) (end : Answer) (run : Verdict) : Type 0 where
+  pub answered : end ≡ run.answer
+  pub written : TookAll c.out run.text
+
+-- some of the files were asked for, and nothing is written
+pub record HadNoMemory (c : Call) : Type 0 where
+  pub task : Task
+  pub is_task : c.task ≡ Some task
+  pub count : ℕ
+  pub few : count ≤ files_of task.wanted
+  pub asked : c.shelf.asked (names_of c.words task.first count)
+  pub silent : c.out.took []
+
+-- why a call has its answer, in the order of the statuses
+abbrev pub Comes : Call → Answer → Type 0
+Comes c answer.End = WasDone c (IsWhole c answer.End)
+Comes c answer.Usage = IsNoTask c
+Comes c (answer.Unreadable word) = IsUnfetched c word (λ held limit. c.shelf.rose ⊎ (held ≡ nothing))
+Comes c (answer.TooLong word) = IsUnfetched c word Longer
+Comes c (answer.Syntax line) = AreRefused c (answer.Syntax line)
+Comes c (answer.Rule line rule) = AreRefused c (answer.Rule line rule)
+Comes c (answer.BadSensors row) = AreRefused c (answer.BadSensors row)
+Comes c (answer.BadPower row) = AreRefused c (answer.BadPower row)
+Comes c answer.Trapped = WasDone c (IsWhole c answer.Trapped)
+Comes c answer.Dark = WasDone c (IsWhole c answer.Dark)
+Comes c answer.WriteFault = WasDone c (λ run. TookFront c.out run.text)
+Comes c answer.Memory = HadNoMemory c
+Comes c answer.Cut = WasDone c (IsWhole c answer.Cut)

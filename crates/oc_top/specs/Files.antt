@@ -1,5 +1,6 @@
 -- The files that are read: a source and, for a run, its sensors and its power.
-use Rattle.std.specs.Prelude.{ℕ, zero, suc, ◌+◌, ◌<◌, ◌≤◌, ◌≡◌, ◌⊎◌, List, length}
+use Rattle.std.specs.Prelude.{ℕ, zero, suc, ◌+◌, ◌<◌, ◌≤◌, ◌≡◌, ◌⊎◌, List, [], ◌∷◌, ◌++◌, length}
+use Rattle.oc_io.specs.Faults.{Rose}
 use Rattle.oc_io.specs.Held.{Held, nothing, content, Gives, Longer}
 use Rattle.oc_top.specs.Commands.{Wanted, report, word_at}
 use Rattle.oc_top.specs.declared.files.Fetched.{Fetched}
@@ -62,6 +63,32 @@ abbrev pub WereFetched : (List ℕ → Held) → List (List ℕ) → ℕ → ℕ
 WereFetched holds words first place =
     (k : ℕ) → k < place → (bytes : List ℕ) × IsFile (holds (word_at words (first + k))) (limit_at k) bytes
 
+-- ---- fetching
+
+-- what a shelf did in a call: what it holds, for which names it was asked, each with its limit, and whether its faults rose
+pub record Fetches : Type 1 where
+  pub holds : List ℕ → Held
+  pub asked : List (List ℕ × ℕ) → Type 0
+  pub rose : Type 0
+
+-- what a shelf did from one state to another
+abbrev pub fetches : {F : Type 0} → (F → List ℕ → Held) → (F → List (List ℕ × ℕ) → F → Type 0) → (F → ℕ) → F → F → Fetches
+fetches holds asked faults old new = record {
+  holds = holds old;
+  asked = λ names. asked old names new;
+  rose = Rose (faults old) (faults new);
+}
+
+-- a shelf holds what it held, and its count of faults doesn't fall
+pub record ShelfStays {F : Type 0} (holds : F → List ℕ → Held) (faults : F → ℕ) (old new : F) : Type 0 where
+  pub held : (name : List ℕ) → holds new name ≡ holds old name
+  pub count : faults old ≤ faults new
+
+-- so many files, in the order of their words, each with its limit
+abbrev pub names_of : List (List ℕ) → (first count : ℕ) → List (List ℕ × ℕ)
+names_of words first zero = []
+names_of words first (suc k) = names_of words first k ++ (word_at words (first + k), limit_at k) ∷ []
+
 -- why the file at a place wasn't fetched: the shelf's faults rose, or it tells that nothing is there; or the file is longer
 -- than its limit; or there was no memory
 abbrev pub IsRefused : Held → ℕ → ℕ → Type 0 → Answer → Type 0
@@ -70,9 +97,10 @@ IsRefused held limit word unread (answer.TooLong w) = (w ≡ word) × Longer hel
 IsRefused held limit word unread answer.Memory = Unit {0}
 IsRefused held limit word unread end = ⊥
 
--- one of so many files, the first of which has its word at this place, wasn't fetched
-pub record NotFetched (holds : List ℕ → Held) (words : List (List ℕ)) (first count : ℕ) (unread : Type 0) (end : Answer) : Type 0 where
+-- one of so many files, the first of which has its word at this place, wasn't fetched, and none behind it was asked for
+pub record NotFetched (shelf : Fetches) (words : List (List ℕ)) (first count : ℕ) (end : Answer) : Type 0 where
   pub place : ℕ
   pub among : place < count
-  pub before : WereFetched holds words first place
-  pub refused : IsRefused (holds (word_at words (first + place))) (limit_at place) (first + place) unread end
+  pub before : WereFetched shelf.holds words first place
+  pub asked : shelf.asked (names_of words first (suc place))
+  pub refused : IsRefused (shelf.holds (word_at words (first + place))) (limit_at place) (first + place) shelf.rose end

@@ -1,5 +1,5 @@
 -- What the report of a run keeps, whenever power fails.
-use Rattle.std.specs.Prelude.{ℕ, ℤ, ◌≡◌, false, List, ◌++◌}
+use Rattle.std.specs.Prelude.{ℕ, suc, ℤ, ◌≡◌, false, List, [], ◌++◌}
 use Rattle.oc_io.specs.declared.period.Period.{Period}
 use Rattle.oc_power.specs.Power.{power_file}
 use Rattle.oc_power.specs.Power as power_rows
@@ -11,11 +11,17 @@ use Rattle.oc_tree.specs.Tree.{TProgram}
 use Rattle.oc_tree.specs.Said.{Told}
 use Rattle.oc_tree.specs.declared.said.Ending.{Ending}
 use Rattle.oc_tree.specs.declared.said.Said.TheVariants.{Ended}
-use Rattle.oc_isa.specs.Power.{power_run}
+use Rattle.oc_isa.specs.Power.{World, power_run}
 use Rattle.oc_isa.specs.Table.{device_of}
+use Rattle.oc_isa.specs.declared.phase.Phase.TheVariants.{Over}
 use Rattle.oc_items.specs.Erase.{erase, marked, kept, kept_samples, HasNoOffInside}
-use Rattle.oc_outage.specs.Honest.{IsPrefixOf, AreRead, EndsWith}
-use Rattle.oc_top.specs.Meant.{program_code, program_run, program_said, plain_run, plain_said}
+use Rattle.oc_tree.specs.Expansion.{expansion}
+use Rattle.oc_items.specs.Reports.{IsPrefixOf, EndsWith}
+use Rattle.oc_honest.specs.Timely.{IsTimely}
+use Rattle.oc_outage.specs.Honest.{AreRead}
+use Rattle.oc_bounds.specs.Bounds.{AreSafe}
+use Rattle.oc_bounds.specs.Attempts.{AttemptsClose}
+use Rattle.oc_top.specs.Meant.{program_code, program_bounds, program_run, program_said, plain_run, plain_said}
 use Rattle.oc_top.specs.Commands.{Plan}
 use Rattle.oc_top.specs.Files.{Files}
 use Rattle.oc_top.specs.Sources.{ReadsAs, program}
@@ -23,11 +29,13 @@ use Rattle.oc_top.specs.Verdict.{Verdict, runs}
 
 -- Without its aborted attempts, the report says what the program says over the kept samples, with the marks of its
 -- regions, or a prefix of it; so without marks it says what the program says as if it had no regions, or a prefix of it.
--- No outage lies in a region, and each input has what its sensor had at that tick
+-- No outage lies in a region, between an input and a use of what depends on it, or among the inputs of a consistent set; and
+-- each input has what its sensor had at that tick
 pub record IsHonest (p : TProgram) (h : ℕ → ℕ → ℤ) (report : List Told) : Type 0 where
   pub said : IsPrefixOf (marked report) (program_said p (kept_samples report))
   pub shown : IsPrefixOf (kept report) (plain_said p (kept_samples report))
   pub outside : HasNoOffInside false (erase report)
+  pub timely : IsTimely (expansion p) report (plain_run p (kept_samples report)).events
   pub read : AreRead h report
 
 -- without its aborted attempts, the report is the whole run, with its marks and without them, and these are the nonvolatile
@@ -38,13 +46,20 @@ pub record IsWholeRun (p : TProgram) (report : List Told) (nv : List ℤ) : Type
   pub left : nv ≡ (program_run p (kept_samples report)).nv
   pub left_plain : nv ≡ (plain_run p (kept_samples report)).nv
 
--- every prefix of a report is honest, and a report that ends is the whole run and leaves its nonvolatile words
+-- every prefix of a report is honest; a prefix that ends with `end` or `trap` is all of it, the whole run, which leaves its
+-- nonvolatile words
 pub record IsHonestThroughout (p : TProgram) (h : ℕ → ℕ → ℤ) (report : List Told) (nv : List ℤ) : Type 0 where
   pub honest : (front rest : List Told) → front ++ rest ≡ report → IsHonest p h front
-  pub whole : (how : Ending) → EndsWith report (Ended how) → IsWholeRun p report nv
+  pub whole : (how : Ending) (front rest : List Told) → front ++ rest ≡ report → EndsWith front (Ended how) → (rest ≡ []) × IsWholeRun p front nv
+
+-- the machine with the image of a program, over what the sensors showed and these periods
+abbrev pub program_power : TProgram → List Row → List Period → World
+program_power p rows periods = power_run (device_of (program_code p)) (history rows) periods
 
 -- a run of the program that a source spells, over what the sensors showed and the periods that the supply told:
--- its answer and its text are those of the report, and the report is honest
+-- its answer and its text are those of the report, and the report is honest. An attempt of a region that begins with its budget of
+-- steps left in its period is closed before any outage, by its commit or a trap; and where one more of the first periods than the
+-- program's total are safe, the run ends
 pub record IsRun (files : Files) (plan : Plan) (run : Verdict) : Type 0 where
   pub written : TProgram
   pub spelled : ReadsAs files.source (program written)
@@ -53,4 +68,6 @@ pub record IsRun (files : Files) (plan : Plan) (run : Verdict) : Type 0 where
   pub periods : List Period
   pub powered : power_file files.power ≡ power_rows.periods periods
   pub is_run : run ≡ runs (program_code written) rows (plan periods)
-  pub honest : IsHonestThroughout written (history rows) (power_run (device_of (program_code written)) (history rows) (plan periods)).report (power_run (device_of (program_code written)) (history rows) (plan periods)).state.nv
+  pub honest : IsHonestThroughout written (history rows) (program_power written rows (plan periods)).report (program_power written rows (plan periods)).state.nv
+  pub attempts : AttemptsClose (program_bounds written) (plan periods) (program_power written rows (plan periods)).report
+  pub ends : AreSafe (program_bounds written) (suc (program_bounds written).total) (plan periods) → (how : Ending) × ((program_power written rows (plan periods)).state.phase ≡ Over how)

@@ -7,6 +7,8 @@ pub mod Meant
 pub mod Verdict
 pub mod Headline
 pub mod Answers
+pub mod Works
+pub mod Supplies
 pub mod Steps
 pub mod RegionLines
 pub mod DeclaredNames

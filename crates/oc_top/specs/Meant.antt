@@ -7,11 +7,14 @@ use Rattle.oc_tree.specs.declared.said.Said.{Said}
 use Rattle.oc_isa.specs.Image.{Parts}
 use Rattle.oc_isa.specs.Run.{continuous_run}
 use Rattle.oc_isa.specs.Table.{device_of}
+use Rattle.oc_bounds.specs.Bounds.{Bounds}
 use Rattle.oc_meaning.specs.Run.{Trace, marked_run, source_run, said_in}
 use Rattle.oc_region.specs.Regions.{marked}
 use Rattle.oc_writes.specs.Targets.{may_write}
 use Rattle.oc_code.specs.Code.{code_of}
 use Rattle.oc_code.specs.Right.{Shows}
+use Rattle.oc_budget.specs.Budgets.{budgets}
+use Rattle.oc_budget.specs.Bounding.{bounds_of}
 
 -- its expansion, with the policies of its annotations and the regions that these ask for
 abbrev pub program_marked : TProgram → TMarked
@@ -24,6 +27,10 @@ marked_code m = code_of m.program m.regions (may_write m)
 -- its image
 abbrev pub program_code : TProgram → Parts
 program_code p = marked_code (program_marked p)
+
+-- the numbers that are shown with its regions, as bounds of runs
+abbrev pub program_bounds : TProgram → Bounds
+program_bounds p = bounds_of (budgets (program_marked p))
 
 -- its run over these samples, with the marks of its regions
 abbrev pub program_run : TProgram → List ℤ → Trace

@@ -7,7 +7,7 @@ use Rattle.oc_top.specs.Sources.{ReadsAs, program}
 use Rattle.oc_top.specs.Verdict.{prints}
 use Rattle.oc_top.specs.Steps.{IsMarkedOf, IsNotBuilt}
 use Rattle.oc_top.specs.RegionDetails.{HasDetails}
-use Rattle.oc_top.specs.Answers.{IsWritten}
+use Rattle.oc_top.specs.Answers.{Writes, IsWritten}
 use Rattle.oc_top.specs.declared.print.Told.{Told}
 use Rattle.oc_top.specs.declared.answer.Answer.{Answer}
 
@@ -19,6 +19,6 @@ pub record Tells (source : List ℕ) (t : Told) : Type 0 where
 
 -- the source is refused with this answer, or there was no memory, and the sink takes nothing; or this text of its program is
 -- written
-pub data IsPrinted {S : Type 0} (source : List ℕ) (text : TProgram → List ℕ) (took : S → List ℕ → S → Type 0) (faults : S → ℕ) (old new : S) (end : Answer) : Type 0 where
-  not_built : IsNotBuilt source end → took old [] new → IsPrinted source text took faults old new end
-  put : (p : TProgram) → ReadsAs source (program p) → IsWritten took faults old new (prints (text p)) end → IsPrinted source text took faults old new end
+pub data IsPrinted (source : List ℕ) (text : TProgram → List ℕ) (sink : Writes) (end : Answer) : Type 0 where
+  not_built : IsNotBuilt source end → sink.took [] → IsPrinted source text sink end
+  put : (p : TProgram) → ReadsAs source (program p) → IsWritten sink (prints (text p)) end → IsPrinted source text sink end

@@ -3,7 +3,8 @@ use Rattle.std.specs.Prelude.{ℕ, ◌+◌, ◌≡◌, List, Some, None, take}
 use Rattle.oc_tree.specs.Tree.{TProgram}
 use Rattle.oc_tree.specs.Broken.{broken}
 use Rattle.oc_tree.specs.declared.broken.Broken.{Broken}
-use Rattle.oc_lex.specs.Tokens.{AreTokens, HasFault, line_feeds}
+use Rattle.oc_lex.specs.Tokens.{AreTokens, HasFault}
+use Rattle.oc_io.specs.Counts.{line_feeds}
 use Rattle.oc_lex.specs.declared.token.Token.{Token}
 use Rattle.oc_lex.specs.declared.lexer.LexError.{LexError}
 use Rattle.oc_lex.specs.declared.lexer.LexError.TheVariants as fault

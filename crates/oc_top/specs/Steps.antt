@@ -26,13 +26,15 @@ use Rattle.oc_isa.specs.Image.{Parts}
 use Rattle.oc_isa.specs.Power.{first_state}
 use Rattle.oc_isa.specs.Run.{IsSound}
 use Rattle.oc_isa.specs.Table.{device_of}
+use Rattle.oc_honest.specs.Timely.{RunsAreTimely}
 use Rattle.oc_machine.specs.Kept.{Running}
-use Rattle.oc_top.specs.Meant.{program_marked, program_code, RunsAs}
+use Rattle.oc_bounds.specs.Bounds.{IsBounded}
+use Rattle.oc_top.specs.Meant.{program_marked, program_code, RunsAs, program_bounds}
 use Rattle.oc_top.specs.Commands.{Plan}
 use Rattle.oc_top.specs.Files.{Files}
 use Rattle.oc_top.specs.Faults.{token_line}
 use Rattle.oc_top.specs.Sources.{Reading, ReadsAs, Spells, faulty, breaks, program, line_at}
-use Rattle.oc_top.specs.Verdict.{verdict, is_of_run, refuses}
+use Rattle.oc_top.specs.Verdict.{verdict, is_refusal, refuses}
 use Rattle.oc_top.specs.declared.answer.Answer.{Answer}
 use Rattle.oc_top.specs.declared.answer.Answer.TheVariants as answer
 
@@ -66,11 +68,12 @@ pub record IsAccepted (source : List ℕ) (p : TProgram) : Type 0 where
   pub spelled : Spells source p
   pub unbroken : broken p ≡ None
 
--- the program that a source spells, with its policies and regions
+-- the program that a source spells, with its policies and regions: each of its runs is timely
 pub record IsMarkedOf (source : List ℕ) (m : TMarked) : Type 0 where
   pub written : TProgram
   pub reads : ReadsAs source (program written)
   pub is_marked : m ≡ program_marked written
+  pub timely : RunsAreTimely m
 
 -- the image of the program that a source spells
 pub record IsBuilt (source : List ℕ) (parts : Parts) : Type 0 where
@@ -79,6 +82,8 @@ pub record IsBuilt (source : List ℕ) (parts : Parts) : Type 0 where
   pub is_code : parts ≡ program_code written
   pub sound : IsSound (device_of parts)
   pub runs : RunsAs parts written
+  pub bounded : IsBounded (device_of parts) (program_bounds written)
+  pub timely : RunsAreTimely (program_marked written)
 
 -- why there is no marked program of a source, and no image
 abbrev pub IsNotBuilt : List ℕ → Answer → Type 0
@@ -110,4 +115,4 @@ pub record IsReady (files : Files) (plan : Plan) (machine : Running) (sensors : 
 -- the files are refused with this answer, or there was no memory
 pub data IsTurnedDown (files : Files) (plan : Plan) (end : Answer) : Type 0 where
   by_memory : end ≡ answer.Memory → IsTurnedDown files plan end
-  by_files : (reading : Reading) → ReadsAs files.source reading → is_of_run end ≡ false → verdict reading files plan ≡ refuses end → IsTurnedDown files plan end
+  by_files : (reading : Reading) → ReadsAs files.source reading → is_refusal end ≡ true → verdict reading files plan ≡ refuses end → IsTurnedDown files plan end

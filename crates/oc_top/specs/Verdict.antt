@@ -28,13 +28,21 @@ pub record Verdict : Type 0 where
   pub answer : Answer
   pub text : List ℕ
 
--- the answer to a run or to a text that was written, and not to files that are refused
+-- the answer to a run or to a text that was written
 abbrev pub is_of_run : Answer → Bool
 is_of_run answer.End = true
 is_of_run answer.Trapped = true
 is_of_run answer.Dark = true
 is_of_run answer.Cut = true
 is_of_run other = false
+
+-- the answer to files that are refused
+abbrev pub is_refusal : Answer → Bool
+is_refusal (answer.Syntax line) = true
+is_refusal (answer.Rule line rule) = true
+is_refusal (answer.BadSensors row) = true
+is_refusal (answer.BadPower row) = true
+is_refusal other = false
 
 abbrev pub refuses : Answer → Verdict
 refuses end = record { answer = end; text = [] }

@@ -2,7 +2,7 @@
 ghost use Rattle.std.specs.Prelude.{◌≡◌, ◌≤◌, ◌⊎◌, map, OnOk, OnErr};
 ghost use Rattle.std.specs.String.{string_bytes};
 ghost use Rattle.oc_io.specs.Faults.{Rose, TookPart};
-ghost use Rattle.oc_top.specs.Answers.{line_of, status_of};
+ghost use Rattle.oc_top.specs.Answers.{TookAll, TookFront, line_of, status_of, writes};
 ghost use Rattle.oc_top.specs.Commands.{word_at};
 ghost use Rattle.oc_top.specs.declared.answer.Answer.TheVariants as answers;
 
@@ -92,8 +92,10 @@ fn word_bytes(words: &[String], place: usize) -> &[u8]
 
 /// Writes the line of an answer, which may be empty.
 fn put_line_of<E: Sink>(answer: Answer, words: &[String], err: &mut E) -> Result<(), SinkFault>
-    ensures ok { OnOk result (E.took err.old (line_of (map string_bytes words.now) answer) err.new) }
-    ensures part { OnErr result (TookPart E.took err.old (line_of (map string_bytes words.now) answer) err.new) }
+    ensures ok { OnOk result
+        (E.took err.old (line_of (map string_bytes words.now) answer) err.new) }
+    ensures part { OnErr result
+        (TookPart E.took err.old (line_of (map string_bytes words.now) answer) err.new) }
     ensures cause { OnErr result (Rose (E.faults err.old) (E.faults err.new)) }
     ensures count { E.faults err.old ≤ E.faults err.new }
 {
@@ -135,9 +137,12 @@ fn put_line_of<E: Sink>(answer: Answer, words: &[String], err: &mut E) -> Result
     }
 }
 
-/// Writes the line of an answer. At a fault a part of the line was taken.
+/// Writes the line of an answer, and holds nothing back. At a fault a part of the line was taken.
 pub fn put_line<E: Sink>(answer: Answer, words: &[String], err: &mut E)
-    ensures { E.took err.old (line_of (map string_bytes words.now) answer) err.new ⊎ (Rose (E.faults err.old) (E.faults err.new) × TookPart E.took err.old (line_of (map string_bytes words.now) answer) err.new) }
+    ensures { TookAll (writes E.took E.held E.faults err.old err.new)
+        (line_of (map string_bytes words.now) answer)
+        ⊎ TookFront (writes E.took E.held E.faults err.old err.new)
+        (line_of (map string_bytes words.now) answer) }
 {
     match put_line_of(answer, words, err) {
         Ok(()) => {

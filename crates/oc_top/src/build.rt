@@ -4,18 +4,25 @@ ghost use Rattle.oc_tree.specs.View.{program_view};
 ghost use Rattle.oc_tree.specs.Form.{InForm};
 ghost use Rattle.oc_tree.specs.Nodes.{program_nodes};
 ghost use Rattle.oc_lex.specs.Stands.{IsName};
-ghost use Rattle.oc_lex.specs.Tokens.{AreTokens, line_feeds};
+ghost use Rattle.oc_lex.specs.Tokens.{AreTokens};
+ghost use Rattle.oc_io.specs.Counts.{line_feeds};
 ghost use Rattle.oc_grammar.specs.Lexemes.{lexemes_of};
 ghost use Rattle.oc_needs.specs.Requirements.{requirements};
 ghost use Rattle.oc_needs.specs.View.{requirement_view};
 ghost use Rattle.oc_writes.specs.Targets.{may_write};
+ghost use Rattle.oc_isa.specs.Table.{device_of};
+ghost use Rattle.oc_bounds.specs.Bounds.{IsBounded};
+ghost use Rattle.oc_budget.specs.Budgets.{budgets};
+ghost use Rattle.oc_budget.specs.Bounding.{bounds_of};
 ghost use Rattle.oc_code.specs.Right.{IsRight};
+ghost use Rattle.oc_honest.specs.Timely.{RunsAreTimely};
 ghost use Rattle.oc_top.specs.Faults.{token_line};
 ghost use Rattle.oc_top.specs.Meant.{marked_code, program_marked};
 ghost use Rattle.oc_top.specs.Sources.{Spells, line_at};
 ghost use Rattle.oc_top.specs.Steps.{IsAccepted, IsMarkedOf, IsNotBuilt, for_rules, for_tokens, for_tree};
 
 use crate::answer::Answer;
+use oc_budget::laws::budgets_bound;
 use oc_codegen::compile;
 use oc_desugar::expand;
 use oc_flow::flow::summaries;
@@ -143,7 +150,8 @@ fn required(alloc: Global, checked: &Checked) -> Result<Vec<Requirement>, Memory
 
 /// The expansion of a written program, with the regions that its annotations ask for.
 fn with_regions(alloc: Global, written: Written) -> Result<Marked, Memory>
-    ensures { IfOk result (λ m. m ≡ program_marked written) }
+    ensures marked { IfOk result (λ m. m ≡ program_marked written) }
+    ensures timely { IfOk result (λ m. RunsAreTimely m) }
 {
     let checked = match expand(alloc, written) {
         Ok(checked) => checked,
@@ -169,11 +177,17 @@ pub fn marked_of(alloc: Global, source: &[u8]) -> Result<Marked, Answer>
     Ok(marked)
 }
 
-/// The image of a marked program, with the write targets of its regions.
+/// The image of a marked program, with the write targets of its regions. The budgets of the program
+/// bound its runs.
 pub fn image_of(alloc: Global, marked: &Marked) -> Result<Image, Memory>
     ensures code { IfOk result (λ i. i ≡ marked_code marked.now) }
-    ensures right { IfOk result (λ i. IsRight marked.now.program marked.now.regions (may_write marked.now)) }
+    ensures right { IfOk result
+        (λ i. IsRight marked.now.program marked.now.regions (may_write marked.now)) }
+    ensures bounded { IfOk result
+        (λ i. IsBounded (device_of i) (bounds_of (budgets marked.now))) }
 {
+    budgets_bound();
+    marked.checked();
     let writes = may_write(alloc, marked)?;
     let image = compile(alloc, marked, &writes)?;
     Ok(image)

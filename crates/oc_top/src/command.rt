@@ -95,7 +95,9 @@ pub fn read_command(words: &[String]) -> Option<Command>
 
 /// Whether three words may stand for files.
 fn are_files(source: &String, sensors: &String, power: &String) -> bool
-    ensures { result ≡ files_named (string_bytes source.now) (string_bytes sensors.now) (string_bytes power.now) }
+    ensures { result
+        ≡ files_named (string_bytes source.now) (string_bytes sensors.now)
+        (string_bytes power.now) }
 {
     names_file(source.as_str()) && names_file(sensors.as_str()) && names_file(power.as_str())
 }

@@ -1,9 +1,9 @@
 //! Fetching files.
-ghost use Rattle.std.specs.Prelude.{◌≡◌, ℕ, ◌+◌, ◌<◌, ◌≤◌, List, length, map, IfOk, IfErr};
+ghost use Rattle.std.specs.Prelude.{◌+◌, ◌<◌, [], ◌∷◌, length, map, IfOk, IfErr, OnOk};
 ghost use Rattle.std.specs.String.{string_bytes};
 ghost use Rattle.oc_io.specs.Faults.{Rose};
 ghost use Rattle.oc_top.specs.Commands.{word_at};
-ghost use Rattle.oc_top.specs.Files.{AreFiles, IsFile, IsRefused, NotFetched, bytes_of, limit_at};
+ghost use Rattle.oc_top.specs.Files.{AreFiles, IsFile, IsRefused, NotFetched, ShelfStays, bytes_of, fetches, limit_at, names_of};
 
 use crate::answer::Answer;
 use oc_io::shelf::{Shelf, ShelfError};
@@ -32,10 +32,15 @@ fn fetch_word<F: Shelf>(
     shelf: &mut F,
 ) -> Result<Vec<u8>, Answer>
     requires { word < length words.now }
-    ensures file { IfOk result (λ v. IsFile (F.holds shelf.old (word_at (map string_bytes words.now) word)) limit v.items) }
-    ensures refused { IfErr result (λ a. IsRefused (F.holds shelf.old (word_at (map string_bytes words.now) word)) limit word (Rose (F.faults shelf.old) (F.faults shelf.new)) a) }
-    ensures kept { (name : List ℕ) → F.holds shelf.new name ≡ F.holds shelf.old name }
-    ensures count { F.faults shelf.old ≤ F.faults shelf.new }
+    ensures file { IfOk result
+        (λ v. IsFile (F.holds shelf.old (word_at (map string_bytes words.now) word)) limit
+        v.items) }
+    ensures refused { IfErr result
+        (λ a. IsRefused (F.holds shelf.old (word_at (map string_bytes words.now) word)) limit word
+        (Rose (F.faults shelf.old) (F.faults shelf.new)) a) }
+    ensures once { F.asked shelf.old ((word_at (map string_bytes words.now) word, limit) ∷ [])
+        shelf.new }
+    ensures stays { ShelfStays F.holds F.faults shelf.old shelf.new }
 {
     match shelf.fetch(alloc, words[word].as_str(), limit) {
         Ok(bytes) => Ok(bytes),
@@ -55,8 +60,14 @@ pub fn fetch_files<F: Shelf>(
     shelf: &mut F,
 ) -> Result<Fetched, Answer>
     requires { first + 2 < length words.now }
-    ensures files { IfOk result (λ f. AreFiles (F.holds shelf.old) (map string_bytes words.now) first (bytes_of f)) }
-    ensures refused { IfErr result (λ a. NotFetched (F.holds shelf.old) (map string_bytes words.now) first 3 (Rose (F.faults shelf.old) (F.faults shelf.new)) a) }
+    ensures files { IfOk result
+        (λ f. AreFiles (F.holds shelf.old) (map string_bytes words.now) first (bytes_of f)) }
+    ensures refused { IfErr result
+        (λ a. NotFetched (fetches F.holds F.asked F.faults shelf.old shelf.new)
+        (map string_bytes words.now) first 3 a) }
+    ensures asked { OnOk result
+        (F.asked shelf.old (names_of (map string_bytes words.now) first 3) shelf.new) }
+    ensures stays { ShelfStays F.holds F.faults shelf.old shelf.new }
 {
     let source = fetch_word(alloc, words, first, SOURCE_LIMIT, shelf)?;
     let sensors = fetch_word(alloc, words, first + 1, ROWS_LIMIT, shelf)?;
@@ -76,8 +87,15 @@ pub fn fetch_source<F: Shelf>(
     shelf: &mut F,
 ) -> Result<Vec<u8>, Answer>
     requires { first < length words.now }
-    ensures source { IfOk result (λ v. IsFile (F.holds shelf.old (word_at (map string_bytes words.now) first)) (limit_at 0) v.items) }
-    ensures refused { IfErr result (λ a. NotFetched (F.holds shelf.old) (map string_bytes words.now) first 1 (Rose (F.faults shelf.old) (F.faults shelf.new)) a) }
+    ensures source { IfOk result
+        (λ v. IsFile (F.holds shelf.old (word_at (map string_bytes words.now) first)) (limit_at 0)
+        v.items) }
+    ensures refused { IfErr result
+        (λ a. NotFetched (fetches F.holds F.asked F.faults shelf.old shelf.new)
+        (map string_bytes words.now) first 1 a) }
+    ensures asked { OnOk result
+        (F.asked shelf.old (names_of (map string_bytes words.now) first 1) shelf.new) }
+    ensures stays { ShelfStays F.holds F.faults shelf.old shelf.new }
 {
     let source = fetch_word(alloc, words, first, SOURCE_LIMIT, shelf)?;
     Ok(source)

@@ -1,6 +1,7 @@
 //! The program, over a shelf, two sinks and supplies of power.
 //!
-//! [`top::ocelot`] does what a line of words asks for and answers its status. [`command`] reads the
+//! [`top::ocelot`] does what a line of words asks for and answers its status, and [`standard`] calls
+//! it with the program's own supplies. [`command`] reads the
 //! words, [`files`] fetches, [`build`] goes from a source to its marked program and its image,
 //! [`prepare`] has the steps before the first byte of a report is written, and [`report`] writes it.
 //! [`print`] writes the other texts of a program, [`regions`] that of its regions with the help of
@@ -16,6 +17,7 @@ pub mod prepare;
 pub mod print;
 pub mod regions;
 pub mod report;
+pub mod standard;
 #[cfg(test)]
 mod tests;
 pub mod top;

@@ -57,7 +57,8 @@ pub fn build(alloc: Global, source: &[u8]) -> Result<Image, Answer>
 
 /// The sensors of an image, which show the rows of a sensor file.
 fn sensors_for(alloc: Global, bytes: &[u8], image: &Image) -> Result<Sensors, SensorError>
-    ensures rows { IfOk result (λ s. sensor_file image.now.names.sensors bytes.now ≡ readings s.rows) }
+    ensures rows { IfOk result
+        (λ s. sensor_file image.now.names.sensors bytes.now ≡ readings s.rows) }
     ensures sensors { IfOk result (λ s. s.sensors ≡ length image.now.names.sensors) }
     ensures now { IfOk result (λ s. s.now ≡ 0) }
     ensures bad { IfErr result (λ e. Explains (sensor_file image.now.names.sensors bytes.now) e) }
@@ -69,7 +70,9 @@ fn sensors_for(alloc: Global, bytes: &[u8], image: &Image) -> Result<Sensors, Se
 /// rows of the power file. The first file that is refused, in this order, decides the answer.
 pub fn prepare(alloc: Global, files: &Fetched, supply: &mut dyn Supply) -> Result<Prepared, Answer>
     requires { length files.now.source.items ≤ 1048576 }
-    ensures ready { IfOk result (λ p. IsReady (bytes_of files.now) (plan supply.old) p.machine p.sensors (left supply.new)) }
+    ensures ready { IfOk result
+        (λ p. IsReady (bytes_of files.now) (plan supply.old) p.machine p.sensors
+        (left supply.new)) }
     ensures refused { IfErr result (λ a. IsTurnedDown (bytes_of files.now) (plan supply.old) a) }
 {
     let image = build(alloc, &files.source)?;

@@ -3,7 +3,7 @@ ghost use Rattle.std.specs.Prelude.{◌≡◌, ◌≤◌, length, IfOk, IfErr};
 ghost use Rattle.oc_isa.specs.Listing.{listing_text};
 ghost use Rattle.oc_budget.specs.Budgets.{budgets as budgets_of};
 ghost use Rattle.oc_budget.specs.View.{budgets_view};
-ghost use Rattle.oc_top.specs.Answers.{IsWritten};
+ghost use Rattle.oc_top.specs.Answers.{IsWritten, writes};
 ghost use Rattle.oc_top.specs.Printed.{IsPrinted, Tells};
 ghost use Rattle.oc_top.specs.RegionDetails.{HasDetails};
 ghost use Rattle.oc_top.specs.RegionLines.{regions_text};
@@ -52,7 +52,8 @@ fn tell(alloc: Global, source: &[u8]) -> Result<Told, Answer>
 fn put_told<O: Sink>(told: &Told, out: &mut O) -> Answer
     requires budgets { budgets_view told.now.budgets ≡ budgets_of told.now.marked }
     requires details { HasDetails told.now.marked told.now.details }
-    ensures { IsWritten O.took O.faults out.old out.new (prints (regions_text told.now.marked (budgets_of told.now.marked))) result }
+    ensures { IsWritten (writes O.took O.held O.faults out.old out.new)
+        (prints (regions_text told.now.marked (budgets_of told.now.marked))) result }
 {
     match put_regions(&told.marked, &told.budgets, &told.details, out) {
         Ok(()) => flushed(Answer::End, out),
@@ -62,7 +63,8 @@ fn put_told<O: Sink>(told: &Told, out: &mut O) -> Answer
 
 /// Writes the listing of an image.
 fn put_listing<O: Sink>(image: &Image, out: &mut O) -> Answer
-    ensures { IsWritten O.took O.faults out.old out.new (prints (listing_text image.now)) result }
+    ensures { IsWritten (writes O.took O.held O.faults out.old out.new)
+        (prints (listing_text image.now)) result }
 {
     match listing(image, out) {
         Ok(()) => flushed(Answer::End, out),
@@ -73,7 +75,8 @@ fn put_listing<O: Sink>(image: &Image, out: &mut O) -> Answer
 /// Writes the regions of the program that a source spells, or answers why there is none.
 pub fn print_regions<O: Sink>(alloc: Global, source: &[u8], out: &mut O) -> Answer
     requires { length source.now ≤ 1048576 }
-    ensures { IsPrinted source.now regions_of O.took O.faults out.old out.new result }
+    ensures { IsPrinted source.now regions_of (writes O.took O.held O.faults out.old out.new)
+        result }
 {
     match tell(alloc, source) {
         Ok(told) => put_told(&told, out),
@@ -85,7 +88,8 @@ pub fn print_regions<O: Sink>(alloc: Global, source: &[u8], out: &mut O) -> Answ
 /// none.
 pub fn print_listing<O: Sink>(alloc: Global, source: &[u8], out: &mut O) -> Answer
     requires { length source.now ≤ 1048576 }
-    ensures { IsPrinted source.now listing_of O.took O.faults out.old out.new result }
+    ensures { IsPrinted source.now listing_of (writes O.took O.held O.faults out.old out.new)
+        result }
 {
     match build(alloc, source) {
         Ok(image) => put_listing(&image, out),

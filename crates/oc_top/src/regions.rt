@@ -102,7 +102,8 @@ fn named(alloc: Global, marked: &Marked, policy: Policy) -> Result<Name, AllocEr
 
 /// The name of each policy's variable.
 fn names_of_policies(alloc: Global, marked: &Marked) -> Result<Vec<Name>, AllocError>
-    ensures { IfOk result (λ v. v.items ≡ map (policy_name marked.now.program) marked.now.policies) }
+    ensures { IfOk result
+        (λ v. v.items ≡ map (policy_name marked.now.program) marked.now.policies) }
 {
     let mut names = Vec::new(alloc);
     for policy in marked.policies() {
@@ -127,8 +128,11 @@ fn put_region<O: Sink>(
     numbers: Numbers,
     sink: &mut O,
 ) -> Result<(), SinkFault>
-    ensures ok { OnOk result (O.took sink.old (region_fields (region_view region.now) function.now numbers) sink.new) }
-    ensures part { OnErr result (TookPart O.took sink.old (region_fields (region_view region.now) function.now numbers) sink.new) }
+    ensures ok { OnOk result
+        (O.took sink.old (region_fields (region_view region.now) function.now numbers) sink.new) }
+    ensures part { OnErr result
+        (TookPart O.took sink.old (region_fields (region_view region.now) function.now numbers)
+        sink.new) }
     ensures cause { OnErr result (Rose (O.faults sink.old) (O.faults sink.new)) }
     ensures count { O.faults sink.old ≤ O.faults sink.new }
 {
@@ -166,7 +170,8 @@ fn put_region<O: Sink>(
 /// Writes the line of the consistent set of a number, of a function with this name.
 fn put_consistent<O: Sink>(function: &[u8], id: i32, sink: &mut O) -> Result<(), SinkFault>
     ensures ok { OnOk result (O.took sink.old (consistent_line function.now id) sink.new) }
-    ensures part { OnErr result (TookPart O.took sink.old (consistent_line function.now id) sink.new) }
+    ensures part { OnErr result
+        (TookPart O.took sink.old (consistent_line function.now id) sink.new) }
     ensures cause { OnErr result (Rose (O.faults sink.old) (O.faults sink.new)) }
     ensures count { O.faults sink.old ≤ O.faults sink.new }
 {
@@ -190,8 +195,10 @@ fn put_policy<O: Sink>(
     variable: &[u8],
     sink: &mut O,
 ) -> Result<(), SinkFault>
-    ensures ok { OnOk result (O.took sink.old (policy_fields kind function.now variable.now) sink.new) }
-    ensures part { OnErr result (TookPart O.took sink.old (policy_fields kind function.now variable.now) sink.new) }
+    ensures ok { OnOk result
+        (O.took sink.old (policy_fields kind function.now variable.now) sink.new) }
+    ensures part { OnErr result
+        (TookPart O.took sink.old (policy_fields kind function.now variable.now) sink.new) }
     ensures cause { OnErr result (Rose (O.faults sink.old) (O.faults sink.new)) }
     ensures count { O.faults sink.old ≤ O.faults sink.new }
 {
@@ -212,7 +219,8 @@ fn put_reason<O: Sink>(
 ) -> Result<(), SinkFault>
     requires { HasDetails marked.now details.now }
     ensures ok { OnOk result (O.took sink.old (reason_line marked.now reason) sink.new) }
-    ensures part { OnErr result (TookPart O.took sink.old (reason_line marked.now reason) sink.new) }
+    ensures part { OnErr result
+        (TookPart O.took sink.old (reason_line marked.now reason) sink.new) }
     ensures cause { OnErr result (Rose (O.faults sink.old) (O.faults sink.new)) }
     ensures count { O.faults sink.old ≤ O.faults sink.new }
 {
@@ -235,7 +243,8 @@ fn put_reasons<O: Sink>(
 ) -> Result<(), SinkFault>
     requires { HasDetails marked.now details.now }
     ensures ok { OnOk result (O.took sink.old (reason_lines marked.now reasons.now) sink.new) }
-    ensures part { OnErr result (TookPart O.took sink.old (reason_lines marked.now reasons.now) sink.new) }
+    ensures part { OnErr result
+        (TookPart O.took sink.old (reason_lines marked.now reasons.now) sink.new) }
     ensures cause { OnErr result (Rose (O.faults sink.old) (O.faults sink.new)) }
     ensures count { O.faults sink.old ≤ O.faults sink.new }
 {
@@ -270,8 +279,11 @@ fn put_lines<O: Sink>(
     sink: &mut O,
 ) -> Result<(), SinkFault>
     requires { HasDetails marked.now details.now }
-    ensures ok { OnOk result (O.took sink.old (lines_with marked.now (region_view region.now) numbers) sink.new) }
-    ensures part { OnErr result (TookPart O.took sink.old (lines_with marked.now (region_view region.now) numbers) sink.new) }
+    ensures ok { OnOk result
+        (O.took sink.old (lines_with marked.now (region_view region.now) numbers) sink.new) }
+    ensures part { OnErr result
+        (TookPart O.took sink.old (lines_with marked.now (region_view region.now) numbers)
+        sink.new) }
     ensures cause { OnErr result (Rose (O.faults sink.old) (O.faults sink.new)) }
     ensures count { O.faults sink.old ≤ O.faults sink.new }
 {
@@ -291,8 +303,12 @@ fn put_all<O: Sink>(
 ) -> Result<(), SinkFault>
     requires budgets { budgets_view budgets.now ≡ budgets_of marked.now }
     requires details { HasDetails marked.now details.now }
-    ensures ok { OnOk result (O.took sink.old (region_lines marked.now (budgets_view budgets.now) 0 marked.now.regions) sink.new) }
-    ensures part { OnErr result (TookPart O.took sink.old (region_lines marked.now (budgets_view budgets.now) 0 marked.now.regions) sink.new) }
+    ensures ok { OnOk result
+        (O.took sink.old (region_lines marked.now (budgets_view budgets.now) 0 marked.now.regions)
+        sink.new) }
+    ensures part { OnErr result
+        (TookPart O.took sink.old
+        (region_lines marked.now (budgets_view budgets.now) 0 marked.now.regions) sink.new) }
     ensures cause { OnErr result (Rose (O.faults sink.old) (O.faults sink.new)) }
     ensures count { O.faults sink.old ≤ O.faults sink.new }
 {
@@ -330,8 +346,10 @@ pub fn put_regions<O: Sink>(
 ) -> Result<(), SinkFault>
     requires budgets { budgets_view budgets.now ≡ budgets_of marked.now }
     requires details { HasDetails marked.now details.now }
-    ensures ok { OnOk result (O.took sink.old (regions_text marked.now (budgets_of marked.now)) sink.new) }
-    ensures part { OnErr result (TookPart O.took sink.old (regions_text marked.now (budgets_of marked.now)) sink.new) }
+    ensures ok { OnOk result
+        (O.took sink.old (regions_text marked.now (budgets_of marked.now)) sink.new) }
+    ensures part { OnErr result
+        (TookPart O.took sink.old (regions_text marked.now (budgets_of marked.now)) sink.new) }
     ensures cause { OnErr result (Rose (O.faults sink.old) (O.faults sink.new)) }
     ensures count { O.faults sink.old ≤ O.faults sink.new }
 {

@@ -3,7 +3,7 @@ ghost use Rattle.std.specs.Prelude.{◌≡◌, ◌≤◌, ◌⊎◌, [], map, On
 ghost use Rattle.oc_io.specs.Faults.{Rose, TookPart};
 ghost use Rattle.oc_isa.specs.Image.{IsWellMade, parts_of};
 ghost use Rattle.oc_items.specs.Text.{nv_lines};
-ghost use Rattle.oc_top.specs.Answers.{IsWritten};
+ghost use Rattle.oc_top.specs.Answers.{IsWritten, writes};
 ghost use Rattle.oc_top.specs.Steps.{CanRun};
 ghost use Rattle.oc_top.specs.Verdict.{runs};
 
@@ -19,8 +19,13 @@ use oc_power::supply::Supply;
 /// Writes a line for each nonvolatile variable of an image, in order, with its words.
 fn put_nvs<O: Sink>(image: &RawImage, words: &[i32], out: &mut O) -> Result<(), SinkFault>
     requires { IsWellMade (parts_of image.now) }
-    ensures ok { OnOk result (O.took out.old (nv_lines (parts_of image.now).names (map (λ v. v.words) (parts_of image.now).nv) words.now) out.new) }
-    ensures part { OnErr result (TookPart O.took out.old (nv_lines (parts_of image.now).names (map (λ v. v.words) (parts_of image.now).nv) words.now) out.new) }
+    ensures ok { OnOk result
+        (O.took out.old (nv_lines (parts_of image.now).names
+        (map (λ v. v.words) (parts_of image.now).nv) words.now) out.new) }
+    ensures part { OnErr result
+        (TookPart O.took out.old
+        (nv_lines (parts_of image.now).names (map (λ v. v.words) (parts_of image.now).nv) words.now)
+        out.new) }
     ensures cause { OnErr result (Rose (O.faults out.old) (O.faults out.new)) }
     ensures count { O.faults out.old ≤ O.faults out.new }
 {
@@ -35,10 +40,11 @@ fn put_nvs<O: Sink>(image: &RawImage, words: &[i32], out: &mut O) -> Result<(), 
     Ok(())
 }
 
-/// Flushes at the end of a text. The answer stays, unless that fails.
+/// Flushes at the end of a text. The answer stays and nothing is held back, unless that fails.
 pub fn flushed<O: Sink>(answer: Answer, out: &mut O) -> Answer
     ensures nothing { O.took out.old [] out.new }
-    ensures stays { (result ≡ answer) ⊎ ((result ≡ Answer.WriteFault) × Rose (O.faults out.old) (O.faults out.new)) }
+    ensures stays { ((result ≡ answer) × (O.held out.new ≡ []))
+        ⊎ ((result ≡ Answer.WriteFault) × Rose (O.faults out.old) (O.faults out.new)) }
     ensures count { O.faults out.old ≤ O.faults out.new }
 {
     match out.flush() {
@@ -49,7 +55,12 @@ pub fn flushed<O: Sink>(answer: Answer, out: &mut O) -> Answer
 
 /// Writes the nonvolatile variables, where the run is over.
 fn finished<O: Sink>(answer: Answer, machine: &Machine, out: &mut O) -> Answer
-    ensures written { IsWritten O.took O.faults out.old out.new (record { answer = answer; text = nv_lines machine.now.parts.names (map (λ v. v.words) machine.now.parts.nv) machine.now.state.nv }) result }
+    ensures written { IsWritten (writes O.took O.held O.faults out.old out.new)
+        (record {
+          answer = answer;
+          text = nv_lines machine.now.parts.names
+              (map (λ v. v.words) machine.now.parts.nv) machine.now.state.nv;
+        }) result }
     ensures count { O.faults out.old ≤ O.faults out.new }
 {
     match put_nvs(machine.image().raw(), machine.nv_words(), out) {
@@ -61,7 +72,8 @@ fn finished<O: Sink>(answer: Answer, machine: &Machine, out: &mut O) -> Answer
 /// Runs a newly loaded machine over the periods that the supply tells, and writes the report.
 pub fn report<O: Sink>(prepared: Prepared, supply: &mut dyn Supply, out: &mut O) -> Answer
     requires { CanRun prepared.machine prepared.sensors (left supply.old) }
-    ensures { IsWritten O.took O.faults out.old out.new (runs prepared.machine.parts prepared.sensors.rows (left supply.old)) result }
+    ensures { IsWritten (writes O.took O.held O.faults out.old out.new)
+        (runs prepared.machine.parts prepared.sensors.rows (left supply.old)) result }
 {
     let Prepared {
         mut machine,

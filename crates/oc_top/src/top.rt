@@ -1,15 +1,11 @@
 //! The top call.
-ghost use Rattle.std.specs.Prelude.{◌≡◌, ◌↔◌, ◌+◌, ◌<◌, ◌⊎◌, ℕ, false, List, [], map, length, Some, None};
+ghost use Rattle.std.specs.Prelude.{◌≡◌, ◌+◌, ◌<◌, map, length, Some};
 ghost use Rattle.std.specs.String.{string_bytes};
-ghost use Rattle.oc_io.specs.Faults.{Rose, TookPart};
-ghost use Rattle.oc_io.specs.Held.{content, nothing};
-ghost use Rattle.oc_top.specs.Commands.{Task, command_of, files_of, listing as to_list, plans_of, regions as to_tell_regions, report as to_report, task_of, word_at};
+ghost use Rattle.oc_top.specs.Commands.{command_of, listing as to_list, plans_of, regions as to_tell_regions, report as to_report, task_for, task_of};
 ghost use Rattle.oc_top.specs.declared.command.Command.TheVariants as commands;
-ghost use Rattle.oc_top.specs.Files.{Files, AreHeld, AreHeldBefore, limit_at};
-ghost use Rattle.oc_top.specs.Sources.{Reading, ReadsAs};
-ghost use Rattle.oc_top.specs.Verdict.{verdict_on};
-ghost use Rattle.oc_top.specs.declared.answer.Answer.{Answer as SomeAnswer};
-ghost use Rattle.oc_top.specs.Answers.{Comes, Outcome, is_written, line_of, status_of};
+ghost use Rattle.oc_top.specs.Files.{ShelfStays, fetches};
+ghost use Rattle.oc_top.specs.Answers.{Comes, call_of, writes};
+ghost use Rattle.oc_top.specs.Works.{Works};
 
 use crate::answer::{Answer, put_line, status};
 use crate::command::{Command, read_command};
@@ -32,7 +28,11 @@ fn run<F: Shelf, O: Sink>(
     supply: &mut dyn Supply,
 ) -> Answer
     requires { first + 2 < length words.now }
-    ensures { Outcome (F.holds shelf.old) (map string_bytes words.now) (record { first = first; wanted = to_report (plan supply.old) }) (Rose (F.faults shelf.old) (F.faults shelf.new)) O.took O.faults out.old out.new result }
+    ensures comes { Comes (call_of (map string_bytes words.now)
+        (Some (record { first = first; wanted = to_report (plan supply.old) }))
+        (fetches F.holds F.asked F.faults shelf.old shelf.new)
+        (writes O.took O.held O.faults out.old out.new)) result }
+    ensures stays { ShelfStays F.holds F.faults shelf.old shelf.new }
 {
     let files = match fetch_files(alloc, words, first, shelf) {
         Ok(files) => files,
@@ -54,7 +54,11 @@ fn run_with<F: Shelf, O: Sink>(
     mut supply: Box<dyn Supply>,
 ) -> Answer
     requires { first + 2 < length words.now }
-    ensures { Outcome (F.holds shelf.old) (map string_bytes words.now) (record { first = first; wanted = to_report (plan supply) }) (Rose (F.faults shelf.old) (F.faults shelf.new)) O.took O.faults out.old out.new result }
+    ensures comes { Comes (call_of (map string_bytes words.now)
+        (Some (record { first = first; wanted = to_report (plan supply) }))
+        (fetches F.holds F.asked F.faults shelf.old shelf.new)
+        (writes O.took O.held O.faults out.old out.new)) result }
+    ensures stays { ShelfStays F.holds F.faults shelf.old shelf.new }
 {
     run(alloc, words, first, shelf, out, &mut *supply)
 }
@@ -70,7 +74,11 @@ fn run_by<F: Shelf, O: Sink>(
     supplies: Vec<Box<dyn Supply>>,
 ) -> Answer
     requires { command_of (map string_bytes words.now) ≡ Some (commands.Run supply first) }
-    ensures { Comes (F.holds shelf.old) (plans_of (λ b. number b) (λ b. plan b) supplies.items) (map string_bytes words.now) (Rose (F.faults shelf.old) (F.faults shelf.new)) O.took O.faults out.old out.new result }
+    ensures comes { Comes (call_of (map string_bytes words.now)
+        (task_of (plans_of (λ b. number b) (λ b. plan b) supplies.items)
+        (map string_bytes words.now)) (fetches F.holds F.asked F.faults shelf.old shelf.new)
+        (writes O.took O.held O.faults out.old out.new)) result }
+    ensures stays { ShelfStays F.holds F.faults shelf.old shelf.new }
 {
     match choose(supplies, supply) {
         Some(supply) => run_with(alloc, words, first, shelf, out, supply),
@@ -87,7 +95,11 @@ fn regions<F: Shelf, O: Sink>(
     out: &mut O,
 ) -> Answer
     requires { first < length words.now }
-    ensures { Outcome (F.holds shelf.old) (map string_bytes words.now) (record { first = first; wanted = to_tell_regions }) (Rose (F.faults shelf.old) (F.faults shelf.new)) O.took O.faults out.old out.new result }
+    ensures comes { Comes (call_of (map string_bytes words.now)
+        (Some (record { first = first; wanted = to_tell_regions }))
+        (fetches F.holds F.asked F.faults shelf.old shelf.new)
+        (writes O.took O.held O.faults out.old out.new)) result }
+    ensures stays { ShelfStays F.holds F.faults shelf.old shelf.new }
 {
     match fetch_source(alloc, words, first, shelf) {
         Ok(source) => print_regions(alloc, &source, out),
@@ -104,7 +116,11 @@ fn build<F: Shelf, O: Sink>(
     out: &mut O,
 ) -> Answer
     requires { first < length words.now }
-    ensures { Outcome (F.holds shelf.old) (map string_bytes words.now) (record { first = first; wanted = to_list }) (Rose (F.faults shelf.old) (F.faults shelf.new)) O.took O.faults out.old out.new result }
+    ensures comes { Comes (call_of (map string_bytes words.now)
+        (Some (record { first = first; wanted = to_list }))
+        (fetches F.holds F.asked F.faults shelf.old shelf.new)
+        (writes O.took O.held O.faults out.old out.new)) result }
+    ensures stays { ShelfStays F.holds F.faults shelf.old shelf.new }
 {
     match fetch_source(alloc, words, first, shelf) {
         Ok(source) => print_listing(alloc, &source, out),
@@ -122,7 +138,11 @@ fn obey<F: Shelf, O: Sink>(
     supplies: Vec<Box<dyn Supply>>,
 ) -> Answer
     requires { command_of (map string_bytes words.now) ≡ Some command }
-    ensures { Comes (F.holds shelf.old) (plans_of (λ b. number b) (λ b. plan b) supplies.items) (map string_bytes words.now) (Rose (F.faults shelf.old) (F.faults shelf.new)) O.took O.faults out.old out.new result }
+    ensures comes { Comes (call_of (map string_bytes words.now)
+        (task_of (plans_of (λ b. number b) (λ b. plan b) supplies.items)
+        (map string_bytes words.now)) (fetches F.holds F.asked F.faults shelf.old shelf.new)
+        (writes O.took O.held O.faults out.old out.new)) result }
+    ensures stays { ShelfStays F.holds F.faults shelf.old shelf.new }
 {
     match command {
         Command::Run { supply, first } => {
@@ -141,7 +161,11 @@ fn answer_words<F: Shelf, O: Sink>(
     out: &mut O,
     supplies: Vec<Box<dyn Supply>>,
 ) -> Answer
-    ensures { Comes (F.holds shelf.old) (plans_of (λ b. number b) (λ b. plan b) supplies.items) (map string_bytes words.now) (Rose (F.faults shelf.old) (F.faults shelf.new)) O.took O.faults out.old out.new result }
+    ensures comes { Comes (call_of (map string_bytes words.now)
+        (task_of (plans_of (λ b. number b) (λ b. plan b) supplies.items)
+        (map string_bytes words.now)) (fetches F.holds F.asked F.faults shelf.old shelf.new)
+        (writes O.took O.held O.faults out.old out.new)) result }
+    ensures stays { ShelfStays F.holds F.faults shelf.old shelf.new }
 {
     match read_command(words) {
         Some(command) => obey(alloc, words, command, shelf, out, supplies),
@@ -163,28 +187,12 @@ pub fn ocelot<F: Shelf, O: Sink, E: Sink>(
     err: &mut E,
     supplies: Vec<Box<dyn Supply>>,
 ) -> u8
-    // The status is that of an answer with its cause, and the line of the answer is on `err`.
-    ensures comes { (answer : SomeAnswer) × (result ≡ status_of answer)
-        × Comes (F.holds shelf.old) (plans_of (λ b. number b) (λ b. plan b) supplies.items) (map string_bytes words.now) (Rose (F.faults shelf.old) (F.faults shelf.new)) O.took O.faults out.old out.new answer
-        × (E.took err.old (line_of (map string_bytes words.now) answer) err.new ⊎ (Rose (E.faults err.old) (E.faults err.new) × TookPart E.took err.old (line_of (map string_bytes words.now) answer) err.new)) }
-    // Where the files are held and no fault rose, it is the status of the verdict on them, or there was no memory.
-    ensures exactly { (task : Task) (files : Files) (reading : Reading) → task_of (plans_of (λ b. number b) (λ b. plan b) supplies.items) (map string_bytes words.now) ≡ Some task
-        → AreHeld (F.holds shelf.old) (map string_bytes words.now) task.first task.wanted files → ReadsAs files.source reading
-        → ¬ Rose (F.faults shelf.old) (F.faults shelf.new) → ¬ Rose (O.faults out.old) (O.faults out.new)
-        → (result ≡ status_of (verdict_on reading files task.wanted).answer) ⊎ (result ≡ 11) }
-    ensures usage { (result ≡ 1) ↔ (task_of (plans_of (λ b. number b) (λ b. plan b) supplies.items) (map string_bytes words.now) ≡ None) }
-    // Where the shelf tells that there is nothing under a file's word, the status is 2, 3 or 11.
-    ensures missing { (task : Task) (place : ℕ) → task_of (plans_of (λ b. number b) (λ b. plan b) supplies.items) (map string_bytes words.now) ≡ Some task
-        → place < files_of task.wanted → F.holds shelf.old (word_at (map string_bytes words.now) (task.first + place)) ≡ nothing
-        → (result ≡ 2) ⊎ ((result ≡ 3) ⊎ (result ≡ 11)) }
-    // Where the files before it are held and no fault of the shelf rose, a file that is too long gives 3, or there was no memory.
-    ensures long { (task : Task) (place : ℕ) (bytes : List ℕ) → task_of (plans_of (λ b. number b) (λ b. plan b) supplies.items) (map string_bytes words.now) ≡ Some task
-        → place < files_of task.wanted → AreHeldBefore (F.holds shelf.old) (map string_bytes words.now) task.first place
-        → F.holds shelf.old (word_at (map string_bytes words.now) (task.first + place)) ≡ content bytes → limit_at place < length bytes
-        → ¬ Rose (F.faults shelf.old) (F.faults shelf.new)
-        → (result ≡ 3) ⊎ (result ≡ 11) }
-    // With a status of no text, nothing was written on `out`.
-    ensures quiet { is_written result ≡ false → O.took out.old [] out.new }
+    ensures works { Works (call_of (map string_bytes words.now)
+        (task_of (plans_of (λ b. number b) (λ b. plan b) supplies.items)
+        (map string_bytes words.now)) (fetches F.holds F.asked F.faults shelf.old shelf.new)
+        (writes O.took O.held O.faults out.old out.new))
+        (writes E.took E.held E.faults err.old err.new) result }
+    ensures stays { ShelfStays F.holds F.faults shelf.old shelf.new }
 {
     let answer = answer_words(alloc, words, shelf, out, supplies);
     put_line(answer, words, err);

@@ -1,22 +1,15 @@
-//! The program: the real outside, the supplies, and the top call.
+//! The program: the real outside, and the top call.
 #![tactic(auto)]
 
-use oc_io::disk::{DiskShelf, StdSink};
-use oc_power::cutter::Cutter;
-use oc_power::looped::Looped;
-use oc_power::recorded::Recorded;
-use oc_power::supply::Supply;
-use oc_top::top::ocelot;
+use oc_io::disk::DiskShelf;
+use oc_io::stream::StreamSink;
+use oc_top::standard::ocelot_with_standard;
 use std::alloc::{AllocError, Global};
+use std::env::FillError;
 use std::io::ErrorKind;
 use std::process::ExitCode;
+use std::rt::Env;
 use std::{env, io};
-
-/// How often the second supply tells the rows.
-const ROUNDS: u32 = 64;
-
-/// How many steps the pieces of the third supply have.
-const PIECE: u64 = 50;
 
 /// The status where there is no memory.
 const OUT_OF_MEMORY: u8 = 11;
@@ -24,10 +17,30 @@ const OUT_OF_MEMORY: u8 = 11;
 /// The status where the words are no command.
 const NOT_A_COMMAND: u8 = 1;
 
+/// The arguments after the program's own name, which need not be text.
+#[derive(Drop)]
+struct AfterName<'a, R> {
+    rt: &'a R,
+}
+
+impl<'a, R: Env> Env for AfterName<'a, R> {
+    fn arg(&self, i: usize, buf: &mut [u8]) -> Result<usize, FillError> {
+        self.rt.arg(i.saturating_add(1), buf)
+    }
+
+    fn var(&self, name: &str, buf: &mut [u8]) -> Result<usize, FillError> {
+        self.rt.var(name, buf)
+    }
+
+    fn var_at(&self, i: usize, buf: &mut [u8]) -> Result<usize, FillError> {
+        self.rt.var_at(i, buf)
+    }
+}
+
 /// The words after the program's name.
 fn words(rt: &HostRuntime) -> io::Result<Vec<String>> {
     let mut words = Vec::new(rt.alloc());
-    for word in env::args(rt)?.skip(1) {
+    for word in env::args(&(AfterName { rt }, rt.alloc()))? {
         words.push(word)?;
     }
     Ok(words)
@@ -36,14 +49,15 @@ fn words(rt: &HostRuntime) -> io::Result<Vec<String>> {
 /// Obeys the words, over the files of the disk and the standard streams.
 fn run(rt: &HostRuntime, words: &[String]) -> Result<u8, AllocError> {
     let alloc: Global = rt.alloc();
-    let mut supplies: Vec<Box<dyn Supply>> = Vec::new(alloc);
-    supplies.push(Box::new(alloc, Recorded::new(alloc))?)?;
-    supplies.push(Box::new(alloc, Looped::new(alloc, ROUNDS))?)?;
-    supplies.push(Box::new(alloc, Cutter::new(alloc, PIECE))?)?;
     let mut shelf = DiskShelf::new(rt);
-    let mut out = StdSink::out(rt);
-    let mut err = StdSink::err(rt);
-    Ok(ocelot(alloc, words, &mut shelf, &mut out, &mut err, supplies))
+    let stderr = rt.stderr();
+    let Ok(mut out) = StreamSink::new(alloc, io::writer(rt)) else {
+        return Err(AllocError);
+    };
+    let Ok(mut err) = StreamSink::new(alloc, io::writer(&stderr)) else {
+        return Err(AllocError);
+    };
+    ocelot_with_standard(alloc, words, &mut shelf, &mut out, &mut err)
 }
 
 fn main(rt: HostRuntime) -> ExitCode {

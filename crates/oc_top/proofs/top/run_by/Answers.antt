@@ -1,9 +1,16 @@
-use Rattle.std.proofs.Common.{refl}
-use Rattle.oc_top.proofs.Asking.{by_box, by_none}
+use Rattle.std.proofs.Common.{sym, map, None}
+use Rattle.std.specs.String.{string_bytes}
+use Rattle.oc_top.specs.Files.{fetches}
+use Rattle.oc_top.specs.Answers.{call_of, writes}
+use Rattle.oc_top.proofs.Asking.{comes_for, comes_none, run_is}
 use Rattle.oc_top.proofs.top.run_by.Goals as goal
 
-pub returns-in-Some : goal.returns-in-Some
-returns-in-Some g c = by_box _ _ _ _ _ _ g.O.Sink.took g.O.Sink.faults _ _ _ _ _ c.requires c.in-Some.supply c.in-Some.ensures c.run_with.ensures
+pub returns-in-Some-clause-comes : goal.returns-in-Some-clause-comes
+returns-in-Some-clause-comes g c =
+    let words = map string_bytes c.args.words.now in
+    comes_for words _ _ (fetches g.F.Shelf.holds g.F.Shelf.asked g.F.Shelf.faults _ _) (writes g.O.Sink.took g.O.Sink.held g.O.Sink.faults _ _) _ (run_is c.args.supplies.items (λ b. (goal.Supply-dyn g (b.vtable, b.value)).number b.value) (λ b. (goal.Supply-dyn g (b.vtable, b.value)).plan b.value) words _ _ _ c.requires c.in-Some.ensures) c.run_with.ensures.comes
 
-pub returns-in-None : goal.returns-in-None
-returns-in-None g c = by_none _ _ _ _ _ _ g.O.Sink.took g.O.Sink.faults _ _ _ _ _ c.requires c.in-None.ensures refl (g.met.O.Sink.took_nothing _)
+pub returns-in-None-clause-comes : goal.returns-in-None-clause-comes
+returns-in-None-clause-comes g c =
+    let words = map string_bytes c.args.words.now in
+    comes_none (call_of words _ (fetches g.F.Shelf.holds g.F.Shelf.asked g.F.Shelf.faults _ _) (writes g.O.Sink.took g.O.Sink.held g.O.Sink.faults _ _)) (sym (run_is c.args.supplies.items (λ b. (goal.Supply-dyn g (b.vtable, b.value)).number b.value) (λ b. (goal.Supply-dyn g (b.vtable, b.value)).plan b.value) words _ _ None c.requires c.in-None.ensures)) (g.met.F.Shelf.asked_nothing _) (g.met.O.Sink.took_nothing _)

@@ -1,0 +1,50 @@
+-- What the program's own supplies plan.
+use Rattle.std.proofs.Common.{ℕ, zero, suc, ◌≡◌, ◌<◌, ◌∙◌, Bool, false, ap, refl, arith, List, [], ◌∷◌, Option, Some, None, cond}
+use Rattle.std.specs.Prelude.{◌==◌, option_map, if◌then◌else◌}
+use Rattle.oc_power.specs.Choice.{first_with}
+use Rattle.oc_power.specs.Cutting.{cut_rows}
+use Rattle.oc_power.specs.Looping.{looped}
+use Rattle.oc_top.specs.Commands.{Plan, Plans, Task, command_of, plans_of, task_for, task_of, with_plan}
+use Rattle.oc_top.specs.declared.command.Command.{Command}
+use Rattle.oc_top.specs.declared.command.Command.TheVariants as commands
+use Rattle.oc_top.specs.Supplies.{standard_plans}
+
+-- plans that give the same for each number give the same task
+same_task_for : (p q : Plans) → ((k : ℕ) → p k ≡ q k) → (command : Option Command) → task_for p command ≡ task_for q command
+same_task_for p q h None = refl
+same_task_for p q h (Some (commands.Run supply first)) = ap (λ (o : Option Plan). with_plan first o) (h supply)
+same_task_for p q h (Some (commands.Regions first)) = refl
+same_task_for p q h (Some (commands.Build first)) = refl
+
+unlike : (n k : ℕ) → n < k → (n == k) ≡ false
+unlike n k h = grind (arith, h)
+
+module _ {B : Type 0} (boxes : List B) (number : B → ℕ) (plan : B → Plan) (a b c : B)
+    (zero_is : number a ≡ 0) (one_is : number b ≡ 1) (two_is : number c ≡ 2)
+    (rows : plan a ≡ (λ rows. rows)) (rounds : plan b ≡ looped 64) (pieces : plan c ≡ cut_rows 50) where
+  -- the plan of the first whose test holds
+  abbrev picked : (first second third : Bool) → Option Plan
+  picked x y z = option_map plan (if x then Some a else if y then Some b else if z then Some c else None)
+
+  -- the plan of the first of the three that has this number
+  abbrev chosen : (x y z k : ℕ) → Option Plan
+  chosen x y z k = picked (x == k) (y == k) (z == k)
+
+  chosen_is : (k : ℕ) → chosen 0 1 2 k ≡ standard_plans k
+  chosen_is zero = ap Some rows
+  chosen_is (suc zero) = ap Some rounds
+  chosen_is (suc (suc zero)) = ap Some pieces
+  chosen_is (suc (suc (suc k))) =
+      let j : ℕ = suc (suc (suc k)) in
+      ap (λ (x : Bool). picked x (1 == j) (2 == j)) (unlike 0 j (omega arith)) ∙ ap (λ (y : Bool). picked false y (2 == j)) (unlike 1 j (omega arith))
+      ∙ ap (λ (z : Bool). picked false false z) (unlike 2 j (omega arith))
+
+  plans_are : (k : ℕ) → plans_of number plan (a ∷ b ∷ c ∷ []) k ≡ standard_plans k
+  plans_are k =
+      ap (λ (x : ℕ). chosen x (number b) (number c) k) zero_is ∙ ap (λ (y : ℕ). chosen 0 y (number c) k) one_is ∙ ap (λ (z : ℕ). chosen 0 1 z k) two_is
+      ∙ chosen_is k
+
+  pub standard_task : (words : List (List ℕ)) → boxes ≡ a ∷ b ∷ c ∷ [] → task_of (plans_of number plan boxes) words ≡ task_of standard_plans words
+  standard_task words is =
+      ap (λ (bs : List B). task_of (plans_of number plan bs) words) is
+      ∙ same_task_for (plans_of number plan (a ∷ b ∷ c ∷ [])) standard_plans plans_are (command_of words)

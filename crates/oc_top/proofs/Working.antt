@@ -1,0 +1,138 @@
+-- What a call does, from its answer and that answer's cause; and where its periods suffice a run ends by itself.
+use Rattle.std.proofs.Common.{ℕ, suc, ◌+◌, ◌≡◌, ◌⊎◌, ◌∙◌, sym, ap, refl, subst, inl, inr, ℤ, List, [], ◌∷◌, ◌++◌, Bool, true, false, Option, Some, None}
+use Rattle.std.specs.Prelude.{if◌then◌else◌}
+use Rattle.oc_io.specs.declared.period.Period.{Period}
+use Rattle.oc_power.specs.Power.{Power, power_file}
+use Rattle.oc_power.specs.Power as power_rows
+use Rattle.oc_sensors.specs.declared.sensors.Row.{Row}
+use Rattle.oc_sensors.specs.File.{Readings, sensor_file}
+use Rattle.oc_sensors.specs.File as sensor_rows
+use Rattle.oc_sensors.specs.History.{history}
+use Rattle.oc_tree.specs.Tree.{TProgram}
+use Rattle.oc_tree.specs.Said.{Told}
+use Rattle.oc_tree.specs.declared.said.Said.{Said}
+use Rattle.oc_tree.specs.declared.said.Said.TheVariants.{Ended}
+use Rattle.oc_tree.specs.declared.said.Ending.{Ending}
+use Rattle.oc_tree.specs.declared.said.Ending.TheVariants.{Halted, Trapped}
+use Rattle.oc_isa.specs.Image.{Parts}
+use Rattle.oc_isa.specs.Power.{first_world, power_run}
+use Rattle.oc_isa.specs.Table.{device_of}
+use Rattle.oc_isa.specs.declared.phase.Phase.TheVariants.{Over}
+use Rattle.oc_outage.specs.Honest.{loses_checkpoint}
+use Rattle.oc_outage.proofs.Lasting.{lost_exactly, over_exactly}
+use Rattle.oc_bounds.specs.Bounds.{AreSafe}
+use Rattle.oc_top.specs.Meant.{program_code, program_bounds}
+use Rattle.oc_top.specs.Commands.{Plan, Wanted, report, Task}
+use Rattle.oc_top.specs.Files.{Files, AreFiles, AreWanted, AreHeld, AreAllHeld}
+use Rattle.oc_top.specs.Sources.{Reading, program, ReadsAs}
+use Rattle.oc_top.specs.Reports.{answer_by, answer_of, last_said}
+use Rattle.oc_top.specs.Verdict.{Verdict, verdict_on, is_of_run, runs, with_sensors, with_power}
+use Rattle.oc_top.specs.Headline.{IsRun}
+use Rattle.oc_top.specs.Answers.{status_of, is_written, line_of, IsDone, Writes, TookAll, TookFront, Call, HasFiles, WasDone, IsWhole, Comes}
+use Rattle.oc_top.specs.Works.{Works}
+use Rattle.oc_top.specs.declared.answer.Answer.{Answer}
+use Rattle.oc_top.specs.declared.answer.Answer.TheVariants as answer
+use Rattle.oc_top.proofs.OneReading.{one_reading}
+use Rattle.oc_top.proofs.Exactly.{of_run, same_files, the_task, exactly, missing, long, no_task, usage, quiet}
+
+-- ---- the answer to a run that ends by itself
+
+last_is : (before : List Told) (t : Told) → last_said (before ++ t ∷ []) ≡ Some t.said
+last_is [] t = refl
+last_is (x ∷ []) t = refl
+last_is (x ∷ y ∷ rest) t = last_is (y ∷ rest) t
+
+not_true : (b : Bool) → (b ≡ true → ⊥) → b ≡ false
+not_true true h = absurd (h refl)
+not_true false h = refl
+
+answer_over : (parts : Parts) (h : ℕ → ℕ → ℤ) (periods : List Period) (how : Ending) → (power_run (device_of parts) h periods).state.phase ≡ Over how → answer_of parts h periods ≡ answer_by (Some (Ended how))
+answer_over parts h periods how over =
+    let d = device_of parts in
+    let all : List Told = (power_run d h periods).report in
+    let e = (over_exactly d h periods how).0 over in
+    let kept : loses_checkpoint d h periods (first_world d) ≡ false = not_true _ (λ l. cc (sym over ∙ (lost_exactly d h periods).1 l)) in
+    ap (λ (b : Bool). if b then answer.Cut else answer_by (last_said all)) kept
+    ∙ ap (λ (r : List Told). answer_by (last_said r)) e.2
+    ∙ ap answer_by (last_is e.0 (record { tick = e.1; said = Ended how }))
+
+by_ending : (how : Ending) → (answer_by (Some (Ended how)) ≡ answer.End) ⊎ (answer_by (Some (Ended how)) ≡ answer.Trapped)
+by_ending Halted = inl refl
+by_ending (Trapped kind stmt) = inr refl
+
+run_ends : (files : Files) (plan : Plan) (run : Verdict) (r : IsRun files plan run) → AreSafe (program_bounds r.written) (suc (program_bounds r.written).total) (plan r.periods) → (run.answer ≡ answer.End) ⊎ (run.answer ≡ answer.Trapped)
+run_ends files plan run r safe =
+    let over = r.ends safe in
+    let e : run.answer ≡ answer_by (Some (Ended over.0)) = ap (λ (v : Verdict). v.answer) r.is_run ∙ answer_over (program_code r.written) (history r.rows) (plan r.periods) over.0 over.1 in
+    elim (by_ending over.0) [ inl x ↦ inl (e ∙ x) | inr x ↦ inr (e ∙ x) ]
+
+same_written : (p q : TProgram) → program p ≡ program q → p ≡ q
+same_written p q e = cc
+
+same_periods : (a b : List Period) → power_rows.periods a ≡ power_rows.periods b → a ≡ b
+same_periods a b e = cc
+
+-- ---- enough
+
+module _ (c : Call) (task : Task) (asked : c.task ≡ Some task) (plan : Plan) (is_report : task.wanted ≡ report plan) (files : Files) (held : AreHeld c.shelf.holds c.words task.first task.wanted files)
+    (p : TProgram) (reads : ReadsAs files.source (program p)) (rows : List Row) (sensed : sensor_file p.names.sensors files.sensors ≡ sensor_rows.readings rows)
+    (periods : List Period) (powered : power_file files.power ≡ power_rows.periods periods) (safe : AreSafe (program_bounds p) (suc (program_bounds p).total) (plan periods)) where
+  all_held : AreAllHeld c.shelf.holds c.words task.first files
+  all_held = subst (λ (w : Wanted). AreHeld c.shelf.holds c.words task.first w files) is_report held
+
+  -- a run of these files ends by itself
+  ends : (found : Files) (run : Verdict) → found ≡ files → IsRun found plan run → (run.answer ≡ answer.End) ⊎ (run.answer ≡ answer.Trapped)
+  ends found run there r =
+      let written = same_written r.written p (one_reading files.source (program r.written) (program p) (subst (λ (f : Files). ReadsAs f.source (program r.written)) there r.spelled) reads) in
+      let told = same_periods r.periods periods (sym r.powered ∙ ap (λ (f : Files). power_file f.power) there ∙ powered) in
+      run_ends found plan run r
+      (subst (λ (q : TProgram). AreSafe (program_bounds q) (suc (program_bounds q).total) (plan r.periods)) (sym written)
+      (subst (λ (ps : List Period). AreSafe (program_bounds p) (suc (program_bounds p).total) (plan ps)) (sym told) safe))
+
+  done_ends : (other : Task) (found : Files) (run : Verdict) → HasFiles c other found → IsDone found other.wanted run → (run.answer ≡ answer.End) ⊎ (run.answer ≡ answer.Trapped)
+  done_ends other found run f done =
+      let same = the_task c task asked other f.is_task in
+      let are : AreFiles c.shelf.holds c.words task.first found =
+      subst (λ (w : Wanted). AreWanted c.shelf.holds c.words task.first w found) is_report (subst (λ (t : Task). AreWanted c.shelf.holds c.words t.first t.wanted found) same f.are_files) in
+      let run_is : IsRun found plan run = subst (λ (w : Wanted). IsDone found w run) (ap (λ (t : Task). t.wanted) same ∙ is_report) done in
+      ends found run (same_files c.shelf.holds c.words task.first files found all_held are) run_is
+
+  judged : is_of_run (verdict_on (program p) files task.wanted).answer ≡ true
+  judged =
+      ap (λ (w : Wanted). is_of_run (verdict_on (program p) files w).answer) is_report
+      ∙ ap (λ (s : Readings). is_of_run (with_sensors (program_code p) s (power_file files.power) plan).answer) sensed
+      ∙ ap (λ (s : Power). is_of_run (with_power (program_code p) rows s plan).answer) powered
+      ∙ of_run (program_code p) (history rows) (plan periods)
+
+  by_answer : (end : Answer) → is_of_run end ≡ true → Comes c end → (status_of end ≡ 0) ⊎ ((status_of end ≡ 8) ⊎ (status_of end ≡ 11))
+  by_answer answer.End r w = inl refl
+  by_answer answer.Trapped r w = inr (inl refl)
+  by_answer answer.Dark r w = elim (done_ends w.task w.files w.run w.fetched w.done) [ inl x ↦ cc (w.came.answered ∙ x) | inr x ↦ cc (w.came.answered ∙ x) ]
+  by_answer answer.Cut r w = elim (done_ends w.task w.files w.run w.fetched w.done) [ inl x ↦ cc (w.came.answered ∙ x) | inr x ↦ cc (w.came.answered ∙ x) ]
+  by_answer end r w = cc r
+
+  enough : (c.shelf.rose → ⊥) → (c.out.rose → ⊥) → (end : Answer) → Comes c end → (status_of end ≡ 0) ⊎ ((status_of end ≡ 8) ⊎ (status_of end ≡ 11))
+  enough calm silent end w =
+      elim (exactly c task asked files held (program p) reads calm silent end w) [
+        | inl e ↦ by_answer end (ap is_of_run e ∙ judged) w
+        | inr e ↦ inr (inr (ap status_of e))
+      ]
+
+-- ---- the whole
+
+module _ (c : Call) (err : Writes) (status : ℕ) (end : Answer) (is : status ≡ status_of end) (comes : Comes c end) where
+  pub works : TookAll err (line_of c.words end) ⊎ TookFront err (line_of c.words end) → Works c err status
+  works line = record {
+    answer = end;
+    is_status = is;
+    comes = comes;
+    line = line;
+    exactly = λ task files reading asked held reads calm silent.
+        elim (exactly c task asked files held reading reads calm silent end comes) [ inl e ↦ inl (is ∙ ap status_of e) | inr e ↦ inr (is ∙ ap status_of e) ];
+    usage = (λ e. no_task c end comes (sym is ∙ e), λ none. is ∙ usage c none end comes);
+    missing = λ task place asked among gone. subst (λ (n : ℕ). (n ≡ 2) ⊎ ((n ≡ 3) ⊎ (n ≡ 11))) (sym is) (missing c task asked place among gone end comes);
+    long = λ task place bytes asked among before told over calm. subst (λ (n : ℕ). (n ≡ 3) ⊎ (n ≡ 11)) (sym is) (long c task asked place among bytes told over before calm end comes);
+    enough = λ task plan files p rows periods asked is_report held reads sensed powered safe calm silent.
+        subst (λ (n : ℕ). (n ≡ 0) ⊎ ((n ≡ 8) ⊎ (n ≡ 11))) (sym is) (enough c task asked plan is_report files held p reads rows sensed periods powered safe calm silent end comes);
+    quiet = λ e. quiet c end comes (ap is_written (sym is) ∙ e);
+  }

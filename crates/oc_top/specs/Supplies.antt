@@ -1,0 +1,12 @@
+-- The program's own supplies.
+use Rattle.std.specs.Prelude.{ℕ, zero, suc, Some, None}
+use Rattle.oc_power.specs.Looping.{looped}
+use Rattle.oc_power.specs.Cutting.{cut_rows}
+use Rattle.oc_top.specs.Commands.{Plans}
+
+-- the rows as they are, the rows in up to 64 rounds, and the rows in pieces of up to 50 steps
+abbrev pub standard_plans : Plans
+standard_plans zero = Some (λ rows. rows)
+standard_plans (suc zero) = Some (looped 64)
+standard_plans (suc (suc zero)) = Some (cut_rows 50)
+standard_plans other = None

@@ -1,54 +1,135 @@
 #!/usr/bin/env python3
-"""Runs the built program over worked cases: run.py
+"""Runs the program over worked cases: run.py [--program PROGRAM] [WORD..]
 
-Each line of cases.jsonl is one case: its words, its files, and the status and both outputs that must come.
-A file is a text, bytes in hexadecimal, a text filled up with spaces to a length, or a list of such contents, each
-with how often it stands there. Ends with 1 if a case differs.
+A case is a file NAME.words below checks/cases or examples, or a file that is just called words, with the words that
+the program gets, one a line; it runs in the folder of that file. Beside it stand
+
+    NAME.out, NAME.err   what must come on both outputs, to the byte; where there is no such file, nothing
+    NAME.status          the status that must come; where there is no such file, 0
+    NAME.how             lines 'make FILE SCRIPT ARGUMENT..' (FILE is what a script of checks/inputs prints),
+                         'stdout FILE' (where standard output goes) and 'memory N' (a limit of N KiB)
+    NAME.drawing, .svg   what examples/timeline.py must draw of NAME.out, as text and as a picture
+
+With words only the cases run whose names have one of them. PROGRAM stands in the place of ./ocelot. Prints what
+differs; ends with 1 where something does or the program can't be built. Nothing is written but temporary files.
 """
-import json
+import argparse
+import difflib
 import os
+import pathlib
+import resource
+import shutil
 import subprocess
 import sys
 import tempfile
 
-HERE = os.path.dirname(os.path.abspath(__file__))
-PROGRAM = os.path.join(HERE, "..", "ocelot")
+TOP = pathlib.Path(__file__).resolve().parent.parent
+FOLDERS = ("checks/cases", "examples")
+ENDS = ("words", "*.words")
+SECONDS = 20
 
 
-def content(value):
-    """Returns the bytes of a file of a case."""
-    if isinstance(value, str):
-        return value.encode()
-    if isinstance(value, list):
-        return b"".join(content(part) * count for part, count in value)
-    if "hex" in value:
-        return bytes.fromhex(value["hex"])
-    return value["text"].encode().ljust(value["pad_to"])
+def beside(words, what):
+    """Returns the path of another file of the case that a file of words begins."""
+    return words.with_name(words.name.removesuffix("words") + what)
 
 
-def outcome(case):
-    """Returns the status and both outputs of the program over a case."""
-    with tempfile.TemporaryDirectory() as folder:
-        for name, value in case["files"].items():
-            with open(os.path.join(folder, name), "wb") as file:
-                file.write(content(value))
-        done = subprocess.run([PROGRAM, *case["words"]], cwd=folder, capture_output=True, stdin=subprocess.DEVNULL)
-    return {"status": done.returncode, "out": done.stdout.decode(), "err": done.stderr.decode()}
+def content(path):
+    return path.read_bytes() if path.exists() else b""
+
+
+def instructions(words):
+    """Returns the lines of a case's file 'how', split into words."""
+    return [line.split() for line in content(beside(words, "how")).decode().splitlines()]
+
+
+def limit_memory(kibibytes):
+    """Returns what a child has to do before it becomes the program, or None."""
+    if kibibytes is None:
+        return None
+    return lambda: resource.setrlimit(resource.RLIMIT_AS, (kibibytes * 1024,) * 2)
+
+
+def run(program, words, folder):
+    """Returns the status and both outputs of the program over a case, or None where it takes too long."""
+    stdout, memory = None, None
+    for kind, *rest in instructions(words):
+        if kind == "make":
+            file, script, *arguments = rest
+            made = subprocess.run([sys.executable, TOP / "checks/inputs" / script, *arguments], check=True, stdout=subprocess.PIPE)
+            (folder / file).write_bytes(made.stdout)
+        elif kind == "stdout":
+            stdout = open(rest[0], "wb")
+        elif kind == "memory":
+            memory = int(rest[0])
+    try:
+        done = subprocess.run(
+            [program, *words.read_text().splitlines()],
+            cwd=folder,
+            stdin=subprocess.DEVNULL,
+            stdout=stdout or subprocess.PIPE,
+            stderr=subprocess.PIPE,
+            timeout=SECONDS,
+            preexec_fn=limit_memory(memory),
+        )
+    except subprocess.TimeoutExpired:
+        return None
+    return done.returncode, done.stdout or b"", done.stderr
+
+
+def differences(what, got, wanted):
+    """Returns the lines that show how an output differs from what must come."""
+    if got == wanted:
+        return []
+    lines = [text.decode(errors="backslashreplace").splitlines() for text in (wanted, got)]
+    shown = list(difflib.unified_diff(*lines, f"{what} wanted", f"{what} got", lineterm="", n=1))
+    return shown or [f"{what} differs in its line ends"]
+
+
+def faults(program, words):
+    """Returns the lines that say what is wrong with a case."""
+    with tempfile.TemporaryDirectory() as temporary:
+        folder = words.parent
+        if any(kind == "make" for kind, *_ in instructions(words)):
+            folder = pathlib.Path(shutil.copytree(folder, os.path.join(temporary, "case")))
+        got = run(program, words, folder)
+    if got is None:
+        return [f"no answer in {SECONDS} seconds"]
+    status, out, err = got
+    wanted = int(content(beside(words, "status")) or 0)
+    found = [] if status == wanted else [f"status {status}, not {wanted}"]
+    found += differences("out", out, content(beside(words, "out")))
+    found += differences("err", err, content(beside(words, "err")))
+    for what, option in (("drawing", []), ("svg", ["--svg"])):
+        if beside(words, what).exists():
+            drawn = subprocess.run([TOP / "examples/timeline.py", *option, beside(words, "out")], stdout=subprocess.PIPE)
+            found += differences(what, drawn.stdout, content(beside(words, what)))
+    return found
+
+
+def name(words):
+    """Returns the name of a case, which is its path without what says that these are words."""
+    return str(words.relative_to(TOP)).removesuffix("words").rstrip("/.")
 
 
 def main():
-    subprocess.run([PROGRAM], capture_output=True)  # builds the program where that is needed
-    with open(os.path.join(HERE, "cases.jsonl")) as file:
-        cases = [json.loads(line) for line in file]
+    parser = argparse.ArgumentParser(description="Runs the program over worked cases.")
+    parser.add_argument("--program", default=TOP / "ocelot", type=os.path.abspath)
+    parser.add_argument("words", nargs="*", metavar="WORD")
+    asked = parser.parse_args()
+    first = [asked.program, "regions", TOP / "examples/first/first.oc"]
+    if subprocess.run(first, stdin=subprocess.DEVNULL, stdout=subprocess.DEVNULL).returncode != 0:
+        sys.exit("checks: there is no program to run")
+    cases = sorted(path for folder in FOLDERS for end in ENDS for path in (TOP / folder).rglob(end) if path.is_file())
+    cases = [case for case in cases if not asked.words or any(word in name(case) for word in asked.words)]
     failed = 0
     for case in cases:
-        got = outcome(case)
-        wrong = {what: value for what, value in got.items() if value != case[what]}
-        failed += bool(wrong)
-        for what, value in wrong.items():
-            print(f"{case['name']}: {what} is {value!r}, not {case[what]!r}")
+        found = faults(asked.program, case)
+        failed += bool(found)
+        for line in [f"{name(case)}: differs"] * bool(found) + [f"    {line}" for line in found]:
+            print(line)
     print(f"checks: {len(cases) - failed} of {len(cases)} cases as they must be")
-    return 1 if failed else 0
+    return 1 if failed or not cases else 0
 
 
 if __name__ == "__main__":

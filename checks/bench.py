@@ -1,0 +1,121 @@
+#!/usr/bin/env python3
+"""Measures the program on workloads: bench.py [--program PROGRAM] [--seconds N] [WORD..]
+
+For each workload it prints, as a row of a table, the size of what is read, the processor time (user and system) and
+the greatest memory of one call, and by how much the time grew from a quarter of the size. With words only the
+workloads run whose names have one of them. A call that takes more than N seconds (60) is stopped.
+"""
+import argparse
+import os
+import pathlib
+import signal
+import subprocess
+import sys
+import tempfile
+
+TOP = pathlib.Path(__file__).resolve().parent.parent
+PROGRAM = TOP / "crates/ocelot/out/ocelot"
+RUN = ("run", "source.oc", "sensors.csv", "power.csv")
+REGIONS = ("regions", "source.oc")
+SENSORS = "time,sensor,value\n0,s,1\n"
+ONE_PERIOD = "on,off\n9000000000,0\n"
+
+
+class Workload:
+    """What is measured: its name, its size N, and what each file holds, a text or what a script of checks/inputs prints."""
+
+    def __init__(self, name, size, kind, sensors=None, power=None):
+        script = "workload.py" if sensors or power else "worst.py"
+        self.name, self.size, self.words = name, size, RUN if sensors or power else REGIONS
+        self.files = {"source.oc": (script, kind, "N")}
+        if self.words is RUN:
+            self.files |= {"sensors.csv": sensors or SENSORS, "power.csv": power or ONE_PERIOD}
+
+    def make(self, folder, size):
+        """Writes the files of the workload at this size, and returns how many bytes they have."""
+        for name, wanted in self.files.items():
+            path = pathlib.Path(folder, name)
+            if isinstance(wanted, str):
+                path.write_text(wanted)
+            else:
+                write_printed(wanted, size, path)
+        return sum(path.stat().st_size for path in pathlib.Path(folder).iterdir())
+
+
+def write_printed(script, size, path):
+    """Writes what a script prints, where N stands for a size. It doesn't come into memory: see measured()."""
+    name, *arguments = [str(size) if word == "N" else word for word in script]
+    with path.open("wb") as file:
+        subprocess.run([TOP / "checks/inputs" / name, *arguments], check=True, stdout=file)
+
+
+WORKLOADS = [
+    Workload("a loop of arithmetic", 40000, "arithmetic", SENSORS),
+    Workload("empty loops", 40000, "turns", SENSORS),
+    Workload("calls and a nonvolatile array", 20000, "calls", SENSORS),
+    Workload("regions that log two words", 60000, "regions", SENSORS),
+    Workload("a straight run in periods of 100 steps", 7900, "straight", SENSORS, ("filled.py", "1000000", "on,off", "100,10")),
+    Workload("a sensor file of the greatest size", 16777216, "one", ("filled.py", "N", "time,sensor,value", "1000000,s,1")),
+    Workload("a power file of the greatest size, each row an outage", 16777216, "one", None, ("filled.py", "N", "on,off", "0,0")),
+    Workload("a source of the greatest size, refused", 100000, "statements"),
+    Workload("needs by a fan of calls", 126, "fan"),
+    Workload("needs up a chain of calls", 126, "chain"),
+    Workload("needs that are tied", 126, "tied"),
+    Workload("needs inside 28 loops", 79, "loops"),
+    Workload("250 variables in each function", 31, "variables"),
+    Workload("sums of 256 numbers", 120, "sums"),
+    Workload("calls inside long expressions", 100, "pulls"),
+    Workload("references to nonvolatile variables", 63, "references"),
+    Workload("names that end differently", 32, "names"),
+    Workload("a thousand regions", 126, "regions"),
+]
+
+
+def measured(program, words, folder, seconds):
+    """Returns the processor time and the memory in KiB of one call, or None where it was stopped.
+
+    The system counts the memory of this process, from which the call was started, as the least that the call took.
+    """
+    how = {"cwd": folder, "stdin": subprocess.DEVNULL, "stdout": subprocess.DEVNULL, "stderr": subprocess.DEVNULL}
+    call = subprocess.Popen([program, *words], **how)
+    signal.signal(signal.SIGALRM, lambda *_: call.kill())
+    signal.alarm(seconds)
+    _, status, used = os.wait4(call.pid, 0)
+    signal.alarm(0)
+    call.returncode = status
+    if not os.WIFSIGNALED(status) and os.WEXITSTATUS(status) not in (0, 5, 9):
+        sys.exit(f"bench: {' '.join(words)} ended with status {os.WEXITSTATUS(status)}")
+    return None if os.WIFSIGNALED(status) else (used.ru_utime + used.ru_stime, used.ru_maxrss)
+
+
+def row(workload, program, seconds):
+    """Returns the row of a workload."""
+    times = []
+    for size in (workload.size // 4, workload.size):
+        with tempfile.TemporaryDirectory() as folder:
+            made = workload.make(folder, size)
+            times.append(measured(program, workload.words, folder, seconds))
+    quarter, whole = times
+    if whole is None:
+        return f"| {workload.name} | {workload.size:,} | {made:,} | more than {seconds} s | | |"
+    growth = f"{whole[0] / max(quarter[0], 0.005):.1f}"
+    return f"| {workload.name} | {workload.size:,} | {made:,} | {whole[0]:.2f} s | {whole[1] // 1024} MiB | {growth} |"
+
+
+def main():
+    parser = argparse.ArgumentParser(description="Measures the program on workloads.")
+    parser.add_argument("--program", type=os.path.abspath)
+    parser.add_argument("--seconds", default=60, type=int)
+    parser.add_argument("words", nargs="*", metavar="WORD")
+    asked = parser.parse_args()
+    # The launcher builds the program where that is needed; it is measured without the launcher.
+    subprocess.run([asked.program or TOP / "ocelot", "regions", TOP / "examples/first/first.oc"], check=True, stdout=subprocess.DEVNULL)
+    print("| what | N | bytes read | processor time | greatest memory | growth from N / 4 |")
+    print("|---|---|---|---|---|---|")
+    for workload in WORKLOADS:
+        if not asked.words or any(word in workload.name for word in asked.words):
+            print(row(workload, asked.program or PROGRAM, asked.seconds), flush=True)
+
+
+if __name__ == "__main__":
+    sys.exit(main())

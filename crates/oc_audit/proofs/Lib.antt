@@ -1,0 +1,5 @@
+pub mod WordsBack
+pub mod ReadBack
+pub mod Standing
+pub mod Named
+pub mod Cut

@@ -12,4 +12,5 @@ pub mod SitesLaw
 pub mod SitesOnce
 pub mod RequiredLaw
 pub mod NeedLaw
+pub mod InputLaws
 pub mod SiteTables

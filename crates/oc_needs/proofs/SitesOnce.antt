@@ -15,12 +15,12 @@ use Rattle.oc_needs.proofs.Tests.{any_of, of_any}
 
 -- ---- members of joined lists
 
-in_front : {A : Type 0} (z : A) (xs ys : List A) → IsOf z xs → IsOf z (xs ++ ys)
+pub in_front : {A : Type 0} (z : A) (xs ys : List A) → IsOf z xs → IsOf z (xs ++ ys)
 in_front z [] ys h = absurd h
 in_front z (x ∷ xs) ys (inl e) = inl e
 in_front z (x ∷ xs) ys (inr h) = inr (in_front z xs ys h)
 
-in_back : {A : Type 0} (z : A) (xs ys : List A) → IsOf z ys → IsOf z (xs ++ ys)
+pub in_back : {A : Type 0} (z : A) (xs ys : List A) → IsOf z ys → IsOf z (xs ++ ys)
 in_back z [] ys h = h
 in_back z (x ∷ xs) ys h = inr (in_back z xs ys h)
 
@@ -28,12 +28,12 @@ one_later : {A : Type 0} (z x : A) (xs ys : List A) → (IsOf z xs ⊎ IsOf z ys
 one_later z x xs ys (inl i) = inl (inr i)
 one_later z x xs ys (inr i) = inr i
 
-of_either : {A : Type 0} (z : A) (xs ys : List A) → IsOf z (xs ++ ys) → (IsOf z xs ⊎ IsOf z ys)
+pub of_either : {A : Type 0} (z : A) (xs ys : List A) → IsOf z (xs ++ ys) → (IsOf z xs ⊎ IsOf z ys)
 of_either z [] ys h = inr h
 of_either z (x ∷ xs) ys (inl e) = inl (inl e)
 of_either z (x ∷ xs) ys (inr h) = one_later z x xs ys (of_either z xs ys h)
 
-in_join : {A B : Type 0} (f : A → List B) (z : B) (x : A) (xs : List A) → IsOf x xs → IsOf z (f x) → IsOf z (flat_map f xs)
+pub in_join : {A B : Type 0} (f : A → List B) (z : B) (x : A) (xs : List A) → IsOf x xs → IsOf z (f x) → IsOf z (flat_map f xs)
 in_join f z x [] o h = absurd o
 in_join f z x (y ∷ ys) (inl e) h = in_front z (f y) (flat_map f ys) (subst (λ w. IsOf z (f w)) e h)
 in_join f z x (y ∷ ys) (inr o) h = in_back z (f y) (flat_map f ys) (in_join f z x ys o h)
@@ -42,13 +42,13 @@ joined_of : {A B : Type 0} (f : A → List B) (z : B) (y : A) (ys : List A) → 
 joined_of f z y ys (inl i) r = (y, inl refl, i)
 joined_of f z y ys (inr i) r = let k = r i in (k.0, inr k.1, k.2)
 
-of_join : {A B : Type 0} (f : A → List B) (z : B) (xs : List A) → IsOf z (flat_map f xs) → (x : A) × IsOf x xs × IsOf z (f x)
+pub of_join : {A B : Type 0} (f : A → List B) (z : B) (xs : List A) → IsOf z (flat_map f xs) → (x : A) × IsOf x xs × IsOf z (f x)
 of_join f z [] h = absurd h
 of_join f z (y ∷ ys) h = joined_of f z y ys (of_either z (f y) (flat_map f ys) h) (of_join f z ys)
 
 -- ---- inputs with the same members
 
-same_rising : (xs ys : List ℕ) → Within xs ys → Within ys xs → rising xs ≡ rising ys
+pub same_rising : (xs ys : List ℕ) → Within xs ys → Within ys xs → rising xs ≡ rising ys
 same_rising xs ys f g = same_members (rising xs) (rising ys) (rises_rising xs) (rises_rising ys) (λ x o. in_rising x ys (f x (of_rising x xs o))) (λ x o. in_rising x xs (g x (of_rising x ys o)))
 
 with_others : (ms ns others : List ℕ) → Within ms ns → Within (ms ++ others) (ns ++ others)

@@ -4,4 +4,5 @@ pub mod Need
 pub mod Requirements
 pub mod View
 pub mod Code
+pub mod Inputs
 pub mod CodeView

@@ -2,6 +2,7 @@
 #![tactic(auto)]
 
 mod asked;
+pub mod inputs;
 pub mod laws;
 mod lists;
 mod local;

@@ -4,3 +4,5 @@ pub mod Loops
 pub mod Spelled
 pub mod StatementLoops
 pub mod Views
+pub mod Expanded
+pub mod Begun

@@ -1,6 +1,7 @@
 //! From tokens to the tree of a program.
 #![tactic(auto)]
 
+mod atomics;
 mod expression;
 mod item;
 mod program;
@@ -11,4 +12,4 @@ mod stop;
 #[cfg(test)]
 mod tests;
 
-pub use program::{ParseError, parse};
+pub use program::{ParseError, parse, parse_blocks};

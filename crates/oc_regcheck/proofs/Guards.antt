@@ -108,12 +108,12 @@ module _ (p : TProgram) (blocks : List ℕ) where
   module _ (r : Ranked p) where
     sound : (k f : ℕ) → length p.functions ≤ r.rank f + k → is_guarded p blocks f ≡ true → Guarded p blocks f
     sound zero f l e = guarded (no_place (function_place p.functions main) refl f (not_true _ e)) (λ g a c i there callee outside. (
-        let up = subst (λ n. r.rank n < r.rank g) callee (r.falls g a c i there) in
-        let top = r.small g (r.within g a i) in
-        absurd (omega (arith, l, up, top))))
+      let up = subst (λ n. r.rank n < r.rank g) callee (r.falls g a c i there) in
+      let top = r.small g (r.within g a i) in
+      absurd (omega (arith, l, up, top))))
     sound (suc k) f l e = guarded (no_place (function_place p.functions main) refl f (not_true _ e)) (λ g a c i there callee outside. (
-        let up = subst (λ n. r.rank n < r.rank g) callee (r.falls g a c i there) in
-        sound k g (omega (arith, l, up)) (ap not (caller_guarded (function_place p.functions main) f g a c (r.within g a i) i there callee outside (not_true _ e)))))
+      let up = subst (λ n. r.rank n < r.rank g) callee (r.falls g a c i there) in
+      sound k g (omega (arith, l, up)) (ap not (caller_guarded (function_place p.functions main) f g a c (r.within g a i) i there callee outside (not_true _ e)))))
 
     pub guarded_is : (f : ℕ) → Decides (is_guarded p blocks f) (Guarded p blocks f)
     guarded_is f = by (is_guarded p blocks f) refl

@@ -6,7 +6,7 @@ use Rattle.std.proofs.lemmas.Bool.{eqb-true, eq-eqb, or_left, or_right, and_part
 use Rattle.oc_tree.specs.Members.{IsOf}
 use Rattle.oc_flow.specs.Variables.{from}
 use Rattle.oc_region.proofs.Elements.{Each}
-use Rattle.oc_regcheck.specs.Outermost.{is_among}
+use Rattle.oc_regcheck.specs.Code.{is_among}
 use Rattle.oc_regcheck.proofs.Outer.{either}
 
 pub in_front : {A : Type 0} (z : A) (xs ys : List A) → IsOf z xs → IsOf z (xs ++ ys)
@@ -97,7 +97,7 @@ of_among n xs o = of_any (λ x. x == n) n xs o (eq-eqb n n refl)
 
 pub in_from : (g i n : ℕ) → i ≤ g → g < i + n → IsOf g (from i n)
 in_from g i zero l k = absurd (omega (arith, l, k))
-in_from g i (suc n) l k = elim (cases_lt i g) [ inl h ↦ inr (in_from g (i + 1) n (omega (arith, h)) (omega (arith, k))) | inr h ↦ inl (omega (arith, l, h)) ]
+in_from g i (suc n) l k = elim (cases_lt i g) [ | inl h ↦ inr (in_from g (i + 1) n (omega (arith, h)) (omega (arith, k))) | inr h ↦ inl (omega (arith, l, h)) ]
 
 pub from_below : (g i n : ℕ) → IsOf g (from i n) → g < i + n
 from_below g i zero o = absurd o

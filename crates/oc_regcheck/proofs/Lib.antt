@@ -1,4 +1,8 @@
 pub mod Outer
 pub mod Joined
+pub mod Sorted
 pub mod Guards
 pub mod Marked
+pub mod Exact
+pub mod Open
+pub mod Verdicts

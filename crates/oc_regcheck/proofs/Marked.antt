@@ -33,7 +33,7 @@ use Rattle.oc_region.proofs.Required.{Own, own_effects, Asks, asked}
 use Rattle.oc_region.proofs.Chains.{Chain, Standing, line_chain}
 use Rattle.oc_regcheck.specs.Enough.{AreStatements, AreCovered, is_inside, covers_all, is_covered, Guarded, comes_to, open_calls, is_guarded}
 use Rattle.oc_regcheck.specs.BlockMarks.{outermost, block_region, block_regions, blocks_marked}
-use Rattle.oc_regcheck.specs.Outermost.{is_among, outermost_from, outer}
+use Rattle.oc_regcheck.specs.Code.{is_among, outermost_from, outer}
 use Rattle.oc_regcheck.proofs.Outer.{Line, or_else, outermost_in, any_among, among_any, over, is_one, is_alone, inside_is}
 use Rattle.oc_regcheck.proofs.Joined.{any_of, of_any, in_filter, of_filter, of_all, all_of, each_of, among_of, of_among}
 use Rattle.oc_regcheck.proofs.Guards.{caller_guarded, not_true, guarded_is}

@@ -1,4 +1,4 @@
 pub mod Enough
 pub mod BlockMarks
 pub mod Laws
-pub mod Outermost
+pub mod Code

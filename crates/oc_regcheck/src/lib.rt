@@ -1,5 +1,9 @@
-//! Hand-written atomic blocks: when they suffice for what a program requires, and that its runs are
-//! timely then.
+//! Whether hand-written atomic blocks suffice for what a program requires.
 #![tactic(auto)]
 
+mod blocks;
+pub mod check;
+mod guard;
+mod inside;
 pub mod laws;
+pub mod verdict;

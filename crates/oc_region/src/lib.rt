@@ -4,8 +4,7 @@
 mod asks;
 mod groups;
 pub mod infer;
-pub mod laws;
-mod places;
-mod range;
+pub mod places;
+pub mod range;
 mod smallest;
 mod unite;

@@ -13,7 +13,7 @@ pub mod Asking
 pub mod Parsing
 pub mod OneReading
 pub mod Exactly
-pub mod Working
+pub mod Drilling
 pub mod StandardPlans
 pub mod Naming
 pub mod Showing

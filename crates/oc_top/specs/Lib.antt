@@ -7,6 +7,7 @@ pub mod Meant
 pub mod Verdict
 pub mod Headline
 pub mod Answers
+pub mod Drills
 pub mod Works
 pub mod Supplies
 pub mod Steps

@@ -11,6 +11,7 @@
 pub mod answer;
 pub mod build;
 pub mod command;
+pub mod drill;
 pub mod files;
 mod names;
 pub mod prepare;

@@ -1,0 +1,14 @@
+pub mod Cells
+pub mod Frames
+pub mod Steps
+pub mod Owners
+pub mod Calls
+pub mod Typed
+pub mod Exact
+pub mod Working
+pub mod StackLaws
+pub mod WellMade
+pub mod MergeLaws
+pub mod ReadLaws
+pub mod InstrLaws
+pub mod Many

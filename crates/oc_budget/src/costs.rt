@@ -129,9 +129,9 @@ fn all_told(alloc: Global, marked: &Marked, image: &Image) -> Result<Budgets, Al
     })
 }
 
-/// The budgets of a program with regions, of which this is the image. A number that doesn't fit is
-/// answered as out of memory: no program that the compiler accepts has such a cost. These numbers
-/// bound every run of the image.
+/// The budgets of a program with regions, of which this is the image. A number that doesn't fit 64
+/// bits is answered as out of memory: a region inside a loop of no turns, whose body no rule bounds,
+/// may have one. These numbers bound every run of the image.
 pub fn budgets(alloc: Global, marked: &Marked, image: &Image) -> Result<Budgets, Memory>
     requires { image.now ≡ code_of marked.now.program marked.now.regions (may_write marked.now) }
     ensures told { IfOk result (λ b. budgets_view b ≡ budgets marked.now) }

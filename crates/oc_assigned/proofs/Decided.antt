@@ -10,7 +10,8 @@ use Rattle.oc_tree.specs.Tree.{TExpr, variable, TArg, value, shared, mutable, TC
 use Rattle.oc_tree.specs.Calls.{place, function_place, callee, args_of_call, block_kinds, body_calls}
 use Rattle.oc_tree.specs.Reach.{linked, is_link, leads, reaches}
 use Rattle.oc_tree.specs.Members.{IsOf}
-use Rattle.oc_tree.specs.Assigned.{param_names, first_param, param_count, takes_mutable, mutable_param, own_param, alone, link_of, arg_links, args_links, to_links, pass_call, function_links, pass_links_from, pass_links, written_through, function_writes, writes_from, writes_through, param_assigned}
+use Rattle.oc_tree.specs.Assigned.{param_names, first_param, param_count, takes_mutable, mutable_param, own_param, alone, link_of, arg_links, args_links, to_links, pass_call}
+use Rattle.oc_tree.specs.Assigned.{function_links, pass_links_from, pass_links, written_through, function_writes, writes_from, writes_through, param_assigned}
 use Rattle.oc_tree.proofs.ReachLaws.{or_left, or_right, or_elim, links_lead, leads_trans, least}
 use Rattle.oc_reach.proofs.Bools.{and_both, and_first, and_second}
 use Rattle.oc_reach.proofs.Entries.{place_below}

@@ -1,14 +1,13 @@
 -- Each `enter` that has the steps behind it begins an attempt that is closed.
-use Rattle.std.proofs.Common.{◌≡◌, ℕ, zero, suc, ◌+◌, ◌*◌, ◌-◌, ◌<◌, ◌≤◌, ℤ, pos, List, [], ◌∷◌, ◌++◌, length, append_assoc, Option, Some, None, refl, sym, ap, ◌∙◌, subst, arith, Bool, true, false, ⊎_elim, inl, inr}
+use Rattle.std.proofs.Common.{◌≡◌, ℕ, zero, suc, ◌+◌, ◌*◌, ◌-◌, ◌<◌, ◌≤◌, ℤ, List, [], ◌∷◌, ◌++◌, length, append_assoc, Option, Some, None, refl, sym, ap, ◌∙◌, subst, arith, Bool, true, false, ⊎_elim}
 use Rattle.std.specs.Prelude.{nat_lt, slice_set, if◌then◌else◌, ◌⊎◌}
-use Rattle.std.proofs.lemmas.Bool.{ltb-true, ltb-false, lt-ltb, le-ltb}
+use Rattle.std.proofs.lemmas.Bool.{ltb-false, lt-ltb, le-ltb}
 use Rattle.oc_io.specs.declared.period.Period.{Period}
 use Rattle.oc_tree.specs.Said.{Told}
 use Rattle.oc_tree.specs.Word.{is_word}
 use Rattle.oc_tree.specs.declared.said.Said.{Said}
 use Rattle.oc_tree.specs.declared.said.Said.TheVariants.{Sensed, Showed, Entered, Committed, Aborted, Off, Dark, Ended}
 use Rattle.oc_tree.specs.declared.said.Shown.{Shown}
-use Rattle.oc_tree.specs.declared.said.Ending.{Ending}
 use Rattle.oc_undo.specs.declared.Entry.{Entry}
 use Rattle.oc_ckpt.specs.declared.AreaState.{AreaState}
 use Rattle.oc_ckpt.specs.declared.AreaState.TheVariants.{Fresh, Open, Sealed, Armed}
@@ -16,20 +15,21 @@ use Rattle.oc_isa.specs.declared.phase.Phase.{Phase}
 use Rattle.oc_isa.specs.declared.phase.Phase.TheVariants.{Waking, Undoing, Restoring, Running, Entering, Over, Lost}
 use Rattle.oc_isa.specs.Next.{Regs, Write, Next, Goes, Senses, Enters, Commits, Ends, Stuck, Device}
 use Rattle.oc_isa.specs.Run.{core_at}
-use Rattle.oc_isa.specs.Power.{State, Stepped, World, is_over, quietly, running, in_area, words_of, word_of, held, wake, resume, enter, enter_on, commits, goes, to_log, run_next, step, step_in, told, ticked, tick_on, ticks_on, fail_in, abort_of, failed, power_fails, darkness, one_period, through, shown_of, first_world, first_state, power_run}
+use Rattle.oc_isa.specs.Power.{State, Stepped, World, is_over, quietly, running, in_area, words_of, word_of, held, resume, enter, enter_on, commits, goes, to_log, run_next, step}
+use Rattle.oc_isa.specs.Power.{step_in, told, ticked, tick_on, fail_in, abort_of, failed, power_fails, through, shown_of, first_state, power_run}
 use Rattle.oc_outage.specs.Honest.{IsFit}
 use Rattle.oc_outage.proofs.Facts.{state_at, regs_at}
 use Rattle.oc_outage.proofs.Going.{onto, world_at, through-onto}
 use Rattle.oc_outage.proofs.Resting.{ticks_on-over, power_fails-over, through-over}
-use Rattle.oc_outage.proofs.Words.{length-words_of, held-saved, IsSaved}
-use Rattle.oc_bounds.specs.Bounds.{Bounds, Lasts, Leaves, IsBounded, IsBrief}
+use Rattle.oc_outage.proofs.Words.{length-words_of}
+use Rattle.oc_bounds.specs.Bounds.{Bounds, Leaves, IsBounded}
 use Rattle.oc_bounds.specs.Attempts.{Closes, AttemptsClose, steps_after}
 use Rattle.oc_bounds.proofs.Unlogged.{unlogged, none_logged}
 use Rattle.oc_outage.proofs.Restored.{restored_one, all_restored}
-use Rattle.oc_bounds.proofs.Needs.{need_at, stepping, IsOpen, IsEntering, IsUndone, IsRunning, Needs, Due, Comes, over, gains, nears}
+use Rattle.oc_bounds.proofs.Needs.{need_at, stepping, IsOpen, IsEntering, IsUndone, Needs, Due, Comes, over, gains, nears}
 use Rattle.oc_bounds.proofs.Steps.{step_comes}
 use Rattle.oc_bounds.proofs.Periods.{Fine, stopped, owes, not_over, not_lost, fails_any, first_due}
-use Rattle.oc_bounds.proofs.Closing.{rest_of, items, rest_after, closes_in}
+use Rattle.oc_bounds.proofs.Closing.{rest_of, rest_after, closes_in}
 
 module _ (d : Device) (b : Bounds) where
   -- an attempt of region r begins here
@@ -67,12 +67,27 @@ module _ (d : Device) (b : Bounds) where
         let s = stepping d b n (core_at (regs_at pc fp stack) 0 nv) (Enters en.number en.to) en.next en.lasts in
         let brief = s.next.0 in
         let z : unlogged brief.words [] ≤ b.logged en.number = omega (arith, none_logged brief.words, brief.few) in
-        record { pc = en.to.pc; fp = en.to.fp; deep = 0; stack = en.to.stack; nv = nv; log = log; words = words; is = refl; ws = brief.words; leaves = brief.left; few = subst (λ l. unlogged brief.words l ≤ b.logged en.number) (sym en.empty) z }
+        record {
+          pc = en.to.pc;
+          fp = en.to.fp;
+          deep = 0;
+          stack = en.to.stack;
+          nv = nv;
+          log = log;
+          words = words;
+          is = refl;
+          ws = brief.words;
+          leaves = brief.left;
+          few =
+              subst (λ l. unlogged brief.words l ≤ b.logged en.number) (sym en.empty) z;
+        }
 
-    enter_says : (phase : Phase) (depth done : ℕ) (en : IsEntering d b n k done (regs_at pc fp stack) nv log words) → Says (enter done en.number en.to (state_at phase pc fp depth stack nv log Open words))
+    enter_says : (phase : Phase) (depth done : ℕ) (en : IsEntering d b n k done (regs_at pc fp stack) nv log words)
+        → Says (enter done en.number en.to (state_at phase pc fp depth stack nv log Open words))
     enter_says phase depth done en = enter_by phase depth done (nat_lt done (length (words_of en.to))) en refl
 
-    enter_on_says : (depth done : ℕ) (en : IsEntering d b n k done (regs_at pc fp stack) nv log words) → Says (enter_on done (d.next (regs_at pc fp stack) nv) (state_at (Entering done) pc fp depth stack nv log Open words))
+    enter_on_says : (depth done : ℕ) (en : IsEntering d b n k done (regs_at pc fp stack) nv log words)
+        → Says (enter_on done (d.next (regs_at pc fp stack) nv) (state_at (Entering done) pc fp depth stack nv log Open words))
     enter_on_says depth done en = subst (λ x. Says (enter_on done x (state_at (Entering done) pc fp depth stack nv log Open words))) (sym en.next) (enter_says (Entering done) depth done en)
 
     open_by : (x : Next) → IsOpen d b n k (regs_at pc fp stack) nv log → d.next (regs_at pc fp stack) nv ≡ x → Says (run_next sample x (state_at Running pc fp 0 stack nv log Open words))
@@ -85,17 +100,21 @@ module _ (d : Device) (b : Bounds) where
     open_by (Ends how) o e = tt
     open_by Stuck o e = tt
 
-    restores_sealed : (done depth : ℕ) (more : Bool) → Says (if more then restored_one d done (state_at (Restoring done) pc fp depth stack nv log Sealed words) else resume d Sealed (state_at (Restoring done) pc fp depth stack nv log Sealed words))
+    restores_sealed : (done depth : ℕ) (more : Bool)
+        → Says (if more then restored_one d done (state_at (Restoring done) pc fp depth stack nv log Sealed words) else resume d Sealed
+        (state_at (Restoring done) pc fp depth stack nv log Sealed words))
     restores_sealed done depth true = tt
     restores_sealed done depth false = tt
 
-    restores_armed : (done depth : ℕ) (more : Bool) → IsUndone d b n k done pc fp stack nv log words → nat_lt done (held words) ≡ more → Says (if more then restored_one d done (state_at (Restoring done) pc fp depth stack nv log Armed words) else resume d Armed (state_at (Restoring done) pc fp depth stack nv log Armed words))
+    restores_armed : (done depth : ℕ) (more : Bool) → IsUndone d b n k done pc fp stack nv log words → nat_lt done (held words) ≡ more
+        → Says (if more then restored_one d done (state_at (Restoring done) pc fp depth stack nv log Armed words) else resume d Armed (state_at (Restoring done) pc fp depth stack nv log Armed words))
     restores_armed done depth true r q = tt
     restores_armed done depth false r q =
         let g = r.entry in
         let e = all_restored d words g.saved g.is_saved done pc fp stack r.restored (ltb-false done (held words) q) in
         let at : d.region pc ≡ g.number = ap (λ (r : Regs). d.region r.pc) e ∙ g.found in
-        let l : Leaves d g.brief.words (b.spent g.number) (core_at (regs_at pc fp stack) 1 nv) = subst (λ x. Leaves d g.brief.words (b.spent g.number) (core_at x 1 nv)) (sym e) (subst (λ v. Leaves d g.brief.words (b.spent g.number) (core_at g.saved 1 v)) (sym r.same) g.brief.left) in
+        let l : Leaves d g.brief.words (b.spent g.number) (core_at (regs_at pc fp stack) 1 nv) =
+        subst (λ x. Leaves d g.brief.words (b.spent g.number) (core_at x 1 nv)) (sym e) (subst (λ v. Leaves d g.brief.words (b.spent g.number) (core_at g.saved 1 v)) (sym r.same) g.brief.left) in
         subst (λ r. Begun r (state_at Running pc fp 1 stack nv log Armed words)) (sym at)
         (record { pc = pc; fp = fp; deep = 0; stack = stack; nv = nv; log = log; words = words; is = refl; ws = g.brief.words; leaves = l; few = omega (arith, g.full, g.brief.few) })
 
@@ -115,7 +134,8 @@ module _ (d : Device) (b : Bounds) where
     armed_by deep (Ends how) = tt
     armed_by deep Stuck = tt
 
-    says : (area : AreaState) (phase : Phase) (depth : ℕ) → Needs d b area phase depth n k (state_at phase pc fp depth stack nv log area words) → Says (step_in d sample phase (state_at phase pc fp depth stack nv log area words))
+    says : (area : AreaState) (phase : Phase) (depth : ℕ) → Needs d b area phase depth n k (state_at phase pc fp depth stack nv log area words)
+        → Says (step_in d sample phase (state_at phase pc fp depth stack nv log area words))
     says Fresh Waking depth s = tt
     says Fresh (Undoing j) depth s = absurd s
     says Fresh (Restoring j) depth s = absurd s
@@ -184,7 +204,8 @@ module _ (d : Device) (b : Bounds) (h : ℕ → ℕ → ℤ) (fit : IsFit d) (lo
   abbrev Behind : List Period → Type 0
   Behind periods = (from : ℕ) (s : State) → Fine d b s → ((i : ℕ) → from ≤ i → left i ≡ steps_after from periods i) → AllClose b left (through d h periods (world_at from s [])).report
 
-  all_behind : (t : ℕ) (said : Option Said) (is : List Told) → ((r : ℕ) → said ≡ Some (Entered r) → b.spent r + b.logged r ≤ left t → Closes is) → AllClose b left is → AllClose b left (told [] t said ++ is)
+  all_behind : (t : ℕ) (said : Option Said) (is : List Told) → ((r : ℕ) → said ≡ Some (Entered r) → b.spent r + b.logged r ≤ left t → Closes is) → AllClose b left is
+      → AllClose b left (told [] t said ++ is)
   all_behind t None is f a = a
   all_behind t (Some (Sensed x v)) is f a = (tt, a)
   all_behind t (Some (Showed v)) is f a = (tt, a)
@@ -204,7 +225,8 @@ module _ (d : Device) (b : Bounds) (h : ℕ → ℕ → ℤ) (fit : IsFit d) (lo
         subst (λ x. Closes (rest_of d h p periods j (world_at (suc t) x [])).report) (sym g.is)
         (closes_in d h p periods words_of_h g.ws j (suc t) g.pc g.fp g.deep (b.spent r) g.stack g.nv g.log g.words g.leaves (omega (arith, e, le, g.few)))
 
-    begins_here : (j t r : ℕ) (said : Option Said) (s : State) → Begins d b said s → said ≡ Some (Entered r) → left t ≡ j → b.spent r + b.logged r ≤ left t → Closes (rest_of d h p periods j (world_at (suc t) s [])).report
+    begins_here : (j t r : ℕ) (said : Option Said) (s : State) → Begins d b said s → said ≡ Some (Entered r) → left t ≡ j → b.spent r + b.logged r ≤ left t
+        → Closes (rest_of d h p periods j (world_at (suc t) s [])).report
     begins_here j t r said s g x e le = closes_here j t r s (subst (λ y. Begins d b y s) x g) e le
 
     abort_says : (area : AreaState) (words : List ℤ) (r : ℕ) → abort_of d area words ≡ Some (Entered r) → ⊥
@@ -258,8 +280,11 @@ module _ (d : Device) (b : Bounds) (h : ℕ → ℕ → ℤ) (fit : IsFit d) (lo
         let here : left t ≡ j = l.0 t (omega arith) (omega arith) ∙ (omega arith) in
         let comes = step_comes d b fit (λ x. h x t) (λ x. words_of_h x t) s.stack s.nv s.log s.words g.sized n k s.pc s.fp s.area s.phase s.depth g.needs in
         let began = says d b fit (λ x. h x t) s.stack s.nv s.log s.words n k s.pc s.fp s.area s.phase s.depth g.needs in
-        let rest = ticks_close j (suc t) r.state (fine_after n k r.state comes)
-        (subst (λ u. (i : ℕ) → suc t ≤ i → i < u → left i ≡ u - suc i) (sym e) (λ i a b. l.0 i (omega (arith, a)) b), subst (λ u. (i : ℕ) → u + p.off ≤ i → left i ≡ steps_after (u + p.off) periods i) (sym e) l.1) in
+        let rest = ticks_close j (suc t) r.state (fine_after n k r.state comes) (
+          subst (λ u. (i : ℕ) → suc t ≤ i → i < u → left i ≡ u - suc i) (sym e) (λ i a b. l.0 i (omega (arith, a)) b),
+          subst
+              (λ u. (i : ℕ) → u + p.off ≤ i → left i ≡ steps_after (u + p.off) periods i) (sym e) l.1,
+        ) in
         subst (λ (x : World). AllClose b left (rest_of d h p periods j x).report) (sym is_ticked)
         (subst (λ x. AllClose b left x) (sym (rest_after d h p periods j t r))
         (all_behind t r.said _ (λ q x le. begins_here j t q r.said r.state began x here le) rest))
@@ -275,7 +300,9 @@ module _ (d : Device) (b : Bounds) (h : ℕ → ℕ → ℤ) (fit : IsFit d) (lo
     (λ i a. l i (omega (arith, a)) ∙ ap (λ x. if x then from + p.on - suc i else steps_after (from + p.on + p.off) periods i) (le-ltb i (from + p.on) (omega (arith, a)))),
   )
 
-pub attempts_close : (d : Device) (b : Bounds) (h : ℕ → ℕ → ℤ) (periods : List Period) → IsFit d → IsBounded d b → ((s t : ℕ) → is_word (h s t) ≡ true) → AttemptsClose b periods (power_run d h periods).report
+pub attempts_close : (d : Device) (b : Bounds) (h : ℕ → ℕ → ℤ) (periods : List Period) → IsFit d → IsBounded d b → ((s t : ℕ) → is_word (h s t) ≡ true)
+    → AttemptsClose b periods (power_run d h periods).report
 attempts_close d b h periods fit q words before rest tick r e le =
     one_of b (steps_after 0 periods) before rest tick r
-    (subst (λ l. AllClose b (steps_after 0 periods) l) (sym e) (all_close d b h fit q.safe words (steps_after 0 periods) periods 0 (first_state d) (owes b.total b.safe (first_due d b h fit q.safe words q)) (λ i a. refl))) le
+    (subst (λ l. AllClose b (steps_after 0 periods) l) (sym e)
+    (all_close d b h fit q.safe words (steps_after 0 periods) periods 0 (first_state d) (owes b.total b.safe (first_due d b h fit q.safe words q)) (λ i a. refl))) le

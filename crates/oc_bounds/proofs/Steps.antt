@@ -1,5 +1,5 @@
 -- Each step brings a state nearer.
-use Rattle.std.proofs.Common.{◌≡◌, ℕ, zero, suc, ◌+◌, ◌*◌, ◌-◌, ◌<◌, ◌≤◌, ℤ, pos, List, [], ◌∷◌, ◌++◌, length, take, Option, Some, None, refl, sym, ap, ◌∙◌, subst, arith, Bool, true, false, length-append}
+use Rattle.std.proofs.Common.{◌≡◌, ℕ, zero, suc, ◌+◌, ◌*◌, ◌-◌, ◌<◌, ◌≤◌, ℤ, List, [], ◌∷◌, ◌++◌, length, take, Option, Some, None, refl, sym, ap, ◌∙◌, subst, arith, Bool, true, false, length-append}
 use Rattle.std.specs.Prelude.{nat_lt, slice_set, if◌then◌else◌}
 use Rattle.std.proofs.lemmas.Bool.{ltb-true, ltb-false}
 use Rattle.std.proofs.lemmas.List.{length-set}
@@ -15,15 +15,17 @@ use Rattle.oc_isa.specs.declared.phase.Phase.{Phase}
 use Rattle.oc_isa.specs.declared.phase.Phase.TheVariants.{Waking, Undoing, Restoring, Running, Entering, Over, Lost}
 use Rattle.oc_isa.specs.Next.{pushed, Regs, Write, Next, Goes, Senses, Enters, Commits, Ends, Stuck, Device, written}
 use Rattle.oc_isa.specs.Run.{Core, core_at}
-use Rattle.oc_isa.specs.Power.{State, Stepped, running, quietly, in_area, words_of, word_of, held, wake, undone, undo_phase, undo_step, restore, resume, enter, enter_on, commits, goes, to_log, entry_at, run_next, step_in}
+use Rattle.oc_isa.specs.Power.{State, running, quietly, in_area, words_of, word_of, held, wake, undone, undo_phase, undo_step, resume, enter, enter_on, commits, goes, to_log}
+use Rattle.oc_isa.specs.Power.{entry_at, run_next, step_in}
 use Rattle.oc_outage.specs.Honest.{IsFit}
 use Rattle.oc_outage.proofs.Facts.{state_at, regs_at}
 use Rattle.oc_outage.proofs.Undone.{undo-set, undo-last, undo-entry_at, has_entry_is, EntryNumber, entry_number}
 use Rattle.oc_outage.proofs.Words.{IsSaved, length-words_of, held-saved, one_saved}
 use Rattle.oc_bounds.specs.Bounds.{Bounds, Lasts, Leaves, is_listed}
-use Rattle.oc_bounds.proofs.Unlogged.{unlogged, none_logged, logged_less, logged_one}
+use Rattle.oc_bounds.proofs.Unlogged.{unlogged, none_logged, logged_one}
 use Rattle.oc_outage.proofs.Restored.{restored_one, none_restored, more_restored, all_restored}
-use Rattle.oc_bounds.proofs.Needs.{need_at, stepping, fits, leaving, IsOpen, IsEntering, IsStored, IsSealed, IsRestoring, IsEntry, IsWaking, IsUndoing, IsUndone, IsRunning, OnArmed, Needs, Due, Comes, over, gains, nears, cost}
+use Rattle.oc_bounds.proofs.Needs.{need_at, stepping, fits, leaving, IsOpen, IsEntering, IsRestoring, IsEntry, IsWaking, IsUndoing, IsUndone, IsRunning, OnArmed, Needs, Comes}
+use Rattle.oc_bounds.proofs.Needs.{over, gains, nears, cost}
 
 is_logged : (b : Bool) (a : ℕ) → (if b then None else Some a) ≡ None → b ≡ true
 is_logged true a e = refl
@@ -50,11 +52,13 @@ asked false addr a e = (refl, cc)
 
 -- a boot in a region
 module _ (d : Device) (b : Bounds) (stack nv : List ℤ) (log : List Entry) (words : List ℤ) (n pc fp : ℕ) where
-  undone_from : (j l depth : ℕ) (entry : IsEntry d b n nv log words) → j ≤ length log → undo (take j log) nv ≡ entry.entry_nv → 1 + j + length (words_of entry.saved) + cost d b n nv log words entry ≤ l → OnArmed d b (undo_phase j) depth n l (state_at (undo_phase j) pc fp depth stack nv log Armed words)
+  undone_from : (j l depth : ℕ) (entry : IsEntry d b n nv log words) → j ≤ length log → undo (take j log) nv ≡ entry.entry_nv
+      → 1 + j + length (words_of entry.saved) + cost d b n nv log words entry ≤ l → OnArmed d b (undo_phase j) depth n l (state_at (undo_phase j) pc fp depth stack nv log Armed words)
   undone_from zero l depth entry le u due = record { entry = entry; same = u; restored = none_restored d pc fp stack entry.saved; due = omega (arith, due) }
   undone_from (suc j) l depth entry le u due = record { entry = entry; short = omega (arith, le); rest = u; due = omega (arith, due) }
 
-module _ (d : Device) (b : Bounds) (fit : IsFit d) (sample : ℕ → ℤ) (words_are : (s : ℕ) → is_word (sample s) ≡ true) (stack nv : List ℤ) (log : List Entry) (words : List ℤ) (sized : length words ≡ 3 + d.room) (n k pc fp : ℕ) where
+module _ (d : Device) (b : Bounds) (fit : IsFit d) (sample : ℕ → ℤ) (words_are : (s : ℕ) → is_word (sample s) ≡ true) (stack nv : List ℤ) (log : List Entry) (words : List ℤ)
+    (sized : length words ≡ 3 + d.room) (n k pc fp : ℕ) where
   -- a step of an `enter`
   module _ (phase : Phase) (depth done : ℕ) (en : IsEntering d b n k done (regs_at pc fp stack) nv log words) where
     abbrev here : State
@@ -67,7 +71,27 @@ module _ (d : Device) (b : Bounds) (fit : IsFit d) (sample : ℕ → ℤ) (words
         let u : undo log nv ≡ nv = ap (λ l. undo l nv) en.empty in
         let z : length {A = Entry} [] + unlogged brief.words [] ≤ length brief.words = omega (arith, none_logged brief.words) in
         let f : length log + unlogged brief.words log ≤ length brief.words = subst (λ l. length l + unlogged brief.words l ≤ length brief.words) (sym en.empty) z in
-        let run : IsRunning d b s.less (b.spent en.number + unlogged brief.words log) en.to 1 nv log words = record { entry = record { saved = en.to; is_saved = saved; number = en.number; found = fit.entered (regs_at pc fp stack) nv en.number en.to en.next; entry_nv = nv; undoes = u; lasts = s.next.1; brief = brief; full = f }; now = s.less; upto = omega arith; lasts = s.next.1; m = b.spent en.number; leaves = brief.left; due = omega arith } in
+        let run : IsRunning d b s.less (b.spent en.number + unlogged brief.words log) en.to 1 nv log words =
+        record {
+          entry = record {
+            saved = en.to;
+            is_saved = saved;
+            number = en.number;
+            found = fit.entered (regs_at pc fp stack) nv en.number en.to en.next;
+            entry_nv =
+                nv;
+            undoes = u;
+            lasts = s.next.1;
+            brief = brief;
+            full = f;
+          };
+          now = s.less;
+          upto = omega arith;
+          lasts = s.next.1;
+          m = b.spent en.number;
+          leaves = brief.left;
+          due = omega arith;
+        } in
         gains s.less (b.spent en.number + unlogged brief.words log) (omega (arith, s.is)) (record { needs = run; sized = sized })
 
     saved-fit : length (words_of en.to) ≤ length words
@@ -108,13 +132,15 @@ module _ (d : Device) (b : Bounds) (fit : IsFit d) (sample : ℕ → ℤ) (words
     enter_on_comes = subst (λ x. Comes d b n k 1 (enter_on done x here).state) (sym en.next) enter_comes
 
   -- outside a region
-  open_by : (x : Next) → IsOpen d b n k (regs_at pc fp stack) nv log → d.next (regs_at pc fp stack) nv ≡ x → Comes d b n k 1 (run_next sample x (state_at Running pc fp 0 stack nv log Open words)).state
+  open_by : (x : Next) → IsOpen d b n k (regs_at pc fp stack) nv log → d.next (regs_at pc fp stack) nv ≡ x
+      → Comes d b n k 1 (run_next sample x (state_at Running pc fp 0 stack nv log Open words)).state
   open_by (Goes to w v) o e =
       let s = stepping d b n (core_at (regs_at pc fp stack) 0 nv) _ e o.lasts in
       gains s.less (need_at (d.next to (written w nv))) (omega (arith, s.is)) (record { needs = record { lasts = s.next; empty = o.empty; due = omega arith }; sized = sized })
   open_by (Senses x to) o e =
       let s = stepping d b n (core_at (regs_at pc fp stack) 0 nv) _ e o.lasts in
-      gains s.less (need_at (d.next (pushed to (sample x)) nv)) (omega (arith, s.is)) (record { needs = record { lasts = s.next (sample x) (words_are x); empty = o.empty; due = omega arith }; sized = sized })
+      gains s.less (need_at (d.next (pushed to (sample x)) nv)) (omega (arith, s.is))
+      (record { needs = record { lasts = s.next (sample x) (words_are x); empty = o.empty; due = omega arith }; sized = sized })
   open_by (Enters r to) o e =
       let due : need_at (Enters r to) ≤ k = subst (λ x. need_at x ≤ k) e o.due in
       enter_comes Running 0 0 (record { lasts = o.lasts; number = r; to = to; next = e; empty = o.empty; upto = omega arith; saved = refl; due = omega (arith, due, length-words_of to) })
@@ -123,7 +149,9 @@ module _ (d : Device) (b : Bounds) (fit : IsFit d) (sample : ℕ → ℤ) (words
   open_by Stuck o e = absurd ((stepping d b n (core_at (regs_at pc fp stack) 0 nv) _ e o.lasts).next)
 
   -- a boot from a checkpoint
-  restores_sealed : (done depth : ℕ) (more : Bool) → IsRestoring d b n k done pc fp stack nv log words → nat_lt done (held words) ≡ more → Comes d b n k 1 (if more then restored_one d done (state_at (Restoring done) pc fp depth stack nv log Sealed words) else resume d Sealed (state_at (Restoring done) pc fp depth stack nv log Sealed words)).state
+  restores_sealed : (done depth : ℕ) (more : Bool) → IsRestoring d b n k done pc fp stack nv log words → nat_lt done (held words) ≡ more
+      → Comes d b n k 1 (if more then restored_one d done (state_at (Restoring done) pc fp depth stack nv log Sealed words) else resume d Sealed
+      (state_at (Restoring done) pc fp depth stack nv log Sealed words)).state
   restores_sealed done depth true r q =
       let g = r.stored in
       let lt = ltb-true done (held words) q in
@@ -156,18 +184,36 @@ module _ (d : Device) (b : Bounds) (fit : IsFit d) (sample : ℕ → ℤ) (words
           let u : undo log (put_back l.entry nv) ≡ e.entry_nv = undo-set log nv l.entry.addr l.entry.old l.has ∙ e.undoes in
           let rest : undo (take j log) (put_back l.entry nv) ≡ e.entry_nv = sym (undo-last (take j log) l.entry nv) ∙ ap (λ l. undo l nv) (sym l.taken) ∙ w.rest in
           nears (k - 1) (omega (arith, w.due)) (record {
-            needs = undone_from d b stack (put_back l.entry nv) log words n pc fp j (k - 1) depth (record { saved = e.saved; is_saved = e.is_saved; number = e.number; found = e.found; entry_nv = e.entry_nv; undoes = u; lasts = e.lasts; brief = e.brief; full = e.full }) (omega (arith, w.short)) rest (omega (arith, w.due));
+            needs = undone_from d b stack (put_back l.entry nv) log words n pc fp j (k - 1) depth
+                (record {
+                  saved = e.saved;
+                  is_saved = e.is_saved;
+                  number = e.number;
+                  found = e.found;
+                  entry_nv = e.entry_nv;
+                  undoes = u;
+                  lasts = e.lasts;
+                  brief = e.brief;
+                  full =
+                      e.full;
+                }) (omega (arith, w.short)) rest (omega (arith, w.due));
             sized = sized;
           })
 
   -- the entry again, from the area
-  resumes : (entry : IsEntry d b n nv log words) → nv ≡ entry.entry_nv → regs_at pc fp stack ≡ entry.saved → 1 + cost d b n nv log words entry ≤ k → Comes d b n k 1 (state_at Running pc fp 1 stack nv log Armed words)
+  resumes : (entry : IsEntry d b n nv log words) → nv ≡ entry.entry_nv → regs_at pc fp stack ≡ entry.saved → 1 + cost d b n nv log words entry ≤ k
+      → Comes d b n k 1 (state_at Running pc fp 1 stack nv log Armed words)
   resumes entry same eq due =
       let l : Lasts d b n (core_at (regs_at pc fp stack) 1 nv) = subst (λ g. Lasts d b n (core_at g 1 nv)) (sym eq) (subst (λ v. Lasts d b n (core_at entry.saved 1 v)) (sym same) entry.lasts) in
-      let q : Leaves d entry.brief.words (b.spent entry.number) (core_at (regs_at pc fp stack) 1 nv) = subst (λ g. Leaves d entry.brief.words (b.spent entry.number) (core_at g 1 nv)) (sym eq) (subst (λ v. Leaves d entry.brief.words (b.spent entry.number) (core_at entry.saved 1 v)) (sym same) entry.brief.left) in
-      nears (k - 1) (omega (arith, due)) (record { needs = record { entry = entry; now = n; upto = omega arith; lasts = l; m = b.spent entry.number; leaves = q; due = omega (arith, due) }; sized = sized })
+      let q : Leaves d entry.brief.words (b.spent entry.number) (core_at (regs_at pc fp stack) 1 nv) =
+      subst (λ g. Leaves d entry.brief.words (b.spent entry.number) (core_at g 1 nv)) (sym eq)
+      (subst (λ v. Leaves d entry.brief.words (b.spent entry.number) (core_at entry.saved 1 v)) (sym same) entry.brief.left) in
+      nears (k - 1) (omega (arith, due)) (record
+      { needs = record { entry = entry; now = n; upto = omega arith; lasts = l; m = b.spent entry.number; leaves = q; due = omega (arith, due) }; sized = sized })
 
-  restores_armed : (done depth : ℕ) (more : Bool) → IsUndone d b n k done pc fp stack nv log words → nat_lt done (held words) ≡ more → Comes d b n k 1 (if more then restored_one d done (state_at (Restoring done) pc fp depth stack nv log Armed words) else resume d Armed (state_at (Restoring done) pc fp depth stack nv log Armed words)).state
+  restores_armed : (done depth : ℕ) (more : Bool) → IsUndone d b n k done pc fp stack nv log words → nat_lt done (held words) ≡ more
+      → Comes d b n k 1 (if more then restored_one d done (state_at (Restoring done) pc fp depth stack nv log Armed words) else resume d Armed
+      (state_at (Restoring done) pc fp depth stack nv log Armed words)).state
   restores_armed done depth true r q =
       let g = r.entry in
       let lt = ltb-true done (held words) q in
@@ -195,7 +241,8 @@ module _ (d : Device) (b : Bounds) (fit : IsFit d) (sample : ℕ → ℤ) (words
     abbrev core : Core
     core = core_at (regs_at pc fp stack) (suc depth) nv
 
-    goes_by : (to : Regs) (w : Option Write) (v : Option Shown) (o : Option ℕ) → d.next (regs_at pc fp stack) nv ≡ Goes to w v → to_log (suc depth) w log ≡ o → Comes d b n k 1 (goes o to w v inside).state
+    goes_by : (to : Regs) (w : Option Write) (v : Option Shown) (o : Option ℕ) → d.next (regs_at pc fp stack) nv ≡ Goes to w v → to_log (suc depth) w log ≡ o
+        → Comes d b n k 1 (goes o to w v inside).state
     goes_by to w v None e o =
         let g = r.entry in
         let s = stepping d b r.now core _ e r.lasts in
@@ -225,7 +272,18 @@ module _ (d : Device) (b : Bounds) (fit : IsFit d) (sample : ℕ → ℤ) (words
         let u : undo (log ++ x ∷ []) nv ≡ g.entry_nv = undo-entry_at log nv a ∙ g.undoes in
         nears (k - 1) (omega (arith, r.due, one, t.is)) (record {
           needs = record {
-            entry = record { saved = g.saved; is_saved = g.is_saved; number = g.number; found = g.found; entry_nv = g.entry_nv; undoes = u; lasts = g.lasts; brief = g.brief; full = omega (arith, one, g.full, length-append log (x ∷ [])) };
+            entry = record {
+              saved = g.saved;
+              is_saved = g.is_saved;
+              number = g.number;
+              found = g.found;
+              entry_nv = g.entry_nv;
+              undoes = u;
+              lasts = g.lasts;
+              brief = g.brief;
+              full =
+                  omega (arith, one, g.full, length-append log (x ∷ []));
+            };
             now = r.now;
             upto = r.upto;
             lasts = r.lasts;
@@ -237,10 +295,13 @@ module _ (d : Device) (b : Bounds) (fit : IsFit d) (sample : ℕ → ℤ) (words
         })
 
     -- the words and the log stay
-    stays : (to : Regs) (deep now m : ℕ) → suc now ≤ n → suc m ≤ r.m → Lasts d b now (core_at to (suc deep) nv) → Leaves d r.entry.brief.words m (core_at to (suc deep) nv) → Comes d b n k 1 (state_at Running to.pc to.fp (suc deep) to.stack nv log Armed words)
-    stays to deep now m le lm l q = nears (k - 1) (omega (arith, r.due, lm)) (record { needs = record { entry = r.entry; now = now; upto = omega (arith, le); lasts = l; m = m; leaves = q; due = omega (arith, r.due, lm) }; sized = sized })
+    stays : (to : Regs) (deep now m : ℕ) → suc now ≤ n → suc m ≤ r.m → Lasts d b now (core_at to (suc deep) nv) → Leaves d r.entry.brief.words m (core_at to (suc deep) nv)
+        → Comes d b n k 1 (state_at Running to.pc to.fp (suc deep) to.stack nv log Armed words)
+    stays to deep now m le lm l q = nears (k - 1) (omega (arith, r.due, lm))
+        (record { needs = record { entry = r.entry; now = now; upto = omega (arith, le); lasts = l; m = m; leaves = q; due = omega (arith, r.due, lm) }; sized = sized })
 
-  commits_by : (depth q : ℕ) (to : Regs) (r : IsRunning d b n k (regs_at pc fp stack) (suc depth) nv log words) → d.next (regs_at pc fp stack) nv ≡ Commits q to → Comes d b n k 1 (commits (suc depth) q to (inside depth r)).state
+  commits_by : (depth q : ℕ) (to : Regs) (r : IsRunning d b n k (regs_at pc fp stack) (suc depth) nv log words) → d.next (regs_at pc fp stack) nv ≡ Commits q to
+      → Comes d b n k 1 (commits (suc depth) q to (inside depth r)).state
   commits_by zero q to r e =
       let s = stepping d b r.now (core zero r) _ e r.lasts in
       gains s.less (need_at (d.next to nv)) (omega (arith, s.is, r.upto)) (record { needs = record { lasts = s.next; empty = refl; due = omega arith }; sized = sized })
@@ -249,7 +310,8 @@ module _ (d : Device) (b : Bounds) (fit : IsFit d) (sample : ℕ → ℤ) (words
       let t = leaving d r.entry.brief.words r.m (core (suc depth) r) _ e r.leaves in
       stays (suc depth) r to depth s.less t.less (omega (arith, s.is, r.upto)) (omega (arith, t.is)) s.next t.next
 
-  running_by : (depth : ℕ) (x : Next) (r : IsRunning d b n k (regs_at pc fp stack) (suc depth) nv log words) → d.next (regs_at pc fp stack) nv ≡ x → Comes d b n k 1 (run_next sample x (inside depth r)).state
+  running_by : (depth : ℕ) (x : Next) (r : IsRunning d b n k (regs_at pc fp stack) (suc depth) nv log words) → d.next (regs_at pc fp stack) nv ≡ x
+      → Comes d b n k 1 (run_next sample x (inside depth r)).state
   running_by depth (Goes to w v) r e = goes_by depth r to w v (to_log (suc depth) w log) e refl
   running_by depth (Senses x to) r e =
       let s = stepping d b r.now (core depth r) _ e r.lasts in
@@ -271,7 +333,8 @@ module _ (d : Device) (b : Bounds) (fit : IsFit d) (sample : ℕ → ℤ) (words
       })
 
   -- one step, by the area and what is under way
-  pub step_comes : (area : AreaState) (phase : Phase) (depth : ℕ) → Needs d b area phase depth n k (state_at phase pc fp depth stack nv log area words) → Comes d b n k 1 (step_in d sample phase (state_at phase pc fp depth stack nv log area words)).state
+  pub step_comes : (area : AreaState) (phase : Phase) (depth : ℕ) → Needs d b area phase depth n k (state_at phase pc fp depth stack nv log area words)
+      → Comes d b n k 1 (step_in d sample phase (state_at phase pc fp depth stack nv log area words)).state
   step_comes Fresh Waking depth s = nears (k - 1) (omega (arith, s.2, need_some (d.next d.start nv))) (record { needs = record { lasts = s.0; empty = s.1; due = omega (arith, s.2) }; sized = sized })
   step_comes Fresh (Undoing j) depth s = absurd s
   step_comes Fresh (Restoring j) depth s = absurd s

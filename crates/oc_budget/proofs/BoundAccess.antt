@@ -17,10 +17,9 @@ use Rattle.oc_tree.specs.declared.tree.VarId.TheVariants as variables
 use Rattle.oc_tree.specs.declared.scope.Var.{Var}
 use Rattle.oc_tree.specs.Calls.{place_from, place, function_place}
 use Rattle.oc_tree.specs.Assigned.{param_names}
-use Rattle.oc_tree.specs.Places.{Place as Spot, Placed, Variables, find_variable, let_variables, param_variables, behind, in_branch, in_loop, at_start, kind_placed, else_placed}
+use Rattle.oc_tree.specs.Places.{Place as Spot, Placed, Variables, find_variable, param_variables, behind, in_branch, in_loop, at_start, kind_placed, else_placed}
 use Rattle.oc_tree.specs.Places.{block_placed, stmts_placed}
 use Rattle.oc_tree.specs.Scope.{Scope, variable_in, is_among, is_taken, is_in_scope, is_declared, takes_param, with_param, param_var}
-use Rattle.oc_tree.specs.Rules.{takes_name}
 use Rattle.oc_code.specs.Scope.{Slot, InFrame, ByAddress, InNv, NoSlot, Named, named, kind_words, param_slot, let_named, for_named, params_scope, nv_scope, function_scope}
 use Rattle.oc_code.proofs.Places.{base, nv_width}
 use Rattle.oc_code.proofs.Lawful.{Access}

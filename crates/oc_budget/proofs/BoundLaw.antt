@@ -1,20 +1,18 @@
 -- The budgets of a marked program bound the runs of its code.
-use Rattle.std.proofs.Common.{◌≡◌, ◌≤◌, ◌<◌, ◌+◌, ℕ, zero, suc, Bool, true, false, true≢false, List, [], ◌∷◌, ◌++◌, map, length, get_or, append-nil, Option, Some, None, refl, sym, ap, ◌∙◌}
+use Rattle.std.proofs.Common.{◌≡◌, ◌≤◌, ◌<◌, ◌+◌, ℕ, zero, suc, Bool, true, false, true≢false, List, [], ◌∷◌, ◌++◌, length, get_or, append-nil, Option, Some, None, refl, sym, ap, ◌∙◌}
 use Rattle.std.proofs.Common.{subst, arith}
-use Rattle.std.specs.Prelude.{◌==◌, ◌||◌, codes, slice_get, flat_map, option_map, position}
+use Rattle.std.specs.Prelude.{◌==◌, ◌||◌, slice_get, flat_map, option_map, position}
 use Rattle.std.specs.List.{list_any}
 use Rattle.std.proofs.lemmas.Bool.{eqb-true, eq-eqb}
 use Rattle.std.proofs.lemmas.List.{length-map}
 use Rattle.std.proofs.lemmas.List.Quantifiers.{position-Some}
 use Rattle.std.proofs.lemmas.Option.{none-some, same_Some, slice_get-get_or}
-use Rattle.oc_tree.specs.Names.{Text}
 use Rattle.oc_tree.specs.Tree.{TCall, TStmts, TFunction, TProgram}
-use Rattle.oc_tree.specs.declared.said.Target.{Target}
 use Rattle.oc_tree.specs.Numbers.{block_statements}
-use Rattle.oc_tree.specs.Places.{Placed, at_start, block_placed, program_placed, placed, block_of}
+use Rattle.oc_tree.specs.Places.{Placed, at_start, block_placed, program_placed, block_of}
 use Rattle.oc_tree.specs.Marked.{TRegion, TMarked, IsMarked, is_in_region}
-use Rattle.oc_tree.specs.Picked.{block_spent, stmts_spent}
-use Rattle.oc_tree.specs.Stack.{link_words, stack_words}
+use Rattle.oc_tree.specs.Picked.{block_spent}
+use Rattle.oc_tree.specs.Stack.{link_words}
 use Rattle.oc_tree.specs.Elements.{in_function}
 use Rattle.oc_tree.proofs.Grouped.{ids, functions_ids}
 use Rattle.oc_tree.proofs.ReachLaws.{or_left, or_right}
@@ -42,7 +40,7 @@ use Rattle.oc_writes.proofs.Standing.{Each, each_map, each_front, each_back, eac
 use Rattle.oc_writes.proofs.KeptReach.{at_place}
 use Rattle.oc_watch.proofs.Bounded.{Tables}
 use Rattle.oc_watch.proofs.Words.{covers}
-use Rattle.oc_watch.proofs.Compared.{block_counted, held_cost}
+use Rattle.oc_watch.proofs.Compared.{block_counted}
 use Rattle.oc_watch.proofs.Costed.{Budgeted, tree_bounded}
 use Rattle.oc_watch.proofs.Summed.{block_sum, picked}
 use Rattle.oc_budget.specs.Budgets.{TBudgets, budgets}

@@ -1,5 +1,5 @@
 -- In a checked program each value is plain: no reference stands in it by its name alone, and no input or call.
-use Rattle.std.proofs.Common.{◌≡◌, ◌≤◌, ◌+◌, ℕ, zero, suc, Bool, true, false, true≢false, List, [], ◌∷◌, ◌++◌, sum_by, cond, Option, Some, None, refl, sym, ap, ◌∙◌, subst, arith}
+use Rattle.std.proofs.Common.{◌≡◌, ◌≤◌, ◌+◌, ℕ, zero, suc, Bool, true, false, true≢false, List, [], ◌∷◌, ◌++◌, sum_by, cond, Option, Some, None, refl, sym, ap, ◌∙◌, arith}
 use Rattle.std.specs.Prelude.{is_some, slice_get, ◌&&◌, ◌||◌}
 use Rattle.std.proofs.lemmas.List.Sums.{sum_by-cons}
 use Rattle.std.proofs.lemmas.Option.{none-some, same_Some}
@@ -8,10 +8,10 @@ use Rattle.oc_tree.specs.Tree.{TExpr, number, truth, variable, index, deref, una
 use Rattle.oc_tree.specs.Tree.{right_value, right_sense, right_call, TKind, let_to, let_array, assign, assign_index, assign_deref, if_else, for_in, while_do, call_only, sense_only, emit}
 use Rattle.oc_tree.specs.Tree.{fresh, consistent, return, TElse, no_else, else_do, stmt, TBlock, block, TStmts, no_stmts, more, TFunction, TProgram}
 use Rattle.oc_tree.specs.declared.scope.Var.{Var}
-use Rattle.oc_tree.specs.Pulls.{expr_pulls, args_pulls, call_pulls, right_pulls, own_pulls, inner_pulls, else_pulls, block_pulls, stmts_pulls, program_pulls}
+use Rattle.oc_tree.specs.Pulls.{expr_pulls, args_pulls, call_pulls, right_pulls, own_pulls, inner_pulls, else_pulls, block_pulls, stmts_pulls}
 use Rattle.oc_tree.specs.Stack.{kind_slots, block_slots}
 use Rattle.oc_tree.specs.Scope.{Scope, variable_of}
-use Rattle.oc_tree.specs.Types.{is_reference, is_int, has_elements, value_type, type_of}
+use Rattle.oc_tree.specs.Types.{is_reference, is_int, has_elements, type_of}
 use Rattle.oc_tree.specs.Elements.{Here, after_stmt, in_turn, inside, before_stmts, kind_elements, else_elements, stmt_elements, block_elements, stmts_elements}
 use Rattle.oc_tree.specs.Rules.{only_reference, passed_on, unary_fits, binary_fits, expr_fits, args_fit, arg_fits, call_fits, right_fits}
 use Rattle.oc_meaning.specs.Uses.{is_use}

@@ -1,5 +1,5 @@
 -- The numbers that are told of a marked program, as the bounds of its code.
-use Rattle.std.proofs.Common.{◌≡◌, ◌≤◌, ◌<◌, ◌+◌, ◌-◌, ◌*◌, ℕ, zero, suc, Bool, false, List, [], ◌∷◌, map, length, max, sum_by, get_or, cond, Option, Some, None, refl, sym, ap, ◌∙◌, subst, arith}
+use Rattle.std.proofs.Common.{◌≡◌, ◌≤◌, ◌<◌, ◌+◌, ◌-◌, ◌*◌, ℕ, zero, suc, Bool, false, List, [], ◌∷◌, map, length, max, sum_by, get_or, cond, Option, Some, None, refl, ap, ◌∙◌, arith}
 use Rattle.std.specs.Prelude.{slice_get}
 use Rattle.std.proofs.lemmas.List.Sums.{sum_by-cons}
 use Rattle.std.proofs.lemmas.Option.{none-some, same_Some}
@@ -7,7 +7,6 @@ use Rattle.oc_tree.specs.Tree.{TKind, let_to, let_array, assign, assign_index, a
 use Rattle.oc_tree.specs.Tree.{no_else, else_do, stmt, TBlock, block, TStmts, no_stmts, more, TFunction, TProgram}
 use Rattle.oc_tree.specs.declared.said.Target.{Target}
 use Rattle.oc_tree.specs.declared.said.Target.TheVariants.{Nv, Param}
-use Rattle.oc_tree.specs.Numbers.{numbers_on}
 use Rattle.oc_tree.specs.Marked.{TRegion, TMarked, is_in_region}
 use Rattle.oc_tree.specs.Picked.{kind_spent, else_spent, block_spent, stmts_spent, functions_spent}
 use Rattle.oc_tree.specs.Stack.{stack_words}

@@ -1,11 +1,11 @@
 -- What each region may write, by its targets.
-use Rattle.std.proofs.Common.{◌≡◌, ◌≤◌, ◌+◌, ℕ, zero, suc, Bool, true, false, true≢false, List, [], ◌∷◌, ◌++◌, map, cond, get_or, Option, Some, None, refl, sym, ap, ◌∙◌, subst, arith}
-use Rattle.std.specs.Prelude.{is_some, slice_get, ◌&&◌, ◌||◌, nat_eq, length, filter, option_map, option_and_then}
+use Rattle.std.proofs.Common.{◌≡◌, ◌≤◌, ◌+◌, ℕ, zero, suc, Bool, true, false, true≢false, List, [], ◌∷◌, ◌++◌, map, cond, Option, Some, None, refl, sym, ap, ◌∙◌, arith}
+use Rattle.std.specs.Prelude.{slice_get, ◌&&◌, ◌||◌, length, filter, option_map, option_and_then}
 use Rattle.std.specs.List.{list_any}
 use Rattle.std.proofs.lemmas.Bool.{eq-eqb}
 use Rattle.std.proofs.lemmas.Option.{none-some, same_Some}
 use Rattle.oc_tree.specs.Names.{Text}
-use Rattle.oc_tree.specs.Tree.{TExpr, variable, TArg, value, shared, mutable, TCall, call, TArgs, no_args, more_args, TRight, right_value, right_sense, right_call, TKind, let_to, let_array}
+use Rattle.oc_tree.specs.Tree.{variable, TArg, value, shared, mutable, TCall, call, TArgs, no_args, more_args, TRight, right_value, right_sense, right_call, TKind, let_to, let_array}
 use Rattle.oc_tree.specs.Tree.{assign, assign_index, assign_deref, if_else, for_in, while_do, call_only, sense_only, emit, fresh, consistent, return, TFunction, TProgram}
 use Rattle.oc_tree.specs.declared.said.Target.{Target}
 use Rattle.oc_tree.specs.declared.said.Target.TheVariants as targets
@@ -17,8 +17,8 @@ use Rattle.oc_tree.specs.declared.tree.ValueKind.{ValueKind}
 use Rattle.oc_tree.specs.declared.tree.ValueKind.TheVariants as kinds
 use Rattle.oc_tree.specs.declared.tree.VarId.{VarId}
 use Rattle.oc_tree.specs.declared.tree.VarId.TheVariants as variables
-use Rattle.oc_tree.specs.Calls.{place, function_place, callee, args_of_call}
-use Rattle.oc_tree.specs.Assigned.{is_mutable, param_names, first_param, param_assigned, reaches_assign}
+use Rattle.oc_tree.specs.Calls.{place}
+use Rattle.oc_tree.specs.Assigned.{is_mutable, param_names, first_param, param_assigned}
 use Rattle.oc_tree.specs.Places.{Placed, or_nonvolatile, at_start, block_placed}
 use Rattle.oc_tree.specs.Checked.{Group, IsChecked}
 use Rattle.oc_tree.specs.Marked.{TRegion, is_in_region}
@@ -42,7 +42,7 @@ use Rattle.oc_writes.proofs.KeptFunctions.{place_there}
 use Rattle.oc_watch.proofs.Words.{covers}
 use Rattle.oc_budget.proofs.BoundAccess.{param_may, access, name_nv, name_param, Old, SlotIs, block_old, start_old}
 use Rattle.oc_budget.proofs.BoundWithin.{KindMay}
-use Rattle.oc_budget.proofs.BoundWritten.{writes, fun_par, ArgNamed, ArgsNamed, CallTold, RightTold, Stored, Named, KindTold, kind_ok}
+use Rattle.oc_budget.proofs.BoundWritten.{writes, ArgNamed, ArgsNamed, CallTold, RightTold, Stored, Named, KindTold, kind_ok}
 
 same_itself : (w : VarId) → same_variable w w ≡ true
 same_itself (variables.Nv n) = eq-eqb n n refl

@@ -1,6 +1,6 @@
 -- Each statement that names a fresh variable of the code is told as a use.
 use Rattle.std.proofs.Common.{◌≡◌, ℕ, zero, suc, ◌+◌, Bool, true, false, true≢false, List, [], ◌∷◌, ◌++◌, map, append-nil, cond, Option, Some, None, refl, sym, ap, ◌∙◌, subst}
-use Rattle.std.specs.Prelude.{is_some, slice_get, ◌&&◌, ◌||◌, if◌then◌else◌, nat_eq, flat_map, option_map, option_to_list}
+use Rattle.std.specs.Prelude.{is_some, slice_get, ◌&&◌, ◌||◌, if◌then◌else◌, nat_eq, option_map, option_to_list}
 use Rattle.std.specs.List.{list_any}
 use Rattle.std.specs.Option.{option_or}
 use Rattle.std.specs.Str.{bytes_eq}
@@ -8,7 +8,7 @@ use Rattle.std.proofs.lemmas.Bool.{eq-eqb}
 use Rattle.std.proofs.lemmas.Option.{none-some, same_Some}
 use Rattle.std.proofs.lemmas.Slice.Eq.{bytes_eq-Decides}
 use Rattle.oc_tree.specs.Names.{Text}
-use Rattle.oc_tree.specs.Tree.{TKind, let_to, let_array, assign, assign_index, assign_deref, if_else, for_in, while_do, call_only, sense_only, emit, fresh, consistent, return, TElse}
+use Rattle.oc_tree.specs.Tree.{TKind, let_to, let_array, if_else, for_in, while_do, fresh, TElse}
 use Rattle.oc_tree.specs.Tree.{no_else, else_do, stmt, TBlock, block, TStmts, no_stmts, more, TFunction, TProgram}
 use Rattle.oc_tree.specs.declared.tree.NvDecl.{NvDecl}
 use Rattle.oc_tree.specs.declared.tree.Param.{Param}
@@ -22,12 +22,11 @@ use Rattle.oc_tree.specs.Places.{stmts_placed}
 use Rattle.oc_tree.proofs.ReachLaws.{or_left, or_right}
 use Rattle.oc_reach.proofs.Bools.{and_both}
 use Rattle.oc_reach.proofs.LinkLaws.{any_append}
-use Rattle.oc_meaning.specs.Uses.{is_use, is_annotated, own_names}
+use Rattle.oc_meaning.specs.Uses.{is_annotated, own_names}
 use Rattle.oc_meaning.specs.Uses as meaning
 use Rattle.oc_code.specs.Scope.{InNv, kind_words, param_slot, may_write, Named, named, is_fresh_in, let_named, for_named, in_scope, params_scope, nv_scope, function_scope}
-use Rattle.oc_effects.specs.declared.effect.Note.{Note}
 use Rattle.oc_effects.specs.declared.effect.Note.TheVariants as notes
-use Rattle.oc_effects.specs.Effects.{TEffect, variable_at, variables_at, note_of, effect_of, function_effects, effects}
+use Rattle.oc_effects.specs.Effects.{TEffect, variable_at, variables_at, note_of, effect_of, function_effects}
 use Rattle.oc_flow.specs.Variables.{same_variable}
 use Rattle.oc_formed.proofs.BodiesPass.{first_fails, AllFine}
 use Rattle.oc_tree.specs.Elements.{block_elements, in_function}

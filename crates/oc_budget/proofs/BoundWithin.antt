@@ -1,7 +1,7 @@
 -- From what holds of each statement, by its place, to what the code's claims ask of the tree.
-use Rattle.std.proofs.Common.{◌≡◌, ℕ, ◌+◌, ◌-◌, Bool, true, List, [], ◌∷◌, ◌++◌, Option, Some, None, refl, sym, subst}
+use Rattle.std.proofs.Common.{◌≡◌, ℕ, ◌+◌, ◌-◌, Bool, true, List, [], ◌∷◌, ◌++◌, Option, Some, None, refl}
 use Rattle.std.specs.List.{list_any}
-use Rattle.oc_tree.specs.Tree.{TCall, TRight, TKind, let_to, let_array, assign, assign_index, assign_deref, if_else, for_in, while_do, call_only, sense_only, emit, fresh, consistent, return}
+use Rattle.oc_tree.specs.Tree.{TCall, TKind, let_to, let_array, assign, assign_index, assign_deref, if_else, for_in, while_do, call_only, sense_only, emit, fresh, consistent, return}
 use Rattle.oc_tree.specs.Tree.{TElse, no_else, else_do, stmt, TBlock, block, TStmts, no_stmts, more}
 use Rattle.oc_tree.specs.declared.tree.VarId.TheVariants as variables
 use Rattle.oc_tree.specs.Marked.{TRegion}
@@ -11,7 +11,7 @@ use Rattle.oc_tree.proofs.ReachLaws.{or_left, or_right}
 use Rattle.oc_meaning.specs.Exec.{begun_by, ended_by}
 use Rattle.oc_code.specs.Formed.{marks}
 use Rattle.oc_code.specs.Scope.{Named, in_scope, for_named}
-use Rattle.oc_code.proofs.Lawful.{Access, right_lawful, fits_at, kind_lawful, else_lawful, block_lawful, stmts_lawful, while_open, inner_lawful, open_lawful, region_lawful}
+use Rattle.oc_code.proofs.Lawful.{Access, right_lawful, fits_at, kind_lawful, else_lawful, block_lawful, stmts_lawful, while_open, open_lawful, region_lawful}
 use Rattle.oc_writes.proofs.Standing.{Each, each_front, each_back}
 use Rattle.oc_watch.proofs.Compared.{alone_on, alone, region_alone}
 use Rattle.oc_watch.proofs.Summed.{picked}

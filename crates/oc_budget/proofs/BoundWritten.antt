@@ -1,29 +1,27 @@
 -- What each function may write, and what each region may: the tables of the code's claims, from the rules and from what is
 -- told of assignments.
-use Rattle.std.proofs.Common.{◌≡◌, ◌≤◌, ◌<◌, ◌+◌, ℕ, zero, suc, Bool, true, false, true≢false, List, [], ◌∷◌, ◌++◌, map, get_or, cond, Option, Some, None, refl, sym, ap, ◌∙◌, subst, arith}
+use Rattle.std.proofs.Common.{◌≡◌, ◌≤◌, ◌<◌, ◌+◌, ℕ, suc, Bool, true, false, true≢false, List, [], ◌∷◌, ◌++◌, map, get_or, cond, Option, Some, None, refl, sym, ap, ◌∙◌, subst, arith}
 use Rattle.std.specs.Prelude.{is_some, slice_get, ◌&&◌, ◌||◌, ◌==◌, length, option_map, option_and_then}
 use Rattle.std.specs.List.{list_any, list_all}
 use Rattle.std.specs.Str.{bytes_eq}
 use Rattle.std.proofs.lemmas.Option.{none-some, same_Some}
 use Rattle.std.proofs.lemmas.Slice.Eq.{bytes_eq-Decides}
 use Rattle.oc_tree.specs.Names.{Text}
-use Rattle.oc_tree.specs.Tree.{TExpr, variable, TArg, value, shared, mutable, TCall, call, TArgs, no_args, more_args, TRight, right_value, right_sense, right_call, TKind, let_to, let_array}
+use Rattle.oc_tree.specs.Tree.{variable, TArg, value, shared, mutable, TCall, call, TArgs, no_args, more_args, TRight, right_value, right_sense, right_call, TKind, let_to, let_array}
 use Rattle.oc_tree.specs.Tree.{assign, assign_index, assign_deref, if_else, for_in, while_do, call_only, sense_only, emit, fresh, consistent, return, TFunction, TProgram}
 use Rattle.oc_tree.specs.declared.tree.Param.{Param}
 use Rattle.oc_tree.specs.declared.tree.Passing.{Passing}
 use Rattle.oc_tree.specs.declared.tree.Passing.TheVariants as passings
-use Rattle.oc_tree.specs.declared.tree.VarId.{VarId}
 use Rattle.oc_tree.specs.declared.tree.VarId.TheVariants as variables
 use Rattle.oc_tree.specs.declared.scope.Origin.{Origin}
 use Rattle.oc_tree.specs.declared.scope.Origin.TheVariants as origins
 use Rattle.oc_tree.specs.Reach.{linked, is_link}
-use Rattle.oc_tree.specs.Calls.{place, function_place, callee, args_of_call, args_calls, call_calls, expr_calls, right_calls, own_calls}
+use Rattle.oc_tree.specs.Calls.{place, function_place, callee, args_of_call, call_calls, expr_calls, right_calls, own_calls}
 use Rattle.oc_tree.specs.Assigned.{is_mutable, mutable_params, param_names, first_param, takes_mutable, mutable_param, own_param, link_of, arg_links, args_links, to_links, pass_call}
 use Rattle.oc_tree.specs.Assigned.{written_through, param_assigned, assigned_number, arg_assigns, args_assign, callee_assigns, call_assigns, is_target, own_assigns, reaches_assign}
 use Rattle.oc_tree.specs.Places.{Placed, at_start, block_placed}
-use Rattle.oc_tree.specs.Scope.{Scope, variable_of, is_among, function_named, takes_param}
+use Rattle.oc_tree.specs.Scope.{variable_of, function_named, takes_param}
 use Rattle.oc_tree.specs.Checked.{Group, IsChecked}
-use Rattle.oc_tree.specs.Elements.{Here}
 use Rattle.oc_tree.specs.Rules.{origin_is, is_mutable_param, is_writable, is_writable_array, arg_meets, args_meet, args_list, params_of, call_args, arg_lends}
 use Rattle.oc_tree.proofs.ReachLaws.{or_left, or_right}
 use Rattle.oc_reach.proofs.Bools.{and_both}

@@ -5,7 +5,8 @@ use Rattle.oc_tree.specs.Tree.{TFunction}
 use Rattle.oc_tree.specs.Marked.{TRegion}
 use Rattle.oc_tree.specs.Costs.{function_cost, costs_to}
 
-pub next_level : (fs : List TFunction) (uses : ℕ → Bool) (regions : List TRegion) (d : ℕ) (was now : List ℕ) → was ≡ costs_to fs uses regions d → now ≡ map (function_cost fs uses regions was) fs → now ≡ costs_to fs uses regions (d + 1)
+pub next_level : (fs : List TFunction) (uses : ℕ → Bool) (regions : List TRegion) (d : ℕ) (was now : List ℕ) → was ≡ costs_to fs uses regions d
+    → now ≡ map (function_cost fs uses regions was) fs → now ≡ costs_to fs uses regions (d + 1)
 unfolding costs_to
 next_level fs uses regions d was now h k =
     let e : suc d ≡ d + 1 = omega arith in

@@ -3,7 +3,8 @@ use Rattle.std.proofs.Common.{rules, ◌≡◌, ◌+◌, ◌++◌, ℕ, Bool, tr
 use Rattle.std.specs.Prelude.{sum_by, filter, flat_map, IfSome}
 use Rattle.std.proofs.lemmas.List.Sums.{sum_by-append, sum_by-cons}
 use Rattle.std.proofs.lemmas.List.Elements.{filter-append}
-use Rattle.oc_tree.specs.Tree.{TExpr, TKind, let_to, let_array, assign, assign_index, assign_deref, if_else, for_in, while_do, call_only, sense_only, emit, fresh, consistent, return, TElse, no_else, else_do, stmt, TBlock, block, TStmts, no_stmts, more, TFunction}
+use Rattle.oc_tree.specs.Tree.{TExpr, TKind, let_to, let_array, assign, assign_index, assign_deref, if_else, for_in, while_do, call_only, sense_only, emit, fresh, consistent}
+use Rattle.oc_tree.specs.Tree.{return, TElse, no_else, else_do, stmt, TBlock, block, TStmts, no_stmts, more, TFunction}
 use Rattle.oc_tree.specs.declared.tree.VarId.TheVariants as variables
 use Rattle.oc_tree.specs.Places.{Place, Placed, kind_placed, else_placed, block_placed, stmts_placed, in_branch, in_loop, behind, at_start}
 use Rattle.oc_tree.specs.Marked.{TMarked, TRegion, is_in_region}

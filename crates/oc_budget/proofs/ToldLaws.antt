@@ -23,7 +23,8 @@ logged_is m ts h = words_held ts ∙ (ap (map (sum_by target_words)) h ∙ words
 abbrev told : List ℕ → List ℕ → ℕ → ℕ → TBudgets
 told rs ls t s = record { regions = rs; logged = ls; total = t; safe = s }
 
-pub told_is : (m : TMarked) (rs ls : List ℕ) (t s : ℕ) → rs ≡ map (budget m) m.regions → ls ≡ map (logged m.program) m.regions → t ≡ total m → s ≡ safe_for (stack_words m.program) (map (budget m) m.regions) → told rs ls t s ≡ budgets m
+pub told_is : (m : TMarked) (rs ls : List ℕ) (t s : ℕ) → rs ≡ map (budget m) m.regions → ls ≡ map (logged m.program) m.regions → t ≡ total m
+    → s ≡ safe_for (stack_words m.program) (map (budget m) m.regions) → told rs ls t s ≡ budgets m
 told_is m rs ls t s a b e f =
     ap (λ x. told x ls t s) a
     ∙ (ap (λ x. told (map (budget m) m.regions) x t s) b

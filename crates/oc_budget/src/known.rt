@@ -50,7 +50,14 @@ impl<'a> Model for Known<'a> {
 
     ghost view = { λ k. k.marked.now };
 
-    ghost invariant = { λ k. (map function_view k.functions.now ≡ k.marked.now.program.functions) × (k.table ≡ function_names k.marked.now.program.functions) × (k.effects.program ≡ k.marked.now.program) × ((n : ℕ) → get_or k.uses.items n false ≡ is_use k.marked.now.program n) × ((n : ℕ) → get_or k.begins.items n false ≡ list_any (λ r. nat_eq r.first n) k.marked.now.regions) × ((n : ℕ) → get_or k.ends.items n false ≡ list_any (λ r. nat_eq r.last n) k.marked.now.regions) };
+    ghost invariant = { λ k. (map function_view k.functions.now ≡ k.marked.now.program.functions)
+        × (k.table ≡ function_names k.marked.now.program.functions)
+        × (k.effects.program ≡ k.marked.now.program)
+        × ((n : ℕ) → get_or k.uses.items n false ≡ is_use k.marked.now.program n)
+        × ((n : ℕ) → get_or k.begins.items n false
+        ≡ list_any (λ r. nat_eq r.first n) k.marked.now.regions)
+        × ((n : ℕ) → get_or k.ends.items n false
+        ≡ list_any (λ r. nat_eq r.last n) k.marked.now.regions) };
 }
 
 // The table of the statements with which regions begin.

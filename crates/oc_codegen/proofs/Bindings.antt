@@ -72,11 +72,13 @@ newest i bs b p h e =
     ap (λ m. visible (take m bs)) (sym n) ∙ visible_next (i - 1) bs b l e
 
 -- the newest of the bindings that are left has the name
-pub found : (x : Text) (i : ℕ) (bs : List Binding) (b : Binding) (γ : List Named) → 0 < i → i ≤ length bs → b ≡ slice_index_or bs (i - 1) b → named (visible (take i bs)) x ≡ named γ x → bytes_eq x b.name.now ≡ true → binding_view b ≡ named γ x
+pub found : (x : Text) (i : ℕ) (bs : List Binding) (b : Binding) (γ : List Named) → 0 < i → i ≤ length bs → b ≡ slice_index_or bs (i - 1) b → named (visible (take i bs)) x
+    ≡ named γ x → bytes_eq x b.name.now ≡ true → binding_view b ≡ named γ x
 found x i bs b γ p h e is t =
     sym (ap (λ l. named l x) (newest i bs b p h e) ∙ by_test x b (visible (take (i - 1) bs)) true t) ∙ is
 
 -- it has another name
-pub passed : (x : Text) (i : ℕ) (bs : List Binding) (b : Binding) (γ : List Named) → 0 < i → i ≤ length bs → b ≡ slice_index_or bs (i - 1) b → named (visible (take i bs)) x ≡ named γ x → bytes_eq x b.name.now ≡ false → named (visible (take (i - 1) bs)) x ≡ named γ x
+pub passed : (x : Text) (i : ℕ) (bs : List Binding) (b : Binding) (γ : List Named) → 0 < i → i ≤ length bs → b ≡ slice_index_or bs (i - 1) b → named (visible (take i bs)) x
+    ≡ named γ x → bytes_eq x b.name.now ≡ false → named (visible (take (i - 1) bs)) x ≡ named γ x
 passed x i bs b γ p h e is t =
     sym (ap (λ l. named l x) (newest i bs b p h e) ∙ by_test x b (visible (take (i - 1) bs)) false t) ∙ is

@@ -13,14 +13,16 @@ use Rattle.oc_code.proofs.Law.{formed_right}
 use Rattle.oc_formed.proofs.Law.{marked_program_formed}
 
 -- a program and regions that are read as those of a marked program
-pub read_formed : (m : TMarked) (p : TProgram) (rs : List TRegion) (targets : List (List Target)) → p ≡ m.program → rs ≡ m.regions → IsMarked m → length m.regions ≤ length targets → IsFormed p rs targets
+pub read_formed : (m : TMarked) (p : TProgram) (rs : List TRegion) (targets : List (List Target)) → p ≡ m.program → rs ≡ m.regions → IsMarked m → length m.regions ≤ length targets
+    → IsFormed p rs targets
 read_formed m p rs targets e f is enough =
     subst (λ (q : TProgram). IsFormed q rs targets) (sym e) (subst (λ (r : List TRegion). IsFormed m.program r targets) (sym f) (marked_program_formed m targets is enough))
 
 pub marked_right : (m : TMarked) (targets : List (List Target)) → IsMarked m → length m.regions ≤ length targets → IsRight m.program m.regions targets
 marked_right m targets is enough = formed_right m.program m.regions targets (marked_program_formed m targets is enough)
 
-pub read_made : (m : TMarked) (p : TProgram) (rs : List TRegion) (targets : List (List Target)) (parts : Parts) → parts ≡ code_of p rs targets → p ≡ m.program → rs ≡ m.regions → IsMarked m → length m.regions ≤ length targets → IsWellMade parts
+pub read_made : (m : TMarked) (p : TProgram) (rs : List TRegion) (targets : List (List Target)) (parts : Parts) → parts ≡ code_of p rs targets → p ≡ m.program → rs ≡ m.regions
+    → IsMarked m → length m.regions ≤ length targets → IsWellMade parts
 read_made m p rs targets parts h e f is enough =
     subst (λ (q : Parts). IsWellMade q) (sym h) (formed_right p rs targets (read_formed m p rs targets e f is enough)).made
 

@@ -43,11 +43,13 @@ module _ (names : NameLists) (fs : List TFunction) (regions : List TRegion) (k :
       ∙ ap (λ r. code ++ f γ s (length code) r) (sym (left_are x i xs e))
       ∙ inv
 
-pub slots_step : (x : Stmt) (i : ℕ) (xs : List Stmt) → drop i xs ≡ x ∷ drop (i + 1) xs → stmts_slots (stmts_view (drop i xs)) ≡ kind_slots (kind_view x.kind) + stmts_slots (stmts_view (drop (i + 1) xs))
+pub slots_step : (x : Stmt) (i : ℕ) (xs : List Stmt) → drop i xs ≡ x ∷ drop (i + 1) xs → stmts_slots (stmts_view (drop i xs))
+    ≡ kind_slots (kind_view x.kind) + stmts_slots (stmts_view (drop (i + 1) xs))
 slots_step x i xs e = ap stmts_slots (left_are x i xs e)
 
 -- a statement leaves the variables that were visible before it
-pub scope_step : (kind : TKind) (s n : ℕ) (rest : TStmts) (γ γ2 old : List Named) → γ2 ≡ in_scope kind s rest γ → n ≤ length γ → drop (length γ - n) γ ≡ old → (n ≤ length γ2) × (drop (length γ2 - n) γ2 ≡ old)
+pub scope_step : (kind : TKind) (s n : ℕ) (rest : TStmts) (γ γ2 old : List Named) → γ2 ≡ in_scope kind s rest γ → n ≤ length γ → drop (length γ - n) γ ≡ old
+    → (n ≤ length γ2) × (drop (length γ2 - n) γ2 ≡ old)
 scope_step (let_to m x t r) s n rest γ γ2 old e h d =
     let z : length γ2 - n ≡ suc (length γ - n) = omega (arith, ap length e, h) in
     (omega (arith, ap length e, h), ap (λ i. drop i γ2) z ∙ ap (drop (suc (length γ - n))) e ∙ d)

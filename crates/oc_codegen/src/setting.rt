@@ -39,9 +39,15 @@ impl<'a> Model for Setting<'a> {
 
     ghost coded = { Prim.hlevel (codes, block_code (Prim.hlevel codes)) };
 
-    ghost view = { λ a. record { names = names_view a.program.now.names; functions = map function_view a.program.now.functions.items; regions = map region_view a.regions.now; params = a.params } };
+    ghost view = { λ a. record {
+      names = names_view a.program.now.names;
+      functions = map function_view a.program.now.functions.items;
+      regions = map region_view a.regions.now;
+      params = a.params;
+    } };
 
-    ghost invariant = { λ a. a.table ≡ function_names (map function_view a.program.now.functions.items) };
+    ghost invariant = { λ a. a.table
+        ≡ function_names (map function_view a.program.now.functions.items) };
 }
 
 impl<'a> Setting<'a> {

@@ -77,8 +77,10 @@ module _ (p : TProgram) (groups : List Group) (checked : IsChecked p groups) (f 
 
 pub calls_copy : CallsCopy
 calls_copy p groups checked regions depth f g stands ps σ stored may =
-    copied_so p f g ps σ stored may regions depth (IsQuiet p _ (nv p groups checked f g stands ps σ may)) (quiet p groups checked f g stands ps σ may) g.name (named p groups checked f g stands ps σ may) (own_quiet p groups checked f g stands ps σ may)
+    copied_so p f g ps σ stored may regions depth (IsQuiet p _ (nv p groups checked f g stands ps σ may)) (quiet p groups checked f g stands ps σ may) g.name
+    (named p groups checked f g stands ps σ may) (own_quiet p groups checked f g stands ps σ may)
 
 pub calls_copy_back : CallsCopyBack
 calls_copy_back p groups checked regions depth f g stands ps σ stored may =
-    copied_back_so p f g ps σ stored may regions depth (IsQuiet p _ (nv p groups checked f g stands ps σ may)) (quiet p groups checked f g stands ps σ may) g.name (named p groups checked f g stands ps σ may) (own_quiet p groups checked f g stands ps σ may)
+    copied_back_so p f g ps σ stored may regions depth (IsQuiet p _ (nv p groups checked f g stands ps σ may)) (quiet p groups checked f g stands ps σ may) g.name
+    (named p groups checked f g stands ps σ may) (own_quiet p groups checked f g stands ps σ may)

@@ -73,7 +73,8 @@ main_copies p groups checked regions samples =
     let m = main_called p within in
     let stored : HasStored p (first_store p samples) = first_many p.nv ∙ checked.form.declared.each_nv in (
       stored,
-      does_copy p groups checked regions (length p.functions) (codes "main") m.number m.callee m.placed m.stands [] (first_store p samples) stored (none_may p m.number m.callee (first_store p samples) (main_takes_none p within))
+      does_copy p groups checked regions (length p.functions) (codes "main") m.number m.callee m.placed m.stands [] (first_store p samples) stored
+          (none_may p m.number m.callee (first_store p samples) (main_takes_none p within))
           (subst (λ qs. AreFormed qs []) (sym (main_takes_none p within)) tt),
     )
 

@@ -51,7 +51,8 @@ all_begun σ (q ∷ qs) (t ∷ ps) fr zero s n e =
     all_below σ qs ps (own_param σ q.name t fr) (length fr.locals + 0) (omega (arith, m))
     ∙ ap (λ xs. held_in σ xs (Local (length fr.locals + 0))) (param_is σ q t fr) ∙ newest σ fr.locals (begun σ t) (length fr.locals + 0) (omega arith) ∙ ap (begun σ) (same_Some t s e)
 all_begun σ (q ∷ qs) (t ∷ ps) fr (suc i) s n e =
-    let m : length fr.locals + suc i ≡ length (own_param σ q.name t fr).locals + i = (let k : length (own_param σ q.name t fr).locals ≡ suc (length fr.locals) = ap length (param_is σ q t fr) in omega (arith, k)) in
+    let m : length fr.locals + suc i ≡ length (own_param σ q.name t fr).locals + i =
+    (let k : length (own_param σ q.name t fr).locals ≡ suc (length fr.locals) = ap length (param_is σ q t fr) in omega (arith, k)) in
     ap (λ l. held_in σ (own_params σ qs ps (own_param σ q.name t fr)).locals (Local l)) m ∙ all_begun σ qs ps (own_param σ q.name t fr) i s (omega (arith, n)) e
 
 pub frames_hold : FramesHold

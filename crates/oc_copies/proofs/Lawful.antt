@@ -6,7 +6,8 @@ use Rattle.std.proofs.lemmas.Bool.{eqb-true, ltb-false}
 use Rattle.std.proofs.lemmas.Slice.Eq.{bytes_eq-Decides}
 use Rattle.std.proofs.lemmas.Option.{none-some, same_Some}
 use Rattle.oc_tree.specs.Names.{Text}
-use Rattle.oc_tree.specs.Tree.{TCall, call, TRight, right_value, right_sense, right_call, TKind, let_to, let_array, assign, assign_index, assign_deref, if_else, for_in, while_do, call_only, sense_only, emit, fresh, consistent, return, TElse, no_else, else_do, stmt, TBlock, block, TStmts, no_stmts, more, TFunction, TProgram}
+use Rattle.oc_tree.specs.Tree.{TCall, call, TRight, right_value, right_sense, right_call, TKind, let_to, let_array, assign, assign_index, assign_deref, if_else, for_in, while_do}
+use Rattle.oc_tree.specs.Tree.{call_only, sense_only, emit, fresh, consistent, return, TElse, no_else, else_do, stmt, TBlock, block, TStmts, no_stmts, more, TFunction, TProgram}
 use Rattle.oc_tree.specs.declared.tree.Param.{Param}
 use Rattle.oc_tree.specs.declared.tree.Passing.{Passing}
 use Rattle.oc_tree.specs.declared.tree.Passing.TheVariants as passings
@@ -14,12 +15,16 @@ use Rattle.oc_tree.specs.declared.scope.Origin.{Origin}
 use Rattle.oc_tree.specs.declared.scope.Origin.TheVariants as origins
 use Rattle.oc_tree.specs.declared.scope.Var.{Var}
 use Rattle.oc_tree.specs.Mentions.{expr_mentions, call_mentions, right_mentions, own_mentions, targets, annotates, own_names}
-use Rattle.oc_tree.specs.Calls.{place_from, function_names, function_place, callee, expr_calls, call_calls, args_calls, right_calls, own_calls, kind_hides, kind_kinds, else_kinds, block_kinds, stmts_kinds, has_param, reaches_mention}
-use Rattle.oc_tree.specs.Scope.{Scope, variable_in, variable_of, is_variable, is_in_scope, is_among, is_declared, is_taken, param_var, with_param, with_params, takes_param, function_named as rule_named}
-use Rattle.oc_tree.specs.Elements.{Here, inside, in_turn, before_stmts, scope_after, after_stmt, stmt_elements, kind_elements, else_elements, block_elements, stmts_elements, in_function, function_item}
+use Rattle.oc_tree.specs.Calls.{place_from, function_names, function_place, callee, expr_calls, call_calls, args_calls, right_calls, own_calls, kind_hides, kind_kinds, else_kinds}
+use Rattle.oc_tree.specs.Calls.{block_kinds, stmts_kinds, has_param, reaches_mention}
+use Rattle.oc_tree.specs.Scope.{Scope, variable_in, variable_of, is_variable, is_in_scope, is_among, is_declared, is_taken, param_var, with_param, with_params, takes_param}
+use Rattle.oc_tree.specs.Scope.{function_named as rule_named}
+use Rattle.oc_tree.specs.Elements.{Here, inside, in_turn, before_stmts, scope_after, after_stmt, stmt_elements, kind_elements, else_elements, block_elements, stmts_elements}
+use Rattle.oc_tree.specs.Elements.{in_function, function_item}
 use Rattle.oc_tree.specs.Broken.{item_rules}
 use Rattle.oc_tree.specs.Checked.{Group, IsChecked}
-use Rattle.oc_tree.specs.Rules.{takes_name, call_known, args_known, expr_known, right_known, callee_params, params_of, args_meet, args_list, origin_is, is_writable, is_writable_array, is_mutable_param}
+use Rattle.oc_tree.specs.Rules.{takes_name, call_known, args_known, expr_known, right_known, callee_params, params_of, args_meet, args_list, origin_is, is_writable}
+use Rattle.oc_tree.specs.Rules.{is_writable_array, is_mutable_param}
 use Rattle.oc_meaning.specs.Uses.{expr_names, right_names}
 use Rattle.oc_meaning.specs.Uses.{own_names as said_names}
 use Rattle.oc_meaning.specs.Run.{function_named}
@@ -153,11 +158,13 @@ module _ (p : TProgram) (hidden : Text → Bool) (nv : ForHidden hidden (λ y. i
       let params : callee_params p (call f args) ≡ found.function.params = ap params_of found.ruled in
       let meets : (length found.function.params == length (args_list args)) && args_meet p h.scope found.function.params args ≡ true =
       subst (λ qs. (length qs == length (args_list args)) && args_meet p h.scope qs args ≡ true) params own.meets in
-      let many : length found.function.params ≡ length (args_list args) = eqb-true _ _ (first_holds (length found.function.params == length (args_list args)) (args_meet p h.scope found.function.params args) meets) in (
+      let many : length found.function.params ≡ length (args_list args) =
+      eqb-true _ _ (first_holds (length found.function.params == length (args_list args)) (args_meet p h.scope found.function.params args) meets) in (
         found.function,
         found.named,
         record { number = v.0; stands = found.stands; unnamed = λ y k. on v.0 v.1 y k },
-        all_lawful p h.scope fs s hidden found.function.params args many (second_holds (length found.function.params == length (args_list args)) (args_meet p h.scope found.function.params args) meets) own.lends free,
+        all_lawful p h.scope fs s hidden found.function.params args many
+            (second_holds (length found.function.params == length (args_list args)) (args_meet p h.scope found.function.params args) meets) own.lends free,
       )
 
   right_lawful : (h : Here) (fs : Flags) (r : TRight) → AllFlags h.scope fs → right_known p h.scope r ≡ true → EachCall (CallFine p h) (right_calls r) → EachCall Goal (right_calls r) →
@@ -207,7 +214,8 @@ module _ (p : TProgram) (hidden : Text → Bool) (nv : ForHidden hidden (λ y. i
   mentions_none k h y e = (free_parts y k (h y e)).0
 
   assign_lawful : (h : Here) (fs : Flags) (x : Text) (r : TRight) (test : Origin → Bool) → test (origins.Param passings.Shared) ≡ false → AllFlags h.scope fs → hidden x ≡ false →
-      right_known p h.scope r ≡ true → EachCall (CallFine p h) (right_calls r) → EachCall Goal (right_calls r) → ForHidden hidden (λ y. right_mentions y r ≡ 0) → origin_is test (variable_of p h.scope x) ≡ true →
+      right_known p h.scope r ≡ true → EachCall (CallFine p h) (right_calls r) → EachCall Goal (right_calls r) → ForHidden hidden (λ y. right_mentions y r ≡ 0)
+      → origin_is test (variable_of p h.scope x) ≡ true →
       (hidden x ≡ false) × (flag_of fs x ≡ false) × LawfulRight fs r
   assign_lawful h fs x r test fails s shown known fine goes free w = (shown, unflagged p h.scope fs s test fails x w, right_lawful h fs r s known fine goes free)
 
@@ -251,20 +259,25 @@ module _ (p : TProgram) (hidden : Text → Bool) (nv : ForHidden hidden (λ y. i
     kind_lawful h fs (let_to m x t r) s u fine free goes = right_lawful h fs r s u.known u.calls goes.0 (mentions_none (let_to m x t r) (λ y e. (free y e).0))
     kind_lawful h fs (let_array m x t z n) s u fine free goes = tt
     kind_lawful h fs (assign x r) s u fine free goes =
-        assign_lawful h fs x r is_writable refl s (target_shown x (assign x r) (λ y. refl) (λ y e. (free y e).0)) (second_holds (is_variable p h.scope x) (right_known p h.scope r) u.known) u.calls goes.0 (mentions_none (assign x r) (λ y e. (free y e).0)) (other_or _ u.target)
+        assign_lawful h fs x r is_writable refl s (target_shown x (assign x r) (λ y. refl) (λ y e. (free y e).0))
+        (second_holds (is_variable p h.scope x) (right_known p h.scope r) u.known) u.calls goes.0 (mentions_none (assign x r) (λ y e. (free y e).0)) (other_or _ u.target)
     kind_lawful h fs (assign_deref x r) s u fine free goes =
-        assign_lawful h fs x r is_mutable_param refl s (target_shown x (assign_deref x r) (λ y. refl) (λ y e. (free y e).0)) (second_holds (is_variable p h.scope x) (right_known p h.scope r) u.known) u.calls goes.0 (mentions_none (assign_deref x r) (λ y e. (free y e).0)) (other_or _ u.pointee)
+        assign_lawful h fs x r is_mutable_param refl s (target_shown x (assign_deref x r) (λ y. refl) (λ y e. (free y e).0))
+        (second_holds (is_variable p h.scope x) (right_known p h.scope r) u.known) u.calls goes.0 (mentions_none (assign_deref x r) (λ y e. (free y e).0)) (other_or _ u.pointee)
     kind_lawful h fs (assign_index x i r) s u fine free goes =
         let none = mentions_none (assign_index x i r) (λ y e. (free y e).0) in
         let known = second_holds (is_variable p h.scope x) (expr_known p h.scope i && right_known p h.scope r) u.known in
-        let rest = assign_lawful h fs x r is_writable_array refl s (target_shown x (assign_index x i r) (λ y. refl) (λ y e. (free y e).0)) (second_holds (expr_known p h.scope i) (right_known p h.scope r) known)
+        let rest = assign_lawful h fs x r is_writable_array refl s (target_shown x (assign_index x i r) (λ y. refl) (λ y e. (free y e).0))
+        (second_holds (expr_known p h.scope i) (right_known p h.scope r) known)
         (calls_back (CallFine p h) (expr_calls i) (right_calls r) u.calls) (calls_back Goal (expr_calls i) (right_calls r) goes.0)
         (λ y k. let q : expr_mentions y i + right_mentions y r ≡ 0 = none y k in omega (arith, q)) (other_or _ u.array) in
         (rest.0, rest.1, shown_expr hidden i (λ y k. let q : expr_mentions y i + right_mentions y r ≡ 0 = none y k in omega (arith, q)), rest.2)
     kind_lawful h fs (if_else c a b) s u fine free goes = (
       shown_expr hidden c (mentions_none (if_else c a b) (λ y e. (free y e).0)),
-      block_lawful (inside h) fs a s (fine_front p (block_elements p (inside h) a) (else_elements p (inside h) b) fine) (λ y e. kinds_front (Free y) (block_kinds (Some y) a) (else_kinds (Some y) b) (free y e).1) (kinds_front Goes (block_kinds None a) (else_kinds None b) goes.1),
-      else_lawful (inside h) fs b s (fine_back p (block_elements p (inside h) a) (else_elements p (inside h) b) fine) (λ y e. kinds_back (Free y) (block_kinds (Some y) a) (else_kinds (Some y) b) (free y e).1) (kinds_back Goes (block_kinds None a) (else_kinds None b) goes.1),
+      block_lawful (inside h) fs a s (fine_front p (block_elements p (inside h) a) (else_elements p (inside h) b) fine)
+          (λ y e. kinds_front (Free y) (block_kinds (Some y) a) (else_kinds (Some y) b) (free y e).1) (kinds_front Goes (block_kinds None a) (else_kinds None b) goes.1),
+      else_lawful (inside h) fs b s (fine_back p (block_elements p (inside h) a) (else_elements p (inside h) b) fine)
+          (λ y e. kinds_back (Free y) (block_kinds (Some y) a) (else_kinds (Some y) b) (free y e).1) (kinds_back Goes (block_kinds None a) (else_kinds None b) goes.1),
     )
     kind_lawful h fs (for_in x m n b) s u fine free goes =
         block_lawful (in_turn h x) ((x, false) ∷ fs) b (flags_more h.scope fs x _ s) fine
@@ -295,12 +308,14 @@ module _ (p : TProgram) (hidden : Text → Bool) (nv : ForHidden hidden (λ y. i
         let own = fine_front p (stmt_elements p here (stmt id line k)) (stmts_elements p (after_stmt p h (stmt id line k)) ss) fine in
         let rest = fine_back p (stmt_elements p here (stmt id line k)) (stmts_elements p (after_stmt p h (stmt id line k)) ss) fine in
         let u : Unbroken p here k = unbroken p own.0.0 here k own.0.1 in
-        let each : AllFree (λ y. kind_kinds (Some y) k ++ stmts_kinds (Some y) ss) = λ y e. subst (λ c. EachKind (Free y) (kind_kinds (Some y) k ++ cond c [] (stmts_kinds (Some y) ss))) (hides_none here k u.taken y e) (free y e) in
+        let each : AllFree (λ y. kind_kinds (Some y) k ++ stmts_kinds (Some y) ss) =
+        λ y e. subst (λ c. EachKind (Free y) (kind_kinds (Some y) k ++ cond c [] (stmts_kinds (Some y) ss))) (hides_none here k u.taken y e) (free y e) in
         let on : EachKind Goes (kind_kinds None k ++ stmts_kinds None ss) = subst (λ c. EachKind Goes (kind_kinds None k ++ cond c [] (stmts_kinds None ss))) (none_hides k) goes in
         let one : AllFree (λ y. kind_kinds (Some y) k) = λ y e. kinds_front (Free y) (kind_kinds (Some y) k) (stmts_kinds (Some y) ss) (each y e) in (
           own_shown k (mentions_none k (head_free k one)),
           kind_lawful here fs k s u own.1 one (kinds_front Goes (kind_kinds None k) (stmts_kinds None ss) on),
-          stmts_lawful (after_stmt p h (stmt id line k)) (flags_behind fs k) ss (flags_after h fs id k s) rest (λ y e. kinds_back (Free y) (kind_kinds (Some y) k) (stmts_kinds (Some y) ss) (each y e)) (kinds_back Goes (kind_kinds None k) (stmts_kinds None ss) on),
+          stmts_lawful (after_stmt p h (stmt id line k)) (flags_behind fs k) ss (flags_after h fs id k s) rest
+              (λ y e. kinds_back (Free y) (kind_kinds (Some y) k) (stmts_kinds (Some y) ss) (each y e)) (kinds_back Goes (kind_kinds None k) (stmts_kinds None ss) on),
         )
 
   -- ---- at the start of a body
@@ -340,7 +355,8 @@ module _ (p : TProgram) (hidden : Text → Bool) (nv : ForHidden hidden (λ y. i
   params_shown : (s : Scope) (qs : List Param) → takes_param p s qs ≡ false → ForHidden hidden (λ y. has_param y qs ≡ false)
   params_shown s [] taken y e = refl
   params_shown s (q ∷ qs) taken y e =
-      ap (λ b. b || has_param y qs) (new_name s q.name (first_fails (is_taken p s q.name) (takes_param p (with_param s q) qs) taken) y e) ∙ params_shown (with_param s q) qs (second_fails (is_taken p s q.name) (takes_param p (with_param s q) qs) taken) y e
+      ap (λ b. b || has_param y qs) (new_name s q.name (first_fails (is_taken p s q.name) (takes_param p (with_param s q) qs) taken) y e)
+      ∙ params_shown (with_param s q) qs (second_fails (is_taken p s q.name) (takes_param p (with_param s q) qs) taken) y e
 
   -- The bodies of quiet functions are lawful.
   pub lawful : (groups : List Group) → IsChecked p groups → (x : Text) (g : TFunction) → IsQuiet x g → IsLawfulBlock hidden p IsQuiet (function_named p.functions) (start_flags g.params []) g.body

@@ -147,6 +147,7 @@ module _ (p : TProgram) (scope : Scope) (fs : Flags) (flags : AllFlags scope fs)
       careful =
           λ x e k. careful_arg q a x (first_holds (arg_meets p scope q a) (args_meet p scope qs rest) m) (first_holds (arg_lends p scope a) (list_all (arg_lends p scope) (args_list rest)) l) e k;
     },
-    all_lawful hidden qs rest (omega (arith, n)) (second_holds (arg_meets p scope q a) (args_meet p scope qs rest) m) (second_holds (arg_lends p scope a) (list_all (arg_lends p scope) (args_list rest)) l)
+    all_lawful hidden qs rest (omega (arith, n)) (second_holds (arg_meets p scope q a) (args_meet p scope qs rest) m)
+        (second_holds (arg_lends p scope a) (list_all (arg_lends p scope) (args_list rest)) l)
         (λ y k. let s : arg_mentions y a + args_mentions y rest ≡ 0 = h y k in omega (arith, s)),
   )

@@ -2,7 +2,8 @@
 use Rattle.std.proofs.Common.{◌≡◌, ◌≤◌, ℕ, zero, suc, ◌+◌, ◌-◌, Bool, true, false, List, [], ◌∷◌, length, Option, Some, None, refl, ap, sym, ◌∙◌, subst, arith}
 use Rattle.std.specs.Prelude.{ℤ, pos, ◌+ℤ◌, ◌-ℤ◌, if◌then◌else◌}
 use Rattle.oc_tree.specs.Names.{Text, NameLists}
-use Rattle.oc_tree.specs.Tree.{TCall, call, TRight, right_value, right_sense, right_call, TKind, let_to, let_array, assign, assign_index, assign_deref, if_else, for_in, while_do, call_only, sense_only, emit, fresh, consistent, return, TElse, no_else, else_do, stmt, TBlock, block, TStmts, no_stmts, more, TFunction, TProgram}
+use Rattle.oc_tree.specs.Tree.{TCall, call, TRight, right_value, right_sense, right_call, TKind, let_to, let_array, assign, assign_index, assign_deref, if_else, for_in, while_do}
+use Rattle.oc_tree.specs.Tree.{call_only, sense_only, emit, fresh, consistent, return, TElse, no_else, else_do, stmt, TBlock, block, TStmts, no_stmts, more, TFunction, TProgram}
 use Rattle.oc_tree.specs.declared.tree.Param.{Param}
 use Rattle.oc_tree.specs.Marked.{TRegion}
 use Rattle.oc_tree.specs.declared.said.TrapKind.{TrapKind}
@@ -12,7 +13,9 @@ use Rattle.oc_meaning.specs.Blocks.{set_home}
 use Rattle.oc_meaning.specs.Store.{Value, Held, Place, Local, Global, Turn, Nowhere, Store, Binding, held_at, put, made, holding, place_of}
 use Rattle.oc_meaning.specs.Eval.{Got, Val, Traps, is_zero, element_of, value_of}
 use Rattle.oc_meaning.specs.Uses.{is_fresh, is_use, use_samples, begins_use, ends_use}
-use Rattle.oc_meaning.specs.Exec.{begun_by, ended_by, Outcome, Went, Returned, Stopped, Passed, Copied, Lent, Passing as Given, Passes, Breaks, number_in, trapped, with_value, then_do, with_result, leave, opened, closed, used, done, finished, sense, args_of, with_args, element_written, for_turns, while_turns, count_of, in_turn, grown, entered, call_run, right_run, kind_run, else_run, block_run, stmts_run}
+use Rattle.oc_meaning.specs.Exec.{begun_by, ended_by, Outcome, Went, Returned, Stopped, Passed, Copied, Lent, Passing as Given, Passes, Breaks, number_in, trapped, with_value}
+use Rattle.oc_meaning.specs.Exec.{then_do, with_result, leave, opened, closed, used, done, finished, sense, args_of, with_args, element_written, for_turns, while_turns, count_of}
+use Rattle.oc_meaning.specs.Exec.{in_turn, grown, entered, call_run, right_run, kind_run, else_run, block_run, stmts_run}
 use Rattle.oc_meaning.specs.Run.{Frame, with_param, with_params, function_named, nv_env, function_run, call_to}
 use Rattle.oc_copies.specs.Stands.{IsBehind, Makes, makes, CallsMakeNone, OwnRunsMakeNone, StatementsMake}
 use Rattle.oc_copies.specs.Copies.{own_frame}
@@ -216,7 +219,8 @@ module _ (p : TProgram) (regions : List TRegion) where
       let fr : Frame = with_params g.params ps (record { env = nv_env 0 p.names.nvs; locals = σ.locals }) in
       let many : length σ.locals ≤ length fr.locals = params_more g.params ps (record { env = nv_env 0 p.names.nvs; locals = σ.locals }) in
       keeps_left (length σ.locals) (record σ { locals = fr.locals }) (block_run p.names regions call_of (set_home g.body) fr.env g.body (record σ { locals = fr.locals })) many
-      (keeps_made (record σ { locals = fr.locals }) (block_run p.names regions call_of (set_home g.body) fr.env g.body (record σ { locals = fr.locals })) (block_makes p.names regions call_of (set_home g.body) calls fr.env g.body (record σ { locals = fr.locals })))
+      (keeps_made (record σ { locals = fr.locals }) (block_run p.names regions call_of (set_home g.body) fr.env g.body (record σ { locals = fr.locals }))
+      (block_makes p.names regions call_of (set_home g.body) calls fr.env g.body (record σ { locals = fr.locals })))
       σ refl refl refl
 
   pub calls_make : (d : ℕ) (x : Text) (ps : List Passed) (σ : Store) → Makes 0 σ (call_to p regions d x ps σ)

@@ -86,7 +86,8 @@ module _ (r : Renaming) (is : IsRenaming r) (start other_start : Store) where
     stored = put_nv σ a h ∙ m.stored;
     other_stored = put_nv τ (r.to a) h ∙ m.other_stored;
     holds = λ b k. elim (same_or_not a b c) [
-      | inl e ↦ subst (λ q. held_at (put σ a h) q ≡ held_at (put τ (r.to a) h) (r.to q)) e (held_put σ a h ∙ either_put (there σ a) (there τ (r.to a)) h (held_at σ a) (held_at τ (r.to a)) (cell_there σ τ m a l f) (m.holds a l) ∙ sym (held_put τ (r.to a) h))
+      | inl e ↦ subst (λ q. held_at (put σ a h) q ≡ held_at (put τ (r.to a) h) (r.to q)) e
+          (held_put σ a h ∙ either_put (there σ a) (there τ (r.to a)) h (held_at σ a) (held_at τ (r.to a)) (cell_there σ τ m a l f) (m.holds a l) ∙ sym (held_put τ (r.to a) h))
       | inr n ↦ held_put_other σ a b h n ∙ m.holds b k ∙ sym (held_put_other τ (r.to a) (r.to b) h (λ e. n (is.apart a b l k f c e)))
     ];
     rest = put_beside σ a h ∙ m.rest ∙ sym (put_beside τ (r.to a) h);
@@ -133,8 +134,10 @@ module _ (r : Renaming) (is : IsRenaming r) (start other_start : Store) where
     stored = m.stored;
     other_stored = m.other_stored;
     holds = λ b k. elim (same_or_not new b tt) [
-      | inl e ↦ subst (λ q. held_at (made h σ) q ≡ held_at (made h τ) (r.to q)) e (new_holds σ h (r.low + m.more) m.count ∙ sym (new_holds τ h (r.other_low + m.more) m.other_count) ∙ ap (held_at (made h τ)) (sym (is.later m.more)))
-      | inr n ↦ old_holds σ h b (λ e. n (sym (e ∙ ap Local m.count))) ∙ m.holds b k ∙ sym (old_holds τ h (r.to b) (λ e. n (is.apart new b (is.later_live m.more) k (is.later_free m.more) tt (is.later m.more ∙ sym (e ∙ ap Local m.other_count)))))
+      | inl e ↦ subst (λ q. held_at (made h σ) q ≡ held_at (made h τ) (r.to q)) e (new_holds σ h (r.low + m.more) m.count ∙ sym (new_holds τ h (r.other_low + m.more) m.other_count)
+          ∙ ap (held_at (made h τ)) (sym (is.later m.more)))
+      | inr n ↦ old_holds σ h b (λ e. n (sym (e ∙ ap Local m.count))) ∙ m.holds b k
+          ∙ sym (old_holds τ h (r.to b) (λ e. n (is.apart new b (is.later_live m.more) k (is.later_free m.more) tt (is.later m.more ∙ sym (e ∙ ap Local m.other_count)))))
     ];
     rest = m.rest;
     kept = λ b k. old_holds σ h b (λ e. other b k (e ∙ ap Local m.count)) ∙ m.kept b k;
@@ -189,14 +192,16 @@ module _ (r : Renaming) (is : IsRenaming r) (start other_start : Store) where
         by : (b : Bool) → nat_lt (i + k) m.more ≡ b → held_at (dropped_to k σ) (Local (r.low + i)) ≡ held_at (dropped_to k τ) (Local (r.other_low + i))
         by true e =
             let h : i + k < m.more = grind (arith, e) in
-            stays_held σ k (Local (r.low + i)) (omega (arith, h, m.count)) ∙ m.holds (Local (r.low + i)) live ∙ ap (held_at τ) (is.later i) ∙ sym (stays_held τ k (Local (r.other_low + i)) (omega (arith, h, m.other_count)))
+            stays_held σ k (Local (r.low + i)) (omega (arith, h, m.count)) ∙ m.holds (Local (r.low + i)) live ∙ ap (held_at τ) (is.later i)
+            ∙ sym (stays_held τ k (Local (r.other_low + i)) (omega (arith, h, m.other_count)))
         by false e =
             let h : m.more ≤ i + k = grind (arith, e) in
             gone_held σ k (r.low + i) (omega (arith, h, m.count)) ∙ sym (gone_held τ k (r.other_low + i) (omega (arith, h, m.other_count)))
 
     drop_holds : (a : Place) → r.live a ≡ true → held_at (dropped_to k σ) a ≡ held_at (dropped_to k τ) (r.to a)
     drop_holds (Local l) live = elim (low_or_later r.low l) [
-      | inl h ↦ stays_held σ k (Local l) (omega (arith, h, few, m.count)) ∙ m.holds (Local l) live ∙ sym (stays_held τ k (r.to (Local l)) (low_stays k (length τ.locals) l (r.to (Local l)) (omega (arith, few, m.other_count)) h live refl))
+      | inl h ↦ stays_held σ k (Local l) (omega (arith, h, few, m.count)) ∙ m.holds (Local l) live
+          ∙ sym (stays_held τ k (r.to (Local l)) (low_stays k (length τ.locals) l (r.to (Local l)) (omega (arith, few, m.other_count)) h live refl))
       | inr p ↦
           let live' : r.live (Local (r.low + p.0)) ≡ true = ap (λ n. r.live (Local n)) (sym p.1) ∙ live in
           ap (λ n. held_at (dropped_to k σ) (Local n)) p.1 ∙ later_same p.0 live' ∙ ap (held_at (dropped_to k τ)) (sym (ap (λ n. r.to (Local n)) p.1 ∙ is.later p.0))

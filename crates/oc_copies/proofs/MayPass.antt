@@ -18,7 +18,9 @@ use Rattle.oc_tree.specs.Calls.{function_place, reaches_mention}
 use Rattle.oc_tree.specs.Mentions.{once, args_mentions, arg_mentions}
 use Rattle.oc_tree.specs.Scope.{Scope, variable_of, or_nv, nv_var, is_variable}
 use Rattle.oc_tree.specs.Types.{is_reference, is_by_reference, scalar_of, is_same, value_type}
-use Rattle.oc_tree.specs.Rules.{only_reference, passed_on as rule_passed, has_kind, origin_is, is_mutable_param, is_writable, is_nv, passes_nv, value_meets, shared_meets, mutable_meets, arg_meets, args_meet, args_list, callee_params, params_of, arg_lends, arg_known, args_known, arg_exposes, at_place, value_lent_is, lent_is, all_lent}
+use Rattle.oc_tree.specs.Rules.{only_reference, passed_on as rule_passed, has_kind, origin_is, is_mutable_param, is_writable, is_nv, passes_nv, value_meets, shared_meets}
+use Rattle.oc_tree.specs.Rules.{mutable_meets, arg_meets, args_meet, args_list, callee_params, params_of, arg_lends, arg_known, args_known, arg_exposes, at_place, value_lent_is}
+use Rattle.oc_tree.specs.Rules.{lent_is, all_lent}
 use Rattle.oc_meaning.specs.Store.{Place, Local, Global, Turn, Nowhere, Store, Binding, binding_of, place_of}
 use Rattle.oc_meaning.specs.Eval.{Got, Val, Traps, value_of}
 use Rattle.oc_meaning.specs.Exec.{Passed, Copied, Lent, Passing as Given, Passes, Breaks, passed_on, value_first, arg_first, args_of}
@@ -203,7 +205,8 @@ module _ (p : TProgram) (scope : Scope) (env : List Binding) (σ : Store) (s : S
   all_formed : (qs : List Param) (args : TArgs) (ps : List Passed) → length qs ≡ length (args_list args) → args_meet p scope qs args ≡ true → AreGivenBy args ps → AreFormed qs ps
   all_formed [] no_args [] n m g = tt
   all_formed (q ∷ qs) (more_args a rest) (t ∷ ps) n m g =
-      formed_first q qs t ps (one_form q a t (first_holds (arg_meets p scope q a) (args_meet p scope qs rest) m) g.0) (all_formed qs rest ps (omega (arith, n)) (second_holds (arg_meets p scope q a) (args_meet p scope qs rest) m) g.1)
+      formed_first q qs t ps (one_form q a t (first_holds (arg_meets p scope q a) (args_meet p scope qs rest) m) g.0)
+      (all_formed qs rest ps (omega (arith, n)) (second_holds (arg_meets p scope q a) (args_meet p scope qs rest) m) g.1)
   all_formed [] (more_args a rest) ps n m g = absurd (omega (arith, n))
   all_formed (q ∷ qs) no_args ps n m g = absurd (omega (arith, n))
   all_formed [] no_args (t ∷ ps) n m g = absurd g
@@ -257,7 +260,8 @@ module _ (p : TProgram) (scope : Scope) (env : List Binding) (σ : Store) (s : S
     tests = λ test t. first_holds (lent_is test r a) (all_lent test qs rest) t;
   }
   lent_at u (r ∷ qs) (more_args a rest) (t ∷ ps) (suc i) q n m l k h g e =
-      let f = lent_at u qs rest ps i q (omega (arith, n)) (second_holds (arg_meets p scope r a) (args_meet p scope qs rest) m) (second_holds (arg_lends p scope a) (list_all (arg_lends p scope) (args_list rest)) l)
+      let f = lent_at u qs rest ps i q (omega (arith, n)) (second_holds (arg_meets p scope r a) (args_meet p scope qs rest) m)
+      (second_holds (arg_lends p scope a) (list_all (arg_lends p scope) (args_list rest)) l)
       (second_holds (arg_known p scope a) (args_known p scope rest) k) (second_fails (arg_exposes p scope u a) (list_any (arg_exposes p scope u) (args_list rest)) h) g.1 (later t ∙ e) in
       record {
         param = f.param;
@@ -295,7 +299,8 @@ module _ (p : TProgram) (scope : Scope) (env : List Binding) (σ : Store) (s : S
   not_turn : (param : Param) (a : TArg) (q : Place) (z : ℤ) → IsGivenBy a (Lent q) → arg_meets p scope param a ≡ true → arg_lends p scope a ≡ true → param.passing ≡ passings.Mutable → q ≡ Turn z → ⊥
   not_turn param (value e) q z g m l w t =
       let in_turn = s.turn g.0 z (sym g.3 ∙ t) in
-      let meets : value_meets p scope passings.Mutable param.kind (variable g.0) ≡ true = subst (λ d. value_meets p scope passings.Mutable param.kind d ≡ true) g.1 (subst (λ c. value_meets p scope c param.kind e ≡ true) w m) in
+      let meets : value_meets p scope passings.Mutable param.kind (variable g.0) ≡ true =
+      subst (λ d. value_meets p scope passings.Mutable param.kind d ≡ true) g.1 (subst (λ c. value_meets p scope c param.kind e ≡ true) w m) in
       let first = first_holds (origin_is is_mutable_param (rule_passed p scope (variable g.0))) (has_kind param.kind (rule_passed p scope (variable g.0))) meets in
       true≢false (sym first ∙ ap (λ o. origin_is is_mutable_param (only_reference (or_nv p g.0 o))) in_turn)
   not_turn param (shared x) q z g m l w t = true≢false (sym m ∙ ap (λ c. shared_meets c param.kind (variable_of p scope x)) w)
@@ -391,7 +396,8 @@ module _ (p : TProgram) (scope : Scope) (env : List Binding) (σ : Store) (s : S
           let x = lent_name l.arg q l.given l.known in
           let y = lent_name m.arg q m.given m.known in
           let same : x.0 ≡ y.0 = s.apart x.0 y.0 (subst IsVariablePlace x.2 (cell_place q (is_there i q e) (λ z t. is_fixed i q z w e t))) (sym x.2 ∙ y.2) in
-          let one : (args_mentions x.0 args == 1) ≡ true = tested (λ c. args_mentions c args == 1) l.param l.arg q x.0 l.given l.meets (same_Some _ _ (sym l.passing ∙ w)) (l.tests (λ c. args_mentions c args == 1) alone) x.1 in
+          let one : (args_mentions x.0 args == 1) ≡ true =
+          tested (λ c. args_mentions c args == 1) l.param l.arg q x.0 l.given l.meets (same_Some _ _ (sym l.passing ∙ w)) (l.tests (λ c. args_mentions c args == 1) alone) x.1 in
           same_index args i j l.arg m.arg x.0 (eqb-true _ _ one) l.nth m.nth x.1 (y.1 ∙ ap Some (sym same));
       fixed = λ i z w e. is_fixed i (Turn z) z w e refl;
       unnamed = λ i k x e n.
@@ -403,5 +409,8 @@ module _ (p : TProgram) (scope : Scope) (env : List Binding) (σ : Store) (s : S
     formed_so = formed
 
 pub calls_may_pass : CallsMayPass
-calls_may_pass p scope env σ s f args ruled u g at_name stands ps e =
-    (may_pass p scope env σ s f args ruled u g at_name stands ps (args_given p scope env σ s args ps e), formed_so p scope env σ s f args ruled u g at_name stands ps (args_given p scope env σ s args ps e))
+calls_may_pass p scope env σ s f args ruled u g at_name stands ps e = (
+  may_pass p scope env σ s f args ruled u g at_name stands ps (args_given p scope env σ s args ps e),
+  formed_so p scope env σ s f args ruled u g at_name stands ps
+      (args_given p scope env σ s args ps e),
+)

@@ -59,8 +59,11 @@ module _ (base nvs : ℕ) where
   lent_apart a only [] ps n b la low once = tt
   lent_apart a only (q ∷ qs) [] n b la low once = tt
   lent_apart a only (q ∷ qs) (Copied v ∷ ps) n b la low once = (λ f e. not_value n a b la e, lent_apart a only qs ps (suc n) (omega (arith, b)) la (later_place (Copied v) ps low) (λ j. once (suc j)))
-  lent_apart a only (q ∷ qs) (Lent c ∷ ps) n b la low once =
-      (λ f e. once 0 (ap Some (sym e)) (elim f [ inl k ↦ inl k | inr k ↦ inr (ap Some (mutable_is q.passing (not_not (is_mutable q.passing) k))) ]), lent_apart a only qs ps n b la (later_place (Lent c) ps low) (λ j. once (suc j)))
+  lent_apart a only (q ∷ qs) (Lent c ∷ ps) n b la low once = (
+    λ f e. once 0 (ap Some (sym e)) (elim f [ inl k ↦ inl k | inr k ↦ inr (ap Some (mutable_is q.passing (not_not (is_mutable q.passing) k))) ]),
+    lent_apart a only qs ps n b la
+        (later_place (Lent c) ps low) (λ j. once (suc j)),
+  )
 
   cell_of : (a : Place) → IsLow base nvs a → ((z : ℤ) → a ≡ Turn z → ⊥) → IsCell a
   cell_of (Local l) i h = tt

@@ -10,7 +10,8 @@ use Rattle.oc_tree.specs.Names.{Text}
 use Rattle.oc_tree.specs.Tree.{TCall, TKind, TFunction}
 use Rattle.oc_tree.specs.Reach.{Links, linked, is_link, leads, reaches, reaches_some}
 use Rattle.oc_tree.specs.Mentions.{own_names}
-use Rattle.oc_tree.specs.Calls.{place, function_names, function_place, callee, own_calls, block_kinds, body_calls, called_places, links_from, call_links, has_param, test_at, function_mentions, reaches_mention}
+use Rattle.oc_tree.specs.Calls.{place, function_names, function_place, callee, own_calls, block_kinds, body_calls, called_places, links_from, call_links, has_param, test_at}
+use Rattle.oc_tree.specs.Calls.{function_mentions, reaches_mention}
 use Rattle.oc_tree.proofs.ReachLaws.{or_left, or_right, or_elim, links_lead, leads_trans}
 use Rattle.oc_reach.specs.Within.{IsWithin}
 use Rattle.oc_reach.proofs.Bools.{and_both, and_first, and_second}
@@ -87,12 +88,15 @@ call_row : (names : List Text) (w : ℕ) (fs : List TFunction) (u : ℕ) (f : TF
 call_row names w [] u f a b h l = absurd (none-some f h)
 call_row names w (e ∷ fs) zero f a b h l =
     let n : w + 0 ≡ w = omega arith in
-    let own : linked (map (λ v. (w, v)) (called_places names (body_calls e))) a b ≡ true = subst (λ z. linked (map (λ v. (z, v)) (called_places names (body_calls e))) a b ≡ true) n (subst (λ g. linked (map (λ v. (w + 0, v)) (called_places names (body_calls g))) a b ≡ true) (sym (same_Some e f h)) l) in
+    let own : linked (map (λ v. (w, v)) (called_places names (body_calls e))) a b ≡ true =
+    subst (λ z. linked (map (λ v. (z, v)) (called_places names (body_calls e))) a b ≡ true) n
+    (subst (λ g. linked (map (λ v. (w + 0, v)) (called_places names (body_calls g))) a b ≡ true) (sym (same_Some e f h)) l) in
     any_append (is_link a b) (map (λ v. (w, v)) (called_places names (body_calls e))) (links_from names (w + 1) fs) ∙ or_left _ (linked (links_from names (w + 1) fs) a b) own
 call_row names w (e ∷ fs) (suc u) f a b h l =
     let n : w + suc u ≡ w + 1 + u = omega arith in
     let rest = call_row names (w + 1) fs u f a b h (subst (λ z. linked (map (λ v. (z, v)) (called_places names (body_calls f))) a b ≡ true) n l) in
-    any_append (is_link a b) (map (λ v. (w, v)) (called_places names (body_calls e))) (links_from names (w + 1) fs) ∙ or_right (linked (map (λ v. (w, v)) (called_places names (body_calls e))) a b) _ rest
+    any_append (is_link a b) (map (λ v. (w, v)) (called_places names (body_calls e))) (links_from names (w + 1) fs)
+    ∙ or_right (linked (map (λ v. (w, v)) (called_places names (body_calls e))) a b) _ rest
 
 -- what holds of all that a row of calls names holds of what each call names
 each_called : (names : List Text) (u : ℕ) (Q : ℕ → Type 0) (cs : List TCall) → ((v : ℕ) → linked (map (λ v. (u, v)) (called_places names cs)) u v ≡ true → Q v) →
@@ -101,8 +105,12 @@ each_called names u Q [] h = tt
 each_called names u Q (c ∷ cs) h =
     let here = map (λ v. (u, v)) (option_to_list (place names (callee c))) in
     let rest = map (λ v. (u, v)) (called_places names cs) in
-    let parts : (v : ℕ) → linked here u v || linked rest u v ≡ true → Q v = λ v l. h v (ap (λ ls. linked ls u v) (map-append (λ v. (u, v)) (option_to_list (place names (callee c))) (called_places names cs)) ∙ any_append (is_link u v) here rest ∙ l) in
-    (λ v e. parts v (or_left (linked here u v) (linked rest u v) (ap (λ o. linked (map (λ w. (u, w)) (option_to_list o)) u v) e ∙ own v)), each_called names u Q cs (λ v l. parts v (or_right (linked here u v) (linked rest u v) l)))
+    let parts : (v : ℕ) → linked here u v || linked rest u v ≡ true → Q v =
+    λ v l. h v (ap (λ ls. linked ls u v) (map-append (λ v. (u, v)) (option_to_list (place names (callee c))) (called_places names cs)) ∙ any_append (is_link u v) here rest ∙ l) in (
+      λ v e. parts v (or_left (linked here u v) (linked rest u v) (ap (λ o. linked (map (λ w. (u, w)) (option_to_list o)) u v) e ∙ own v)),
+      each_called names u Q cs
+          (λ v l. parts v (or_right (linked here u v) (linked rest u v) l)),
+    )
   where
     own : (v : ℕ) → linked (map (λ w. (u, w)) (option_to_list (Some v))) u v ≡ true
     own v = or_left (nat_eq u u && nat_eq v v) false (and_both (nat_eq u u) (nat_eq v v) (eq-eqb u u refl) (eq-eqb v v refl))

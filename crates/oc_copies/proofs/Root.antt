@@ -214,7 +214,8 @@ module _ (base nvs n : ℕ) (es : List Entry) (fine : Fine n nvs es) where
   there_same (Local l) la f more =
       let k = own_index l la in
       let free : fixed_own es k.0 ≡ false = sym (fixed_at k.0) ∙ ap (λ x. is_fixed (Local x)) (sym k.1) ∙ f in
-      ap (has_place (n + more) nvs) (ap (λ x. to_place (Local x)) k.1 ∙ to_at k.0) ∙ own_there n nvs es k.0 more fine free ∙ step k.0 (nat_lt k.0 (length es + more)) refl ∙ ap (λ x. nat_lt x (base + length es + more)) (sym k.1)
+      ap (has_place (n + more) nvs) (ap (λ x. to_place (Local x)) k.1 ∙ to_at k.0) ∙ own_there n nvs es k.0 more fine free ∙ step k.0 (nat_lt k.0 (length es + more)) refl
+      ∙ ap (λ x. nat_lt x (base + length es + more)) (sym k.1)
     where
       step : (i : ℕ) (b : Bool) → nat_lt i (length es + more) ≡ b → b ≡ nat_lt (base + i) (base + length es + more)
       step i true e = grind (arith, e)

@@ -230,11 +230,13 @@ module _ (p : TProgram) where
   all_stand σ s [] [] fr taken f h = h
   all_stand σ s (q ∷ qs) (Copied v ∷ ps) fr taken f h =
       all_stand σ (with_param s q) qs ps (own_param σ q.name (Copied v) fr) (second_fails (is_taken p s q.name) (takes_param p (with_param s q) qs) taken) f.1
-      (stands_more s fr.env (record σ { locals = fr.locals }) (record σ { locals = (own_param σ q.name (Copied v) fr).locals }) (record { name = q.name; place = Local (length fr.locals); reference = false; fresh = false }) (param_var q)
+      (stands_more s fr.env (record σ { locals = fr.locals }) (record σ { locals = (own_param σ q.name (Copied v) fr).locals })
+      (record { name = q.name; place = Local (length fr.locals); reference = false; fresh = false }) (param_var q)
       (not_in_scope p s q.name (first_fails (is_taken p s q.name) (takes_param p (with_param s q) qs) taken)) (inl (refl, omega arith)) (omega arith) (sym f.0) h)
   all_stand σ s (q ∷ qs) (Lent a ∷ ps) fr taken f h =
       all_stand σ (with_param s q) qs ps (own_param σ q.name (Lent a) fr) (second_fails (is_taken p s q.name) (takes_param p (with_param s q) qs) taken) f.1
-      (stands_more s fr.env (record σ { locals = fr.locals }) (record σ { locals = (own_param σ q.name (Lent a) fr).locals }) (record { name = q.name; place = Local (length fr.locals); reference = true; fresh = false }) (param_var q)
+      (stands_more s fr.env (record σ { locals = fr.locals }) (record σ { locals = (own_param σ q.name (Lent a) fr).locals })
+      (record { name = q.name; place = Local (length fr.locals); reference = true; fresh = false }) (param_var q)
       (not_in_scope p s q.name (first_fails (is_taken p s q.name) (takes_param p (with_param s q) qs) taken)) (inl (refl, omega arith)) (omega arith) (sym f.0) h)
   all_stand σ s [] (t ∷ ps) fr taken f h = absurd f
   all_stand σ s (q ∷ qs) [] fr taken f h = absurd f

@@ -122,8 +122,10 @@ module _ (σ : Store) (nvs n : ℕ) (es : List Entry) where
   all_made (q ∷ qs) (Copied v ∷ ps) k m own lent low rest made =
       let s : suc k + length (entries qs ps (suc m)) ≡ k + suc (length (entries qs ps (suc m))) = omega arith in
       subst (λ t. IsMade t (after_values qs ps (suc m)) (own_params σ (q ∷ qs) (Copied v ∷ ps) own) (with_params (q ∷ qs) (Copied v ∷ ps) lent)) s
-      (all_made qs ps (suc k) (suc m) (own_param σ q.name (Copied v) own) (with_param q.name (Copied v) lent) (later_place base nvs (Copied v) ps low) (left_more k _ _ rest) (made_copied k m own lent q.name v (left_first k _ _ rest) made))
+      (all_made qs ps (suc k) (suc m) (own_param σ q.name (Copied v) own) (with_param q.name (Copied v) lent) (later_place base nvs (Copied v) ps low) (left_more k _ _ rest)
+      (made_copied k m own lent q.name v (left_first k _ _ rest) made))
   all_made (q ∷ qs) (Lent a ∷ ps) k m own lent low rest made =
       let s : suc k + length (entries qs ps m) ≡ k + suc (length (entries qs ps m)) = omega arith in
       subst (λ t. IsMade t (after_values qs ps m) (own_params σ (q ∷ qs) (Lent a ∷ ps) own) (with_params (q ∷ qs) (Lent a ∷ ps) lent)) s
-      (all_made qs ps (suc k) m (own_param σ q.name (Lent a) own) (with_param q.name (Lent a) lent) (later_place base nvs (Lent a) ps low) (left_more k _ _ rest) (made_lent k m own lent q.name a (left_first k _ _ rest) (low 0 a refl) made))
+      (all_made qs ps (suc k) m (own_param σ q.name (Lent a) own) (with_param q.name (Lent a) lent) (later_place base nvs (Lent a) ps low) (left_more k _ _ rest)
+      (made_lent k m own lent q.name a (left_first k _ _ rest) (low 0 a refl) made))

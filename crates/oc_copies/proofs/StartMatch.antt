@@ -39,12 +39,14 @@ module _ (σ : Store) (n : ℕ) (es : List Entry) (fine : Fine n (length σ.nv) 
     all_held : (a : Place) → is_live start (length σ.nv) n es fine a ≡ true → held_in σ own.locals a ≡ held_in σ lent.locals (to_place start (length σ.nv) n es fine a)
     all_held (Local l) h =
         let k = own_index start (length σ.nv) n es fine l h in
-        ap (λ x. held_in σ own.locals (Local x)) k.1 ∙ own_held k.0 ∙ sym (ap (held_in σ lent.locals) (ap (λ x. to_place start (length σ.nv) n es fine (Local x)) k.1 ∙ to_at start (length σ.nv) n es fine k.0))
+        ap (λ x. held_in σ own.locals (Local x)) k.1 ∙ own_held k.0
+        ∙ sym (ap (held_in σ lent.locals) (ap (λ x. to_place start (length σ.nv) n es fine (Local x)) k.1 ∙ to_at start (length σ.nv) n es fine k.0))
     all_held (Global g) h = refl
     all_held (Turn z) h = refl
     all_held Nowhere h = refl
 
-    pub start_match : Match (renaming start (length σ.nv) n es fine) (is_renaming start (length σ.nv) n es fine) (record σ { locals = own.locals }) (record σ { locals = lent.locals }) (record σ { locals = own.locals }) (record σ { locals = lent.locals })
+    pub start_match : Match (renaming start (length σ.nv) n es fine) (is_renaming start (length σ.nv) n es fine) (record σ { locals = own.locals })
+        (record σ { locals = lent.locals }) (record σ { locals = own.locals }) (record σ { locals = lent.locals })
     start_match = record {
       more = 0;
       count = omega (arith, made.many);
@@ -73,18 +75,36 @@ module _ (σ : Store) (n : ℕ) (es : List Entry) (fine : Fine n (length σ.nv) 
 
     pub all_seen : (qs : List Param) (ps : List Passed) (k m : ℕ) (own lent : Frame) (fs : Flags) → length ps ≡ length qs → Lows start (length σ.nv) ps →
         ((i : ℕ) (q : Place) → lent_place ps i ≡ Some q → passing_at qs i ≡ Some passings.Value → ⊥) →
-        AreLeft σ (length σ.nv) n es k (entries qs ps m) → IsMade σ (length σ.nv) n es k m own lent → See fs own.env lent.env → See (start_flags qs fs) (own_params σ qs ps own).env (with_params qs ps lent).env
+        AreLeft σ (length σ.nv) n es k (entries qs ps m) → IsMade σ (length σ.nv) n es k m own lent → See fs own.env lent.env
+        → See (start_flags qs fs) (own_params σ qs ps own).env (with_params qs ps lent).env
     all_seen [] ps k m own lent fs as_many low form rest made s = s
     all_seen (q ∷ qs) [] k m own lent fs as_many low form rest made s = absurd (omega (arith, as_many))
     all_seen (q ∷ qs) (Copied v ∷ ps) k m own lent fs as_many low form rest made s =
-        all_seen qs ps (suc k) (suc m) (own_param σ q.name (Copied v) own) (with_param q.name (Copied v) lent) ((q.name, is_shared q.passing) ∷ fs) (omega (arith, as_many)) (later_place start (length σ.nv) (Copied v) ps low) (λ i a e. form (suc i) a e)
+        all_seen qs ps (suc k) (suc m) (own_param σ q.name (Copied v) own) (with_param q.name (Copied v) lent) ((q.name, is_shared q.passing) ∷ fs) (omega (arith, as_many))
+        (later_place start (length σ.nv) (Copied v) ps low) (λ i a e. form (suc i) a e)
         (left_more σ (length σ.nv) n es k _ _ rest) (made_copied σ (length σ.nv) n es k m own lent q.name v (left_first σ (length σ.nv) n es k _ _ rest) made)
         (sees_more hidden _ _ first other_first fs own.env lent.env q.name (is_shared q.passing) _ _ refl refl
-        (record { place = ap Local made.other_many ∙ sym (left_first σ (length σ.nv) n es k _ _ rest) ∙ sym (ap (λ x. to_place start (length σ.nv) n es fine (Local x)) made.many ∙ to_at start (length σ.nv) n es fine k); live = ap (λ x. is_live start (length σ.nv) n es fine (Local x)) made.many ∙ live_at start (length σ.nv) n es fine k; reference = refl; fresh = refl })
+        (record {
+          place = ap Local made.other_many ∙ sym (left_first σ (length σ.nv) n es k _ _ rest)
+              ∙ sym (ap (λ x. to_place start (length σ.nv) n es fine (Local x)) made.many ∙ to_at start (length σ.nv) n es fine k);
+          live =
+              ap (λ x. is_live start (length σ.nv) n es fine (Local x)) made.many ∙ live_at start (length σ.nv) n es fine k;
+          reference = refl;
+          fresh = refl;
+        })
         (λ e. ap (λ x. (renaming start (length σ.nv) n es fine).fixed (Local x)) made.many ∙ fixed_at start (length σ.nv) n es fine k ∙ fixed_first k _ _ rest) s)
     all_seen (q ∷ qs) (Lent a ∷ ps) k m own lent fs as_many low form rest made s =
-        all_seen qs ps (suc k) m (own_param σ q.name (Lent a) own) (with_param q.name (Lent a) lent) ((q.name, is_shared q.passing) ∷ fs) (omega (arith, as_many)) (later_place start (length σ.nv) (Lent a) ps low) (λ i b e. form (suc i) b e)
+        all_seen qs ps (suc k) m (own_param σ q.name (Lent a) own) (with_param q.name (Lent a) lent) ((q.name, is_shared q.passing) ∷ fs) (omega (arith, as_many))
+        (later_place start (length σ.nv) (Lent a) ps low) (λ i b e. form (suc i) b e)
         (left_more σ (length σ.nv) n es k _ _ rest) (made_lent σ (length σ.nv) n es k m own lent q.name a (left_first σ (length σ.nv) n es k _ _ rest) (low 0 a refl) made)
         (sees_more hidden _ _ first other_first fs own.env lent.env q.name (is_shared q.passing) _ _ refl refl
-        (record { place = sym (left_first σ (length σ.nv) n es k _ _ rest) ∙ sym (ap (λ x. to_place start (length σ.nv) n es fine (Local x)) made.many ∙ to_at start (length σ.nv) n es fine k); live = ap (λ x. is_live start (length σ.nv) n es fine (Local x)) made.many ∙ live_at start (length σ.nv) n es fine k; reference = refl; fresh = refl })
-        (λ e. ap (λ x. (renaming start (length σ.nv) n es fine).fixed (Local x)) made.many ∙ fixed_at start (length σ.nv) n es fine k ∙ fixed_first k _ _ rest ∙ shared_or q.passing (λ v. form 0 a refl (ap Some v)) e) s)
+        (record {
+          place = sym (left_first σ (length σ.nv) n es k _ _ rest)
+              ∙ sym (ap (λ x. to_place start (length σ.nv) n es fine (Local x)) made.many ∙ to_at start (length σ.nv) n es fine k);
+          live =
+              ap (λ x. is_live start (length σ.nv) n es fine (Local x)) made.many ∙ live_at start (length σ.nv) n es fine k;
+          reference = refl;
+          fresh = refl;
+        })
+        (λ e. ap (λ x. (renaming start (length σ.nv) n es fine).fixed (Local x)) made.many ∙ fixed_at start (length σ.nv) n es fine k ∙ fixed_first k _ _ rest
+        ∙ shared_or q.passing (λ v. form 0 a refl (ap Some v)) e) s)

@@ -38,7 +38,13 @@ module _ (hidden : Text → Bool) (r : Renaming) (is : IsRenaming r) (start othe
       subst (λ u. AreFrames (start_flags ((q ∷ qs)) fs) σ τ (with_params (q ∷ qs) (Copied v ∷ xs) a) (with_params (q ∷ qs) (Copied u ∷ ys) b)) h.0
       (params_alike qs xs ys ((q.name, is_shared q.passing) ∷ fs) σ τ (with_param q.name (Copied v) a) (with_param q.name (Copied v) b) h.1 (record {
         sees = sees_more hidden r is start other_start fs a.env b.env q.name (is_shared q.passing) _ _ refl refl
-            (record { place = ap Local f.match.other_count ∙ sym (is.later f.match.more) ∙ ap (λ n. r.to (Local n)) (sym f.match.count); live = ap (λ n. r.live (Local n)) f.match.count ∙ is.later_live f.match.more; reference = refl; fresh = refl })
+            (record {
+              place = ap Local f.match.other_count ∙ sym (is.later f.match.more) ∙ ap (λ n. r.to (Local n)) (sym f.match.count);
+              live =
+                  ap (λ n. r.live (Local n)) f.match.count ∙ is.later_live f.match.more;
+              reference = refl;
+              fresh = refl;
+            })
             (λ e. ap (λ n. r.fixed (Local n)) f.match.count ∙ is.later_free f.match.more) f.sees;
         match = made_match r is start other_start (record σ { locals = a.locals }) (record τ { locals = b.locals }) (holding v) f.match;
       }))
@@ -69,16 +75,21 @@ module _ (hidden : Text → Bool) (r : Renaming) (is : IsRenaming r) (start othe
   -- bodies over frames that see the same
   pub framed_alike : (call_of : Text → List Passed → Store → Outcome) → CallsAlike call_of → (f : Text) (g : TFunction) → function_named p.functions f ≡ Some g → Quiet f g →
       (σ τ : Store) (a b : Frame) → AreFrames (start_flags g.params []) σ τ a b →
-      Alike hidden r is start other_start (block_run p.names regions call_of (set_home g.body) a.env g.body (record σ { locals = a.locals })) (block_run p.names regions call_of (set_home g.body) b.env g.body (record τ { locals = b.locals }))
+      Alike hidden r is start other_start (block_run p.names regions call_of (set_home g.body) a.env g.body (record σ { locals = a.locals }))
+      (block_run p.names regions call_of (set_home g.body) b.env g.body (record τ { locals = b.locals }))
   framed_alike call_of calls f g at q σ τ a b h =
-      block_alike hidden r is start other_start p regions Quiet (function_named p.functions) call_of (set_home g.body) calls (start_flags g.params []) a.env b.env g.body (record σ { locals = a.locals }) (record τ { locals = b.locals }) h.sees (quiet f g at q) h.match
+      block_alike hidden r is start other_start p regions Quiet (function_named p.functions) call_of (set_home g.body) calls (start_flags g.params []) a.env b.env g.body
+      (record σ { locals = a.locals }) (record τ { locals = b.locals }) h.sees (quiet f g at q) h.match
 
   body_alike : (call_of : Text → List Passed → Store → Outcome) → CallsAlike call_of → (f : Text) (g : TFunction) → function_named p.functions f ≡ Some g → Quiet f g →
       (xs ys : List Passed) (σ τ : Store) → N σ τ → ArePassed hidden r is start other_start g.params xs ys →
-      Alike hidden r is start other_start (body_run p regions call_of g (with_params g.params xs (record { env = nv_env 0 p.names.nvs; locals = σ.locals })) σ) (body_run p regions call_of g (with_params g.params ys (record { env = nv_env 0 p.names.nvs; locals = τ.locals })) τ)
+      Alike hidden r is start other_start (body_run p regions call_of g (with_params g.params xs (record { env = nv_env 0 p.names.nvs; locals = σ.locals })) σ)
+      (body_run p regions call_of g (with_params g.params ys (record { env = nv_env 0 p.names.nvs; locals = τ.locals })) τ)
   body_alike call_of calls f g at q xs ys σ τ m h =
       left_alike hidden r is start other_start σ τ m _ _
-      (framed_alike call_of calls f g at q σ τ _ _ (params_alike g.params xs ys [] σ τ (record { env = nv_env 0 p.names.nvs; locals = σ.locals }) (record { env = nv_env 0 p.names.nvs; locals = τ.locals }) h (record { sees = record { named = stored; free = λ x s e. loose x s }; match = m })))
+      (framed_alike call_of calls f g at q σ τ _ _
+      (params_alike g.params xs ys [] σ τ (record { env = nv_env 0 p.names.nvs; locals = σ.locals }) (record { env = nv_env 0 p.names.nvs; locals = τ.locals }) h
+      (record { sees = record { named = stored; free = λ x s e. loose x s }; match = m })))
 
   pub calls_alike : (d : ℕ) → CallsAlike (call_to p regions d)
   calls_alike zero f g at q xs ys σ τ m h = m

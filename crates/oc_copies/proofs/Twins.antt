@@ -4,7 +4,9 @@ use Rattle.std.specs.Prelude.{ℤ, pos, ◌+ℤ◌, ◌-ℤ◌, ◌||◌, if◌t
 use Rattle.std.specs.List.{list_any}
 use Rattle.std.specs.Str.{bytes_eq}
 use Rattle.oc_tree.specs.Names.{Text}
-use Rattle.oc_tree.specs.Tree.{TExpr, number, truth, variable, index, deref, unary, binary, sensed, called, TArg, value, shared, mutable, TCall, call, TArgs, no_args, more_args, TRight, right_value, right_sense, right_call, TKind, let_to, let_array, assign, assign_index, assign_deref, if_else, for_in, while_do, call_only, sense_only, emit, fresh, consistent, return, TElse, no_else, else_do, stmt, TBlock, block, TStmts, no_stmts, more, TFunction, TProgram}
+use Rattle.oc_tree.specs.Tree.{TExpr, number, truth, variable, index, deref, unary, binary, sensed, called, TArg, value, shared, mutable, TCall, call, TArgs, no_args, more_args}
+use Rattle.oc_tree.specs.Tree.{TRight, right_value, right_sense, right_call, TKind, let_to, let_array, assign, assign_index, assign_deref, if_else, for_in, while_do, call_only}
+use Rattle.oc_tree.specs.Tree.{sense_only, emit, fresh, consistent, return, TElse, no_else, else_do, stmt, TBlock, block, TStmts, no_stmts, more, TFunction, TProgram}
 use Rattle.oc_tree.specs.declared.tree.Param.{Param}
 use Rattle.oc_tree.specs.declared.tree.Passing.{Passing}
 use Rattle.oc_tree.specs.declared.tree.Passing.TheVariants as passings
@@ -16,7 +18,10 @@ use Rattle.oc_meaning.specs.Samples.{union}
 use Rattle.oc_meaning.specs.Store.{Value, Held, Place, Local, Store, Binding, holding, value_in, replaced, with_element, held_at, put, noted, binding_of, place_of}
 use Rattle.oc_meaning.specs.Eval.{Got, Val, Traps, is_zero, element_of, read_element, unary_value, combined, and_got, value_of}
 use Rattle.oc_meaning.specs.Uses.{expr_names, arg_names, own_names, is_fresh, is_use, samples_of_fresh, use_samples, begins_use, ends_use}
-use Rattle.oc_meaning.specs.Exec.{Outcome, Went, Returned, Stopped, Passed, Copied, Lent, Passing as Given, Passes, Breaks, with_value, then_do, with_result, leave, opened, closed, used, done, finished, sense, passed_first, copied_first, passed_on, value_first, arg_first, args_of, with_args, element_written, for_turns, while_turns, count_of, bound_to, in_turn, grown, entered, tagged, array_of, begun_by, ended_by, number_in, trapped, call_run, right_run, kind_run, else_run, block_run, stmts_run}
+use Rattle.oc_meaning.specs.Exec.{Outcome, Went, Returned, Stopped, Passed, Copied, Lent, Passing as Given, Passes, Breaks, with_value, then_do, with_result, leave, opened, closed}
+use Rattle.oc_meaning.specs.Exec.{used, done, finished, sense, passed_first, copied_first, passed_on, value_first, arg_first, args_of, with_args, element_written, for_turns}
+use Rattle.oc_meaning.specs.Exec.{while_turns, count_of, bound_to, in_turn, grown, entered, tagged, array_of, begun_by, ended_by, number_in, trapped, call_run, right_run, kind_run}
+use Rattle.oc_meaning.specs.Exec.{else_run, block_run, stmts_run}
 use Rattle.oc_copies.proofs.Matching.{Renaming, IsRenaming, Match, put_match, made_match, left_match, IsBeside, beside_match, opened_beside, closed_beside, used_beside, done_beside, noted_beside}
 
 -- ---- what code may name
@@ -354,13 +359,16 @@ module _ (hidden : Text → Bool) (r : Renaming) (is : IsRenaming r) (start othe
       (value_alike (c (used uses n (s σ) σ)) n (used uses n (s σ) σ) (used uses n (s σ) τ) _ _ u (λ v.
       either_alike (is_zero v.num) (Went (done uses n (union before (s σ)) (used uses n (s σ) σ))) _ (Went (done uses n (union before (s σ)) (used uses n (s σ) τ))) _
       (beside_alike _ (done_beside r is start other_start uses n (union before (s σ))) (used uses n (s σ) σ) (used uses n (s σ) τ) u)
-      (then_alike (f (used uses n (s σ) σ)) (g (used uses n (s σ) τ)) _ _ (hf (used uses n (s σ) σ) (used uses n (s σ) τ) u) (λ υ φ k. while_alike t n uses s s' c c' f g (union before (s σ)) υ φ k hs hc hf)))))
+      (then_alike (f (used uses n (s σ) σ)) (g (used uses n (s σ) τ)) _ _ (hf (used uses n (s σ) σ) (used uses n (s σ) τ) u)
+      (λ υ φ k. while_alike t n uses s s' c c' f g (union before (s σ)) υ φ k hs hc hf)))))
     where
       u : M (used uses n (s σ) σ) (used uses n (s σ) τ)
       u = beside_alike _ (used_beside r is start other_start uses n (s σ)) σ τ m
 
       Goal : List ℕ → Got → Type 0
-      Goal l v = Alike (while_turns (suc t) n uses s c f before σ) (with_value v n (used uses n l τ) (λ v. if is_zero v.num then Went (done uses n (union before l) (used uses n l τ)) else then_do (g (used uses n l τ)) (while_turns t n uses s' c' g (union before l))))
+      Goal l v = Alike (while_turns (suc t) n uses s c f before σ)
+          (with_value v n (used uses n l τ) (λ v. if is_zero v.num then Went (done uses n (union before l) (used uses n l τ)) else then_do (g (used uses n l τ))
+          (while_turns t n uses s' c' g (union before l))))
 
   -- ---- statements
 
@@ -378,7 +386,8 @@ module _ (hidden : Text → Bool) (r : Renaming) (is : IsRenaming r) (start othe
     right_alike : (fs : Flags) (env env' : List Binding) (n : ℕ) (a : TRight) (σ τ : Store) → Sees fs env env' → IsLawfulRight hidden p Quiet function_at fs a → M σ τ →
         Alike (right_run p.names regions call_of home env n σ a) (right_run p.names regions call_of home env' n τ a)
     right_alike fs env env' n (right_value e) σ τ s h m =
-        subst (λ g. Alike (with_value (value_of env σ e) n σ (λ v. Returned v σ)) (with_value g n τ (λ v. Returned v τ))) (value_twin fs env env' s σ τ m e h) (value_alike (value_of env σ e) n σ τ (λ v. Returned v σ) (λ v. Returned v τ) m (λ v. (refl, m)))
+        subst (λ g. Alike (with_value (value_of env σ e) n σ (λ v. Returned v σ)) (with_value g n τ (λ v. Returned v τ))) (value_twin fs env env' s σ τ m e h)
+        (value_alike (value_of env σ e) n σ τ (λ v. Returned v σ) (λ v. Returned v τ) m (λ v. (refl, m)))
     right_alike fs env env' n (right_sense q) σ τ s h m = sense_alike (number_in p.names.sensors q) σ τ m
     right_alike fs env env' n (right_call c) σ τ s h m = call_alike fs env env' n c σ τ s h m
 
@@ -388,14 +397,21 @@ module _ (hidden : Text → Bool) (r : Renaming) (is : IsRenaming r) (start othe
         subst (λ q. M (put σ (place_of env x) h) (put τ q h')) (sym (s.named x shown).place)
         (subst (λ v. M (put σ (place_of env x) h) (put τ (r.to (place_of env x)) v)) e (put_match r is start other_start σ τ (place_of env x) h (s.named x shown).live (s.free x shown flag) m))
 
-    assign_alike : (fs : Flags) (env env' : List Binding) (n : ℕ) (x : Text) (a : TRight) (σ τ : Store) → Sees fs env env' → (hidden x ≡ false) × (flag_of fs x ≡ false) × IsLawfulRight hidden p Quiet function_at fs a → M σ τ → Alike (with_result (right_run p.names regions call_of home env n σ a) (λ v υ. Went (put υ (place_of env x) (replaced (held_at υ (place_of env x)) v)))) (with_result (right_run p.names regions call_of home env' n τ a) (λ v υ. Went (put υ (place_of env' x) (replaced (held_at υ (place_of env' x)) v))))
+    assign_alike : (fs : Flags) (env env' : List Binding) (n : ℕ) (x : Text) (a : TRight) (σ τ : Store) → Sees fs env env'
+        → (hidden x ≡ false) × (flag_of fs x ≡ false) × IsLawfulRight hidden p Quiet function_at fs a → M σ τ
+        → Alike (with_result (right_run p.names regions call_of home env n σ a) (λ v υ. Went (put υ (place_of env x) (replaced (held_at υ (place_of env x)) v))))
+        (with_result (right_run p.names regions call_of home env' n τ a) (λ v υ. Went (put υ (place_of env' x) (replaced (held_at υ (place_of env' x)) v))))
     assign_alike fs env env' n x a σ τ s h m =
         result_alike (right_run p.names regions call_of home env n σ a) (right_run p.names regions call_of home env' n τ a) _ _ (right_alike fs env env' n a σ τ s h.2 m)
-        (λ v υ φ k. write_alike fs env env' x υ φ (replaced (held_at υ (place_of env x)) v) (replaced (held_at φ (place_of env' x)) v) s h.0 h.1 (ap (λ w. replaced w v) (held_twin fs env env' s υ φ k x h.0)) k)
+        (λ v υ φ k. write_alike fs env env' x υ φ (replaced (held_at υ (place_of env x)) v) (replaced (held_at φ (place_of env' x)) v) s h.0 h.1
+        (ap (λ w. replaced w v) (held_twin fs env env' s υ φ k x h.0)) k)
 
-    element_alike : (fs : Flags) (env env' : List Binding) (x : Text) (i v : Value) (n : ℕ) (σ τ : Store) → Sees fs env env' → hidden x ≡ false → flag_of fs x ≡ false → M σ τ → Alike (element_written (place_of env x) (element_of (length (held_at σ (place_of env x)).words) i.num) i v n σ) (element_written (place_of env' x) (element_of (length (held_at τ (place_of env' x)).words) i.num) i v n τ)
+    element_alike : (fs : Flags) (env env' : List Binding) (x : Text) (i v : Value) (n : ℕ) (σ τ : Store) → Sees fs env env' → hidden x ≡ false → flag_of fs x ≡ false → M σ τ
+        → Alike (element_written (place_of env x) (element_of (length (held_at σ (place_of env x)).words) i.num) i v n σ)
+        (element_written (place_of env' x) (element_of (length (held_at τ (place_of env' x)).words) i.num) i v n τ)
     element_alike fs env env' x i v n σ τ s shown flag m =
-        subst (λ w. Alike (element_written (place_of env x) (element_of (length (held_at σ (place_of env x)).words) i.num) i v n σ) (element_written (place_of env' x) (element_of (length w.words) i.num) i v n τ)) same (by (element_of (length (held_at σ (place_of env x)).words) i.num))
+        subst (λ w. Alike (element_written (place_of env x) (element_of (length (held_at σ (place_of env x)).words) i.num) i v n σ)
+        (element_written (place_of env' x) (element_of (length w.words) i.num) i v n τ)) same (by (element_of (length (held_at σ (place_of env x)).words) i.num))
       where
         same : held_at σ (place_of env x) ≡ held_at τ (place_of env' x)
         same = held_twin fs env env' s σ τ m x shown
@@ -411,7 +427,13 @@ module _ (hidden : Text → Bool) (r : Renaming) (is : IsRenaming r) (start othe
     let_sees : (fs : Flags) (env env' : List Binding) (x : Text) (rest : TStmts) (σ τ : Store) → M σ τ → Sees fs env env' → Sees ((x, false) ∷ fs) (bound_to x rest σ ∷ env) (bound_to x rest τ ∷ env')
     let_sees fs env env' x rest σ τ m s =
         sees_more fs env env' x false (bound_to x rest σ) (bound_to x rest τ) refl refl
-        (record { place = ap Local m.other_count ∙ sym (is.later m.more) ∙ ap (λ n. r.to (Local n)) (sym m.count); live = ap (λ n. r.live (Local n)) m.count ∙ is.later_live m.more; reference = refl; fresh = refl })
+        (record {
+          place = ap Local m.other_count ∙ sym (is.later m.more) ∙ ap (λ n. r.to (Local n)) (sym m.count);
+          live = ap (λ n. r.live (Local n)) m.count
+              ∙ is.later_live m.more;
+          reference = refl;
+          fresh = refl;
+        })
         (λ e. ap (λ n. r.fixed (Local n)) m.count ∙ is.later_free m.more) s
 
     grown_sees : (fs : Flags) (env env' : List Binding) (k : TKind) (rest : TStmts) (σ τ : Store) → M σ τ → Sees fs env env' → Sees (flags_behind fs k) (grown k rest env σ) (grown k rest env' τ)
@@ -435,41 +457,56 @@ module _ (hidden : Text → Bool) (r : Renaming) (is : IsRenaming r) (start othe
       kind_alike : (fs : Flags) (env env' : List Binding) (n : ℕ) (k : TKind) (σ τ : Store) → Sees fs env env' → Shown hidden (own_names k) → IsLawful hidden p Quiet function_at fs k → M σ τ →
           Alike (kind_run p.names regions call_of home env n k σ) (kind_run p.names regions call_of home env' n k τ)
       kind_alike fs env env' n (let_to u x t a) σ τ s o h m =
-          result_alike (right_run p.names regions call_of home env n σ a) (right_run p.names regions call_of home env' n τ a) _ _ (right_alike fs env env' n a σ τ s h m) (λ v υ φ k. made_match r is start other_start υ φ (holding v) k)
+          result_alike (right_run p.names regions call_of home env n σ a) (right_run p.names regions call_of home env' n τ a) _ _ (right_alike fs env env' n a σ τ s h m)
+          (λ v υ φ k. made_match r is start other_start υ φ (holding v) k)
       kind_alike fs env env' n (let_array u x t z c) σ τ s o h m = made_match r is start other_start σ τ (array_of z c) m
       kind_alike fs env env' n (assign x a) σ τ s o h m = assign_alike fs env env' n x a σ τ s h m
       kind_alike fs env env' n (assign_deref x a) σ τ s o h m = assign_alike fs env env' n x a σ τ s h m
       kind_alike fs env env' n (assign_index x e a) σ τ s o h m =
           result_alike (right_run p.names regions call_of home env n σ a) (right_run p.names regions call_of home env' n τ a) _ _ (right_alike fs env env' n a σ τ s h.3 m)
-          (λ v υ φ k. subst (λ g. Alike (with_value (value_of env υ e) n υ (λ i. element_written (place_of env x) (element_of (length (held_at υ (place_of env x)).words) i.num) i v n υ)) (with_value g n φ (λ i. element_written (place_of env' x) (element_of (length (held_at φ (place_of env' x)).words) i.num) i v n φ))) (value_twin fs env env' s υ φ k e h.2)
+          (λ v υ φ k. subst (λ g. Alike (with_value (value_of env υ e) n υ
+          (λ i. element_written (place_of env x) (element_of (length (held_at υ (place_of env x)).words) i.num) i v n υ))
+          (with_value g n φ (λ i. element_written (place_of env' x) (element_of (length (held_at φ (place_of env' x)).words) i.num) i v n φ))) (value_twin fs env env' s υ φ k e h.2)
           (value_alike (value_of env υ e) n υ φ _ _ k (λ i. element_alike fs env env' x i v n υ φ s h.0 h.1 k)))
       kind_alike fs env env' n (if_else c a b) σ τ s o h m =
-          subst (λ g. Alike (with_value (value_of env σ c) n σ (λ v. if is_zero v.num then else_run p.names regions call_of home env b σ else block_run p.names regions call_of home env a σ)) (with_value g n τ (λ v. if is_zero v.num then else_run p.names regions call_of home env' b τ else block_run p.names regions call_of home env' a τ))) (value_twin fs env env' s σ τ m c h.0)
-          (value_alike (value_of env σ c) n σ τ _ _ m (λ v. either_alike (is_zero v.num) (else_run p.names regions call_of home env b σ) _ (else_run p.names regions call_of home env' b τ) _ (else_alike fs env env' b σ τ s h.2 m) (block_alike fs env env' a σ τ s h.1 m)))
+          subst (λ g. Alike (with_value (value_of env σ c) n σ
+          (λ v. if is_zero v.num then else_run p.names regions call_of home env b σ else block_run p.names regions call_of home env a σ))
+          (with_value g n τ (λ v. if is_zero v.num then else_run p.names regions call_of home env' b τ else block_run p.names regions call_of home env' a τ)))
+          (value_twin fs env env' s σ τ m c h.0)
+          (value_alike (value_of env σ c) n σ τ _ _ m
+          (λ v. either_alike (is_zero v.num) (else_run p.names regions call_of home env b σ) _ (else_run p.names regions call_of home env' b τ) _
+          (else_alike fs env env' b σ τ s h.2 m) (block_alike fs env env' a σ τ s h.1 m)))
       kind_alike fs env env' n (for_in x c d b) σ τ s o h m =
           for_alike (count_of (d -ℤ c)) c _ _ σ τ m (λ i υ φ k. block_alike ((x, false) ∷ fs) (in_turn x i ∷ env) (in_turn x i ∷ env') b υ φ (turn_sees fs env env' x i s) h k)
       kind_alike fs env env' n (while_do c t b) σ τ s o h m =
-          subst (λ u. Alike (kind_run p.names regions call_of home env n (while_do c t b) σ) (while_turns t n u (use_samples env' (while_do c t b)) (λ υ. value_of env' υ c) (block_run p.names regions call_of home env' b) [] τ)) (is_use_twin fs env env' s (own_names (while_do c t b)) o)
-          (while_alike t n (is_use (is_fresh env) (while_do c t b)) (use_samples env (while_do c t b)) (use_samples env' (while_do c t b)) (λ υ. value_of env υ c) (λ υ. value_of env' υ c) (block_run p.names regions call_of home env b) (block_run p.names regions call_of home env' b) [] σ τ m
+          subst (λ u. Alike (kind_run p.names regions call_of home env n (while_do c t b) σ)
+          (while_turns t n u (use_samples env' (while_do c t b)) (λ υ. value_of env' υ c) (block_run p.names regions call_of home env' b) [] τ))
+          (is_use_twin fs env env' s (own_names (while_do c t b)) o)
+          (while_alike t n (is_use (is_fresh env) (while_do c t b)) (use_samples env (while_do c t b)) (use_samples env' (while_do c t b)) (λ υ. value_of env υ c)
+          (λ υ. value_of env' υ c) (block_run p.names regions call_of home env b) (block_run p.names regions call_of home env' b) [] σ τ m
           (λ υ φ k. fresh_twin fs env env' s υ φ k (expr_names c) o) (λ υ φ k. value_twin fs env env' s υ φ k c h.0) (λ υ φ k. block_alike fs env env' b υ φ s h.1 k))
       kind_alike fs env env' n (call_only c) σ τ s o h m =
           result_alike (call_run p.names regions call_of home env n σ c) (call_run p.names regions call_of home env' n τ c) _ _ (call_alike fs env env' n c σ τ s h m) (λ v υ φ k. k)
       kind_alike fs env env' n (sense_only q) σ τ s o h m =
           result_alike (sense (number_in p.names.sensors q) σ.left σ) (sense (number_in p.names.sensors q) τ.left τ) _ _ (sense_alike (number_in p.names.sensors q) σ τ m) (λ v υ φ k. k)
       kind_alike fs env env' n (emit q e) σ τ s o h m =
-          subst (λ g. Alike (kind_run p.names regions call_of home env n (emit q e) σ) (with_value g n τ (λ v. Went (noted (Showed (Emitted (number_in p.names.ports q) v.num)) v.samples τ)))) (value_twin fs env env' s σ τ m e h)
+          subst (λ g. Alike (kind_run p.names regions call_of home env n (emit q e) σ)
+          (with_value g n τ (λ v. Went (noted (Showed (Emitted (number_in p.names.ports q) v.num)) v.samples τ)))) (value_twin fs env env' s σ τ m e h)
           (value_alike (value_of env σ e) n σ τ _ _ m (λ v. beside_alike _ (noted_beside r is start other_start _ v.samples) σ τ m))
       kind_alike fs env env' n (fresh x) σ τ s o h m = m
       kind_alike fs env env' n (consistent x k) σ τ s o h m =
           subst (λ w. M (tagged (home k) n (held_at σ (place_of env x)).samples σ) (tagged (home k) n w.samples τ)) (held_twin fs env env' s σ τ m x h)
           (beside_alike (tagged (home k) n (held_at σ (place_of env x)).samples) (record { locals = λ υ. refl; nv = λ υ. refl; commutes = λ υ. refl }) σ τ m)
       kind_alike fs env env' n (return e) σ τ s o h m =
-          subst (λ g. Alike (kind_run p.names regions call_of home env n (return e) σ) (with_value g n τ (λ v. Returned v (closed (ended_by regions n) (done (is_use (is_fresh env') (return e)) n (use_samples env' (return e) τ) τ))))) (value_twin fs env env' s σ τ m e h)
+          subst (λ g. Alike (kind_run p.names regions call_of home env n (return e) σ)
+          (with_value g n τ (λ v. Returned v (closed (ended_by regions n) (done (is_use (is_fresh env') (return e)) n (use_samples env' (return e) τ) τ))))) (value_twin fs env env' s σ τ m e h)
           (value_alike (value_of env σ e) n σ τ _ _ m (λ v. (
             refl,
             beside_alike (closed (ended_by regions n)) (closed_beside r is start other_start (ended_by regions n)) _ _
-                (subst (λ b. M (done (is_use (is_fresh env) (return e)) n (use_samples env (return e) σ) σ) (done b n (use_samples env' (return e) τ) τ)) (is_use_twin fs env env' s (own_names (return e)) o)
-                (subst (λ l. M (done (is_use (is_fresh env) (return e)) n (use_samples env (return e) σ) σ) (done (is_use (is_fresh env) (return e)) n l τ)) (fresh_twin fs env env' s σ τ m (own_names (return e)) o)
+                (subst (λ b. M (done (is_use (is_fresh env) (return e)) n (use_samples env (return e) σ) σ) (done b n (use_samples env' (return e) τ) τ))
+                (is_use_twin fs env env' s (own_names (return e)) o)
+                (subst (λ l. M (done (is_use (is_fresh env) (return e)) n (use_samples env (return e) σ) σ) (done (is_use (is_fresh env) (return e)) n l τ))
+                (fresh_twin fs env env' s σ τ m (own_names (return e)) o)
                 (beside_alike _ (done_beside r is start other_start (is_use (is_fresh env) (return e)) n (use_samples env (return e) σ)) σ τ m))),
           )))
 
@@ -492,7 +529,11 @@ module _ (hidden : Text → Bool) (r : Renaming) (is : IsRenaming r) (start othe
           let o = beside_alike (opened (begun_by regions n)) (opened_beside r is start other_start (begun_by regions n)) σ τ m in
           let u = beside_alike (used begins n set) (used_beside r is start other_start begins n set) (opened (begun_by regions n) σ) (opened (begun_by regions n) τ) o in
           let first = finished_alike _ _ (λ υ. closed (ended_by regions n) (done ends n set υ)) (λ υ. closed (ended_by regions n) (done ends n set υ)) (kind_alike fs env env' n k _ _ s h.0 h.1 u)
-          (λ υ φ q. beside_alike (closed (ended_by regions n)) (closed_beside r is start other_start (ended_by regions n)) _ _ (beside_alike (done ends n set) (done_beside r is start other_start ends n set) υ φ q)) in
-          let whole = then_alike _ _ (stmts_run p.names regions call_of home (grown k rest env σ) rest) (stmts_run p.names regions call_of home (grown k rest env' τ) rest) first (λ υ φ q. stmts_alike (flags_behind fs k) (grown k rest env σ) (grown k rest env' τ) rest υ φ (grown_sees fs env env' k rest σ τ m s) h.2 q) in
-          subst (λ (d : Bool × Bool × List ℕ). Alike (stmts_run p.names regions call_of home env (more (stmt n line k) rest) σ) (then_do (finished (λ υ. closed (ended_by regions n) (done d.1 n d.2 υ)) (kind_run p.names regions call_of home env' n k (used d.0 n d.2 (opened (begun_by regions n) τ)))) (stmts_run p.names regions call_of home (grown k rest env' τ) rest)))
+          (λ υ φ q. beside_alike (closed (ended_by regions n)) (closed_beside r is start other_start (ended_by regions n)) _ _
+          (beside_alike (done ends n set) (done_beside r is start other_start ends n set) υ φ q)) in
+          let whole = then_alike _ _ (stmts_run p.names regions call_of home (grown k rest env σ) rest) (stmts_run p.names regions call_of home (grown k rest env' τ) rest) first
+          (λ υ φ q. stmts_alike (flags_behind fs k) (grown k rest env σ) (grown k rest env' τ) rest υ φ (grown_sees fs env env' k rest σ τ m s) h.2 q) in
+          subst (λ (d : Bool × Bool × List ℕ). Alike (stmts_run p.names regions call_of home env (more (stmt n line k) rest) σ)
+          (then_do (finished (λ υ. closed (ended_by regions n) (done d.1 n d.2 υ))
+          (kind_run p.names regions call_of home env' n k (used d.0 n d.2 (opened (begun_by regions n) τ)))) (stmts_run p.names regions call_of home (grown k rest env' τ) rest)))
           (same3 _ _ _ _ _ _ (begins_twin fs env env' s k h.0) (ends_twin fs env env' s k h.0) (fresh_twin fs env env' s σ τ m (own_names k) h.0)) whole

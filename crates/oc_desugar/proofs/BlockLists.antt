@@ -1,6 +1,7 @@
 -- The expansion of a program has the program's blocks.
 use Rattle.std.proofs.Common.{◌≡◌, ℕ, ◌+◌, List, [], ◌∷◌, ◌++◌, refl, ap, ◌∙◌, flat_map}
-use Rattle.oc_tree.specs.Tree.{TRight, TKind, let_to, let_array, assign, assign_index, assign_deref, if_else, for_in, while_do, call_only, sense_only, emit, fresh, consistent, return, TElse, no_else, else_do, TStmt, stmt, TBlock, block, TStmts, no_stmts, more, TFunction, TProgram}
+use Rattle.oc_tree.specs.Tree.{TRight, TKind, let_to, let_array, assign, assign_index, assign_deref, if_else, for_in, while_do, call_only, sense_only, emit, fresh, consistent}
+use Rattle.oc_tree.specs.Tree.{return, TElse, no_else, else_do, TStmt, stmt, TBlock, block, TStmts, no_stmts, more, TFunction, TProgram}
 use Rattle.oc_tree.specs.Numbers.{kind_blocks, else_blocks, stmt_blocks, block_blocks, stmts_blocks, program_blocks}
 use Rattle.oc_tree.specs.Pulls.{expr_pulls, own_pulls, stmt_pulls, block_pulls}
 use Rattle.oc_tree.specs.Expansion.{block_size, stmt_size, temporaries, join_stmts, pulled, expand_kind, expand_else, expand_block, expand_stmts, expand_functions, expansion}

@@ -1,7 +1,8 @@
 -- No more pulls than statements of the expansion, each of which is a pull or a statement as it is written.
 use Rattle.std.proofs.Common.{◌≤◌, List, [], ◌∷◌, sum_by, arith}
 use Rattle.std.proofs.lemmas.List.Sums.{sum_by-cons}
-use Rattle.oc_tree.specs.Tree.{TKind, let_to, let_array, assign, assign_index, assign_deref, if_else, for_in, while_do, call_only, sense_only, emit, fresh, consistent, return, TElse, no_else, else_do, TStmt, stmt, TBlock, block, TStmts, no_stmts, more, TFunction, TProgram}
+use Rattle.oc_tree.specs.Tree.{TKind, let_to, let_array, assign, assign_index, assign_deref, if_else, for_in, while_do, call_only, sense_only, emit, fresh, consistent, return}
+use Rattle.oc_tree.specs.Tree.{TElse, no_else, else_do, TStmt, stmt, TBlock, block, TStmts, no_stmts, more, TFunction, TProgram}
 use Rattle.oc_tree.specs.Pulls.{inner_pulls, else_pulls, stmt_pulls, block_pulls, stmts_pulls, program_pulls}
 use Rattle.oc_tree.specs.Expansion.{inner_size, else_size, stmt_size, block_size, stmts_size, program_size}
 

@@ -4,7 +4,8 @@ use Rattle.std.specs.Prelude.{nat_lt, slice_get}
 use Rattle.std.proofs.lemmas.Bool.{ltb-false}
 use Rattle.std.proofs.lemmas.List.Sums.{sum_by-cons, sum_by-append}
 use Rattle.oc_tree.specs.Names.{Text}
-use Rattle.oc_tree.specs.Tree.{TKind, let_to, let_array, assign, assign_index, assign_deref, if_else, for_in, while_do, call_only, sense_only, emit, fresh, consistent, return, TElse, no_else, else_do, TStmt, stmt, TBlock, block, TStmts, no_stmts, more, TFunction, TProgram}
+use Rattle.oc_tree.specs.Tree.{TKind, let_to, let_array, assign, assign_index, assign_deref, if_else, for_in, while_do, call_only, sense_only, emit, fresh, consistent, return}
+use Rattle.oc_tree.specs.Tree.{TElse, no_else, else_do, TStmt, stmt, TBlock, block, TStmts, no_stmts, more, TFunction, TProgram}
 use Rattle.oc_tree.specs.declared.tree.Decl.{Decl}
 use Rattle.oc_tree.specs.declared.tree.DeclKind.{DeclKind}
 use Rattle.oc_tree.specs.declared.tree.DeclKind.TheVariants as decls
@@ -14,7 +15,9 @@ use Rattle.oc_tree.specs.declared.broken.Broken.{Broken}
 use Rattle.oc_tree.specs.Pulls.{own_pulls}
 use Rattle.oc_tree.specs.Expansion.{block_size, else_size, inner_size, stmt_size, stmts_size, program_size}
 use Rattle.oc_tree.specs.Form.{DeclaredInOrder, is_function}
-use Rattle.oc_tree.specs.Elements.{Item, sensor_item, port_item, nv_item, function_item, Here, Element, declared, statement, ending, inside, in_turn, before_stmts, after_stmt, kind_elements, else_elements, stmt_elements, block_elements, stmts_elements, in_function, named_element, nv_element, function_elements, item_elements, after_item, order_elements, nothing_before, program_elements}
+use Rattle.oc_tree.specs.Elements.{Item, sensor_item, port_item, nv_item, function_item, Here, Element, declared, statement, ending, inside, in_turn, before_stmts, after_stmt}
+use Rattle.oc_tree.specs.Elements.{kind_elements, else_elements, stmt_elements, block_elements, stmts_elements, in_function, named_element, nv_element, function_elements}
+use Rattle.oc_tree.specs.Elements.{item_elements, after_item, order_elements, nothing_before, program_elements}
 use Rattle.oc_tree.specs.Limits.{Tally, nothing_counted, with_item, with_statement, statement_passes}
 use Rattle.oc_tree.specs.Broken.{Table, rules_of, statement_rules, lowest, or_later, first_broken, broken_element}
 
@@ -120,7 +123,8 @@ module _ (p : TProgram) where
 
     stmts_brings : (h : Here) (ss : TStmts) → bring (stmts_elements p h ss) ≡ stmts_size ss
     stmts_brings h no_stmts = refl
-    stmts_brings h (more s ss) = both (stmt_elements p (before_stmts h ss) s) (stmts_elements p (after_stmt p h s) ss) (stmt_size s) (stmts_size ss) (stmt_brings (before_stmts h ss) s) (stmts_brings (after_stmt p h s) ss)
+    stmts_brings h (more s ss) = both (stmt_elements p (before_stmts h ss) s) (stmts_elements p (after_stmt p h s) ss) (stmt_size s) (stmts_size ss)
+        (stmt_brings (before_stmts h ss) s) (stmts_brings (after_stmt p h s) ss)
 
   named_brings : (item : Text → Item) (b : Before) (line : ℕ) (x : Option Text) → bring (named_element item b line x) ≡ 0
   named_brings item b line None = refl
@@ -132,7 +136,8 @@ module _ (p : TProgram) where
   nv_brings b line (Some x) (Some d) = refl
 
   function_brings : (b : Before) (line : ℕ) (f : TFunction) → bring (function_elements p b line (Some f)) ≡ block_size f.body
-  function_brings b line f = sum_by-cons brought (declared b line (function_item f)) (block_elements p (in_function f b.functions) f.body) ∙ omega (arith, block_brings (in_function f b.functions) f.body)
+  function_brings b line f = sum_by-cons brought (declared b line (function_item f)) (block_elements p (in_function f b.functions) f.body)
+      ∙ omega (arith, block_brings (in_function f b.functions) f.body)
 
   -- ---- all functions are among the elements
 
@@ -155,7 +160,8 @@ module _ (p : TProgram) where
   abbrev AllBrought : List Decl → Type 0
   AllBrought ds = (b : Before) (gs : List TFunction) → drop b.functions p.functions ≡ gs → declares ds ≡ length gs → bring (order_elements p b ds) ≡ sizes gs
 
-  past_other : (xs : List Element) (c : Before) (ds : List Decl) (gs : List TFunction) → bring xs ≡ 0 → drop c.functions p.functions ≡ gs → 0 + declares ds ≡ length gs → AllBrought ds → bring (xs ++ order_elements p c ds) ≡ sizes gs
+  past_other : (xs : List Element) (c : Before) (ds : List Decl) (gs : List TFunction) → bring xs ≡ 0 → drop c.functions p.functions ≡ gs → 0 + declares ds ≡ length gs
+      → AllBrought ds → bring (xs ++ order_elements p c ds) ≡ sizes gs
   past_other xs c ds gs x e l rest = both xs (order_elements p c ds) 0 (sizes gs) x (rest c gs e (omega (arith, l))) ∙ omega arith
 
   past_function : (b : Before) (line : ℕ) (ds : List Decl) (gs : List TFunction) → drop b.functions p.functions ≡ gs → 1 + declares ds ≡ length gs → AllBrought ds
@@ -170,7 +176,8 @@ module _ (p : TProgram) where
 
   past : (b : Before) (line : ℕ) (kind : DeclKind) (ds : List Decl) (gs : List TFunction) → drop b.functions p.functions ≡ gs → cond (is_function kind) 1 0 + declares ds ≡ length gs → AllBrought ds
       → bring (item_elements p b line kind ++ order_elements p (after_item b kind) ds) ≡ sizes gs
-  past b line decls.Sensor ds gs e l rest = past_other (item_elements p b line decls.Sensor) (after_item b decls.Sensor) ds gs (named_brings sensor_item b line (slice_get p.names.sensors b.sensors)) e l rest
+  past b line decls.Sensor ds gs e l rest =
+      past_other (item_elements p b line decls.Sensor) (after_item b decls.Sensor) ds gs (named_brings sensor_item b line (slice_get p.names.sensors b.sensors)) e l rest
   past b line decls.Port ds gs e l rest = past_other (item_elements p b line decls.Port) (after_item b decls.Port) ds gs (named_brings port_item b line (slice_get p.names.ports b.ports)) e l rest
   past b line decls.Nv ds gs e l rest = past_other (item_elements p b line decls.Nv) (after_item b decls.Nv) ds gs (nv_brings b line (slice_get p.names.nvs b.nvs) (slice_get p.nv b.nvs)) e l rest
   past b line decls.Function ds gs e l rest = past_function b line ds gs e l rest

@@ -3,7 +3,8 @@ use Rattle.std.proofs.Common.{◌≡◌, ℕ, ◌+◌, Bool, true, false, true�
 use Rattle.std.specs.Prelude.{is_some, ◌||◌}
 use Rattle.std.specs.List.{list_all, list_any}
 use Rattle.oc_lex.specs.Stands.{IsName}
-use Rattle.oc_tree.specs.Tree.{TExpr, TCall, call, TRight, right_value, right_sense, right_call, TKind, let_to, let_array, assign, assign_index, assign_deref, if_else, for_in, while_do, call_only, sense_only, emit, fresh, consistent, return, TProgram}
+use Rattle.oc_tree.specs.Tree.{TExpr, TCall, call, TRight, right_value, right_sense, right_call, TKind, let_to, let_array, assign, assign_index, assign_deref, if_else, for_in}
+use Rattle.oc_tree.specs.Tree.{while_do, call_only, sense_only, emit, fresh, consistent, return, TProgram}
 use Rattle.oc_tree.specs.Form.{CallInForm, RightInForm, KindInForm}
 use Rattle.oc_tree.specs.Pulls.{expr_pulls}
 use Rattle.oc_tree.specs.Calls.{callee, expr_calls, call_calls, args_calls, right_calls, own_calls}
@@ -172,7 +173,8 @@ module _ (p : TProgram) (t : Scope) (P Q : TCall → Type 0) (kept : (k : ℕ) (
 
 -- ---- a call that is fine stays so
 
-pub fine_left : {p q : TProgram} {f : ℕ → ℕ} {h g : Here} → SameTop p q → SameReach p q → SameHere f h g → (k : ℕ) (c : TCall) → CallInForm IsName c → HeldCall p g.scope k c → CallFine p h c → CallFine q g (left_call k c)
+pub fine_left : {p q : TProgram} {f : ℕ → ℕ} {h g : Here} → SameTop p q → SameReach p q → SameHere f h g → (k : ℕ) (c : TCall) → CallInForm IsName c → HeldCall p g.scope k c
+    → CallFine p h c → CallFine q g (left_call k c)
 fine_left {p = p} {q = q} {f = f} {h = h} {g = g} top reach here k c i held e =
     let m : SameNames p q f h.scope g.scope = record { top = top; sees = here.scope } in
     record {

@@ -2,7 +2,8 @@
 use Rattle.std.proofs.Common.{◌≡◌, ℕ, ◌+◌, true, false, List, [], ◌∷◌, ◌++◌, length, inl, inr, refl, ap, sym, subst, ◌∙◌}
 use Rattle.std.specs.Prelude.{is_some, ◌&&◌, ◌||◌}
 use Rattle.oc_lex.specs.Stands.{IsName}
-use Rattle.oc_tree.specs.Tree.{TExpr, number, truth, variable, index, deref, unary, binary, sensed, called, TArg, value, shared, mutable, TCall, call, TArgs, no_args, more_args, TRight, right_sense, right_call, TProgram}
+use Rattle.oc_tree.specs.Tree.{TExpr, number, truth, variable, index, deref, unary, binary, sensed, called, TArg, value, shared, mutable, TCall, call, TArgs, no_args, more_args}
+use Rattle.oc_tree.specs.Tree.{TRight, right_sense, right_call, TProgram}
 use Rattle.oc_tree.specs.Form.{ExprInForm, ArgInForm, ArgsInForm}
 use Rattle.oc_tree.specs.Pulls.{expr_pulls, arg_pulls, right_pulls, right_skips}
 use Rattle.oc_tree.specs.Calls.{function_place, expr_calls, call_calls, args_calls, arg_calls, right_calls}

@@ -2,12 +2,15 @@
 use Rattle.std.proofs.Common.{◌≡◌, ℕ, suc, ◌+◌, List, [], ◌∷◌, ◌++◌, length, refl, ap, sym, ◌∙◌, All}
 use Rattle.std.proofs.lemmas.List.Elements.{All-nil, All-cons, All-head, All-tail}
 use Rattle.oc_lex.specs.Stands.{IsName}
-use Rattle.oc_tree.specs.Tree.{TExpr, number, truth, variable, index, deref, unary, binary, sensed, called, TArg, value, shared, mutable, TCall, call, TArgs, no_args, more_args, TRight, right_value, right_sense, right_call, TKind, let_to, let_array, assign, assign_index, assign_deref, if_else, for_in, while_do, call_only, sense_only, emit, fresh, consistent, return, TElse, no_else, else_do, TStmt, stmt, TBlock, block, TStmts, no_stmts, more, TFunction, TProgram}
+use Rattle.oc_tree.specs.Tree.{TExpr, number, truth, variable, index, deref, unary, binary, sensed, called, TArg, value, shared, mutable, TCall, call, TArgs, no_args, more_args}
+use Rattle.oc_tree.specs.Tree.{TRight, right_value, right_sense, right_call, TKind, let_to, let_array, assign, assign_index, assign_deref, if_else, for_in, while_do, call_only}
+use Rattle.oc_tree.specs.Tree.{sense_only, emit, fresh, consistent, return, TElse, no_else, else_do, TStmt, stmt, TBlock, block, TStmts, no_stmts, more, TFunction, TProgram}
 use Rattle.oc_tree.specs.Numbers.{numbers_on}
 use Rattle.oc_tree.specs.Form.{ExprInForm, ArgInForm, CallInForm, ArgsInForm, IsNoPull, RightInForm, KindInForm, ElseInForm, StmtInForm, BlockInForm, StmtsInForm, ParamInForm, FunctionInForm, InForm}
 use Rattle.oc_tree.specs.Checked.{AnyName}
 use Rattle.oc_tree.specs.Pulls.{expr_pulls, arg_pulls, own_pulls, stmt_pulls, block_pulls}
-use Rattle.oc_tree.specs.Expansion.{left_expr, left_call, left_args, left_arg, left_right, block_size, stmt_size, temporaries, join_stmts, pulled_expr, pulled_call, pulled_args, pulled_arg, pulled_right, pulled, expand_kind, expand_else, expand_block, expand_stmts, expand_function, expand_functions, expansion}
+use Rattle.oc_tree.specs.Expansion.{left_expr, left_call, left_args, left_arg, left_right, block_size, stmt_size, temporaries, join_stmts, pulled_expr, pulled_call, pulled_args}
+use Rattle.oc_tree.specs.Expansion.{pulled_arg, pulled_right, pulled, expand_kind, expand_else, expand_block, expand_stmts, expand_function, expand_functions, expansion}
 use Rattle.oc_tree.specs.declared.tree.Param.{Param}
 use Rattle.oc_desugar.proofs.NumberedLaws.{numbered}
 use Rattle.oc_desugar.proofs.NumberLists.{listed}
@@ -114,7 +117,8 @@ own_form k (return e) h = pulled_form k e h
 
 -- ---- statements
 
-group_form : (k i line : ℕ) (rs : List TRight) (s : TStmt) (rest : TStmts) → RightsInForm rs → StmtInForm AnyName s → StmtsInForm AnyName rest → StmtsInForm AnyName (join_stmts (temporaries k i line rs ++ s ∷ []) rest)
+group_form : (k i line : ℕ) (rs : List TRight) (s : TStmt) (rest : TStmts) → RightsInForm rs → StmtInForm AnyName s → StmtsInForm AnyName rest
+    → StmtsInForm AnyName (join_stmts (temporaries k i line rs ++ s ∷ []) rest)
 group_form k i line [] s rest h g r = (g, r)
 group_form k i line (q ∷ qs) s rest h g r = ((tt, tt, h.0), group_form (k + 1) (i + 1) line qs s rest h.1 g r)
 

@@ -4,7 +4,8 @@ use Rattle.std.specs.Prelude.{nat_le}
 use Rattle.std.proofs.lemmas.List.Sums.{sum_by-cons, sum_by-append}
 use Rattle.std.proofs.lemmas.Bool.{le-leb}
 use Rattle.std.proofs.lemmas.Bool.Decides.{leb_tells}
-use Rattle.oc_tree.specs.Tree.{TKind, let_to, let_array, assign, assign_index, assign_deref, if_else, for_in, while_do, call_only, sense_only, emit, fresh, consistent, return, TElse, no_else, else_do, stmt, TBlock, block, TStmts, no_stmts, more, TFunction, TProgram}
+use Rattle.oc_tree.specs.Tree.{TKind, let_to, let_array, assign, assign_index, assign_deref, if_else, for_in, while_do, call_only, sense_only, emit, fresh, consistent, return}
+use Rattle.oc_tree.specs.Tree.{TElse, no_else, else_do, stmt, TBlock, block, TStmts, no_stmts, more, TFunction, TProgram}
 use Rattle.oc_tree.specs.Checked.{Group}
 use Rattle.oc_tree.specs.Pulls.{own_pulls}
 use Rattle.oc_tree.specs.Expansion.{block_size, inner_size, else_size, stmts_size, program_size, inner_groups, else_groups, block_groups, stmts_groups, functions_groups, program_groups}
@@ -126,7 +127,8 @@ module _ (s : ℕ) where
   functions_counted : (i : ℕ) (fs : List TFunction) → count (functions_groups i fs) ≡ inside i (sum_by (λ f. block_size f.body) fs) s
   functions_counted i [] = sym (none_inside i s)
   functions_counted i (f ∷ fs) =
-      both (block_groups i f.body) (functions_groups (i + block_size f.body) fs) i (block_size f.body) (sum_by (λ g. block_size g.body) fs) (block_counted i f.body) (functions_counted (i + block_size f.body) fs)
+      both (block_groups i f.body) (functions_groups (i + block_size f.body) fs) i (block_size f.body) (sum_by (λ g. block_size g.body) fs) (block_counted i f.body)
+      (functions_counted (i + block_size f.body) fs)
       ∙ ap (λ n. inside i n s) (sym (sum_by-cons (λ g. block_size g.body) f fs))
 
   pub counted_once : (p : TProgram) → 1 ≤ s → s < 1 + program_size p → count_by (is_between s) (program_groups p) ≡ 1

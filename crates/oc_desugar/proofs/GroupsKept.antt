@@ -1,16 +1,19 @@
 -- The groups of an expansion are groups: each is a stretch of statements directly in one block, and each statement is in
 -- one.
-use Rattle.std.proofs.Common.{◌≡◌, ℕ, zero, suc, ◌+◌, ◌<◌, ◌≤◌, ◌⊎◌, inl, inr, Bool, true, false, cond, ◌&&◌, Some, List, [], ◌∷◌, ◌++◌, length, refl, ap, sym, subst, ◌∙◌, arith, All, count_by, flat_map, true≢false}
+use Rattle.std.proofs.Common.{◌≡◌, ℕ, zero, suc, ◌+◌, ◌<◌, ◌≤◌, ◌⊎◌, inl, inr, Bool, true, false, cond, ◌&&◌, Some, List, [], ◌∷◌, ◌++◌, length, refl, ap, sym, subst, ◌∙◌, arith}
+use Rattle.std.proofs.Common.{All, count_by, flat_map, true≢false}
 use Rattle.std.specs.Prelude.{nat_le}
 use Rattle.std.proofs.lemmas.List.Sums.{sum_by-cons}
 use Rattle.std.proofs.lemmas.List.Elements.{All-nil, All-cons}
 use Rattle.std.proofs.lemmas.Bool.{eq-eqb, le-leb, leb-true}
-use Rattle.oc_tree.specs.Tree.{TRight, TKind, let_to, let_array, assign, assign_index, assign_deref, if_else, for_in, while_do, call_only, sense_only, emit, fresh, consistent, return, TElse, no_else, else_do, stmt, TBlock, block, TStmts, no_stmts, more, TFunction, TProgram}
+use Rattle.oc_tree.specs.Tree.{TRight, TKind, let_to, let_array, assign, assign_index, assign_deref, if_else, for_in, while_do, call_only, sense_only, emit, fresh, consistent}
+use Rattle.oc_tree.specs.Tree.{return, TElse, no_else, else_do, stmt, TBlock, block, TStmts, no_stmts, more, TFunction, TProgram}
 use Rattle.oc_tree.specs.Numbers.{numbers_on}
 use Rattle.oc_tree.specs.Places.{block_of}
 use Rattle.oc_tree.specs.Checked.{Group, same_block, is_group, is_in_group, AreGroups}
 use Rattle.oc_tree.specs.Pulls.{expr_pulls, own_pulls, stmt_pulls, block_pulls}
-use Rattle.oc_tree.specs.Expansion.{block_size, stmt_size, program_size, temporaries, join_stmts, pulled, expand_kind, expand_else, expand_block, expand_stmts, expand_functions, expansion, inner_groups, else_groups, block_groups, stmts_groups, functions_groups, program_groups}
+use Rattle.oc_tree.specs.Expansion.{block_size, stmt_size, program_size, temporaries, join_stmts, pulled, expand_kind, expand_else, expand_block, expand_stmts, expand_functions}
+use Rattle.oc_tree.specs.Expansion.{expansion, inner_groups, else_groups, block_groups, stmts_groups, functions_groups, program_groups}
 use Rattle.oc_desugar.proofs.Lengths.{length_pulled}
 use Rattle.oc_desugar.proofs.NumberedLaws.{numbered}
 use Rattle.oc_desugar.proofs.NumberLists.{listed, statements_listed}
@@ -45,7 +48,8 @@ first_or_later (suc i) (suc s) h = later (first_or_later i s (omega (arith, h)))
   later (inr l) = inr (omega (arith, l))
 
 -- the temporaries and the statement behind them
-group_stands : (b k i line : ℕ) (rs : List TRight) (j : ℕ) (s : TKind) (rest : TStmts) (n : ℕ) → j ≡ i + length rs → i ≤ n → n ≤ j → Stands (n, b) (stmts_pairs b (join_stmts (temporaries k i line rs ++ stmt j line s ∷ []) rest))
+group_stands : (b k i line : ℕ) (rs : List TRight) (j : ℕ) (s : TKind) (rest : TStmts) (n : ℕ) → j ≡ i + length rs → i ≤ n → n ≤ j
+    → Stands (n, b) (stmts_pairs b (join_stmts (temporaries k i line rs ++ stmt j line s ∷ []) rest))
 group_stands b k i line [] j s rest n e g l =
     let f : n ≡ j = omega (arith, e, g, l) in
     subst (λ m. Stands (m, b) (stmts_pairs b (more (stmt j line s) rest))) (sym f) (stands_first (j, b) (kind_pairs s ++ stmts_pairs b rest))
@@ -58,11 +62,13 @@ group_stands b k i line (r ∷ rs) j s rest n e g l = here (first_or_later i n g
   here (inr m) h = stands_right (n, b) ((i, b) ∷ []) others (h m)
 
 -- what is inside the statement, and what stands behind it
-group_inside : (x : Pair) (b k i line : ℕ) (rs : List TRight) (j : ℕ) (s : TKind) (rest : TStmts) → Stands x (kind_pairs s) → Stands x (stmts_pairs b (join_stmts (temporaries k i line rs ++ stmt j line s ∷ []) rest))
+group_inside : (x : Pair) (b k i line : ℕ) (rs : List TRight) (j : ℕ) (s : TKind) (rest : TStmts) → Stands x (kind_pairs s)
+    → Stands x (stmts_pairs b (join_stmts (temporaries k i line rs ++ stmt j line s ∷ []) rest))
 group_inside x b k i line [] j s rest h = stands_right x ((j, b) ∷ []) (kind_pairs s ++ stmts_pairs b rest) (stands_left x (kind_pairs s) (stmts_pairs b rest) h)
 group_inside x b k i line (r ∷ rs) j s rest h = stands_right x ((i, b) ∷ []) _ (group_inside x b (k + 1) (i + 1) line rs j s rest h)
 
-group_behind : (x : Pair) (b k i line : ℕ) (rs : List TRight) (j : ℕ) (s : TKind) (rest : TStmts) → Stands x (stmts_pairs b rest) → Stands x (stmts_pairs b (join_stmts (temporaries k i line rs ++ stmt j line s ∷ []) rest))
+group_behind : (x : Pair) (b k i line : ℕ) (rs : List TRight) (j : ℕ) (s : TKind) (rest : TStmts) → Stands x (stmts_pairs b rest)
+    → Stands x (stmts_pairs b (join_stmts (temporaries k i line rs ++ stmt j line s ∷ []) rest))
 group_behind x b k i line [] j s rest h = stands_right x ((j, b) ∷ []) (kind_pairs s ++ stmts_pairs b rest) (stands_right x (kind_pairs s) (stmts_pairs b rest) h)
 group_behind x b k i line (r ∷ rs) j s rest h = stands_right x ((i, b) ∷ []) _ (group_behind x b (k + 1) (i + 1) line rs j s rest h)
 
@@ -182,7 +188,8 @@ module _ (p : TProgram) where
 
   all_in_one : (i n : ℕ) → 1 ≤ i → i + n ≤ 1 + program_size p → All (λ s. count_by (is_in_group (expansion p) s) (program_groups p) ≡ 1) (numbers_on i n)
   all_in_one i zero l m = All-nil (λ s. count_by (is_in_group (expansion p) s) (program_groups p) ≡ 1)
-  all_in_one i (suc n) l m = All-cons (λ s. count_by (is_in_group (expansion p) s) (program_groups p) ≡ 1) i (numbers_on (suc i) n) (in_one i l (omega (arith, m))) (all_in_one (suc i) n (omega (arith, l)) (omega (arith, m)))
+  all_in_one i (suc n) l m = All-cons (λ s. count_by (is_in_group (expansion p) s) (program_groups p) ≡ 1) i (numbers_on (suc i) n) (in_one i l (omega (arith, m)))
+      (all_in_one (suc i) n (omega (arith, l)) (omega (arith, m)))
 
 pub groups_kept : (p : TProgram) → AreGroups (expansion p) (program_groups p)
 groups_kept p = record {

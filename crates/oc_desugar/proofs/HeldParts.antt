@@ -1,6 +1,8 @@
 -- The temporaries of an expression's pulls, by its parts: those of a part are held where those of the whole are.
 use Rattle.std.proofs.Common.{◌≡◌, ℕ, ◌+◌, List, [], ◌∷◌, ◌++◌, length, refl, subst, arith, Some}
-use Rattle.oc_tree.specs.Tree.{TExpr, number, truth, variable, index, deref, unary, binary, sensed, called, TArg, value, shared, mutable, TCall, call, TArgs, no_args, more_args, TRight, right_value, right_sense, right_call, TKind, let_to, let_array, assign, assign_index, assign_deref, if_else, for_in, while_do, call_only, sense_only, emit, fresh, consistent, return, TProgram}
+use Rattle.oc_tree.specs.Tree.{TExpr, number, truth, variable, index, deref, unary, binary, sensed, called, TArg, value, shared, mutable, TCall, call, TArgs, no_args, more_args}
+use Rattle.oc_tree.specs.Tree.{TRight, right_value, right_sense, right_call, TKind, let_to, let_array, assign, assign_index, assign_deref, if_else, for_in, while_do, call_only}
+use Rattle.oc_tree.specs.Tree.{sense_only, emit, fresh, consistent, return, TProgram}
 use Rattle.oc_tree.specs.declared.tree.Scalar.TheVariants as scalars
 use Rattle.oc_tree.specs.Pulls.{expr_pulls, call_pulls, arg_pulls}
 use Rattle.oc_tree.specs.Scope.{Scope}

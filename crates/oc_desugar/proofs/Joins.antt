@@ -35,7 +35,8 @@ pub left_args_step : (out new : List Arg) (x item : Arg) (k n : ℕ) (i : ℕ) (
     → join_args (map arg_view new) (left_args n (args_view (drop (i + 1) args))) ≡ whole
 left_args_step out new x item k n i args whole a b d e h =
     let p = join_args_push out x (left_args n (args_view (drop (i + 1) args))) in
-    let q : left_args k (args_view (drop i args)) ≡ more_args (left_arg k (arg_view item)) (left_args (k + arg_pulls (arg_view item)) (args_view (drop (i + 1) args))) = ap (λ l. left_args k (args_view l)) e in
+    let q : left_args k (args_view (drop i args)) ≡ more_args (left_arg k (arg_view item)) (left_args (k + arg_pulls (arg_view item)) (args_view (drop (i + 1) args))) =
+    ap (λ l. left_args k (args_view l)) e in
     cc
 
 pub left_args_end : (out : List Arg) (k i : ℕ) (args : List Arg) (whole : TArgs)
@@ -63,15 +64,19 @@ pub stmts_step : (out new : List Stmt) (item : Stmt) (s : TStmt) (k m j n : ℕ)
     → join_stmts (map stmt_view new) (expand_stmts m n (stmts_view (drop (i + 1) ss))) ≡ whole
 stmts_step out new item s k m j n i ss whole v a b d e h =
     let p = join_stmts_append (map stmt_view out) (expand_stmt k j s) (expand_stmts m n (stmts_view (drop (i + 1) ss))) in
-    let q : expand_stmts k j (stmts_view (drop i ss)) ≡ join_stmts (expand_stmt k j (stmt_view item)) (expand_stmts (k + stmt_pulls (stmt_view item)) (j + stmt_size (stmt_view item)) (stmts_view (drop (i + 1) ss))) = ap (λ l. expand_stmts k j (stmts_view l)) e in
+    let q : expand_stmts k j (stmts_view (drop i ss))
+    ≡ join_stmts (expand_stmt k j (stmt_view item)) (expand_stmts (k + stmt_pulls (stmt_view item)) (j + stmt_size (stmt_view item)) (stmts_view (drop (i + 1) ss))) =
+    ap (λ l. expand_stmts k j (stmts_view l)) e in
     cc
 
-pub stmts_pulls_step : (item : Stmt) (s : TStmt) (i : ℕ) (ss : List Stmt) → stmt_view item ≡ s → drop i ss ≡ item ∷ drop (i + 1) ss → stmts_pulls (stmts_view (drop i ss)) ≡ stmt_pulls s + stmts_pulls (stmts_view (drop (i + 1) ss))
+pub stmts_pulls_step : (item : Stmt) (s : TStmt) (i : ℕ) (ss : List Stmt) → stmt_view item ≡ s → drop i ss ≡ item ∷ drop (i + 1) ss → stmts_pulls (stmts_view (drop i ss))
+    ≡ stmt_pulls s + stmts_pulls (stmts_view (drop (i + 1) ss))
 stmts_pulls_step item s i ss v e =
     let q : stmts_pulls (stmts_view (drop i ss)) ≡ stmt_pulls (stmt_view item) + stmts_pulls (stmts_view (drop (i + 1) ss)) = ap (λ l. stmts_pulls (stmts_view l)) e in
     cc
 
-pub stmts_size_step : (item : Stmt) (s : TStmt) (i : ℕ) (ss : List Stmt) → stmt_view item ≡ s → drop i ss ≡ item ∷ drop (i + 1) ss → stmts_size (stmts_view (drop i ss)) ≡ stmt_size s + stmts_size (stmts_view (drop (i + 1) ss))
+pub stmts_size_step : (item : Stmt) (s : TStmt) (i : ℕ) (ss : List Stmt) → stmt_view item ≡ s → drop i ss ≡ item ∷ drop (i + 1) ss → stmts_size (stmts_view (drop i ss))
+    ≡ stmt_size s + stmts_size (stmts_view (drop (i + 1) ss))
 stmts_size_step item s i ss v e =
     let q : stmts_size (stmts_view (drop i ss)) ≡ stmt_size (stmt_view item) + stmts_size (stmts_view (drop (i + 1) ss)) = ap (λ l. stmts_size (stmts_view l)) e in
     cc

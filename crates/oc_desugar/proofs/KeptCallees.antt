@@ -6,10 +6,14 @@ use Rattle.std.proofs.lemmas.List.{map-append}
 use Rattle.std.proofs.lemmas.List.Concat.{flat_map-append}
 use Rattle.std.proofs.lemmas.List.Folds.{flat_map-map}
 use Rattle.oc_tree.specs.Names.{Text}
-use Rattle.oc_tree.specs.Tree.{TExpr, number, truth, variable, index, deref, unary, binary, sensed, called, TArg, value, shared, mutable, TCall, call, TArgs, no_args, more_args, TRight, right_value, right_sense, right_call, TKind, let_to, let_array, assign, assign_index, assign_deref, if_else, for_in, while_do, call_only, sense_only, emit, fresh, consistent, return, TElse, no_else, else_do, stmt, TBlock, block, TStmts, no_stmts, more, TFunction}
+use Rattle.oc_tree.specs.Tree.{TExpr, number, truth, variable, index, deref, unary, binary, sensed, called, TArg, value, shared, mutable, TCall, call, TArgs, no_args, more_args}
+use Rattle.oc_tree.specs.Tree.{TRight, right_value, right_sense, right_call, TKind, let_to, let_array, assign, assign_index, assign_deref, if_else, for_in, while_do, call_only}
+use Rattle.oc_tree.specs.Tree.{sense_only, emit, fresh, consistent, return, TElse, no_else, else_do, stmt, TBlock, block, TStmts, no_stmts, more, TFunction}
 use Rattle.oc_tree.specs.Pulls.{expr_pulls, arg_pulls, own_pulls, stmt_pulls, block_pulls}
-use Rattle.oc_tree.specs.Calls.{callee, expr_calls, call_calls, args_calls, arg_calls, right_calls, own_calls, kind_hides, kind_kinds, else_kinds, block_kinds, stmts_kinds, body_calls, place, called_places, links_from, function_names, call_links}
-use Rattle.oc_tree.specs.Expansion.{left_expr, left_call, left_args, left_right, pulled_expr, pulled_call, pulled_args, pulled_arg, pulled_right, pulled, temporaries, join_stmts, expand_kind, expand_else, expand_block, expand_stmts, expand_function, expand_functions, block_size, stmt_size}
+use Rattle.oc_tree.specs.Calls.{callee, expr_calls, call_calls, args_calls, arg_calls, right_calls, own_calls, kind_hides, kind_kinds, else_kinds, block_kinds, stmts_kinds}
+use Rattle.oc_tree.specs.Calls.{body_calls, place, called_places, links_from, function_names, call_links}
+use Rattle.oc_tree.specs.Expansion.{left_expr, left_call, left_args, left_right, pulled_expr, pulled_call, pulled_args, pulled_arg, pulled_right, pulled, temporaries, join_stmts}
+use Rattle.oc_tree.specs.Expansion.{expand_kind, expand_else, expand_block, expand_stmts, expand_function, expand_functions, block_size, stmt_size}
 use Rattle.oc_desugar.proofs.KeptExpressions.{no_calls_expr, no_calls_args}
 
 -- the names that right sides call, and those that statements call
@@ -89,7 +93,9 @@ with_right k (right_sense s) = refl
 with_right k (right_call c) = callees_call k c
 
 -- with an index and a right side that are left
-with_index : (k : ℕ) (e : TExpr) (r : TRight) → rights_call (pulled_expr k e ++ pulled_right (k + expr_pulls e) r) ++ map callee (expr_calls (left_expr k e) ++ right_calls (left_right (k + expr_pulls e) r)) ≡ map callee (expr_calls e ++ right_calls r)
+with_index : (k : ℕ) (e : TExpr) (r : TRight)
+    → rights_call (pulled_expr k e ++ pulled_right (k + expr_pulls e) r) ++ map callee (expr_calls (left_expr k e) ++ right_calls (left_right (k + expr_pulls e) r))
+    ≡ map callee (expr_calls e ++ right_calls r)
 with_index k e r =
     let n = k + expr_pulls e in
     let back = map callee (right_calls (left_right n r)) in
@@ -142,7 +148,8 @@ first_call id line s rest =
     ∙ kinds_join (kind_kinds None s) (stmts_kinds None rest)
 
 -- a group
-group_call : (k i line : ℕ) (rs : List TRight) (id at : ℕ) (s : TKind) (rest : TStmts) → kinds_call (stmts_kinds None (join_stmts (temporaries k i line rs ++ stmt id at s ∷ []) rest)) ≡ rights_call rs ++ (kinds_call (kind_kinds None s) ++ kinds_call (stmts_kinds None rest))
+group_call : (k i line : ℕ) (rs : List TRight) (id at : ℕ) (s : TKind) (rest : TStmts)
+    → kinds_call (stmts_kinds None (join_stmts (temporaries k i line rs ++ stmt id at s ∷ []) rest)) ≡ rights_call rs ++ (kinds_call (kind_kinds None s) ++ kinds_call (stmts_kinds None rest))
 group_call k i line [] id at s rest = first_call id at s rest
 group_call k i line (r ∷ rs) id at s rest =
     ap (λ l. map callee (right_calls r) ++ l) (group_call (k + 1) (i + 1) line rs id at s rest)
@@ -164,7 +171,8 @@ mutual
       let a' = expand_block n i a in
       let b' = expand_else (n + block_pulls a) (i + block_size a) b in
       inside_call _ _ _ (block_kinds None a ++ else_kinds None b) (block_kinds None a' ++ else_kinds None b') (with_own k i (if_else c a b))
-      (kinds_join (block_kinds None a') (else_kinds None b') ∙ both_parts _ _ _ _ (block_call n i a) (else_call (n + block_pulls a) (i + block_size a) b) ∙ sym (kinds_join (block_kinds None a) (else_kinds None b)))
+      (kinds_join (block_kinds None a') (else_kinds None b') ∙ both_parts _ _ _ _ (block_call n i a) (else_call (n + block_pulls a) (i + block_size a) b)
+      ∙ sym (kinds_join (block_kinds None a) (else_kinds None b)))
   kind_call k i (for_in x m n b) = block_call k i b
   kind_call k i (while_do c n b) = inside_call _ _ _ (block_kinds None b) (block_kinds None (expand_block (k + expr_pulls c) i b)) (with_own k i (while_do c n b)) (block_call (k + expr_pulls c) i b)
   kind_call k i (call_only c) = inside_call _ _ _ [] [] (with_own k i (call_only c)) refl

@@ -19,7 +19,9 @@ use Rattle.oc_tree.specs.Mentions.{once, expr_mentions, args_mentions, arg_menti
 use Rattle.oc_tree.specs.Calls.{function_place, reaches_mention}
 use Rattle.oc_tree.specs.Scope.{Scope, variable_of, function_named}
 use Rattle.oc_tree.specs.Types.{scalar_of, is_same}
-use Rattle.oc_tree.specs.Rules.{has_kind, origin_is, is_mutable_param, is_writable, is_own, is_nv, passed_on, value_meets, shared_meets, mutable_meets, arg_meets, args_meet, args_list, call_args, params_of, call_meets, arg_lends, value_lent_is, lent_is, all_lent, lends_alone, passes_nv, arg_exposes, at_place, callee_is, call_exposes, back_to}
+use Rattle.oc_tree.specs.Rules.{has_kind, origin_is, is_mutable_param, is_writable, is_own, is_nv, passed_on, value_meets, shared_meets, mutable_meets, arg_meets, args_meet}
+use Rattle.oc_tree.specs.Rules.{args_list, call_args, params_of, call_meets, arg_lends, value_lent_is, lent_is, all_lent, lends_alone, passes_nv, arg_exposes, at_place, callee_is}
+use Rattle.oc_tree.specs.Rules.{call_exposes, back_to}
 use Rattle.oc_tree.specs.Expansion.{temporary, left_expr, left_call, left_args, left_arg}
 use Rattle.oc_desugar.proofs.Seen.{SameReach, new_var}
 use Rattle.oc_desugar.proofs.HeldParts.{HeldExpr, HeldCall, HeldArgs, HeldArg}

@@ -50,7 +50,8 @@ neither line None later h = (refl, h)
 neither line (Some rule) later h = absurd (cc)
 
 -- the first of the elements, and those behind it
-pub first_clean : (q : TProgram) (n : Tally) (e : Element) (es : List Element) → first_broken q n (e ∷ es) ≡ None → (lowest (rules_of q (counted n e) e) ≡ None) × (first_broken q (counted n e) es ≡ None)
+pub first_clean : (q : TProgram) (n : Tally) (e : Element) (es : List Element) → first_broken q n (e ∷ es) ≡ None
+    → (lowest (rules_of q (counted n e) e) ≡ None) × (first_broken q (counted n e) es ≡ None)
 first_clean q n e es h = neither (line_of e) (lowest (rules_of q (counted n e) e)) (first_broken q (counted n e) es) h
 
 -- two lists of elements

@@ -88,7 +88,8 @@ with_new_fresh f h ps None = refl
 with_new_fresh f h ps (Some v) = with_new_let f h ps v.origin
 
 -- those of a statement
-new_policies : (f : ℕ → ℕ) → Apart f → (ps : List Policy) (h g : Here) (k i : ℕ) (s : TKind) → SameHere f h g → KindInForm IsName s → policies_after (map (new_policy f) ps) g (expand_kind k i s) ≡ map (new_policy f) (policies_after ps h s)
+new_policies : (f : ℕ → ℕ) → Apart f → (ps : List Policy) (h g : Here) (k i : ℕ) (s : TKind) → SameHere f h g → KindInForm IsName s
+    → policies_after (map (new_policy f) ps) g (expand_kind k i s) ≡ map (new_policy f) (policies_after ps h s)
 new_policies f a ps h g k i (let_to m x t r) e n = refl
 new_policies f a ps h g k i (let_array m x t z c) e n = refl
 new_policies f a ps h g k i (assign x r) e n = refl
@@ -172,7 +173,8 @@ pub same_counts : (a b : Tally) → a.words ≡ b.words → a.variables ≡ b.va
 same_counts a b w v s c p = λ i. record { words = w i; variables = v i; statements = s i; calls = c i; policies = p i }
 
 -- the `let` of one temporary more
-pub one_temporary : (n : Tally) (h : Here) (x : List ℕ) (front : List TRight) (r : TRight) → right_pulls r ≡ 0 → with_statement (with_temporaries n front) h (let_to false x None r) ≡ with_temporaries n (front ++ r ∷ [])
+pub one_temporary : (n : Tally) (h : Here) (x : List ℕ) (front : List TRight) (r : TRight) → right_pulls r ≡ 0 → with_statement (with_temporaries n front) h (let_to false x None r)
+    ≡ with_temporaries n (front ++ r ∷ [])
 one_temporary n h x front r e =
     let l = length-append front (r ∷ []) in
     let c = ap length (rights_join front (r ∷ [])) in
@@ -182,7 +184,8 @@ one_temporary n h x front r e =
     same_counts _ _ refl (omega (arith, e, l)) (omega (arith, e, l)) (omega (arith, c, d, m, k)) refl
 
 -- behind the group the counts are the same
-pub group_counts : (f : ℕ → ℕ) → Apart f → (n : Tally) (h g : Here) (k i : ℕ) (s : TKind) → SameHere f h g → KindInForm IsName s → with_statement (with_temporaries (new_tally f n) (pulled k s)) g (expand_kind k i s) ≡ new_tally f (with_statement n h s)
+pub group_counts : (f : ℕ → ℕ) → Apart f → (n : Tally) (h g : Here) (k i : ℕ) (s : TKind) → SameHere f h g → KindInForm IsName s
+    → with_statement (with_temporaries (new_tally f n) (pulled k s)) g (expand_kind k i s) ≡ new_tally f (with_statement n h s)
 group_counts f a n h g k i s e w =
     let z : own_pulls (expand_kind k i s) ≡ 0 = omega (arith, none_kind k i s) in
     let l = length_pulled k s in
@@ -212,7 +215,8 @@ passes_none m n l h =
     (or_from (nat_lt 1024 m.calls) _ (not_less 1024 _ _ l.calls c.0) (not_less 64 _ _ l.policies c.1)))
 
 -- within a group no count is more than at its written statement
-pub front_counts : (f : ℕ → ℕ) (n : Tally) (h : Here) (k : ℕ) (s : TKind) (front back : List TRight) → pulled k s ≡ front ++ back → NoMore (with_temporaries (new_tally f n) front) (with_statement n h s)
+pub front_counts : (f : ℕ → ℕ) (n : Tally) (h : Here) (k : ℕ) (s : TKind) (front back : List TRight) → pulled k s ≡ front ++ back
+    → NoMore (with_temporaries (new_tally f n) front) (with_statement n h s)
 front_counts f n h k s front back e =
     let l : length front + length back ≡ own_pulls s = omega (arith, length-append front back, ap length e, length_pulled k s) in
     let c = sum_of_calls k 0 s in

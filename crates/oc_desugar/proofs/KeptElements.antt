@@ -3,7 +3,8 @@ use Rattle.std.proofs.Common.{◌≡◌, ◌≤◌, ◌^◌, ℕ, ◌+◌, Bool,
 use Rattle.std.specs.Prelude.{◌&&◌}
 use Rattle.std.proofs.lemmas.List.{length-map}
 use Rattle.oc_lex.specs.Stands.{IsName}
-use Rattle.oc_tree.specs.Tree.{TKind, let_to, let_array, assign, assign_index, assign_deref, if_else, for_in, while_do, call_only, sense_only, emit, fresh, consistent, return, TElse, no_else, else_do, TStmt, stmt, TBlock, block, TStmts, no_stmts, more, TProgram}
+use Rattle.oc_tree.specs.Tree.{TKind, let_to, let_array, assign, assign_index, assign_deref, if_else, for_in, while_do, call_only, sense_only, emit, fresh, consistent, return}
+use Rattle.oc_tree.specs.Tree.{TElse, no_else, else_do, TStmt, stmt, TBlock, block, TStmts, no_stmts, more, TProgram}
 use Rattle.oc_tree.specs.declared.scope.Origin.TheVariants as origins
 use Rattle.oc_tree.specs.declared.scope.Var.{Var}
 use Rattle.oc_tree.specs.declared.tree.ValueKind.{ValueKind}
@@ -33,14 +34,17 @@ group_goes_on (y ∷ xs) x rest = refl
 -- statements end where the written ones end
 pub same_end : (k i : ℕ) (ss : TStmts) → is_end (expand_stmts k i ss) ≡ is_end ss
 same_end k i no_stmts = refl
-same_end k i (more (stmt id line s) ss) = group_goes_on (temporaries k i line (pulled k s)) (stmt (i + own_pulls s) line (expand_kind k (i + own_pulls s + 1) s)) (expand_stmts (k + stmt_pulls (stmt id line s)) (i + stmt_size (stmt id line s)) ss)
+same_end k i (more (stmt id line s) ss) =
+    group_goes_on (temporaries k i line (pulled k s)) (stmt (i + own_pulls s) line (expand_kind k (i + own_pulls s + 1) s))
+    (expand_stmts (k + stmt_pulls (stmt id line s)) (i + stmt_size (stmt id line s)) ss)
 
 -- places of both programs, and no temporary from `u` on is used
 abbrev Follows : (ℕ → ℕ) → ℕ → Here → Here → Type 0
 Follows f u h g = SameHere f h g × Unused u g.scope
 
 -- one variable more
-with_scope : (f : ℕ → ℕ) (u : ℕ) (h g : Here) (x : List ℕ) (v w : Var) → IsName x → w ≡ new_var f v → SameHere f h g → Unused u g.scope → Follows f u (record h { scope = with_var h.scope x v }) (record g { scope = with_var g.scope x w })
+with_scope : (f : ℕ → ℕ) (u : ℕ) (h g : Here) (x : List ℕ) (v w : Var) → IsName x → w ≡ new_var f v → SameHere f h g → Unused u g.scope
+    → Follows f u (record h { scope = with_var h.scope x v }) (record g { scope = with_var g.scope x w })
 with_scope f u h g x v w n e same unused =
     (record { head = same.head; number = same.number; scope = sees_more f h.scope g.scope x v w e same.scope; block = same.block }, unused_more u g.scope x w n unused)
 
@@ -54,7 +58,8 @@ no_temporaries n = same_counts n (with_temporaries n []) refl (omega arith) (ome
 
 module _ (p q : TProgram) (f : ℕ → ℕ) (laws : Laws p q f) (apart : Apart f) where
   -- behind a statement
-  behind : (h g : Here) (k id i line at u : ℕ) (s : TKind) → SameHere f h g → f id ≡ at → HeldOwn p g.scope k s → KindInForm IsName s → Unused u g.scope → Follows f u (after_stmt p h (stmt id line s)) (after_stmt q g (stmt at line (expand_kind k i s)))
+  behind : (h g : Here) (k id i line at u : ℕ) (s : TKind) → SameHere f h g → f id ≡ at → HeldOwn p g.scope k s → KindInForm IsName s → Unused u g.scope
+      → Follows f u (after_stmt p h (stmt id line s)) (after_stmt q g (stmt at line (expand_kind k i s)))
   behind h g k id i line at u (let_to m x t r) same e held n unused =
       with_scope f u h g x _ _ n.0 (same_let f h g id at m _ _ same.block e (ap kind_of (laws.type_kept h g k m x t r same held n))) same unused
   behind h g k id i line at u (let_array m x t z w) same e held n unused =
@@ -73,15 +78,18 @@ module _ (p q : TProgram) (f : ℕ → ℕ) (laws : Laws p q f) (apart : Apart f
   behind h g k id i line at u (return c) same e held n unused = (same, unused)
 
   -- no limit is passed at the statement itself
-  own_passes : (h g : Here) (n : Tally) (k i : ℕ) (s : TKind) → Written p h n s → with_statement (with_temporaries (new_tally f n) (pulled k s)) g (expand_kind k i s) ≡ new_tally f (with_statement n h s) → statement_passes (with_statement (with_temporaries (new_tally f n) (pulled k s)) g (expand_kind k i s)) ≡ false
-  own_passes h g n k i s w e = ap statement_passes e ∙ passes_none (new_tally f (with_statement n h s)) (with_statement n h s) same (not_at (statement_rules p (with_statement n h s) h s) 19 w.unbroken)
+  own_passes : (h g : Here) (n : Tally) (k i : ℕ) (s : TKind) → Written p h n s → with_statement (with_temporaries (new_tally f n) (pulled k s)) g (expand_kind k i s)
+      ≡ new_tally f (with_statement n h s) → statement_passes (with_statement (with_temporaries (new_tally f n) (pulled k s)) g (expand_kind k i s)) ≡ false
+  own_passes h g n k i s w e = ap statement_passes e
+      ∙ passes_none (new_tally f (with_statement n h s)) (with_statement n h s) same (not_at (statement_rules p (with_statement n h s) h s) 19 w.unbroken)
     where
       same : NoMore (new_tally f (with_statement n h s)) (with_statement n h s)
       same = record { variables = omega arith; statements = omega arith; calls = omega arith; policies = omega (arith, length-map (policies_after n.policies h s) (new_policy f)) }
 
   mutual
     -- what stands inside a statement
-    kind_clean : (h g : Here) (n : Tally) (k i : ℕ) (s : TKind) → SameHere f h g → Unused (k + own_pulls s) g.scope → k + (own_pulls s + inner_pulls s) ≤ 2 ^ 64 → KindInForm IsName s → InnerPlaced f i s
+    kind_clean : (h g : Here) (n : Tally) (k i : ℕ) (s : TKind) → SameHere f h g → Unused (k + own_pulls s) g.scope → k + (own_pulls s + inner_pulls s) ≤ 2 ^ 64
+        → KindInForm IsName s → InnerPlaced f i s
         → first_broken p n (kind_elements p h s) ≡ None → Clean q (new_tally f n) (kind_elements q g (expand_kind k i s)) (new_tally f (tally n (kind_elements p h s)))
     kind_clean h g n k i (let_to m x t r) same unused bound w at b = clean_none q _ _ refl
     kind_clean h g n k i (let_array m x t z c) same unused bound w at b = clean_none q _ _ refl
@@ -98,7 +106,8 @@ module _ (p q : TProgram) (f : ℕ → ℕ) (laws : Laws p q f) (apart : Apart f
         let first = block_clean (inside h) (inside g) n m i a same' refl unused (omega (arith, bound)) w.1 at.0 parts.0 in
         let second = else_clean (inside h) (inside g) (tally n xs) o (i + block_size a) e same' refl (unused_later m o g.scope (omega arith) unused) (omega (arith, bound)) w.2 at.1 parts.1 in
         subst (λ z. Clean q (new_tally f n) (kind_elements q g (expand_kind k i (if_else c a e))) (new_tally f z)) (sym (tally_join n xs ys))
-        (clean_join q (new_tally f n) (block_elements q (inside g) (expand_block m i a)) (else_elements q (inside g) (expand_else o (i + block_size a) e)) (new_tally f (tally n xs)) (new_tally f (tally (tally n xs) ys)) first second)
+        (clean_join q (new_tally f n) (block_elements q (inside g) (expand_block m i a)) (else_elements q (inside g) (expand_else o (i + block_size a) e))
+        (new_tally f (tally n xs)) (new_tally f (tally (tally n xs) ys)) first second)
     kind_clean h g n k i (for_in x from to e) same unused bound w at b =
         let next = with_scope f k h g x turn_var turn_var w.0 refl same (unused_later (k + 0) k g.scope (omega arith) unused) in
         let same' : SameHere f (in_turn h x) (in_turn g x) = record { head = same.head; number = same.number; scope = next.0.scope; block = same.block } in
@@ -146,18 +155,22 @@ module _ (p q : TProgram) (f : ℕ → ℕ) (laws : Laws p q f) (apart : Apart f
         let parts = apart_of p n1 xs ys first.1 in
         let written : Written p h1 n s = record { in_form = w.0; unbroken = first.0 } in
         let same1 : SameHere f h1 g = record { head = same.head; number = same.number; scope = same.scope; block = same.block } in
-        group_clean p q f laws h1 n k line s written last rest end g.last u (pulled k s) [] g k i (new_tally f n) same1 refl refl (omega arith) (omega (arith, length_pulled k s)) (omega (arith, bound)) tt unused (plain_kind k s) (no_temporaries (new_tally f n))
+        group_clean p q f laws h1 n k line s written last rest end g.last u (pulled k s) [] g k i (new_tally f n) same1 refl refl (omega arith) (omega (arith, length_pulled k s))
+        (omega (arith, bound)) tt unused (plain_kind k s) (no_temporaries (new_tally f n))
         (λ g' e stays held un.
         let g2 = before_stmts g' rest in
         let same2 : SameHere f h1 g2 = same_before f h1 g' rest e in
         let same' : SameHere f h g' = record { head = e.head; number = e.number; scope = e.scope; block = e.block } in
         let counts = group_counts f apart n h1 g2 k (i1 + 1) s same2 w.0 in
         let place : g2.last ≡ h1.last = ap (λ c. c && is_end rest) (stays ∙ kept) ∙ ap (λ c. h.last && c) (same_end k2 i2 ss) in
-        let rule = laws.statement h1 g2 n1 (with_statement (with_temporaries (new_tally f n) (pulled k s)) g2 own) k (i1 + 1) s same2 place held w.0 first.0 (own_passes h1 g2 n k (i1 + 1) s written counts) in
+        let rule = laws.statement h1 g2 n1 (with_statement (with_temporaries (new_tally f n) (pulled k s)) g2 own) k (i1 + 1) s same2 place held w.0 first.0
+        (own_passes h1 g2 n k (i1 + 1) s written counts) in
         let next = behind h g' k id (i1 + 1) line i1 u s same' at.0 held w.0 un in
         let inner = kind_clean h1 g2 n1 k (i1 + 1) s same2 un (omega (arith, bound)) w.0 at.1 parts.0 in
-        let after = stmts_clean h2 (after_stmt q g' last) (tally n1 xs) k2 i2 ss next.0 (stays ∙ kept) (unused_later u k2 (after_stmt q g' last).scope (omega arith) next.1) (omega (arith, bound)) w.1 at.2 parts.1 in
-        let both = clean_join q (new_tally f n1) (kind_elements q g2 own) (stmts_elements q (after_stmt q g' last) rest) (new_tally f (tally n1 xs)) (new_tally f (tally (tally n1 xs) ys)) inner after in
+        let after = stmts_clean h2 (after_stmt q g' last) (tally n1 xs) k2 i2 ss next.0 (stays ∙ kept) (unused_later u k2 (after_stmt q g' last).scope (omega arith) next.1)
+        (omega (arith, bound)) w.1 at.2 parts.1 in
+        let both = clean_join q (new_tally f n1) (kind_elements q g2 own) (stmts_elements q (after_stmt q g' last) rest) (new_tally f (tally n1 xs))
+        (new_tally f (tally (tally n1 xs) ys)) inner after in
         let whole = subst (λ z. Clean q (new_tally f n1) (kind_elements q g2 own ++ stmts_elements q (after_stmt q g' last) rest) (new_tally f z)) (sym (tally_join n1 xs ys)) both in
         let own_counts = subst (λ m. Clean q m (kind_elements q g2 own ++ stmts_elements q (after_stmt q g' last) rest) end) (sym counts) whole in
         clean_first q (with_temporaries (new_tally f n) (pulled k s)) (statement g2 i1 line own) (kind_elements q g2 own ++ stmts_elements q (after_stmt q g' last) rest) end rule own_counts)

@@ -3,7 +3,8 @@
 use Rattle.std.proofs.Common.{◌≡◌, ℕ, ◌+◌, Bool, true, false, true≢false, [], ◌++◌, Option, Some, None, refl, ap, sym, ◌∙◌}
 use Rattle.std.specs.Prelude.{nat_lt, is_some, option_map, ◌&&◌, ◌||◌}
 use Rattle.oc_lex.specs.Stands.{IsName}
-use Rattle.oc_tree.specs.Tree.{TExpr, number, truth, variable, index, deref, unary, binary, sensed, called, TArg, value, shared, mutable, TCall, call, TArgs, no_args, more_args, TRight, right_value, right_sense, right_call, TProgram}
+use Rattle.oc_tree.specs.Tree.{TExpr, number, truth, variable, index, deref, unary, binary, sensed, called, TArg, value, shared, mutable, TCall, call, TArgs, no_args, more_args}
+use Rattle.oc_tree.specs.Tree.{TRight, right_value, right_sense, right_call, TProgram}
 use Rattle.oc_tree.specs.Form.{ExprInForm, ArgInForm, CallInForm, ArgsInForm, RightInForm}
 use Rattle.oc_tree.specs.declared.scope.Var.{Var}
 use Rattle.oc_tree.specs.Pulls.{expr_pulls, arg_pulls, expr_skips, args_skip, arg_skips, right_skips, may_skip}
@@ -16,7 +17,8 @@ use Rattle.oc_tree.proofs.ReachLaws.{or_left, or_right}
 use Rattle.oc_desugar.proofs.Seen.{new_var}
 use Rattle.oc_desugar.proofs.NoPulls.{none_expr}
 use Rattle.oc_desugar.proofs.HeldParts.{HeldExpr, HeldCall, HeldArgs, HeldArg, HeldRight}
-use Rattle.oc_desugar.proofs.KeptLookups.{SameNames, same_place, same_result, same_sensor, same_variable, same_is_variable, same_value_type, same_pointed_type, same_elements, new_passed, held_is_variable, held_type, held_passed}
+use Rattle.oc_desugar.proofs.KeptLookups.{SameNames, same_place, same_result, same_sensor, same_variable, same_is_variable, same_value_type, same_pointed_type, same_elements}
+use Rattle.oc_desugar.proofs.KeptLookups.{new_passed, held_is_variable, held_type, held_passed}
 
 -- ---- tests of two parts
 
@@ -148,7 +150,8 @@ module _ {p q : TProgram} {f : ℕ → ℕ} {s t : Scope} (m : SameNames p q f s
     known_args : (k : ℕ) (xs : TArgs) → ArgsInForm IsName xs → HeldArgs p t k xs → args_known p s xs ≡ true → args_known q t (left_args k xs) ≡ true
     known_args k no_args i h e = refl
     known_args k (more_args a rest) i h e =
-        both_hold _ _ (known_arg k a i.0 h.0 (first_holds (arg_known p s a) (args_known p s rest) e)) (known_args (k + arg_pulls a) rest i.1 h.1 (second_holds (arg_known p s a) (args_known p s rest) e))
+        both_hold _ _ (known_arg k a i.0 h.0 (first_holds (arg_known p s a) (args_known p s rest) e))
+        (known_args (k + arg_pulls a) rest i.1 h.1 (second_holds (arg_known p s a) (args_known p s rest) e))
 
     known_arg : (k : ℕ) (a : TArg) → ArgInForm IsName a → HeldArg p t k a → arg_known p s a ≡ true → arg_known q t (left_arg k a) ≡ true
     known_arg k (value a) i h e = known_expr k a i h e

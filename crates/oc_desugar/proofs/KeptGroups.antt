@@ -60,12 +60,16 @@ module _ (p q : TProgram) (f : ℕ → ℕ) (laws : Laws p q f) where
         let small : j < 2 ^ 64 = omega (arith, to, bound) in
         let new : Unused (k + length front) g.scope = subst (λ a. Unused a g.scope) at unused in
         let none_yet = new (k + length front) (omega arith) (omega (arith, small, at)) in
-        let counted : with_statement m (before_stmts g tail) own ≡ with_temporaries (new_tally f n) grown = ap (λ a. with_statement a (before_stmts g tail) own) counts ∙ one_temporary (new_tally f n) (before_stmts g tail) name front r plain in
+        let counted : with_statement m (before_stmts g tail) own ≡ with_temporaries (new_tally f n) grown = ap (λ a. with_statement a (before_stmts g tail) own) counts
+        ∙ one_temporary (new_tally f n) (before_stmts g tail) name front r plain in
         let passes : statement_passes (with_statement m (before_stmts g tail) own) ≡ false = ap statement_passes counted ∙ within h n k s grown rs w split in
-        let rule = laws.temporary_let h (before_stmts g tail) (with_statement n h s) (with_statement m (before_stmts g tail) own) k s front rs r (same_before f h g tail e) parts held none_yet w.in_form w.unbroken passes in
+        let rule = laws.temporary_let h (before_stmts g tail) (with_statement n h s) (with_statement m (before_stmts g tail) own) k s front rs r (same_before f h g tail e) parts
+        held none_yet w.in_form w.unbroken passes in
         let rule' = subst (λ a. lowest (statement_rules q (with_statement m (before_stmts g tail) own) (before_stmts g tail) (let_to false (temporary a) None r)) ≡ None) (sym at) rule in
         let now = laws.held h g (with_statement n h s) k i s front rs r e parts held none_yet w.in_form w.unbroken in
-        let now' = subst (λ a. HeldPulls p (with_var g.scope (temporary a) v) k grown) (sym at) (held_one_more p (with_var g.scope (temporary (k + length front)) v) k front r (pulls_held_more p g.scope ((temporary (k + length front), v) ∷ []) k front held) now) in
+        let now' = subst (λ a. HeldPulls p (with_var g.scope (temporary a) v) k grown) (sym at)
+        (held_one_more p (with_var g.scope (temporary (k + length front)) v) k front r (pulls_held_more p g.scope ((temporary (k + length front), v) ∷ []) k front held) now) in
         let e' : SameHere f h g' = record { head = e.head; number = e.number; scope = sees_more f h.scope g.scope j v e.scope; block = e.block } in
         clean_first q m (statement (before_stmts g tail) i line own) (stmts_elements q g' tail) end rule'
-        (group_clean rs grown g' (j + 1) (i + 1) (with_statement m (before_stmts g tail) own) e' kp split (omega (arith, at, length-append front (r ∷ []))) (omega (arith, to)) bound now' (unused_temporary j g.scope v unused) none counted behind)
+        (group_clean rs grown g' (j + 1) (i + 1) (with_statement m (before_stmts g tail) own) e' kp split (omega (arith, at, length-append front (r ∷ [])))
+        (omega (arith, to)) bound now' (unused_temporary j g.scope v unused) none counted behind)

@@ -4,7 +4,8 @@ use Rattle.std.specs.Prelude.{◌&&◌, ◌||◌, not, is_some}
 use Rattle.std.specs.List.{list_any}
 use Rattle.oc_lex.specs.Stands.{IsName}
 use Rattle.oc_tree.specs.Names.{Text}
-use Rattle.oc_tree.specs.Tree.{TKind, let_to, let_array, assign, assign_index, assign_deref, if_else, for_in, while_do, call_only, sense_only, emit, fresh, consistent, return, TStmt, stmt, TBlock, block, TStmts, no_stmts, more, TFunction, TProgram}
+use Rattle.oc_tree.specs.Tree.{TKind, let_to, let_array, assign, assign_index, assign_deref, if_else, for_in, while_do, call_only, sense_only, emit, fresh, consistent, return}
+use Rattle.oc_tree.specs.Tree.{TStmt, stmt, TBlock, block, TStmts, no_stmts, more, TFunction, TProgram}
 use Rattle.oc_tree.specs.declared.before.Before.{Before}
 use Rattle.oc_tree.specs.declared.tree.Param.{Param}
 use Rattle.oc_tree.specs.Pulls.{own_pulls, stmt_pulls, block_pulls}
@@ -25,12 +26,14 @@ use Rattle.oc_desugar.proofs.KeptElements.{group_goes_on, same_end}
 -- what is declared before a place
 pub same_declared_before : (p : TProgram) (b : Before) (x : Text) → declared_before (expansion p) b x ≡ declared_before p b x
 same_declared_before p b x =
-    ap (λ o. stands_before (place p.names.sensors x) b.sensors || (stands_before (place p.names.ports x) b.ports || (stands_before (place p.names.nvs x) b.nvs || stands_before o b.functions))) (same_place (same_top p) x)
+    ap (λ o. stands_before (place p.names.sensors x) b.sensors ||
+    (stands_before (place p.names.ports x) b.ports || (stands_before (place p.names.nvs x) b.nvs || stands_before o b.functions))) (same_place (same_top p) x)
 
 -- parameters whose names are taken
 pub same_takes_param : (p : TProgram) (scope : Scope) (qs : List Param) → takes_param (expansion p) scope qs ≡ takes_param p scope qs
 same_takes_param p scope [] = refl
-same_takes_param p scope (q ∷ qs) = ap (λ b. b || takes_param (expansion p) (with_param scope q) qs) (ap (λ b. is_in_scope scope q.name || b) (same_declared (same_top p) q.name)) ∙ ap (λ b. is_taken p scope q.name || b) (same_takes_param p (with_param scope q) qs)
+same_takes_param p scope (q ∷ qs) = ap (λ b. b || takes_param (expansion p) (with_param scope q) qs) (ap (λ b. is_in_scope scope q.name || b) (same_declared (same_top p) q.name))
+    ∙ ap (λ b. is_taken p scope q.name || b) (same_takes_param p (with_param scope q) qs)
 
 -- a function is called `main`
 pub has_main : (k i : ℕ) (fs : List TFunction) → list_any (λ f. is_main f.name) (expand_functions k i fs) ≡ list_any (λ f. is_main f.name) fs

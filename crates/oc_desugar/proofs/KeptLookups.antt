@@ -229,7 +229,8 @@ same_pointed_type {p = p} {f = f} {s = s} m x n = ap pointed_type (same_variable
 pub same_elements : {p q : TProgram} {f : ℕ → ℕ} {s t : Scope} → SameNames p q f s t → (x : Text) → IsName x → has_elements (variable_of q t x) ≡ has_elements (variable_of p s x)
 same_elements {p = p} {f = f} {s = s} m x n = ap has_elements (same_variable m x n) ∙ new_elements f (variable_of p s x)
 
-pub same_test : {p q : TProgram} {f : ℕ → ℕ} {s t : Scope} → SameNames p q f s t → (test : Origin → Bool) → Numberless f test → (x : Text) → IsName x → origin_is test (variable_of q t x) ≡ origin_is test (variable_of p s x)
+pub same_test : {p q : TProgram} {f : ℕ → ℕ} {s t : Scope} → SameNames p q f s t → (test : Origin → Bool) → Numberless f test → (x : Text) → IsName x
+    → origin_is test (variable_of q t x) ≡ origin_is test (variable_of p s x)
 same_test {p = p} {f = f} {s = s} m test same x n = ap (origin_is test) (same_variable m x n) ∙ new_test f test same (variable_of p s x)
 
 -- ---- temporaries

@@ -8,11 +8,14 @@ use Rattle.std.proofs.lemmas.Bool.Decides.{nat_tests}
 use Rattle.std.proofs.lemmas.List.Folds.{list_any-append}
 use Rattle.oc_lex.specs.Stands.{IsName}
 use Rattle.oc_tree.specs.Names.{Text}
-use Rattle.oc_tree.specs.Tree.{TExpr, number, truth, variable, index, deref, unary, binary, sensed, called, TArg, value, shared, mutable, TCall, call, TArgs, no_args, more_args, TRight, right_value, right_sense, right_call, TKind, let_to, let_array, assign, assign_index, assign_deref, if_else, for_in, while_do, call_only, sense_only, emit, fresh, consistent, return, TElse, no_else, else_do, stmt, TBlock, block, TStmts, no_stmts, more, TFunction}
+use Rattle.oc_tree.specs.Tree.{TExpr, number, truth, variable, index, deref, unary, binary, sensed, called, TArg, value, shared, mutable, TCall, call, TArgs, no_args, more_args}
+use Rattle.oc_tree.specs.Tree.{TRight, right_value, right_sense, right_call, TKind, let_to, let_array, assign, assign_index, assign_deref, if_else, for_in, while_do, call_only}
+use Rattle.oc_tree.specs.Tree.{sense_only, emit, fresh, consistent, return, TElse, no_else, else_do, stmt, TBlock, block, TStmts, no_stmts, more, TFunction}
 use Rattle.oc_tree.specs.Pulls.{expr_pulls, call_pulls, arg_pulls, own_pulls, stmt_pulls, block_pulls}
 use Rattle.oc_tree.specs.Mentions.{once, expr_mentions, call_mentions, args_mentions, arg_mentions, right_mentions, own_mentions, targets, annotates, own_names}
 use Rattle.oc_tree.specs.Calls.{kind_hides, kind_kinds, else_kinds, block_kinds, stmts_kinds, has_param, function_mentions}
-use Rattle.oc_tree.specs.Expansion.{left_expr, left_call, left_args, left_arg, left_right, pulled_expr, pulled_call, pulled_args, pulled_arg, pulled_right, pulled, temporary, temporaries, join_stmts, expand_kind, expand_else, expand_block, expand_stmts, expand_functions, block_size, stmt_size}
+use Rattle.oc_tree.specs.Expansion.{left_expr, left_call, left_args, left_arg, left_right, pulled_expr, pulled_call, pulled_args, pulled_arg, pulled_right, pulled, temporary}
+use Rattle.oc_tree.specs.Expansion.{temporaries, join_stmts, expand_kind, expand_else, expand_block, expand_stmts, expand_functions, block_size, stmt_size}
 use Rattle.oc_desugar.proofs.KeptLookups.{apart}
 
 -- how often right sides name it
@@ -85,7 +88,8 @@ mentions_own x h k i (return e) = mentions_expr x h k e
 -- ---- statements
 
 -- targets and annotations stay, and so does what a statement hides
-same_places : (x : Text) (k i : ℕ) (s : TKind) → (targets x (expand_kind k i s) ≡ targets x s) × (annotates x (expand_kind k i s) ≡ annotates x s) × (kind_hides (Some x) (expand_kind k i s) ≡ kind_hides (Some x) s)
+same_places : (x : Text) (k i : ℕ) (s : TKind) → (targets x (expand_kind k i s) ≡ targets x s) × (annotates x (expand_kind k i s) ≡ annotates x s) ×
+    (kind_hides (Some x) (expand_kind k i s) ≡ kind_hides (Some x) s)
 same_places x k i (let_to m y t r) = (refl, refl, refl)
 same_places x k i (let_array m y t z n) = (refl, refl, refl)
 same_places x k i (assign y r) = (refl, refl, refl)
@@ -151,7 +155,8 @@ first_named x id line s rest =
     ∙ ap (λ b. named_in x (kind_kinds (Some x) s) || b) (named_cond x (kind_hides (Some x) s) (stmts_kinds (Some x) rest))
 
 -- a group
-group_named : (x : Text) → IsName x → (k i line : ℕ) (rs : List TRight) (id at : ℕ) (s : TKind) (rest : TStmts) → named_in x (stmts_kinds (Some x) (join_stmts (temporaries k i line rs ++ stmt id at s ∷ []) rest)) ≡ nat_lt 0 (rights_mention x rs) || then_named x s rest
+group_named : (x : Text) → IsName x → (k i line : ℕ) (rs : List TRight) (id at : ℕ) (s : TKind) (rest : TStmts)
+    → named_in x (stmts_kinds (Some x) (join_stmts (temporaries k i line rs ++ stmt id at s ∷ []) rest)) ≡ nat_lt 0 (rights_mention x rs) || then_named x s rest
 group_named x h k i line [] id at s rest = first_named x id at s rest
 group_named x h k i line (r ∷ rs) id at s rest =
     let tail = join_stmts (temporaries (k + 1) (i + 1) line rs ++ stmt id at s ∷ []) rest in
@@ -188,11 +193,13 @@ mutual
       let n = k + expr_pulls c in
       let a' = expand_block n i a in
       let b' = expand_else (n + block_pulls a) (i + block_size a) b in
-      let both = both_named (named_in x (block_kinds (Some x) a')) (named_in x (block_kinds (Some x) a)) (named_in x (else_kinds (Some x) b')) (named_in x (else_kinds (Some x) b)) (block_named x h n i a) (else_named x h (n + block_pulls a) (i + block_size a) b) in
+      let both = both_named (named_in x (block_kinds (Some x) a')) (named_in x (block_kinds (Some x) a)) (named_in x (else_kinds (Some x) b')) (named_in x (else_kinds (Some x) b))
+      (block_named x h n i a) (else_named x h (n + block_pulls a) (i + block_size a) b) in
       inside_named _ _ _ (named_in x (block_kinds (Some x) a' ++ else_kinds (Some x) b')) (named_in x (block_kinds (Some x) a ++ else_kinds (Some x) b)) (own_named x h k i (if_else c a b))
       (list_any-append (own_names x) (block_kinds (Some x) a') (else_kinds (Some x) b') ∙ both ∙ sym (list_any-append (own_names x) (block_kinds (Some x) a) (else_kinds (Some x) b)))
   kind_named x h k i (for_in y m n b) = turns_named x (bytes_eq x y) (block_kinds (Some x) (expand_block k i b)) (block_kinds (Some x) b) (block_named x h k i b)
-  kind_named x h k i (while_do c n b) = inside_named _ _ _ (named_in x (block_kinds (Some x) (expand_block (k + expr_pulls c) i b))) (named_in x (block_kinds (Some x) b)) (own_named x h k i (while_do c n b)) (block_named x h (k + expr_pulls c) i b)
+  kind_named x h k i (while_do c n b) = inside_named _ _ _ (named_in x (block_kinds (Some x) (expand_block (k + expr_pulls c) i b))) (named_in x (block_kinds (Some x) b))
+      (own_named x h k i (while_do c n b)) (block_named x h (k + expr_pulls c) i b)
   kind_named x h k i (call_only c) = inside_named _ _ _ false false (own_named x h k i (call_only c)) refl
   kind_named x h k i (sense_only s) = refl
   kind_named x h k i (emit p e) = inside_named _ _ _ false false (own_named x h k i (emit p e)) refl

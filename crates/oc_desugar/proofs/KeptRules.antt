@@ -40,7 +40,8 @@ not_among xs k h = ap (λ (o : Option ℕ). is_some o) (no_place xs 0 k h)
 -- nor is it the name of a function
 no_function : (fs : List TFunction) (n k : ℕ) → All (FunctionInForm IsName) fs → place_from n (function_names fs) (temporary k) ≡ None
 no_function [] n k h = refl
-no_function (f ∷ fs) n k h = ap (λ b. cond b (Some n) (place_from (n + 1) (function_names fs) (temporary k))) (none_is_name f.name (h 0 f (omega arith)).name k) ∙ no_function fs (n + 1) k (all_behind (FunctionInForm IsName) f fs h)
+no_function (f ∷ fs) n k h = ap (λ b. cond b (Some n) (place_from (n + 1) (function_names fs) (temporary k))) (none_is_name f.name (h 0 f (omega arith)).name k)
+    ∙ no_function fs (n + 1) k (all_behind (FunctionInForm IsName) f fs h)
 
 -- nor anything that is declared
 pub no_temporary : (p : TProgram) → InForm IsName p → NoTemporary p
@@ -66,7 +67,8 @@ laws p form =
     }
 
 -- no rule is broken in the expansion of a program that breaks none
-pub expansion_keeps_rules : (p : TProgram) → InForm IsName p → first_broken p nothing_counted (program_elements p) ≡ None → first_broken (expansion p) nothing_counted (program_elements (expansion p)) ≡ None
+pub expansion_keeps_rules : (p : TProgram) → InForm IsName p → first_broken p nothing_counted (program_elements p) ≡ None
+    → first_broken (expansion p) nothing_counted (program_elements (expansion p)) ≡ None
 expansion_keeps_rules p h b =
     let few : 1 + program_pulls p ≤ 2 ^ 64 = omega (arith, h.few_nodes, pulls_within p) in
     (order_clean p (new_number p) (laws p h) (new_apart p) h.spellable.functions few (placed p h.numbered) nothing_counted nothing_before p.order b).clean

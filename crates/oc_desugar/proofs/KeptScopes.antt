@@ -21,7 +21,8 @@ found_after : (s : Scope) (x : Text) (v : Var) (y : Text) → variable_in (with_
 found_after [] x v y = refl
 found_after (w ∷ s) x v y = by (bytes_eq y w.0) (found_after s x v y)
   where
-    by : (b : Bool) → variable_in (with_var s x v) y ≡ option_or (variable_in s y) (cond (bytes_eq y x) (Some v) None) → cond b (Some w.1) (variable_in (with_var s x v) y) ≡ option_or (cond b (Some w.1) (variable_in s y)) (cond (bytes_eq y x) (Some v) None)
+    by : (b : Bool) → variable_in (with_var s x v) y ≡ option_or (variable_in s y) (cond (bytes_eq y x) (Some v) None) → cond b (Some w.1) (variable_in (with_var s x v) y)
+        ≡ option_or (cond b (Some w.1) (variable_in s y)) (cond (bytes_eq y x) (Some v) None)
     by true h = refl
     by false h = h
 

@@ -11,13 +11,17 @@ use Rattle.oc_tree.specs.Types.{value_type, pointed_type, has_elements, is_int, 
 use Rattle.oc_tree.specs.Elements.{Here}
 use Rattle.oc_tree.specs.Limits.{Tally, statement_passes}
 use Rattle.oc_tree.specs.Broken.{statement_rules, lowest}
-use Rattle.oc_tree.specs.Rules.{takes_name, expr_known, right_known, own_known, expr_fits, right_fits, own_fits, written_differs, sides_differ, condition_is_number, let_bad_length, target_fixed, array_fixed, pointee_fixed, origin_is, is_writable, is_writable_array, is_mutable_param, is_let_in, annotates_other, returns_elsewhere, has_many_turns, pulls_disturb}
+use Rattle.oc_tree.specs.Rules.{takes_name, expr_known, right_known, own_known, expr_fits, right_fits, own_fits, written_differs, sides_differ, condition_is_number, let_bad_length}
+use Rattle.oc_tree.specs.Rules.{target_fixed, array_fixed, pointee_fixed, origin_is, is_writable, is_writable_array, is_mutable_param, is_let_in, annotates_other}
+use Rattle.oc_tree.specs.Rules.{returns_elsewhere, has_many_turns, pulls_disturb}
 use Rattle.oc_tree.specs.Expansion.{left_expr, left_right, expand_kind}
 use Rattle.oc_desugar.proofs.Seen.{SameTop, SameReach, SameHere, HeldOwn}
 use Rattle.oc_desugar.proofs.NoPulls.{none_expr, none_kind}
 use Rattle.oc_desugar.proofs.HeldParts.{HeldKind, held_kind}
-use Rattle.oc_desugar.proofs.KeptLookups.{SameNames, same_taken, same_sensor, same_port, same_is_variable, same_value_type, same_pointed_type, same_elements, same_test, new_test, new_writable, new_writable_array, new_mutable, new_let_in}
-use Rattle.oc_desugar.proofs.KeptExpressions.{first_holds, second_holds, both_hold, none_skipped_expr, none_skipped, same_type, same_right_type, known_expr, known_call, known_right, fits_expr, fits_call, fits_right}
+use Rattle.oc_desugar.proofs.KeptLookups.{SameNames, same_taken, same_sensor, same_port, same_is_variable, same_value_type, same_pointed_type, same_elements, same_test, new_test}
+use Rattle.oc_desugar.proofs.KeptLookups.{new_writable, new_writable_array, new_mutable, new_let_in}
+use Rattle.oc_desugar.proofs.KeptExpressions.{first_holds, second_holds, both_hold, none_skipped_expr, none_skipped, same_type, same_right_type, known_expr, known_call}
+use Rattle.oc_desugar.proofs.KeptExpressions.{known_right, fits_expr, fits_call, fits_right}
 use Rattle.oc_desugar.proofs.FineCalls.{CallFine, Gives, each_own, each_used, fine_left, gives_left}
 use Rattle.oc_desugar.proofs.Unbroken.{Unbroken, unbroken, stays_unbroken}
 

@@ -3,7 +3,8 @@
 use Rattle.std.proofs.Common.{◌≡◌, ℕ, ◌+◌, Bool, true, false, List, [], ◌∷◌, ◌++◌, length, inl, inr, Option, Some, None, refl, ap, ◌∙◌}
 use Rattle.std.specs.Prelude.{nat_lt, is_some, ◌&&◌, ◌||◌}
 use Rattle.oc_lex.specs.Stands.{IsName}
-use Rattle.oc_tree.specs.Tree.{TExpr, TCall, call, TRight, right_value, right_sense, right_call, TKind, let_to, let_array, assign, assign_index, assign_deref, if_else, for_in, while_do, call_only, sense_only, emit, fresh, consistent, return, TProgram}
+use Rattle.oc_tree.specs.Tree.{TExpr, TCall, call, TRight, right_value, right_sense, right_call, TKind, let_to, let_array, assign, assign_index, assign_deref, if_else, for_in}
+use Rattle.oc_tree.specs.Tree.{while_do, call_only, sense_only, emit, fresh, consistent, return, TProgram}
 use Rattle.oc_tree.specs.declared.tree.Scalar.{Scalar}
 use Rattle.oc_tree.specs.declared.tree.Scalar.TheVariants as scalars
 use Rattle.oc_tree.specs.Form.{ExprInForm, RightInForm, KindInForm}

@@ -1,9 +1,12 @@
 -- No pulls are left in the expansion.
 use Rattle.std.proofs.Common.{◌≡◌, ℕ, ◌+◌, List, [], ◌∷◌, ◌++◌, refl, ◌∙◌, arith, sum_by}
 use Rattle.std.proofs.lemmas.List.Sums.{sum_by-cons}
-use Rattle.oc_tree.specs.Tree.{TExpr, number, truth, variable, index, deref, unary, binary, sensed, called, TArg, value, shared, mutable, TCall, call, TArgs, no_args, more_args, TRight, right_value, right_sense, right_call, TKind, let_to, let_array, assign, assign_index, assign_deref, if_else, for_in, while_do, call_only, sense_only, emit, fresh, consistent, return, TElse, no_else, else_do, TStmt, stmt, TBlock, block, TStmts, no_stmts, more, TFunction, TProgram}
+use Rattle.oc_tree.specs.Tree.{TExpr, number, truth, variable, index, deref, unary, binary, sensed, called, TArg, value, shared, mutable, TCall, call, TArgs, no_args, more_args}
+use Rattle.oc_tree.specs.Tree.{TRight, right_value, right_sense, right_call, TKind, let_to, let_array, assign, assign_index, assign_deref, if_else, for_in, while_do, call_only}
+use Rattle.oc_tree.specs.Tree.{sense_only, emit, fresh, consistent, return, TElse, no_else, else_do, TStmt, stmt, TBlock, block, TStmts, no_stmts, more, TFunction, TProgram}
 use Rattle.oc_tree.specs.Pulls.{expr_pulls, call_pulls, args_pulls, arg_pulls, right_pulls, own_pulls, inner_pulls, else_pulls, stmt_pulls, block_pulls, stmts_pulls, program_pulls}
-use Rattle.oc_tree.specs.Expansion.{left_expr, left_call, left_args, left_arg, left_right, temporaries, pulled_expr, pulled_call, pulled_args, pulled_arg, pulled_right, pulled, expand_kind, expand_else, expand_block, expand_stmts, expand_function, expand_functions, expansion, join_stmts, block_size, stmt_size}
+use Rattle.oc_tree.specs.Expansion.{left_expr, left_call, left_args, left_arg, left_right, temporaries, pulled_expr, pulled_call, pulled_args, pulled_arg, pulled_right, pulled}
+use Rattle.oc_tree.specs.Expansion.{expand_kind, expand_else, expand_block, expand_stmts, expand_function, expand_functions, expansion, join_stmts, block_size, stmt_size}
 
 mutual
   pub none_expr : (k : ℕ) (e : TExpr) → expr_pulls (left_expr k e) ≡ 0
@@ -119,7 +122,8 @@ mutual
   none_stmts : (k i : ℕ) (ss : TStmts) → stmts_pulls (expand_stmts k i ss) ≡ 0
   none_stmts k i no_stmts = refl
   none_stmts k i (more (stmt id line s) ss) =
-      group_pulls k i line (pulled k s) (stmt (i + own_pulls s) line (expand_kind k (i + own_pulls s + 1) s)) (expand_stmts (k + stmt_pulls (stmt id line s)) (i + stmt_size (stmt id line s)) ss) (plain_kind k s) (none_kind k (i + own_pulls s + 1) s)
+      group_pulls k i line (pulled k s) (stmt (i + own_pulls s) line (expand_kind k (i + own_pulls s + 1) s))
+      (expand_stmts (k + stmt_pulls (stmt id line s)) (i + stmt_size (stmt id line s)) ss) (plain_kind k s) (none_kind k (i + own_pulls s + 1) s)
       ∙ none_stmts (k + stmt_pulls (stmt id line s)) (i + stmt_size (stmt id line s)) ss
 
 none_functions : (k i : ℕ) (fs : List TFunction) → sum_by (λ f. block_pulls f.body) (expand_functions k i fs) ≡ 0

@@ -1,10 +1,13 @@
 -- The expansion of a program has as many nodes of expressions: a pull's node becomes its temporary's name.
 use Rattle.std.proofs.Common.{◌≡◌, ℕ, ◌+◌, List, [], ◌∷◌, ◌++◌, refl, ◌∙◌, arith, sum_by}
 use Rattle.std.proofs.lemmas.List.Sums.{sum_by-cons, sum_by-append}
-use Rattle.oc_tree.specs.Tree.{TExpr, number, truth, variable, index, deref, unary, binary, sensed, called, TArg, value, shared, mutable, TCall, call, TArgs, no_args, more_args, TRight, right_value, right_sense, right_call, TKind, let_to, let_array, assign, assign_index, assign_deref, if_else, for_in, while_do, call_only, sense_only, emit, fresh, consistent, return, TElse, no_else, else_do, TStmt, stmt, TBlock, block, TStmts, no_stmts, more, TFunction, TProgram}
+use Rattle.oc_tree.specs.Tree.{TExpr, number, truth, variable, index, deref, unary, binary, sensed, called, TArg, value, shared, mutable, TCall, call, TArgs, no_args, more_args}
+use Rattle.oc_tree.specs.Tree.{TRight, right_value, right_sense, right_call, TKind, let_to, let_array, assign, assign_index, assign_deref, if_else, for_in, while_do, call_only}
+use Rattle.oc_tree.specs.Tree.{sense_only, emit, fresh, consistent, return, TElse, no_else, else_do, TStmt, stmt, TBlock, block, TStmts, no_stmts, more, TFunction, TProgram}
 use Rattle.oc_tree.specs.Nodes.{expr_nodes, arg_nodes, call_nodes, args_nodes, right_nodes, kind_nodes, else_nodes, stmt_nodes, block_nodes, stmts_nodes, program_nodes}
 use Rattle.oc_tree.specs.Pulls.{expr_pulls, arg_pulls, own_pulls, stmt_pulls, block_pulls}
-use Rattle.oc_tree.specs.Expansion.{left_expr, left_call, left_args, left_arg, left_right, block_size, stmt_size, temporaries, join_stmts, pulled_expr, pulled_call, pulled_args, pulled_arg, pulled_right, pulled, expand_kind, expand_else, expand_block, expand_stmts, expand_function, expand_functions, expansion}
+use Rattle.oc_tree.specs.Expansion.{left_expr, left_call, left_args, left_arg, left_right, block_size, stmt_size, temporaries, join_stmts, pulled_expr, pulled_call, pulled_args}
+use Rattle.oc_tree.specs.Expansion.{pulled_arg, pulled_right, pulled, expand_kind, expand_else, expand_block, expand_stmts, expand_function, expand_functions, expansion}
 
 -- the nodes of what is pulled
 abbrev pulls_nodes : List TRight → ℕ
@@ -90,7 +93,14 @@ functions_kept k i [] = refl
 functions_kept k i (f ∷ fs) =
     let rest = functions_kept (k + block_pulls f.body) (i + block_size f.body) fs in
     let first = block_kept k i f.body in
-    omega (arith, first, rest, sum_by-cons (λ g. block_nodes g.body) (expand_function k i f) (expand_functions (k + block_pulls f.body) (i + block_size f.body) fs), sum_by-cons (λ g. block_nodes g.body) f fs)
+    omega (
+      arith,
+      first,
+      rest,
+      sum_by-cons (λ g. block_nodes g.body) (expand_function k i f) (expand_functions (k + block_pulls f.body) (i + block_size f.body) fs),
+      sum_by-cons
+          (λ g. block_nodes g.body) f fs,
+    )
 
 pub nodes_kept : (p : TProgram) → program_nodes (expansion p) ≡ program_nodes p
 nodes_kept p = functions_kept 1 1 p.functions

@@ -1,7 +1,8 @@
 -- Statements that are numbered from a number on, told as lists.
 use Rattle.std.proofs.Common.{◌≡◌, ℕ, zero, suc, ◌+◌, List, [], ◌∷◌, ◌++◌, length, length-append, refl, ap, sym, subst, ◌∙◌, arith, flat_map, sum_by}
 use Rattle.std.proofs.lemmas.List.Sums.{sum_by-cons}
-use Rattle.oc_tree.specs.Tree.{TKind, let_to, let_array, assign, assign_index, assign_deref, if_else, for_in, while_do, call_only, sense_only, emit, fresh, consistent, return, TElse, no_else, else_do, stmt, TBlock, block, TStmts, no_stmts, more, TFunction, TProgram}
+use Rattle.oc_tree.specs.Tree.{TKind, let_to, let_array, assign, assign_index, assign_deref, if_else, for_in, while_do, call_only, sense_only, emit, fresh, consistent, return}
+use Rattle.oc_tree.specs.Tree.{TElse, no_else, else_do, stmt, TBlock, block, TStmts, no_stmts, more, TFunction, TProgram}
 use Rattle.oc_tree.specs.Numbers.{numbers_on, kind_statements, else_statements, block_statements, stmts_statements, program_statements}
 use Rattle.oc_tree.specs.Pulls.{block_pulls}
 use Rattle.oc_tree.specs.Expansion.{block_size, program_size, expand_function, expand_functions, expansion}
@@ -66,7 +67,8 @@ mutual
 functions_listed : (i : ℕ) (fs : List TFunction) → FunctionsNumbered i fs → flat_map (λ f. block_statements f.body) fs ≡ numbers_on i (sum_by (λ f. block_count f.body) fs)
 functions_listed i [] h = refl
 functions_listed i (f ∷ fs) h =
-    join (block_statements f.body) (flat_map (λ g. block_statements g.body) fs) i (block_count f.body) (sum_by (λ g. block_count g.body) fs) (block_listed i f.body h.0) (functions_listed (i + block_count f.body) fs h.1)
+    join (block_statements f.body) (flat_map (λ g. block_statements g.body) fs) i (block_count f.body) (sum_by (λ g. block_count g.body) fs) (block_listed i f.body h.0)
+    (functions_listed (i + block_count f.body) fs h.1)
     ∙ ap (numbers_on i) (sym (sum_by-cons (λ g. block_count g.body) f fs))
 
 -- a list of numbers that follow each other has as many as it is long

@@ -1,14 +1,17 @@
 -- The statements of an expansion are numbered from 1, and a program without pulls that is so numbered is its own
 -- expansion.
 use Rattle.std.proofs.Common.{◌≡◌, ℕ, ◌+◌, List, [], ◌∷◌, ◌++◌, length, refl, ap, sym, subst, arith}
-use Rattle.oc_tree.specs.Tree.{TRight, TKind, let_to, let_array, assign, assign_index, assign_deref, if_else, for_in, while_do, call_only, sense_only, emit, fresh, consistent, return, TElse, no_else, else_do, TStmt, stmt, TBlock, block, TStmts, no_stmts, more, TFunction, TProgram}
+use Rattle.oc_tree.specs.Tree.{TRight, TKind, let_to, let_array, assign, assign_index, assign_deref, if_else, for_in, while_do, call_only, sense_only, emit, fresh, consistent}
+use Rattle.oc_tree.specs.Tree.{return, TElse, no_else, else_do, TStmt, stmt, TBlock, block, TStmts, no_stmts, more, TFunction, TProgram}
 use Rattle.oc_tree.specs.Pulls.{expr_pulls, own_pulls, stmt_pulls, block_pulls}
-use Rattle.oc_tree.specs.Expansion.{temporaries, pulled, expand_kind, expand_else, expand_block, expand_stmts, expand_functions, expansion, join_stmts, block_size, else_size, stmt_size, stmts_size, inner_size}
+use Rattle.oc_tree.specs.Expansion.{temporaries, pulled, expand_kind, expand_else, expand_block, expand_stmts, expand_functions, expansion, join_stmts, block_size, else_size}
+use Rattle.oc_tree.specs.Expansion.{stmt_size, stmts_size, inner_size}
 use Rattle.oc_desugar.proofs.Numbered.{inner_count, else_count, block_count, stmts_count, InnerNumbered, ElseNumbered, BlockNumbered, StmtsNumbered, FunctionsNumbered, IsNumbered}
 use Rattle.oc_desugar.proofs.Lengths.{length_pulled}
 
 -- the statements of a group
-group_count : (k i line : ℕ) (rs : List TRight) (id at : ℕ) (s : TKind) (rest : TStmts) → stmts_count (join_stmts (temporaries k i line rs ++ stmt id at s ∷ []) rest) ≡ length rs + (1 + inner_count s + stmts_count rest)
+group_count : (k i line : ℕ) (rs : List TRight) (id at : ℕ) (s : TKind) (rest : TStmts) → stmts_count (join_stmts (temporaries k i line rs ++ stmt id at s ∷ []) rest)
+    ≡ length rs + (1 + inner_count s + stmts_count rest)
 group_count k i line [] id at s rest = omega arith
 group_count k i line (r ∷ rs) id at s rest = omega (arith, group_count (k + 1) (i + 1) line rs id at s rest)
 
@@ -66,8 +69,11 @@ mutual
   number_kind k i (assign_index x e r) = tt
   number_kind k i (assign_deref x r) = tt
   number_kind k i (if_else c a b) =
-      let e : i + block_size a ≡ i + block_count (expand_block (k + expr_pulls c) i a) = ap (λ n. i + n) (sym (count_block (k + expr_pulls c) i a)) in
-      (number_block (k + expr_pulls c) i a, subst (λ n. ElseNumbered n (expand_else (k + expr_pulls c + block_pulls a) (i + block_size a) b)) e (number_else (k + expr_pulls c + block_pulls a) (i + block_size a) b))
+      let e : i + block_size a ≡ i + block_count (expand_block (k + expr_pulls c) i a) = ap (λ n. i + n) (sym (count_block (k + expr_pulls c) i a)) in (
+        number_block (k + expr_pulls c) i a,
+        subst (λ n. ElseNumbered n (expand_else (k + expr_pulls c + block_pulls a) (i + block_size a) b)) e
+            (number_else (k + expr_pulls c + block_pulls a) (i + block_size a) b),
+      )
   number_kind k i (for_in x m n b) = number_block k i b
   number_kind k i (while_do c n b) = number_block (k + expr_pulls c) i b
   number_kind k i (call_only c) = tt
@@ -101,8 +107,11 @@ mutual
 number_functions : (k i : ℕ) (fs : List TFunction) → FunctionsNumbered i (expand_functions k i fs)
 number_functions k i [] = tt
 number_functions k i (f ∷ fs) =
-    let e : i + block_size f.body ≡ i + block_count (expand_block k i f.body) = ap (λ n. i + n) (sym (count_block k i f.body)) in
-    (number_block k i f.body, subst (λ n. FunctionsNumbered n (expand_functions (k + block_pulls f.body) (i + block_size f.body) fs)) e (number_functions (k + block_pulls f.body) (i + block_size f.body) fs))
+    let e : i + block_size f.body ≡ i + block_count (expand_block k i f.body) = ap (λ n. i + n) (sym (count_block k i f.body)) in (
+      number_block k i f.body,
+      subst (λ n. FunctionsNumbered n (expand_functions (k + block_pulls f.body) (i + block_size f.body) fs)) e
+          (number_functions (k + block_pulls f.body) (i + block_size f.body) fs),
+    )
 
 pub numbered : (p : TProgram) → IsNumbered (expansion p)
 numbered p = number_functions 1 1 p.functions

@@ -1,9 +1,13 @@
 -- A program without pulls that is numbered is its own expansion.
 use Rattle.std.proofs.Common.{◌≡◌, ℕ, ◌+◌, List, [], ◌∷◌, ◌++◌, refl, ap, sym, subst, ◌∙◌, arith, sum_by}
 use Rattle.std.proofs.lemmas.List.Sums.{sum_by-cons}
-use Rattle.oc_tree.specs.Tree.{TExpr, number, truth, variable, index, deref, unary, binary, sensed, called, TArg, value, shared, mutable, TCall, call, TArgs, no_args, more_args, TRight, right_value, right_sense, right_call, TKind, let_to, let_array, assign, assign_index, assign_deref, if_else, for_in, while_do, call_only, sense_only, emit, fresh, consistent, return, TElse, no_else, else_do, stmt, TBlock, block, TStmts, no_stmts, more, TFunction, TProgram}
+use Rattle.oc_tree.specs.Tree.{TExpr, number, truth, variable, index, deref, unary, binary, sensed, called, TArg, value, shared, mutable, TCall, call, TArgs, no_args, more_args}
+use Rattle.oc_tree.specs.Tree.{TRight, right_value, right_sense, right_call, TKind, let_to, let_array, assign, assign_index, assign_deref, if_else, for_in, while_do, call_only}
+use Rattle.oc_tree.specs.Tree.{sense_only, emit, fresh, consistent, return, TElse, no_else, else_do, stmt, TBlock, block, TStmts, no_stmts, more, TFunction, TProgram}
 use Rattle.oc_tree.specs.Pulls.{expr_pulls, call_pulls, args_pulls, arg_pulls, right_pulls, own_pulls, inner_pulls, else_pulls, stmt_pulls, block_pulls, stmts_pulls, program_pulls}
-use Rattle.oc_tree.specs.Expansion.{left_expr, left_call, left_args, left_arg, left_right, temporaries, pulled_expr, pulled_call, pulled_args, pulled_arg, pulled_right, pulled, expand_kind, expand_else, expand_block, expand_stmts, expand_functions, expansion, join_stmts, block_size, else_size, stmt_size, stmts_size, inner_size}
+use Rattle.oc_tree.specs.Expansion.{left_expr, left_call, left_args, left_arg, left_right, temporaries, pulled_expr, pulled_call, pulled_args, pulled_arg, pulled_right, pulled}
+use Rattle.oc_tree.specs.Expansion.{expand_kind, expand_else, expand_block, expand_stmts, expand_functions, expansion, join_stmts, block_size, else_size, stmt_size, stmts_size}
+use Rattle.oc_tree.specs.Expansion.{inner_size}
 use Rattle.oc_desugar.proofs.Numbered.{inner_count, else_count, block_count, stmts_count, InnerNumbered, ElseNumbered, BlockNumbered, StmtsNumbered, FunctionsNumbered, IsNumbered}
 
 mutual
@@ -194,7 +198,8 @@ own_functions k i (f ∷ fs) h n =
     let q : sum_by (λ g. block_pulls g.body) fs ≡ 0 = omega (arith, h, s) in
     let e : i + block_count f.body ≡ i + block_size f.body = ap (λ m. i + m) (sym (size_block f.body p)) in
     let a = own_functions (k + block_pulls f.body) (i + block_size f.body) fs q (subst (λ m. FunctionsNumbered m fs) e n.1) in
-    ap (λ b. record { name = f.name; line = f.line; params = f.params; result = f.result; body = b } ∷ expand_functions (k + block_pulls f.body) (i + block_size f.body) fs) (own_block k i f.body p n.0) ∙ ap (λ l. f ∷ l) a
+    ap (λ b. record { name = f.name; line = f.line; params = f.params; result = f.result; body = b } ∷ expand_functions (k + block_pulls f.body) (i + block_size f.body) fs)
+    (own_block k i f.body p n.0) ∙ ap (λ l. f ∷ l) a
 
 pub own_expansion : (p : TProgram) → program_pulls p ≡ 0 → IsNumbered p → expansion p ≡ p
 own_expansion p h n = ap (λ l. record { names = p.names; nv = p.nv; functions = l; order = p.order; last_line = p.last_line }) (own_functions 1 1 p.functions h n)

@@ -56,7 +56,8 @@ pub found_last : (s : Scope) (x : Text) (v : Var) → variable_in s x ≡ None �
 found_last [] x v e = ap (λ b. cond b (Some v) None) (same_text x)
 found_last (w ∷ ws) x v e = by (bytes_eq x w.0) (found_last ws x v) e
   where
-    by : (b : Bool) → (variable_in ws x ≡ None → variable_in (ws ++ (x, v) ∷ []) x ≡ Some v) → cond b (Some w.1) (variable_in ws x) ≡ None → cond b (Some w.1) (variable_in (ws ++ (x, v) ∷ []) x) ≡ Some v
+    by : (b : Bool) → (variable_in ws x ≡ None → variable_in (ws ++ (x, v) ∷ []) x ≡ Some v) → cond b (Some w.1) (variable_in ws x) ≡ None
+        → cond b (Some w.1) (variable_in (ws ++ (x, v) ∷ []) x) ≡ Some v
     by true rest h = let some : Some w.1 ≡ None = h in absurd (cc)
     by false rest h = rest h
 

@@ -7,7 +7,8 @@ use Rattle.oc_tree.specs.Calls.{own_calls}
 use Rattle.oc_tree.specs.Elements.{Here}
 use Rattle.oc_tree.specs.Limits.{Tally, statement_passes}
 use Rattle.oc_tree.specs.Broken.{Table, statement_rules, lowest}
-use Rattle.oc_tree.specs.Rules.{takes_name, own_known, own_fits, sides_differ, condition_is_number, used_calls, let_bad_length, target_fixed, array_fixed, pointee_fixed, annotates_other, returns_elsewhere, has_many_turns, pulls_disturb}
+use Rattle.oc_tree.specs.Rules.{takes_name, own_known, own_fits, sides_differ, condition_is_number, used_calls, let_bad_length, target_fixed, array_fixed, pointee_fixed}
+use Rattle.oc_tree.specs.Rules.{annotates_other, returns_elsewhere, has_many_turns, pulls_disturb}
 use Rattle.oc_desugar.proofs.FineCalls.{CallFine, Gives, Each, fine_from_rules, none_main, all_meet, all_lend, all_alone, none_exposes, none_back, gives_from_rule, all_give}
 
 -- ---- tables

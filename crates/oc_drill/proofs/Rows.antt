@@ -1,5 +1,5 @@
 -- Rows that are added one by one.
-use Rattle.std.proofs.Common.{ℕ, zero, suc, ◌+◌, ◌-◌, ◌<◌, ◌≡◌, List, ◌++◌, ap, sym, ◌∙◌, append_assoc, arith, refl}
+use Rattle.std.proofs.Common.{ℕ, suc, ◌+◌, ◌-◌, ◌<◌, ◌≡◌, List, ◌++◌, ap, sym, ◌∙◌, append_assoc, arith}
 use Rattle.oc_drill.specs.Drill.{rows}
 
 pub row_on : (row : ℕ → List ℕ) (text next : List ℕ) (k n : ℕ) (whole : List ℕ) → k < n → next ≡ text ++ row k → text ++ rows row k (n - k) ≡ whole → next ++ rows row (k + 1) (n - (k + 1)) ≡ whole

@@ -14,7 +14,8 @@ use Rattle.oc_effects.specs.Flat.{all_effects, starts_from}
 -- the effects are those of the statements at their places
 pub all_placed : (p : TProgram) (fs : List TFunction) → all_effects p fs ≡ map (effect_of p) (flat_map (λ f. block_placed (at_start f) f.body) fs)
 all_placed p [] = refl
-all_placed p (f ∷ fs) = ap (λ es. function_effects p f ++ es) (all_placed p fs) ∙ sym (map-append (effect_of p) (block_placed (at_start f) f.body) (flat_map (λ g. block_placed (at_start g) g.body) fs))
+all_placed p (f ∷ fs) = ap (λ es. function_effects p f ++ es) (all_placed p fs)
+    ∙ sym (map-append (effect_of p) (block_placed (at_start f) f.body) (flat_map (λ g. block_placed (at_start g) g.body) fs))
 
 module _ (p : TProgram) where
   pub starts_length : (n : ℕ) (fs : List TFunction) → length (starts_from p n fs) ≡ suc (length fs)
@@ -48,7 +49,8 @@ module _ (p : TProgram) where
   pub part_is : (n : ℕ) (fs : List TFunction) (front : List TEffect) (i : ℕ) → length front ≡ n → i < length fs →
       slice_range (front ++ all_effects p fs) (get_or (starts_from p n fs) i 0) (get_or (starts_from p n fs) (suc i) 0) ≡ get_or (map (function_effects p) fs) i []
   part_is n [] front i l h = absurd (omega (arith, h))
-  part_is n (f ∷ fs) front zero l h = cut front (function_effects p f) (all_effects p fs) n (get_or (starts_from p (n + length (function_effects p f)) fs) 0 0) l (first_start (n + length (function_effects p f)) fs)
+  part_is n (f ∷ fs) front zero l h = cut front (function_effects p f) (all_effects p fs) n (get_or (starts_from p (n + length (function_effects p f)) fs) 0 0) l
+      (first_start (n + length (function_effects p f)) fs)
   part_is n (f ∷ fs) front (suc i) l h =
       let m = n + length (function_effects p f) in
       let e : length (front ++ function_effects p f) ≡ m = omega (arith, length-append front (function_effects p f), l) in
@@ -68,9 +70,11 @@ module _ (p : TProgram) where
     pub bounds : Bounds all starts i
     bounds = record {
       below = omega (arith, ap length starts_are, starts_length 0 p.functions, h);
-      order = subst (λ ss. get_or ss i 0 ≤ get_or ss (i + 1) 0) (sym starts_are) (subst (λ j. get_or (starts_from p 0 p.functions) i 0 ≤ get_or (starts_from p 0 p.functions) j 0) next_is (starts_rise 0 p.functions i h));
+      order = subst (λ ss. get_or ss i 0 ≤ get_or ss (i + 1) 0) (sym starts_are)
+          (subst (λ j. get_or (starts_from p 0 p.functions) i 0 ≤ get_or (starts_from p 0 p.functions) j 0) next_is (starts_rise 0 p.functions i h));
       within =
-          (let e : get_or starts (i + 1) 0 ≡ get_or (starts_from p 0 p.functions) (suc i) 0 = ap (λ ss. get_or ss (i + 1) 0) starts_are ∙ ap (λ j. get_or (starts_from p 0 p.functions) j 0) (sym next_is) in
+          (let e : get_or starts (i + 1) 0 ≡ get_or (starts_from p 0 p.functions) (suc i) 0 = ap (λ ss. get_or ss (i + 1) 0) starts_are
+          ∙ ap (λ j. get_or (starts_from p 0 p.functions) j 0) (sym next_is) in
           omega (arith, e, starts_within 0 p.functions (suc i) h, ap length all_are));
     }
 

@@ -31,7 +31,8 @@ not_lower s first es e h is = by_test (nat_lt s first) refl
 
 module _ (p : TProgram) where
   -- what is found among those of a function is found among all
-  found_in_all : (first : ℕ) (fs : List TFunction) (i s : ℕ) (e : TEffect) → Consecutive first (all_effects p fs) → find (is_numbered s) (get_or (map (function_effects p) fs) i []) ≡ Some e → find (is_numbered s) (all_effects p fs) ≡ Some e
+  found_in_all : (first : ℕ) (fs : List TFunction) (i s : ℕ) (e : TEffect) → Consecutive first (all_effects p fs) → find (is_numbered s) (get_or (map (function_effects p) fs) i [])
+      ≡ Some e → find (is_numbered s) (all_effects p fs) ≡ Some e
   found_in_all first [] i s e h is = absurd (grind (arith, is))
   found_in_all first (f ∷ fs) zero s e h is =
       find-append (is_numbered s) (function_effects p f) (all_effects p fs) ∙ ap (λ o. option_or o (find (is_numbered s) (all_effects p fs))) is

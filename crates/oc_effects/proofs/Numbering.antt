@@ -1,5 +1,6 @@
 -- Statements are found by their numbers.
-use Rattle.std.proofs.Common.{◌≡◌, refl, sym, ap, ◌∙◌, subst, ℕ, zero, suc, ◌+◌, ◌-◌, ◌<◌, ◌≤◌, arith, Bool, true, false, ◌==◌, List, [], ◌∷◌, ◌++◌, map, length, slice_get, slice_index_or, nat_lt, Bor, Option, Some, None, cond}
+use Rattle.std.proofs.Common.{◌≡◌, refl, sym, ap, ◌∙◌, subst, ℕ, zero, suc, ◌+◌, ◌-◌, ◌<◌, ◌≤◌, arith, Bool, true, false, ◌==◌, List, [], ◌∷◌, ◌++◌, map, length, slice_get}
+use Rattle.std.proofs.Common.{slice_index_or, nat_lt, Bor, Option, Some, None, cond}
 use Rattle.std.specs.List.{find}
 use Rattle.std.specs.Option.{option_map, is_some, IfSome}
 use Rattle.std.proofs.lemmas.Option.{slice_get-map, slice_get_past, slice_get-get_or}
@@ -43,7 +44,8 @@ found_at s first (e ∷ es) h l =
     let head : e.stmt ≡ first = cc in
     let tail : Consecutive (suc first) es = cc in by_test (e.stmt == s) refl head (found_at s (suc first) es tail)
   where
-    by_test : (t : Bool) → (e.stmt == s) ≡ t → e.stmt ≡ first → (suc first ≤ s → find (is_numbered s) es ≡ slice_get es (s - suc first)) → find (is_numbered s) (e ∷ es) ≡ slice_get (e ∷ es) (s - first)
+    by_test : (t : Bool) → (e.stmt == s) ≡ t → e.stmt ≡ first → (suc first ≤ s → find (is_numbered s) es ≡ slice_get es (s - suc first)) → find (is_numbered s) (e ∷ es)
+        ≡ slice_get (e ∷ es) (s - first)
     by_test true is head rest =
         let same : s - first ≡ 0 = omega (arith, eqb-true e.stmt s is, head) in
         test_is e.stmt s true is (Some e) (find (is_numbered s) es) ∙ ap (slice_get (e ∷ es)) (sym same)
@@ -94,9 +96,12 @@ module _ (p : TProgram) where
   find_placed s [] = refl
   find_placed s (a ∷ qs) = by_test (a.id == s) refl (find_placed s qs)
     where
-      by_test : (t : Bool) → (a.id == s) ≡ t → find (is_numbered s) (map (effect_of p) qs) ≡ option_map (effect_of p) (find (λ a. a.id == s) qs) → cond (a.id == s) (Some (effect_of p a)) (find (is_numbered s) (map (effect_of p) qs)) ≡ option_map (effect_of p) (cond (a.id == s) (Some a) (find (λ a. a.id == s) qs))
-      by_test true is rest = ap (λ t. cond t (Some (effect_of p a)) (find (is_numbered s) (map (effect_of p) qs))) is ∙ sym (ap (λ t. option_map (effect_of p) (cond t (Some a) (find (λ a. a.id == s) qs))) is)
-      by_test false is rest = ap (λ t. cond t (Some (effect_of p a)) (find (is_numbered s) (map (effect_of p) qs))) is ∙ rest ∙ sym (ap (λ t. option_map (effect_of p) (cond t (Some a) (find (λ a. a.id == s) qs))) is)
+      by_test : (t : Bool) → (a.id == s) ≡ t → find (is_numbered s) (map (effect_of p) qs) ≡ option_map (effect_of p) (find (λ a. a.id == s) qs)
+          → cond (a.id == s) (Some (effect_of p a)) (find (is_numbered s) (map (effect_of p) qs)) ≡ option_map (effect_of p) (cond (a.id == s) (Some a) (find (λ a. a.id == s) qs))
+      by_test true is rest = ap (λ t. cond t (Some (effect_of p a)) (find (is_numbered s) (map (effect_of p) qs))) is
+          ∙ sym (ap (λ t. option_map (effect_of p) (cond t (Some a) (find (λ a. a.id == s) qs))) is)
+      by_test false is rest = ap (λ t. cond t (Some (effect_of p a)) (find (is_numbered s) (map (effect_of p) qs))) is ∙ rest
+          ∙ sym (ap (λ t. option_map (effect_of p) (cond t (Some a) (find (λ a. a.id == s) qs))) is)
 
   -- the effect of a statement is that with its number
   pub placed_is : (s : ℕ) → find (is_numbered s) (all_effects p p.functions) ≡ option_map (effect_of p) (placed p s)

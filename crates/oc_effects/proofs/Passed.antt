@@ -14,7 +14,8 @@ passed_none p a [] = refl
 passed_none p a (q ∷ qs) = refl
 
 -- what is passed when all arguments are done is all
-pub passed_all : (p : TProgram) (a : Placed) (qs : List Param) (gs : List Arg) (i : ℕ) (done whole : List TPassed) → length gs ≤ i → done ++ all_passed p a qs (args_view (drop i gs)) ≡ whole → done ≡ whole
+pub passed_all : (p : TProgram) (a : Placed) (qs : List Param) (gs : List Arg) (i : ℕ) (done whole : List TPassed) → length gs ≤ i
+    → done ++ all_passed p a qs (args_view (drop i gs)) ≡ whole → done ≡ whole
 passed_all p a qs gs i done whole h e =
     let none : all_passed p a qs (args_view (drop i gs)) ≡ [] = ap (λ xs. all_passed p a qs (args_view xs)) (drop_all i gs h) ∙ passed_none p a qs in
     sym (ap (λ xs. done ++ xs) none ∙ append-nil done) ∙ e

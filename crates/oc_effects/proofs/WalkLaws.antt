@@ -10,7 +10,8 @@ use Rattle.oc_effects.specs.Walk.{standing, kind_effects, else_effects, block_ef
 module _ (p : TProgram) where
   mutual
     kind_agrees : (at : Place) (id : ℕ) (k : TKind) → map (effect_of p) (kind_placed at id k) ≡ kind_effects p at.around at.variables id k
-    kind_agrees at id (if_else c a b) = map-append (effect_of p) (block_placed (in_branch at id) a) (else_placed (in_branch at id) b) ∙ (λ i. block_agrees (in_branch at id) a i ++ else_agrees (in_branch at id) b i)
+    kind_agrees at id (if_else c a b) = map-append (effect_of p) (block_placed (in_branch at id) a) (else_placed (in_branch at id) b)
+        ∙ (λ i. block_agrees (in_branch at id) a i ++ else_agrees (in_branch at id) b i)
     kind_agrees at id (for_in x m n b) = block_agrees (in_loop at id ((x, variables.Declared id) ∷ [])) b
     kind_agrees at id (while_do c n b) = block_agrees (in_loop at id []) b ∙ ap (λ vs. block_effects p (id ∷ at.around) vs b) (append-nil at.variables)
     kind_agrees at id _ = refl

@@ -2,7 +2,8 @@
 use Rattle.std.specs.Prelude.{ℕ, Bool, true, false, List, [], ◌∷◌, ◌++◌, map, flat_map, Option, Some, None, cond, option_map, option_to_list, option_and_then, nat_eq}
 use Rattle.std.proofs.Math.ListN.{get_or}
 use Rattle.oc_tree.specs.Names.{Text}
-use Rattle.oc_tree.specs.Tree.{variable, TArg, value, shared, mutable, TCall, call, TArgs, no_args, more_args, TRight, right_value, right_sense, right_call, TKind, let_to, let_array, assign, assign_index, assign_deref, for_in, while_do, call_only, fresh, consistent, return, TFunction, TProgram}
+use Rattle.oc_tree.specs.Tree.{variable, TArg, value, shared, mutable, TCall, call, TArgs, no_args, more_args, TRight, right_value, right_sense, right_call, TKind, let_to}
+use Rattle.oc_tree.specs.Tree.{let_array, assign, assign_index, assign_deref, for_in, while_do, call_only, fresh, consistent, return, TFunction, TProgram}
 use Rattle.oc_tree.specs.declared.tree.Param.{Param}
 use Rattle.oc_tree.specs.declared.tree.VarId.{VarId}
 use Rattle.oc_tree.specs.declared.tree.VarId.TheVariants as variables

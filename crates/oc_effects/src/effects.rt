@@ -114,7 +114,8 @@ impl<'a> Model for Effects<'a> {
 
     ghost view = { λ e. e.checked.now };
 
-    ghost invariant = { λ e. IsFlat e.checked.now.program (map effect_view e.effects.items) e.starts.items };
+    ghost invariant = { λ e. IsFlat e.checked.now.program (map effect_view e.effects.items)
+        e.starts.items };
 }
 
 impl<'a> Effects<'a> {

@@ -69,7 +69,8 @@ any_before false t (x ∷ xs) = any_before false t xs
 
 -- variables that lead to one, one by one
 pub adds_among : (from : List VarId) (t : VarId) (s u : TTable) → Adds (λ a b. list_any (λ x. same_variable a x && same_variable b t) from) s u → Adds (λ a b. is_among a from && same_variable b t) s u
-adds_among from t s u h = adds_same (λ a b. list_any (λ x. same_variable a x && same_variable b t) from) (λ a b. is_among a from && same_variable b t) s u (λ a b. any_and (same_variable a) (same_variable b t) from) h
+adds_among from t s u h = adds_same (λ a b. list_any (λ x. same_variable a x && same_variable b t) from) (λ a b. is_among a from && same_variable b t) s u
+    (λ a b. any_and (same_variable a) (same_variable b t) from) h
 
 -- where a flow ends
 pub ends_is : (a : TEffect) (c : TCalled) (y v : VarId) → ends a c y v ≡ is_variable_of (end_of a c y) v
@@ -79,7 +80,8 @@ ends_is a c (Declared s) v = refl
 ends_is a c Returned v = refl
 
 -- what a callee's flows add, one by one
-pub adds_ends : (c : TCalled) (x : VarId) (T : VarId → VarId → Bool) (ys : List VarId) (s u : TTable) → Adds (λ a b. list_any (λ y. begins c x a && T y b) ys) s u → Adds (λ a b. begins c x a && list_any (λ y. T y b) ys) s u
+pub adds_ends : (c : TCalled) (x : VarId) (T : VarId → VarId → Bool) (ys : List VarId) (s u : TTable) → Adds (λ a b. list_any (λ y. begins c x a && T y b) ys) s u
+    → Adds (λ a b. begins c x a && list_any (λ y. T y b) ys) s u
 adds_ends c x T ys s u h = adds_same (λ a b. list_any (λ y. begins c x a && T y b) ys) (λ a b. begins c x a && list_any (λ y. T y b) ys) s u (λ a b. any_before (begins c x a) (λ y. T y b) ys) h
 
 -- where nothing flows, nothing is added
@@ -100,7 +102,8 @@ adds_no_end a c x y f t e = adds_same (λ u v. false) (λ u v. begins c x u && (
     none true false = refl
     none false q = refl
 
-pub adds_end : (a : TEffect) (c : TCalled) (x y w : VarId) (f : Bool) (s t : TTable) → f ≡ true → end_of a c y ≡ Some w → Adds (λ u v. begins c x u && same_variable v w) s t → Adds (λ u v. begins c x u && (f && ends a c y v)) s t
+pub adds_end : (a : TEffect) (c : TCalled) (x y w : VarId) (f : Bool) (s t : TTable) → f ≡ true → end_of a c y ≡ Some w → Adds (λ u v. begins c x u && same_variable v w) s t
+    → Adds (λ u v. begins c x u && (f && ends a c y v)) s t
 adds_end a c x y w f s t e q h = adds_same (λ u v. begins c x u && same_variable v w) (λ u v. begins c x u && (f && ends a c y v)) s t
     (λ u v. ap (λ z. begins c x u && z) (same_sym v w ∙ ap (λ o. is_variable_of o v) (sym q) ∙ sym (ends_is a c y v)) ∙ ap (λ g. begins c x u && (g && ends a c y v)) (sym e)) h
 
@@ -111,7 +114,8 @@ take_end (x ∷ xs) zero h = absurd (omega arith)
 take_end (x ∷ xs) (suc i) h = ap (λ l. x ∷ l) (take_end xs i (omega arith))
 
 -- at the end of a loop
-pub adds_done : {A : Type 0} (T : A → VarId → VarId → Bool) (xs : List A) (i : ℕ) (s t : TTable) → length xs ≤ i → Adds (λ a b. list_any (λ y. T y a b) (take i xs)) s t → Adds (λ a b. list_any (λ y. T y a b) xs) s t
+pub adds_done : {A : Type 0} (T : A → VarId → VarId → Bool) (xs : List A) (i : ℕ) (s t : TTable) → length xs ≤ i → Adds (λ a b. list_any (λ y. T y a b) (take i xs)) s t
+    → Adds (λ a b. list_any (λ y. T y a b) xs) s t
 adds_done T xs i s t h d = adds_all T xs (take i xs) s t (take_end xs i h) d
 
 pub get_or_map : {A B : Type 0} (f : A → B) (xs : List A) (i : ℕ) (d : A) → get_or (map f xs) i (f d) ≡ f (get_or xs i d)

@@ -53,7 +53,8 @@ any_map t g (x ∷ xs) = ap (λ b. t (g x) || b) (any_map t g xs)
 module _ (p : TProgram) (t : TEffect → Bool) where
   flat : (fs : List TFunction) → list_any (λ es. list_any t es) (map (function_effects p) fs) ≡ list_any (λ b. t (effect_of p b)) (flat_map (λ f. block_placed (at_start f) f.body) fs)
   flat [] = refl
-  flat (f ∷ fs) = (λ i. any_map t (effect_of p) (block_placed (at_start f) f.body) i || flat fs i) ∙ sym (any_join (λ b. t (effect_of p b)) (block_placed (at_start f) f.body) (flat_map (λ f. block_placed (at_start f) f.body) fs))
+  flat (f ∷ fs) = (λ i. any_map t (effect_of p) (block_placed (at_start f) f.body) i || flat fs i)
+      ∙ sym (any_join (λ b. t (effect_of p b)) (block_placed (at_start f) f.body) (flat_map (λ f. block_placed (at_start f) f.body) fs))
 
 abbrev on_found : (Placed → Bool) → Option Placed → Bool
 on_found q None = false
@@ -86,7 +87,8 @@ module _ (s : ℕ) (q : Placed → Bool) where
       or_false true = refl
       or_false false = refl
 
-      go : (b : Bool) → nat_eq x.id s ≡ b → list_any (λ b. nat_eq b.id s && q b) xs ≡ on_found q (find (λ a. a.id == s) xs) → (b && q x) || list_any (λ b. nat_eq b.id s && q b) xs ≡ on_found q (cond b (Some x) (find (λ a. a.id == s) xs))
+      go : (b : Bool) → nat_eq x.id s ≡ b → list_any (λ b. nat_eq b.id s && q b) xs ≡ on_found q (find (λ a. a.id == s) xs) → (b && q x) || list_any (λ b. nat_eq b.id s && q b) xs
+          ≡ on_found q (cond b (Some x) (find (λ a. a.id == s) xs))
       go false h rest = rest
       go true h rest =
           let a = head_of x.id n (ids xs) (numbers_on (suc n) m) e in
@@ -112,7 +114,8 @@ of_image g (y ∷ xs) x (inl e) = inl (ap g e)
 of_image g (y ∷ xs) x (inr i) = inr (of_image g xs x i)
 
 -- a statement of the program is one of some function
-somewhere : (p : TProgram) (fs : List TFunction) (b : Placed) → IsOf b (flat_map (λ f. block_placed (at_start f) f.body) fs) → (f : ℕ) × IsOf (effect_of p b) (get_or (map (function_effects p) fs) f [])
+somewhere : (p : TProgram) (fs : List TFunction) (b : Placed) → IsOf b (flat_map (λ f. block_placed (at_start f) f.body) fs)
+    → (f : ℕ) × IsOf (effect_of p b) (get_or (map (function_effects p) fs) f [])
 somewhere p [] b i = absurd i
 somewhere p (f ∷ fs) b i = elim (of_join (block_placed (at_start f) f.body) (flat_map (λ f. block_placed (at_start f) f.body) fs) b i) [
   | inl a ↦ (0, of_image (effect_of p) (block_placed (at_start f) f.body) b a)

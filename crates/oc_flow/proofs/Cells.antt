@@ -150,22 +150,26 @@ link_set vs rows u v i j s hu hv a b ha hb =
     at_cell : (x y : ℕ) → number_in vs a ≡ Some x → number_in vs b ≡ Some y → x ≡ i → y ≡ j → (a ≡ u) × (b ≡ v)
     at_cell x y ea eb ex ey = (same_number vs a u i (ea ∙ ap Some ex) hu, same_number vs b v j (eb ∙ ap Some ey) hv)
 
-    more : (x y : ℕ) → number_in vs a ≡ Some x → number_in vs b ≡ Some y → linked new' a b ≡ true → (x ≡ i) ⊎ (x ≢ i) → (y ≡ j) ⊎ (y ≢ j) → linked old' a b || (same_variable a u && same_variable b v) ≡ true
+    more : (x y : ℕ) → number_in vs a ≡ Some x → number_in vs b ≡ Some y → linked new' a b ≡ true → (x ≡ i) ⊎ (x ≢ i) → (y ≡ j) ⊎ (y ≢ j)
+        → linked old' a b || (same_variable a u && same_variable b v) ≡ true
     more x y ea eb h (inl ex) (inl ey) =
         let z = at_cell x y ea eb ex ey in
-        or_right (linked old' a b) (same_variable a u && same_variable b v) (both (same_variable a u) (same_variable b v) (subst (λ w. same_variable a w ≡ true) z.0 (same_itself a)) (subst (λ w. same_variable b w ≡ true) z.1 (same_itself b)))
+        or_right (linked old' a b) (same_variable a u && same_variable b v)
+        (both (same_variable a u) (same_variable b v) (subst (λ w. same_variable a w ≡ true) z.0 (same_itself a)) (subst (λ w. same_variable b w ≡ true) z.1 (same_itself b)))
     more x y ea eb h (inr d) q = or_left (linked old' a b) (same_variable a u && same_variable b v) (sym (away x y ea eb (λ e f. d e)) ∙ h)
     more x y ea eb h (inl e) (inr d) = or_left (linked old' a b) (same_variable a u && same_variable b v) (sym (away x y ea eb (λ e f. d f)) ∙ h)
 
     kept : (x y : ℕ) → number_in vs a ≡ Some x → number_in vs b ≡ Some y → linked old' a b ≡ true → (x ≡ i) ⊎ (x ≢ i) → (y ≡ j) ⊎ (y ≢ j) → linked new' a b ≡ true
     kept x y ea eb h (inl ex) (inl ey) =
-        linked_is new' a b x y ea eb ∙ subst (λ k. cell (set_cell rows i j) k y ≡ true) (sym ex) (subst (λ k. cell (set_cell rows i j) i k ≡ true) (sym ey) (set_here (length vs) rows i j s (number_below vs u i hu) (number_below vs v j hv)))
+        linked_is new' a b x y ea eb ∙ subst (λ k. cell (set_cell rows i j) k y ≡ true) (sym ex)
+        (subst (λ k. cell (set_cell rows i j) i k ≡ true) (sym ey) (set_here (length vs) rows i j s (number_below vs u i hu) (number_below vs v j hv)))
     kept x y ea eb h (inr d) q = away x y ea eb (λ e f. d e) ∙ h
     kept x y ea eb h (inl e) (inr d) = away x y ea eb (λ e f. d f) ∙ h
 
 -- joined rows are links through the variable
 pub link_through : (vs : List VarId) (rows next : Cells) (w : VarId) (k : ℕ) → length rows ≡ length vs → number_in vs w ≡ Some k → JoinedEach k (get_or rows k []) rows next
-    → Links (record { variables = vs; cells = next }) (λ a b. linked (record { variables = vs; cells = rows }) a b || (linked (record { variables = vs; cells = rows }) a w && linked (record { variables = vs; cells = rows }) w b))
+    → Links (record { variables = vs; cells = next })
+    (λ a b. linked (record { variables = vs; cells = rows }) a b || (linked (record { variables = vs; cells = rows }) a w && linked (record { variables = vs; cells = rows }) w b))
 link_through vs rows next w k n hw join a b ha hb =
     let x = numbered 0 vs a ha in
     let y = numbered 0 vs b hb in
@@ -230,7 +234,8 @@ cells_height (v ∷ r) = ap suc (cells_height r)
 -- ---- links of tables
 
 -- one that is not in the table leads to nothing more
-pub link_not : (t : TTable) (u v : VarId) → ((i j : ℕ) → number_in t.variables u ≡ Some i → number_in t.variables v ≡ Some j → ⊥) → Links t (λ a b. linked t a b || (same_variable a u && same_variable b v))
+pub link_not : (t : TTable) (u v : VarId) → ((i j : ℕ) → number_in t.variables u ≡ Some i → number_in t.variables v ≡ Some j → ⊥)
+    → Links t (λ a b. linked t a b || (same_variable a u && same_variable b v))
 link_not t u v none a b ha hb = same_tests (linked t a b) (linked t a b || (same_variable a u && same_variable b v)) (λ h. or_left (linked t a b) (same_variable a u && same_variable b v) h)
     (λ h. or_elim (linked t a b) (same_variable a u && same_variable b v) h (λ k. k)
     (λ k.
@@ -249,7 +254,8 @@ among_at (x ∷ vs) zero w d h e = or_left (same_variable w x) (is_among w vs) (
 among_at (x ∷ vs) (suc n) w d h e = or_right (same_variable w x) (is_among w vs) (among_at vs n w d (omega arith) e)
 
 -- one variable more between
-pub closed_more : (step : VarId → VarId → Bool) (vs : List VarId) (n m : ℕ) (w d : VarId) (t new : TTable) → t.variables ≡ vs → new.variables ≡ t.variables → n < length vs → m ≡ suc n → w ≡ get_or vs n d
+pub closed_more : (step : VarId → VarId → Bool) (vs : List VarId) (n m : ℕ) (w d : VarId) (t new : TTable) → t.variables ≡ vs → new.variables ≡ t.variables → n < length vs
+    → m ≡ suc n → w ≡ get_or vs n d
     → Links t (λ a b. chain step (drop m vs) a b) → Links new (λ a b. linked t a b || (linked t a w && linked t w b)) → Links new (λ a b. chain step (drop n vs) a b)
 closed_more step vs n m w d t new e f h q at old more a b ha hb =
     let in_t : (x : VarId) → is_among x new.variables ≡ true → is_among x t.variables ≡ true = λ x k. subst (λ l. is_among x l ≡ true) f k in

@@ -27,12 +27,14 @@ module _ (p : TProgram) (f : ℕ) (F G : Between) (same : (a : TEffect) (c : TCa
   call_cong : (a : TEffect) → IsOf a (effects_at p f) → (o : Option TCalled) → a.call ≡ o → (u t : VarId) → leads_by_call p F a o u t ≡ leads_by_call p G a o u t
   call_cong a i None e u t = refl
   call_cong a i (Some c) e u t =
-      any_cong (λ x. begins c x u && list_any (λ y. F c.function x y && ends a c y t) (variables p c.function)) (λ x. begins c x u && list_any (λ y. G c.function x y && ends a c y t) (variables p c.function)) (variables p c.function)
+      any_cong (λ x. begins c x u && list_any (λ y. F c.function x y && ends a c y t) (variables p c.function))
+      (λ x. begins c x u && list_any (λ y. G c.function x y && ends a c y t) (variables p c.function)) (variables p c.function)
       (λ x m. λ k. begins c x u && any_cong (λ y. F c.function x y && ends a c y t) (λ y. G c.function x y && ends a c y t) (variables p c.function) (λ y n. λ j. same a c i e x y j && ends a c y t) k)
 
   -- the leads of a function are told by the flow of its callees
   pub leads_cong : (u t : VarId) → leads p F f u t ≡ leads p G f u t
-  leads_cong u t = any_cong (λ a. leads_by_value a u t || leads_by_call p F a a.call u t) (λ a. leads_by_value a u t || leads_by_call p G a a.call u t) (effects_at p f) (λ a i. λ k. leads_by_value a u t || call_cong a i a.call refl u t k)
+  leads_cong u t = any_cong (λ a. leads_by_value a u t || leads_by_call p F a a.call u t) (λ a. leads_by_value a u t || leads_by_call p G a a.call u t) (effects_at p f)
+      (λ a i. λ k. leads_by_value a u t || call_cong a i a.call refl u t k)
 
   -- and so is its flow
   pub flow_cong : (u v : VarId) → flow_by p F f u v ≡ flow_by p G f u v
@@ -50,7 +52,8 @@ module _ (p : TProgram) (r : Ranked p) where
   at_depth zero e f u v =
       let none : false ≡ nat_lt f (length p.functions) = subst (λ n. false ≡ nat_lt f n) e (grind arith) in
       λ i. (none i && is_among u (variables p f)) && (is_variable p f v && (same_variable u v || chain (leads p (flows_to p zero) f) (variables p f) u v))
-  at_depth (suc n) e f u v = flow_cong p f (flows_to p n) (flows_to p (suc n)) (λ a c i q x y. stable n c.function (let l = r.falls f a c i q in let m = r.small f (r.within f a i) in omega (arith, l, m, e)) x y) u v
+  at_depth (suc n) e f u v = flow_cong p f (flows_to p n) (flows_to p (suc n))
+      (λ a c i q x y. stable n c.function (let l = r.falls f a c i q in let m = r.small f (r.within f a i) in omega (arith, l, m, e)) x y) u v
 
   pub flow_fix : (f : ℕ) (u v : VarId) → flows p f u v ≡ flow_by p (flows p) f u v
   flow_fix f u v = at_depth (length p.functions) refl f u v
@@ -62,11 +65,14 @@ module _ (p : TProgram) (B C : Bringing) where
   receives_cong f same y = any_cong (λ b. list_any (λ u. B b u && flows p f u y) (variables p f)) (λ b. list_any (λ u. C b u && flows p f u y) (variables p f)) (effects_at p f)
       (λ b i. any_cong (λ u. B b u && flows p f u y) (λ u. C b u && flows p f u y) (variables p f) (λ u m. λ k. same b i u k && flows p f u y))
 
-  by_call_cong : (a : TEffect) (o : Option TCalled) → ((c : TCalled) → o ≡ Some c → (b : TEffect) → IsOf b (effects_at p c.function) → (u : VarId) → B b u ≡ C b u) → (v : VarId) → brings_by_call p B a o v ≡ brings_by_call p C a o v
+  by_call_cong : (a : TEffect) (o : Option TCalled) → ((c : TCalled) → o ≡ Some c → (b : TEffect) → IsOf b (effects_at p c.function) → (u : VarId) → B b u ≡ C b u) → (v : VarId)
+      → brings_by_call p B a o v ≡ brings_by_call p C a o v
   by_call_cong a None same v = refl
-  by_call_cong a (Some c) same v = any_cong (λ y. receives p B c.function y && ends a c y v) (λ y. receives p C c.function y && ends a c y v) (variables p c.function) (λ y m. λ k. receives_cong c.function (same c refl) y k && ends a c y v)
+  by_call_cong a (Some c) same v = any_cong (λ y. receives p B c.function y && ends a c y v) (λ y. receives p C c.function y && ends a c y v) (variables p c.function)
+      (λ y m. λ k. receives_cong c.function (same c refl) y k && ends a c y v)
 
-  pub brings_cong : (a : TEffect) → ((c : TCalled) → a.call ≡ Some c → (b : TEffect) → IsOf b (effects_at p c.function) → (u : VarId) → B b u ≡ C b u) → (v : VarId) → brings_by p B a v ≡ brings_by p C a v
+  pub brings_cong : (a : TEffect) → ((c : TCalled) → a.call ≡ Some c → (b : TEffect) → IsOf b (effects_at p c.function) → (u : VarId) → B b u ≡ C b u) → (v : VarId)
+      → brings_by p B a v ≡ brings_by p C a v
   brings_cong a same v = λ k. (a.senses && is_variable_of a.target v) || by_call_cong a a.call same v k
 
 module _ (p : TProgram) (r : Ranked p) where
@@ -78,7 +84,8 @@ module _ (p : TProgram) (r : Ranked p) where
   brings_at_depth : (n : ℕ) → n ≡ length p.functions → (f : ℕ) (a : TEffect) → IsOf a (effects_at p f) → (v : VarId) → brings_to p n a v ≡ brings_by p (brings_to p n) a v
   unfolding brings_to
   brings_at_depth zero e f a i v = absurd (let l = r.within f a i in omega (arith, l, e))
-  brings_at_depth (suc n) e f a i v = brings_cong p (brings_to p n) (brings_to p (suc n)) a (λ c q b j u. brings_stable n c.function b j (let l = r.falls f a c i q in let m = r.small f (r.within f a i) in omega (arith, l, m, e)) u) v
+  brings_at_depth (suc n) e f a i v = brings_cong p (brings_to p n) (brings_to p (suc n)) a
+      (λ c q b j u. brings_stable n c.function b j (let l = r.falls f a c i q in let m = r.small f (r.within f a i) in omega (arith, l, m, e)) u) v
 
   pub brings_fix : (f : ℕ) (a : TEffect) → IsOf a (effects_at p f) → (v : VarId) → brings p a v ≡ brings_by p (brings p) a v
   brings_fix f a i v = brings_at_depth (length p.functions) refl f a i v

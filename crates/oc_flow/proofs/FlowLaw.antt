@@ -77,19 +77,22 @@ module _ (p : TProgram) where
 
   -- where flow in callees is flow, leads are flow
   module _ (f : ℕ) (F : Between) (callee : (g : ℕ) (x y : VarId) → F g x y ≡ true → Flow p g x y) where
-    lead_flows : (a : TEffect) → IsOf a (effects_at p f) → (o : Option TCalled) → a.call ≡ o → (u t : VarId) → is_variable p f u ≡ true → is_variable p f t ≡ true → leads_by_call p F a o u t ≡ true → Flow p f u t
+    lead_flows : (a : TEffect) → IsOf a (effects_at p f) → (o : Option TCalled) → a.call ≡ o → (u t : VarId) → is_variable p f u ≡ true → is_variable p f t ≡ true
+        → leads_by_call p F a o u t ≡ true → Flow p f u t
     lead_flows a i None e u t hu ht h = absurd (true≢false (sym h))
     lead_flows a i (Some c) e u t hu ht h =
         let x = in_any (λ x. begins c x u && list_any (λ y. F c.function x y && ends a c y t) (variables p c.function)) (variables p c.function) h in
         let b = first_of_both (begins c x.0 u) (list_any (λ y. F c.function x.0 y && ends a c y t) (variables p c.function)) x.2 in
-        let y = in_any (λ y. F c.function x.0 y && ends a c y t) (variables p c.function) (second_of_both (begins c x.0 u) (list_any (λ y. F c.function x.0 y && ends a c y t) (variables p c.function)) x.2) in
+        let y = in_any (λ y. F c.function x.0 y && ends a c y t) (variables p c.function)
+        (second_of_both (begins c x.0 u) (list_any (λ y. F c.function x.0 y && ends a c y t) (variables p c.function)) x.2) in
         by_call a c i e hu b (callee c.function x.0 y.0 (first_of_both (F c.function x.0 y.0) (ends a c y.0 t) y.2)) (second_of_both (F c.function x.0 y.0) (ends a c y.0 t) y.2) (itself ht)
 
     leads_flow : (u t : VarId) → is_variable p f u ≡ true → is_variable p f t ≡ true → leads p F f u t ≡ true → Flow p f u t
     leads_flow u t hu ht h =
         let a = in_any (λ a. leads_by_value a u t || leads_by_call p F a a.call u t) (effects_at p f) h in
         or_elim (leads_by_value a.0 u t) (leads_by_call p F a.0 a.0.call u t) a.2
-        (λ k. by_value a.0 a.1 hu (first_of_both (is_among u a.0.sources) (is_variable_of a.0.target t) k) (target_is a.0.target t (second_of_both (is_among u a.0.sources) (is_variable_of a.0.target t) k)) (itself ht))
+        (λ k. by_value a.0 a.1 hu (first_of_both (is_among u a.0.sources) (is_variable_of a.0.target t) k)
+        (target_is a.0.target t (second_of_both (is_among u a.0.sources) (is_variable_of a.0.target t) k)) (itself ht))
         (lead_flows a.0 a.1 a.0.call refl u t hu ht)
 
     pub by_flows : (u v : VarId) → flow_by p F f u v ≡ true → Flow p f u v
@@ -101,7 +104,8 @@ module _ (p : TProgram) where
         let below = first_of_both (nat_lt f (length p.functions)) (is_among u (variables p f)) hu in
         or_elim (same_variable u v) (chain (leads p F f) (variables p f) u v) (second_of_both (is_variable p f v) (same_variable u v || chain (leads p F f) (variables p f) u v) k)
         (λ e. subst (λ x. Flow p f u x) (same_is u v e) (itself hu))
-        (chain_least (λ w. is_variable p f w ≡ true) (Flow p f) (leads p F f) leads_flow (λ a w b. flow_on b) (variables p f) (λ w i. both (nat_lt f (length p.functions)) (is_among w (variables p f)) below (of_among w (variables p f) i)) u v hu hv)
+        (chain_least (λ w. is_variable p f w ≡ true) (Flow p f) (leads p F f) leads_flow (λ a w b. flow_on b) (variables p f)
+        (λ w i. both (nat_lt f (length p.functions)) (is_among w (variables p f)) below (of_among w (variables p f) i)) u v hu hv)
 
   -- what the test says at some depth is so
   pub flows_are : (d f : ℕ) (u v : VarId) → flows_to p d f u v ≡ true → Flow p f u v
@@ -115,7 +119,8 @@ module _ (p : TProgram) where
     begins_at f u v h = first_of_both (is_variable p f u) (is_variable p f v && (same_variable u v || chain (leads p (flows p) f) (variables p f) u v)) (sym (flow_fix p r f u v) ∙ h)
 
     pub ends_at : (f : ℕ) (u v : VarId) → flows p f u v ≡ true → is_variable p f v ≡ true
-    ends_at f u v h = first_of_both (is_variable p f v) (same_variable u v || chain (leads p (flows p) f) (variables p f) u v) (second_of_both (is_variable p f u) (is_variable p f v && (same_variable u v || chain (leads p (flows p) f) (variables p f) u v)) (sym (flow_fix p r f u v) ∙ h))
+    ends_at f u v h = first_of_both (is_variable p f v) (same_variable u v || chain (leads p (flows p) f) (variables p f) u v)
+        (second_of_both (is_variable p f u) (is_variable p f v && (same_variable u v || chain (leads p (flows p) f) (variables p f) u v)) (sym (flow_fix p r f u v) ∙ h))
 
     -- a variable of a function stands in its list
     pub listed : (f : ℕ) (v : VarId) → is_variable p f v ≡ true → IsOf v (variables p f)
@@ -129,15 +134,18 @@ module _ (p : TProgram) where
         let ht = begins_at f t v h in
         let hv = ends_at f t v h in
         let more : chain step vs u v ≡ true = or_elim (same_variable t v) (chain step vs t v)
-        (second_of_both (is_variable p f v) (same_variable t v || chain step vs t v) (second_of_both (is_variable p f t) (is_variable p f v && (same_variable t v || chain step vs t v)) (sym (flow_fix p r f t v) ∙ h)))
+        (second_of_both (is_variable p f v) (same_variable t v || chain step vs t v)
+        (second_of_both (is_variable p f t) (is_variable p f v && (same_variable t v || chain step vs t v)) (sym (flow_fix p r f t v) ∙ h)))
         (λ e. chain_step step vs u v (subst (λ x. step u x ≡ true) (same_is t v e) l))
         (λ k. chain_on step vs u t v (listed f t ht) (chain_step step vs u t l) k) in
-        flow_fix p r f u v ∙ both (is_variable p f u) (is_variable p f v && (same_variable u v || chain step vs u v)) hu (both (is_variable p f v) (same_variable u v || chain step vs u v) hv (or_right (same_variable u v) (chain step vs u v) more))
+        flow_fix p r f u v ∙ both (is_variable p f u) (is_variable p f v && (same_variable u v || chain step vs u v)) hu
+        (both (is_variable p f v) (same_variable u v || chain step vs u v) hv (or_right (same_variable u v) (chain step vs u v) more))
 
     pub are_flows : {f : ℕ} {u v : VarId} → Flow p f u v → flows p f u v ≡ true
     are_flows {f} {u} {v} (itself h) =
         let chained = chain (leads p (flows p) f) (variables p f) u u in
-        flow_fix p r f u u ∙ both (is_variable p f u) (is_variable p f u && (same_variable u u || chained)) h (both (is_variable p f u) (same_variable u u || chained) h (or_left (same_variable u u) chained (same_itself u)))
+        flow_fix p r f u u ∙ both (is_variable p f u) (is_variable p f u && (same_variable u u || chained)) h
+        (both (is_variable p f u) (same_variable u u || chained) h (or_left (same_variable u u) chained (same_itself u)))
     are_flows {f} {u} {v} (by_value {t = t} a i h s e q) =
         let l : leads p (flows p) f u t ≡ true = any_in (λ a. leads_by_value a u t || leads_by_call p (flows p) a a.call u t) (effects_at p f) a i
         (or_left (leads_by_value a u t) (leads_by_call p (flows p) a a.call u t) (both (is_among u a.sources) (is_variable_of a.target t) s (is_target a.target t e))) in
@@ -145,8 +153,11 @@ module _ (p : TProgram) where
     are_flows {f} {u} {v} (by_call {x = x} {y = y} {t = t} a c i e h b m n q) =
         let g = c.function in
         let inner : flows p g x y ≡ true = are_flows m in
-        let ends_so : list_any (λ y. flows p g x y && ends a c y t) (variables p g) ≡ true = any_in (λ y. flows p g x y && ends a c y t) (variables p g) y (listed g y (ends_at g x y inner)) (both (flows p g x y) (ends a c y t) inner n) in
-        let called : leads_by_call p (flows p) a (Some c) u t ≡ true = any_in (λ x. begins c x u && list_any (λ y. flows p g x y && ends a c y t) (variables p g)) (variables p g) x (listed g x (begins_at g x y inner)) (both (begins c x u) (list_any (λ y. flows p g x y && ends a c y t) (variables p g)) b ends_so) in
+        let ends_so : list_any (λ y. flows p g x y && ends a c y t) (variables p g) ≡ true =
+        any_in (λ y. flows p g x y && ends a c y t) (variables p g) y (listed g y (ends_at g x y inner)) (both (flows p g x y) (ends a c y t) inner n) in
+        let called : leads_by_call p (flows p) a (Some c) u t ≡ true =
+        any_in (λ x. begins c x u && list_any (λ y. flows p g x y && ends a c y t) (variables p g)) (variables p g) x (listed g x (begins_at g x y inner))
+        (both (begins c x u) (list_any (λ y. flows p g x y && ends a c y t) (variables p g)) b ends_so) in
         let l : leads p (flows p) f u t ≡ true = any_in (λ a. leads_by_value a u t || leads_by_call p (flows p) a a.call u t) (effects_at p f) a i
         (or_right (leads_by_value a u t) (leads_by_call p (flows p) a a.call u t) (subst (λ o. leads_by_call p (flows p) a o u t ≡ true) (sym e) called)) in
         lead_on f u t v h l (are_flows q)
@@ -185,14 +196,17 @@ module _ (p : TProgram) where
     of_function (by_callee a b c i e q m n) = i
 
     are_brought : {f : ℕ} {a : TEffect} {v : VarId} → Brings p f a v → brings p a v ≡ true
-    are_brought {f = f} {v = v} (by_input a i s e) = brings_fix p r f a i v ∙ or_left (a.senses && is_variable_of a.target v) (brings_by_call p (brings p) a a.call v) (both a.senses (is_variable_of a.target v) s (is_target a.target v e))
+    are_brought {f = f} {v = v} (by_input a i s e) =
+        brings_fix p r f a i v ∙ or_left (a.senses && is_variable_of a.target v) (brings_by_call p (brings p) a a.call v) (both a.senses (is_variable_of a.target v) s (is_target a.target v e))
     are_brought {f = f} {v = v} (by_callee {u = u} {y = y} a b c i e q m n) =
         let g = c.function in
         let flow : flows p g u y ≡ true = are_flows m in
         let inner : brings p b u ≡ true = are_brought q in
-        let one : list_any (λ u. brings p b u && flows p g u y) (variables p g) ≡ true = any_in (λ u. brings p b u && flows p g u y) (variables p g) u (listed g u (begins_at g u y flow)) (both (brings p b u) (flows p g u y) inner flow) in
+        let one : list_any (λ u. brings p b u && flows p g u y) (variables p g) ≡ true =
+        any_in (λ u. brings p b u && flows p g u y) (variables p g) u (listed g u (begins_at g u y flow)) (both (brings p b u) (flows p g u y) inner flow) in
         let got : receives p (brings p) g y ≡ true = any_in (λ b. list_any (λ u. brings p b u && flows p g u y) (variables p g)) (effects_at p g) b (of_function q) one in
-        let called : brings_by_call p (brings p) a (Some c) v ≡ true = any_in (λ y. receives p (brings p) g y && ends a c y v) (variables p g) y (listed g y (ends_at g u y flow)) (both (receives p (brings p) g y) (ends a c y v) got n) in
+        let called : brings_by_call p (brings p) a (Some c) v ≡ true =
+        any_in (λ y. receives p (brings p) g y && ends a c y v) (variables p g) y (listed g y (ends_at g u y flow)) (both (receives p (brings p) g y) (ends a c y v) got n) in
         brings_fix p r f a i v ∙ or_right (a.senses && is_variable_of a.target v) (brings_by_call p (brings p) a a.call v) (subst (λ o. brings_by_call p (brings p) a o v ≡ true) (sym e) called)
 
     pub brings_decide : (f : ℕ) (a : TEffect) (v : VarId) → IsOf a (effects_at p f) → Decides (brings p a v) (Brings p f a v)

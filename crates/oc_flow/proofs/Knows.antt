@@ -1,5 +1,6 @@
 -- What is known of a function by its statements is so, where what is known of its callees is so.
-use Rattle.std.proofs.Common.{◌≡◌, ◌≢◌, ◌<◌, ◌⊎◌, inl, inr, ◌+◌, ◌++◌, map, ℕ, zero, suc, Bool, true, false, true≢false, List, [], ◌∷◌, Option, Some, None, cond, refl, ap, sym, ◌∙◌, subst, length, arith, append_assoc, filter}
+use Rattle.std.proofs.Common.{◌≡◌, ◌≢◌, ◌<◌, ◌⊎◌, inl, inr, ◌+◌, ◌++◌, map, ℕ, zero, suc, Bool, true, false, true≢false, List, [], ◌∷◌, Option, Some, None, cond, refl, ap, sym}
+use Rattle.std.proofs.Common.{◌∙◌, subst, length, arith, append_assoc, filter}
 use Rattle.std.specs.Prelude.{◌||◌, ◌&&◌, nat_lt, is_some, slice_set}
 use Rattle.std.specs.List.{list_any, list_all}
 use Rattle.std.proofs.Math.ListN.{length-set, get_or}
@@ -13,7 +14,9 @@ use Rattle.oc_effects.specs.Effects.{TCalled, TEffect, effects_at, params_at}
 use Rattle.oc_flow.specs.Variables.{same_variable, is_among, is_variable_of, variables, begins, ends, from}
 use Rattle.oc_tree.specs.Members.{IsOf}
 use Rattle.oc_flow.specs.Flow.{chain, leads_by_value, leads_by_call, leads, flows, receives, brings_by_call, brings}
-use Rattle.oc_flow.specs.Known.{number_from, number_in, cell, cell_at, TTable, linked, Links, flows_between, table_flows, TKnown, known_receives, received_at, Knowns, known_at, leads_from, leads_to_callee, leads_called, leads_known, brings_from_callee, brings_called, brings_known, is_ready, outer_of, declared_of, some_leads, some_brings, KnownBy, KnownIs, Right, Learns, Learning, Below, function_rank}
+use Rattle.oc_flow.specs.Known.{number_from, number_in, cell, cell_at, TTable, linked, Links, flows_between, table_flows, TKnown, known_receives, received_at, Knowns, known_at}
+use Rattle.oc_flow.specs.Known.{leads_from, leads_to_callee, leads_called, leads_known, brings_from_callee, brings_called, brings_known, is_ready, outer_of, declared_of}
+use Rattle.oc_flow.specs.Known.{some_leads, some_brings, KnownBy, KnownIs, Right, Learns, Learning, Below, function_rank}
 use Rattle.oc_flow.proofs.Lists.{both, first_of_both, second_of_both, same_tests, any_in, in_any, any_cong}
 use Rattle.oc_flow.proofs.Fixpoint.{Ranked, chain_cong, flow_fix, brings_fix}
 use Rattle.oc_flow.proofs.FlowLaw.{ends_at}
@@ -46,7 +49,8 @@ split p f =
     append_assoc a (b ++ (Returned ∷ [])) (declared_of (effects_at p f)) ∙ ap (λ l. a ++ l) (append_assoc b (Returned ∷ []) (declared_of (effects_at p f)))
 
 -- a test that no declared variable passes
-outer_any : (p : TProgram) (f : ℕ) (t s : VarId → Bool) → ((x : ℕ) → s (Declared x) ≡ false) → ((v : VarId) → t v ≡ s v) → list_any t (outer_of (length p.names.nvs) (length (params_at p f))) ≡ list_any s (variables p f)
+outer_any : (p : TProgram) (f : ℕ) (t s : VarId → Bool) → ((x : ℕ) → s (Declared x) ≡ false) → ((v : VarId) → t v ≡ s v)
+    → list_any t (outer_of (length p.names.nvs) (length (params_at p f))) ≡ list_any s (variables p f)
 outer_any p f t s none same =
     let o = outer_of (length p.names.nvs) (length (params_at p f)) in
     any_cong t s o (λ x i. same x)
@@ -145,7 +149,8 @@ flows_told t step links u v = go (number_in t.variables u) (number_in t.variable
     vs : List VarId
     vs = t.variables
 
-    go : (a b : Option ℕ) → number_in t.variables u ≡ a → number_in t.variables v ≡ b → flows_between t.cells u v a b ≡ is_among u t.variables && (is_among v t.variables && (same_variable u v || chain step t.variables u v))
+    go : (a b : Option ℕ) → number_in t.variables u ≡ a → number_in t.variables v ≡ b → flows_between t.cells u v a b
+        ≡ is_among u t.variables && (is_among v t.variables && (same_variable u v || chain step t.variables u v))
     go None b ea eb = ap (λ x. x && (is_among v t.variables && (same_variable u v || chain step t.variables u v))) (sym (not_among t.variables u ea))
     go (Some i) None ea eb = sym (and_false (is_among u t.variables)) ∙ ap (λ x. is_among u t.variables && (x && (same_variable u v || chain step t.variables u v))) (sym (not_among t.variables v eb))
     go (Some i) (Some j) ea eb =
@@ -170,7 +175,8 @@ module _ (p : TProgram) (r : Ranked p) (ks : Knowns) (right : Right p ks) where
           ∙ outer_any p g (λ x. leads_from k a c x u t) (λ x. begins c x u && list_any (λ y. flows p g x y && ends a c y t) (variables p g)) (λ s. refl)
           (λ x. ap (λ b. begins c x u && b)
           (ap (list_any (λ y. table_flows k.table x y && ends a c y t)) is.outer
-          ∙ outer_any p g (λ y. table_flows k.table x y && ends a c y t) (λ y. flows p g x y && ends a c y t) (λ s. and_false (flows p g x (Declared s))) (λ y. ap (λ b. b && ends a c y t) (is.flows x y))))
+          ∙ outer_any p g (λ y. table_flows k.table x y && ends a c y t) (λ y. flows p g x y && ends a c y t) (λ s. and_false (flows p g x (Declared s)))
+          (λ y. ap (λ b. b && ends a c y t) (is.flows x y))))
 
   called_brings : (a : TEffect) (o : Option TCalled) → is_ready ks o ≡ true → (v : VarId) → brings_called ks a o v ≡ brings_by_call p (brings p) a o v
   called_brings a None h v = refl
@@ -181,13 +187,15 @@ module _ (p : TProgram) (r : Ranked p) (ks : Knowns) (right : Right p ks) where
       go (Some k) e h =
           let is : KnownIs p c.function k = right.each c.function k e in
           ap (list_any (λ y. known_receives k y && ends a c y v)) is.outer
-          ∙ outer_any p c.function (λ y. known_receives k y && ends a c y v) (λ y. receives p (brings p) c.function y && ends a c y v) (λ s. and_false (receives p (brings p) c.function (Declared s))) (λ y. ap (λ b. b && ends a c y v) (is.receives y))
+          ∙ outer_any p c.function (λ y. known_receives k y && ends a c y v) (λ y. receives p (brings p) c.function y && ends a c y v)
+          (λ s. and_false (receives p (brings p) c.function (Declared s))) (λ y. ap (λ b. b && ends a c y v) (is.receives y))
 
   -- what a statement brings is what is known
   pub known_brings : (f : ℕ) (a : TEffect) → IsOf a (effects_at p f) → is_ready ks a.call ≡ true → (v : VarId) → brings_known ks a v ≡ brings p a v
   known_brings f a i h v = ap (λ b. (a.senses && is_variable_of a.target v) || b) (called_brings a a.call h v) ∙ sym (brings_fix p r f a i v)
 
-  module _ (f : ℕ) (below : nat_lt f (length p.functions) ≡ true) (ready : list_all (λ e. is_ready ks e.call) (effects_at p f) ≡ true) (k : TKnown) (by : KnownBy (length p.names.nvs) (length (params_at p f)) ks (effects_at p f) k) where
+  module _ (f : ℕ) (below : nat_lt f (length p.functions) ≡ true) (ready : list_all (λ e. is_ready ks e.call) (effects_at p f) ≡ true) (k : TKnown)
+      (by : KnownBy (length p.names.nvs) (length (params_at p f)) ks (effects_at p f) k) where
     listed_so : k.table.variables ≡ variables p f
     listed_so = by.variables ∙ split p f
 
@@ -201,7 +209,8 @@ module _ (p : TProgram) (r : Ranked p) (ks : Knowns) (right : Right p ks) where
         let links : Links k.table (λ a b. chain step k.table.variables a b) = subst (λ vs. Links k.table (λ a b. chain step vs a b)) (sym by.variables) by.links in
         flows_told k.table step links u v
         ∙ ap (λ vs. is_among u vs && (is_among v vs && (same_variable u v || chain step vs u v))) listed_so
-        ∙ (λ i. (sym below i && is_among u (variables p f)) && ((sym below i && is_among v (variables p f)) && (same_variable u v || chain_cong step (leads p (flows p) f) leads_so (variables p f) u v i)))
+        ∙ (λ i. (sym below i && is_among u (variables p f)) &&
+        ((sym below i && is_among v (variables p f)) && (same_variable u v || chain_cong step (leads p (flows p) f) leads_so (variables p f) u v i)))
         ∙ sym (flow_fix p r f u v)
 
     receives_so : (v : VarId) → known_receives k v ≡ receives p (brings p) f v
@@ -302,4 +311,6 @@ module _ (p : TProgram) (r : Ranked p) (fall : (f : ℕ) (a : TEffect) (c : TCal
       by : (d f : ℕ) → Below p d old → function_rank p f < d + 1 → (f < i) ⊎ (f ≡ i) → is_some (known_at new f) ≡ true
       by d f below k (inl m) = l.keeps f (t.more d f below m k)
       by d f below k (inr e) = subst (λ g. is_some (known_at new g) ≡ true) (sym e)
-          (l.learns (ready_all now (effects_at p i) (λ a c o q. t.keeps c.function (below c.function (r.inside i a c o q) (let falls = fall i a c o q in let same : function_rank p f ≡ function_rank p i = ap (function_rank p) e in omega (arith, falls, k, same))))))
+          (l.learns (ready_all now (effects_at p i)
+          (λ a c o q. t.keeps c.function (below c.function (r.inside i a c o q) (let falls = fall i a c o q in let same : function_rank p f ≡ function_rank p i =
+          ap (function_rank p) e in omega (arith, falls, k, same))))))

@@ -6,7 +6,8 @@ use Rattle.std.proofs.Math.ListN.{get_or}
 use Rattle.std.proofs.lemmas.List.{map-append, length-map}
 use Rattle.std.proofs.lemmas.Option.{none-some, same_Some}
 use Rattle.oc_tree.specs.Names.{Text}
-use Rattle.oc_tree.specs.Tree.{TCall, call, TRight, right_value, right_sense, right_call, TKind, let_to, assign, assign_index, assign_deref, if_else, for_in, while_do, call_only, TElse, no_else, else_do, stmt, TBlock, block, TStmts, no_stmts, more, TFunction, TProgram}
+use Rattle.oc_tree.specs.Tree.{TCall, call, TRight, right_value, right_sense, right_call, TKind, let_to, assign, assign_index, assign_deref, if_else, for_in, while_do, call_only}
+use Rattle.oc_tree.specs.Tree.{TElse, no_else, else_do, stmt, TBlock, block, TStmts, no_stmts, more, TFunction, TProgram}
 use Rattle.oc_tree.specs.declared.tree.VarId.TheVariants as variables
 use Rattle.oc_tree.specs.Calls.{place_from, function_names, function_place, callee, expr_calls, right_calls, own_calls, kind_kinds, else_kinds, block_kinds, stmts_kinds, body_calls, call_links}
 use Rattle.oc_tree.specs.Places.{Place, Placed, behind, in_branch, in_loop, at_start, kind_placed, else_placed, block_placed, stmts_placed}
@@ -32,7 +33,8 @@ kinds ps = map (λ a. a.kind) ps
 
 mutual
   kind_told : (at : Place) (id : ℕ) (k : TKind) → k ∷ kinds (kind_placed at id k) ≡ kind_kinds None k
-  kind_told at id (if_else c a b) = ap (λ ks. if_else c a b ∷ ks) (map-append (λ a. a.kind) (block_placed (in_branch at id) a) (else_placed (in_branch at id) b) ∙ (λ i. block_told (in_branch at id) a i ++ else_told (in_branch at id) b i))
+  kind_told at id (if_else c a b) = ap (λ ks. if_else c a b ∷ ks) (map-append (λ a. a.kind) (block_placed (in_branch at id) a) (else_placed (in_branch at id) b)
+      ∙ (λ i. block_told (in_branch at id) a i ++ else_told (in_branch at id) b i))
   kind_told at id (for_in x m n b) = ap (λ ks. for_in x m n b ∷ ks) (block_told (in_loop at id ((x, variables.Declared id) ∷ [])) b)
   kind_told at id (while_do c n b) = ap (λ ks. while_do c n b ∷ ks) (block_told (in_loop at id []) b)
   kind_told at id _ = refl
@@ -149,7 +151,8 @@ module _ (p : TProgram) (groups : List Group) (checked : IsChecked p groups) whe
   pub small : (f : ℕ) → f < length p.functions → rank (call_links p.functions) (length p.functions) f < length p.functions
   small f l = rank_small (call_links p.functions) (length p.functions) onwards f l
 
-  pub falls : (f : ℕ) (a : TEffect) (c : TCalled) → IsOf a (effects_at p f) → a.call ≡ Some c → rank (call_links p.functions) (length p.functions) c.function < rank (call_links p.functions) (length p.functions) f
+  pub falls : (f : ℕ) (a : TEffect) (c : TCalled) → IsOf a (effects_at p f) → a.call ≡ Some c
+      → rank (call_links p.functions) (length p.functions) c.function < rank (call_links p.functions) (length p.functions) f
   falls f a c i e =
       let s = effect_stands f a i in
       let fs = p.functions in

@@ -11,7 +11,8 @@ use Rattle.oc_tree.specs.Members.{IsOf}
 pub data Flow (p : TProgram) : ℕ → VarId → VarId → Type 0 where
   itself : {f : ℕ} {u : VarId} → is_variable p f u ≡ true → Flow p f u u
   by_value : {f : ℕ} {u t v : VarId} (a : TEffect) → IsOf a (effects_at p f) → is_variable p f u ≡ true → is_among u a.sources ≡ true → a.target ≡ Some t → Flow p f t v → Flow p f u v
-  by_call : {f : ℕ} {u x y t v : VarId} (a : TEffect) (c : TCalled) → IsOf a (effects_at p f) → a.call ≡ Some c → is_variable p f u ≡ true → begins c x u ≡ true → Flow p c.function x y → ends a c y t ≡ true → Flow p f t v → Flow p f u v
+  by_call : {f : ℕ} {u x y t v : VarId} (a : TEffect) (c : TCalled) → IsOf a (effects_at p f) → a.call ≡ Some c → is_variable p f u ≡ true → begins c x u ≡ true
+      → Flow p c.function x y → ends a c y t ≡ true → Flow p f t v → Flow p f u v
 
 -- `Brings p f a v`: the statement of the effect `a`, in the function `f`, brings input into `v`. It sets it to an input, or it
 -- calls a function in which a statement brings input into a variable that flows out to it.

@@ -26,7 +26,11 @@ impl Model for Known {
 
     ghost Value = { TKnown };
 
-    ghost view = { λ k. record { table = k.table; outer = k.outer.items; received = k.received.items } };
+    ghost view = { λ k. record {
+      table = k.table;
+      outer = k.outer.items;
+      received = k.received.items;
+    } };
 }
 
 impl Known {

@@ -138,7 +138,8 @@ impl Model for Numbering {
 
     ghost view = { λ n. n.variables.items };
 
-    ghost invariant = { λ n. (v : VarId) → entry_of n.numbers (slot v) ≡ number_in n.variables.items v };
+    ghost invariant = { λ n. (v : VarId) → entry_of n.numbers (slot v)
+        ≡ number_in n.variables.items v };
 }
 
 impl Numbering {

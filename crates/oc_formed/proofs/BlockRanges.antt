@@ -1,6 +1,7 @@
 -- In which blocks the statements of a tree stand, where statements and blocks are numbered in source order.
 use Rattle.std.proofs.Common.{◌≡◌, ◌<◌, ◌≤◌, ◌⊎◌, inl, inr, ℕ, suc, ◌+◌, List, [], ◌∷◌, ◌++◌, length, refl, arith, length-append, flat_map}
-use Rattle.oc_tree.specs.Tree.{TKind, let_to, let_array, assign, assign_index, assign_deref, if_else, for_in, while_do, call_only, sense_only, emit, fresh, consistent, return, TElse, no_else, else_do, stmt, TBlock, block, TStmts, no_stmts, more, TFunction}
+use Rattle.oc_tree.specs.Tree.{TKind, let_to, let_array, assign, assign_index, assign_deref, if_else, for_in, while_do, call_only, sense_only, emit, fresh, consistent, return}
+use Rattle.oc_tree.specs.Tree.{TElse, no_else, else_do, stmt, TBlock, block, TStmts, no_stmts, more, TFunction}
 use Rattle.oc_tree.specs.Numbers.{kind_statements, else_statements, block_statements, stmts_statements, kind_blocks, else_blocks, block_blocks, stmts_blocks}
 use Rattle.oc_desugar.proofs.NumberLists.{Follow, first_of, parts}
 use Rattle.oc_desugar.proofs.BlockPairs.{Pair, kind_pairs, else_pairs, block_pairs, stmts_pairs}
@@ -65,7 +66,8 @@ both i j xs ys us vs bs cs h g =
     let n = length-append bs cs in
     pairs_join (Ranged i (i + length (us ++ vs)) j (j + length (bs ++ cs))) xs ys
     (wider i (i + length us) j (j + length bs) i (i + length (us ++ vs)) j (j + length (bs ++ cs)) (omega arith) (omega (arith, m)) (omega arith) (omega (arith, n)) xs h)
-    (wider (i + length us) (i + length us + length vs) (j + length bs) (j + length bs + length cs) i (i + length (us ++ vs)) j (j + length (bs ++ cs)) (omega arith) (omega (arith, m)) (omega arith) (omega (arith, n)) ys g)
+    (wider (i + length us) (i + length us + length vs) (j + length bs) (j + length bs + length cs) i (i + length (us ++ vs)) j (j + length (bs ++ cs)) (omega arith)
+    (omega (arith, m)) (omega arith) (omega (arith, n)) ys g)
 
 mutual
   -- a statement
@@ -73,7 +75,8 @@ mutual
   kind_ranged i j (if_else c a b) f g =
       let s = parts i (block_statements a) (else_statements b) f in
       let t = parts j (block_blocks a) (else_blocks b) g in
-      both i j (block_pairs a) (else_pairs b) (block_statements a) (else_statements b) (block_blocks a) (else_blocks b) (block_ranged i j a s.0 t.0) (else_ranged (i + length (block_statements a)) (j + length (block_blocks a)) b s.1 t.1)
+      both i j (block_pairs a) (else_pairs b) (block_statements a) (else_statements b) (block_blocks a) (else_blocks b) (block_ranged i j a s.0 t.0)
+      (else_ranged (i + length (block_statements a)) (j + length (block_blocks a)) b s.1 t.1)
   kind_ranged i j (for_in x m n b) f g = block_ranged i j b f g
   kind_ranged i j (while_do c n b) f g = block_ranged i j b f g
   kind_ranged i j (let_to m x t r) f g = tt
@@ -94,7 +97,8 @@ mutual
   else_ranged i j (else_do b) f g = block_ranged i j b f g
 
   -- a block
-  pub block_ranged : (i j : ℕ) (b : TBlock) → Follow i (block_statements b) → Follow j (block_blocks b) → EachPair (Ranged i (i + length (block_statements b)) j (j + length (block_blocks b))) (block_pairs b)
+  pub block_ranged : (i j : ℕ) (b : TBlock) → Follow i (block_statements b) → Follow j (block_blocks b)
+      → EachPair (Ranged i (i + length (block_statements b)) j (j + length (block_blocks b))) (block_pairs b)
   block_ranged i j (block id ss) f g =
       let o = first_of id j (stmts_blocks ss) g in
       let z = i + length (stmts_statements ss) in
@@ -106,7 +110,8 @@ mutual
       inside x e (inr r) = (omega (arith, r.0), omega (arith, r.1))
 
   -- statements of the block b
-  pub stmts_ranged : (b i j : ℕ) (ss : TStmts) → Follow i (stmts_statements ss) → Follow j (stmts_blocks ss) → EachPair (RangedIn b i (i + length (stmts_statements ss)) j (j + length (stmts_blocks ss))) (stmts_pairs b ss)
+  pub stmts_ranged : (b i j : ℕ) (ss : TStmts) → Follow i (stmts_statements ss) → Follow j (stmts_blocks ss)
+      → EachPair (RangedIn b i (i + length (stmts_statements ss)) j (j + length (stmts_blocks ss))) (stmts_pairs b ss)
   stmts_ranged b i j no_stmts f g = tt
   stmts_ranged b i j (more (stmt id line k) ss) f g =
       let s = parts i (id ∷ kind_statements k) (stmts_statements ss) f in
@@ -127,9 +132,11 @@ mutual
       )
 
 -- functions
-pub functions_ranged : (i j : ℕ) (fs : List TFunction) → Follow i (flat_map (λ f. block_statements f.body) fs) → Follow j (flat_map (λ f. block_blocks f.body) fs) → EachPair (Ranged i (i + length (flat_map (λ f. block_statements f.body) fs)) j (j + length (flat_map (λ f. block_blocks f.body) fs))) (flat_map (λ f. block_pairs f.body) fs)
+pub functions_ranged : (i j : ℕ) (fs : List TFunction) → Follow i (flat_map (λ f. block_statements f.body) fs) → Follow j (flat_map (λ f. block_blocks f.body) fs)
+    → EachPair (Ranged i (i + length (flat_map (λ f. block_statements f.body) fs)) j (j + length (flat_map (λ f. block_blocks f.body) fs))) (flat_map (λ f. block_pairs f.body) fs)
 functions_ranged i j [] f g = tt
 functions_ranged i j (h ∷ fs) f g =
     let s = parts i (block_statements h.body) (flat_map (λ f. block_statements f.body) fs) f in
     let t = parts j (block_blocks h.body) (flat_map (λ f. block_blocks f.body) fs) g in
-    both i j (block_pairs h.body) (flat_map (λ f. block_pairs f.body) fs) (block_statements h.body) (flat_map (λ f. block_statements f.body) fs) (block_blocks h.body) (flat_map (λ f. block_blocks f.body) fs) (block_ranged i j h.body s.0 t.0) (functions_ranged (i + length (block_statements h.body)) (j + length (block_blocks h.body)) fs s.1 t.1)
+    both i j (block_pairs h.body) (flat_map (λ f. block_pairs f.body) fs) (block_statements h.body) (flat_map (λ f. block_statements f.body) fs) (block_blocks h.body)
+    (flat_map (λ f. block_blocks f.body) fs) (block_ranged i j h.body s.0 t.0) (functions_ranged (i + length (block_statements h.body)) (j + length (block_blocks h.body)) fs s.1 t.1)

@@ -17,7 +17,8 @@ use Rattle.oc_tree.specs.declared.scope.Origin.{Origin}
 use Rattle.oc_tree.specs.declared.scope.Var.{Var}
 use Rattle.oc_tree.specs.Scope.{Scope, variable_of}
 use Rattle.oc_tree.specs.Types.{is_reference, scalar_of, is_same, is_same_kind, value_type, type_of}
-use Rattle.oc_tree.specs.Rules.{only_reference, passed_on, has_kind, origin_is, is_mutable_param, is_writable, value_meets, shared_meets, mutable_meets, arg_meets, args_meet, args_list, is_bad_length, has_bad_length, arg_lends}
+use Rattle.oc_tree.specs.Rules.{only_reference, passed_on, has_kind, origin_is, is_mutable_param, is_writable, value_meets, shared_meets, mutable_meets, arg_meets, args_meet}
+use Rattle.oc_tree.specs.Rules.{args_list, is_bad_length, has_bad_length, arg_lends}
 use Rattle.oc_code.specs.Scope.{Named, named, slot_of, address_slot, passed_slot, kind_words}
 use Rattle.oc_code.specs.Formed.{IsLent, NamesLent, NamesWritable, IsPassed, ArePassed}
 use Rattle.oc_desugar.proofs.KeptExpressions.{first_holds, second_holds}
@@ -194,7 +195,8 @@ module _ (p : TProgram) (scope : Scope) (γ : List Named) (all : AllFound p scop
   shared_passed passings.Mutable kind x l h = absurd (true≢false (sym h))
 
   -- and an argument `&mut x`
-  mutable_passed : (passing : Passing) (kind : ValueKind) (x : Text) → 1 ≤ kind_words kind → mutable_meets passing kind (variable_of p scope x) ≡ true → origin_is is_writable (variable_of p scope x) ≡ true → IsPassed γ passing (kind_words kind) (mutable x)
+  mutable_passed : (passing : Passing) (kind : ValueKind) (x : Text) → 1 ≤ kind_words kind → mutable_meets passing kind (variable_of p scope x) ≡ true
+      → origin_is is_writable (variable_of p scope x) ≡ true → IsPassed γ passing (kind_words kind) (mutable x)
   mutable_passed passings.Value kind x l h w = absurd (true≢false (sym h))
   mutable_passed passings.Shared kind x l h w = absurd (true≢false (sym h))
   mutable_passed passings.Mutable kind x l h w = (lent kind x l h, rule_writes is_writable writes_own x w)
@@ -206,12 +208,14 @@ module _ (p : TProgram) (scope : Scope) (γ : List Named) (all : AllFound p scop
   one_passed q (mutable x) l h w = mutable_passed q.passing q.kind x l h w
 
   -- as many arguments as parameters, each of its form
-  pub all_passed : (qs : List Param) (args : TArgs) → list_any (λ q. has_bad_length q.kind) qs ≡ false → length qs ≡ length (args_list args) → args_meet p scope qs args ≡ true → list_all (arg_lends p scope) (args_list args) ≡ true → ArePassed γ qs args
+  pub all_passed : (qs : List Param) (args : TArgs) → list_any (λ q. has_bad_length q.kind) qs ≡ false → length qs ≡ length (args_list args) → args_meet p scope qs args ≡ true
+      → list_all (arg_lends p scope) (args_list args) ≡ true → ArePassed γ qs args
   all_passed [] no_args long e h w = tt
   all_passed [] (more_args a rest) long e h w = absurd (omega (arith, e))
   all_passed (q ∷ qs) no_args long e h w = absurd (omega (arith, e))
   all_passed (q ∷ qs) (more_args a rest) long e h w =
       let l = some_words q.kind (first_fails (has_bad_length q.kind) (list_any (λ r. has_bad_length r.kind) qs) long) in
       let one = one_passed q a l (first_holds (arg_meets p scope q a) (args_meet p scope qs rest) h) (first_holds (arg_lends p scope a) (list_all (arg_lends p scope) (args_list rest)) w) in
-      let more = all_passed qs rest (second_fails (has_bad_length q.kind) (list_any (λ r. has_bad_length r.kind) qs) long) (omega (arith, e)) (second_holds (arg_meets p scope q a) (args_meet p scope qs rest) h) (second_holds (arg_lends p scope a) (list_all (arg_lends p scope) (args_list rest)) w) in
+      let more = all_passed qs rest (second_fails (has_bad_length q.kind) (list_any (λ r. has_bad_length r.kind) qs) long) (omega (arith, e))
+      (second_holds (arg_meets p scope q a) (args_meet p scope qs rest) h) (second_holds (arg_lends p scope a) (list_all (arg_lends p scope) (args_list rest)) w) in
       (one, more)

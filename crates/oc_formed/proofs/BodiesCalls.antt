@@ -46,7 +46,8 @@ module _ (p : TProgram) (long : LongParams p) (regions : List TRegion) (rank : T
   pub call_is_formed : (c : TCall) → call_known p h.scope c ≡ true → CallFine p h c → Lower p rank own c → call_formed p.names p.functions regions rank own γ c
   call_is_formed (call f args) known fine lower =
       let to : Called p f = name_called p f (first_holds (is_some (function_place p.functions f)) (args_known p h.scope args) known) in
-      let meets : (length to.callee.params == length (args_list args)) && args_meet p h.scope to.callee.params args ≡ true = subst (λ qs. (length qs == length (args_list args)) && args_meet p h.scope qs args ≡ true) (ap params_of (called_named p f to)) fine.meets in
+      let meets : (length to.callee.params == length (args_list args)) && args_meet p h.scope to.callee.params args ≡ true =
+      subst (λ qs. (length qs == length (args_list args)) && args_meet p h.scope qs args ≡ true) (ap params_of (called_named p f to)) fine.meets in
       let same = eqb-true (length to.callee.params) (length (args_list args)) (first_holds (length to.callee.params == length (args_list args)) (args_meet p h.scope to.callee.params args) meets) in
       let each = second_holds (length to.callee.params == length (args_list args)) (args_meet p h.scope to.callee.params args) meets in
       record {
@@ -64,7 +65,8 @@ module _ (p : TProgram) (long : LongParams p) (regions : List TRegion) (rank : T
       ap gives to.meant ∙ sym (ap (λ o. is_some (result_of o)) (called_named p f to)) ∙ has
 
   -- a right side whose calls break no rule is formed
-  pub right_is_formed : (r : TRight) → right_known p h.scope r ≡ true → Each (CallFine p h) (right_calls r) → Each (Gives p) (right_calls r) → Each (Lower p rank own) (right_calls r) → right_formed p.names p.functions regions rank own γ r
+  pub right_is_formed : (r : TRight) → right_known p h.scope r ≡ true → Each (CallFine p h) (right_calls r) → Each (Gives p) (right_calls r)
+      → Each (Lower p rank own) (right_calls r) → right_formed p.names p.functions regions rank own γ r
   right_is_formed (right_value e) known fine has lower = tt
   right_is_formed (right_sense s) known fine has lower = among_known p.names.sensors s known
   right_is_formed (right_call c) known fine has lower =

@@ -52,21 +52,28 @@ result_returned false false h is = is
 
 module _ (p : TProgram) (long : LongParams p) (regions : List TRegion) (rank : Text → ℕ) (f : TFunction) (i : ℕ) where
   -- the body of a function
-  body_is_formed : (γ : List Named) (s : ℕ) (b : TBlock) → BlockMarked regions b → AllFound p (in_function f i).scope γ → BlockInForm AnyName b → KindsCall (Lower p rank (rank f.name)) (block_kinds None b) → AllFine p (block_elements p (in_function f i) b) → (is_some f.result ≡ true → block_returns b ≡ true) → body_formed p.names p.functions regions rank (rank f.name) (is_some f.result) γ s b
+  body_is_formed : (γ : List Named) (s : ℕ) (b : TBlock) → BlockMarked regions b → AllFound p (in_function f i).scope γ → BlockInForm AnyName b
+      → KindsCall (Lower p rank (rank f.name)) (block_kinds None b) → AllFine p (block_elements p (in_function f i) b) → (is_some f.result ≡ true → block_returns b ≡ true)
+      → body_formed p.names p.functions regions rank (rank f.name) (is_some f.result) γ s b
   body_is_formed γ s (block id ss) marked all form calls fine returned =
       let h : Here = record (in_function f i) { block = id } in
       let ends : Ends (is_some f.result) h ss = record { result = λ l. refl; returned = returned } in
       stmts_are_formed p long regions rank (rank f.name) (is_some f.result) 0 h γ s ss ends marked all form calls fine
 
 -- every body is formed, where ranks fall along calls and regions begin and end in the same block
-pub marked_bodies_formed : (p : TProgram) (groups : List Group) → IsChecked p groups → (rank : Text → ℕ) → RanksFall p rank → (regions : List TRegion) → ((i : ℕ) (f : TFunction) → slice_get p.functions i ≡ Some f → BlockMarked regions f.body) → (i : ℕ) (f : TFunction) → slice_get p.functions i ≡ Some f → body_formed p.names p.functions regions rank (rank f.name) (is_some f.result) (function_scope p f) (length f.params + link_words f) f.body
+pub marked_bodies_formed : (p : TProgram) (groups : List Group) → IsChecked p groups → (rank : Text → ℕ) → RanksFall p rank → (regions : List TRegion)
+    → ((i : ℕ) (f : TFunction) → slice_get p.functions i ≡ Some f → BlockMarked regions f.body) → (i : ℕ) (f : TFunction) → slice_get p.functions i ≡ Some f
+    → body_formed p.names p.functions regions rank (rank f.name) (is_some f.result) (function_scope p f) (length f.params + link_words f) f.body
 marked_bodies_formed p groups checked rank falls regions marked i f stands =
     let long : LongParams p = λ j g there. (head_unbroken p j g (function_fine p checked.unbroken checked.form.declared j g there)).long in
     let own = function_fine p checked.unbroken checked.form.declared i f stands in
     let head = head_unbroken p i f own in
-    let form : FunctionInForm AnyName f = subst (FunctionInForm AnyName) (get_or_from_slice_get p.functions i f f stands) (All-get_or (FunctionInForm AnyName) p.functions i f (slice_get_within p.functions i f stands) checked.form.spellable.functions) in
-    body_is_formed p long regions rank f i (function_scope p f) (length f.params + link_words f) f.body (marked i f stands) (start_found p f checked.form.spellable.nv head.free) form.body (each_kind (Lower p rank (rank f.name)) (block_kinds None f.body) (falls i f stands)) own.body (result_returned (is_some f.result) (block_returns f.body) head.returns)
+    let form : FunctionInForm AnyName f = subst (FunctionInForm AnyName) (get_or_from_slice_get p.functions i f f stands)
+    (All-get_or (FunctionInForm AnyName) p.functions i f (slice_get_within p.functions i f stands) checked.form.spellable.functions) in
+    body_is_formed p long regions rank f i (function_scope p f) (length f.params + link_words f) f.body (marked i f stands) (start_found p f checked.form.spellable.nv head.free)
+    form.body (each_kind (Lower p rank (rank f.name)) (block_kinds None f.body) (falls i f stands)) own.body (result_returned (is_some f.result) (block_returns f.body) head.returns)
 
 -- the same without regions
-pub bodies_formed : (p : TProgram) (groups : List Group) → IsChecked p groups → (rank : Text → ℕ) → RanksFall p rank → (i : ℕ) (f : TFunction) → slice_get p.functions i ≡ Some f → body_formed p.names p.functions [] rank (rank f.name) (is_some f.result) (function_scope p f) (length f.params + link_words f) f.body
+pub bodies_formed : (p : TProgram) (groups : List Group) → IsChecked p groups → (rank : Text → ℕ) → RanksFall p rank → (i : ℕ) (f : TFunction) → slice_get p.functions i ≡ Some f
+    → body_formed p.names p.functions [] rank (rank f.name) (is_some f.result) (function_scope p f) (length f.params + link_words f) f.body
 bodies_formed p groups checked rank falls = marked_bodies_formed p groups checked rank falls [] (λ i f stands. block_unmarked f.body)

@@ -27,7 +27,8 @@ one_word (Some scalars.Int) = refl
 one_word (Some scalars.Bool) = refl
 
 -- what is visible behind a statement is found there
-pub found_behind : (p : TProgram) (h : Here) (γ : List Named) (id s : ℕ) (k : TKind) (rest : TStmts) → takes_name p h.scope k ≡ false → AllFound p h.scope γ → AllFound p (scope_after p h id k) (in_scope k s rest γ)
+pub found_behind : (p : TProgram) (h : Here) (γ : List Named) (id s : ℕ) (k : TKind) (rest : TStmts) → takes_name p h.scope k ≡ false → AllFound p h.scope γ
+    → AllFound p (scope_after p h id k) (in_scope k s rest γ)
 found_behind p h γ id s (let_to m x t r) rest free all =
     let kind = kind_of (right_type p h.scope r) in
     let one : Finds (let_named x s 1 rest) (let_var h id m kind) = record { words = one_word (right_type p h.scope r); reference = refl; writable = refl } in
@@ -38,7 +39,8 @@ found_behind p h γ id s (let_array m x t z n) rest free all =
 found_behind p h γ id s k rest free all = all
 
 -- what is visible in the body of a `for` is found there
-pub found_inside : (p : TProgram) (h : Here) (γ : List Named) (s : ℕ) (x : Text) (from to : ℤ) (b : TBlock) → takes_name p h.scope (for_in x from to b) ≡ false → AllFound p h.scope γ → AllFound p (in_turn h x).scope (for_named x s ∷ γ)
+pub found_inside : (p : TProgram) (h : Here) (γ : List Named) (s : ℕ) (x : Text) (from to : ℤ) (b : TBlock) → takes_name p h.scope (for_in x from to b) ≡ false
+    → AllFound p h.scope γ → AllFound p (in_turn h x).scope (for_named x s ∷ γ)
 found_inside p h γ s x from to b free all =
     let one : Finds (for_named x s) turn_var = record { words = refl; reference = refl; writable = refl } in
     found_more p h.scope γ turn_var (for_named x s) one free all

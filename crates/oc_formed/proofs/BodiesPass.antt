@@ -54,7 +54,8 @@ all_fine : (p : TProgram) (n : Tally) (es : List Element) → first_broken p n e
 all_fine p n [] h = tt
 all_fine p n (e ∷ es) h = by (lowest (rules_of p (counted n e) e)) refl (all_fine p (counted n e) es) h
   where
-    by : (o : Option ℕ) → lowest (rules_of p (counted n e) e) ≡ o → (first_broken p (counted n e) es ≡ None → AllFine p es) → or_later (line_of e) o (first_broken p (counted n e) es) ≡ None → AllFine p (e ∷ es)
+    by : (o : Option ℕ) → lowest (rules_of p (counted n e) e) ≡ o → (first_broken p (counted n e) es ≡ None → AllFine p es)
+        → or_later (line_of e) o (first_broken p (counted n e) es) ≡ None → AllFine p (e ∷ es)
     by None is rest none = ((counted n e, is), rest none)
     by (Some rule) is rest none = let some : ◌≡◌ {A = Option Broken} (Some (record { line = line_of e; rule = rule })) None = none in absurd (cc)
 
@@ -98,7 +99,8 @@ module _ (p : TProgram) (i : ℕ) (f : TFunction) (stands : slice_get p.function
       }
 
   -- the next declaration is the function's, or it stands before it
-  by_kind : (b : Before) (line n : ℕ) (ds : List Decl) (k : DeclKind) → Finds (after_item b k) ds → AllFine p (item_elements p b line k ++ order_elements p (after_item b k) ds) → b.functions ≤ i → n ≡ cond {A = ℕ} (is_function k) 1 0 + count_by (λ d. is_function d.kind) ds → i < b.functions + n → FunctionFine p i f
+  by_kind : (b : Before) (line n : ℕ) (ds : List Decl) (k : DeclKind) → Finds (after_item b k) ds → AllFine p (item_elements p b line k ++ order_elements p (after_item b k) ds)
+      → b.functions ≤ i → n ≡ cond {A = ℕ} (is_function k) 1 0 + count_by (λ d. is_function d.kind) ds → i < b.functions + n → FunctionFine p i f
   by_kind b line n ds decls.Sensor rest h l e g = rest (fine_back p (item_elements p b line decls.Sensor) _ h) l (omega (arith, e, g))
   by_kind b line n ds decls.Port rest h l e g = rest (fine_back p (item_elements p b line decls.Port) _ h) l (omega (arith, e, g))
   by_kind b line n ds decls.Nv rest h l e g = rest (fine_back p (item_elements p b line decls.Nv) _ h) l (omega (arith, e, g))

@@ -51,7 +51,8 @@ called_from : (n : ℕ) (fs : List TFunction) (x : Text) → is_some (place_from
 called_from n [] x h = absurd (true≢false (sym h))
 called_from n (f ∷ fs) x h = by (bytes_eq x f.name) refl (called_from (n + 1) fs x) h
   where
-    by : (b : Bool) → bytes_eq x f.name ≡ b → (is_some (place_from (n + 1) (function_names fs) x) ≡ true → CalledFrom (n + 1) fs x) → is_some (cond b (Some n) (place_from (n + 1) (function_names fs) x)) ≡ true → CalledFrom n (f ∷ fs) x
+    by : (b : Bool) → bytes_eq x f.name ≡ b → (is_some (place_from (n + 1) (function_names fs) x) ≡ true → CalledFrom (n + 1) fs x)
+        → is_some (cond b (Some n) (place_from (n + 1) (function_names fs) x)) ≡ true → CalledFrom n (f ∷ fs) x
     by true is rest e =
         let first : n ≡ n + 0 = omega arith in
         record {

@@ -2,7 +2,8 @@
 use Rattle.std.proofs.Common.{arith, ◌≡◌, ℕ, ◌+◌, Bool, true, false, true≢false, List, [], ◌∷◌, ◌++◌, None, cond, refl, sym, subst, ◌∙◌}
 use Rattle.std.specs.Prelude.{is_some, not, ◌&&◌}
 use Rattle.oc_tree.specs.Names.{Text}
-use Rattle.oc_tree.specs.Tree.{TExpr, TRight, TKind, let_to, let_array, assign, assign_index, assign_deref, if_else, for_in, while_do, call_only, sense_only, emit, fresh, consistent, return, TElse, no_else, else_do, stmt, TBlock, block, TStmts, no_stmts, more, TProgram}
+use Rattle.oc_tree.specs.Tree.{TExpr, TRight, TKind, let_to, let_array, assign, assign_index, assign_deref, if_else, for_in, while_do, call_only, sense_only, emit, fresh}
+use Rattle.oc_tree.specs.Tree.{consistent, return, TElse, no_else, else_do, stmt, TBlock, block, TStmts, no_stmts, more, TProgram}
 use Rattle.oc_tree.specs.Checked.{AnyName}
 use Rattle.oc_tree.specs.Marked.{TRegion}
 use Rattle.oc_tree.specs.Form.{KindInForm, ElseInForm, BlockInForm, StmtsInForm}
@@ -70,7 +71,8 @@ module _ (p : TProgram) (long : LongParams p) (regions : List TRegion) (rank : T
   Calls ks = KindsCall (Lower p rank own) ks
 
   -- a `return` is the last statement of a function with a result
-  return_formed : (gives : Bool) (inside : ℕ) (h : Here) (γ : List Named) (s n line : ℕ) (e : TExpr) (rest : TStmts) → Ends gives h (more (stmt n line (return e)) rest) → Unbroken p (before_stmts h rest) (return e) → StmtsMarked regions inside (more (stmt n line (return e)) rest) → StmtsFormed gives inside γ s (more (stmt n line (return e)) rest)
+  return_formed : (gives : Bool) (inside : ℕ) (h : Here) (γ : List Named) (s n line : ℕ) (e : TExpr) (rest : TStmts) → Ends gives h (more (stmt n line (return e)) rest)
+      → Unbroken p (before_stmts h rest) (return e) → StmtsMarked regions inside (more (stmt n line (return e)) rest) → StmtsFormed gives inside γ s (more (stmt n line (return e)) rest)
   return_formed gives inside h γ s n line e rest ends u marked =
       let both = is_so ((h.last && is_end rest) && is_same h.function.result (type_of p h.scope e)) u.returns in
       let last = first_holds (h.last && is_end rest) (is_same h.function.result (type_of p h.scope e)) both in
@@ -80,7 +82,9 @@ module _ (p : TProgram) (long : LongParams p) (regions : List TRegion) (rank : T
       (ends.result (first_holds h.last (is_end rest) last) ∙ same_left h.function.result (type_of p h.scope e) same, omega (arith, none, marked.2), is_last rest end)
 
   -- a statement and those behind it
-  step_formed : (gives : Bool) (inside : ℕ) (h : Here) (γ : List Named) (s n line : ℕ) (k : TKind) (rest : TStmts) → Ends gives h (more (stmt n line k) rest) → Unbroken p (before_stmts h rest) k → (marked : StmtsMarked regions inside (more (stmt n line k) rest)) → (returns k ≡ false → KindFormed γ s k) → (returns k ≡ false → StmtsFormed gives marked.1 (in_scope k s rest γ) (s + kind_slots k) rest) → StmtsFormed gives inside γ s (more (stmt n line k) rest)
+  step_formed : (gives : Bool) (inside : ℕ) (h : Here) (γ : List Named) (s n line : ℕ) (k : TKind) (rest : TStmts) → Ends gives h (more (stmt n line k) rest)
+      → Unbroken p (before_stmts h rest) k → (marked : StmtsMarked regions inside (more (stmt n line k) rest)) → (returns k ≡ false → KindFormed γ s k)
+      → (returns k ≡ false → StmtsFormed gives marked.1 (in_scope k s rest γ) (s + kind_slots k) rest) → StmtsFormed gives inside γ s (more (stmt n line k) rest)
   step_formed gives inside h γ s n line (return e) rest ends u marked one behind = return_formed gives inside h γ s n line e rest ends u marked
   step_formed gives inside h γ s n line k rest ends u marked one behind = (one refl, marked.1, marked.2, behind refl)
 
@@ -117,7 +121,8 @@ module _ (p : TProgram) (long : LongParams p) (regions : List TRegion) (rank : T
 
   mutual
     -- a statement but a `return`
-    kind_is_formed : (h : Here) (γ : List Named) (s : ℕ) (k : TKind) → returns k ≡ false → KindMarked regions k → AllFound p h.scope γ → KindInForm AnyName k → Calls (kind_kinds None k) → Unbroken p h k → AllFine p (kind_elements p h k) → KindFormed γ s k
+    kind_is_formed : (h : Here) (γ : List Named) (s : ℕ) (k : TKind) → returns k ≡ false → KindMarked regions k → AllFound p h.scope γ → KindInForm AnyName k
+        → Calls (kind_kinds None k) → Unbroken p h k → AllFine p (kind_elements p h k) → KindFormed γ s k
     kind_is_formed h γ s (let_to m x t r) other marked all form calls u fine = right_is_formed p long regions rank own h γ all r u.known u.calls u.gives calls.0
     kind_is_formed h γ s (let_array m x t z n) other marked all form calls u fine = array_length m x t z n u.lengths
     kind_is_formed h γ s (assign x r) other marked all form calls u fine = assign_formed h γ s all x r calls.0 u
@@ -127,8 +132,11 @@ module _ (p : TProgram) (long : LongParams p) (regions : List TRegion) (rank : T
         let xs = block_elements p (inside h) a in
         let ys = else_elements p (inside h) b in
         let first = kinds_front (Lower p rank own) (block_kinds None a) (else_kinds None b) calls.1 in
-        let second = kinds_back (Lower p rank own) (block_kinds None a) (else_kinds None b) calls.1 in
-        (block_is_formed (inside h) γ s a refl marked.0 all form.1 first (fine_front p xs ys fine), else_is_formed (inside h) γ (s + block_slots a) b refl marked.1 all form.2 second (fine_back p xs ys fine))
+        let second = kinds_back (Lower p rank own) (block_kinds None a) (else_kinds None b) calls.1 in (
+          block_is_formed (inside h) γ s a refl marked.0 all form.1 first (fine_front p xs ys fine),
+          else_is_formed (inside h) γ (s + block_slots a) b refl marked.1 all form.2
+              second (fine_back p xs ys fine),
+        )
     kind_is_formed h γ s (for_in x c d b) other marked all form calls u fine =
         (const_word c form.1, const_word d form.2, block_is_formed (in_turn h x) (for_named x s ∷ γ) (s + 1) b refl marked (found_inside p h γ s x c d b u.taken all) form.3 calls.1 fine)
     kind_is_formed h γ s (while_do c n b) other marked all form calls u fine =
@@ -142,16 +150,20 @@ module _ (p : TProgram) (long : LongParams p) (regions : List TRegion) (rank : T
     kind_is_formed h γ s (return e) other marked all form calls u fine = absurd (true≢false other)
 
     -- what stands behind `else`
-    else_is_formed : (h : Here) (γ : List Named) (s : ℕ) (b : TElse) → h.last ≡ false → ElseMarked regions b → AllFound p h.scope γ → ElseInForm AnyName b → Calls (else_kinds None b) → AllFine p (else_elements p h b) → else_formed p.names p.functions regions rank own γ s b
+    else_is_formed : (h : Here) (γ : List Named) (s : ℕ) (b : TElse) → h.last ≡ false → ElseMarked regions b → AllFound p h.scope γ → ElseInForm AnyName b
+        → Calls (else_kinds None b) → AllFine p (else_elements p h b) → else_formed p.names p.functions regions rank own γ s b
     else_is_formed h γ s no_else later marked all form calls fine = tt
     else_is_formed h γ s (else_do b) later marked all form calls fine = block_is_formed h γ s b later marked all form calls fine
 
     -- a block of a statement
-    block_is_formed : (h : Here) (γ : List Named) (s : ℕ) (b : TBlock) → h.last ≡ false → BlockMarked regions b → AllFound p h.scope γ → BlockInForm AnyName b → Calls (block_kinds None b) → AllFine p (block_elements p h b) → block_formed p.names p.functions regions rank own γ s b
-    block_is_formed h γ s (block id ss) later marked all form calls fine = stmts_are_formed false 0 (record h { block = id }) γ s ss (ends_inside (record h { block = id }) ss later) marked all form calls fine
+    block_is_formed : (h : Here) (γ : List Named) (s : ℕ) (b : TBlock) → h.last ≡ false → BlockMarked regions b → AllFound p h.scope γ → BlockInForm AnyName b
+        → Calls (block_kinds None b) → AllFine p (block_elements p h b) → block_formed p.names p.functions regions rank own γ s b
+    block_is_formed h γ s (block id ss) later marked all form calls fine =
+        stmts_are_formed false 0 (record h { block = id }) γ s ss (ends_inside (record h { block = id }) ss later) marked all form calls fine
 
     -- the statements of a block, in front of which `inside` regions are open
-    pub stmts_are_formed : (gives : Bool) (inside : ℕ) (h : Here) (γ : List Named) (s : ℕ) (ss : TStmts) → Ends gives h ss → StmtsMarked regions inside ss → AllFound p h.scope γ → StmtsInForm AnyName ss → Calls (stmts_kinds None ss) → AllFine p (stmts_elements p h ss) → StmtsFormed gives inside γ s ss
+    pub stmts_are_formed : (gives : Bool) (inside : ℕ) (h : Here) (γ : List Named) (s : ℕ) (ss : TStmts) → Ends gives h ss → StmtsMarked regions inside ss → AllFound p h.scope γ
+        → StmtsInForm AnyName ss → Calls (stmts_kinds None ss) → AllFine p (stmts_elements p h ss) → StmtsFormed gives inside γ s ss
     stmts_are_formed gives inside h γ s no_stmts ends marked all form calls fine = (gives_no_more gives ends.returned, marked)
     stmts_are_formed gives inside h γ s (more (stmt n line k) rest) ends marked all form calls fine =
         let here = before_stmts h rest in
@@ -163,4 +175,5 @@ module _ (p : TProgram) (long : LongParams p) (regions : List TRegion) (rank : T
         let parts = calls_behind (Lower p rank own) k n line rest calls in
         step_formed gives inside h γ s n line k rest ends u marked
         (λ other. kind_is_formed here γ s k other marked.0 all form.0 parts.0 u one.1)
-        (λ other. stmts_are_formed gives marked.1 next (in_scope k s rest γ) (s + kind_slots k) rest (ends_behind gives h n line k rest other ends) marked.3 (found_behind p h γ n s k rest u.taken all) form.1 parts.1 (fine_back p xs ys fine))
+        (λ other. stmts_are_formed gives marked.1 next (in_scope k s rest γ) (s + kind_slots k) rest (ends_behind gives h n line k rest other ends) marked.3
+        (found_behind p h γ n s k rest u.taken all) form.1 parts.1 (fine_back p xs ys fine))

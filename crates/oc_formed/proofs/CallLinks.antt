@@ -6,7 +6,8 @@ use Rattle.std.specs.List.{list_any, flat_map}
 use Rattle.std.proofs.lemmas.List.{map-append, length-map}
 use Rattle.std.proofs.lemmas.Bool.{eqb-true}
 use Rattle.oc_tree.specs.Names.{Text}
-use Rattle.oc_tree.specs.Tree.{TCall, TKind, let_to, let_array, assign, assign_index, assign_deref, if_else, for_in, while_do, call_only, sense_only, emit, fresh, consistent, return, TElse, no_else, else_do, stmt, TBlock, block, TStmts, no_stmts, more, TFunction, TProgram}
+use Rattle.oc_tree.specs.Tree.{TCall, TKind, let_to, let_array, assign, assign_index, assign_deref, if_else, for_in, while_do, call_only, sense_only, emit, fresh, consistent}
+use Rattle.oc_tree.specs.Tree.{return, TElse, no_else, else_do, stmt, TBlock, block, TStmts, no_stmts, more, TFunction, TProgram}
 use Rattle.oc_tree.specs.Calls.{place, place_from, callee, own_calls, kind_hides, kind_kinds, else_kinds, block_kinds, stmts_kinds, body_calls, called_places, links_from, function_names, call_links}
 use Rattle.oc_tree.specs.Reach.{Links, linked, is_link}
 use Rattle.oc_tree.specs.Elements.{Here, inside, in_turn, before_stmts, after_stmt, stmt_elements, kind_elements, else_elements, block_elements, stmts_elements, in_function}
@@ -113,7 +114,8 @@ module _ (p : TProgram) (u : ℕ) (P : TCall → Type 0) (gives : (h : Here) →
         let own = fine_front p (stmt_elements p here (stmt id line k)) (stmts_elements p (after_stmt p h (stmt id line k)) ss) f in
         let rest = fine_back p (stmt_elements p here (stmt id line k)) (stmts_elements p (after_stmt p h (stmt id line k)) ss) f in
         let calls = each_so here e (own_calls k) (unbroken p own.0.0 here k own.0.1).calls in
-        subst (λ b. KindsCall P (kind_kinds None k ++ cond b [] (stmts_kinds None ss))) (sym (none_hides k)) (kinds_join P (kind_kinds None k) (stmts_kinds None ss) (kind_so here e k calls own.1) (stmts_so (after_stmt p h (stmt id line k)) e ss rest))
+        subst (λ b. KindsCall P (kind_kinds None k ++ cond b [] (stmts_kinds None ss))) (sym (none_hides k))
+        (kinds_join P (kind_kinds None k) (stmts_kinds None ss) (kind_so here e k calls own.1) (stmts_so (after_stmt p h (stmt id line k)) e ss rest))
 
   -- what holds of each call that breaks no rule holds of all calls of the body of function u
   pub body_so : (f : TFunction) → AllFine p (block_elements p (in_function f u) f.body) → KindsCall P (block_kinds None f.body)
@@ -163,7 +165,8 @@ module _ (p : TProgram) where
   names = function_names p.functions
 
   -- of the links of one call from the function w
-  one_link : (w : ℕ) (r : Option ℕ) (x : Text) (u v : ℕ) → place names x ≡ r → at_place (back_to p w) r ≡ false → linked (map (λ a. (w, a)) (option_to_list r)) u v ≡ true → (w ≡ u) × (v < length names) × (back_to p w v ≡ false)
+  one_link : (w : ℕ) (r : Option ℕ) (x : Text) (u v : ℕ) → place names x ≡ r → at_place (back_to p w) r ≡ false → linked (map (λ a. (w, a)) (option_to_list r)) u v ≡ true
+      → (w ≡ u) × (v < length names) × (back_to p w v ≡ false)
   one_link w None x u v is away h = absurd (true≢false (sym h))
   one_link w (Some i) x u v is away h = or_elim (is_link u v (w, i)) false h
       (λ k.
@@ -184,12 +187,14 @@ module _ (p : TProgram) where
       (λ k. row_link w cs u v away.1 k)
 
   -- of the links of functions of which the first is the function w
-  from_link : (w : ℕ) (fs : List TFunction) (u v : ℕ) → ((j : ℕ) (f : TFunction) → slice_get fs j ≡ Some f → Each (Away p (w + j)) (body_calls f)) → linked (links_from names w fs) u v ≡ true → (u < w + length fs) × (v < length names) × (back_to p u v ≡ false)
+  from_link : (w : ℕ) (fs : List TFunction) (u v : ℕ) → ((j : ℕ) (f : TFunction) → slice_get fs j ≡ Some f → Each (Away p (w + j)) (body_calls f))
+      → linked (links_from names w fs) u v ≡ true → (u < w + length fs) × (v < length names) × (back_to p u v ≡ false)
   from_link w [] u v away h = absurd (true≢false (sym h))
   from_link w (f ∷ fs) u v away h =
       let first : Links = map (λ a. (w, a)) (called_places names (body_calls f)) in
       let here : Each (Away p w) (body_calls f) = let n : w + 0 ≡ w = omega arith in subst (λ m. Each (Away p m) (body_calls f)) n (away 0 f refl) in
-      let next : (j : ℕ) (g : TFunction) → slice_get fs j ≡ Some g → Each (Away p (w + 1 + j)) (body_calls g) = λ j g e. let n : w + suc j ≡ w + 1 + j = omega arith in subst (λ m. Each (Away p m) (body_calls g)) n (away (suc j) g e) in
+      let next : (j : ℕ) (g : TFunction) → slice_get fs j ≡ Some g → Each (Away p (w + 1 + j)) (body_calls g) = λ j g e. let n : w + suc j ≡ w + 1 + j = omega arith in
+      subst (λ m. Each (Away p m) (body_calls g)) n (away (suc j) g e) in
       or_elim (linked first u v) (linked (links_from names (w + 1) fs) u v) (sym (any_append (is_link u v) first (links_from names (w + 1) fs)) ∙ h)
       (λ k. let q : (w ≡ u) × (v < length names) × (back_to p w v ≡ false) = row_link w (body_calls f) u v here k in (omega (arith, q.0), q.1, subst (λ n. back_to p n v ≡ false) q.0 q.2))
       (λ k. let q : (u < w + 1 + length fs) × (v < length names) × (back_to p u v ≡ false) = from_link (w + 1) fs u v next k in (omega (arith, q.0), q.1, q.2))

@@ -42,19 +42,22 @@ module _ (names : List Text) where
       let own : Links = map (λ a. (w, a)) (option_to_list (place names (callee c))) in
       let rest : Links = map (λ a. (w, a)) (called_places names cs) in
       let whole : Links = map (λ a. (w, a)) (called_places names (c ∷ cs)) in
-      let split : (v : ℕ) → linked whole w v ≡ linked own w v || linked rest w v = λ v. ap (λ l. linked l w v) (map-append (λ a. (w, a)) (option_to_list (place names (callee c))) (called_places names cs)) ∙ any_append (is_link w v) own rest in
+      let split : (v : ℕ) → linked whole w v ≡ linked own w v || linked rest w v =
+      λ v. ap (λ l. linked l w v) (map-append (λ a. (w, a)) (option_to_list (place names (callee c))) (called_places names cs)) ∙ any_append (is_link w v) own rest in
       let first : LinkedIn whole w c = λ v e.
       let one : linked own w v ≡ true = ap (λ o. linked (map (λ a. (w, a)) (option_to_list o)) w v) e ∙ or_left (is_link w v (w, v)) false (itself w v) in
       split v ∙ or_left (linked own w v) (linked rest w v) one in
       (first, each_map (LinkedIn rest w) (LinkedIn whole w) (λ d h v e. split v ∙ or_right (linked own w v) (linked rest w v) (h v e)) cs (row_linked w cs))
 
   -- the links of one function are among those of all
-  from_linked : (w : ℕ) (fs : List TFunction) (j : ℕ) (f : TFunction) (u v : ℕ) → slice_get fs j ≡ Some f → linked (map (λ a. (w + j, a)) (called_places names (body_calls f))) u v ≡ true → linked (links_from names w fs) u v ≡ true
+  from_linked : (w : ℕ) (fs : List TFunction) (j : ℕ) (f : TFunction) (u v : ℕ) → slice_get fs j ≡ Some f → linked (map (λ a. (w + j, a)) (called_places names (body_calls f))) u v
+      ≡ true → linked (links_from names w fs) u v ≡ true
   from_linked w [] j f u v e h = absurd (none-some f e)
   from_linked w (g ∷ fs) zero f u v e h =
       let own : Links = map (λ a. (w, a)) (called_places names (body_calls g)) in
       let at : w + 0 ≡ w = omega arith in
-      let here : linked own u v ≡ true = subst (λ m. linked (map (λ a. (m, a)) (called_places names (body_calls g))) u v ≡ true) at (subst (λ k. linked (map (λ a. (w + 0, a)) (called_places names (body_calls k))) u v ≡ true) (sym (same_Some g f e)) h) in
+      let here : linked own u v ≡ true = subst (λ m. linked (map (λ a. (m, a)) (called_places names (body_calls g))) u v ≡ true) at
+      (subst (λ k. linked (map (λ a. (w + 0, a)) (called_places names (body_calls k))) u v ≡ true) (sym (same_Some g f e)) h) in
       any_append (is_link u v) own (links_from names (w + 1) fs) ∙ or_left (linked own u v) (linked (links_from names (w + 1) fs) u v) here
   from_linked w (g ∷ fs) (suc j) f u v e h =
       let own : Links = map (λ a. (w, a)) (called_places names (body_calls g)) in
@@ -78,7 +81,8 @@ module _ (p : TProgram) (unbroken : broken p ≡ None) (declared : DeclaredInOrd
       let own : rank_of fs f.name ≡ rank (call_links fs) (length fs) u = ap (rank_at fs) (own_place p within u f e) in
       let linked_so = LinkedIn names (map (λ a. (u, a)) (called_places names (body_calls f))) u in
       let lower : (c : TCall) → LinkedIn names (map (λ a. (u, a)) (called_places names (body_calls f))) u c → Lower p (rank_of fs) (rank_of fs f.name) c = λ c linked_in v at.
-      let link : linked (call_links fs) u v ≡ true = from_linked names 0 fs u f u v e (subst (λ m. linked (map (λ a. (m, a)) (called_places names (body_calls f))) u v ≡ true) (sym start) (linked_in v at)) in
+      let link : linked (call_links fs) u v ≡ true =
+      from_linked names 0 fs u f u v e (subst (λ m. linked (map (λ a. (m, a)) (called_places names (body_calls f))) u v ≡ true) (sym start) (linked_in v at)) in
       omega (arith, falls (call_links fs) (length fs) onwards u v link, own, ap (rank_at fs) at) in
       each_map linked_so (Lower p (rank_of fs) (rank_of fs f.name)) lower (body_calls f) (row_linked names u (body_calls f))
 

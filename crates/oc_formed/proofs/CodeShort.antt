@@ -43,7 +43,9 @@ module _ (p : TProgram) (within : AllWithin p) where
   -- as many arguments as parameters
   few_args : (h : Here) (c : TCall) → CallFine p h c → FewArgs c
   few_args h c fine =
-      let same : length (callee_params p c) ≡ length (call_args c) = eqb-true (length (callee_params p c)) (length (call_args c)) (first_holds (length (callee_params p c) == length (call_args c)) (args_meet p h.scope (callee_params p c) (args_of_call c)) fine.meets) in
+      let same : length (callee_params p c) ≡ length (call_args c) =
+      eqb-true (length (callee_params p c)) (length (call_args c))
+      (first_holds (length (callee_params p c) == length (call_args c)) (args_meet p h.scope (callee_params p c) (args_of_call c)) fine.meets) in
       let few : length (callee_params p c) ≤ 8 = few_params (function_place p.functions (callee c)) in
       omega (arith, same, few)
 
@@ -58,19 +60,31 @@ module _ (p : TProgram) (within : AllWithin p) where
         go false false = omega arith
 
     -- the code of functions
-    functions_short : (at : ℕ) (gs : List TFunction) → ((j : ℕ) (f : TFunction) → slice_get gs j ≡ Some f → KindsCall FewArgs (block_kinds None f.body)) → length (functions_code p regions at gs) ≤ 4 * sum_by (λ f. block_nodes f.body) gs + 20 * sum_by (λ f. block_size f.body) gs + length gs
+    functions_short : (at : ℕ) (gs : List TFunction) → ((j : ℕ) (f : TFunction) → slice_get gs j ≡ Some f → KindsCall FewArgs (block_kinds None f.body))
+        → length (functions_code p regions at gs) ≤ 4 * sum_by (λ f. block_nodes f.body) gs + 20 * sum_by (λ f. block_size f.body) gs + length gs
     functions_short at [] few = omega arith
     functions_short at (f ∷ gs) few =
         let body = body_code p regions at f in
         let fc = function_code p regions at f in
         let own = block_short p.names p.functions regions (length f.params) (function_scope p f) (length f.params + link_words f) at f.body (few 0 f refl) in
         let others = functions_short (at + length fc) gs (λ j g e. few (suc j) g e) in
-        omega (arith, length-append fc (functions_code p regions (at + length fc) gs), length-append body (close_code f), close_short f, own, others, sum_by-cons (λ f. block_nodes f.body) f gs, sum_by-cons (λ f. block_size f.body) f gs)
+        omega (
+          arith,
+          length-append fc (functions_code p regions (at + length fc) gs),
+          length-append body (close_code f),
+          close_short f,
+          own,
+          others,
+          sum_by-cons
+              (λ f. block_nodes f.body) f gs,
+          sum_by-cons (λ f. block_size f.body) f gs,
+        )
 
     -- the code of a program
     pub code_short : broken p ≡ None → DeclaredInOrder p → program_nodes p ≤ 2097152 → length (functions_code p regions 0 p.functions) < 2 ^ 31
     code_short unbroken declared nodes =
-        let each : (j : ℕ) (f : TFunction) → slice_get p.functions j ≡ Some f → KindsCall FewArgs (block_kinds None f.body) = λ j f e. body_so p j FewArgs (λ h number c fine. few_args h c fine) f (function_fine p unbroken declared j f e).body in
+        let each : (j : ℕ) (f : TFunction) → slice_get p.functions j ≡ Some f → KindsCall FewArgs (block_kinds None f.body) =
+        λ j f e. body_so p j FewArgs (λ h number c fine. few_args h c fine) f (function_fine p unbroken declared j f e).body in
         let whole = functions_short 0 p.functions each in
         let statements : program_size p ≤ 8192 = few_statements p declared (unbroken_element p unbroken) in
         let functions = few_functions p within in

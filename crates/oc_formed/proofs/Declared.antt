@@ -1,13 +1,15 @@
 -- What the rules say of the declarations of a program that breaks none: they are few, their arrays are of a fit length,
 -- and the names of functions are new.
-use Rattle.std.proofs.Common.{◌≡◌, ◌<◌, ◌≤◌, ℕ, zero, suc, ◌+◌, Bool, true, false, true≢false, ◌||◌, List, [], ◌∷◌, ◌++◌, length, drop, sum_by, count_by, Some, None, cond, refl, ap, sym, subst, ◌∙◌, arith}
+use Rattle.std.proofs.Common.{◌≡◌, ◌<◌, ◌≤◌, ℕ, zero, suc, ◌+◌, Bool, true, false, true≢false, ◌||◌, List, [], ◌∷◌, ◌++◌, length, drop, sum_by, count_by, Some, None, cond, refl}
+use Rattle.std.proofs.Common.{ap, sym, subst, ◌∙◌, arith}
 use Rattle.std.specs.Prelude.{slice_get, nat_le, nat_lt}
 use Rattle.std.proofs.lemmas.Bool.{leb-false, ltb-false, ltb-true}
 use Rattle.std.proofs.Math.Dec.{ltb}
 use Rattle.std.proofs.lemmas.Option.{none-some, same_Some}
 use Rattle.std.proofs.lemmas.List.Sums.{sum_by-cons}
 use Rattle.oc_tree.specs.Names.{Text}
-use Rattle.oc_tree.specs.Tree.{TKind, let_to, let_array, assign, assign_index, assign_deref, if_else, for_in, while_do, call_only, sense_only, emit, fresh, consistent, return, TElse, no_else, else_do, TStmt, stmt, TBlock, block, TStmts, no_stmts, more, TFunction, TProgram}
+use Rattle.oc_tree.specs.Tree.{TKind, let_to, let_array, assign, assign_index, assign_deref, if_else, for_in, while_do, call_only, sense_only, emit, fresh, consistent, return}
+use Rattle.oc_tree.specs.Tree.{TElse, no_else, else_do, TStmt, stmt, TBlock, block, TStmts, no_stmts, more, TFunction, TProgram}
 use Rattle.oc_tree.specs.declared.before.Before.{Before}
 use Rattle.oc_tree.specs.declared.tree.Decl.{Decl}
 use Rattle.oc_tree.specs.declared.tree.DeclKind.{DeclKind}
@@ -16,7 +18,9 @@ use Rattle.oc_tree.specs.declared.tree.NvDecl.{NvDecl}
 use Rattle.oc_tree.specs.Form.{is_sensor, is_port, is_nv, is_function, DeclaredInOrder}
 use Rattle.oc_tree.specs.Calls.{place, function_place}
 use Rattle.oc_tree.specs.Scope.{nv_kind}
-use Rattle.oc_tree.specs.Elements.{sensor_item, port_item, nv_item, function_item, Here, Element, declared, statement, ending, inside, in_turn, before_stmts, after_stmt, kind_elements, else_elements, stmt_elements, block_elements, stmts_elements, in_function, named_element, nv_element, function_elements, item_elements, after_item, order_elements, nothing_before}
+use Rattle.oc_tree.specs.Elements.{sensor_item, port_item, nv_item, function_item, Here, Element, declared, statement, ending, inside, in_turn, before_stmts, after_stmt}
+use Rattle.oc_tree.specs.Elements.{kind_elements, else_elements, stmt_elements, block_elements, stmts_elements, in_function, named_element, nv_element, function_elements}
+use Rattle.oc_tree.specs.Elements.{item_elements, after_item, order_elements, nothing_before}
 use Rattle.oc_tree.specs.Limits.{Tally, nothing_counted, counted, with_item}
 use Rattle.oc_tree.specs.Rules.{stands_before, declared_before, main_head, main_missing, has_bad_length}
 use Rattle.oc_tree.specs.Broken.{item_rules, end_rules, first_broken, broken}
@@ -103,7 +107,8 @@ module _ (p : TProgram) where
     -- statements
     stmts_no_words : (h : Here) (ss : TStmts) → NoWords (stmts_elements p h ss)
     stmts_no_words h no_stmts n = refl
-    stmts_no_words h (more s ss) n = no_words_join (stmt_elements p (before_stmts h ss) s) (stmts_elements p (after_stmt p h s) ss) (stmt_no_words (before_stmts h ss) s) (stmts_no_words (after_stmt p h s) ss) n
+    stmts_no_words h (more s ss) n = no_words_join (stmt_elements p (before_stmts h ss) s) (stmts_elements p (after_stmt p h s) ss) (stmt_no_words (before_stmts h ss) s)
+        (stmts_no_words (after_stmt p h s) ss) n
 
 -- ---- the declarations one after the other
 
@@ -155,7 +160,8 @@ module _ (p : TProgram) (each : length p.nv ≡ length p.names.nvs) where
   Clean n es = first_broken p n es ≡ None
 
   -- one more sensor
-  sensor_within : (n : Tally) (b : Before) (line : ℕ) → Clean n (item_elements p b line decls.Sensor) → b.sensors < length p.names.sensors → Within p n b → Within p (tally n (item_elements p b line decls.Sensor)) (after_item b decls.Sensor)
+  sensor_within : (n : Tally) (b : Before) (line : ℕ) → Clean n (item_elements p b line decls.Sensor) → b.sensors < length p.names.sensors → Within p n b
+      → Within p (tally n (item_elements p b line decls.Sensor)) (after_item b decls.Sensor)
   sensor_within n b line h l w =
       let x = some_at p.names.sensors b.sensors l in
       let c = subst (λ o. Clean n (named_element sensor_item b line o)) x.1 h in
@@ -165,7 +171,8 @@ module _ (p : TProgram) (each : length p.nv ≡ length p.names.nvs) where
       (record { sensors = omega (arith, s); ports = w.ports; nvs = w.nvs; functions = w.functions; counted_words = w.counted_words; few_words = w.few_words; lengths = w.lengths; heads = w.heads })
 
   -- one more port
-  port_within : (n : Tally) (b : Before) (line : ℕ) → Clean n (item_elements p b line decls.Port) → b.ports < length p.names.ports → Within p n b → Within p (tally n (item_elements p b line decls.Port)) (after_item b decls.Port)
+  port_within : (n : Tally) (b : Before) (line : ℕ) → Clean n (item_elements p b line decls.Port) → b.ports < length p.names.ports → Within p n b
+      → Within p (tally n (item_elements p b line decls.Port)) (after_item b decls.Port)
   port_within n b line h l w =
       let x = some_at p.names.ports b.ports l in
       let c = subst (λ o. Clean n (named_element port_item b line o)) x.1 h in
@@ -175,7 +182,8 @@ module _ (p : TProgram) (each : length p.nv ≡ length p.names.nvs) where
       (record { sensors = w.sensors; ports = omega (arith, s); nvs = w.nvs; functions = w.functions; counted_words = w.counted_words; few_words = w.few_words; lengths = w.lengths; heads = w.heads })
 
   -- one more nonvolatile variable
-  nv_within : (n : Tally) (b : Before) (line : ℕ) → Clean n (item_elements p b line decls.Nv) → b.nvs < length p.names.nvs → Within p n b → Within p (tally n (item_elements p b line decls.Nv)) (after_item b decls.Nv)
+  nv_within : (n : Tally) (b : Before) (line : ℕ) → Clean n (item_elements p b line decls.Nv) → b.nvs < length p.names.nvs → Within p n b
+      → Within p (tally n (item_elements p b line decls.Nv)) (after_item b decls.Nv)
   nv_within n b line h l w =
       let x = some_at p.names.nvs b.nvs l in
       let d = some_at p.nv b.nvs (omega (arith, l, each)) in
@@ -199,14 +207,16 @@ module _ (p : TProgram) (each : length p.nv ≡ length p.names.nvs) where
         heads = w.heads;
       }))
     where
-      go : (i : ℕ) (g : NvDecl) → i < b.nvs + 1 → slice_get p.nv i ≡ Some g → (r : Bool) → ltb i b.nvs ≡ r → {d : NvDecl} → has_bad_length (nv_kind d) ≡ false → slice_get p.nv b.nvs ≡ Some d → has_bad_length (nv_kind g) ≡ false
+      go : (i : ℕ) (g : NvDecl) → i < b.nvs + 1 → slice_get p.nv i ≡ Some g → (r : Bool) → ltb i b.nvs ≡ r → {d : NvDecl} → has_bad_length (nv_kind d) ≡ false
+          → slice_get p.nv b.nvs ≡ Some d → has_bad_length (nv_kind g) ≡ false
       go i g below e true is good at = w.lengths i g (ltb-true i b.nvs is) e
       go i g below e false is {d = d} good at =
           let same : b.nvs ≡ i = omega (arith, below, ltb-false i b.nvs is) in
           subst (λ d. has_bad_length (nv_kind d) ≡ false) (same_Some d g (sym at ∙ ap (slice_get p.nv) same ∙ e)) good
 
   -- one more function
-  function_within : (n : Tally) (b : Before) (line : ℕ) → Clean n (item_elements p b line decls.Function) → b.functions < length p.functions → Within p n b → Within p (tally n (item_elements p b line decls.Function)) (after_item b decls.Function)
+  function_within : (n : Tally) (b : Before) (line : ℕ) → Clean n (item_elements p b line decls.Function) → b.functions < length p.functions → Within p n b
+      → Within p (tally n (item_elements p b line decls.Function)) (after_item b decls.Function)
   function_within n b line h l w =
       let x = some_at p.functions b.functions l in
       let f = x.0 in
@@ -215,7 +225,8 @@ module _ (p : TProgram) (each : length p.nv ≡ length p.names.nvs) where
       let c = subst (λ o. Clean n (function_elements p b line o)) x.1 h in
       let t : Passes (item_rules p m b (function_item f)) = none_broken (item_rules p m b (function_item f)) (first_clean p n (declared b line (function_item f)) body c).0 in
       let s : b.functions < 128 = leb-false 128 b.functions (none_first (nat_le 128 b.functions) (nat_lt 8 (length f.params) || nat_lt 256 m.variables) t.1.1.1.1.1.1.0) in
-      let params : length f.params ≤ 8 = ltb-false 8 (length f.params) (none_first (nat_lt 8 (length f.params)) (nat_lt 256 m.variables) (none_second (nat_le 128 b.functions) (nat_lt 8 (length f.params) || nat_lt 256 m.variables) t.1.1.1.1.1.1.0)) in
+      let params : length f.params ≤ 8 = ltb-false 8 (length f.params)
+      (none_first (nat_lt 8 (length f.params)) (nat_lt 256 m.variables) (none_second (nat_le 128 b.functions) (nat_lt 8 (length f.params) || nat_lt 256 m.variables) t.1.1.1.1.1.1.0)) in
       let new : stands_before (function_place p.functions f.name) b.functions ≡ false = new_name p b f.name t.0 in
       let same : (tally m body).words ≡ n.words = block_no_words p (in_function f b.functions) f.body m in
       subst (λ o. Within p (tally n (function_elements p b line o)) (after_item b decls.Function)) (sym x.1)
@@ -230,7 +241,8 @@ module _ (p : TProgram) (each : length p.nv ≡ length p.names.nvs) where
         heads = λ i g below e. go i g below e (ltb i b.functions) refl (record { new = new; main = t.1.1.0; few_params = params }) x.1;
       })
     where
-      go : (i : ℕ) (g : TFunction) → i < b.functions + 1 → slice_get p.functions i ≡ Some g → (r : Bool) → ltb i b.functions ≡ r → {f : TFunction} → HeadFine p b.functions f → slice_get p.functions b.functions ≡ Some f → HeadFine p i g
+      go : (i : ℕ) (g : TFunction) → i < b.functions + 1 → slice_get p.functions i ≡ Some g → (r : Bool) → ltb i b.functions ≡ r → {f : TFunction} → HeadFine p b.functions f
+          → slice_get p.functions b.functions ≡ Some f → HeadFine p i g
       go i g below e true is fine at = w.heads i g (ltb-true i b.functions is) e
       go i g below e false is {f = f} fine at =
           let same : b.functions ≡ i = omega (arith, below, ltb-false i b.functions is) in
@@ -242,25 +254,56 @@ module _ (p : TProgram) (each : length p.nv ≡ length p.names.nvs) where
 
   -- the numbers with those of one declaration more
   abbrev LeftMore : Before → DeclKind → List Decl → Type 0
-  LeftMore b k ds = (b.sensors + (cond {A = ℕ} (is_sensor k) 1 0 + still is_sensor ds) ≡ length p.names.sensors) × (b.ports + (cond {A = ℕ} (is_port k) 1 0 + still is_port ds) ≡ length p.names.ports) × (b.nvs + (cond {A = ℕ} (is_nv k) 1 0 + still is_nv ds) ≡ length p.names.nvs) × (b.functions + (cond {A = ℕ} (is_function k) 1 0 + still is_function ds) ≡ length p.functions)
+  LeftMore b k ds = (b.sensors + (cond {A = ℕ} (is_sensor k) 1 0 + still is_sensor ds) ≡ length p.names.sensors) ×
+      (b.ports + (cond {A = ℕ} (is_port k) 1 0 + still is_port ds) ≡ length p.names.ports) × (b.nvs + (cond {A = ℕ} (is_nv k) 1 0 + still is_nv ds) ≡ length p.names.nvs) ×
+      (b.functions + (cond {A = ℕ} (is_function k) 1 0 + still is_function ds) ≡ length p.functions)
 
   -- one more declaration
-  item_within : (n : Tally) (b : Before) (line : ℕ) (k : DeclKind) (ds : List Decl) → LeftMore b k ds → Clean n (item_elements p b line k) → Within p n b → Within p (tally n (item_elements p b line k)) (after_item b k) × Left p (after_item b k) ds
-  item_within n b line decls.Sensor ds l h w = (sensor_within n b line h (omega (arith, l.0)) w, record { sensors = omega (arith, l.0); ports = omega (arith, l.1); nvs = omega (arith, l.2); functions = omega (arith, l.3) })
-  item_within n b line decls.Port ds l h w = (port_within n b line h (omega (arith, l.1)) w, record { sensors = omega (arith, l.0); ports = omega (arith, l.1); nvs = omega (arith, l.2); functions = omega (arith, l.3) })
-  item_within n b line decls.Nv ds l h w = (nv_within n b line h (omega (arith, l.2)) w, record { sensors = omega (arith, l.0); ports = omega (arith, l.1); nvs = omega (arith, l.2); functions = omega (arith, l.3) })
-  item_within n b line decls.Function ds l h w = (function_within n b line h (omega (arith, l.3)) w, record { sensors = omega (arith, l.0); ports = omega (arith, l.1); nvs = omega (arith, l.2); functions = omega (arith, l.3) })
+  item_within : (n : Tally) (b : Before) (line : ℕ) (k : DeclKind) (ds : List Decl) → LeftMore b k ds → Clean n (item_elements p b line k) → Within p n b
+      → Within p (tally n (item_elements p b line k)) (after_item b k) × Left p (after_item b k) ds
+  item_within n b line decls.Sensor ds l h w =
+      (sensor_within n b line h (omega (arith, l.0)) w, record { sensors = omega (arith, l.0); ports = omega (arith, l.1); nvs = omega (arith, l.2); functions = omega (arith, l.3) })
+  item_within n b line decls.Port ds l h w =
+      (port_within n b line h (omega (arith, l.1)) w, record { sensors = omega (arith, l.0); ports = omega (arith, l.1); nvs = omega (arith, l.2); functions = omega (arith, l.3) })
+  item_within n b line decls.Nv ds l h w = (
+    nv_within n b line h (omega (arith, l.2)) w,
+    record {
+      sensors = omega (arith, l.0);
+      ports = omega (arith, l.1);
+      nvs =
+          omega (arith, l.2);
+      functions = omega (arith, l.3);
+    },
+  )
+  item_within n b line decls.Function ds l h w =
+      (function_within n b line h (omega (arith, l.3)) w, record { sensors = omega (arith, l.0); ports = omega (arith, l.1); nvs = omega (arith, l.2); functions = omega (arith, l.3) })
 
   -- the declarations that are left
   order_within : (n : Tally) (b : Before) (ds : List Decl) → Left p b ds → Clean n (order_elements p b ds) → Within p n b → AllWithin p
   order_within n b [] l h w =
       let t : Passes (end_rules p) = none_broken (end_rules p) (first_clean p n (ending p.last_line) [] h).0 in
-      record { tally = n; before = b; within = w; sensors = omega (arith, l.sensors); ports = omega (arith, l.ports); nvs = omega (arith, l.nvs); functions = omega (arith, l.functions); main_there = t.0 }
+      record {
+        tally = n;
+        before = b;
+        within = w;
+        sensors = omega (arith, l.sensors);
+        ports = omega (arith, l.ports);
+        nvs = omega (arith, l.nvs);
+        functions =
+            omega (arith, l.functions);
+        main_there = t.0;
+      }
   order_within n b (d ∷ ds) l h w =
       let xs = item_elements p b d.line d.kind in
       let ys = order_elements p (after_item b d.kind) ds in
       let parts = apart_of p n xs ys h in
-      let left : LeftMore b d.kind ds = (ap (λ m. b.sensors + m) (sym (one_more is_sensor d ds)) ∙ l.sensors, ap (λ m. b.ports + m) (sym (one_more is_port d ds)) ∙ l.ports, ap (λ m. b.nvs + m) (sym (one_more is_nv d ds)) ∙ l.nvs, ap (λ m. b.functions + m) (sym (one_more is_function d ds)) ∙ l.functions) in
+      let left : LeftMore b d.kind ds = (
+        ap (λ m. b.sensors + m) (sym (one_more is_sensor d ds)) ∙ l.sensors,
+        ap (λ m. b.ports + m) (sym (one_more is_port d ds))
+            ∙ l.ports,
+        ap (λ m. b.nvs + m) (sym (one_more is_nv d ds)) ∙ l.nvs,
+        ap (λ m. b.functions + m) (sym (one_more is_function d ds)) ∙ l.functions,
+      ) in
       let next = item_within n b d.line d.kind ds left parts.0 w in
       order_within (tally n xs) (after_item b d.kind) ds next.1 parts.1 next.0
 
@@ -270,4 +313,14 @@ all_within p o h =
     order_within p o.each_nv nothing_counted nothing_before p.order
     (record { sensors = omega (arith, o.sensors); ports = omega (arith, o.ports); nvs = omega (arith, o.nvs); functions = omega (arith, o.functions) })
     (unbroken_element p h)
-    (record { sensors = omega arith; ports = omega arith; nvs = omega arith; functions = omega arith; counted_words = omega arith; few_words = omega arith; lengths = λ i d below e. absurd (omega (arith, below)); heads = λ i f below e. absurd (omega (arith, below)) })
+    (record {
+      sensors = omega arith;
+      ports = omega arith;
+      nvs = omega arith;
+      functions = omega arith;
+      counted_words = omega arith;
+      few_words = omega arith;
+      lengths =
+          λ i d below e. absurd (omega (arith, below));
+      heads = λ i f below e. absurd (omega (arith, below));
+    })

@@ -35,7 +35,8 @@ found_before n (g ∷ fs) (suc i) f e = go (bytes_eq f.name g.name) refl (found_
   where
     go : (b : Bool) → bytes_eq f.name g.name ≡ b → FoundBefore (n + 1) fs f.name i → FoundBefore n (g ∷ fs) f.name (suc i)
     go true is later = let here : n ≡ n + 0 = omega arith in (0, ap (λ b. cond b (Some n) (place_from (n + 1) (function_names fs) f.name)) is ∙ ap Some here, omega arith)
-    go false is later = let next : n + 1 + later.0 ≡ n + suc later.0 = omega arith in (suc later.0, ap (λ b. cond b (Some n) (place_from (n + 1) (function_names fs) f.name)) is ∙ later.1 ∙ ap Some next, omega (arith, later.2))
+    go false is later = let next : n + 1 + later.0 ≡ n + suc later.0 = omega arith in
+        (suc later.0, ap (λ b. cond b (Some n) (place_from (n + 1) (function_names fs) f.name)) is ∙ later.1 ∙ ap Some next, omega (arith, later.2))
 
 module _ (p : TProgram) (within : AllWithin p) where
   -- what the rules say of a function's head
@@ -59,7 +60,9 @@ module _ (p : TProgram) (within : AllWithin p) where
   there n [] h = absurd (true≢false (sym h))
   there n (f ∷ fs) h = go (bytes_eq (codes "main") f.name) (is_main f.name) (name_eq_sym (codes "main") f.name) h (there (n + 1) fs)
     where
-      go : (b c : Bool) → b ≡ c → c || list_any (λ f. is_main f.name) fs ≡ true → (list_any (λ f. is_main f.name) fs ≡ true → is_some (place_from (n + 1) (function_names fs) (codes "main")) ≡ true) → is_some (cond b (Some n) (place_from (n + 1) (function_names fs) (codes "main"))) ≡ true
+      go : (b c : Bool) → b ≡ c → c || list_any (λ f. is_main f.name) fs ≡ true
+          → (list_any (λ f. is_main f.name) fs ≡ true → is_some (place_from (n + 1) (function_names fs) (codes "main")) ≡ true)
+          → is_some (cond b (Some n) (place_from (n + 1) (function_names fs) (codes "main"))) ≡ true
       go true c e h rest = refl
       go false false e h rest = rest h
       go false true e h rest = absurd (true≢false (sym e))
@@ -91,7 +94,8 @@ module _ (p : TProgram) (within : AllWithin p) where
 
   -- it has neither parameters nor a result
   bare : (nat_lt 0 (length main_called.callee.params) ≡ false) × (is_some main_called.callee.result ≡ false)
-  bare = both_none (is_main main_called.callee.name) (nat_lt 0 (length main_called.callee.params)) (is_some main_called.callee.result) (head_fine main_called.number main_called.callee main_called.stands).main named_main
+  bare = both_none (is_main main_called.callee.name) (nat_lt 0 (length main_called.callee.params)) (is_some main_called.callee.result)
+      (head_fine main_called.number main_called.callee main_called.stands).main named_main
 
   -- it has no parameters
   pub main_takes_none : main_called.callee.params ≡ []
@@ -120,7 +124,8 @@ module _ (p : TProgram) (within : AllWithin p) where
   not_so true h = absurd (h refl)
 
   -- where all of them stand at one place, their number is 1
-  count_one : (fs : List TFunction) (m : ℕ) (g : TFunction) → slice_get fs m ≡ Some g → is_main g.name ≡ true → ((i : ℕ) (f : TFunction) → slice_get fs i ≡ Some f → is_main f.name ≡ true → i ≡ m) → count_by (λ f. is_main f.name) fs ≡ 1
+  count_one : (fs : List TFunction) (m : ℕ) (g : TFunction) → slice_get fs m ≡ Some g → is_main g.name ≡ true
+      → ((i : ℕ) (f : TFunction) → slice_get fs i ≡ Some f → is_main f.name ≡ true → i ≡ m) → count_by (λ f. is_main f.name) fs ≡ 1
   count_one [] m g e is only = absurd (none-some g e)
   count_one (f ∷ fs) zero g e is only =
       let own : is_main f.name ≡ true = subst (λ h. is_main h.name ≡ true) (sym (same_Some f g e)) is in

@@ -98,7 +98,8 @@ module _ (p : TProgram) where
       never c at (inr o) = omega (arith, at, e, o, lt)
 
   -- between a statement of a block and the next, m, there are none of that block
-  pub in_block_gap : (i z j d m j' b : ℕ) (ks ss : List Pair) → m ≤ z → b < j → EachPair (Ranged (suc i) m j j') ks → EachPair (RangedIn b m z j' d) ss → Around i z j d ((i, b) ∷ (ks ++ ss)) → (s : ℕ) → block_of p s ≡ Some b → Gap i m s
+  pub in_block_gap : (i z j d m j' b : ℕ) (ks ss : List Pair) → m ≤ z → b < j → EachPair (Ranged (suc i) m j j') ks → EachPair (RangedIn b m z j' d) ss
+      → Around i z j d ((i, b) ∷ (ks ++ ss)) → (s : ℕ) → block_of p s ≡ Some b → Gap i m s
   in_block_gap i z j d m j' b ks ss l lt r q a s h =
       told P i z j d ((i, b) ∷ (ks ++ ss)) a
       (pairs_map (Earlier i j d) P (λ x o at. inl (omega (arith, o.0))) a.front a.before) (

@@ -202,7 +202,8 @@ module _ (spot : ℕ → Option ℕ) where
           let e : r.block ≡ b = eqb-true r.block b is in
           let now : cond {A = ℕ} (r.block == b) (spans r.first r.last n) 0 ≡ spans r.first r.last n = ap (λ c. cond {A = ℕ} c (spans r.first r.last n) 0) is in
           let later : cond {A = ℕ} (r.block == b) (spans r.first r.last m) 0 ≡ spans r.first r.last m = ap (λ c. cond {A = ℕ} c (spans r.first r.last m) 0) is in
-          let step : spans r.first r.last n + one_if (n == r.first) ≡ spans r.first r.last m + one_if (n == r.last) = across r.first r.last n m at.ordered lt (gap r.first (at.first_there ∙ ap Some e)) (gap r.last (at.last_there ∙ ap Some e)) in
+          let step : spans r.first r.last n + one_if (n == r.first) ≡ spans r.first r.last m + one_if (n == r.last) =
+          across r.first r.last n m at.ordered lt (gap r.first (at.first_there ∙ ap Some e)) (gap r.last (at.last_there ∙ ap Some e)) in
           omega (arith, now, later, step)
       go false is =
           let d = eqb-false r.block b is in
@@ -213,10 +214,19 @@ module _ (spot : ℕ → Option ℕ) where
           omega (arith, now, later, start, stop)
 
   -- the same of all regions
-  pub all_across : (b n m : ℕ) → spot n ≡ Some b → n < m → ((s : ℕ) → spot s ≡ Some b → Gap n m s) → (rs : List TRegion) → EachRegion InBlock rs → open_at rs b n + sum_by (begins n) rs ≡ open_at rs b m + sum_by (ends n) rs
+  pub all_across : (b n m : ℕ) → spot n ≡ Some b → n < m → ((s : ℕ) → spot s ≡ Some b → Gap n m s) → (rs : List TRegion) → EachRegion InBlock rs
+      → open_at rs b n + sum_by (begins n) rs ≡ open_at rs b m + sum_by (ends n) rs
   all_across b n m here lt gap [] at = refl
   all_across b n m here lt gap (r ∷ rs) at =
-      omega (arith, sum_by-cons (opens b n) r rs, sum_by-cons (opens b m) r rs, sum_by-cons (begins n) r rs, sum_by-cons (ends n) r rs, one_across b n m here lt gap r at.0, all_across b n m here lt gap rs at.1)
+      omega (
+        arith,
+        sum_by-cons (opens b n) r rs,
+        sum_by-cons (opens b m) r rs,
+        sum_by-cons (begins n) r rs,
+        sum_by-cons (ends n) r rs,
+        one_across b n m here lt gap r at.0,
+        all_across b n m here lt gap rs at.1,
+      )
 
   -- a region of another block is not open
   not_open : (b n : ℕ) (r : TRegion) → (r.block ≡ b → spans r.first r.last n ≡ 0) → opens b n r ≡ 0

@@ -45,7 +45,8 @@ each_both P Q [] h g = tt
 each_both P Q (r ∷ rs) h g = ((h.0, g.0), each_both P Q rs h.1 g.1)
 
 -- regions that differ, pair by pair
-differ : (key : TRegion → ℕ) (R : TRegion → TRegion → Type 0) (P : TRegion → Type 0) → ((r q : TRegion) → P r → P q → R r q → key q ≡ key r → ⊥) → (rs : List TRegion) → EachRegion P rs → Pairs R rs → Differ key rs
+differ : (key : TRegion → ℕ) (R : TRegion → TRegion → Type 0) (P : TRegion → Type 0) → ((r q : TRegion) → P r → P q → R r q → key q ≡ key r → ⊥) → (rs : List TRegion)
+    → EachRegion P rs → Pairs R rs → Differ key rs
 differ key R P f [] h g = tt
 differ key R P f (r ∷ rs) h g =
     (each_map (λ q. P q × R r q) (λ q. key q ≡ key r → ⊥) (λ q b. f r q h.0 b.0 b.1) rs (each_both P (R r) rs h.1 g.0), differ key R P f rs h.1 g.1)
@@ -59,7 +60,8 @@ module _ (p : TProgram) (policies : ℕ) (regions : List TRegion) (are : AreRegi
 
   -- they begin with different statements
   pub firsts_differ : Differ (λ r. r.first) regions
-  firsts_differ = differ (λ r. r.first) (λ r q. r.first < q.first) (InBlock (block_of p)) (λ r q a b l e. omega (arith, l, e)) regions in_blocks (pairs_of (λ r q. r.first < q.first) regions are.rising)
+  firsts_differ = differ (λ r. r.first) (λ r q. r.first < q.first) (InBlock (block_of p)) (λ r q a b l e. omega (arith, l, e)) regions in_blocks
+      (pairs_of (λ r q. r.first < q.first) regions are.rising)
 
   -- the first rises, and stands in no earlier region
   abbrev Behind : TRegion → TRegion → Type 0

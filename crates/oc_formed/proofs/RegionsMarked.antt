@@ -2,7 +2,8 @@
 use Rattle.std.proofs.Common.{◌≡◌, ◌<◌, ◌⊎◌, inl, inr, ℕ, zero, suc, ◌+◌, List, [], ◌∷◌, ◌++◌, length, sum_by, Some, ap, sym, ◌∙◌, subst, arith, length-append, append-nil, flat_map}
 use Rattle.std.specs.Prelude.{slice_get}
 use Rattle.std.proofs.lemmas.Option.{none-some, same_Some}
-use Rattle.oc_tree.specs.Tree.{TKind, let_to, let_array, assign, assign_index, assign_deref, if_else, for_in, while_do, call_only, sense_only, emit, fresh, consistent, return, TElse, no_else, else_do, stmt, TBlock, block, TStmts, no_stmts, more, TFunction, TProgram}
+use Rattle.oc_tree.specs.Tree.{TKind, let_to, let_array, assign, assign_index, assign_deref, if_else, for_in, while_do, call_only, sense_only, emit, fresh, consistent, return}
+use Rattle.oc_tree.specs.Tree.{TElse, no_else, else_do, stmt, TBlock, block, TStmts, no_stmts, more, TFunction, TProgram}
 use Rattle.oc_tree.specs.Form.{Numbered}
 use Rattle.oc_tree.specs.Numbers.{kind_statements, else_statements, block_statements, stmts_statements, kind_blocks, else_blocks, block_blocks, stmts_blocks}
 use Rattle.oc_tree.specs.Places.{block_of}
@@ -24,13 +25,15 @@ later_part a z c d j xs h = pairs_map (Ranged a z c d) (Later a j c) (λ x r. (r
 earlier_part : (a z c d e : ℕ) (xs : List Pair) → EachPair (Ranged a z c d) xs → EachPair (Earlier z d e) xs
 earlier_part a z c d e xs h = pairs_map (Ranged a z c d) (Earlier z d e) (λ x r. (r.0.1, inl r.1.1)) xs h
 
-module _ (p : TProgram) (numbered : Numbered p) (regions : List TRegion) (within : EachRegion (InBlock (block_of p)) regions) (firsts : Differ (λ r. r.first) regions) (lasts : Differ (λ r. r.last) regions) where
+module _ (p : TProgram) (numbered : Numbered p) (regions : List TRegion) (within : EachRegion (InBlock (block_of p)) regions) (firsts : Differ (λ r. r.first) regions)
+    (lasts : Differ (λ r. r.last) regions) where
   -- the statements and blocks of a part, with what is around it
   abbrev Part : (i j : ℕ) (statements blocks : List ℕ) (pairs : List Pair) → Type 0
   Part i j statements blocks pairs = Around p i (i + length statements) j (j + length blocks) pairs
 
   -- the first of two parts
-  part_first : (i j : ℕ) (us vs bs cs : List ℕ) (xs ys : List Pair) → EachPair (Ranged (i + length us) (i + length us + length vs) (j + length bs) (j + length bs + length cs)) ys → Part i j (us ++ vs) (bs ++ cs) (xs ++ ys) → Part i j us bs xs
+  part_first : (i j : ℕ) (us vs bs cs : List ℕ) (xs ys : List Pair) → EachPair (Ranged (i + length us) (i + length us + length vs) (j + length bs) (j + length bs + length cs)) ys
+      → Part i j (us ++ vs) (bs ++ cs) (xs ++ ys) → Part i j us bs xs
   part_first i j us vs bs cs xs ys r a =
       let m = length-append us vs in
       let n = length-append bs cs in
@@ -38,7 +41,8 @@ module _ (p : TProgram) (numbered : Numbered p) (regions : List TRegion) (within
       (later_part (i + length us) (i + length us + length vs) (j + length bs) (j + length bs + length cs) j ys r) a
 
   -- the second of two parts
-  part_second : (i j : ℕ) (us vs bs cs : List ℕ) (xs ys : List Pair) → EachPair (Ranged i (i + length us) j (j + length bs)) xs → Part i j (us ++ vs) (bs ++ cs) (xs ++ ys) → Part (i + length us) (j + length bs) vs cs ys
+  part_second : (i j : ℕ) (us vs bs cs : List ℕ) (xs ys : List Pair) → EachPair (Ranged i (i + length us) j (j + length bs)) xs → Part i j (us ++ vs) (bs ++ cs) (xs ++ ys)
+      → Part (i + length us) (j + length bs) vs cs ys
   part_second i j us vs bs cs xs ys r a =
       let m : i + length (us ++ vs) ≡ i + length us + length vs = omega (arith, length-append us vs) in
       let n : j + length (bs ++ cs) ≡ j + length bs + length cs = omega (arith, length-append bs cs) in
@@ -75,14 +79,16 @@ module _ (p : TProgram) (numbered : Numbered p) (regions : List TRegion) (within
     -- around what is inside and behind it
     behind_own : Known → Around p (suc i) (next + length (stmts_statements rest)) j (after + length (stmts_blocks rest)) (kind_pairs k ++ stmts_pairs b rest)
     behind_own h =
-        around_second p i (next + length (stmts_statements rest)) j (after + length (stmts_blocks rest)) (suc i) j (after + length (stmts_blocks rest)) ((i, b) ∷ []) (kind_pairs k ++ stmts_pairs b rest) (omega arith) (omega arith) (omega arith)
+        around_second p i (next + length (stmts_statements rest)) j (after + length (stmts_blocks rest)) (suc i) j (after + length (stmts_blocks rest)) ((i, b) ∷ [])
+        (kind_pairs k ++ stmts_pairs b rest) (omega arith) (omega arith) (omega arith)
         ((omega arith, inl h.below), tt) h.row
 
     -- around the statements inside it
     inside_part : Known → Around p (suc i) next j after (kind_pairs k)
     inside_part h =
         around_first p (suc i) (next + length (stmts_statements rest)) j (after + length (stmts_blocks rest)) next j after (kind_pairs k) (stmts_pairs b rest) (omega arith) (omega arith) (omega arith)
-        (pairs_map (RangedIn b next (next + length (stmts_statements rest)) after (after + length (stmts_blocks rest))) (Later next j after) (λ x r. (r.0.0, apart x r.1)) (stmts_pairs b rest) h.others) (behind_own h)
+        (pairs_map (RangedIn b next (next + length (stmts_statements rest)) after (after + length (stmts_blocks rest))) (Later next j after) (λ x r. (r.0.0, apart x r.1))
+        (stmts_pairs b rest) h.others) (behind_own h)
       where
         apart : (x : Pair) → (x.1 ≡ b) ⊎ From after (after + length (stmts_blocks rest)) x.1 → Outside j after x.1
         apart x (inl e) = let below = h.below in inl (omega (arith, e, below))
@@ -91,14 +97,16 @@ module _ (p : TProgram) (numbered : Numbered p) (regions : List TRegion) (within
     -- around the statements behind it
     rest_part : Known → Around p next (next + length (stmts_statements rest)) after (after + length (stmts_blocks rest)) (stmts_pairs b rest)
     rest_part h =
-        around_second p (suc i) (next + length (stmts_statements rest)) j (after + length (stmts_blocks rest)) next after (after + length (stmts_blocks rest)) (kind_pairs k) (stmts_pairs b rest) (omega arith) (omega arith) (omega arith)
+        around_second p (suc i) (next + length (stmts_statements rest)) j (after + length (stmts_blocks rest)) next after (after + length (stmts_blocks rest)) (kind_pairs k)
+        (stmts_pairs b rest) (omega arith) (omega arith) (omega arith)
         (earlier_part (suc i) next j after (after + length (stmts_blocks rest)) (kind_pairs k) h.inside) (behind_own h)
 
     -- the regions that are open behind it
     crossed : Known → n ≡ i → open_at regions b i + marks (begun_by regions n) ≡ open_at regions b next + marks (ended_by regions n)
     crossed h e =
         let here : block_of p i ≡ Some b = block_there p numbered.statements (i, b) (h.row.front, (kind_pairs k ++ stmts_pairs b rest) ++ h.row.back, h.row.is) in
-        let gap = in_block_gap p i (next + length (stmts_statements rest)) j (after + length (stmts_blocks rest)) next after b (kind_pairs k) (stmts_pairs b rest) (omega arith) h.below h.inside h.others h.row in
+        let gap = in_block_gap p i (next + length (stmts_statements rest)) j (after + length (stmts_blocks rest)) next after b (kind_pairs k) (stmts_pairs b rest)
+        (omega arith) h.below h.inside h.others h.row in
         let sums = all_across (block_of p) b i next here (omega arith) gap regions within in
         let start : marks (begun_by regions n) ≡ sum_by (begins i) regions = ap (λ m. marks (begun_by regions m)) e ∙ begun_counted regions i firsts in
         let stop : marks (ended_by regions n) ≡ sum_by (ends i) regions = ap (λ m. marks (ended_by regions m)) e ∙ ended_counted regions i lasts in
@@ -146,7 +154,8 @@ module _ (p : TProgram) (numbered : Numbered p) (regions : List TRegion) (within
         subst (λ n. StmtsMarked regions n ss) none (stmts_are_marked id i (suc j) ss f o.1 less (omega (arith, o.0)) (λ s e. (range s e).1))
 
     -- statements of the block b, of which none has a number from the end of these on
-    stmts_are_marked : (b i j : ℕ) (ss : TStmts) → Follow i (stmts_statements ss) → Follow j (stmts_blocks ss) → Part i j (stmts_statements ss) (stmts_blocks ss) (stmts_pairs b ss) → b < j → ((s : ℕ) → block_of p s ≡ Some b → s < i + length (stmts_statements ss)) → StmtsMarked regions (open_at regions b i) ss
+    stmts_are_marked : (b i j : ℕ) (ss : TStmts) → Follow i (stmts_statements ss) → Follow j (stmts_blocks ss) → Part i j (stmts_statements ss) (stmts_blocks ss) (stmts_pairs b ss)
+        → b < j → ((s : ℕ) → block_of p s ≡ Some b → s < i + length (stmts_statements ss)) → StmtsMarked regions (open_at regions b i) ss
     stmts_are_marked b i j no_stmts f g h below end = none_behind (block_of p) b i (λ s e. omega (arith, end s e)) regions within
     stmts_are_marked b i j (more (stmt n line k) rest) f g h below end =
         let s = parts i (n ∷ kind_statements k) (stmts_statements rest) f in
@@ -156,7 +165,8 @@ module _ (p : TProgram) (numbered : Numbered p) (regions : List TRegion) (within
         let after = j + length (kind_blocks k) in
         let top : i + length (n ∷ (kind_statements k ++ stmts_statements rest)) ≡ next + length (stmts_statements rest) = omega (arith, length-append (kind_statements k) (stmts_statements rest)) in
         let deep : j + length (kind_blocks k ++ stmts_blocks rest) ≡ after + length (stmts_blocks rest) = omega (arith, length-append (kind_blocks k) (stmts_blocks rest)) in
-        let row1 = subst (λ m. Around p i (i + length (n ∷ (kind_statements k ++ stmts_statements rest))) j (j + length (kind_blocks k ++ stmts_blocks rest)) ((m, b) ∷ (kind_pairs k ++ stmts_pairs b rest))) o.0 h in
+        let row1 = subst (λ m. Around p i (i + length (n ∷ (kind_statements k ++ stmts_statements rest))) j (j + length (kind_blocks k ++ stmts_blocks rest))
+        ((m, b) ∷ (kind_pairs k ++ stmts_pairs b rest))) o.0 h in
         let row2 = subst (λ z. Around p i z j (j + length (kind_blocks k ++ stmts_blocks rest)) ((i, b) ∷ (kind_pairs k ++ stmts_pairs b rest))) top row1 in
         let row3 = subst (λ d. Around p i (next + length (stmts_statements rest)) j d ((i, b) ∷ (kind_pairs k ++ stmts_pairs b rest))) deep row2 in
         let width : suc i + length (kind_statements k) ≡ next = omega arith in
@@ -174,7 +184,9 @@ module _ (p : TProgram) (numbered : Numbered p) (regions : List TRegion) (within
         )
 
   -- functions
-  functions_marked : (i j : ℕ) (fs : List TFunction) → Follow i (flat_map (λ f. block_statements f.body) fs) → Follow j (flat_map (λ f. block_blocks f.body) fs) → Part i j (flat_map (λ f. block_statements f.body) fs) (flat_map (λ f. block_blocks f.body) fs) (flat_map (λ f. block_pairs f.body) fs) → (u : ℕ) (f : TFunction) → slice_get fs u ≡ Some f → BlockMarked regions f.body
+  functions_marked : (i j : ℕ) (fs : List TFunction) → Follow i (flat_map (λ f. block_statements f.body) fs) → Follow j (flat_map (λ f. block_blocks f.body) fs)
+      → Part i j (flat_map (λ f. block_statements f.body) fs) (flat_map (λ f. block_blocks f.body) fs) (flat_map (λ f. block_pairs f.body) fs) → (u : ℕ) (f : TFunction)
+      → slice_get fs u ≡ Some f → BlockMarked regions f.body
   functions_marked i j [] f g h u x e = absurd (none-some x e)
   functions_marked i j (y ∷ fs) f g h u x e =
       let us = block_statements y.body in
@@ -183,8 +195,10 @@ module _ (p : TProgram) (numbered : Numbered p) (regions : List TRegion) (within
       let cs = flat_map (λ f. block_blocks f.body) fs in
       let s = parts i us vs f in
       let t = parts j bs cs g in
-      let own = block_is_marked i j y.body s.0 t.0 (part_first i j us vs bs cs (block_pairs y.body) (flat_map (λ f. block_pairs f.body) fs) (functions_ranged (i + length us) (j + length bs) fs s.1 t.1) h) in
-      let others = functions_marked (i + length us) (j + length bs) fs s.1 t.1 (part_second i j us vs bs cs (block_pairs y.body) (flat_map (λ f. block_pairs f.body) fs) (block_ranged i j y.body s.0 t.0) h) in
+      let own = block_is_marked i j y.body s.0 t.0
+      (part_first i j us vs bs cs (block_pairs y.body) (flat_map (λ f. block_pairs f.body) fs) (functions_ranged (i + length us) (j + length bs) fs s.1 t.1) h) in
+      let others = functions_marked (i + length us) (j + length bs) fs s.1 t.1
+      (part_second i j us vs bs cs (block_pairs y.body) (flat_map (λ f. block_pairs f.body) fs) (block_ranged i j y.body s.0 t.0) h) in
       go u e own others
     where
       go : (u : ℕ) → slice_get (y ∷ fs) u ≡ Some x → BlockMarked regions y.body → ((v : ℕ) (z : TFunction) → slice_get fs v ≡ Some z → BlockMarked regions z.body) → BlockMarked regions x.body

@@ -40,7 +40,8 @@ least_place n (y ∷ ys) x i h = by (bytes_eq x y) (least_place (n + 1) ys x i) 
     by false rest e = let more = rest e in omega (arith, more)
 
 -- the declaration at a name's place is found under the name
-nv_found : (n a : ℕ) (xs : List Text) (ds : List NvDecl) (x : Text) (i j : ℕ) (d : NvDecl) → All NvInForm ds → place_from n xs x ≡ Some i → i ≡ n + j → slice_get ds j ≡ Some d → Finds (named (nv_scope a xs ds) x) (nv_var d)
+nv_found : (n a : ℕ) (xs : List Text) (ds : List NvDecl) (x : Text) (i j : ℕ) (d : NvDecl) → All NvInForm ds → place_from n xs x ≡ Some i → i ≡ n + j → slice_get ds j ≡ Some d
+    → Finds (named (nv_scope a xs ds) x) (nv_var d)
 nv_found n a [] ds x i j d form placed e stands = absurd (none-some i placed)
 nv_found n a (y ∷ ys) [] x i j d form placed e stands = absurd (none-some d stands)
 nv_found n a (y ∷ ys) (c ∷ ds) x i j d form placed e stands = by (bytes_eq x y) placed (λ m. nv_found (n + 1) (a + c.words) ys ds x i m d (All-tail NvInForm c ds form))
@@ -55,7 +56,9 @@ nv_found n a (y ∷ ys) (c ∷ ds) x i j d form placed e stands = by (bytes_eq x
     own : NvInForm c → Finds (record { name = y; slot = InNv a; words = c.words; writable = true; fresh = false }) (nv_var c)
     own f = record { words = nv_words c f; reference = refl; writable = refl }
 
-    by : (b : Bool) → cond b (Some n) (place_from (n + 1) ys x) ≡ Some i → ((m : ℕ) → place_from (n + 1) ys x ≡ Some i → i ≡ n + 1 + m → slice_get ds m ≡ Some d → Finds (named (nv_scope (a + c.words) ys ds) x) (nv_var d)) → Finds (if b then record { name = y; slot = InNv a; words = c.words; writable = true; fresh = false } else named (nv_scope (a + c.words) ys ds) x) (nv_var d)
+    by : (b : Bool) → cond b (Some n) (place_from (n + 1) ys x) ≡ Some i
+        → ((m : ℕ) → place_from (n + 1) ys x ≡ Some i → i ≡ n + 1 + m → slice_get ds m ≡ Some d → Finds (named (nv_scope (a + c.words) ys ds) x) (nv_var d))
+        → Finds (if b then record { name = y; slot = InNv a; words = c.words; writable = true; fresh = false } else named (nv_scope (a + c.words) ys ds) x) (nv_var d)
     by true h more =
         let same : n ≡ i = same_Some n i h in
         let zero : j ≡ 0 = omega (arith, same, e) in

@@ -4,7 +4,8 @@ use Rattle.std.proofs.Common.{◌≡◌, ◌≤◌, ℕ, ◌+◌, ◌*◌, Bool,
 use Rattle.std.specs.Prelude.{ℤ, pos, if◌then◌else◌}
 use Rattle.oc_tree.specs.Names.{Text, NameLists}
 use Rattle.oc_tree.specs.Marked.{TRegion}
-use Rattle.oc_tree.specs.Tree.{TExpr, TCall, call, TRight, right_value, right_sense, right_call, TKind, let_to, let_array, assign, assign_index, assign_deref, if_else, for_in, while_do, call_only, sense_only, emit, fresh, consistent, return, TElse, no_else, else_do, stmt, TBlock, block, TStmts, no_stmts, more, TFunction}
+use Rattle.oc_tree.specs.Tree.{TExpr, TCall, call, TRight, right_value, right_sense, right_call, TKind, let_to, let_array, assign, assign_index, assign_deref, if_else, for_in}
+use Rattle.oc_tree.specs.Tree.{while_do, call_only, sense_only, emit, fresh, consistent, return, TElse, no_else, else_do, stmt, TBlock, block, TStmts, no_stmts, more, TFunction}
 use Rattle.oc_tree.specs.Nodes.{expr_nodes, call_nodes, right_nodes, kind_nodes, else_nodes, block_nodes, stmts_nodes}
 use Rattle.oc_tree.specs.Expansion.{inner_size, else_size, block_size, stmts_size}
 use Rattle.oc_tree.specs.Calls.{expr_calls, right_calls, kind_hides, kind_kinds, else_kinds, block_kinds, stmts_kinds}
@@ -18,7 +19,8 @@ use Rattle.oc_meaning.specs.Uses.{is_use, begins_use, ends_use}
 use Rattle.oc_meaning.specs.Exec.{begun_by, ended_by, number_in}
 use Rattle.oc_code.specs.Scope.{Slot, InFrame, ByAddress, InNv, NoSlot, Named, slot_of, words_of, is_fresh_in, in_scope, for_named}
 use Rattle.oc_code.specs.Forms.{placed, one, enter_code, commit_code, probe_code, write_code, base_code, expr_code, args_code, again_code, count_code, turn_code, while_code}
-use Rattle.oc_code.specs.Code.{function_number, has_result, called_name, last_code, before_code, after_code, call_code, right_code, element_code, test_code, return_code, first_code, whole_code, kind_code, if_code, block_code, stmts_code}
+use Rattle.oc_code.specs.Code.{function_number, has_result, called_name, last_code, before_code, after_code, call_code, right_code, element_code, test_code, return_code}
+use Rattle.oc_code.specs.Code.{first_code, whole_code, kind_code, if_code, block_code, stmts_code}
 use Rattle.oc_desugar.proofs.FineCalls.{Each, each_back}
 use Rattle.oc_formed.proofs.CallLinks.{KindsCall, kinds_front, kinds_back, none_hides}
 use Rattle.oc_formed.proofs.BodiesCalls.{last_call}
@@ -91,7 +93,8 @@ module _ (n : ℕ) where
       omega (arith, count_length p q (pos 0) (pos bound) t, turn_length (p + 6 + (length c + 1 + length a) + 5) c a)
 
 -- what is behind a statement
-calls_behind : (k : TKind) (rest : TStmts) → KindsCall FewArgs (kind_kinds None k ++ cond (kind_hides None k) [] (stmts_kinds None rest)) → KindsCall FewArgs (kind_kinds None k) × KindsCall FewArgs (stmts_kinds None rest)
+calls_behind : (k : TKind) (rest : TStmts) → KindsCall FewArgs (kind_kinds None k ++ cond (kind_hides None k) [] (stmts_kinds None rest))
+    → KindsCall FewArgs (kind_kinds None k) × KindsCall FewArgs (stmts_kinds None rest)
 calls_behind k rest h =
     let parts = subst (λ b. KindsCall FewArgs (kind_kinds None k ++ cond b [] (stmts_kinds None rest))) (none_hides k) h in
     (kinds_front FewArgs (kind_kinds None k) (stmts_kinds None rest) parts, kinds_back FewArgs (kind_kinds None k) (stmts_kinds None rest) parts)
@@ -124,20 +127,40 @@ module _ (names : NameLists) (fs : List TFunction) (regions : List TRegion) (k :
       let probe = probe_code n (is_use (is_fresh_in γ) (return e)) Done in
       let commit = commit_code n (ended_by regions n) in
       let last = one n (Retv k) in
-      omega (arith, length-append (expr_code n γ p e) (probe ++ (commit ++ last)), length-append probe (commit ++ last), length-append commit last, expr_short n γ p e, probe_short n (is_use (is_fresh_in γ) (return e)) Done, commit_short n (ended_by regions n))
+      omega (
+        arith,
+        length-append (expr_code n γ p e) (probe ++ (commit ++ last)),
+        length-append probe (commit ++ last),
+        length-append commit last,
+        expr_short n γ p e,
+        probe_short
+            n (is_use (is_fresh_in γ) (return e)) Done,
+        commit_short n (ended_by regions n),
+      )
 
   -- a write of a right side to a scalar
-  assign_short : (n : ℕ) (γ : List Named) (p : ℕ) (x : Text) (r : TRight) → Each FewArgs (right_calls r) → length (right_code names fs regions k n γ p r ++ write_code n (slot_of γ x)) ≤ 4 * right_nodes r + 11
+  assign_short : (n : ℕ) (γ : List Named) (p : ℕ) (x : Text) (r : TRight) → Each FewArgs (right_calls r)
+      → length (right_code names fs regions k n γ p r ++ write_code n (slot_of γ x)) ≤ 4 * right_nodes r + 11
   assign_short n γ p x r few = omega (arith, length-append (right_code names fs regions k n γ p r) (write_code n (slot_of γ x)), right_short n γ p r few, write_short n (slot_of γ x))
 
   -- a write of a right side to an element
-  element_short : (n : ℕ) (γ : List Named) (p : ℕ) (x : Text) (e : TExpr) (r : TRight) → Each FewArgs (right_calls r) → length (element_code names fs regions k n γ p x e (right_code names fs regions k n γ p r)) ≤ 4 * (expr_nodes e + right_nodes r) + 12
+  element_short : (n : ℕ) (γ : List Named) (p : ℕ) (x : Text) (e : TExpr) (r : TRight) → Each FewArgs (right_calls r)
+      → length (element_code names fs regions k n γ p x e (right_code names fs regions k n γ p r)) ≤ 4 * (expr_nodes e + right_nodes r) + 12
   element_short n γ p x e r few =
       let a = right_code names fs regions k n γ p r in
       let base = base_code n (slot_of γ x) in
       let i = expr_code n γ (p + length a + 1) e in
       let last : List Placed = placed n (Index (words_of γ x)) ∷ one n Put in
-      omega (arith, length-append a (base ++ (i ++ last)), length-append base (i ++ last), length-append i last, right_short n γ p r few, base_short n (slot_of γ x), expr_short n γ (p + length a + 1) e)
+      omega (
+        arith,
+        length-append a (base ++ (i ++ last)),
+        length-append base (i ++ last),
+        length-append i last,
+        right_short n γ p r few,
+        base_short n (slot_of γ x),
+        expr_short n γ
+            (p + length a + 1) e,
+      )
 
   mutual
     -- a statement's own code
@@ -161,7 +184,15 @@ module _ (names : NameLists) (fs : List TFunction) (regions : List TRegion) (k :
         let test = test_code names fs regions k n γ (p + 6) is c in
         let body = block_code names fs regions k γ (s + 1) (p + 6 + length test + 1) b in
         let loop = while_code n p s t test body in
-        omega (arith, length-append loop (probe_code n is Done), probe_short n is Done, while_length n p s t test body, test_short n γ (p + 6) is c, block_short γ (s + 1) (p + 6 + length test + 1) b few.1)
+        omega (
+          arith,
+          length-append loop (probe_code n is Done),
+          probe_short n is Done,
+          while_length n p s t test body,
+          test_short n γ (p + 6) is c,
+          block_short γ (s + 1)
+              (p + 6 + length test + 1) b few.1,
+        )
     kind_short γ n s p (call_only c) few =
         let cc = call_code names fs regions k n γ p c in
         omega (arith, length-append cc (if has_result fs (called_name c) then one n Drop else []), drop_short n (has_result fs (called_name c)), call_short n γ p c (last_call FewArgs c few.0))
@@ -172,7 +203,8 @@ module _ (names : NameLists) (fs : List TFunction) (regions : List TRegion) (k :
     kind_short γ n s p (return e) few = omega (arith, return_short n γ p e)
 
     -- an `if`, whose test and first block have these codes
-    else_short : (γ : List Named) (n s p : ℕ) (c a : List Placed) (slots : ℕ) (b : TElse) → KindsCall FewArgs (else_kinds None b) → length (if_code names fs regions k γ n s p c a slots b) ≤ length c + length a + 2 + (4 * else_nodes b + 20 * else_size b)
+    else_short : (γ : List Named) (n s p : ℕ) (c a : List Placed) (slots : ℕ) (b : TElse) → KindsCall FewArgs (else_kinds None b)
+        → length (if_code names fs regions k γ n s p c a slots b) ≤ length c + length a + 2 + (4 * else_nodes b + 20 * else_size b)
     else_short γ n s p c a slots no_else few = omega (arith, length-append c (placed n (Jfalse (p + length c + 1 + length a)) ∷ a))
     else_short γ n s p c a slots (else_do b) few =
         let cb = block_code names fs regions k γ (s + slots) (p + length c + 1 + length a + 1) b in
@@ -195,4 +227,14 @@ module _ (names : NameLists) (fs : List TFunction) (regions : List TRegion) (k :
         let rc = stmts_code names fs regions k (in_scope d s rest γ) (s + kind_slots d) (p + length wc) rest in
         let own = kind_short γ n s (p + length fc) d parts.0 in
         let others = stmts_short (in_scope d s rest γ) (s + kind_slots d) (p + length wc) rest parts.1 in
-        omega (arith, length-append wc rc, length-append fc (kc ++ ac), length-append kc ac, before_short n (begun_by regions n) (begins_use (is_fresh_in γ) d), after_short n (ended_by regions n) (ends_use (is_fresh_in γ) d) d, own, others)
+        omega (
+          arith,
+          length-append wc rc,
+          length-append fc (kc ++ ac),
+          length-append kc ac,
+          before_short n (begun_by regions n) (begins_use (is_fresh_in γ) d),
+          after_short n
+              (ended_by regions n) (ends_use (is_fresh_in γ) d) d,
+          own,
+          others,
+        )

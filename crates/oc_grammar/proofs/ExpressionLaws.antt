@@ -10,10 +10,12 @@ use Rattle.oc_lex.specs.declared.token.Mark.TheVariants as marks
 use Rattle.oc_grammar.specs.Limits.{Limits, brackets_depth}
 use Rattle.oc_grammar.specs.Lexemes.{Lexeme, Lexemes, named, numeral, keyword, sign}
 use Rattle.oc_grammar.specs.Fronts.{Named, a_name, a_numeral, Keyword, a_keyword, Sign, a_sign}
-use Rattle.oc_grammar.specs.Expressions.{operators, Spells, literal, yes, no, name, element, target, parens, minus, negation, input, result, one, more, compare, SpellsArg, by_value, by_shared, by_mutable, SpellsArgs, closed, last, further, SpellsWhole}
+use Rattle.oc_grammar.specs.Expressions.{operators, Spells, literal, yes, no, name, element, target, parens, minus, negation, input, result, one, more, compare, SpellsArg}
+use Rattle.oc_grammar.specs.Expressions.{by_value, by_shared, by_mutable, SpellsArgs, closed, last, further, SpellsWhole}
 use Rattle.oc_grammar.specs.Reading.{Read, with_some, too_deep, next_at, strip_mark, strip_word, expect_mark, name_at, take_word, operator_front}
 use Rattle.oc_grammar.specs.ReadingExpressions.{ReadExpr, spend_at, chain, most, levels, named_by, unary_by, whole_by, reference_by, arg_by, args_by, sensor_at, unary_at, level_at, part_at, whole_at}
-use Rattle.oc_grammar.proofs.FrontLaws.{bind_ok, done, ok_is, with_some_ok, strip_mark_ok, strip_word_ok, expect_mark_ok, name_ok, next_ok, sign_shorter, keyword_shorter, name_shorter, number_shorter, infix_shorter, front_ok}
+use Rattle.oc_grammar.proofs.FrontLaws.{bind_ok, done, ok_is, with_some_ok, strip_mark_ok, strip_word_ok, expect_mark_ok, name_ok, next_ok, sign_shorter, keyword_shorter}
+use Rattle.oc_grammar.proofs.FrontLaws.{name_shorter, number_shorter, infix_shorter, front_ok}
 use Rattle.oc_grammar.proofs.ListLaws.{PartSound, listed_sound}
 
 pub spent : (n : ℕ) (ts : Lexemes) (m : ℕ) → spend_at n ts ≡ Ok m → n ≡ suc m
@@ -61,7 +63,9 @@ module _ (limits : Limits) where
   moved : (room level n : ℕ) (from : Lexemes) (a b : TExpr × ℕ × Lexemes) → done a ≡ done b → Spelled room level n from a → Spelled room level n from b
   moved room level n from a b e d = subst (λ (p : TExpr × ℕ × Lexemes). Spelled room level n from p) (ok_is a b e) d
 
-  chain_sound : (room level : ℕ) (part : ℕ → Lexemes → ReadExpr) → suc level ≢ 3 → Sound part room level → (k total : ℕ) (from : Lexemes) (e : TExpr) (n : ℕ) (ts : Lexemes) (y : TExpr × ℕ × Lexemes) → Spelled room (suc level) total from (e, n, ts) → chain (suc level) part k e n ts ≡ Ok y → Spelled room (suc level) total from y
+  chain_sound : (room level : ℕ) (part : ℕ → Lexemes → ReadExpr) → suc level ≢ 3 → Sound part room level
+      → (k total : ℕ) (from : Lexemes) (e : TExpr) (n : ℕ) (ts : Lexemes) (y : TExpr × ℕ × Lexemes) → Spelled room (suc level) total from (e, n, ts)
+      → chain (suc level) part k e n ts ≡ Ok y → Spelled room (suc level) total from y
   unfolding chain
   chain_sound room level part ne sound zero total from e n ts y d h = moved room (suc level) total from (e, n, ts) y h d
   chain_sound room level part ne sound (suc k) total from e n ts y d h =
@@ -77,7 +81,8 @@ module _ (limits : Limits) where
             chain_sound room level part ne sound k total from (binary w.0.0 e b.0.0) b.0.1 b.0.2 y (more ne d.0 (front_ok (suc level) ts w.0 w.1) p.0, omega arith) b.2
       ]
 
-  three_sound : (room : ℕ) (part : ℕ → Lexemes → ReadExpr) → Sound part room 2 → (total : ℕ) (from : Lexemes) (e : TExpr) (n : ℕ) (ts : Lexemes) (y : TExpr × ℕ × Lexemes) → Spelled room 2 total from (e, n, ts) → chain 3 part 1 e n ts ≡ Ok y → Spelled room 3 total from y
+  three_sound : (room : ℕ) (part : ℕ → Lexemes → ReadExpr) → Sound part room 2 → (total : ℕ) (from : Lexemes) (e : TExpr) (n : ℕ) (ts : Lexemes) (y : TExpr × ℕ × Lexemes)
+      → Spelled room 2 total from (e, n, ts) → chain 3 part 1 e n ts ≡ Ok y → Spelled room 3 total from y
   unfolding chain
   three_sound room part sound total from e n ts y d h =
       elim (with_some_ok (operator_front 3 ts) _ _ (Ok y) h) [
@@ -113,11 +118,13 @@ module _ (limits : Limits) where
             chain_sound room level (levels level lowest) ne (levels_sound room lowest sound level) (most (suc level) b.0.2) n ts b.0.0 b.0.1 b.0.2 y (one d.0, d.1) b.2
       ]
 
-  element_in : (room : ℕ) (x : Text) (e : TExpr) (from a b c rest : Lexemes) → Named x from a → Sign marks.OpenSquare a b → Inside room (λ r. Spells limits r 5 e b c) → Sign marks.CloseSquare c rest → Spells limits room 0 (index x e) from rest
+  element_in : (room : ℕ) (x : Text) (e : TExpr) (from a b c rest : Lexemes) → Named x from a → Sign marks.OpenSquare a b → Inside room (λ r. Spells limits r 5 e b c)
+      → Sign marks.CloseSquare c rest → Spells limits room 0 (index x e) from rest
   element_in zero x e from a b c rest i s d k = absurd d
   element_in (suc room) x e from a b c rest i s d k = element i s d k
 
-  parens_in : (room : ℕ) (e : TExpr) (from a b rest : Lexemes) → Sign marks.OpenRound from a → Inside room (λ r. Spells limits r 5 e a b) → Sign marks.CloseRound b rest → Spells limits room 0 e from rest
+  parens_in : (room : ℕ) (e : TExpr) (from a b rest : Lexemes) → Sign marks.OpenRound from a → Inside room (λ r. Spells limits r 5 e a b) → Sign marks.CloseRound b rest
+      → Spells limits room 0 e from rest
   parens_in zero e from a b rest s d k = absurd d
   parens_in (suc room) e from a b rest s d k = parens s d k
 
@@ -133,7 +140,8 @@ module _ (limits : Limits) where
   input_in zero s from a b rest k o d = absurd d
   input_in (suc room) s from a b rest k o d = input k o d.1 d.2
 
-  result_in : (room : ℕ) (f : Text) (args : TArgs) (from a b rest : Lexemes) → Named f from a → Sign marks.OpenRound a b → Inside room (λ r. SpellsArgs limits r args b rest) → Spells limits room 0 (called (call f args)) from rest
+  result_in : (room : ℕ) (f : Text) (args : TArgs) (from a b rest : Lexemes) → Named f from a → Sign marks.OpenRound a b → Inside room (λ r. SpellsArgs limits r args b rest)
+      → Spells limits room 0 (called (call f args)) from rest
   result_in zero f args from a b rest i o d = absurd d
   result_in (suc room) f args from a b rest i o d = result i o d
 
@@ -144,7 +152,8 @@ module _ (limits : Limits) where
     of_args : (ts : Lexemes) (x : List TArg × Lexemes) → args ts ≡ Ok x → Inside room (λ r. SpellsArgs limits r (args_of x.0) ts x.1)
     of_sensor : (ts : Lexemes) (x : Text × Lexemes) → sensor ts ≡ Ok x → Inside room (λ r. IsSensor x.0 ts x.1)
 
-  named_sound : (room : ℕ) (prefixed inner : ℕ → Lexemes → ReadExpr) (args : Lexemes → Read (List TArg)) (sensor : Lexemes → Read Text) → Parts room prefixed inner args sensor → (line : ℕ) (x : Text) (n : ℕ) (ts : Lexemes) (y : TExpr × ℕ × Lexemes) → named_by inner args x n ts ≡ Ok y → Spelled room 0 n (named line x ∷ ts) y
+  named_sound : (room : ℕ) (prefixed inner : ℕ → Lexemes → ReadExpr) (args : Lexemes → Read (List TArg)) (sensor : Lexemes → Read Text) → Parts room prefixed inner args sensor
+      → (line : ℕ) (x : Text) (n : ℕ) (ts : Lexemes) (y : TExpr × ℕ × Lexemes) → named_by inner args x n ts ≡ Ok y → Spelled room 0 n (named line x ∷ ts) y
   named_sound room prefixed inner args sensor p line x n ts y e =
       elim (with_some_ok (strip_mark marks.OpenRound ts) _ _ (Ok y) e) [
         | inl w ↦
@@ -154,14 +163,17 @@ module _ (limits : Limits) where
                   let b = bind_ok (inner n v.0) _ y v.2 in
                   let d = p.of_inner n v.0 b.0 b.1 in
                   let c = bind_ok (expect_mark marks.CloseSquare b.0.2) _ y b.2 in
-                  moved room 0 n (named line x ∷ ts) (index x b.0.0, b.0.1, c.0) y c.2 (element_in room x b.0.0 (named line x ∷ ts) ts v.0 b.0.2 c.0 a_name (strip_mark_ok marks.OpenSquare ts v.0 v.1) d.0 (expect_mark_ok marks.CloseSquare b.0.2 c.0 c.1), d.1)
+                  moved room 0 n (named line x ∷ ts) (index x b.0.0, b.0.1, c.0) y c.2
+                  (element_in room x b.0.0 (named line x ∷ ts) ts v.0 b.0.2 c.0 a_name (strip_mark_ok marks.OpenSquare ts v.0 v.1) d.0 (expect_mark_ok marks.CloseSquare b.0.2 c.0 c.1), d.1)
             ]
         | inr w ↦
             let b = bind_ok (args w.0) _ y w.2 in
-            moved room 0 n (named line x ∷ ts) (called (call x (args_of b.0.0)), n, b.0.1) y b.2 (result_in room x (args_of b.0.0) (named line x ∷ ts) ts w.0 b.0.1 a_name (strip_mark_ok marks.OpenRound ts w.0 w.1) (p.of_args w.0 b.0 b.1), omega arith)
+            moved room 0 n (named line x ∷ ts) (called (call x (args_of b.0.0)), n, b.0.1) y b.2
+            (result_in room x (args_of b.0.0) (named line x ∷ ts) ts w.0 b.0.1 a_name (strip_mark_ok marks.OpenRound ts w.0 w.1) (p.of_args w.0 b.0 b.1), omega arith)
       ]
 
-  unary_by_sound : (room : ℕ) (prefixed inner : ℕ → Lexemes → ReadExpr) (args : Lexemes → Read (List TArg)) (sensor : Lexemes → Read Text) → Parts room prefixed inner args sensor → (t : Lexeme) (n : ℕ) (ts : Lexemes) (y : TExpr × ℕ × Lexemes) → unary_by prefixed inner args sensor t n ts ≡ Ok y → Spelled room 0 n (t ∷ ts) y
+  unary_by_sound : (room : ℕ) (prefixed inner : ℕ → Lexemes → ReadExpr) (args : Lexemes → Read (List TArg)) (sensor : Lexemes → Read Text) → Parts room prefixed inner args sensor
+      → (t : Lexeme) (n : ℕ) (ts : Lexemes) (y : TExpr × ℕ × Lexemes) → unary_by prefixed inner args sensor t n ts ≡ Ok y → Spelled room 0 n (t ∷ ts) y
   unary_by_sound room prefixed inner args sensor p (numeral line v) n ts y e = moved room 0 n (numeral line v ∷ ts) (number v, n, ts) y e (literal a_numeral, omega arith)
   unary_by_sound room prefixed inner args sensor p (named line x) n ts y e = named_sound room prefixed inner args sensor p line x n ts y e
   unary_by_sound room prefixed inner args sensor p (keyword line words.True) n ts y e = moved room 0 n (keyword line words.True ∷ ts) (truth true, n, ts) y e (yes a_keyword, omega arith)
@@ -169,7 +181,8 @@ module _ (limits : Limits) where
   unary_by_sound room prefixed inner args sensor p (keyword line words.Sense) n ts y e =
       let a = bind_ok (expect_mark marks.OpenRound ts) _ y e in
       let b = bind_ok (sensor a.0) _ y a.2 in
-      moved room 0 n (keyword line words.Sense ∷ ts) (sensed b.0.0, n, b.0.1) y b.2 (input_in room b.0.0 (keyword line words.Sense ∷ ts) ts a.0 b.0.1 a_keyword (expect_mark_ok marks.OpenRound ts a.0 a.1) (p.of_sensor a.0 b.0 b.1), omega arith)
+      moved room 0 n (keyword line words.Sense ∷ ts) (sensed b.0.0, n, b.0.1) y b.2
+      (input_in room b.0.0 (keyword line words.Sense ∷ ts) ts a.0 b.0.1 a_keyword (expect_mark_ok marks.OpenRound ts a.0 a.1) (p.of_sensor a.0 b.0 b.1), omega arith)
   unary_by_sound room prefixed inner args sensor p (sign line marks.Star) n ts y e =
       let a = bind_ok (name_at ts) _ y e in
       moved room 0 n (sign line marks.Star ∷ ts) (deref a.0.0, n, a.0.1) y a.2 (target a_sign (name_ok ts a.0.0 a.0.1 a.1), omega arith)
@@ -177,7 +190,8 @@ module _ (limits : Limits) where
       let b = bind_ok (inner n ts) _ y e in
       let d = p.of_inner n ts b.0 b.1 in
       let c = bind_ok (expect_mark marks.CloseRound b.0.2) _ y b.2 in
-      moved room 0 n (sign line marks.OpenRound ∷ ts) (b.0.0, b.0.1, c.0) y c.2 (parens_in room b.0.0 (sign line marks.OpenRound ∷ ts) ts b.0.2 c.0 a_sign d.0 (expect_mark_ok marks.CloseRound b.0.2 c.0 c.1), d.1)
+      moved room 0 n (sign line marks.OpenRound ∷ ts) (b.0.0, b.0.1, c.0) y c.2
+      (parens_in room b.0.0 (sign line marks.OpenRound ∷ ts) ts b.0.2 c.0 a_sign d.0 (expect_mark_ok marks.CloseRound b.0.2 c.0 c.1), d.1)
   unary_by_sound room prefixed inner args sensor p (sign line marks.Minus) n ts y e =
       let b = bind_ok (prefixed n ts) _ y e in
       let d = p.of_prefixed n ts b.0 b.1 in
@@ -188,7 +202,8 @@ module _ (limits : Limits) where
       moved room 0 n (sign line marks.Not ∷ ts) (unary prefixes.Not b.0.0, b.0.1, b.0.2) y b.2 (negation_in room b.0.0 (sign line marks.Not ∷ ts) ts b.0.2 a_sign d.0, d.1)
   unary_by_sound room prefixed inner args sensor p _ n ts y e = absurd cc
 
-  part_sound : (room : ℕ) (inner : ℕ → Lexemes → ReadExpr) → Sound inner room 5 → (ts : Lexemes) (x : TExpr × Lexemes) → whole_by limits inner ts ≡ Ok x → Spells limits room 5 x.0 ts x.1 × (operators x.0 ≤ limits.operators)
+  part_sound : (room : ℕ) (inner : ℕ → Lexemes → ReadExpr) → Sound inner room 5 → (ts : Lexemes) (x : TExpr × Lexemes) → whole_by limits inner ts ≡ Ok x
+      → Spells limits room 5 x.0 ts x.1 × (operators x.0 ≤ limits.operators)
   part_sound room inner sound ts x e =
       let b = bind_ok (inner limits.operators ts) _ x e in
       let d = sound limits.operators ts b.0 b.1 in
@@ -217,7 +232,8 @@ module _ (limits : Limits) where
         | inr w ↦ reference_sound room ts w.0 x (strip_mark_ok marks.Ampersand ts w.0 w.1) w.2
       ]
 
-  pub args_sound : (room : ℕ) (inner : ℕ → Lexemes → ReadExpr) → Sound inner room 5 → (ts : Lexemes) (x : List TArg × Lexemes) → args_by limits inner ts ≡ Ok x → SpellsArgs limits room (args_of x.0) ts x.1
+  pub args_sound : (room : ℕ) (inner : ℕ → Lexemes → ReadExpr) → Sound inner room 5 → (ts : Lexemes) (x : List TArg × Lexemes) → args_by limits inner ts ≡ Ok x
+      → SpellsArgs limits room (args_of x.0) ts x.1
   args_sound room inner sound ts x e =
       listed_sound (SpellsArg limits room) (λ xs from rest. SpellsArgs limits room (args_of xs) from rest) (arg_by limits inner) (arg_sound room inner sound)
       (λ from rest s. closed s) (λ a from b rest d s. last d s) (λ a as' from b c rest d s q. further d s q) (suc (length ts)) ts x e

@@ -13,7 +13,8 @@ use Rattle.oc_lex.specs.declared.token.Mark.TheVariants as marks
 use Rattle.oc_grammar.specs.Limits.{Limits}
 use Rattle.oc_grammar.specs.Lexemes.{Lexeme, Lexemes, named, numeral, keyword, sign}
 use Rattle.oc_grammar.specs.Fronts.{Named, a_name, a_numeral, Keyword, a_keyword, Sign, a_sign, Infix, an_operator, infix_of, mark_operator}
-use Rattle.oc_grammar.specs.Expressions.{operators, Spells, literal, yes, no, name, element, target, parens, minus, negation, input, result, one, more, compare, SpellsArg, by_value, by_shared, by_mutable, SpellsArgs, closed, last, further, SpellsWhole}
+use Rattle.oc_grammar.specs.Expressions.{operators, Spells, literal, yes, no, name, element, target, parens, minus, negation, input, result, one, more, compare, SpellsArg}
+use Rattle.oc_grammar.specs.Expressions.{by_value, by_shared, by_mutable, SpellsArgs, closed, last, further, SpellsWhole}
 use Rattle.oc_grammar.specs.Reading.{mark_number, next_at, strip_mark, strip_word, expect_mark, name_at, take_word, operator_front, listed_by}
 use Rattle.oc_grammar.specs.ReadingExpressions.{ReadExpr, spend_at, chain, most, levels, reference, reference_by, arg_by, sensor_at, unary_at, level_at, part_at, whole_at}
 use Rattle.oc_grammar.proofs.FrontLaws.{bind_same, done, with_some_same, sign_strip, keyword_strip, name_read, sign_shorter, infix_shorter, front_ok, infix_front, other_level}
@@ -22,7 +23,8 @@ use Rattle.oc_grammar.proofs.ExpressionLaws.{level_sound, shorter, shorter_arg}
 abbrev pub ShortensExpr : (ℕ → Lexemes → ReadExpr) → Type 0
 ShortensExpr part = (n : ℕ) (ts : Lexemes) (x : TExpr × ℕ × Lexemes) → part n ts ≡ Ok x → length x.2 < length ts
 
-pub chain_enough : (level : ℕ) (part : ℕ → Lexemes → ReadExpr) → ShortensExpr part → (k j : ℕ) (e : TExpr) (n : ℕ) (ts : Lexemes) → length ts ≤ k → length ts ≤ j → chain level part k e n ts ≡ chain level part j e n ts
+pub chain_enough : (level : ℕ) (part : ℕ → Lexemes → ReadExpr) → ShortensExpr part → (k j : ℕ) (e : TExpr) (n : ℕ) (ts : Lexemes) → length ts ≤ k → length ts ≤ j
+    → chain level part k e n ts ≡ chain level part j e n ts
 unfolding chain operator_front
 chain_enough level part short zero zero e n ts h g = refl
 chain_enough level part short zero (suc j) e n [] h g = refl
@@ -167,10 +169,12 @@ module _ (limits : Limits) where
       by_flag true = refl
       by_flag false = chain_stopped (suc level) (level_at limits level room) (length ts) e n ts h
 
-  on_is : (level room : ℕ) (e : TExpr) (n : ℕ) (ts : Lexemes) → (suc level ≡ 3 → operator_front (suc level) ts ≡ None) → chain (suc level) (level_at limits level room) (most (suc level) ts) e n ts ≡ on (suc level) room e n ts
+  on_is : (level room : ℕ) (e : TExpr) (n : ℕ) (ts : Lexemes) → (suc level ≡ 3 → operator_front (suc level) ts ≡ None)
+      → chain (suc level) (level_at limits level room) (most (suc level) ts) e n ts ≡ on (suc level) room e n ts
   on_is level room e n ts h = by_flag (eqb (suc level) 3) refl
     where
-      by_flag : (b : Bool) → eqb (suc level) 3 ≡ b → chain (suc level) (level_at limits level room) (cond b 1 (length ts)) e n ts ≡ cond b (Ok (e, n, ts)) (chain (suc level) (level_at limits level room) (length ts) e n ts)
+      by_flag : (b : Bool) → eqb (suc level) 3 ≡ b → chain (suc level) (level_at limits level room) (cond b 1 (length ts)) e n ts
+          ≡ cond b (Ok (e, n, ts)) (chain (suc level) (level_at limits level room) (length ts) e n ts)
       by_flag true k = chain_stopped (suc level) (level_at limits level room) 1 e n ts (h (eqb-true _ _ k))
       by_flag false k = refl
 
@@ -178,11 +182,13 @@ module _ (limits : Limits) where
   on_other level room e n ts ne = rw (ne_eqb (suc level) 3 ne) refl
 
   -- the reading of a level, at the level below
-  level_from : (level room m : ℕ) (from : Lexemes) (e : TExpr) (n : ℕ) (ts : Lexemes) → level_at limits level room m from ≡ Ok (e, n, ts) → (suc level ≡ 3 → operator_front (suc level) ts ≡ None) → level_at limits (suc level) room m from ≡ on (suc level) room e n ts
+  level_from : (level room m : ℕ) (from : Lexemes) (e : TExpr) (n : ℕ) (ts : Lexemes) → level_at limits level room m from ≡ Ok (e, n, ts)
+      → (suc level ≡ 3 → operator_front (suc level) ts ≡ None) → level_at limits (suc level) room m from ≡ on (suc level) room e n ts
   unfolding levels
   level_from level room m from e n ts r h = rw r (on_is level room e n ts h)
 
-  three_is : (room m : ℕ) (from : Lexemes) (l : TExpr) (n : ℕ) (op : BinaryOp) (a b : Lexemes) (r : TExpr) (k : ℕ) (rest : Lexemes) → level_at limits 2 room m from ≡ Ok (l, suc n, a) → operator_front 3 a ≡ Some (op, b) → level_at limits 2 room n b ≡ Ok (r, k, rest) → level_at limits 3 room m from ≡ Ok (binary op l r, k, rest)
+  three_is : (room m : ℕ) (from : Lexemes) (l : TExpr) (n : ℕ) (op : BinaryOp) (a b : Lexemes) (r : TExpr) (k : ℕ) (rest : Lexemes) → level_at limits 2 room m from
+      ≡ Ok (l, suc n, a) → operator_front 3 a ≡ Some (op, b) → level_at limits 2 room n b ≡ Ok (r, k, rest) → level_at limits 3 room m from ≡ Ok (binary op l r, k, rest)
   unfolding levels chain spend_at
   three_is room m from l n op a b r k rest e o f = rw (e, o, f) refl
 
@@ -203,7 +209,8 @@ module _ (limits : Limits) where
   unary_no zero n line rest = refl
   unary_no (suc room) n line rest = refl
 
-  unary_name : (room n line : ℕ) (x : Text) (rest : Lexemes) → strip_mark marks.OpenRound rest ≡ None → strip_mark marks.OpenSquare rest ≡ None → unary_at limits room n (named line x ∷ rest) ≡ Ok (variable x, n, rest)
+  unary_name : (room n line : ℕ) (x : Text) (rest : Lexemes) → strip_mark marks.OpenRound rest ≡ None → strip_mark marks.OpenSquare rest ≡ None
+      → unary_at limits room n (named line x ∷ rest) ≡ Ok (variable x, n, rest)
   unfolding unary_at next_at
   unary_name zero n line x rest h g = rw (h, g) refl
   unary_name (suc room) n line x rest h g = rw (h, g) refl
@@ -239,7 +246,8 @@ module _ (limits : Limits) where
   mutual
     unfolding list_of levels unary_at next_at listed_by strip_mark expect_mark sensor_at name_at
 
-    pub goes_on : {room level : ℕ} {e : TExpr} {from rest : Lexemes} → Spells limits room level e from rest → Stops level rest → (n m : ℕ) → m ≡ operators e + n → level_at limits level room m from ≡ on level room e n rest
+    pub goes_on : {room level : ℕ} {e : TExpr} {from rest : Lexemes} → Spells limits room level e from rest → Stops level rest → (n m : ℕ) → m ≡ operators e + n
+        → level_at limits level room m from ≡ on level room e n rest
     goes_on (literal {room = room} {v = v} {rest = rest} (a_numeral {line = line})) stops n m h =
         let k : m ≡ n = omega arith in rw k (unary_literal room n line v rest)
     goes_on (yes {room = room} {rest = rest} (a_keyword {line = line})) stops n m h =
@@ -249,12 +257,14 @@ module _ (limits : Limits) where
     goes_on (name {room = room} {x = x} {rest = rest} (a_name {line = line})) stops n m h =
         let k : m ≡ n = omega arith in rw k (unary_name room n line x rest stops.no_call stops.no_index)
     goes_on (element {room = room} {x = x} {e = e} {b = b} {c = c} {rest = rest} a_name a_sign d s) stops n m h =
-        let inner : level_at limits 5 room m b ≡ Ok (e, n, c) = goes_on d (stops_sign 5 marks.CloseSquare c rest refl refl refl s) n m h ∙ stopped 5 room e n c ((stops_sign 6 marks.CloseSquare c rest refl refl refl s).no_operator 5 (omega arith)) in
+        let inner : level_at limits 5 room m b ≡ Ok (e, n, c) = goes_on d (stops_sign 5 marks.CloseSquare c rest refl refl refl s) n m h
+        ∙ stopped 5 room e n c ((stops_sign 6 marks.CloseSquare c rest refl refl refl s).no_operator 5 (omega arith)) in
         rw (inner, sign_strip s) refl
     goes_on (target {room = room} {x = x} {rest = rest} (a_sign {line = line}) (a_name {line = line'})) stops n m h =
         let k : m ≡ n = omega arith in rw k (unary_target room n line line' x rest)
     goes_on (parens {room = room} {e = e} {a = a} {b = b} {rest = rest} a_sign d s) stops n m h =
-        let inner : level_at limits 5 room m a ≡ Ok (e, n, b) = goes_on d (stops_sign 5 marks.CloseRound b rest refl refl refl s) n m h ∙ stopped 5 room e n b ((stops_sign 6 marks.CloseRound b rest refl refl refl s).no_operator 5 (omega arith)) in
+        let inner : level_at limits 5 room m a ≡ Ok (e, n, b) = goes_on d (stops_sign 5 marks.CloseRound b rest refl refl refl s) n m h
+        ∙ stopped 5 room e n b ((stops_sign 6 marks.CloseRound b rest refl refl refl s).no_operator 5 (omega arith)) in
         rw (inner, sign_strip s) refl
     goes_on (minus {room = room} {e = e} {a = a} {rest = rest} a_sign d) stops n m h =
         let inner : unary_at limits room m a ≡ Ok (e, n, rest) = goes_on d stops n m h in
@@ -270,30 +280,35 @@ module _ (limits : Limits) where
         rw (k, inner, args_back args) refl
     goes_on (one {room = room} {level = level} {e = e} {from = from} {rest = rest} d) stops n m h =
         let g = below_next level in
-        let below : level_at limits level room m from ≡ Ok (e, n, rest) = goes_on d (lower level (suc level) rest (reach_next level) stops) n m h ∙ stopped level room e n rest (stops.no_operator level g) in
+        let below : level_at limits level room m from ≡ Ok (e, n, rest) = goes_on d (lower level (suc level) rest (reach_next level) stops) n m h
+        ∙ stopped level room e n rest (stops.no_operator level g) in
         level_from level room m from e n rest below (λ k. stops.no_operator (suc level) (rw k (omega arith)))
     goes_on (more {room = room} {level = level} {op = op} {l = l} {r = r} {from = from} {a = a} {b = b} {rest = rest} ne d o e) stops n m h =
         let k : ℕ = operators r + n in
         let g = below_next level in
-        let right : level_at limits level room k b ≡ Ok (r, n, rest) = goes_on e (lower level (suc level) rest (reach_next level) stops) n k refl ∙ stopped level room r n rest (stops.no_operator level g) in
+        let right : level_at limits level room k b ≡ Ok (r, n, rest) = goes_on e (lower level (suc level) rest (reach_next level) stops) n k refl
+        ∙ stopped level room r n rest (stops.no_operator level g) in
         let f = reach_other (suc level) ne in
         let left : level_at limits (suc level) room m from ≡ on (suc level) room l (suc k) a = goes_on d (stops_infix (suc level) o (omega arith)) (suc k) m (omega arith) in
         left ∙ on_other level room l (suc k) a ne ∙ chain_turn room level l k op a b (r, n, rest) (infix_front o) right ∙ sym (on_other level room (binary op l r) n rest ne)
     goes_on (compare {room = room} {op = op} {l = l} {r = r} {from = from} {a = a} {b = b} {rest = rest} d o e) stops n m h =
         let k : ℕ = operators r + n in
         let right : level_at limits 2 room k b ≡ Ok (r, n, rest) = goes_on e (lower 2 3 rest (omega arith) stops) n k refl ∙ stopped 2 room r n rest (stops.no_operator 2 (omega arith)) in
-        let left : level_at limits 2 room m from ≡ Ok (l, suc k, a) = goes_on d (stops_infix 2 o (omega arith)) (suc k) m (omega arith) ∙ stopped 2 room l (suc k) a (other_level o 2 (λ e. omega arith)) in
+        let left : level_at limits 2 room m from ≡ Ok (l, suc k, a) = goes_on d (stops_infix 2 o (omega arith)) (suc k) m (omega arith)
+        ∙ stopped 2 room l (suc k) a (other_level o 2 (λ e. omega arith)) in
         three_is room m from l k op a b r n rest left (infix_front o) right
 
     arg_read : {room : ℕ} {arg : TArg} {from rest : Lexemes} → SpellsArg limits room arg from rest → Stops 6 rest → arg_by limits (level_at limits 5 room) from ≡ Ok (arg, rest)
     arg_read (by_value {room = room} {e = e} {from = from} {rest = rest} d few) stops =
         let n : ℕ = limits.operators - operators e in
-        let inner : level_at limits 5 room limits.operators from ≡ Ok (e, n, rest) = goes_on d (lower 5 6 rest (omega arith) stops) n limits.operators (omega arith) ∙ stopped 5 room e n rest (stops.no_operator 5 (omega arith)) in
+        let inner : level_at limits 5 room limits.operators from ≡ Ok (e, n, rest) = goes_on d (lower 5 6 rest (omega arith) stops) n limits.operators (omega arith)
+        ∙ stopped 5 room e n rest (stops.no_operator 5 (omega arith)) in
         rw ((begins d).1, inner) refl
     arg_read (by_shared {room = room} {x = x} {a = a} {rest = rest} a_sign i) stops = reference_read false x a a rest i (take_without words.Mutable a (named_no_word i words.Mutable))
     arg_read (by_mutable {room = room} {x = x} {a = a} {b = b} {rest = rest} a_sign k i) stops = reference_read true x a b rest i (take_with k)
 
-    pub args_read : {room : ℕ} {args : TArgs} {from rest : Lexemes} → SpellsArgs limits room args from rest → (k : ℕ) → length from ≤ k → listed_by (arg_by limits (level_at limits 5 room)) k from ≡ Ok (list_of args, rest)
+    pub args_read : {room : ℕ} {args : TArgs} {from rest : Lexemes} → SpellsArgs limits room args from rest → (k : ℕ) → length from ≤ k
+        → listed_by (arg_by limits (level_at limits 5 room)) k from ≡ Ok (list_of args, rest)
     args_read (closed s) zero h = let g = sign_shorter s in absurd (omega arith)
     args_read (closed s) (suc k) h = rw (sign_strip s) refl
     args_read (last d s) zero h = let g = shorter_arg limits d in absurd (omega arith)
@@ -312,7 +327,8 @@ module _ (limits : Limits) where
   unfolding part_at
   part_read room e from rest d few stops =
       let n : ℕ = limits.operators - operators e in
-      let inner : level_at limits 5 room limits.operators from ≡ Ok (e, n, rest) = goes_on d (lower 5 6 rest (omega arith) stops) n limits.operators (omega arith) ∙ stopped 5 room e n rest (stops.no_operator 5 (omega arith)) in
+      let inner : level_at limits 5 room limits.operators from ≡ Ok (e, n, rest) = goes_on d (lower 5 6 rest (omega arith) stops) n limits.operators (omega arith)
+      ∙ stopped 5 room e n rest (stops.no_operator 5 (omega arith)) in
       rw inner refl
 
   pub whole_read : {e : TExpr} {from rest : Lexemes} → SpellsWhole limits e from rest → Stops 6 rest → whole_at limits from ≡ Ok (e, rest)

@@ -1,5 +1,6 @@
 -- The first fault of a reading is where the tokens stop to begin a program, or pass a depth.
-use Rattle.std.proofs.Common.{◌≡◌, ℕ, zero, suc, ◌+◌, ◌-◌, ◌<◌, ◌≤◌, Bool, true, false, eqb, [], ◌∷◌, ◌++◌, length, Result, Ok, Err, refl, sym, ap, subst, ◌∙◌, arith, append_assoc, append-nil, inl, inr, ◌⊎◌}
+use Rattle.std.proofs.Common.{◌≡◌, ℕ, zero, suc, ◌+◌, ◌-◌, ◌<◌, ◌≤◌, Bool, true, false, eqb, [], ◌∷◌, ◌++◌, length, Result, Ok, Err, refl, sym, ap, subst, ◌∙◌, arith, append_assoc}
+use Rattle.std.proofs.Common.{append-nil, inl, inr, ◌⊎◌}
 use Rattle.std.proofs.lemmas.Bool.{eqb-true, eq-eqb}
 use Rattle.std.proofs.lemmas.List.{length-append}
 use Rattle.oc_tree.specs.Tree.{TProgram}
@@ -30,13 +31,15 @@ gap_of small large d = limit d large - limit d small
 abbrev Wider : Limits → Limits → Type 0
 Wider small large = (d : Depth) → limit d small ≤ limit d large
 
-together : (asks : Lexeme → Type 0) (small large : Limits) → Wider small large → Positive (gap_of small large brackets_depth) ⊎ ((line : ℕ) → asks (keyword line words.Sense) → ⊥) → Positive (gap_of small large blocks_depth) ⊎ ((t : Lexeme) → asks t → is_curly t ≡ true) → (k : ℕ) (p p' : TProgram)
+together : (asks : Lexeme → Type 0) (small large : Limits) → Wider small large → Positive (gap_of small large brackets_depth) ⊎ ((line : ℕ) → asks (keyword line words.Sense) → ⊥)
+    → Positive (gap_of small large blocks_depth) ⊎ ((t : Lexeme) → asks t → is_curly t ≡ true) → (k : ℕ) (p p' : TProgram)
     → Online (gap_of small large) asks programs true k (items_at small p 1 1) (items_at large p' 1 1)
 together asks small large w sensible curly_only k p p' =
     let gap = gap_of small large in
     let spends = above_le small.operators large.operators (w operators_depth) in
     let brackets = above_le small.brackets large.brackets (w brackets_depth) in
-    items_online (gap_of small large) asks small large (whole_good (gap_of small large) asks small large spends sensible brackets) (call_args_good (gap_of small large) asks small large spends sensible brackets) curly_only (above_le small.blocks large.blocks (w blocks_depth)) k p p' 1 1
+    items_online (gap_of small large) asks small large (whole_good (gap_of small large) asks small large spends sensible brackets)
+    (call_args_good (gap_of small large) asks small large spends sensible brackets) curly_only (above_le small.blocks large.blocks (w blocks_depth)) k p p' 1 1
 
 no_asks : Lexeme → Type 0
 no_asks t = ⊥
@@ -103,10 +106,12 @@ read_on limits p front t w =
 no_such : (q : Lexemes → Result TProgram Fault) (more : Lexemes) (y : TProgram) (f : Fault) → q more ≡ Ok y → q more ≡ Err f → ⊥
 no_such q more y f a e = let k : ◌≡◌ {A = Result TProgram Fault} (Ok y) (Err f) = sym a ∙ e in cc
 
-refused_begins_not : (p : TProgram) (front : Lexemes) (t : Lexeme) (behind : Lexemes) → items_at the_depths p 1 1 (front ++ t ∷ behind) ≡ Err (syntax_fault (suc (length behind))) → Begins (front ++ t ∷ []) → ⊥
+refused_begins_not : (p : TProgram) (front : Lexemes) (t : Lexeme) (behind : Lexemes) → items_at the_depths p 1 1 (front ++ t ∷ behind) ≡ Err (syntax_fault (suc (length behind)))
+    → Begins (front ++ t ∷ []) → ⊥
 refused_begins_not p front t behind e b =
     let c = read_on b.limits p front t b.within in
-    let h = refuses_too (gap_of the_depths (both b.limits)) no_asks programs true (quietly the_depths (both b.limits) (both_depths b.limits) (suc (length (front ++ t ∷ behind))) p p) front t behind c.0 (omega arith) e in
+    let h = refuses_too (gap_of the_depths (both b.limits)) no_asks programs true
+    (quietly the_depths (both b.limits) (both_depths b.limits) (suc (length (front ++ t ∷ behind))) p p) front t behind c.0 (omega arith) e in
     no_such (λ more. items_at (both b.limits) p 1 1 (front ++ t ∷ more)) c.0 c.1 _ c.2 h
 
 -- one more of each
@@ -127,7 +132,8 @@ more_positive brackets_depth = tt
 more_positive operators_depth = tt
 
 -- where reading stops later, the tokens begin a program
-stops_later : (p : TProgram) (front : Lexemes) (t : Lexeme) (behind : Lexemes) (f : Fault) → items_at the_depths p 1 1 (front ++ t ∷ behind) ≡ Err f → left_of f ≤ length behind → Begins (front ++ t ∷ [])
+stops_later : (p : TProgram) (front : Lexemes) (t : Lexeme) (behind : Lexemes) (f : Fault) → items_at the_depths p 1 1 (front ++ t ∷ behind) ≡ Err f → left_of f ≤ length behind
+    → Begins (front ++ t ∷ [])
 stops_later p front t behind f e h =
     record {
       limits = one_more;
@@ -233,18 +239,25 @@ in_depth : (p : TProgram) (front rest : Lexemes) (f : Fault) → items_at the_de
 in_depth p front rest f e h d a t b i passes =
     let j : front ++ rest ≡ a ++ t ∷ (b ++ rest) = ap (λ (l : Lexemes). l ++ rest) i ∙ append_assoc a (t ∷ b) rest in
     let l = length-append b rest in
-    let c = goes_on (gap_of the_depths (others d)) (Asked d) programs true (asking d (suc (length (a ++ t ∷ (b ++ rest)))) p p) a t (b ++ rest) f (omega arith) (subst (λ (z : Lexemes). items_at the_depths p 1 1 z ≡ Err f) j e) (omega arith) (asked d t passes.opens) in
+    let c = goes_on (gap_of the_depths (others d)) (Asked d) programs true (asking d (suc (length (a ++ t ∷ (b ++ rest)))) p p) a t (b ++ rest) f (omega arith)
+    (subst (λ (z : Lexemes). items_at the_depths p 1 1 z ≡ Err f) j e) (omega arith) (asked d t passes.opens) in
     passes.passed (others d) (others_limit d) (begun (others d) p a t c)
 
-whole_there : (d : Depth) (front : Lexemes) (t : Lexeme) (p : TProgram) → ((Positive (gap_of the_depths one_more d) → ⊥) × ((more : Lexemes) → items_at one_more p 1 1 (front ++ t ∷ more) ≡ Err (depth_fault d (suc (length more))))) ⊎ (Positive (gap_of the_depths one_more d) × (all_asks t → Completes (λ more. items_at one_more p 1 1 (front ++ t ∷ more)))) → Completes (λ more. items_at one_more p 1 1 (front ++ t ∷ more))
+whole_there : (d : Depth) (front : Lexemes) (t : Lexeme) (p : TProgram)
+    → ((Positive (gap_of the_depths one_more d) → ⊥) × ((more : Lexemes) → items_at one_more p 1 1 (front ++ t ∷ more) ≡ Err (depth_fault d (suc (length more))))) ⊎
+    (Positive (gap_of the_depths one_more d) × (all_asks t → Completes (λ more. items_at one_more p 1 1 (front ++ t ∷ more)))) → Completes (λ more. items_at one_more p 1 1 (front ++ t ∷ more))
 whole_there d front t p (inl h) = absurd (h.0 (more_positive d))
 whole_there d front t p (inr h) = h.1 tt
 
-passed_there : (d : Depth) (l : Limits) → limit d l ≡ limit d the_depths → (front : Lexemes) (t : Lexeme) (p : TProgram) → Completes (λ more. items_at (both l) p 1 1 (front ++ t ∷ more)) → ((Positive (gap_of the_depths (both l) d) → ⊥) × ((more : Lexemes) → items_at (both l) p 1 1 (front ++ t ∷ more) ≡ Err (depth_fault d (suc (length more))))) ⊎ (Positive (gap_of the_depths (both l) d) × (no_asks t → Completes (λ more. items_at (both l) p 1 1 (front ++ t ∷ more)))) → ⊥
+passed_there : (d : Depth) (l : Limits) → limit d l ≡ limit d the_depths → (front : Lexemes) (t : Lexeme) (p : TProgram)
+    → Completes (λ more. items_at (both l) p 1 1 (front ++ t ∷ more))
+    → ((Positive (gap_of the_depths (both l) d) → ⊥) × ((more : Lexemes) → items_at (both l) p 1 1 (front ++ t ∷ more) ≡ Err (depth_fault d (suc (length more))))) ⊎
+    (Positive (gap_of the_depths (both l) d) × (no_asks t → Completes (λ more. items_at (both l) p 1 1 (front ++ t ∷ more)))) → ⊥
 passed_there d l k front t p c (inl h) = no_such (λ more. items_at (both l) p 1 1 (front ++ t ∷ more)) c.0 c.1 _ c.2 (h.1 c.0)
 passed_there d l k front t p c (inr h) = subst Positive (both_same d l k) h.0
 
-deep_passes : (p : TProgram) (front : Lexemes) (t : Lexeme) (behind : Lexemes) (d : Depth) → items_at the_depths p 1 1 (front ++ t ∷ behind) ≡ Err (depth_fault d (suc (length behind))) → Passes d front t
+deep_passes : (p : TProgram) (front : Lexemes) (t : Lexeme) (behind : Lexemes) (d : Depth) → items_at the_depths p 1 1 (front ++ t ∷ behind)
+    ≡ Err (depth_fault d (suc (length behind))) → Passes d front t
 deep_passes p front t behind d e =
     let n : ℕ = suc (length (front ++ t ∷ behind)) in
     let deep = deep_too (gap_of the_depths one_more) all_asks programs true (aloud n p p) front t behind d (omega arith) e in
@@ -266,11 +279,13 @@ wrong_there : (ts : Lexemes) (p : TProgram) (m : ℕ) → items_at the_depths p 
 wrong_there ts p m e =
     let h = fault_place ts p (syntax_fault (suc m)) e in
     let s = split ts m (omega arith) in
-    let e' : items_at the_depths p 1 1 (s.front ++ s.token ∷ s.behind) ≡ Err (syntax_fault (suc (length s.behind))) = subst (λ (l : Lexemes). items_at the_depths p 1 1 l ≡ Err (syntax_fault (suc (length s.behind)))) s.is (rw s.left e) in
+    let e' : items_at the_depths p 1 1 (s.front ++ s.token ∷ s.behind) ≡ Err (syntax_fault (suc (length s.behind))) =
+    subst (λ (l : Lexemes). items_at the_depths p 1 1 l ≡ Err (syntax_fault (suc (length s.behind)))) s.is (rw s.left e) in
     let g = length-append s.front (s.token ∷ s.behind) in
     let k : length ts ≡ length (s.front ++ s.token ∷ s.behind) = ap (λ (l : Lexemes). length l) s.is in
     let left = s.left in
-    wrong s.front s.token s.behind s.is (omega arith) (in_depth p s.front (s.token ∷ s.behind) _ e' (omega arith)) (front_begins p s.front (s.token ∷ s.behind) _ e' (omega arith)) (refused_begins_not p s.front s.token s.behind e')
+    wrong s.front s.token s.behind s.is (omega arith) (in_depth p s.front (s.token ∷ s.behind) _ e' (omega arith)) (front_begins p s.front (s.token ∷ s.behind) _ e' (omega arith))
+    (refused_begins_not p s.front s.token s.behind e')
 
 ended_there : (ts : Lexemes) (p : TProgram) → items_at the_depths p 1 1 ts ≡ Err (syntax_fault 0) → IsSyntax ts (length ts - 0)
 ended_there ts p e =
@@ -285,7 +300,8 @@ deep_there : (ts : Lexemes) (p : TProgram) (d : Depth) (m : ℕ) → items_at th
 deep_there ts p d m e =
     let h = fault_place ts p (depth_fault d (suc m)) e in
     let s = split ts m (omega arith) in
-    let e' : items_at the_depths p 1 1 (s.front ++ s.token ∷ s.behind) ≡ Err (depth_fault d (suc (length s.behind))) = subst (λ (l : Lexemes). items_at the_depths p 1 1 l ≡ Err (depth_fault d (suc (length s.behind)))) s.is (rw s.left e) in
+    let e' : items_at the_depths p 1 1 (s.front ++ s.token ∷ s.behind) ≡ Err (depth_fault d (suc (length s.behind))) =
+    subst (λ (l : Lexemes). items_at the_depths p 1 1 l ≡ Err (depth_fault d (suc (length s.behind)))) s.is (rw s.left e) in
     let g = length-append s.front (s.token ∷ s.behind) in
     let k : length ts ≡ length (s.front ++ s.token ∷ s.behind) = ap (λ (l : Lexemes). length l) s.is in
     let left = s.left in
@@ -308,5 +324,6 @@ syntax_there ts (suc m) e = wrong_there ts (empty_program (last_line ts)) m (sym
 pub depth_there : (ts : Lexemes) (d : Depth) (n : ℕ) → program_at the_depths ts ≡ Err (depth_fault d n) → IsDepth ts (length ts - n)
 depth_there ts d zero e =
     let p = empty_program (last_line ts) in
-    absurd (never_at_end (gap_of the_depths the_depths) no_asks programs true (quietly the_depths the_depths (wide_self the_depths) (suc (length ts)) p p) ts (omega arith) d (sym (same_program the_depths ts) ∙ e))
+    absurd (never_at_end (gap_of the_depths the_depths) no_asks programs true (quietly the_depths the_depths (wide_self the_depths) (suc (length ts)) p p) ts (omega arith) d
+    (sym (same_program the_depths ts) ∙ e))
 depth_there ts d (suc m) e = deep_there ts (empty_program (last_line ts)) d m (sym (same_program the_depths ts) ∙ e)

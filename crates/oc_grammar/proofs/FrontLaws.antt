@@ -9,7 +9,8 @@ use Rattle.oc_lex.specs.declared.token.Mark.{Mark}
 use Rattle.oc_lex.specs.declared.token.Mark.TheVariants as marks
 use Rattle.oc_grammar.specs.Lexemes.{Lexeme, Lexemes, named, numeral, keyword, sign}
 use Rattle.oc_grammar.specs.Fronts.{Named, a_name, Numeral, a_numeral, Keyword, a_keyword, Sign, a_sign, Infix, an_operator, infix_of}
-use Rattle.oc_grammar.specs.Reading.{Fault, ◌>>=◌, with_some, refuse, mark_number, word_number, next_at, strip_mark, strip_word, expect_mark, expect_word, name_at, number_at, at_level, operator_of, before, operator_front}
+use Rattle.oc_grammar.specs.Reading.{Fault, ◌>>=◌, with_some, refuse, mark_number, word_number, next_at, strip_mark, strip_word, expect_mark, expect_word, name_at, number_at}
+use Rattle.oc_grammar.specs.Reading.{at_level, operator_of, before, operator_front}
 
 -- ---- tools
 
@@ -45,7 +46,9 @@ chosen false x y z e = inr (refl, e)
 -- ---- marks and words
 
 marks_in_order : List Mark
-marks_in_order = marks.OpenRound ∷ marks.CloseRound ∷ marks.OpenCurly ∷ marks.CloseCurly ∷ marks.OpenSquare ∷ marks.CloseSquare ∷ marks.Semicolon ∷ marks.Colon ∷ marks.Comma ∷ marks.Arrow ∷ marks.Assign ∷ marks.Equal ∷ marks.NotEqual ∷ marks.Less ∷ marks.LessEqual ∷ marks.Greater ∷ marks.GreaterEqual ∷ marks.Plus ∷ marks.Minus ∷ marks.Star ∷ marks.Slash ∷ marks.Percent ∷ marks.And ∷ marks.Or ∷ marks.Not ∷ marks.Ampersand ∷ []
+marks_in_order = marks.OpenRound ∷ marks.CloseRound ∷ marks.OpenCurly ∷ marks.CloseCurly ∷ marks.OpenSquare ∷ marks.CloseSquare ∷ marks.Semicolon ∷ marks.Colon ∷ marks.Comma ∷
+    marks.Arrow ∷ marks.Assign ∷ marks.Equal ∷ marks.NotEqual ∷ marks.Less ∷ marks.LessEqual ∷ marks.Greater ∷ marks.GreaterEqual ∷ marks.Plus ∷ marks.Minus ∷ marks.Star ∷
+    marks.Slash ∷ marks.Percent ∷ marks.And ∷ marks.Or ∷ marks.Not ∷ marks.Ampersand ∷ []
 
 mark_of : ℕ → Mark
 mark_of n = get_or marks_in_order n marks.Range
@@ -81,7 +84,8 @@ mark_back marks.Ampersand = refl
 mark_back marks.Range = refl
 
 words_in_order : List Word
-words_in_order = words.Sensor ∷ words.Port ∷ words.Nonvolatile ∷ words.Function ∷ words.Let ∷ words.Mutable ∷ words.If ∷ words.Else ∷ words.For ∷ words.In ∷ words.While ∷ words.Bound ∷ words.Return ∷ words.True ∷ words.False ∷ words.Emit ∷ words.Sense ∷ words.Fresh ∷ words.Consistent ∷ words.Int ∷ words.Bool ∷ words.Atomic ∷ []
+words_in_order = words.Sensor ∷ words.Port ∷ words.Nonvolatile ∷ words.Function ∷ words.Let ∷ words.Mutable ∷ words.If ∷ words.Else ∷ words.For ∷ words.In ∷ words.While ∷
+    words.Bound ∷ words.Return ∷ words.True ∷ words.False ∷ words.Emit ∷ words.Sense ∷ words.Fresh ∷ words.Consistent ∷ words.Int ∷ words.Bool ∷ words.Atomic ∷ []
 
 word_of : ℕ → Word
 word_of n = get_or words_in_order n words.Underscore

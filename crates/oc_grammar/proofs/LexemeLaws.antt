@@ -9,7 +9,7 @@ use Rattle.oc_lex.specs.Bytes.{value_of}
 use Rattle.oc_lex.specs.Stands.{Spells, StandsIn}
 use Rattle.oc_lex.specs.Tokens.{AreTokens}
 use Rattle.oc_lex.proofs.StandsLaws.{tokens_stand}
-use Rattle.oc_grammar.specs.Lexemes.{keyword, reserved, says, lexeme_by, lexeme_of, lexemes_in, LexemeInForm, LexemesInForm}
+use Rattle.oc_grammar.specs.Lexemes.{keyword, reserved, says, lexeme_by, lexemes_in, LexemeInForm, LexemesInForm}
 
 word_in : (b : Bool) (line : ℕ) (w : Word) → LexemeInForm (cond b (keyword line w) (reserved line))
 word_in true line w = tt

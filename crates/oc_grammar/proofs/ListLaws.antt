@@ -31,7 +31,8 @@ listed_sound R Q part sound closed last further (suc k) ts y e =
                 subst (λ (q : List _ × Lexemes). Q q.0 ts q.1) (ok_is _ y c.2) (last p.0.0 ts p.0.1 c.0 (sound ts p.0 p.1) (expect_mark_ok marks.CloseRound p.0.1 c.0 c.1))
             | inr v ↦
                 let o = bind_ok (listed_by part k v.0) _ y v.2 in
-                subst (λ (q : List _ × Lexemes). Q q.0 ts q.1) (ok_is _ y o.2) (further p.0.0 o.0.0 ts p.0.1 v.0 o.0.1 (sound ts p.0 p.1) (strip_mark_ok marks.Comma p.0.1 v.0 v.1) (listed_sound R Q part sound closed last further k v.0 o.0 o.1))
+                subst (λ (q : List _ × Lexemes). Q q.0 ts q.1) (ok_is _ y o.2)
+                (further p.0.0 o.0.0 ts p.0.1 v.0 o.0.1 (sound ts p.0 p.1) (strip_mark_ok marks.Comma p.0.1 v.0 v.1) (listed_sound R Q part sound closed last further k v.0 o.0 o.1))
           ]
       | inr w ↦ subst (λ (q : List _ × Lexemes). Q q.0 ts q.1) (ok_is _ y w.2) (closed ts w.0 (strip_mark_ok marks.CloseRound ts w.0 w.1))
     ]

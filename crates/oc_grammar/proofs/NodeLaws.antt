@@ -6,8 +6,11 @@ use Rattle.oc_tree.specs.Tree.{TExpr, number, truth, variable, index, deref, una
 use Rattle.oc_tree.specs.Nodes.{expr_nodes, arg_nodes, args_nodes, right_nodes, kind_nodes, else_nodes, stmt_nodes, block_nodes, stmts_nodes, program_nodes}
 use Rattle.oc_grammar.specs.Limits.{Limits}
 use Rattle.oc_grammar.specs.Lexemes.{Lexemes}
-use Rattle.oc_grammar.specs.Expressions.{Spells, literal, yes, no, name, element, target, parens, minus, negation, input, result, one, more, compare, SpellsArg, by_value, by_shared, by_mutable, SpellsArgs, closed, last, further}
-use Rattle.oc_grammar.specs.Statements.{right_of, SpellsRight, a_right, SpellsSimple, let_right, let_fill, assigns, assigns_index, assigns_deref, calls, senses, emits, marks_fresh, marks_consistent, returns, Place, SpellsKind, simple, if_form, for_form, while_form, atomic_form, SpellsElse, without, otherwise, else_if, SpellsStmt, statement, SpellsBlock, braces, SpellsStmts, end, first}
+use Rattle.oc_grammar.specs.Expressions.{Spells, literal, yes, no, name, element, target, parens, minus, negation, input, result, one, more, compare, SpellsArg, by_value}
+use Rattle.oc_grammar.specs.Expressions.{by_shared, by_mutable, SpellsArgs, closed, last, further}
+use Rattle.oc_grammar.specs.Statements.{right_of, SpellsRight, a_right, SpellsSimple, let_right, let_fill, assigns, assigns_index, assigns_deref, calls, senses, emits, marks_fresh}
+use Rattle.oc_grammar.specs.Statements.{marks_consistent, returns, Place, SpellsKind, simple, if_form, for_form, while_form, atomic_form, SpellsElse, without, otherwise, else_if}
+use Rattle.oc_grammar.specs.Statements.{SpellsStmt, statement, SpellsBlock, braces, SpellsStmts, end, first}
 use Rattle.oc_grammar.specs.Programs.{SpellsFunction, a_function, SpellsItem, sensor_item, port_item, nv_item, function_item, SpellsItems, no_item, an_item, SpellsProgram}
 use Rattle.oc_grammar.proofs.FrontLaws.{sign_shorter, keyword_shorter, name_shorter, number_shorter, infix_shorter}
 use Rattle.oc_grammar.proofs.SimpleLaws.{simple_shorter, const_shorter, head_shorter}
@@ -62,11 +65,13 @@ module _ (limits : Limits) where
   simple_within (let_right h r) = let a = head_shorter h in let b = right_within r in omega arith
   simple_within (let_fill h o i s n c t) = let a = simple_shorter limits (let_fill h o i s n c t) in omega arith
   simple_within (assigns i s r) = let a = name_shorter i in let b = sign_shorter s in let c = right_within r in omega arith
-  simple_within (assigns_index i o w c s r) = let a = name_shorter i in let b = sign_shorter o in let d = expr_within w.spelled in let e = sign_shorter c in let f = sign_shorter s in let g = right_within r in omega arith
+  simple_within (assigns_index i o w c s r) = let a = name_shorter i in let b = sign_shorter o in let d = expr_within w.spelled in let e = sign_shorter c in let f =
+      sign_shorter s in let g = right_within r in omega arith
   simple_within (assigns_deref o i s r) = let a = sign_shorter o in let b = name_shorter i in let c = sign_shorter s in let d = right_within r in omega arith
   simple_within (calls i o d s) = let a = name_shorter i in let b = sign_shorter o in let c = args_within d in let e = sign_shorter s in omega arith
   simple_within (senses k o i c s) = let a = simple_shorter limits (senses k o i c s) in omega arith
-  simple_within (emits k o i m w c s) = let a = keyword_shorter k in let b = sign_shorter o in let d = name_shorter i in let e = sign_shorter m in let f = expr_within w.spelled in let g = sign_shorter c in let h = sign_shorter s in omega arith
+  simple_within (emits k o i m w c s) = let a = keyword_shorter k in let b = sign_shorter o in let d = name_shorter i in let e = sign_shorter m in let f = expr_within w.spelled in
+      let g = sign_shorter c in let h = sign_shorter s in omega arith
   simple_within (marks_fresh k o i c s) = let a = simple_shorter limits (marks_fresh k o i c s) in omega arith
   simple_within (marks_consistent k o i m n c s) = let a = simple_shorter limits (marks_consistent k o i m n c s) in omega arith
   simple_within (returns k w s) = let a = keyword_shorter k in let b = expr_within w.spelled in let c = sign_shorter s in omega arith
@@ -75,7 +80,8 @@ module _ (limits : Limits) where
     kind_within : {room : ℕ} {k : TKind} {p q : Place} → SpellsKind limits room k p q → kind_nodes k + length q.2 ≤ length p.2
     kind_within (simple d) = simple_within d
     kind_within (if_form k c t o) = let a = keyword_shorter k in let d = expr_within c.spelled in let e = block_within t in let f = else_within o in omega arith
-    kind_within (for_form k i n c r d t) = let a = keyword_shorter k in let b = name_shorter i in let e = keyword_shorter n in let f = const_shorter c in let g = sign_shorter r in let h = const_shorter d in let l = block_within t in omega arith
+    kind_within (for_form k i n c r d t) = let a = keyword_shorter k in let b = name_shorter i in let e = keyword_shorter n in let f = const_shorter c in let g = sign_shorter r in
+        let h = const_shorter d in let l = block_within t in omega arith
     kind_within (while_form k c w i t) = let a = keyword_shorter k in let b = expr_within c.spelled in let d = keyword_shorter w in let e = number_shorter i in let f = block_within t in omega arith
     kind_within (atomic_form k t) = let a = keyword_shorter k in let b = block_within t in omega arith
 
@@ -95,7 +101,8 @@ module _ (limits : Limits) where
     stmts_within (first d e) = let a = stmt_within d in let b = stmts_within e in omega arith
 
   function_within : {f : TFunction} {p q : Place} → SpellsFunction limits f p q → block_nodes f.body + length q.2 ≤ length p.2
-  function_within (a_function w i o ps r t) = let a = keyword_shorter w in let b = name_shorter i in let c = sign_shorter o in let d = params_shorter ps in let e = result_shorter r in let f = block_within t in omega arith
+  function_within (a_function w i o ps r t) = let a = keyword_shorter w in let b = name_shorter i in let c = sign_shorter o in let d = params_shorter ps in let e =
+      result_shorter r in let f = block_within t in omega arith
 
   item_within : {p q : TProgram} {x y : Place} → SpellsItem limits p x q y → program_nodes q + length y.2 ≤ program_nodes p + length x.2
   item_within (sensor_item w i s) = let a = keyword_shorter w in let b = name_shorter i in let c = sign_shorter s in omega arith

@@ -1,14 +1,18 @@
 -- A tree that tokens spell is numbered in order, and its declarations have their places.
-use Rattle.std.proofs.Common.{◌≡◌, ℕ, zero, suc, ◌+◌, ◌≤◌, List, [], ◌∷◌, ◌++◌, length, refl, sym, subst, ap, ◌∙◌, arith, flat_map, count_by, length-append, append_assoc, append-nil, Bool, true, false, cond}
+use Rattle.std.proofs.Common.{◌≡◌, ℕ, suc, ◌+◌, ◌≤◌, List, [], ◌∷◌, ◌++◌, length, refl, sym, subst, ap, ◌∙◌, arith, flat_map, count_by, length-append, append_assoc, append-nil}
+use Rattle.std.proofs.Common.{Bool, true, false, cond}
 use Rattle.std.proofs.lemmas.List.Sums.{sum_by-append, sum_by-cons}
 use Rattle.oc_tree.specs.Tree.{TKind, TElse, TStmt, TBlock, TStmts, TFunction, TProgram}
-use Rattle.oc_tree.specs.Numbers.{numbers_on, kind_statements, else_statements, stmt_statements, block_statements, stmts_statements, kind_blocks, else_blocks, stmt_blocks, block_blocks, stmts_blocks, program_statements, program_blocks}
+use Rattle.oc_tree.specs.Numbers.{numbers_on, kind_statements, else_statements, stmt_statements, block_statements, stmts_statements, kind_blocks, else_blocks, stmt_blocks}
+use Rattle.oc_tree.specs.Numbers.{block_blocks, stmts_blocks, program_statements, program_blocks}
 use Rattle.oc_tree.specs.Form.{Numbered, DeclaredInOrder, InForm, is_sensor, is_port, is_nv, is_function}
 use Rattle.oc_lex.specs.Stands.{IsName}
 use Rattle.oc_tree.specs.declared.tree.Decl.{Decl}
 use Rattle.oc_grammar.specs.Limits.{Limits}
 use Rattle.oc_grammar.specs.Lexemes.{Lexemes, LexemesInForm}
-use Rattle.oc_grammar.specs.Statements.{SpellsSimple, let_right, let_fill, assigns, assigns_index, assigns_deref, calls, senses, emits, marks_fresh, marks_consistent, returns, Place, SpellsKind, simple, if_form, for_form, while_form, atomic_form, SpellsElse, without, otherwise, else_if, SpellsStmt, statement, SpellsBlock, braces, SpellsStmts, end, first}
+use Rattle.oc_grammar.specs.Statements.{SpellsSimple, let_right, let_fill, assigns, assigns_index, assigns_deref, calls, senses, emits, marks_fresh, marks_consistent, returns}
+use Rattle.oc_grammar.specs.Statements.{Place, SpellsKind, simple, if_form, for_form, while_form, atomic_form, SpellsElse, without, otherwise, else_if, SpellsStmt, statement}
+use Rattle.oc_grammar.specs.Statements.{SpellsBlock, braces, SpellsStmts, end, first}
 use Rattle.oc_grammar.specs.Programs.{SpellsFunction, a_function, SpellsItem, sensor_item, port_item, nv_item, function_item, SpellsItems, no_item, an_item, SpellsProgram, empty_program}
 use Rattle.oc_grammar.proofs.FormLaws.{program_spellable}
 use Rattle.oc_grammar.proofs.NodeLaws.{nodes_within}

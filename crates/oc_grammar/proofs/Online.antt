@@ -73,14 +73,16 @@ live_same w give r q e l = record { more = l.more; value = l.value; reads = λ r
 pub ready_same : {I Y : Type 0} (w : Bool) (give : I → Lexemes → Y) (r q : Reading Y) → ((ts : Lexemes) → r ts ≡ q ts) → Ready w give r → Ready w give q
 ready_same w give r q e d = record { live = live_same w give r q e d.live; plain = d.plain }
 
-abbrev pub live_bind : {I J Y Z : Type 0} (w : Bool) (give : I → Lexemes → Y) (last : J → Lexemes → Z) (r : Reading Y) (k : Y → Result Z Fault) → Live false give r → ((i : I) → Ready w last (λ ts. k (give i ts))) → Live w last (λ ts. r ts >>= k)
+abbrev pub live_bind : {I J Y Z : Type 0} (w : Bool) (give : I → Lexemes → Y) (last : J → Lexemes → Z) (r : Reading Y) (k : Y → Result Z Fault) → Live false give r
+    → ((i : I) → Ready w last (λ ts. k (give i ts))) → Live w last (λ ts. r ts >>= k)
 live_bind w give last r k l d =
     let then = d l.value in
     let reads : (rest : Lexemes) → Follows w rest → (r ((l.more ++ then.live.more) ++ rest) >>= k) ≡ Ok (last then.live.value rest) =
     λ rest h. rw (append_assoc l.more then.live.more rest, l.reads (then.live.more ++ rest) (then.plain rest h)) (then.live.reads rest h) in
     record { more = l.more ++ then.live.more; value = then.live.value; reads = reads }
 
-pub ready_bind : {I J Y Z : Type 0} (w : Bool) (give : I → Lexemes → Y) (last : J → Lexemes → Z) (r : Reading Y) (k : Y → Result Z Fault) → Ready false give r → ((i : I) → Ready w last (λ ts. k (give i ts))) → Ready w last (λ ts. r ts >>= k)
+pub ready_bind : {I J Y Z : Type 0} (w : Bool) (give : I → Lexemes → Y) (last : J → Lexemes → Z) (r : Reading Y) (k : Y → Result Z Fault) → Ready false give r
+    → ((i : I) → Ready w last (λ ts. k (give i ts))) → Ready w last (λ ts. r ts >>= k)
 ready_bind w give last r k d e =
     let then = e d.live.value in
     record {
@@ -117,10 +119,14 @@ module _ (gap : Depth → ℕ) (asks : Lexeme → Type 0) where
       near : {n : ℕ} {r : Reading X} {q : Reading Y} → End s r q → ((t : Lexeme) → Step s b n t (λ ts. r (t ∷ ts)) (λ ts. q (t ∷ ts))) → Online s b (suc n) r q
 
     pub data Step {I K X Y : Type 0} (s : Shape I K X Y) (b : Bool) : ℕ → Lexeme → Reading X → Reading Y → Type 0 where
-      refused : {n : ℕ} {t : Lexeme} {r : Reading X} {q : Reading Y} → ((ts : Lexemes) → r ts ≡ Err (syntax_fault (suc (length ts)))) → ((ts : Lexemes) → q ts ≡ Err (syntax_fault (suc (length ts)))) → Step s b n t r q
-      gives : {n : ℕ} {t : Lexeme} {r : Reading X} {q : Reading Y} → (i : I) → ((ts : Lexemes) → r ts ≡ Ok (s.small i (t ∷ ts))) → ((ts : Lexemes) → q ts ≡ Ok (s.large (s.kept i) (t ∷ ts))) → Step s b n t r q
-      both_deep : {n : ℕ} {t : Lexeme} {r : Reading X} {q : Reading Y} → (d : Depth) → Opens d t → (Positive (gap d) → ⊥) → ((ts : Lexemes) → r ts ≡ Err (depth_fault d (suc (length ts)))) → ((ts : Lexemes) → q ts ≡ Err (depth_fault d (suc (length ts)))) → Step s b n t r q
-      one_deep : {n : ℕ} {t : Lexeme} {r : Reading X} {q : Reading Y} → (d : Depth) → Opens d t → Positive (gap d) → ((ts : Lexemes) → r ts ≡ Err (depth_fault d (suc (length ts)))) → Takes b t → (asks t → Live s.whole s.large q) → Step s b n t r q
+      refused : {n : ℕ} {t : Lexeme} {r : Reading X} {q : Reading Y} → ((ts : Lexemes) → r ts ≡ Err (syntax_fault (suc (length ts))))
+          → ((ts : Lexemes) → q ts ≡ Err (syntax_fault (suc (length ts)))) → Step s b n t r q
+      gives : {n : ℕ} {t : Lexeme} {r : Reading X} {q : Reading Y} → (i : I) → ((ts : Lexemes) → r ts ≡ Ok (s.small i (t ∷ ts)))
+          → ((ts : Lexemes) → q ts ≡ Ok (s.large (s.kept i) (t ∷ ts))) → Step s b n t r q
+      both_deep : {n : ℕ} {t : Lexeme} {r : Reading X} {q : Reading Y} → (d : Depth) → Opens d t → (Positive (gap d) → ⊥)
+          → ((ts : Lexemes) → r ts ≡ Err (depth_fault d (suc (length ts)))) → ((ts : Lexemes) → q ts ≡ Err (depth_fault d (suc (length ts)))) → Step s b n t r q
+      one_deep : {n : ℕ} {t : Lexeme} {r : Reading X} {q : Reading Y} → (d : Depth) → Opens d t → Positive (gap d) → ((ts : Lexemes) → r ts ≡ Err (depth_fault d (suc (length ts))))
+          → Takes b t → (asks t → Live s.whole s.large q) → Step s b n t r q
       taken : {n : ℕ} {t : Lexeme} {r : Reading X} {q : Reading Y} → Online s b n r q → Takes b t → (asks t → Live s.whole s.large q) → Step s b n t r q
 
   -- the same readings, written otherwise
@@ -129,11 +135,13 @@ module _ (gap : Depth → ℕ) (asks : Lexeme → Type 0) where
   same_end (ends i h g) r' q' e f = ends i (sym e ∙ h) (sym f ∙ g)
 
   mutual
-    pub same : {I K X Y : Type 0} {s : Shape I K X Y} {b : Bool} {n : ℕ} {r : Reading X} {q : Reading Y} → Online s b n r q → (r' : Reading X) (q' : Reading Y) → ((ts : Lexemes) → r ts ≡ r' ts) → ((ts : Lexemes) → q ts ≡ q' ts) → Online s b n r' q'
+    pub same : {I K X Y : Type 0} {s : Shape I K X Y} {b : Bool} {n : ℕ} {r : Reading X} {q : Reading Y} → Online s b n r q → (r' : Reading X) (q' : Reading Y)
+        → ((ts : Lexemes) → r ts ≡ r' ts) → ((ts : Lexemes) → q ts ≡ q' ts) → Online s b n r' q'
     same far r' q' e f = far
     same (near h k) r' q' e f = near (same_end h r' q' (e []) (f [])) (λ t. same_step (k t) (λ ts. r' (t ∷ ts)) (λ ts. q' (t ∷ ts)) (λ ts. e (t ∷ ts)) (λ ts. f (t ∷ ts)))
 
-    pub same_step : {I K X Y : Type 0} {s : Shape I K X Y} {b : Bool} {n : ℕ} {t : Lexeme} {r : Reading X} {q : Reading Y} → Step s b n t r q → (r' : Reading X) (q' : Reading Y) → ((ts : Lexemes) → r ts ≡ r' ts) → ((ts : Lexemes) → q ts ≡ q' ts) → Step s b n t r' q'
+    pub same_step : {I K X Y : Type 0} {s : Shape I K X Y} {b : Bool} {n : ℕ} {t : Lexeme} {r : Reading X} {q : Reading Y} → Step s b n t r q → (r' : Reading X) (q' : Reading Y)
+        → ((ts : Lexemes) → r ts ≡ r' ts) → ((ts : Lexemes) → q ts ≡ q' ts) → Step s b n t r' q'
     same_step (refused h g) r' q' e f = refused (λ ts. sym (e ts) ∙ h ts) (λ ts. sym (f ts) ∙ g ts)
     same_step (gives i h g) r' q' e f = gives i (λ ts. sym (e ts) ∙ h ts) (λ ts. sym (f ts) ∙ g ts)
     same_step (both_deep d o nil h g) r' q' e f = both_deep d o nil (λ ts. sym (e ts) ∙ h ts) (λ ts. sym (f ts) ∙ g ts)
@@ -173,12 +181,15 @@ module _ (gap : Depth → ℕ) (asks : Lexeme → Type 0) where
 
   -- ---- one reading behind another
 
-  module _ {I K J H X Y Z W : Type 0} (x : I → Lexemes → X) (y : K → Lexemes → Y) (keep : I → K) (u : Shape J H Z W) (c b : Bool) (k : X → Result Z Fault) (l : Y → Result W Fault) (w : (t : Lexeme) → Takes c t → Takes b t) (d : (t : Lexeme) → asks t → Takes c t → (i : K) → Ready u.whole u.large (λ ts. l (y i ts))) where
-    end_past : (r : Reading X) (q : Reading Y) (i : I) → r [] ≡ Ok (x i []) → q [] ≡ Ok (y (keep i) []) → End u (λ ts. k (x i ts)) (λ ts. l (y (keep i) ts)) → End u (λ ts. r ts >>= k) (λ ts. q ts >>= l)
+  module _ {I K J H X Y Z W : Type 0} (x : I → Lexemes → X) (y : K → Lexemes → Y) (keep : I → K) (u : Shape J H Z W) (c b : Bool) (k : X → Result Z Fault) (l : Y → Result W Fault)
+      (w : (t : Lexeme) → Takes c t → Takes b t) (d : (t : Lexeme) → asks t → Takes c t → (i : K) → Ready u.whole u.large (λ ts. l (y i ts))) where
+    end_past : (r : Reading X) (q : Reading Y) (i : I) → r [] ≡ Ok (x i []) → q [] ≡ Ok (y (keep i) []) → End u (λ ts. k (x i ts)) (λ ts. l (y (keep i) ts))
+        → End u (λ ts. r ts >>= k) (λ ts. q ts >>= l)
     end_past r q i h g (waits a e) = waits (past_bind (r []) k _ h ∙ a) (past_bind (q []) l _ g ∙ e)
     end_past r q i h g (ends j a e) = ends j (past_bind (r []) k _ h ∙ a) (past_bind (q []) l _ g ∙ e)
 
-    end_bind : {n : ℕ} {r : Reading X} {q : Reading Y} → End (shaped x y keep) r q → ((i : I) → Online u b (suc n) (λ ts. k (x i ts)) (λ ts. l (y (keep i) ts))) → End u (λ ts. r ts >>= k) (λ ts. q ts >>= l)
+    end_bind : {n : ℕ} {r : Reading X} {q : Reading Y} → End (shaped x y keep) r q → ((i : I) → Online u b (suc n) (λ ts. k (x i ts)) (λ ts. l (y (keep i) ts)))
+        → End u (λ ts. r ts >>= k) (λ ts. q ts >>= l)
     end_bind {r = r} {q = q} (waits h g) o = waits (lead_bind (r []) k _ h) (lead_bind (q []) l _ g)
     end_bind {r = r} {q = q} (ends i h g) o = end_past r q i h g (end_of (o i))
 
@@ -187,19 +198,23 @@ module _ (gap : Depth → ℕ) (asks : Lexeme → Type 0) where
     cut_end r q (ends i h g) never = absurd (never [] _ h)
 
     mutual
-      pub bind : {n : ℕ} {r : Reading X} {q : Reading Y} → Online (shaped x y keep) c n r q → ((i : I) → Online u b n (λ ts. k (x i ts)) (λ ts. l (y (keep i) ts))) → Online u b n (λ ts. r ts >>= k) (λ ts. q ts >>= l)
+      pub bind : {n : ℕ} {r : Reading X} {q : Reading Y} → Online (shaped x y keep) c n r q → ((i : I) → Online u b n (λ ts. k (x i ts)) (λ ts. l (y (keep i) ts)))
+          → Online u b n (λ ts. r ts >>= k) (λ ts. q ts >>= l)
       bind far o = far
       bind (near h f) o = near (end_bind h o) (λ t. bind_step (f t) o)
 
-      pub bind_step : {n : ℕ} {t : Lexeme} {r : Reading X} {q : Reading Y} → Step (shaped x y keep) c n t r q → ((i : I) → Online u b (suc n) (λ ts. k (x i ts)) (λ ts. l (y (keep i) ts))) → Step u b n t (λ ts. r ts >>= k) (λ ts. q ts >>= l)
+      pub bind_step : {n : ℕ} {t : Lexeme} {r : Reading X} {q : Reading Y} → Step (shaped x y keep) c n t r q
+          → ((i : I) → Online u b (suc n) (λ ts. k (x i ts)) (λ ts. l (y (keep i) ts))) → Step u b n t (λ ts. r ts >>= k) (λ ts. q ts >>= l)
       bind_step {r = r} {q = q} (refused h g) o = refused (λ ts. lead_bind (r ts) k _ (h ts)) (λ ts. lead_bind (q ts) l _ (g ts))
-      bind_step {t = t} {r = r} {q = q} (gives i h g) o = same_step (step_of (o i) t) (λ ts. r ts >>= k) (λ ts. q ts >>= l) (λ ts. sym (past_bind (r ts) k _ (h ts))) (λ ts. sym (past_bind (q ts) l _ (g ts)))
+      bind_step {t = t} {r = r} {q = q} (gives i h g) o =
+          same_step (step_of (o i) t) (λ ts. r ts >>= k) (λ ts. q ts >>= l) (λ ts. sym (past_bind (r ts) k _ (h ts))) (λ ts. sym (past_bind (q ts) l _ (g ts)))
       bind_step {r = r} {q = q} (both_deep e a nil h g) o = both_deep e a nil (λ ts. lead_bind (r ts) k _ (h ts)) (λ ts. lead_bind (q ts) l _ (g ts))
       bind_step {t = t} {r = r} {q = q} (one_deep e a p h v m) o = one_deep e a p (λ ts. lead_bind (r ts) k _ (h ts)) (w t v) (λ z. live_bind u.whole y u.large q l (m z) (d t z v))
       bind_step {t = t} {r = r} {q = q} (taken a v m) o = taken (bind a (λ i. fewer (o i))) (w t v) (λ z. live_bind u.whole y u.large q l (m z) (d t z v))
 
     -- the first takes a token before it gives something
-    pub later : {n : ℕ} {r : Reading X} {q : Reading Y} → Online (shaped x y keep) c (suc n) r q → ((i : I) (ts : Lexemes) → r ts ≡ Ok (x i ts) → ⊥) → ((i : I) → Online u b n (λ ts. k (x i ts)) (λ ts. l (y (keep i) ts))) → Online u b (suc n) (λ ts. r ts >>= k) (λ ts. q ts >>= l)
+    pub later : {n : ℕ} {r : Reading X} {q : Reading Y} → Online (shaped x y keep) c (suc n) r q → ((i : I) (ts : Lexemes) → r ts ≡ Ok (x i ts) → ⊥)
+        → ((i : I) → Online u b n (λ ts. k (x i ts)) (λ ts. l (y (keep i) ts))) → Online u b (suc n) (λ ts. r ts >>= k) (λ ts. q ts >>= l)
     later {n = n} {r = r} {q = q} (near h f) never o = near (by_end h) (λ t. by_step t (f t))
       where
         by_end : End (shaped x y keep) r q → End u (λ ts. r ts >>= k) (λ ts. q ts >>= l)
@@ -219,7 +234,8 @@ module _ (gap : Depth → ℕ) (asks : Lexeme → Type 0) where
       cut far never = far
       cut {r = r} {q = q} (near h f) never = near (cut_end r q h never) (λ t. cut_step (f t) (λ ts. never (t ∷ ts)))
 
-      cut_step : {n : ℕ} {t : Lexeme} {r : Reading X} {q : Reading Y} → Step (shaped x y keep) c n t r q → ((ts : Lexemes) (z : X) → r ts ≡ Ok z → ⊥) → Step u b n t (λ ts. r ts >>= k) (λ ts. q ts >>= l)
+      cut_step : {n : ℕ} {t : Lexeme} {r : Reading X} {q : Reading Y} → Step (shaped x y keep) c n t r q → ((ts : Lexemes) (z : X) → r ts ≡ Ok z → ⊥)
+          → Step u b n t (λ ts. r ts >>= k) (λ ts. q ts >>= l)
       cut_step {r = r} {q = q} (refused h g) never = refused (λ ts. lead_bind (r ts) k _ (h ts)) (λ ts. lead_bind (q ts) l _ (g ts))
       cut_step (gives i h g) never = absurd (never [] _ (h []))
       cut_step {r = r} {q = q} (both_deep e a nil h g) never = both_deep e a nil (λ ts. lead_bind (r ts) k _ (h ts)) (λ ts. lead_bind (q ts) l _ (g ts))

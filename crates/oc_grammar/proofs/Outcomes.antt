@@ -91,7 +91,8 @@ module _ (gap : Depth → ℕ) (asks : Lexeme → Type 0) {I K X Y : Type 0} (s 
     step_reads (one_deep g o p a w l) ts h x e = absurd (no_fault x (depth_fault g (suc (length ts))) (sym e ∙ a ts))
     step_reads (taken o w l) ts h x e = reads_too o ts h x e
 
-  step_refuses_here : {n : ℕ} {t : Lexeme} {r : Reading X} {q : Reading Y} → Step gap asks s b n t r q → (behind more : Lexemes) → length behind < n → r behind ≡ Err (syntax_fault (suc (length behind))) → q more ≡ Err (syntax_fault (suc (length more)))
+  step_refuses_here : {n : ℕ} {t : Lexeme} {r : Reading X} {q : Reading Y} → Step gap asks s b n t r q → (behind more : Lexemes) → length behind < n
+      → r behind ≡ Err (syntax_fault (suc (length behind))) → q more ≡ Err (syntax_fault (suc (length more)))
   step_refuses_here (refused a c) behind more h e = c more
   step_refuses_here {t = t} (gives i a c) behind more h e = absurd (no_fault (s.small i (t ∷ behind)) _ (sym (a behind) ∙ e))
   step_refuses_here (both_deep d o nil a c) behind more h e = let k = fault_is (depth_fault d (suc (length behind))) (syntax_fault (suc (length behind))) (sym (a behind) ∙ e) in absurd cc
@@ -100,16 +101,22 @@ module _ (gap : Depth → ℕ) (asks : Lexeme → Type 0) {I K X Y : Type 0} (s 
 
   -- what the first refuses the second refuses, whatever follows
   mutual
-    pub refuses_too : {n : ℕ} {r : Reading X} {q : Reading Y} → Online gap asks s b n r q → (front : Lexemes) (t : Lexeme) (behind more : Lexemes) → length (front ++ t ∷ behind) < n → r (front ++ t ∷ behind) ≡ Err (syntax_fault (suc (length behind))) → q (front ++ t ∷ more) ≡ Err (syntax_fault (suc (length more)))
+    pub refuses_too : {n : ℕ} {r : Reading X} {q : Reading Y} → Online gap asks s b n r q → (front : Lexemes) (t : Lexeme) (behind more : Lexemes)
+        → length (front ++ t ∷ behind) < n → r (front ++ t ∷ behind) ≡ Err (syntax_fault (suc (length behind))) → q (front ++ t ∷ more) ≡ Err (syntax_fault (suc (length more)))
     refuses_too far front t behind more h e = absurd (omega arith)
     refuses_too (near g k) [] t behind more h e = step_refuses_here (k t) behind more (omega arith) e
     refuses_too (near g k) (u ∷ front) t behind more h e = step_refuses (k u) front t behind more (omega arith) e
 
-    step_refuses : {n : ℕ} {u : Lexeme} {r : Reading X} {q : Reading Y} → Step gap asks s b n u r q → (front : Lexemes) (t : Lexeme) (behind more : Lexemes) → length (front ++ t ∷ behind) < n → r (front ++ t ∷ behind) ≡ Err (syntax_fault (suc (length behind))) → q (front ++ t ∷ more) ≡ Err (syntax_fault (suc (length more)))
-    step_refuses (refused a c) front t behind more h e = let k = left_is (syntax_fault (suc (length (front ++ t ∷ behind)))) (syntax_fault (suc (length behind))) (fault_is _ _ (sym (a (front ++ t ∷ behind)) ∙ e)) in let l = length-append front (t ∷ behind) in absurd (omega arith)
+    step_refuses : {n : ℕ} {u : Lexeme} {r : Reading X} {q : Reading Y} → Step gap asks s b n u r q → (front : Lexemes) (t : Lexeme) (behind more : Lexemes)
+        → length (front ++ t ∷ behind) < n → r (front ++ t ∷ behind) ≡ Err (syntax_fault (suc (length behind))) → q (front ++ t ∷ more) ≡ Err (syntax_fault (suc (length more)))
+    step_refuses (refused a c) front t behind more h e = let k =
+        left_is (syntax_fault (suc (length (front ++ t ∷ behind)))) (syntax_fault (suc (length behind))) (fault_is _ _ (sym (a (front ++ t ∷ behind)) ∙ e)) in let l =
+        length-append front (t ∷ behind) in absurd (omega arith)
     step_refuses {u = u} (gives i a c) front t behind more h e = absurd (no_fault (s.small i (u ∷ front ++ t ∷ behind)) _ (sym (a (front ++ t ∷ behind)) ∙ e))
-    step_refuses (both_deep d o nil a c) front t behind more h e = let k = fault_is (depth_fault d (suc (length (front ++ t ∷ behind)))) (syntax_fault (suc (length behind))) (sym (a (front ++ t ∷ behind)) ∙ e) in absurd cc
-    step_refuses (one_deep d o p a w l) front t behind more h e = let k = fault_is (depth_fault d (suc (length (front ++ t ∷ behind)))) (syntax_fault (suc (length behind))) (sym (a (front ++ t ∷ behind)) ∙ e) in absurd cc
+    step_refuses (both_deep d o nil a c) front t behind more h e = let k =
+        fault_is (depth_fault d (suc (length (front ++ t ∷ behind)))) (syntax_fault (suc (length behind))) (sym (a (front ++ t ∷ behind)) ∙ e) in absurd cc
+    step_refuses (one_deep d o p a w l) front t behind more h e = let k =
+        fault_is (depth_fault d (suc (length (front ++ t ∷ behind)))) (syntax_fault (suc (length behind))) (sym (a (front ++ t ∷ behind)) ∙ e) in absurd cc
     step_refuses (taken o w l) front t behind more h e = refuses_too o front t behind more h e
 
   end_waits : {r : Reading X} {q : Reading Y} → End gap asks s r q → r [] ≡ Err (syntax_fault 0) → q [] ≡ Err (syntax_fault 0)
@@ -140,27 +147,39 @@ module _ (gap : Depth → ℕ) (asks : Lexeme → Type 0) {I K X Y : Type 0} (s 
   same_depth : (g d : Depth) (m n : ℕ) → depth_fault g m ≡ depth_fault d n → g ≡ d
   same_depth g d m n e = cc
 
-  step_deep_here : {n : ℕ} {t : Lexeme} {r : Reading X} {q : Reading Y} → Step gap asks s b n t r q → (behind : Lexemes) (d : Depth) → length behind < n → r behind ≡ Err (depth_fault d (suc (length behind))) → Deeper d t q
+  step_deep_here : {n : ℕ} {t : Lexeme} {r : Reading X} {q : Reading Y} → Step gap asks s b n t r q → (behind : Lexemes) (d : Depth) → length behind < n
+      → r behind ≡ Err (depth_fault d (suc (length behind))) → Deeper d t q
   step_deep_here (refused a c) behind d h e = let k = fault_is (syntax_fault (suc (length behind))) (depth_fault d (suc (length behind))) (sym (a behind) ∙ e) in absurd cc
   step_deep_here {t = t} (gives i a c) behind d h e = absurd (no_fault (s.small i (t ∷ behind)) _ (sym (a behind) ∙ e))
-  step_deep_here {t = t} {q = q} (both_deep g o nil a c) behind d h e = depth_is g d 0 q t (same_depth g d _ _ (fault_is (depth_fault g (suc (length behind))) (depth_fault d (suc (length behind))) (sym (a behind) ∙ e))) (o, inl (nil, c))
-  step_deep_here {t = t} {q = q} (one_deep g o p a w l) behind d h e = depth_is g d 0 q t (same_depth g d _ _ (fault_is (depth_fault g (suc (length behind))) (depth_fault d (suc (length behind))) (sym (a behind) ∙ e))) (o, inr (p, λ z. completes s.whole s.large q (l z)))
+  step_deep_here {t = t} {q = q} (both_deep g o nil a c) behind d h e =
+      depth_is g d 0 q t (same_depth g d _ _ (fault_is (depth_fault g (suc (length behind))) (depth_fault d (suc (length behind))) (sym (a behind) ∙ e))) (o, inl (nil, c))
+  step_deep_here {t = t} {q = q} (one_deep g o p a w l) behind d h e =
+      depth_is g d 0 q t (same_depth g d _ _ (fault_is (depth_fault g (suc (length behind))) (depth_fault d (suc (length behind))) (sym (a behind) ∙ e)))
+      (o, inr (p, λ z. completes s.whole s.large q (l z)))
   step_deep_here (taken o w l) behind d h e = let k = within o behind h (depth_fault d (suc (length behind))) e in absurd (omega arith)
 
   mutual
-    pub deep_too : {n : ℕ} {r : Reading X} {q : Reading Y} → Online gap asks s b n r q → (front : Lexemes) (t : Lexeme) (behind : Lexemes) (d : Depth) → length (front ++ t ∷ behind) < n → r (front ++ t ∷ behind) ≡ Err (depth_fault d (suc (length behind))) → Deeper d t (λ more. q (front ++ t ∷ more))
+    pub deep_too : {n : ℕ} {r : Reading X} {q : Reading Y} → Online gap asks s b n r q → (front : Lexemes) (t : Lexeme) (behind : Lexemes) (d : Depth)
+        → length (front ++ t ∷ behind) < n → r (front ++ t ∷ behind) ≡ Err (depth_fault d (suc (length behind))) → Deeper d t (λ more. q (front ++ t ∷ more))
     deep_too far front t behind d h e = absurd (omega arith)
     deep_too (near g k) [] t behind d h e = step_deep_here (k t) behind d (omega arith) e
     deep_too (near g k) (u ∷ front) t behind d h e = step_deep (k u) front t behind d (omega arith) e
 
-    step_deep : {n : ℕ} {u : Lexeme} {r : Reading X} {q : Reading Y} → Step gap asks s b n u r q → (front : Lexemes) (t : Lexeme) (behind : Lexemes) (d : Depth) → length (front ++ t ∷ behind) < n → r (front ++ t ∷ behind) ≡ Err (depth_fault d (suc (length behind))) → Deeper d t (λ more. q (front ++ t ∷ more))
-    step_deep (refused a c) front t behind d h e = let k = fault_is (syntax_fault (suc (length (front ++ t ∷ behind)))) (depth_fault d (suc (length behind))) (sym (a (front ++ t ∷ behind)) ∙ e) in absurd cc
+    step_deep : {n : ℕ} {u : Lexeme} {r : Reading X} {q : Reading Y} → Step gap asks s b n u r q → (front : Lexemes) (t : Lexeme) (behind : Lexemes) (d : Depth)
+        → length (front ++ t ∷ behind) < n → r (front ++ t ∷ behind) ≡ Err (depth_fault d (suc (length behind))) → Deeper d t (λ more. q (front ++ t ∷ more))
+    step_deep (refused a c) front t behind d h e = let k =
+        fault_is (syntax_fault (suc (length (front ++ t ∷ behind)))) (depth_fault d (suc (length behind))) (sym (a (front ++ t ∷ behind)) ∙ e) in absurd cc
     step_deep {u = u} (gives i a c) front t behind d h e = absurd (no_fault (s.small i (u ∷ front ++ t ∷ behind)) _ (sym (a (front ++ t ∷ behind)) ∙ e))
-    step_deep (both_deep g o nil a c) front t behind d h e = let k = left_is (depth_fault g (suc (length (front ++ t ∷ behind)))) (depth_fault d (suc (length behind))) (fault_is _ _ (sym (a (front ++ t ∷ behind)) ∙ e)) in let l = length-append front (t ∷ behind) in absurd (omega arith)
-    step_deep (one_deep g o p a w l) front t behind d h e = let k = left_is (depth_fault g (suc (length (front ++ t ∷ behind)))) (depth_fault d (suc (length behind))) (fault_is _ _ (sym (a (front ++ t ∷ behind)) ∙ e)) in let l = length-append front (t ∷ behind) in absurd (omega arith)
+    step_deep (both_deep g o nil a c) front t behind d h e = let k =
+        left_is (depth_fault g (suc (length (front ++ t ∷ behind)))) (depth_fault d (suc (length behind))) (fault_is _ _ (sym (a (front ++ t ∷ behind)) ∙ e)) in let l =
+        length-append front (t ∷ behind) in absurd (omega arith)
+    step_deep (one_deep g o p a w l) front t behind d h e = let k =
+        left_is (depth_fault g (suc (length (front ++ t ∷ behind)))) (depth_fault d (suc (length behind))) (fault_is _ _ (sym (a (front ++ t ∷ behind)) ∙ e)) in let l =
+        length-append front (t ∷ behind) in absurd (omega arith)
     step_deep (taken o w l) front t behind d h e = deep_too o front t behind d h e
 
-  step_goes_here : {n : ℕ} {t : Lexeme} {r : Reading X} {q : Reading Y} → Step gap asks s b n t r q → (behind : Lexemes) (f : Fault) → r behind ≡ Err f → left_of f ≤ length behind → asks t → Completes q
+  step_goes_here : {n : ℕ} {t : Lexeme} {r : Reading X} {q : Reading Y} → Step gap asks s b n t r q → (behind : Lexemes) (f : Fault) → r behind ≡ Err f → left_of f ≤ length behind
+      → asks t → Completes q
   step_goes_here (refused a c) behind f e g z = let k = left_is (syntax_fault (suc (length behind))) f (fault_is _ f (sym (a behind) ∙ e)) in absurd (omega arith)
   step_goes_here {t = t} (gives i a c) behind f e g z = absurd (no_fault (s.small i (t ∷ behind)) f (sym (a behind) ∙ e))
   step_goes_here (both_deep d o nil a c) behind f e g z = let k = left_is (depth_fault d (suc (length behind))) f (fault_is _ f (sym (a behind) ∙ e)) in absurd (omega arith)
@@ -169,14 +188,19 @@ module _ (gap : Depth → ℕ) (asks : Lexeme → Type 0) {I K X Y : Type 0} (s 
 
   -- where the first stops behind a token that is asked for, some more tokens make the second whole
   mutual
-    pub goes_on : {n : ℕ} {r : Reading X} {q : Reading Y} → Online gap asks s b n r q → (front : Lexemes) (t : Lexeme) (behind : Lexemes) (f : Fault) → length (front ++ t ∷ behind) < n → r (front ++ t ∷ behind) ≡ Err f → left_of f ≤ length behind → asks t → Completes (λ more. q (front ++ t ∷ more))
+    pub goes_on : {n : ℕ} {r : Reading X} {q : Reading Y} → Online gap asks s b n r q → (front : Lexemes) (t : Lexeme) (behind : Lexemes) (f : Fault)
+        → length (front ++ t ∷ behind) < n → r (front ++ t ∷ behind) ≡ Err f → left_of f ≤ length behind → asks t → Completes (λ more. q (front ++ t ∷ more))
     goes_on far front t behind f h e g z = absurd (omega arith)
     goes_on (near i k) [] t behind f h e g z = step_goes_here (k t) behind f e g z
     goes_on (near i k) (u ∷ front) t behind f h e g z = step_goes (k u) front t behind f (omega arith) e g z
 
-    step_goes : {n : ℕ} {u : Lexeme} {r : Reading X} {q : Reading Y} → Step gap asks s b n u r q → (front : Lexemes) (t : Lexeme) (behind : Lexemes) (f : Fault) → length (front ++ t ∷ behind) < n → r (front ++ t ∷ behind) ≡ Err f → left_of f ≤ length behind → asks t → Completes (λ more. q (front ++ t ∷ more))
-    step_goes (refused a c) front t behind f h e g z = let k = left_is (syntax_fault (suc (length (front ++ t ∷ behind)))) f (fault_is _ f (sym (a (front ++ t ∷ behind)) ∙ e)) in let l = length-append front (t ∷ behind) in absurd (omega arith)
+    step_goes : {n : ℕ} {u : Lexeme} {r : Reading X} {q : Reading Y} → Step gap asks s b n u r q → (front : Lexemes) (t : Lexeme) (behind : Lexemes) (f : Fault)
+        → length (front ++ t ∷ behind) < n → r (front ++ t ∷ behind) ≡ Err f → left_of f ≤ length behind → asks t → Completes (λ more. q (front ++ t ∷ more))
+    step_goes (refused a c) front t behind f h e g z = let k = left_is (syntax_fault (suc (length (front ++ t ∷ behind)))) f (fault_is _ f (sym (a (front ++ t ∷ behind)) ∙ e)) in
+        let l = length-append front (t ∷ behind) in absurd (omega arith)
     step_goes {u = u} (gives i a c) front t behind f h e g z = absurd (no_fault (s.small i (u ∷ front ++ t ∷ behind)) f (sym (a (front ++ t ∷ behind)) ∙ e))
-    step_goes (both_deep d o nil a c) front t behind f h e g z = let k = left_is (depth_fault d (suc (length (front ++ t ∷ behind)))) f (fault_is _ f (sym (a (front ++ t ∷ behind)) ∙ e)) in let l = length-append front (t ∷ behind) in absurd (omega arith)
-    step_goes (one_deep d o p a w l) front t behind f h e g z = let k = left_is (depth_fault d (suc (length (front ++ t ∷ behind)))) f (fault_is _ f (sym (a (front ++ t ∷ behind)) ∙ e)) in let l = length-append front (t ∷ behind) in absurd (omega arith)
+    step_goes (both_deep d o nil a c) front t behind f h e g z = let k =
+        left_is (depth_fault d (suc (length (front ++ t ∷ behind)))) f (fault_is _ f (sym (a (front ++ t ∷ behind)) ∙ e)) in let l = length-append front (t ∷ behind) in absurd (omega arith)
+    step_goes (one_deep d o p a w l) front t behind f h e g z = let k =
+        left_is (depth_fault d (suc (length (front ++ t ∷ behind)))) f (fault_is _ f (sym (a (front ++ t ∷ behind)) ∙ e)) in let l = length-append front (t ∷ behind) in absurd (omega arith)
     step_goes (taken o w l) front t behind f h e g z = goes_on o front t behind f h e g z

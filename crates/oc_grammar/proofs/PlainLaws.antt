@@ -1,7 +1,7 @@
 -- `if true` in the place of `atomic` leaves the tree as it is.
-use Rattle.std.proofs.Common.{◌≡◌, ℕ, ℤ, Bool, true, false, cond, Option, Some, None, List, [], ◌∷◌, ◌++◌, refl, sym, ap, subst, ◌∙◌, append_assoc, arith}
+use Rattle.std.proofs.Common.{◌≡◌, ℕ, ℤ, Bool, true, false, cond, Option, Some, List, [], ◌∷◌, ◌++◌, refl, sym, ap, subst, ◌∙◌, append_assoc, arith}
 use Rattle.oc_tree.specs.Names.{Text}
-use Rattle.oc_tree.specs.Tree.{TExpr, truth, TArg, TArgs, TRight, TKind, TElse, TStmt, stmt, TBlock, TStmts, TFunction, TProgram}
+use Rattle.oc_tree.specs.Tree.{TExpr, truth, TArg, TArgs, TRight, TKind, TElse, TStmt, TBlock, TStmts, TFunction, TProgram}
 use Rattle.oc_tree.specs.declared.tree.ValueKind.{ValueKind}
 use Rattle.oc_tree.specs.declared.tree.Passing.{Passing}
 use Rattle.oc_tree.specs.declared.tree.Param.{Param}
@@ -13,15 +13,20 @@ use Rattle.oc_lex.specs.declared.token.Kind.TheVariants as kinds
 use Rattle.oc_lex.specs.declared.token.Word.{Word}
 use Rattle.oc_lex.specs.declared.token.Word.TheVariants as words
 use Rattle.oc_lex.specs.declared.token.Mark.{Mark}
-use Rattle.oc_lex.specs.declared.token.Token.{Token}
 use Rattle.oc_grammar.specs.Limits.{Limits}
 use Rattle.oc_grammar.specs.Lexemes.{Lexeme, Lexemes, named, numeral, keyword, sign, reserved, is_atomic, says, lexeme_by, lexeme_of, lexemes_of, line_of, front_line, last_line}
 use Rattle.oc_grammar.specs.Fronts.{Named, a_name, Numeral, a_numeral, Keyword, a_keyword, Sign, a_sign, infix_of, Infix, an_operator}
-use Rattle.oc_grammar.specs.Expressions.{Spells, literal, yes, no, name, element, target, parens, minus, negation, input, result, one, more, compare, SpellsArg, by_value, by_shared, by_mutable, SpellsArgs, closed, last, further, SpellsWhole}
-use Rattle.oc_grammar.specs.Statements.{SpellsScalar, int_scalar, bool_scalar, SpellsArray, an_array, SpellsType, int_type, bool_type, array_type, SpellsConst, positive, negative, SpellsRight, a_right, SpellsMut, with_mut, without_mut, SpellsNote, typed, untyped, LetHead, let_head, SpellsSimple, let_right, let_fill, assigns, assigns_index, assigns_deref, calls, senses, emits, marks_fresh, marks_consistent, returns, Place, SpellsKind, simple, if_form, for_form, while_form, atomic_form, SpellsElse, without, otherwise, else_if, SpellsStmt, statement, SpellsBlock, braces, SpellsStmts, end, first}
-use Rattle.oc_grammar.specs.Programs.{SpellsPassing, itself, shared_ref, mutable_ref, SpellsParam, a_param, SpellsParams, no_param, last_param, further_params, SpellsResult, no_result, a_result, SpellsFunction, a_function, SpellsCells, one_cell, array_cells, SpellsNv, an_nv, SpellsItem, sensor_item, port_item, nv_item, function_item, SpellsItems, no_item, an_item, SpellsProgram, with_sensor, with_port, with_nv, empty_program}
-use Rattle.oc_grammar.specs.Depths.{BeginsWithin}
-use Rattle.oc_grammar.specs.Plain.{plain, without_atomic, IsPlain, BeginsPlainly, SourcesArePlain, AtomicIsIfTrue, BeginsAlike}
+use Rattle.oc_grammar.specs.Expressions.{Spells, literal, yes, no, name, element, target, parens, minus, negation, input, result, one, more, compare, SpellsArg, by_value}
+use Rattle.oc_grammar.specs.Expressions.{by_shared, by_mutable, SpellsArgs, closed, last, further, SpellsWhole}
+use Rattle.oc_grammar.specs.Statements.{SpellsScalar, int_scalar, bool_scalar, SpellsArray, an_array, SpellsType, int_type, bool_type, array_type, SpellsConst, positive, negative}
+use Rattle.oc_grammar.specs.Statements.{SpellsRight, a_right, SpellsMut, with_mut, without_mut, SpellsNote, typed, untyped, LetHead, let_head, SpellsSimple, let_right, let_fill}
+use Rattle.oc_grammar.specs.Statements.{assigns, assigns_index, assigns_deref, calls, senses, emits, marks_fresh, marks_consistent, returns, Place, SpellsKind, simple, if_form}
+use Rattle.oc_grammar.specs.Statements.{for_form, while_form, atomic_form, SpellsElse, without, otherwise, else_if, SpellsStmt, statement, SpellsBlock, braces, SpellsStmts, end}
+use Rattle.oc_grammar.specs.Statements.{first}
+use Rattle.oc_grammar.specs.Programs.{SpellsPassing, itself, shared_ref, mutable_ref, SpellsParam, a_param, SpellsParams, no_param, last_param, further_params, SpellsResult}
+use Rattle.oc_grammar.specs.Programs.{no_result, a_result, SpellsFunction, a_function, SpellsCells, one_cell, array_cells, SpellsNv, an_nv, SpellsItem, sensor_item, port_item}
+use Rattle.oc_grammar.specs.Programs.{nv_item, function_item, SpellsItems, no_item, an_item, SpellsProgram}
+use Rattle.oc_grammar.specs.Plain.{plain, without_atomic, IsPlain, SourcesArePlain, AtomicIsIfTrue, BeginsAlike}
 
 -- ---- what stands in front
 
@@ -245,7 +250,8 @@ grown (keyword line w) ts = grown_by line w ts (is_atomic w)
 grown (sign line m) ts = record { front = _; behind = _; is = refl }
 grown (reserved line) ts = record { front = _; behind = _; is = refl }
 
-behind_by : (line : ℕ) (w : Word) (b : Bool) (u : Lexeme) (us : Lexemes) → last_line (cond b (keyword line words.If ∷ keyword line words.True ∷ []) (keyword line w ∷ []) ++ u ∷ us) ≡ last_line (u ∷ us)
+behind_by : (line : ℕ) (w : Word) (b : Bool) (u : Lexeme) (us : Lexemes) → last_line (cond b (keyword line words.If ∷ keyword line words.True ∷ []) (keyword line w ∷ []) ++ u ∷ us)
+    ≡ last_line (u ∷ us)
 behind_by line w true u us = refl
 behind_by line w false u us = refl
 
@@ -292,10 +298,12 @@ begins_alike limits tokens h b = record {
   more = without_atomic b.more;
   program = b.program;
   plainly = is_plain b.more;
-  spelled = subst (λ (l : Lexemes). SpellsProgram limits b.program l) (plain_append tokens b.more ∙ ap (λ (l : Lexemes). l ++ without_atomic b.more) h) (atomic_is_if_true limits b.program (tokens ++ b.more) b.spelled);
+  spelled = subst (λ (l : Lexemes). SpellsProgram limits b.program l) (plain_append tokens b.more ∙ ap (λ (l : Lexemes). l ++ without_atomic b.more) h)
+      (atomic_is_if_true limits b.program (tokens ++ b.more) b.spelled);
 }
 
-word_plain : (line : ℕ) (w : Word) (b : Bool) → is_atomic w ≡ b → (ts : Lexemes) → without_atomic (cond (says false w) (keyword line w) (reserved line) ∷ ts) ≡ cond (says false w) (keyword line w) (reserved line) ∷ without_atomic ts
+word_plain : (line : ℕ) (w : Word) (b : Bool) → is_atomic w ≡ b → (ts : Lexemes) → without_atomic (cond (says false w) (keyword line w) (reserved line) ∷ ts)
+    ≡ cond (says false w) (keyword line w) (reserved line) ∷ without_atomic ts
 word_plain line w true e ts = rw e refl
 word_plain line w false e ts = rw e (rw e refl)
 

@@ -15,9 +15,13 @@ use Rattle.oc_grammar.specs.Fronts.{Named, a_name, Keyword, a_keyword, Sign, a_s
 use Rattle.oc_grammar.specs.Reading.{with_some, next_at, strip_mark, strip_word, expect_mark, name_at, take_word, listed_by}
 use Rattle.oc_grammar.specs.Statements.{SpellsScalar, int_scalar, bool_scalar, an_array, SpellsType, int_type, bool_type, array_type, Place, SpellsBlock, braces}
 use Rattle.oc_grammar.specs.ReadingStatements.{array_at, type_at, const_at, block_at}
-use Rattle.oc_grammar.specs.Programs.{SpellsPassing, itself, shared_ref, mutable_ref, SpellsParam, a_param, SpellsParams, no_param, last_param, further_params, SpellsResult, no_result, a_result, SpellsFunction, a_function, SpellsCells, one_cell, array_cells, SpellsNv, an_nv, SpellsItem, sensor_item, port_item, nv_item, function_item, SpellsItems, no_item, an_item, empty_program, SpellsProgram}
-use Rattle.oc_grammar.specs.ReadingPrograms.{reference_to, passing_at, param_at, params_at, scalar_from, scalar_at, result_at, function_at, cells_from, cells_at, nv_at, declared_at, item_by, item_at, items_by, items_at, program_at}
-use Rattle.oc_grammar.proofs.FrontLaws.{bind_ok, ok_is, with_some_ok, strip_mark_ok, strip_word_ok, expect_mark_ok, name_ok, next_ok, sign_strip, sign_expect, name_read, number_read, keyword_expect, sign_shorter, keyword_shorter, name_shorter}
+use Rattle.oc_grammar.specs.Programs.{SpellsPassing, itself, shared_ref, mutable_ref, SpellsParam, a_param, SpellsParams, no_param, last_param, further_params, SpellsResult}
+use Rattle.oc_grammar.specs.Programs.{no_result, a_result, SpellsFunction, a_function, SpellsCells, one_cell, array_cells, SpellsNv, an_nv, SpellsItem, sensor_item, port_item}
+use Rattle.oc_grammar.specs.Programs.{nv_item, function_item, SpellsItems, no_item, an_item, empty_program, SpellsProgram}
+use Rattle.oc_grammar.specs.ReadingPrograms.{reference_to, passing_at, param_at, params_at, scalar_from, scalar_at, result_at, function_at, cells_from, cells_at, nv_at}
+use Rattle.oc_grammar.specs.ReadingPrograms.{declared_at, item_by, item_at, items_by, items_at, program_at}
+use Rattle.oc_grammar.proofs.FrontLaws.{bind_ok, ok_is, with_some_ok, strip_mark_ok, strip_word_ok, expect_mark_ok, name_ok, next_ok, sign_strip, sign_expect, name_read}
+use Rattle.oc_grammar.proofs.FrontLaws.{number_read, keyword_expect, sign_shorter, keyword_shorter, name_shorter}
 use Rattle.oc_grammar.proofs.ListLaws.{PartSound, Shortens, listed_sound}
 use Rattle.oc_grammar.proofs.ExpressionsRead.{take_without, take_with}
 use Rattle.oc_grammar.proofs.SimpleLaws.{other_mark, array_sound, type_sound, type_read, type_shorter, const_sound, const_read, const_shorter}
@@ -37,7 +41,8 @@ passing_sound ts = by_mark (strip_mark marks.Ampersand ts) refl
     by_word us None a k = shared_ref (strip_mark_ok marks.Ampersand ts us a)
     by_word us (Some vs) a k = mutable_ref (strip_mark_ok marks.Ampersand ts us a) (strip_word_ok words.Mutable us vs k)
 
-    by_mark : (o : Option Lexemes) → strip_mark marks.Ampersand ts ≡ o → IsPassing ts (with_some o (passings.Value, ts) (λ us. reference_to (with_some (strip_word words.Mutable us) (false, us) (λ vs. (true, vs)))))
+    by_mark : (o : Option Lexemes) → strip_mark marks.Ampersand ts ≡ o
+        → IsPassing ts (with_some o (passings.Value, ts) (λ us. reference_to (with_some (strip_word words.Mutable us) (false, us) (λ vs. (true, vs)))))
     by_mark None a = itself
     by_mark (Some us) a = by_word us (strip_word words.Mutable us) a refl
 
@@ -47,7 +52,8 @@ param_sound ts y e =
     let x = bind_ok (name_at ts) _ y e in
     let c = bind_ok (expect_mark marks.Colon x.0.1) _ y x.2 in
     let k = bind_ok (type_at (passing_at c.0).1) _ y c.2 in
-    subst (λ (q : Param × Lexemes). SpellsParam q.0 ts q.1) (ok_is _ y k.2) (a_param (name_ok ts x.0.0 x.0.1 x.1) (expect_mark_ok marks.Colon x.0.1 c.0 c.1) (passing_sound c.0) (type_sound (passing_at c.0).1 k.0 k.1))
+    subst (λ (q : Param × Lexemes). SpellsParam q.0 ts q.1) (ok_is _ y k.2)
+    (a_param (name_ok ts x.0.0 x.0.1 x.1) (expect_mark_ok marks.Colon x.0.1 c.0 c.1) (passing_sound c.0) (type_sound (passing_at c.0).1 k.0 k.1))
 
 params_sound : (ts : Lexemes) (y : List Param × Lexemes) → params_at ts ≡ Ok y → SpellsParams y.0 ts y.1
 unfolding params_at
@@ -101,7 +107,8 @@ nv_sound from ts y w e =
     let i = bind_ok (const_at d.0) _ y d.2 in
     let s = bind_ok (expect_mark marks.Semicolon i.0.1) _ y i.2 in
     subst (λ (q : (Text × NvDecl) × Lexemes). SpellsNv q.0.0 q.0.1 from q.1) (ok_is _ y s.2)
-    (an_nv w (name_ok ts x.0.0 x.0.1 x.1) (expect_mark_ok marks.Colon x.0.1 a.0 a.1) (cells_sound a.0 c.0 c.1) (expect_mark_ok marks.Assign c.0.1 d.0 d.1) (const_sound d.0 i.0 i.1) (expect_mark_ok marks.Semicolon i.0.1 s.0 s.1))
+    (an_nv w (name_ok ts x.0.0 x.0.1 x.1) (expect_mark_ok marks.Colon x.0.1 a.0 a.1) (cells_sound a.0 c.0 c.1) (expect_mark_ok marks.Assign c.0.1 d.0 d.1) (const_sound d.0 i.0 i.1)
+    (expect_mark_ok marks.Semicolon i.0.1 s.0 s.1))
 
 -- a name and the `;`
 abbrev IsDeclared : Text → Lexemes → Lexemes → Type 0
@@ -142,7 +149,8 @@ cells_shorter (one_cell k) = let a = keyword_shorter k in omega arith
 cells_shorter (array_cells d) = type_shorter (array_type d)
 
 nv_shorter : {x : Text} {d : NvDecl} {from rest : Lexemes} → SpellsNv x d from rest → length rest < length from
-nv_shorter (an_nv w i c d s z e) = let a = keyword_shorter w in let b = name_shorter i in let f = sign_shorter c in let g = cells_shorter d in let h = sign_shorter s in let l = const_shorter z in let m = sign_shorter e in omega arith
+nv_shorter (an_nv w i c d s z e) = let a = keyword_shorter w in let b = name_shorter i in let f = sign_shorter c in let g = cells_shorter d in let h = sign_shorter s in let l =
+    const_shorter z in let m = sign_shorter e in omega arith
 
 -- ---- what is spelled so is read
 
@@ -193,7 +201,8 @@ cells_read (one_cell a_keyword) = refl
 cells_read (array_cells (an_array a_sign k s i c)) = rw (keyword_expect k, sign_expect s, number_read i, sign_expect c) refl
 
 module _ (limits : Limits) where
-  function_sound : (n b : ℕ) (from ts : Lexemes) (y : TFunction × ℕ × ℕ × Lexemes) → Keyword words.Function from ts → function_at limits (front_line from) n b ts ≡ Ok y → SpellsFunction limits y.0 (n, b, from) (y.1, y.2, y.3)
+  function_sound : (n b : ℕ) (from ts : Lexemes) (y : TFunction × ℕ × ℕ × Lexemes) → Keyword words.Function from ts → function_at limits (front_line from) n b ts ≡ Ok y
+      → SpellsFunction limits y.0 (n, b, from) (y.1, y.2, y.3)
   unfolding function_at
   function_sound n b from ts y w e =
       let f = bind_ok (name_at ts) _ y e in
@@ -202,7 +211,8 @@ module _ (limits : Limits) where
       let r = bind_ok (result_at ps.0.1) _ y ps.2 in
       let t = bind_ok (block_at limits limits.blocks n b r.0.1) _ y r.2 in
       subst (λ (q : TFunction × ℕ × ℕ × Lexemes). SpellsFunction limits q.0 (n, b, from) (q.1, q.2, q.3)) (ok_is _ y t.2)
-      (a_function w (name_ok ts f.0.0 f.0.1 f.1) (expect_mark_ok marks.OpenRound f.0.1 o.0 o.1) (params_sound o.0 ps.0 ps.1) (result_sound ps.0.1 r.0 r.1) (block_sound limits limits.blocks n b r.0.1 t.0 t.1))
+      (a_function w (name_ok ts f.0.0 f.0.1 f.1) (expect_mark_ok marks.OpenRound f.0.1 o.0 o.1) (params_sound o.0 ps.0 ps.1) (result_sound ps.0.1 r.0 r.1)
+      (block_sound limits limits.blocks n b r.0.1 t.0 t.1))
 
   -- ---- items
 
@@ -245,7 +255,8 @@ module _ (limits : Limits) where
   program_sound ts p e = items_sound (suc (length ts)) (empty_program (last_line ts)) 1 1 ts p e
 
   function_shorter : {f : TFunction} {p q : Place} → SpellsFunction limits f p q → length q.2 < length p.2
-  function_shorter (a_function w i o ps r t) = let a = keyword_shorter w in let b = name_shorter i in let c = sign_shorter o in let d = params_shorter ps in let e = result_shorter r in let f = block_shorter limits t in omega arith
+  function_shorter (a_function w i o ps r t) = let a = keyword_shorter w in let b = name_shorter i in let c = sign_shorter o in let d = params_shorter ps in let e =
+      result_shorter r in let f = block_shorter limits t in omega arith
 
   pub item_shorter : {p q : TProgram} {x y : Place} → SpellsItem limits p x q y → length y.2 < length x.2
   item_shorter (sensor_item w i s) = let a = keyword_shorter w in let b = name_shorter i in let c = sign_shorter s in omega arith
@@ -262,7 +273,9 @@ module _ (limits : Limits) where
   result_read no_result t = rw (block_no_arrow t) refl
   result_read (a_result s d) t = rw (sign_strip s, scalar_read d) refl
 
-  function_read : (line n b : ℕ) {ts c d e g : Lexemes} {f : Text} {ps : List Param} {r : Option Scalar} {t : TBlock} {q : Place} → Named f ts c → Sign marks.OpenRound c d → SpellsParams ps d e → SpellsResult r e g → SpellsBlock limits limits.blocks t (n, b, g) q → function_at limits line n b ts ≡ Ok (record { name = f; line = line; params = ps; result = r; body = t }, q.0, q.1, q.2)
+  function_read : (line n b : ℕ) {ts c d e g : Lexemes} {f : Text} {ps : List Param} {r : Option Scalar} {t : TBlock} {q : Place} → Named f ts c → Sign marks.OpenRound c d
+      → SpellsParams ps d e → SpellsResult r e g → SpellsBlock limits limits.blocks t (n, b, g) q → function_at limits line n b ts
+      ≡ Ok (record { name = f; line = line; params = ps; result = r; body = t }, q.0, q.1, q.2)
   unfolding function_at
   function_read line n b i o ps r t = rw (name_read i, sign_expect o, params_at_read ps, result_read r t, block_read limits t) refl
 

@@ -15,9 +15,13 @@ use Rattle.oc_grammar.specs.Fronts.{Named, a_name, a_numeral, Keyword, a_keyword
 use Rattle.oc_grammar.specs.Expressions.{SpellsArgs, SpellsWhole}
 use Rattle.oc_grammar.specs.Reading.{◌>>=◌, with_some, mark_number, next_at, strip_mark, strip_word, expect_mark, expect_word, name_at, number_at, take_word}
 use Rattle.oc_grammar.specs.ReadingExpressions.{level_at, args_at, whole_at}
-use Rattle.oc_grammar.specs.Statements.{SpellsArray, an_array, SpellsType, int_type, bool_type, array_type, SpellsConst, positive, negative, SpellsRight, a_right, SpellsMut, with_mut, without_mut, SpellsNote, typed, untyped, LetHead, let_head, SpellsSimple, let_right, let_fill, assigns, assigns_index, assigns_deref, calls, senses, emits, marks_fresh, marks_consistent, returns}
-use Rattle.oc_grammar.specs.ReadingStatements.{array_at, type_from, type_at, const_at, right_at, note_at, fill_at, assign_at, element_to_at, target_at, call_at, sense_at, emit_at, fresh_at, consistent_at, return_at, bind_at, let_from, let_at, set_at, simple_from, Reader, kind_by}
-use Rattle.oc_grammar.proofs.FrontLaws.{bind_ok, done, ok_is, with_some_ok, strip_mark_ok, strip_word_ok, expect_mark_ok, expect_word_ok, name_ok, number_ok, next_ok, sign_strip, sign_expect, keyword_expect, name_read, number_read, sign_shorter, keyword_shorter, name_shorter, number_shorter}
+use Rattle.oc_grammar.specs.Statements.{SpellsArray, an_array, SpellsType, int_type, bool_type, array_type, SpellsConst, positive, negative, SpellsRight, a_right, SpellsMut}
+use Rattle.oc_grammar.specs.Statements.{with_mut, without_mut, SpellsNote, typed, untyped, LetHead, let_head, SpellsSimple, let_right, let_fill, assigns, assigns_index}
+use Rattle.oc_grammar.specs.Statements.{assigns_deref, calls, senses, emits, marks_fresh, marks_consistent, returns}
+use Rattle.oc_grammar.specs.ReadingStatements.{array_at, type_from, type_at, const_at, right_at, note_at, fill_at, assign_at, element_to_at, target_at, call_at, sense_at, emit_at}
+use Rattle.oc_grammar.specs.ReadingStatements.{fresh_at, consistent_at, return_at, bind_at, let_from, let_at, set_at, simple_from, Reader, kind_by}
+use Rattle.oc_grammar.proofs.FrontLaws.{bind_ok, done, ok_is, with_some_ok, strip_mark_ok, strip_word_ok, expect_mark_ok, expect_word_ok, name_ok, number_ok, next_ok, sign_strip}
+use Rattle.oc_grammar.proofs.FrontLaws.{sign_expect, keyword_expect, name_read, number_read, sign_shorter, keyword_shorter, name_shorter, number_shorter}
 use Rattle.oc_grammar.proofs.ExpressionLaws.{args_sound, level_sound, whole_sound, shorter, shorter_args}
 use Rattle.oc_grammar.proofs.ExpressionsRead.{stops_sign, begins, list_of, args_back, args_read, named_no_word, take_without, take_with, whole_read}
 
@@ -37,7 +41,8 @@ array_sound from ts x o e =
     let b = bind_ok (expect_mark marks.Semicolon a.0) _ x a.2 in
     let c = bind_ok (number_at b.0) _ x b.2 in
     let d = bind_ok (expect_mark marks.CloseSquare c.0.1) _ x c.2 in
-    subst (λ (q : ℕ × Lexemes). SpellsArray q.0 from q.1) (ok_is _ x d.2) (an_array o (expect_word_ok words.Int ts a.0 a.1) (expect_mark_ok marks.Semicolon a.0 b.0 b.1) (number_ok b.0 c.0.0 c.0.1 c.1) (expect_mark_ok marks.CloseSquare c.0.1 d.0 d.1))
+    subst (λ (q : ℕ × Lexemes). SpellsArray q.0 from q.1) (ok_is _ x d.2)
+    (an_array o (expect_word_ok words.Int ts a.0 a.1) (expect_mark_ok marks.Semicolon a.0 b.0 b.1) (number_ok b.0 c.0.0 c.0.1 c.1) (expect_mark_ok marks.CloseSquare c.0.1 d.0 d.1))
 
 type_from_sound : (t : Lexeme) (ts : Lexemes) (x : ValueKind × Lexemes) → type_from t ts ≡ Ok x → SpellsType x.0 (t ∷ ts) x.1
 type_from_sound (keyword line words.Int) ts x e = subst (λ (q : ValueKind × Lexemes). SpellsType q.0 (keyword line words.Int ∷ ts) q.1) (ok_is _ x e) (int_type a_keyword)
@@ -164,7 +169,8 @@ module _ (limits : Limits) where
   moved : (from : Lexemes) (a b : TKind × Lexemes) → done a ≡ done b → SpellsSimple limits a.0 from a.1 → SpellsSimple limits b.0 from b.1
   moved from a b e d = subst (λ (q : TKind × Lexemes). SpellsSimple limits q.0 from q.1) (ok_is a b e) d
 
-  fill_sound : (m : Bool) (x : Text) (k : Option ValueKind) (from aa ts : Lexemes) (y : TKind × Lexemes) → LetHead m x k from aa → Sign marks.OpenSquare aa ts → fill_at m x k ts ≡ Ok y → SpellsSimple limits y.0 from y.1
+  fill_sound : (m : Bool) (x : Text) (k : Option ValueKind) (from aa ts : Lexemes) (y : TKind × Lexemes) → LetHead m x k from aa → Sign marks.OpenSquare aa ts
+      → fill_at m x k ts ≡ Ok y → SpellsSimple limits y.0 from y.1
   unfolding fill_at
   fill_sound m x k from aa ts y h o e =
       let s1 = bind_ok (const_at ts) _ y e in
@@ -172,7 +178,9 @@ module _ (limits : Limits) where
       let s3 = bind_ok (number_at s2.0) _ y s2.2 in
       let s4 = bind_ok (expect_mark marks.CloseSquare s3.0.1) _ y s3.2 in
       let s5 = bind_ok (expect_mark marks.Semicolon s4.0) _ y s4.2 in
-      moved from (let_array m x k s1.0.0 (unsigned_abs s3.0.0), s5.0) y s5.2 (let_fill h o (const_sound ts s1.0 s1.1) (expect_mark_ok marks.Semicolon s1.0.1 s2.0 s2.1) (number_ok s2.0 s3.0.0 s3.0.1 s3.1) (expect_mark_ok marks.CloseSquare s3.0.1 s4.0 s4.1) (expect_mark_ok marks.Semicolon s4.0 s5.0 s5.1))
+      moved from (let_array m x k s1.0.0 (unsigned_abs s3.0.0), s5.0) y s5.2
+      (let_fill h o (const_sound ts s1.0 s1.1) (expect_mark_ok marks.Semicolon s1.0.1 s2.0 s2.1) (number_ok s2.0 s3.0.0 s3.0.1 s3.1)
+      (expect_mark_ok marks.CloseSquare s3.0.1 s4.0 s4.1) (expect_mark_ok marks.Semicolon s4.0 s5.0 s5.1))
 
   assign_sound : (x : Text) (from aa ts : Lexemes) (y : TKind × Lexemes) → Named x from aa → Sign marks.Assign aa ts → assign_at limits x ts ≡ Ok y → SpellsSimple limits y.0 from y.1
   unfolding assign_at
@@ -187,7 +195,8 @@ module _ (limits : Limits) where
       let s2 = bind_ok (expect_mark marks.CloseSquare s1.0.1) _ y s1.2 in
       let s3 = bind_ok (expect_mark marks.Assign s2.0) _ y s2.2 in
       let s4 = bind_ok (right_at limits s3.0) _ y s3.2 in
-      moved from (assign_index x s1.0.0 s4.0.0, s4.0.1) y s4.2 (assigns_index i o (whole_sound limits ts s1.0 s1.1) (expect_mark_ok marks.CloseSquare s1.0.1 s2.0 s2.1) (expect_mark_ok marks.Assign s2.0 s3.0 s3.1) (right_sound s3.0 s4.0 s4.1))
+      moved from (assign_index x s1.0.0 s4.0.0, s4.0.1) y s4.2
+      (assigns_index i o (whole_sound limits ts s1.0 s1.1) (expect_mark_ok marks.CloseSquare s1.0.1 s2.0 s2.1) (expect_mark_ok marks.Assign s2.0 s3.0 s3.1) (right_sound s3.0 s4.0 s4.1))
 
   target_sound : (from ts : Lexemes) (y : TKind × Lexemes) → Sign marks.Star from ts → target_at limits ts ≡ Ok y → SpellsSimple limits y.0 from y.1
   unfolding target_at
@@ -211,7 +220,8 @@ module _ (limits : Limits) where
       let s2 = bind_ok (name_at s1.0) _ y s1.2 in
       let s3 = bind_ok (expect_mark marks.CloseRound s2.0.1) _ y s2.2 in
       let s4 = bind_ok (expect_mark marks.Semicolon s3.0) _ y s3.2 in
-      moved from (sense_only s2.0.0, s4.0) y s4.2 (senses k (expect_mark_ok marks.OpenRound ts s1.0 s1.1) (name_ok s1.0 s2.0.0 s2.0.1 s2.1) (expect_mark_ok marks.CloseRound s2.0.1 s3.0 s3.1) (expect_mark_ok marks.Semicolon s3.0 s4.0 s4.1))
+      moved from (sense_only s2.0.0, s4.0) y s4.2
+      (senses k (expect_mark_ok marks.OpenRound ts s1.0 s1.1) (name_ok s1.0 s2.0.0 s2.0.1 s2.1) (expect_mark_ok marks.CloseRound s2.0.1 s3.0 s3.1) (expect_mark_ok marks.Semicolon s3.0 s4.0 s4.1))
 
   emit_sound : (from ts : Lexemes) (y : TKind × Lexemes) → Keyword words.Emit from ts → emit_at limits ts ≡ Ok y → SpellsSimple limits y.0 from y.1
   unfolding emit_at
@@ -222,7 +232,9 @@ module _ (limits : Limits) where
       let s4 = bind_ok (whole_at limits s3.0) _ y s3.2 in
       let s5 = bind_ok (expect_mark marks.CloseRound s4.0.1) _ y s4.2 in
       let s6 = bind_ok (expect_mark marks.Semicolon s5.0) _ y s5.2 in
-      moved from (emit s2.0.0 s4.0.0, s6.0) y s6.2 (emits k (expect_mark_ok marks.OpenRound ts s1.0 s1.1) (name_ok s1.0 s2.0.0 s2.0.1 s2.1) (expect_mark_ok marks.Comma s2.0.1 s3.0 s3.1) (whole_sound limits s3.0 s4.0 s4.1) (expect_mark_ok marks.CloseRound s4.0.1 s5.0 s5.1) (expect_mark_ok marks.Semicolon s5.0 s6.0 s6.1))
+      moved from (emit s2.0.0 s4.0.0, s6.0) y s6.2
+      (emits k (expect_mark_ok marks.OpenRound ts s1.0 s1.1) (name_ok s1.0 s2.0.0 s2.0.1 s2.1) (expect_mark_ok marks.Comma s2.0.1 s3.0 s3.1) (whole_sound limits s3.0 s4.0 s4.1)
+      (expect_mark_ok marks.CloseRound s4.0.1 s5.0 s5.1) (expect_mark_ok marks.Semicolon s5.0 s6.0 s6.1))
 
   fresh_sound : (from ts : Lexemes) (y : TKind × Lexemes) → Keyword words.Fresh from ts → fresh_at ts ≡ Ok y → SpellsSimple limits y.0 from y.1
   unfolding fresh_at
@@ -231,7 +243,8 @@ module _ (limits : Limits) where
       let s2 = bind_ok (name_at s1.0) _ y s1.2 in
       let s3 = bind_ok (expect_mark marks.CloseRound s2.0.1) _ y s2.2 in
       let s4 = bind_ok (expect_mark marks.Semicolon s3.0) _ y s3.2 in
-      moved from (fresh s2.0.0, s4.0) y s4.2 (marks_fresh k (expect_mark_ok marks.OpenRound ts s1.0 s1.1) (name_ok s1.0 s2.0.0 s2.0.1 s2.1) (expect_mark_ok marks.CloseRound s2.0.1 s3.0 s3.1) (expect_mark_ok marks.Semicolon s3.0 s4.0 s4.1))
+      moved from (fresh s2.0.0, s4.0) y s4.2 (marks_fresh k (expect_mark_ok marks.OpenRound ts s1.0 s1.1) (name_ok s1.0 s2.0.0 s2.0.1 s2.1)
+      (expect_mark_ok marks.CloseRound s2.0.1 s3.0 s3.1) (expect_mark_ok marks.Semicolon s3.0 s4.0 s4.1))
 
   consistent_sound : (from ts : Lexemes) (y : TKind × Lexemes) → Keyword words.Consistent from ts → consistent_at ts ≡ Ok y → SpellsSimple limits y.0 from y.1
   unfolding consistent_at
@@ -242,7 +255,9 @@ module _ (limits : Limits) where
       let s4 = bind_ok (number_at s3.0) _ y s3.2 in
       let s5 = bind_ok (expect_mark marks.CloseRound s4.0.1) _ y s4.2 in
       let s6 = bind_ok (expect_mark marks.Semicolon s5.0) _ y s5.2 in
-      moved from (consistent s2.0.0 s4.0.0, s6.0) y s6.2 (marks_consistent k (expect_mark_ok marks.OpenRound ts s1.0 s1.1) (name_ok s1.0 s2.0.0 s2.0.1 s2.1) (expect_mark_ok marks.Comma s2.0.1 s3.0 s3.1) (number_ok s3.0 s4.0.0 s4.0.1 s4.1) (expect_mark_ok marks.CloseRound s4.0.1 s5.0 s5.1) (expect_mark_ok marks.Semicolon s5.0 s6.0 s6.1))
+      moved from (consistent s2.0.0 s4.0.0, s6.0) y s6.2
+      (marks_consistent k (expect_mark_ok marks.OpenRound ts s1.0 s1.1) (name_ok s1.0 s2.0.0 s2.0.1 s2.1) (expect_mark_ok marks.Comma s2.0.1 s3.0 s3.1)
+      (number_ok s3.0 s4.0.0 s4.0.1 s4.1) (expect_mark_ok marks.CloseRound s4.0.1 s5.0 s5.1) (expect_mark_ok marks.Semicolon s5.0 s6.0 s6.1))
 
   return_sound : (from ts : Lexemes) (y : TKind × Lexemes) → Keyword words.Return from ts → return_at limits ts ≡ Ok y → SpellsSimple limits y.0 from y.1
   unfolding return_at
@@ -267,7 +282,8 @@ module _ (limits : Limits) where
       let a = bind_ok (name_at (take_word words.Mutable ts).1) _ y e in
       let b = bind_ok (note_at a.0.1) _ y a.2 in
       let c = bind_ok (expect_mark marks.Assign b.0.1) _ y b.2 in
-      bind_sound (take_word words.Mutable ts).0 a.0.0 b.0.0 from c.0 y (let_head w (mut_sound ts) (name_ok _ a.0.0 a.0.1 a.1) (note_sound a.0.1 b.0 b.1) (expect_mark_ok marks.Assign b.0.1 c.0 c.1)) c.2
+      bind_sound (take_word words.Mutable ts).0 a.0.0 b.0.0 from c.0 y
+      (let_head w (mut_sound ts) (name_ok _ a.0.0 a.0.1 a.1) (note_sound a.0.1 b.0 b.1) (expect_mark_ok marks.Assign b.0.1 c.0 c.1)) c.2
 
   set_sound : (x : Text) (from ts : Lexemes) (y : TKind × Lexemes) → Named x from ts → set_at limits x ts ≡ Ok y → SpellsSimple limits y.0 from y.1
   unfolding set_at
@@ -298,15 +314,19 @@ module _ (limits : Limits) where
 
   pub simple_shorter : {k : TKind} {from rest : Lexemes} → SpellsSimple limits k from rest → length rest < length from
   simple_shorter (let_right h r) = let a = head_shorter h in let b = right_shorter r in omega arith
-  simple_shorter (let_fill h o i s n c t) = let a = head_shorter h in let b = sign_shorter o in let d = const_shorter i in let e = sign_shorter s in let f = number_shorter n in let g = sign_shorter c in let l = sign_shorter t in omega arith
+  simple_shorter (let_fill h o i s n c t) = let a = head_shorter h in let b = sign_shorter o in let d = const_shorter i in let e = sign_shorter s in let f = number_shorter n in
+      let g = sign_shorter c in let l = sign_shorter t in omega arith
   simple_shorter (assigns i s r) = let a = name_shorter i in let b = sign_shorter s in let c = right_shorter r in omega arith
-  simple_shorter (assigns_index i o w c s r) = let a = name_shorter i in let b = sign_shorter o in let d = whole_shorter w in let e = sign_shorter c in let f = sign_shorter s in let g = right_shorter r in omega arith
+  simple_shorter (assigns_index i o w c s r) = let a = name_shorter i in let b = sign_shorter o in let d = whole_shorter w in let e = sign_shorter c in let f = sign_shorter s in
+      let g = right_shorter r in omega arith
   simple_shorter (assigns_deref o i s r) = let a = sign_shorter o in let b = name_shorter i in let c = sign_shorter s in let d = right_shorter r in omega arith
   simple_shorter (calls i o d s) = let a = name_shorter i in let b = sign_shorter o in let c = shorter_args limits d in let e = sign_shorter s in omega arith
   simple_shorter (senses k o i c s) = let a = keyword_shorter k in let b = sign_shorter o in let d = name_shorter i in let e = sign_shorter c in let f = sign_shorter s in omega arith
-  simple_shorter (emits k o i m w c s) = let a = keyword_shorter k in let b = sign_shorter o in let d = name_shorter i in let e = sign_shorter m in let f = whole_shorter w in let g = sign_shorter c in let h = sign_shorter s in omega arith
+  simple_shorter (emits k o i m w c s) = let a = keyword_shorter k in let b = sign_shorter o in let d = name_shorter i in let e = sign_shorter m in let f = whole_shorter w in
+      let g = sign_shorter c in let h = sign_shorter s in omega arith
   simple_shorter (marks_fresh k o i c s) = let a = keyword_shorter k in let b = sign_shorter o in let d = name_shorter i in let e = sign_shorter c in let f = sign_shorter s in omega arith
-  simple_shorter (marks_consistent k o i m n c s) = let a = keyword_shorter k in let b = sign_shorter o in let d = name_shorter i in let e = sign_shorter m in let f = number_shorter n in let g = sign_shorter c in let h = sign_shorter s in omega arith
+  simple_shorter (marks_consistent k o i m n c s) = let a = keyword_shorter k in let b = sign_shorter o in let d = name_shorter i in let e = sign_shorter m in let f =
+      number_shorter n in let g = sign_shorter c in let h = sign_shorter s in omega arith
   simple_shorter (returns k w s) = let a = keyword_shorter k in let b = whole_shorter w in let c = sign_shorter s in omega arith
 
   -- ---- what is spelled so is read
@@ -317,13 +337,16 @@ module _ (limits : Limits) where
   pub simple_read : (body : Reader TBlock) (other : Reader TElse) (n b : ℕ) {k : TKind} {from rest : Lexemes} → SpellsSimple limits k from rest → KindRead body other k n b from (n, b, rest)
   unfolding next_at let_at let_from bind_at fill_at set_at assign_at element_to_at call_at target_at sense_at emit_at fresh_at consistent_at return_at
   simple_read body other n b (let_right (let_head a_keyword m i t s) r) = rw (mut_read m i, name_read i, note_read t s, sign_expect s, right_begins r, right_read r) refl
-  simple_read body other n b (let_fill (let_head a_keyword m i t s) o z u v c w) = rw (mut_read m i, name_read i, note_read t s, sign_expect s, sign_strip o, const_read z, sign_expect u, number_read v, sign_expect c, sign_expect w) refl
+  simple_read body other n b (let_fill (let_head a_keyword m i t s) o z u v c w) =
+      rw (mut_read m i, name_read i, note_read t s, sign_expect s, sign_strip o, const_read z, sign_expect u, number_read v, sign_expect c, sign_expect w) refl
   simple_read body other n b (assigns a_name s r) = rw (other_mark s marks.OpenRound refl, other_mark s marks.OpenSquare refl, sign_expect s, right_read r) refl
-  simple_read body other n b (assigns_index a_name o w c s r) = rw (other_mark o marks.OpenRound refl, sign_strip o, whole_read limits w (stops_sign 6 marks.CloseSquare _ _ refl refl refl c), sign_expect c, sign_expect s, right_read r) refl
+  simple_read body other n b (assigns_index a_name o w c s r) =
+      rw (other_mark o marks.OpenRound refl, sign_strip o, whole_read limits w (stops_sign 6 marks.CloseSquare _ _ refl refl refl c), sign_expect c, sign_expect s, right_read r) refl
   simple_read body other n b (assigns_deref a_sign i s r) = rw (name_read i, sign_expect s, right_read r) refl
   simple_read body other n b (calls {args = args} a_name o d s) = rw (sign_strip o, args_at_read d, sign_expect s, args_back args) refl
   simple_read body other n b (senses a_keyword o i c s) = rw (sign_expect o, name_read i, sign_expect c, sign_expect s) refl
-  simple_read body other n b (emits a_keyword o i m w c s) = rw (sign_expect o, name_read i, sign_expect m, whole_read limits w (stops_sign 6 marks.CloseRound _ _ refl refl refl c), sign_expect c, sign_expect s) refl
+  simple_read body other n b (emits a_keyword o i m w c s) =
+      rw (sign_expect o, name_read i, sign_expect m, whole_read limits w (stops_sign 6 marks.CloseRound _ _ refl refl refl c), sign_expect c, sign_expect s) refl
   simple_read body other n b (marks_fresh a_keyword o i c s) = rw (sign_expect o, name_read i, sign_expect c, sign_expect s) refl
   simple_read body other n b (marks_consistent a_keyword o i m v c s) = rw (sign_expect o, name_read i, sign_expect m, number_read v, sign_expect c, sign_expect s) refl
   simple_read body other n b (returns a_keyword w s) = rw (whole_read limits w (stops_sign 6 marks.Semicolon _ _ refl refl refl s), sign_expect s) refl

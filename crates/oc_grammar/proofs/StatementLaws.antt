@@ -9,9 +9,12 @@ use Rattle.oc_grammar.specs.Lexemes.{Lexeme, Lexemes, keyword}
 use Rattle.oc_grammar.specs.Fronts.{Keyword, a_keyword}
 use Rattle.oc_grammar.specs.Reading.{with_some, too_deep, next_at, strip_mark, strip_word, expect_mark, expect_word, name_at, number_at}
 use Rattle.oc_grammar.specs.ReadingExpressions.{whole_at}
-use Rattle.oc_grammar.specs.Statements.{Place, SpellsKind, simple, if_form, for_form, while_form, atomic_form, SpellsElse, without, otherwise, else_if, SpellsStmt, statement, SpellsBlock, braces, SpellsStmts, end, first}
-use Rattle.oc_grammar.specs.ReadingStatements.{const_at, simple_from, Reader, if_by, for_by, while_by, atomic_by, simple_by, kind_by, stmt_by, stmts_by, braces_by, no_block, chained_by, no_chained, else_by, stmt_at, block_at}
-use Rattle.oc_grammar.proofs.FrontLaws.{bind_ok, done, ok_is, with_some_ok, strip_mark_ok, strip_word_ok, expect_mark_ok, expect_word_ok, name_ok, number_ok, next_ok, sign_shorter, keyword_shorter, name_shorter, number_shorter}
+use Rattle.oc_grammar.specs.Statements.{Place, SpellsKind, simple, if_form, for_form, while_form, atomic_form, SpellsElse, without, otherwise, else_if, SpellsStmt, statement}
+use Rattle.oc_grammar.specs.Statements.{SpellsBlock, braces, SpellsStmts, end, first}
+use Rattle.oc_grammar.specs.ReadingStatements.{const_at, simple_from, Reader, if_by, for_by, while_by, atomic_by, simple_by, kind_by, stmt_by, stmts_by, braces_by, no_block}
+use Rattle.oc_grammar.specs.ReadingStatements.{chained_by, no_chained, else_by, stmt_at, block_at}
+use Rattle.oc_grammar.proofs.FrontLaws.{bind_ok, done, ok_is, with_some_ok, strip_mark_ok, strip_word_ok, expect_mark_ok, expect_word_ok, name_ok, number_ok, next_ok, sign_shorter}
+use Rattle.oc_grammar.proofs.FrontLaws.{keyword_shorter, name_shorter, number_shorter}
 use Rattle.oc_grammar.proofs.ExpressionLaws.{whole_sound, Inside}
 use Rattle.oc_grammar.proofs.SimpleLaws.{simple_sound, simple_shorter, const_sound, const_shorter, whole_shorter}
 
@@ -23,7 +26,8 @@ moved : {A : Type 0} (P : A → Place → Place → Type 0) (p : Place) (x y : A
 moved P p x y e d = subst (λ (q : _ × ℕ × ℕ × Lexemes). P q.0 p (q.1, q.2, q.3)) (ok_is x y e) d
 
 module _ (limits : Limits) where
-  if_sound : (room : ℕ) (body : Reader TBlock) (other : Reader TElse) → Takes (SpellsBlock limits room) body → Takes (SpellsElse limits room) other → (n b : ℕ) (from ts : Lexemes) (y : TKind × ℕ × ℕ × Lexemes) → Keyword words.If from ts → if_by limits body other n b ts ≡ Ok y → SpellsKind limits room y.0 (n, b, from) (y.1, y.2, y.3)
+  if_sound : (room : ℕ) (body : Reader TBlock) (other : Reader TElse) → Takes (SpellsBlock limits room) body → Takes (SpellsElse limits room) other
+      → (n b : ℕ) (from ts : Lexemes) (y : TKind × ℕ × ℕ × Lexemes) → Keyword words.If from ts → if_by limits body other n b ts ≡ Ok y → SpellsKind limits room y.0 (n, b, from) (y.1, y.2, y.3)
   unfolding if_by
   if_sound room body other bs es n b from ts y k e =
       let c = bind_ok (whole_at limits ts) _ y e in
@@ -31,7 +35,8 @@ module _ (limits : Limits) where
       let o = bind_ok (other t.0.1 t.0.2 t.0.3) _ y t.2 in
       moved (SpellsKind limits room) (n, b, from) _ y o.2 (if_form k (whole_sound limits ts c.0 c.1) (bs n b c.0.1 t.0 t.1) (es t.0.1 t.0.2 t.0.3 o.0 o.1))
 
-  for_sound : (room : ℕ) (body : Reader TBlock) → Takes (SpellsBlock limits room) body → (n b : ℕ) (from ts : Lexemes) (y : TKind × ℕ × ℕ × Lexemes) → Keyword words.For from ts → for_by body n b ts ≡ Ok y → SpellsKind limits room y.0 (n, b, from) (y.1, y.2, y.3)
+  for_sound : (room : ℕ) (body : Reader TBlock) → Takes (SpellsBlock limits room) body → (n b : ℕ) (from ts : Lexemes) (y : TKind × ℕ × ℕ × Lexemes) → Keyword words.For from ts
+      → for_by body n b ts ≡ Ok y → SpellsKind limits room y.0 (n, b, from) (y.1, y.2, y.3)
   unfolding for_by
   for_sound room body bs n b from ts y k e =
       let x = bind_ok (name_at ts) _ y e in
@@ -40,34 +45,42 @@ module _ (limits : Limits) where
       let r = bind_ok (expect_mark marks.Range i.0.1) _ y i.2 in
       let j = bind_ok (const_at r.0) _ y r.2 in
       let t = bind_ok (body n b j.0.1) _ y j.2 in
-      moved (SpellsKind limits room) (n, b, from) _ y t.2 (for_form k (name_ok ts x.0.0 x.0.1 x.1) (expect_word_ok words.In x.0.1 w.0 w.1) (const_sound w.0 i.0 i.1) (expect_mark_ok marks.Range i.0.1 r.0 r.1) (const_sound r.0 j.0 j.1) (bs n b j.0.1 t.0 t.1))
+      moved (SpellsKind limits room) (n, b, from) _ y t.2
+      (for_form k (name_ok ts x.0.0 x.0.1 x.1) (expect_word_ok words.In x.0.1 w.0 w.1) (const_sound w.0 i.0 i.1) (expect_mark_ok marks.Range i.0.1 r.0 r.1)
+      (const_sound r.0 j.0 j.1) (bs n b j.0.1 t.0 t.1))
 
-  while_sound : (room : ℕ) (body : Reader TBlock) → Takes (SpellsBlock limits room) body → (n b : ℕ) (from ts : Lexemes) (y : TKind × ℕ × ℕ × Lexemes) → Keyword words.While from ts → while_by limits body n b ts ≡ Ok y → SpellsKind limits room y.0 (n, b, from) (y.1, y.2, y.3)
+  while_sound : (room : ℕ) (body : Reader TBlock) → Takes (SpellsBlock limits room) body → (n b : ℕ) (from ts : Lexemes) (y : TKind × ℕ × ℕ × Lexemes) → Keyword words.While from ts
+      → while_by limits body n b ts ≡ Ok y → SpellsKind limits room y.0 (n, b, from) (y.1, y.2, y.3)
   unfolding while_by
   while_sound room body bs n b from ts y k e =
       let c = bind_ok (whole_at limits ts) _ y e in
       let w = bind_ok (expect_word words.Bound c.0.1) _ y c.2 in
       let z = bind_ok (number_at w.0) _ y w.2 in
       let t = bind_ok (body n b z.0.1) _ y z.2 in
-      moved (SpellsKind limits room) (n, b, from) _ y t.2 (while_form k (whole_sound limits ts c.0 c.1) (expect_word_ok words.Bound c.0.1 w.0 w.1) (number_ok w.0 z.0.0 z.0.1 z.1) (bs n b z.0.1 t.0 t.1))
+      moved (SpellsKind limits room) (n, b, from) _ y t.2
+      (while_form k (whole_sound limits ts c.0 c.1) (expect_word_ok words.Bound c.0.1 w.0 w.1) (number_ok w.0 z.0.0 z.0.1 z.1) (bs n b z.0.1 t.0 t.1))
 
-  atomic_sound : (room : ℕ) (body : Reader TBlock) → Takes (SpellsBlock limits room) body → (n b : ℕ) (from ts : Lexemes) (y : TKind × ℕ × ℕ × Lexemes) → Keyword words.Atomic from ts → atomic_by body n b ts ≡ Ok y → SpellsKind limits room y.0 (n, b, from) (y.1, y.2, y.3)
+  atomic_sound : (room : ℕ) (body : Reader TBlock) → Takes (SpellsBlock limits room) body → (n b : ℕ) (from ts : Lexemes) (y : TKind × ℕ × ℕ × Lexemes)
+      → Keyword words.Atomic from ts → atomic_by body n b ts ≡ Ok y → SpellsKind limits room y.0 (n, b, from) (y.1, y.2, y.3)
   unfolding atomic_by
   atomic_sound room body bs n b from ts y k e = let t = bind_ok (body n b ts) _ y e in moved (SpellsKind limits room) (n, b, from) _ y t.2 (atomic_form k (bs n b ts t.0 t.1))
 
-  simple_by_sound : (room n b : ℕ) (t : Lexeme) (ts : Lexemes) (y : TKind × ℕ × ℕ × Lexemes) → simple_by n b (simple_from limits t ts) ≡ Ok y → SpellsKind limits room y.0 (n, b, t ∷ ts) (y.1, y.2, y.3)
+  simple_by_sound : (room n b : ℕ) (t : Lexeme) (ts : Lexemes) (y : TKind × ℕ × ℕ × Lexemes) → simple_by n b (simple_from limits t ts) ≡ Ok y
+      → SpellsKind limits room y.0 (n, b, t ∷ ts) (y.1, y.2, y.3)
   simple_by_sound room n b t ts y e =
       let k = bind_ok (simple_from limits t ts) _ y e in
       moved (SpellsKind limits room) (n, b, t ∷ ts) (k.0.0, n, b, k.0.1) y k.2 (simple (simple_sound limits t ts k.0 k.1))
 
-  kind_sound : (room : ℕ) (body : Reader TBlock) (other : Reader TElse) → Takes (SpellsBlock limits room) body → Takes (SpellsElse limits room) other → (t : Lexeme) (n b : ℕ) (ts : Lexemes) (y : TKind × ℕ × ℕ × Lexemes) → kind_by limits body other t n b ts ≡ Ok y → SpellsKind limits room y.0 (n, b, t ∷ ts) (y.1, y.2, y.3)
+  kind_sound : (room : ℕ) (body : Reader TBlock) (other : Reader TElse) → Takes (SpellsBlock limits room) body → Takes (SpellsElse limits room) other
+      → (t : Lexeme) (n b : ℕ) (ts : Lexemes) (y : TKind × ℕ × ℕ × Lexemes) → kind_by limits body other t n b ts ≡ Ok y → SpellsKind limits room y.0 (n, b, t ∷ ts) (y.1, y.2, y.3)
   kind_sound room body other bs es (keyword line words.If) n b ts y e = if_sound room body other bs es n b _ ts y a_keyword e
   kind_sound room body other bs es (keyword line words.For) n b ts y e = for_sound room body bs n b _ ts y a_keyword e
   kind_sound room body other bs es (keyword line words.While) n b ts y e = while_sound room body bs n b _ ts y a_keyword e
   kind_sound room body other bs es (keyword line words.Atomic) n b ts y e = atomic_sound room body bs n b _ ts y a_keyword e
   kind_sound room body other bs es t n b ts y e = simple_by_sound room n b t ts y e
 
-  stmt_by_sound : (room : ℕ) (body : Reader TBlock) (other : Reader TElse) → Takes (SpellsBlock limits room) body → Takes (SpellsElse limits room) other → Takes (SpellsStmt limits room) (stmt_by limits body other)
+  stmt_by_sound : (room : ℕ) (body : Reader TBlock) (other : Reader TElse) → Takes (SpellsBlock limits room) body → Takes (SpellsElse limits room) other
+      → Takes (SpellsStmt limits room) (stmt_by limits body other)
   stmt_by_sound room body other bs es n b ts y e =
       let x = bind_ok (next_at ts) _ y e in
       let k = bind_ok (kind_by limits body other x.0.0 (suc n) b x.0.1) _ y x.2 in
@@ -112,7 +125,8 @@ module _ (limits : Limits) where
   no_chained_sound : (room : ℕ) → Takes (Chained room) no_chained
   no_chained_sound room n b ts y e = absurd cc
 
-  else_if_in : (room : ℕ) (n b : ℕ) (from a c : Lexemes) (t : TBlock) (p : Place) → Keyword words.Else from a → Keyword words.If a c → Chained room t (n, b, a) p → SpellsElse limits room (else_do t) (n, b, from) p
+  else_if_in : (room : ℕ) (n b : ℕ) (from a c : Lexemes) (t : TBlock) (p : Place) → Keyword words.Else from a → Keyword words.If a c → Chained room t (n, b, a) p
+      → SpellsElse limits room (else_do t) (n, b, from) p
   else_if_in zero n b from a c t p k l d = absurd d.inside
   else_if_in (suc room) n b from a c t p k l d = subst (λ (u : TBlock). SpellsElse limits (suc room) (else_do u) (n, b, from) p) (sym d.is) (else_if k l d.inside)
 
@@ -134,7 +148,8 @@ module _ (limits : Limits) where
   stmt_sound zero = stmt_by_sound zero no_block (else_by no_block no_chained) (no_block_sound zero) (else_sound zero no_block no_chained (no_block_sound zero) (no_chained_sound zero))
   stmt_sound (suc room) =
       let bs : Takes (SpellsBlock limits (suc room)) (braces_by (stmt_at limits room)) = braces_sound room (stmt_at limits room) (stmt_sound room) in
-      stmt_by_sound (suc room) (braces_by (stmt_at limits room)) (else_by (braces_by (stmt_at limits room)) (chained_by (stmt_at limits room))) bs (else_sound (suc room) (braces_by (stmt_at limits room)) (chained_by (stmt_at limits room)) bs (chained_sound room (stmt_at limits room) (stmt_sound room)))
+      stmt_by_sound (suc room) (braces_by (stmt_at limits room)) (else_by (braces_by (stmt_at limits room)) (chained_by (stmt_at limits room))) bs
+      (else_sound (suc room) (braces_by (stmt_at limits room)) (chained_by (stmt_at limits room)) bs (chained_sound room (stmt_at limits room) (stmt_sound room)))
 
   pub block_sound : (room : ℕ) → Takes (SpellsBlock limits room) (block_at limits room)
   unfolding block_at
@@ -147,7 +162,8 @@ module _ (limits : Limits) where
     pub kind_shorter : {room : ℕ} {k : TKind} {p q : Place} → SpellsKind limits room k p q → length q.2 < length p.2
     kind_shorter (simple d) = simple_shorter limits d
     kind_shorter (if_form k c t o) = let a = keyword_shorter k in let d = whole_shorter limits c in let e = block_shorter t in let f = else_shorter o in omega arith
-    kind_shorter (for_form k i n c r d t) = let a = keyword_shorter k in let b = name_shorter i in let e = keyword_shorter n in let f = const_shorter c in let g = sign_shorter r in let h = const_shorter d in let l = block_shorter t in omega arith
+    kind_shorter (for_form k i n c r d t) = let a = keyword_shorter k in let b = name_shorter i in let e = keyword_shorter n in let f = const_shorter c in let g = sign_shorter r in
+        let h = const_shorter d in let l = block_shorter t in omega arith
     kind_shorter (while_form k c w i t) = let a = keyword_shorter k in let b = whole_shorter limits c in let d = keyword_shorter w in let e = number_shorter i in let f = block_shorter t in omega arith
     kind_shorter (atomic_form k t) = let a = keyword_shorter k in let b = block_shorter t in omega arith
 

@@ -8,7 +8,9 @@ use Rattle.oc_grammar.specs.Limits.{Limits}
 use Rattle.oc_grammar.specs.Lexemes.{Lexemes, front_line}
 use Rattle.oc_grammar.specs.Fronts.{a_name, a_keyword, a_sign}
 use Rattle.oc_grammar.specs.Reading.{next_at, strip_mark, strip_word}
-use Rattle.oc_grammar.specs.Statements.{Place, SpellsSimple, let_right, let_fill, let_head, assigns, assigns_index, assigns_deref, calls, senses, emits, marks_fresh, marks_consistent, returns, SpellsKind, simple, if_form, for_form, while_form, atomic_form, SpellsElse, without, otherwise, else_if, SpellsStmt, statement, SpellsBlock, braces, SpellsStmts, end, first}
+use Rattle.oc_grammar.specs.Statements.{Place, SpellsSimple, let_right, let_fill, let_head, assigns, assigns_index, assigns_deref, calls, senses, emits, marks_fresh}
+use Rattle.oc_grammar.specs.Statements.{marks_consistent, returns, SpellsKind, simple, if_form, for_form, while_form, atomic_form, SpellsElse, without, otherwise, else_if}
+use Rattle.oc_grammar.specs.Statements.{SpellsStmt, statement, SpellsBlock, braces, SpellsStmts, end, first}
 use Rattle.oc_grammar.specs.ReadingStatements.{Reader, if_by, for_by, while_by, atomic_by, stmt_by, stmts_by, stmt_at, block_at, chained_at, else_at, stmt_here}
 use Rattle.oc_grammar.proofs.FrontLaws.{sign_strip, sign_expect, keyword_strip, keyword_expect, name_read, number_read}
 use Rattle.oc_grammar.proofs.ExpressionsRead.{Stops, stops_sign, stops_keyword, whole_read}
@@ -73,7 +75,8 @@ module _ (limits : Limits) where
 
   -- ---- what is spelled so is read
 
-  with_line : (body : Reader TBlock) (other : Reader TElse) (n b : ℕ) (from : Lexemes) (k : TKind) (p : Place) → KindRead limits body other k (suc n) b from p → stmt_by limits body other n b from ≡ Ok (stmt n (front_line from) k, p.0, p.1, p.2)
+  with_line : (body : Reader TBlock) (other : Reader TElse) (n b : ℕ) (from : Lexemes) (k : TKind) (p : Place) → KindRead limits body other k (suc n) b from p
+      → stmt_by limits body other n b from ≡ Ok (stmt n (front_line from) k, p.0, p.1, p.2)
   unfolding next_at
   with_line body other n b [] k p e = absurd cc
   with_line body other n b (t ∷ ts) k p e = rw e refl

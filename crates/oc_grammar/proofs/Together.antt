@@ -8,10 +8,12 @@ use Rattle.oc_lex.specs.declared.token.Mark.TheVariants as marks
 use Rattle.oc_grammar.specs.Limits.{Depth}
 use Rattle.oc_grammar.specs.Lexemes.{Lexeme, Lexemes, named, numeral, keyword, sign}
 use Rattle.oc_grammar.specs.Fronts.{a_sign, a_keyword, mark_operator}
-use Rattle.oc_grammar.specs.Reading.{Fault, depth_fault, next_at, ◌>>=◌, with_some, refuse, mark_number, word_number, strip_mark, strip_word, expect_mark, expect_word, name_at, number_at, operator_front}
+use Rattle.oc_grammar.specs.Reading.{Fault, depth_fault, next_at, ◌>>=◌, with_some, refuse, mark_number, word_number, strip_mark, strip_word, expect_mark, expect_word, name_at}
+use Rattle.oc_grammar.specs.Reading.{number_at, operator_front}
 use Rattle.oc_grammar.specs.Depths.{Opens}
 use Rattle.oc_grammar.proofs.FrontLaws.{one_mark, one_word, sign_expect, keyword_expect}
-use Rattle.oc_grammar.proofs.Online.{Reading, Shape, shaped, shape, Positive, lead_bind, is_curly, Takes, Plain, Live, Ready, live_same, ready_same, live_bind, ready_bind, widen, waits, ends, Online, far, near, Step, refused, gives, both_deep, one_deep, taken, same, same_end, same_step, wider, step_of, end_of, bind}
+use Rattle.oc_grammar.proofs.Online.{Reading, Shape, shaped, shape, Positive, lead_bind, is_curly, Takes, Plain, Live, Ready, live_same, ready_same, live_bind, ready_bind, widen}
+use Rattle.oc_grammar.proofs.Online.{waits, ends, Online, far, near, Step, refused, gives, both_deep, one_deep, taken, same, same_end, same_step, wider, step_of, end_of, bind}
 
 -- ---- what may be in front
 
@@ -43,7 +45,8 @@ pub mark_fronts : (m : Mark) → Fronts (strip_mark m) rest_of (λ v. IsMark m)
 unfolding strip_mark
 mark_fronts m = record { nothing = refl; each = by_token }
   where
-    by_flag : (line : ℕ) (k : Mark) (b : Bool) → eqb (mark_number k) (mark_number m) ≡ b → ((v : Unit {0}) × IsMark m (sign line k) × ((ts : Lexemes) → strip_mark m (sign line k ∷ ts) ≡ Some ts)) ⊎ ((ts : Lexemes) → strip_mark m (sign line k ∷ ts) ≡ None)
+    by_flag : (line : ℕ) (k : Mark) (b : Bool) → eqb (mark_number k) (mark_number m) ≡ b
+        → ((v : Unit {0}) × IsMark m (sign line k) × ((ts : Lexemes) → strip_mark m (sign line k ∷ ts) ≡ Some ts)) ⊎ ((ts : Lexemes) → strip_mark m (sign line k ∷ ts) ≡ None)
     by_flag line k true e = inl (tt, (line, ap (λ (a : Mark). sign line a) (one_mark k m (eqb-true _ _ e))), λ ts. rw e refl)
     by_flag line k false e = inr (λ ts. rw e refl)
 
@@ -55,7 +58,8 @@ pub word_fronts : (w : Word) → Fronts (strip_word w) rest_of (λ v. IsWord w)
 unfolding strip_word
 word_fronts w = record { nothing = refl; each = by_token }
   where
-    by_flag : (line : ℕ) (k : Word) (b : Bool) → eqb (word_number k) (word_number w) ≡ b → ((v : Unit {0}) × IsWord w (keyword line k) × ((ts : Lexemes) → strip_word w (keyword line k ∷ ts) ≡ Some ts)) ⊎ ((ts : Lexemes) → strip_word w (keyword line k ∷ ts) ≡ None)
+    by_flag : (line : ℕ) (k : Word) (b : Bool) → eqb (word_number k) (word_number w) ≡ b
+        → ((v : Unit {0}) × IsWord w (keyword line k) × ((ts : Lexemes) → strip_word w (keyword line k ∷ ts) ≡ Some ts)) ⊎ ((ts : Lexemes) → strip_word w (keyword line k ∷ ts) ≡ None)
     by_flag line k true e = inl (tt, (line, ap (λ (a : Word). keyword line a) (one_word k w (eqb-true _ _ e))), λ ts. rw e refl)
     by_flag line k false e = inr (λ ts. rw e refl)
 
@@ -100,7 +104,18 @@ pub record Closing (m : Mark) : Type 0 where
 
 pub plain_mark : (line : ℕ) (m : Mark) (ts : Lexemes) → Closing m → Plain (sign line m ∷ ts)
 unfolding strip_mark strip_word operator_front
-plain_mark line m ts c = record { no_round = rw c.other_round refl; no_square = rw c.other_square refl; no_colon = rw c.other_colon refl; no_arrow = rw c.other_arrow refl; no_ampersand = rw c.other_ampersand refl; no_mutable = refl; no_else = refl; no_if = refl; no_operator = λ j. rw c.no_infix refl }
+plain_mark line m ts c = record {
+  no_round = rw c.other_round refl;
+  no_square = rw c.other_square refl;
+  no_colon = rw c.other_colon refl;
+  no_arrow =
+      rw c.other_arrow refl;
+  no_ampersand = rw c.other_ampersand refl;
+  no_mutable = refl;
+  no_else = refl;
+  no_if = refl;
+  no_operator = λ j. rw c.no_infix refl;
+}
 
 -- a word that nothing goes on with
 pub record Starting (w : Word) : Type 0 where
@@ -110,7 +125,18 @@ pub record Starting (w : Word) : Type 0 where
 
 pub plain_word : (line : ℕ) (w : Word) (ts : Lexemes) → Starting w → Plain (keyword line w ∷ ts)
 unfolding strip_mark strip_word operator_front
-plain_word line w ts c = record { no_round = refl; no_square = refl; no_colon = refl; no_arrow = refl; no_ampersand = refl; no_mutable = rw c.other_mutable refl; no_else = rw c.other_else refl; no_if = rw c.other_if refl; no_operator = λ j. refl }
+plain_word line w ts c = record {
+  no_round = refl;
+  no_square = refl;
+  no_colon = refl;
+  no_arrow = refl;
+  no_ampersand = refl;
+  no_mutable = rw c.other_mutable refl;
+  no_else =
+      rw c.other_else refl;
+  no_if = rw c.other_if refl;
+  no_operator = λ j. refl;
+}
 
 -- ---- readings that go together, with some tokens that complete them
 
@@ -134,10 +160,12 @@ module _ (gap : Depth → ℕ) (asks : Lexeme → Type 0) where
   pub good_wide : {I K X Y : Type 0} {s : Shape I K X Y} {r : Reading X} {q : Reading Y} → Good s false r q → Good s true r q
   good_wide g = record { online = λ n. wider gap asks true (g.online n); ready = g.ready }
 
-  pub good_same : {I K X Y : Type 0} {s : Shape I K X Y} {b : Bool} {r : Reading X} {q : Reading Y} (r' : Reading X) (q' : Reading Y) → ((ts : Lexemes) → r ts ≡ r' ts) → ((ts : Lexemes) → q ts ≡ q' ts) → Good s b r q → Good s b r' q'
+  pub good_same : {I K X Y : Type 0} {s : Shape I K X Y} {b : Bool} {r : Reading X} {q : Reading Y} (r' : Reading X) (q' : Reading Y) → ((ts : Lexemes) → r ts ≡ r' ts)
+      → ((ts : Lexemes) → q ts ≡ q' ts) → Good s b r q → Good s b r' q'
   good_same {s = s} {q = q} r' q' e f g = record { online = λ n. same gap asks (g.online n) r' q' e f; ready = ready_same s.whole s.large q q' f g.ready }
 
-  pub fair_same : {I K X Y : Type 0} {s : Shape I K X Y} {b : Bool} {r : Reading X} {q : Reading Y} (r' : Reading X) (q' : Reading Y) → ((ts : Lexemes) → r ts ≡ r' ts) → ((ts : Lexemes) → q ts ≡ q' ts) → Fair s b r q → Fair s b r' q'
+  pub fair_same : {I K X Y : Type 0} {s : Shape I K X Y} {b : Bool} {r : Reading X} {q : Reading Y} (r' : Reading X) (q' : Reading Y) → ((ts : Lexemes) → r ts ≡ r' ts)
+      → ((ts : Lexemes) → q ts ≡ q' ts) → Fair s b r q → Fair s b r' q'
   fair_same {s = s} {q = q} r' q' e f g = record { online = λ n. same gap asks (g.online n) r' q' e f; live = live_same s.whole s.large q q' f g.live }
 
   -- something is given at once
@@ -151,13 +179,15 @@ module _ (gap : Depth → ℕ) (asks : Lexeme → Type 0) where
       by_count zero = far
       by_count (suc n) = near (ends i refl refl) (λ t. gives i (λ ts. refl) (λ ts. refl))
 
-  pub good_bind : {I J H X Y Z W : Type 0} {x : I → Lexemes → X} {y : I → Lexemes → Y} {u : Shape J H Z W} {b : Bool} {r : Reading X} {q : Reading Y} (k : X → Result Z Fault) (l : Y → Result W Fault) → Good (shape x y) b r q → ((i : I) → Good u b (λ ts. k (x i ts)) (λ ts. l (y i ts))) → Good u b (λ ts. r ts >>= k) (λ ts. q ts >>= l)
+  pub good_bind : {I J H X Y Z W : Type 0} {x : I → Lexemes → X} {y : I → Lexemes → Y} {u : Shape J H Z W} {b : Bool} {r : Reading X} {q : Reading Y} (k : X → Result Z Fault)
+      (l : Y → Result W Fault) → Good (shape x y) b r q → ((i : I) → Good u b (λ ts. k (x i ts)) (λ ts. l (y i ts))) → Good u b (λ ts. r ts >>= k) (λ ts. q ts >>= l)
   good_bind {x = x} {y = y} {u = u} {b = b} {r = r} {q = q} k l g h = record {
     online = λ n. bind gap asks x y (λ i. i) u b b k l (λ t e. e) (λ t a e i. (h i).ready) (g.online n) (λ i. (h i).online n);
     ready = ready_bind u.whole y u.large q l g.ready (λ i. (h i).ready);
   }
 
-  pub fair_bind : {I J H X Y Z W : Type 0} {x : I → Lexemes → X} {y : I → Lexemes → Y} {u : Shape J H Z W} {b : Bool} {r : Reading X} {q : Reading Y} (k : X → Result Z Fault) (l : Y → Result W Fault) → Fair (shape x y) b r q → ((i : I) → Good u b (λ ts. k (x i ts)) (λ ts. l (y i ts))) → Fair u b (λ ts. r ts >>= k) (λ ts. q ts >>= l)
+  pub fair_bind : {I J H X Y Z W : Type 0} {x : I → Lexemes → X} {y : I → Lexemes → Y} {u : Shape J H Z W} {b : Bool} {r : Reading X} {q : Reading Y} (k : X → Result Z Fault)
+      (l : Y → Result W Fault) → Fair (shape x y) b r q → ((i : I) → Good u b (λ ts. k (x i ts)) (λ ts. l (y i ts))) → Fair u b (λ ts. r ts >>= k) (λ ts. q ts >>= l)
   fair_bind {x = x} {y = y} {u = u} {b = b} {r = r} {q = q} k l g h = record {
     online = λ n. bind gap asks x y (λ i. i) u b b k l (λ t e. e) (λ t a e i. (h i).ready) (g.online n) (λ i. (h i).online n);
     live = live_bind u.whole y u.large q l g.live (λ i. (h i).ready);
@@ -173,15 +203,20 @@ module _ (gap : Depth → ℕ) (asks : Lexeme → Type 0) where
       → ((v : V) (t : Lexeme) → P v t → Step gap asks s b n t (λ ts. found (put v ts)) (λ ts. found' (put v ts)))
       → Online gap asks s b (suc n) (λ ts. with_some (f ts) (other ts) found) (λ ts. with_some (f ts) (other' ts) found')
   choose s b f put P fr other other' found found' n o k =
-      near (same_end gap asks (end_of gap asks o) (λ ts. with_some (f ts) (other ts) found) (λ ts. with_some (f ts) (other' ts) found') (rw fr.nothing refl) (rw fr.nothing refl)) (λ t. by_step t (fr.each t))
+      near (same_end gap asks (end_of gap asks o) (λ ts. with_some (f ts) (other ts) found) (λ ts. with_some (f ts) (other' ts) found') (rw fr.nothing refl) (rw fr.nothing refl))
+      (λ t. by_step t (fr.each t))
     where
       by_step : (t : Lexeme) → AtFront f put P t → Step gap asks s b n t (λ ts. with_some (f (t ∷ ts)) (other (t ∷ ts)) found) (λ ts. with_some (f (t ∷ ts)) (other' (t ∷ ts)) found')
-      by_step t (inl w) = same_step gap asks (k w.0 t w.1) (λ ts. with_some (f (t ∷ ts)) (other (t ∷ ts)) found) (λ ts. with_some (f (t ∷ ts)) (other' (t ∷ ts)) found') (λ ts. rw (w.2 ts) refl) (λ ts. rw (w.2 ts) refl)
-      by_step t (inr w) = same_step gap asks (step_of gap asks o t) (λ ts. with_some (f (t ∷ ts)) (other (t ∷ ts)) found) (λ ts. with_some (f (t ∷ ts)) (other' (t ∷ ts)) found') (λ ts. rw (w ts) refl) (λ ts. rw (w ts) refl)
+      by_step t (inl w) = same_step gap asks (k w.0 t w.1) (λ ts. with_some (f (t ∷ ts)) (other (t ∷ ts)) found) (λ ts. with_some (f (t ∷ ts)) (other' (t ∷ ts)) found')
+          (λ ts. rw (w.2 ts) refl) (λ ts. rw (w.2 ts) refl)
+      by_step t (inr w) = same_step gap asks (step_of gap asks o t) (λ ts. with_some (f (t ∷ ts)) (other (t ∷ ts)) found) (λ ts. with_some (f (t ∷ ts)) (other' (t ∷ ts)) found')
+          (λ ts. rw (w ts) refl) (λ ts. rw (w ts) refl)
 
   -- one of two readings, where what is in front is optional
-  pub optional : {I K X Y V Z : Type 0} {s : Shape I K X Y} {b : Bool} (f : Lexemes → Option Z) (put : V → Lexemes → Z) (P : V → Lexeme → Type 0) → Fronts f put P → ((v : V) (t : Lexeme) → P v t → Takes b t) → ((ts : Lexemes) → Plain ts → f ts ≡ None)
-      → (other : Reading X) (other' : Reading Y) (found : Z → Result X Fault) (found' : Z → Result Y Fault) → Good s b other other' → ((v : V) → Fair s b (λ ts. found (put v ts)) (λ ts. found' (put v ts)))
+  pub optional : {I K X Y V Z : Type 0} {s : Shape I K X Y} {b : Bool} (f : Lexemes → Option Z) (put : V → Lexemes → Z) (P : V → Lexeme → Type 0) → Fronts f put P
+      → ((v : V) (t : Lexeme) → P v t → Takes b t) → ((ts : Lexemes) → Plain ts → f ts ≡ None)
+      → (other : Reading X) (other' : Reading Y) (found : Z → Result X Fault) (found' : Z → Result Y Fault) → Good s b other other'
+      → ((v : V) → Fair s b (λ ts. found (put v ts)) (λ ts. found' (put v ts)))
       → Good s b (λ ts. with_some (f ts) (other ts) found) (λ ts. with_some (f ts) (other' ts) found')
   optional {s = s} {b = b} f put P fr w plainly other other' found found' g h = record {
     online = by_count;
@@ -212,12 +247,14 @@ module _ (gap : Depth → ℕ) (asks : Lexeme → Type 0) where
   mark_online : (m : Mark) → ((line : ℕ) → is_curly (sign line m) ≡ false) → (n : ℕ) → Online gap asks over false n (expect_mark m) (expect_mark m)
   unfolding expect_mark
   mark_online m c zero = far
-  mark_online m c (suc n) = choose over false (strip_mark m) rest_of (λ v. IsMark m) (mark_fronts m) (λ ts. refuse ts) (λ ts. refuse ts) (λ us. Ok us) (λ us. Ok us) n (refused_at over false (suc n)) (λ v t p. go (fair (given tt)) (calm_mark m c t p))
+  mark_online m c (suc n) = choose over false (strip_mark m) rest_of (λ v. IsMark m) (mark_fronts m) (λ ts. refuse ts) (λ ts. refuse ts) (λ us. Ok us) (λ us. Ok us) n
+      (refused_at over false (suc n)) (λ v t p. go (fair (given tt)) (calm_mark m c t p))
 
   word_online : (w : Word) (n : ℕ) → Online gap asks over false n (expect_word w) (expect_word w)
   unfolding expect_word
   word_online w zero = far
-  word_online w (suc n) = choose over false (strip_word w) rest_of (λ v. IsWord w) (word_fronts w) (λ ts. refuse ts) (λ ts. refuse ts) (λ us. Ok us) (λ us. Ok us) n (refused_at over false (suc n)) (λ v t p. go (fair (given tt)) (calm_word w t p))
+  word_online w (suc n) = choose over false (strip_word w) rest_of (λ v. IsWord w) (word_fronts w) (λ ts. refuse ts) (λ ts. refuse ts) (λ us. Ok us) (λ us. Ok us) n
+      (refused_at over false (suc n)) (λ v t p. go (fair (given tt)) (calm_word w t p))
 
   abbrev mark_live : (m : Mark) → Live false rest_of (expect_mark m)
   mark_live m = record { more = sign 1 m ∷ []; value = tt; reads = λ rest h. sign_expect a_sign }
@@ -229,7 +266,11 @@ module _ (gap : Depth → ℕ) (asks : Lexeme → Type 0) where
   mark_good m c e = record { online = mark_online m c; ready = record { live = mark_live m; plain = λ rest h. plain_mark 1 m rest e } }
 
   pub word_good : (w : Word) → Starting w → Good over false (expect_word w) (expect_word w)
-  word_good w e = record { online = word_online w; ready = record { live = record { more = keyword 1 w ∷ []; value = tt; reads = λ rest h. keyword_expect a_keyword }; plain = λ rest h. plain_word 1 w rest e } }
+  word_good w e = record {
+    online = word_online w;
+    ready =
+        record { live = record { more = keyword 1 w ∷ []; value = tt; reads = λ rest h. keyword_expect a_keyword }; plain = λ rest h. plain_word 1 w rest e };
+  }
 
   pub name_good : Good (reads Text) false name_at name_at
   unfolding name_at
@@ -277,7 +318,8 @@ module _ (gap : Depth → ℕ) (asks : Lexeme → Type 0) where
   open_round = mark_fair marks.OpenRound (λ line. refl)
 
   -- by the token in front
-  pub dispatch : {I K X Y : Type 0} {s : Shape I K X Y} {b : Bool} (f : Lexeme → Reading X) (f' : Lexeme → Reading Y) → ((n : ℕ) (t : Lexeme) → Step gap asks s b n t (f t) (f' t)) → (n : ℕ) → Online gap asks s b n (λ ts. next_at ts >>= λ x. f x.0 x.1) (λ ts. next_at ts >>= λ x. f' x.0 x.1)
+  pub dispatch : {I K X Y : Type 0} {s : Shape I K X Y} {b : Bool} (f : Lexeme → Reading X) (f' : Lexeme → Reading Y) → ((n : ℕ) (t : Lexeme) → Step gap asks s b n t (f t) (f' t))
+      → (n : ℕ) → Online gap asks s b n (λ ts. next_at ts >>= λ x. f x.0 x.1) (λ ts. next_at ts >>= λ x. f' x.0 x.1)
   unfolding next_at
   dispatch f f' h zero = far
   dispatch f f' h (suc n) = near (waits refl refl) (h n)
@@ -290,12 +332,15 @@ module _ (gap : Depth → ℕ) (asks : Lexeme → Type 0) where
     deep_both : (Positive (gap d) → ⊥) → ((ts : Lexemes) → r ts ≡ Err (depth_fault d (suc (length ts)))) → ((ts : Lexemes) → q ts ≡ Err (depth_fault d (suc (length ts)))) → Opened d s n r q
     deep_one : Positive (gap d) → ((ts : Lexemes) → r ts ≡ Err (depth_fault d (suc (length ts)))) → Live s.whole s.large q → Opened d s n r q
 
-  pub opened_step : {I K X Y : Type 0} {d : Depth} {s : Shape I K X Y} {n : ℕ} {t : Lexeme} {r : Reading X} {q : Reading Y} → Opened d s n r q → Opens d t → is_curly t ≡ false → Step gap asks s false n t r q
+  pub opened_step : {I K X Y : Type 0} {d : Depth} {s : Shape I K X Y} {n : ℕ} {t : Lexeme} {r : Reading X} {q : Reading Y} → Opened d s n r q → Opens d t → is_curly t ≡ false
+      → Step gap asks s false n t r q
   opened_step (opened o l) p w = taken o w (λ a. l)
   opened_step {d = d} (deep_both nil h g) p w = both_deep d p nil h g
   opened_step {d = d} (deep_one z h l) p w = one_deep d p z h w (λ a. l)
 
-  pub opened_into : {I K J H X Y Z W : Type 0} (d : Depth) (x : I → Lexemes → X) (y : K → Lexemes → Y) (keep : I → K) (u : Shape J H Z W) (n : ℕ) {r : Reading X} {q : Reading Y} (k : X → Result Z Fault) (l : Y → Result W Fault) → Opened d (shaped x y keep) n r q → ((i : I) → Online gap asks u false n (λ ts. k (x i ts)) (λ ts. l (y (keep i) ts))) → ((i : K) → Ready u.whole u.large (λ ts. l (y i ts))) → Opened d u n (λ ts. r ts >>= k) (λ ts. q ts >>= l)
+  pub opened_into : {I K J H X Y Z W : Type 0} (d : Depth) (x : I → Lexemes → X) (y : K → Lexemes → Y) (keep : I → K) (u : Shape J H Z W) (n : ℕ) {r : Reading X} {q : Reading Y}
+      (k : X → Result Z Fault) (l : Y → Result W Fault) → Opened d (shaped x y keep) n r q → ((i : I) → Online gap asks u false n (λ ts. k (x i ts)) (λ ts. l (y (keep i) ts)))
+      → ((i : K) → Ready u.whole u.large (λ ts. l (y i ts))) → Opened d u n (λ ts. r ts >>= k) (λ ts. q ts >>= l)
   opened_into d x y keep u n {q = q} k l (opened o v) h e = opened (bind gap asks x y keep u false false k l (λ t e. e) (λ t a c i. e i) o h) (live_bind u.whole y u.large q l v e)
   opened_into d x y keep u n {r = r} {q = q} k l (deep_both nil a c) h e = deep_both nil (λ ts. lead_bind (r ts) k _ (a ts)) (λ ts. lead_bind (q ts) l _ (c ts))
   opened_into d x y keep u n {r = r} {q = q} k l (deep_one z a v) h e = deep_one z (λ ts. lead_bind (r ts) k _ (a ts)) (live_bind u.whole y u.large q l v e)
@@ -306,18 +351,23 @@ module _ (gap : Depth → ℕ) (asks : Lexeme → Type 0) where
       → Online gap asks s b n (λ ts. with_some (f ts) (other ts) (λ z. found ts)) (λ ts. with_some (f ts) (other' ts) (λ z. found' ts))
   peek_online s b f put P fr other other' found found' o p zero = far
   peek_online s b f put P fr other other' found found' o p (suc n) =
-      near (same_end gap asks (end_of gap asks (o (suc n))) (λ ts. with_some (f ts) (other ts) (λ z. found ts)) (λ ts. with_some (f ts) (other' ts) (λ z. found' ts)) (rw fr.nothing refl) (rw fr.nothing refl)) (λ t. by_step t (fr.each t))
+      near (same_end gap asks (end_of gap asks (o (suc n))) (λ ts. with_some (f ts) (other ts) (λ z. found ts)) (λ ts. with_some (f ts) (other' ts) (λ z. found' ts))
+      (rw fr.nothing refl) (rw fr.nothing refl)) (λ t. by_step t (fr.each t))
     where
-      by_step : (t : Lexeme) → AtFront f put P t → Step gap asks s b n t (λ ts. with_some (f (t ∷ ts)) (other (t ∷ ts)) (λ z. found (t ∷ ts))) (λ ts. with_some (f (t ∷ ts)) (other' (t ∷ ts)) (λ z. found' (t ∷ ts)))
-      by_step t (inl w) = same_step gap asks (step_of gap asks (p (suc n)) t) (λ ts. with_some (f (t ∷ ts)) (other (t ∷ ts)) (λ z. found (t ∷ ts))) (λ ts. with_some (f (t ∷ ts)) (other' (t ∷ ts)) (λ z. found' (t ∷ ts))) (λ ts. rw (w.2 ts) refl) (λ ts. rw (w.2 ts) refl)
-      by_step t (inr w) = same_step gap asks (step_of gap asks (o (suc n)) t) (λ ts. with_some (f (t ∷ ts)) (other (t ∷ ts)) (λ z. found (t ∷ ts))) (λ ts. with_some (f (t ∷ ts)) (other' (t ∷ ts)) (λ z. found' (t ∷ ts))) (λ ts. rw (w ts) refl) (λ ts. rw (w ts) refl)
+      by_step : (t : Lexeme) → AtFront f put P t → Step gap asks s b n t (λ ts. with_some (f (t ∷ ts)) (other (t ∷ ts)) (λ z. found (t ∷ ts)))
+          (λ ts. with_some (f (t ∷ ts)) (other' (t ∷ ts)) (λ z. found' (t ∷ ts)))
+      by_step t (inl w) = same_step gap asks (step_of gap asks (p (suc n)) t) (λ ts. with_some (f (t ∷ ts)) (other (t ∷ ts)) (λ z. found (t ∷ ts)))
+          (λ ts. with_some (f (t ∷ ts)) (other' (t ∷ ts)) (λ z. found' (t ∷ ts))) (λ ts. rw (w.2 ts) refl) (λ ts. rw (w.2 ts) refl)
+      by_step t (inr w) = same_step gap asks (step_of gap asks (o (suc n)) t) (λ ts. with_some (f (t ∷ ts)) (other (t ∷ ts)) (λ z. found (t ∷ ts)))
+          (λ ts. with_some (f (t ∷ ts)) (other' (t ∷ ts)) (λ z. found' (t ∷ ts))) (λ ts. rw (w ts) refl) (λ ts. rw (w ts) refl)
 
   -- with some tokens that complete them, where a token without a `{` is asked for
   pub record Mostly {I K X Y : Type 0} (s : Shape I K X Y) (r : Reading X) (q : Reading Y) : Type 0 where
     pub online : (n : ℕ) → Online gap asks s true n r q
     pub ready : (t : Lexeme) → asks t → is_curly t ≡ false → Ready s.whole s.large q
 
-  pub mostly_bind : {I J H X Y Z W : Type 0} {x : I → Lexemes → X} {y : I → Lexemes → Y} {u : Shape J H Z W} {r : Reading X} {q : Reading Y} (k : X → Result Z Fault) (l : Y → Result W Fault) → Good (shape x y) false r q → ((i : I) → Mostly u (λ ts. k (x i ts)) (λ ts. l (y i ts))) → Mostly u (λ ts. r ts >>= k) (λ ts. q ts >>= l)
+  pub mostly_bind : {I J H X Y Z W : Type 0} {x : I → Lexemes → X} {y : I → Lexemes → Y} {u : Shape J H Z W} {r : Reading X} {q : Reading Y} (k : X → Result Z Fault)
+      (l : Y → Result W Fault) → Good (shape x y) false r q → ((i : I) → Mostly u (λ ts. k (x i ts)) (λ ts. l (y i ts))) → Mostly u (λ ts. r ts >>= k) (λ ts. q ts >>= l)
   mostly_bind {x = x} {y = y} {u = u} {r = r} {q = q} k l g h = record {
     online = λ n. bind gap asks x y (λ i. i) u false true k l (widen true) (λ t a e i. (h i).ready t a e) (g.online n) (λ i. (h i).online n);
     ready = λ t a e. ready_bind u.whole y u.large q l g.ready (λ i. (h i).ready t a e);
@@ -328,7 +378,8 @@ module _ (gap : Depth → ℕ) (asks : Lexeme → Type 0) where
     pub online : (n : ℕ) → Online gap asks s true n r q
     pub live : (t : Lexeme) → asks t → is_curly t ≡ false → Live s.whole s.large q
 
-  pub lately_bind : {I J H X Y Z W : Type 0} {x : I → Lexemes → X} {y : I → Lexemes → Y} {u : Shape J H Z W} {r : Reading X} {q : Reading Y} (k : X → Result Z Fault) (l : Y → Result W Fault) → Fair (shape x y) false r q → ((i : I) → Mostly u (λ ts. k (x i ts)) (λ ts. l (y i ts))) → Lately u (λ ts. r ts >>= k) (λ ts. q ts >>= l)
+  pub lately_bind : {I J H X Y Z W : Type 0} {x : I → Lexemes → X} {y : I → Lexemes → Y} {u : Shape J H Z W} {r : Reading X} {q : Reading Y} (k : X → Result Z Fault)
+      (l : Y → Result W Fault) → Fair (shape x y) false r q → ((i : I) → Mostly u (λ ts. k (x i ts)) (λ ts. l (y i ts))) → Lately u (λ ts. r ts >>= k) (λ ts. q ts >>= l)
   lately_bind {x = x} {y = y} {u = u} {r = r} {q = q} k l g h = record {
     online = λ n. bind gap asks x y (λ i. i) u false true k l (widen true) (λ t a e i. (h i).ready t a e) (g.online n) (λ i. (h i).online n);
     live = λ t a e. live_bind u.whole y u.large q l g.live (λ i. (h i).ready t a e);
@@ -341,7 +392,8 @@ module _ (gap : Depth → ℕ) (asks : Lexeme → Type 0) where
   mostly_good f = record { online = λ n. wider gap asks true (f.online n); ready = λ t a e. f.ready }
 
   -- a name, and then what need not begin plainly
-  pub name_then : {J H Z W : Type 0} (u : Shape J H Z W) (k : Text × Lexemes → Result Z Fault) (l : Text × Lexemes → Result W Fault) → ((x : Text) → Lately u (λ ts. k (x, ts)) (λ ts. l (x, ts))) → Mostly u (λ ts. name_at ts >>= k) (λ ts. name_at ts >>= l)
+  pub name_then : {J H Z W : Type 0} (u : Shape J H Z W) (k : Text × Lexemes → Result Z Fault) (l : Text × Lexemes → Result W Fault)
+      → ((x : Text) → Lately u (λ ts. k (x, ts)) (λ ts. l (x, ts))) → Mostly u (λ ts. name_at ts >>= k) (λ ts. name_at ts >>= l)
   unfolding name_at
   name_then u k l h = record {
     online = by_count;
@@ -359,7 +411,8 @@ module _ (gap : Depth → ℕ) (asks : Lexeme → Type 0) where
       by_count (suc n) = near (waits refl refl) (by_step n)
 
   -- the same without a `{`
-  pub name_then_good : {J H Z W : Type 0} (u : Shape J H Z W) (k : Text × Lexemes → Result Z Fault) (l : Text × Lexemes → Result W Fault) → ((x : Text) → Fair u false (λ ts. k (x, ts)) (λ ts. l (x, ts))) → Good u false (λ ts. name_at ts >>= k) (λ ts. name_at ts >>= l)
+  pub name_then_good : {J H Z W : Type 0} (u : Shape J H Z W) (k : Text × Lexemes → Result Z Fault) (l : Text × Lexemes → Result W Fault)
+      → ((x : Text) → Fair u false (λ ts. k (x, ts)) (λ ts. l (x, ts))) → Good u false (λ ts. name_at ts >>= k) (λ ts. name_at ts >>= l)
   unfolding name_at
   name_then_good u k l h = record {
     online = by_count;

@@ -14,13 +14,17 @@ use Rattle.oc_grammar.specs.Lexemes.{Lexeme, Lexemes, named, numeral, keyword, s
 use Rattle.oc_grammar.specs.Fronts.{infix_of}
 use Rattle.oc_grammar.specs.Depths.{round, square, before_minus, before_not, between}
 use Rattle.oc_grammar.specs.Reading.{◌>>=◌, with_some, refuse, strip_mark, strip_word, expect_mark, name_at, take_word, operator_of, operator_front, listed_by}
-use Rattle.oc_grammar.specs.ReadingExpressions.{ReadExpr, spend_at, chain, most, levels, unary_by, prefix_by, parens_by, element_by, result_by, named_by, input_by, whole_by, reference, reference_by, arg_by, sensor_at, unary_at, level_at, part_at, whole_at, prefixed_at, inner_at, args_at, inner_args_at, inner_sensor_at, unary_here}
+use Rattle.oc_grammar.specs.ReadingExpressions.{ReadExpr, spend_at, chain, most, levels, unary_by, prefix_by, parens_by, element_by, result_by, named_by, input_by, whole_by}
+use Rattle.oc_grammar.specs.ReadingExpressions.{reference, reference_by, arg_by, sensor_at, unary_at, level_at, part_at, whole_at, prefixed_at, inner_at, args_at, inner_args_at}
+use Rattle.oc_grammar.specs.ReadingExpressions.{inner_sensor_at, unary_here}
 use Rattle.oc_grammar.proofs.FrontLaws.{bind_same, with_some_same, at_level_some, front_ok, infix_shorter}
 use Rattle.oc_grammar.proofs.UnaryLaws.{unary_is}
 use Rattle.oc_grammar.proofs.ExpressionLaws.{is_three, most_other, arg_shorter}
 use Rattle.oc_grammar.proofs.ExpressionsRead.{ShortensExpr, level_shorter, chain_enough, chain_stopped, unary_literal}
 use Rattle.oc_grammar.proofs.Online.{Shape, shaped, Positive, is_curly, Live, Ready, live_bind, ready_bind, ready_given, Online, far, Step, refused, taken, same, bind}
-use Rattle.oc_grammar.proofs.Together.{reads, rest_of, IsMark, IsWord, AtFront, Fronts, mark_fronts, word_fronts, Fair, Good, fair, given, good_same, good_bind, go, choose, optional, calm_word, with_some_apply, dispatch, refused_at, close_round, close_square, name_good, plain_number, Opened, opened, deep_both, deep_one, opened_step, opened_into}
+use Rattle.oc_grammar.proofs.Together.{reads, rest_of, IsMark, IsWord, AtFront, Fronts, mark_fronts, word_fronts, Fair, Good, fair, given, good_same, good_bind, go, choose}
+use Rattle.oc_grammar.proofs.Together.{optional, calm_word, with_some_apply, dispatch, refused_at, close_round, close_square, name_good, plain_number, Opened, opened, deep_both}
+use Rattle.oc_grammar.proofs.Together.{deep_one, opened_step, opened_into}
 use Rattle.oc_grammar.proofs.TogetherLists.{list_good}
 
 -- what the second may still use is so much more
@@ -31,7 +35,8 @@ pub data Above (d : ℕ) : ℕ → ℕ → Type 0 where
 -- ---- operators of one level
 
 pub chain_go : (level : ℕ) (part : ℕ → Lexemes → ReadExpr) → ShortensExpr part → (e : TExpr) (n : ℕ) (ts : Lexemes)
-    → chain level part (length ts) e n ts ≡ with_some (operator_front level ts) (Ok (e, n, ts)) (λ o. spend_at n o.1 >>= λ m. part m o.1 >>= λ x. chain level part (length x.2) (binary o.0 e x.0) x.1 x.2)
+    → chain level part (length ts) e n ts ≡ with_some (operator_front level ts) (Ok (e, n, ts))
+    (λ o. spend_at n o.1 >>= λ m. part m o.1 >>= λ x. chain level part (length x.2) (binary o.0 e x.0) x.1 x.2)
 unfolding chain operator_front
 chain_go level part short e n [] = refl
 chain_go level part short e n (t ∷ ts) =
@@ -91,34 +96,46 @@ module _ (gap : Depth → ℕ) (asks : Lexeme → Type 0) where
   chain_ready level part turns e m = record { live = record { more = []; value = (e, m); reads = λ rest h. chain_stopped level part (turns rest) e m rest (h.no_operator level) }; plain = λ rest h. h }
 
   unary_ready : (limits : Limits) (room m : ℕ) → Ready false large_expr (unary_at limits room m)
-  unary_ready limits room m = record { live = record { more = numeral 1 (pos 0) ∷ []; value = (number (pos 0), m); reads = λ rest h. unary_literal limits room m 1 (pos 0) rest }; plain = λ rest h. plain_number 1 (pos 0) rest }
+  unary_ready limits room m = record {
+    live =
+        record { more = numeral 1 (pos 0) ∷ []; value = (number (pos 0), m); reads = λ rest h. unary_literal limits room m 1 (pos 0) rest };
+    plain = λ rest h. plain_number 1 (pos 0) rest;
+  }
 
   pub level_ready : (limits : Limits) (level room m : ℕ) → Ready false large_expr (level_at limits level room m)
   unfolding levels
   level_ready limits zero room m = unary_ready limits room m
-  level_ready limits (suc level) room m = ready_bind false large_expr large_expr (level_at limits level room m) _ (level_ready limits level room m) (λ i. chain_ready (suc level) (level_at limits level room) (most (suc level)) i.0 i.1)
+  level_ready limits (suc level) room m = ready_bind false large_expr large_expr (level_at limits level room m) _ (level_ready limits level room m)
+      (λ i. chain_ready (suc level) (level_at limits level room) (most (suc level)) i.0 i.1)
 
   -- ---- an operator and what is behind it
 
   -- what follows it
   abbrev Then : ℕ → (TExpr × ℕ × Lexemes → ReadExpr) → (TExpr × ℕ × Lexemes → ReadExpr) → Type 0
-  Then n next next' = ((i : Spent) → Online gap asks expr false n (λ ts. next (small_expr i ts)) (λ ts. next' (large_expr (kept_expr i) ts))) × ((i : TExpr × ℕ) → Ready false large_expr (λ ts. next' (large_expr i ts)))
+  Then n next next' = ((i : Spent) → Online gap asks expr false n (λ ts. next (small_expr i ts)) (λ ts. next' (large_expr (kept_expr i) ts))) ×
+      ((i : TExpr × ℕ) → Ready false large_expr (λ ts. next' (large_expr i ts)))
 
-  module _ (level : ℕ) (part part' : ℕ → Lexemes → ReadExpr) (online : (m m' : ℕ) → Above (gap operators_depth) m m' → (n : ℕ) → Online gap asks expr false n (part m) (part' m')) (ready : (m : ℕ) → Ready false large_expr (part' m)) where
-    operate_base : (k n : ℕ) → k ≡ gap operators_depth → (next next' : TExpr × ℕ × Lexemes → ReadExpr) → Then n next next' → Opened gap asks operators_depth expr n (λ ts. spend_at 0 ts >>= λ j. part j ts >>= next) (λ ts. spend_at k ts >>= λ j. part' j ts >>= next')
+  module _ (level : ℕ) (part part' : ℕ → Lexemes → ReadExpr) (online : (m m' : ℕ) → Above (gap operators_depth) m m' → (n : ℕ) → Online gap asks expr false n (part m) (part' m'))
+      (ready : (m : ℕ) → Ready false large_expr (part' m)) where
+    operate_base : (k n : ℕ) → k ≡ gap operators_depth → (next next' : TExpr × ℕ × Lexemes → ReadExpr) → Then n next next'
+        → Opened gap asks operators_depth expr n (λ ts. spend_at 0 ts >>= λ j. part j ts >>= next) (λ ts. spend_at k ts >>= λ j. part' j ts >>= next')
     unfolding spend_at
     operate_base zero n e next next' h = deep_both (λ z. subst Positive (sym e) z) (λ ts. refl) (λ ts. refl)
     operate_base (suc k) n e next next' h = deep_one (subst Positive e tt) (λ ts. refl) (live_bind false large_expr large_expr (part' k) next' (ready k).live h.1)
 
-    operate : (n m m' : ℕ) → Above (gap operators_depth) m m' → (next next' : TExpr × ℕ × Lexemes → ReadExpr) → Then n next next' → Opened gap asks operators_depth expr n (λ ts. spend_at m ts >>= λ k. part k ts >>= next) (λ ts. spend_at m' ts >>= λ k. part' k ts >>= next')
+    operate : (n m m' : ℕ) → Above (gap operators_depth) m m' → (next next' : TExpr × ℕ × Lexemes → ReadExpr) → Then n next next'
+        → Opened gap asks operators_depth expr n (λ ts. spend_at m ts >>= λ k. part k ts >>= next) (λ ts. spend_at m' ts >>= λ k. part' k ts >>= next')
     unfolding spend_at
     operate n _ _ base next next' h = operate_base (gap operators_depth) n refl next next' h
-    operate n _ _ (up {r = m} {q = m'} a) next next' h = opened (bind gap asks small_expr large_expr kept_expr expr false false next next' (λ t e. e) (λ t z e i. h.1 i) (online m m' a n) h.0) (live_bind false large_expr large_expr (part' m') next' (ready m').live h.1)
+    operate n _ _ (up {r = m} {q = m'} a) next next' h =
+        opened (bind gap asks small_expr large_expr kept_expr expr false false next next' (λ t e. e) (λ t z e i. h.1 i) (online m m' a n) h.0)
+        (live_bind false large_expr large_expr (part' m') next' (ready m').live h.1)
 
     abbrev joined : BinaryOp → Spent → Spent → Spent
     joined op i j = record { tree = binary op i.tree j.tree; few = j.few; many = j.many; above = j.above }
 
-    chain_online : ShortensExpr part → ShortensExpr part' → (n : ℕ) (i : Spent) → Online gap asks expr false n (λ ts. chain level part (length ts) i.tree i.few ts) (λ ts. chain level part' (length ts) i.tree i.many ts)
+    chain_online : ShortensExpr part → ShortensExpr part' → (n : ℕ) (i : Spent)
+        → Online gap asks expr false n (λ ts. chain level part (length ts) i.tree i.few ts) (λ ts. chain level part' (length ts) i.tree i.many ts)
     chain_online short short' zero i = far
     chain_online short short' (suc n) i =
         same gap asks
@@ -127,7 +144,9 @@ module _ (gap : Depth → ℕ) (asks : Lexeme → Type 0) where
         (λ o. spend_at i.few o.1 >>= λ m. part m o.1 >>= λ x. chain level part (length x.2) (binary o.0 i.tree x.0) x.1 x.2)
         (λ o. spend_at i.many o.1 >>= λ m. part' m o.1 >>= λ x. chain level part' (length x.2) (binary o.0 i.tree x.0) x.1 x.2) n
         ((given gap asks i).online (suc n))
-        (λ op t p. opened_step gap asks (operate n i.few i.many i.above (λ x. chain level part (length x.2) (binary op i.tree x.0) x.1 x.2) (λ x. chain level part' (length x.2) (binary op i.tree x.0) x.1 x.2) (λ j. chain_online short short' n (joined op i j), λ j. chain_ready level part' length (binary op i.tree j.0) j.1)) (between p) (calm_operator t (op, level) p)))
+        (λ op t p. opened_step gap asks (operate n i.few i.many i.above (λ x. chain level part (length x.2) (binary op i.tree x.0) x.1 x.2)
+        (λ x. chain level part' (length x.2) (binary op i.tree x.0) x.1 x.2)
+        (λ j. chain_online short short' n (joined op i j), λ j. chain_ready level part' length (binary op i.tree j.0) j.1)) (between p) (calm_operator t (op, level) p)))
         (λ ts. chain level part (length ts) i.tree i.few ts) (λ ts. chain level part' (length ts) i.tree i.many ts)
         (λ ts. sym (chain_go level part short i.tree i.few ts)) (λ ts. sym (chain_go level part' short' i.tree i.many ts))
 
@@ -140,14 +159,19 @@ module _ (gap : Depth → ℕ) (asks : Lexeme → Type 0) where
         (λ o. spend_at i.few o.1 >>= λ m. part m o.1 >>= λ x. Ok (binary o.0 i.tree x.0, x.1, x.2))
         (λ o. spend_at i.many o.1 >>= λ m. part' m o.1 >>= λ x. Ok (binary o.0 i.tree x.0, x.1, x.2)) n
         ((given gap asks i).online (suc n))
-        (λ op t p. opened_step gap asks (operate n i.few i.many i.above (λ x. Ok (binary op i.tree x.0, x.1, x.2)) (λ x. Ok (binary op i.tree x.0, x.1, x.2)) (λ j. (given gap asks (joined op i j)).online n, λ j. ready_given large_expr (binary op i.tree j.0, j.1))) (between p) (calm_operator t (op, level) p)))
+        (λ op t p. opened_step gap asks (operate n i.few i.many i.above (λ x. Ok (binary op i.tree x.0, x.1, x.2)) (λ x. Ok (binary op i.tree x.0, x.1, x.2))
+        (λ j. (given gap asks (joined op i j)).online n, λ j. ready_given large_expr (binary op i.tree j.0, j.1))) (between p) (calm_operator t (op, level) p)))
         (λ ts. chain level part 1 i.tree i.few ts) (λ ts. chain level part' 1 i.tree i.many ts)
         (λ ts. sym (chain_once level part i.tree i.few ts)) (λ ts. sym (chain_once level part' i.tree i.many ts))
 
   -- ---- all levels
 
-  module _ (small large : Limits) (room room' : ℕ) (lowest : (m m' : ℕ) → Above (gap operators_depth) m m' → (n : ℕ) → Online gap asks expr false n (unary_at small room m) (unary_at large room' m')) where
-    rest_online : (level : ℕ) → ((m m' : ℕ) → Above (gap operators_depth) m m' → (n : ℕ) → Online gap asks expr false n (level_at small level room m) (level_at large level room' m')) → (n : ℕ) (i : Spent) → Online gap asks expr false n (λ ts. chain (suc level) (level_at small level room) (most (suc level) ts) i.tree i.few ts) (λ ts. chain (suc level) (level_at large level room') (most (suc level) ts) i.tree i.many ts)
+  module _ (small large : Limits) (room room' : ℕ)
+      (lowest : (m m' : ℕ) → Above (gap operators_depth) m m' → (n : ℕ) → Online gap asks expr false n (unary_at small room m) (unary_at large room' m')) where
+    rest_online : (level : ℕ) → ((m m' : ℕ) → Above (gap operators_depth) m m' → (n : ℕ)
+        → Online gap asks expr false n (level_at small level room m) (level_at large level room' m')) → (n : ℕ) (i : Spent)
+        → Online gap asks expr false n (λ ts. chain (suc level) (level_at small level room) (most (suc level) ts) i.tree i.few ts)
+        (λ ts. chain (suc level) (level_at large level room') (most (suc level) ts) i.tree i.many ts)
     rest_online level online n i =
         elim (is_three (suc level)) [
           | inl k ↦
@@ -156,7 +180,8 @@ module _ (gap : Depth → ℕ) (asks : Lexeme → Type 0) where
               (λ ts. ap (λ (c : ℕ). chain (suc level) (level_at small level room) c i.tree i.few ts) (sym (most_three (suc level) ts k)))
               (λ ts. ap (λ (c : ℕ). chain (suc level) (level_at large level room') c i.tree i.many ts) (sym (most_three (suc level) ts k)))
           | inr ne ↦
-              same gap asks (chain_online (suc level) (level_at small level room) (level_at large level room') online (level_ready large level room') (level_shorter small room level) (level_shorter large room' level) n i)
+              same gap asks (chain_online (suc level) (level_at small level room) (level_at large level room') online (level_ready large level room')
+              (level_shorter small room level) (level_shorter large room' level) n i)
               (λ ts. chain (suc level) (level_at small level room) (most (suc level) ts) i.tree i.few ts) (λ ts. chain (suc level) (level_at large level room') (most (suc level) ts) i.tree i.many ts)
               (λ ts. ap (λ (c : ℕ). chain (suc level) (level_at small level room) c i.tree i.few ts) (sym (most_other (suc level) ts ne)))
               (λ ts. ap (λ (c : ℕ). chain (suc level) (level_at large level room') c i.tree i.many ts) (sym (most_other (suc level) ts ne)))
@@ -208,10 +233,12 @@ module _ (gap : Depth → ℕ) (asks : Lexeme → Type 0) where
     named_online x zero = far
     named_online x (suc n) =
         choose gap asks expr false (strip_mark marks.OpenRound) rest_of (λ v. IsMark marks.OpenRound) (mark_fronts marks.OpenRound)
-        (λ ts. with_some (strip_mark marks.OpenSquare ts) (Ok (variable x, m, ts)) (element_by (inner_at small room) x m)) (λ ts. with_some (strip_mark marks.OpenSquare ts) (Ok (variable x, m', ts)) (element_by (inner_at large room') x m'))
+        (λ ts. with_some (strip_mark marks.OpenSquare ts) (Ok (variable x, m, ts)) (element_by (inner_at small room) x m))
+        (λ ts. with_some (strip_mark marks.OpenSquare ts) (Ok (variable x, m', ts)) (element_by (inner_at large room') x m'))
         (result_by (inner_args_at small room) x m) (result_by (inner_args_at large room') x m') n
         (choose gap asks expr false (strip_mark marks.OpenSquare) rest_of (λ v. IsMark marks.OpenSquare) (mark_fronts marks.OpenSquare)
-        (λ ts. Ok (variable x, m, ts)) (λ ts. Ok (variable x, m', ts)) (element_by (inner_at small room) x m) (element_by (inner_at large room') x m') n ((given gap asks (kept (variable x))).online (suc n))
+        (λ ts. Ok (variable x, m, ts)) (λ ts. Ok (variable x, m', ts)) (element_by (inner_at small room) x m) (element_by (inner_at large room') x m') n
+        ((given gap asks (kept (variable x))).online (suc n))
         (λ v t p. opened_step gap asks (element_opened x n) (rw p.1 square) (calm marks.OpenSquare t (λ line. refl) p)))
         (λ v t p. opened_step gap asks (result_opened x n) (rw p.1 round) (calm marks.OpenRound t (λ line. refl) p))
 
@@ -224,8 +251,10 @@ module _ (gap : Depth → ℕ) (asks : Lexeme → Type 0) where
     input_online (suc n) =
         same gap asks
         (choose gap asks expr false (strip_mark marks.OpenRound) rest_of (λ v. IsMark marks.OpenRound) (mark_fronts marks.OpenRound)
-        (λ ts. refuse ts) (λ ts. refuse ts) (λ us. inner_sensor_at room us >>= λ x. Ok (sensed x.0, m, x.1)) (λ us. inner_sensor_at room' us >>= λ x. Ok (sensed x.0, m', x.1)) n (refused_at gap asks expr false (suc n))
-        (λ v t p. opened_step gap asks (opened_into gap asks brackets_depth (λ a ts. (a, ts)) (λ a ts. (a, ts)) (λ i. i) expr n _ _ (sensor n) (λ i. (given gap asks (kept (sensed i))).online n) (λ i. ready_given large_expr (sensed i, m'))) (rw p.1 round) (calm marks.OpenRound t (λ line. refl) p)))
+        (λ ts. refuse ts) (λ ts. refuse ts) (λ us. inner_sensor_at room us >>= λ x. Ok (sensed x.0, m, x.1)) (λ us. inner_sensor_at room' us >>= λ x. Ok (sensed x.0, m', x.1)) n
+        (refused_at gap asks expr false (suc n))
+        (λ v t p. opened_step gap asks (opened_into gap asks brackets_depth (λ a ts. (a, ts)) (λ a ts. (a, ts)) (λ i. i) expr n _ _ (sensor n)
+        (λ i. (given gap asks (kept (sensed i))).online n) (λ i. ready_given large_expr (sensed i, m'))) (rw p.1 round) (calm marks.OpenRound t (λ line. refl) p)))
         (input_by (inner_sensor_at room) m) (input_by (inner_sensor_at room') m')
         (λ ts. by_front (strip_mark marks.OpenRound ts) ts (λ us. inner_sensor_at room us >>= λ x. Ok (sensed x.0, m, x.1)))
         (λ ts. by_front (strip_mark marks.OpenRound ts) ts (λ us. inner_sensor_at room' us >>= λ x. Ok (sensed x.0, m', x.1)))
@@ -237,7 +266,8 @@ module _ (gap : Depth → ℕ) (asks : Lexeme → Type 0) where
     target_fair : Fair gap asks expr false (λ ts. name_at ts >>= λ x. Ok (deref x.0, m, x.1)) (λ ts. name_at ts >>= λ x. Ok (deref x.0, m', x.1))
     target_fair = fair gap asks (good_bind gap asks _ _ (name_good gap asks) (λ x. given gap asks (kept (deref x))))
 
-    unary_step : (n : ℕ) (t : Lexeme) → Step gap asks expr false n t (unary_by (prefixed_at small room) (inner_at small room) (inner_args_at small room) (inner_sensor_at room) t m) (unary_by (prefixed_at large room') (inner_at large room') (inner_args_at large room') (inner_sensor_at room') t m')
+    unary_step : (n : ℕ) (t : Lexeme) → Step gap asks expr false n t (unary_by (prefixed_at small room) (inner_at small room) (inner_args_at small room) (inner_sensor_at room) t m)
+        (unary_by (prefixed_at large room') (inner_at large room') (inner_args_at large room') (inner_sensor_at room') t m')
     unary_step n (numeral line v) = go gap asks (fair gap asks (given gap asks (kept (number v)))) refl
     unary_step n (named line x) = taken (named_online x n) refl (λ a. named_live x)
     unary_step n (keyword line words.True) = go gap asks (fair gap asks (given gap asks (kept (truth true)))) refl
@@ -252,7 +282,8 @@ module _ (gap : Depth → ℕ) (asks : Lexeme → Type 0) where
     unary_of : (n : ℕ) → Online gap asks expr false n (unary_at small room m) (unary_at large room' m')
     unfolding unary_here
     unary_of n = same gap asks
-        (dispatch gap asks (λ t. unary_by (prefixed_at small room) (inner_at small room) (inner_args_at small room) (inner_sensor_at room) t m) (λ t. unary_by (prefixed_at large room') (inner_at large room') (inner_args_at large room') (inner_sensor_at room') t m') unary_step n)
+        (dispatch gap asks (λ t. unary_by (prefixed_at small room) (inner_at small room) (inner_args_at small room) (inner_sensor_at room) t m)
+        (λ t. unary_by (prefixed_at large room') (inner_at large room') (inner_args_at large room') (inner_sensor_at room') t m') unary_step n)
         (unary_at small room m) (unary_at large room' m') (λ ts. sym (unary_is small room m ts)) (λ ts. sym (unary_is large room' m' ts))
 
   -- ---- whole expressions and arguments
@@ -264,15 +295,18 @@ module _ (gap : Depth → ℕ) (asks : Lexeme → Type 0) where
   unfolding take_word
   references_fair =
       fair gap asks (good_same gap asks (λ us. reference_by (take_word words.Mutable us)) (λ us. reference_by (take_word words.Mutable us))
-      (λ ts. with_some_apply reference_by (strip_word words.Mutable ts) (false, ts) (λ us. (true, us))) (λ ts. with_some_apply reference_by (strip_word words.Mutable ts) (false, ts) (λ us. (true, us)))
+      (λ ts. with_some_apply reference_by (strip_word words.Mutable ts) (false, ts) (λ us. (true, us)))
+      (λ ts. with_some_apply reference_by (strip_word words.Mutable ts) (false, ts) (λ us. (true, us)))
       (optional gap asks (strip_word words.Mutable) rest_of (λ v. IsWord words.Mutable) (word_fronts words.Mutable) (λ v t p. calm_word gap asks words.Mutable t p) (λ ts h. h.no_mutable)
-      (λ ts. reference_by (false, ts)) (λ ts. reference_by (false, ts)) (λ us. reference_by (true, us)) (λ us. reference_by (true, us)) (reference_good false) (λ v. fair gap asks (reference_good true))))
+      (λ ts. reference_by (false, ts)) (λ ts. reference_by (false, ts)) (λ us. reference_by (true, us)) (λ us. reference_by (true, us)) (reference_good false)
+      (λ v. fair gap asks (reference_good true))))
 
   module _ (small large : Limits) (spends : Above (gap operators_depth) small.operators large.operators) where
     module _ (room room' : ℕ) (lowest : (m m' : ℕ) → Above (gap operators_depth) m m' → (n : ℕ) → Online gap asks expr false n (unary_at small room m) (unary_at large room' m')) where
       pub part_good : Good gap asks (reads TExpr) false (whole_by small (level_at small 5 room)) (whole_by large (level_at large 5 room'))
       part_good = record {
-        online = λ n. bind gap asks small_expr large_expr kept_expr (reads TExpr) false false _ _ (λ t e. e) (λ t z e i. ready_given (λ a ts. (a, ts)) i.0) (level_online small large room room' lowest 5 small.operators large.operators spends n) (λ i. (given gap asks i.tree).online n);
+        online = λ n. bind gap asks small_expr large_expr kept_expr (reads TExpr) false false _ _ (λ t e. e) (λ t z e i. ready_given (λ a ts. (a, ts)) i.0)
+            (level_online small large room room' lowest 5 small.operators large.operators spends n) (λ i. (given gap asks i.tree).online n);
         ready = ready_bind false large_expr (λ a ts. (a, ts)) (level_at large 5 room' large.operators) _ (level_ready large 5 room' large.operators) (λ i. ready_given (λ a ts. (a, ts)) i.0);
       }
 
@@ -310,7 +344,9 @@ module _ (gap : Depth → ℕ) (asks : Lexeme → Type 0) where
 
       bottom : (k : ℕ) → k ≡ gap brackets_depth → (m m' : ℕ) → Above (gap operators_depth) m m' → (n : ℕ) → Online gap asks expr false n (unary_at small 0 m) (unary_at large k m')
       unfolding prefixed_at inner_at inner_args_at inner_sensor_at
-      bottom zero e m m' a n = unary_of small large 0 0 m m' a (λ n. deep_both (λ z. subst Positive (sym e) z) (λ ts. refl) (λ ts. refl)) (λ n. deep_both (λ z. subst Positive (sym e) z) (λ ts. refl) (λ ts. refl)) (λ n. deep_both (λ z. subst Positive (sym e) z) (λ ts. refl) (λ ts. refl)) (λ n. deep_both (λ z. subst Positive (sym e) z) (λ ts. refl) (λ ts. refl)) (λ line z. absurd (input_nowhere e line z)) n
+      bottom zero e m m' a n = unary_of small large 0 0 m m' a (λ n. deep_both (λ z. subst Positive (sym e) z) (λ ts. refl) (λ ts. refl))
+          (λ n. deep_both (λ z. subst Positive (sym e) z) (λ ts. refl) (λ ts. refl)) (λ n. deep_both (λ z. subst Positive (sym e) z) (λ ts. refl) (λ ts. refl))
+          (λ n. deep_both (λ z. subst Positive (sym e) z) (λ ts. refl) (λ ts. refl)) (λ line z. absurd (input_nowhere e line z)) n
       bottom (suc k) e m m' a n =
           unary_of small large 0 (suc k) m m' a
           (λ n. deep_one (subst Positive e tt) (λ ts. refl) (unary_ready large k m').live)

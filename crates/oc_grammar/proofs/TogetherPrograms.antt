@@ -15,11 +15,14 @@ use Rattle.oc_grammar.specs.Lexemes.{Lexeme, Lexemes, keyword, sign}
 use Rattle.oc_grammar.specs.Reading.{◌>>=◌, next_at, strip_mark, strip_word, expect_mark, take_word}
 use Rattle.oc_grammar.specs.ReadingExpressions.{args_at, whole_at}
 use Rattle.oc_grammar.specs.Programs.{with_sensor, with_port, with_nv, with_function}
-use Rattle.oc_grammar.specs.ReadingPrograms.{reference_to, passing_at, param_from, param_at, params_at, scalar_from, scalar_at, result_at, function_at, cells_from, cells_at, nv_at, declared_at, item_by, item_at, items_by, items_at}
+use Rattle.oc_grammar.specs.ReadingPrograms.{reference_to, passing_at, param_from, param_at, params_at, scalar_from, scalar_at, result_at, function_at, cells_from, cells_at, nv_at}
+use Rattle.oc_grammar.specs.ReadingPrograms.{declared_at, item_by, item_at, items_by, items_at}
 use Rattle.oc_grammar.proofs.ProgramLaws.{param_at_shorter}
 use Rattle.oc_grammar.proofs.Turns.{item_at_shorter, next_items, items_end, items_go}
 use Rattle.oc_grammar.proofs.Online.{Shape, shaped, Positive, is_curly, Ready, Online, far, near, Step, refused, taken, ends, same_step, step_of, bind, later, live_bind, ready_given}
-use Rattle.oc_grammar.proofs.Together.{over, reads, rest_of, IsMark, IsWord, mark_fronts, word_fronts, plain_end, plain_word, Fair, Good, Mostly, fair, fair_wide, given, good_same, good_bind, fair_bind, mostly_bind, lately_bind, name_then, name_then_good, go, optional, calm_word, with_some_apply, dispatch, mark_fair, name_good, open_round, semicolon, assign_mark}
+use Rattle.oc_grammar.proofs.Together.{over, reads, rest_of, IsMark, IsWord, mark_fronts, word_fronts, plain_end, plain_word, Fair, Good, Mostly, fair, fair_wide, given, good_same}
+use Rattle.oc_grammar.proofs.Together.{good_bind, fair_bind, mostly_bind, lately_bind, name_then, name_then_good, go, optional, calm_word, with_some_apply, dispatch, mark_fair}
+use Rattle.oc_grammar.proofs.Together.{name_good, open_round, semicolon, assign_mark}
 use Rattle.oc_grammar.proofs.TogetherLists.{list_good}
 use Rattle.oc_grammar.proofs.TogetherExpressions.{Above}
 use Rattle.oc_grammar.proofs.TogetherSimple.{int_starts, array_good, type_good, const_good}
@@ -45,17 +48,21 @@ module _ (gap : Depth → ℕ) (asks : Lexeme → Type 0) where
   unfolding take_word
   referred_good x =
       good_same gap asks (λ us. param_from x (reference_to (take_word words.Mutable us))) (λ us. param_from x (reference_to (take_word words.Mutable us)))
-      (λ ts. with_some_apply (λ m. param_from x (reference_to m)) (strip_word words.Mutable ts) (false, ts) (λ us. (true, us))) (λ ts. with_some_apply (λ m. param_from x (reference_to m)) (strip_word words.Mutable ts) (false, ts) (λ us. (true, us)))
+      (λ ts. with_some_apply (λ m. param_from x (reference_to m)) (strip_word words.Mutable ts) (false, ts) (λ us. (true, us)))
+      (λ ts. with_some_apply (λ m. param_from x (reference_to m)) (strip_word words.Mutable ts) (false, ts) (λ us. (true, us)))
       (optional gap asks (strip_word words.Mutable) rest_of (λ v. IsWord words.Mutable) (word_fronts words.Mutable) (λ v t p. calm_word gap asks words.Mutable t p) (λ ts h. h.no_mutable)
-      (λ ts. param_from x (passings.Shared, ts)) (λ ts. param_from x (passings.Shared, ts)) (λ us. param_from x (passings.Mutable, us)) (λ us. param_from x (passings.Mutable, us)) (typed_good x passings.Shared) (λ v. fair gap asks (typed_good x passings.Mutable)))
+      (λ ts. param_from x (passings.Shared, ts)) (λ ts. param_from x (passings.Shared, ts)) (λ us. param_from x (passings.Mutable, us)) (λ us. param_from x (passings.Mutable, us))
+      (typed_good x passings.Shared) (λ v. fair gap asks (typed_good x passings.Mutable)))
 
   passed_good : (x : Text) → Good gap asks (reads Param) false (λ us. param_from x (passing_at us)) (λ us. param_from x (passing_at us))
   unfolding passing_at
   passed_good x =
       good_same gap asks (λ us. param_from x (passing_at us)) (λ us. param_from x (passing_at us))
-      (λ ts. with_some_apply (param_from x) (strip_mark marks.Ampersand ts) (passings.Value, ts) (λ us. reference_to (take_word words.Mutable us))) (λ ts. with_some_apply (param_from x) (strip_mark marks.Ampersand ts) (passings.Value, ts) (λ us. reference_to (take_word words.Mutable us)))
+      (λ ts. with_some_apply (param_from x) (strip_mark marks.Ampersand ts) (passings.Value, ts) (λ us. reference_to (take_word words.Mutable us)))
+      (λ ts. with_some_apply (param_from x) (strip_mark marks.Ampersand ts) (passings.Value, ts) (λ us. reference_to (take_word words.Mutable us)))
       (optional gap asks (strip_mark marks.Ampersand) rest_of (λ v. IsMark marks.Ampersand) (mark_fronts marks.Ampersand) (λ v t p. rw p.1 refl) (λ ts h. h.no_ampersand)
-      (λ ts. param_from x (passings.Value, ts)) (λ ts. param_from x (passings.Value, ts)) (λ us. param_from x (reference_to (take_word words.Mutable us))) (λ us. param_from x (reference_to (take_word words.Mutable us))) (typed_good x passings.Value) (λ v. fair gap asks (referred_good x)))
+      (λ ts. param_from x (passings.Value, ts)) (λ ts. param_from x (passings.Value, ts)) (λ us. param_from x (reference_to (take_word words.Mutable us)))
+      (λ us. param_from x (reference_to (take_word words.Mutable us))) (typed_good x passings.Value) (λ v. fair gap asks (referred_good x)))
 
   param_good : Good gap asks (reads Param) false param_at param_at
   unfolding param_at
@@ -115,7 +122,8 @@ module _ (gap : Depth → ℕ) (asks : Lexeme → Type 0) where
 
   -- ---- functions and programs
 
-  module _ (small large : Limits) (whole : Good gap asks (reads TExpr) false (whole_at small) (whole_at large)) (args : Good gap asks (reads (List TArg)) false (args_at small small.brackets) (args_at large large.brackets))
+  module _ (small large : Limits) (whole : Good gap asks (reads TExpr) false (whole_at small) (whole_at large))
+      (args : Good gap asks (reads (List TArg)) false (args_at small small.brackets) (args_at large large.brackets))
       (curly_only : Positive (gap blocks_depth) ⊎ ((t : Lexeme) → asks t → is_curly t ≡ true)) (blocks : Above (gap blocks_depth) small.blocks large.blocks) where
     function_mostly : (line n b : ℕ) → Mostly gap asks (numbered TFunction) (function_at small line n b) (function_at large line n b)
     unfolding function_at
@@ -124,16 +132,22 @@ module _ (gap : Depth → ℕ) (asks : Lexeme → Type 0) where
         lately_bind gap asks _ _ (open_round gap asks) (λ u.
         mostly_bind gap asks _ _ params_good (λ ps.
         mostly_bind gap asks _ _ result_good (λ r.
-        body_mostly gap asks small large whole args curly_only (numbered TFunction) small.blocks large.blocks blocks n b _ _ (λ t. given gap asks (record { name = f; line = line; params = ps; result = r; body = t.0 }, t.1, t.2))))))
+        body_mostly gap asks small large whole args curly_only (numbered TFunction) small.blocks large.blocks blocks n b _ _
+        (λ t. given gap asks (record { name = f; line = line; params = ps; result = r; body = t.0 }, t.1, t.2))))))
 
     item_step : (p p' : TProgram) (n b k : ℕ) (t : Lexeme) → Step gap asks grown true k t (item_by small p t n b) (item_by large p' t n b)
-    item_step p p' n b k (keyword line words.Sensor) = go gap asks (fair_wide gap asks (fair gap asks (good_bind gap asks _ _ declared_good (λ x. given gap asks (with_sensor line x p, with_sensor line x p', n, b))))) tt
-    item_step p p' n b k (keyword line words.Port) = go gap asks (fair_wide gap asks (fair gap asks (good_bind gap asks _ _ declared_good (λ x. given gap asks (with_port line x p, with_port line x p', n, b))))) tt
-    item_step p p' n b k (keyword line words.Nonvolatile) = go gap asks (fair_wide gap asks (fair gap asks (good_bind gap asks _ _ nv_good (λ x. given gap asks (with_nv line x.0 x.1 p, with_nv line x.0 x.1 p', n, b))))) tt
+    item_step p p' n b k (keyword line words.Sensor) =
+        go gap asks (fair_wide gap asks (fair gap asks (good_bind gap asks _ _ declared_good (λ x. given gap asks (with_sensor line x p, with_sensor line x p', n, b))))) tt
+    item_step p p' n b k (keyword line words.Port) =
+        go gap asks (fair_wide gap asks (fair gap asks (good_bind gap asks _ _ declared_good (λ x. given gap asks (with_port line x p, with_port line x p', n, b))))) tt
+    item_step p p' n b k (keyword line words.Nonvolatile) =
+        go gap asks (fair_wide gap asks (fair gap asks (good_bind gap asks _ _ nv_good (λ x. given gap asks (with_nv line x.0 x.1 p, with_nv line x.0 x.1 p', n, b))))) tt
     item_step p p' n b k (keyword line words.Function) =
         taken
-        (bind gap asks with_numbers with_numbers (λ i. i) grown true true _ _ (λ t e. e) (λ t a e f. ready_given with_numbers (with_function f.0 p', f.1, f.2)) ((function_mostly line n b).online k) (λ f. (given gap asks (with_function f.0 p, with_function f.0 p', f.1, f.2)).online k)) tt
-        (λ a. live_bind false with_numbers with_numbers (function_at large line n b) _ ((function_mostly line n b).ready (keyword line words.Function) a refl).live (λ f. ready_given with_numbers (with_function f.0 p', f.1, f.2)))
+        (bind gap asks with_numbers with_numbers (λ i. i) grown true true _ _ (λ t e. e) (λ t a e f. ready_given with_numbers (with_function f.0 p', f.1, f.2))
+        ((function_mostly line n b).online k) (λ f. (given gap asks (with_function f.0 p, with_function f.0 p', f.1, f.2)).online k)) tt
+        (λ a. live_bind false with_numbers with_numbers (function_at large line n b) _ ((function_mostly line n b).ready (keyword line words.Function) a refl).live
+        (λ f. ready_given with_numbers (with_function f.0 p', f.1, f.2)))
     item_step p p' n b k _ = refused (λ ts. refl) (λ ts. refl)
 
     item_online : (p p' : TProgram) (n b k : ℕ) → Online gap asks grown true k (item_at small p n b) (item_at large p' n b)
@@ -149,5 +163,6 @@ module _ (gap : Depth → ℕ) (asks : Lexeme → Type 0) where
     items_online (suc k) p p' n b =
         near (ends (p, p') (items_end small p n b) (items_end large p' n b)) (λ t.
         same_step gap asks
-        (step_of gap asks (later gap asks (λ i ts. (i.0, i.2, i.3, ts)) with_numbers (λ i. (i.1, i.2, i.3)) programs true true (next_items small) (next_items large) (λ t e. e) (λ t a e i. items_ready i) (item_online p p' n b (suc k)) (λ i ts e. let h = item_at_shorter small p n b ts (i.0, i.2, i.3, ts) e in omega arith) (λ i. items_online k i.0 i.1 i.2 i.3)) t)
+        (step_of gap asks (later gap asks (λ i ts. (i.0, i.2, i.3, ts)) with_numbers (λ i. (i.1, i.2, i.3)) programs true true (next_items small) (next_items large) (λ t e. e)
+        (λ t a e i. items_ready i) (item_online p p' n b (suc k)) (λ i ts e. let h = item_at_shorter small p n b ts (i.0, i.2, i.3, ts) e in omega arith) (λ i. items_online k i.0 i.1 i.2 i.3)) t)
         (λ ts. items_at small p n b (t ∷ ts)) (λ ts. items_at large p' n b (t ∷ ts)) (λ ts. sym (items_go small p n b t ts)) (λ ts. sym (items_go large p' n b t ts)))

@@ -13,9 +13,12 @@ use Rattle.oc_grammar.specs.Lexemes.{Lexeme, Lexemes, named, numeral, keyword, s
 use Rattle.oc_grammar.specs.Reading.{syntax_fault, ◌>>=◌, with_some, next_at, strip_mark, strip_word, expect_mark, number_at, take_word}
 use Rattle.oc_grammar.specs.ReadingExpressions.{args_at, whole_at}
 use Rattle.oc_grammar.specs.Statements.{opposite, right_of}
-use Rattle.oc_grammar.specs.ReadingStatements.{array_at, type_from, type_at, const_at, right_at, note_at, fill_at, assign_at, element_to_at, target_at, call_at, sense_at, emit_at, fresh_at, consistent_at, return_at, bind_at, let_from, let_at, set_at, simple_from}
+use Rattle.oc_grammar.specs.ReadingStatements.{array_at, type_from, type_at, const_at, right_at, note_at, fill_at, assign_at, element_to_at, target_at, call_at, sense_at, emit_at}
+use Rattle.oc_grammar.specs.ReadingStatements.{fresh_at, consistent_at, return_at, bind_at, let_from, let_at, set_at, simple_from}
 use Rattle.oc_grammar.proofs.Online.{Online, far, Step, refused}
-use Rattle.oc_grammar.proofs.Together.{reads, rest_of, IsMark, IsWord, mark_fronts, word_fronts, Starting, plain_word, plain_number, Fair, Good, fair, given, good_same, good_bind, fair_bind, go, choose, optional, calm_word, with_some_apply, dispatch, word_good, name_good, number_good, open_round, close_round, close_square, semicolon, assign_mark, comma}
+use Rattle.oc_grammar.proofs.Together.{reads, rest_of, IsMark, IsWord, mark_fronts, word_fronts, Starting, plain_word, plain_number, Fair, Good, fair, given, good_same, good_bind}
+use Rattle.oc_grammar.proofs.Together.{fair_bind, go, choose, optional, calm_word, with_some_apply, dispatch, word_good, name_good, number_good, open_round, close_round}
+use Rattle.oc_grammar.proofs.Together.{close_square, semicolon, assign_mark, comma}
 
 abbrev pub int_starts : Starting words.Int
 int_starts = record { other_mutable = refl; other_else = refl; other_if = refl }
@@ -47,12 +50,17 @@ module _ (gap : Depth → ℕ) (asks : Lexeme → Type 0) where
   unfolding const_at
   const_online zero = far
   const_online (suc n) =
-      choose gap asks (reads ℤ) false (strip_mark marks.Minus) rest_of (λ v. IsMark marks.Minus) (mark_fronts marks.Minus) number_at number_at (λ us. number_at us >>= λ n. Ok (opposite n.0, n.1)) (λ us. number_at us >>= λ n. Ok (opposite n.0, n.1)) n
+      choose gap asks (reads ℤ) false (strip_mark marks.Minus) rest_of (λ v. IsMark marks.Minus) (mark_fronts marks.Minus) number_at number_at
+      (λ us. number_at us >>= λ n. Ok (opposite n.0, n.1)) (λ us. number_at us >>= λ n. Ok (opposite n.0, n.1)) n
       ((number_good gap asks).online (suc n)) (λ v t p. go gap asks (fair gap asks (good_bind gap asks _ _ (number_good gap asks) (λ z. given gap asks (opposite z)))) (rw p.1 refl))
 
   pub const_good : Good gap asks (reads ℤ) false const_at const_at
   unfolding const_at strip_mark number_at
-  const_good = record { online = const_online; ready = record { live = record { more = numeral 1 (pos 0) ∷ []; value = pos 0; reads = λ rest h. refl }; plain = λ rest h. plain_number 1 (pos 0) rest } }
+  const_good = record {
+    online = const_online;
+    ready =
+        record { live = record { more = numeral 1 (pos 0) ∷ []; value = pos 0; reads = λ rest h. refl }; plain = λ rest h. plain_number 1 (pos 0) rest };
+  }
 
   note_good : Good gap asks (reads (Option ValueKind)) false note_at note_at
   unfolding note_at
@@ -100,7 +108,8 @@ module _ (gap : Depth → ℕ) (asks : Lexeme → Type 0) where
       good_bind gap asks _ _ (semicolon gap asks) (λ w.
       given gap asks (consistent s n)))))))
 
-  module _ (small large : Limits) (whole : Good gap asks (reads TExpr) false (whole_at small) (whole_at large)) (args : Good gap asks (reads (List TArg)) false (args_at small small.brackets) (args_at large large.brackets)) where
+  module _ (small large : Limits) (whole : Good gap asks (reads TExpr) false (whole_at small) (whole_at large))
+      (args : Good gap asks (reads (List TArg)) false (args_at small small.brackets) (args_at large large.brackets)) where
     right_good : Good gap asks (reads TRight) false (right_at small) (right_at large)
     unfolding right_at
     right_good = good_bind gap asks _ _ whole (λ e. good_bind gap asks _ _ (semicolon gap asks) (λ v. given gap asks (right_of e)))
@@ -164,15 +173,18 @@ module _ (gap : Depth → ℕ) (asks : Lexeme → Type 0) where
     unfolding let_at take_word
     let_good =
         good_same gap asks (let_at small) (let_at large)
-        (λ ts. with_some_apply (let_from small) (strip_word words.Mutable ts) (false, ts) (λ us. (true, us))) (λ ts. with_some_apply (let_from large) (strip_word words.Mutable ts) (false, ts) (λ us. (true, us)))
+        (λ ts. with_some_apply (let_from small) (strip_word words.Mutable ts) (false, ts) (λ us. (true, us)))
+        (λ ts. with_some_apply (let_from large) (strip_word words.Mutable ts) (false, ts) (λ us. (true, us)))
         (optional gap asks (strip_word words.Mutable) rest_of (λ v. IsWord words.Mutable) (word_fronts words.Mutable) (λ v t p. calm_word gap asks words.Mutable t p) (λ ts h. h.no_mutable)
-        (λ ts. let_from small (false, ts)) (λ ts. let_from large (false, ts)) (λ us. let_from small (true, us)) (λ us. let_from large (true, us)) (let_from_good false) (λ v. fair gap asks (let_from_good true)))
+        (λ ts. let_from small (false, ts)) (λ ts. let_from large (false, ts)) (λ us. let_from small (true, us)) (λ us. let_from large (true, us)) (let_from_good false)
+        (λ v. fair gap asks (let_from_good true)))
 
     set_good : (x : Text) → Good gap asks (reads TKind) false (set_at small x) (set_at large x)
     unfolding set_at
     set_good x =
         optional gap asks (strip_mark marks.OpenRound) rest_of (λ v. IsMark marks.OpenRound) (mark_fronts marks.OpenRound) (λ v t p. rw p.1 refl) (λ ts h. h.no_round)
-        (λ ts. with_some (strip_mark marks.OpenSquare ts) (expect_mark marks.Assign ts >>= assign_at small x) (element_to_at small x)) (λ ts. with_some (strip_mark marks.OpenSquare ts) (expect_mark marks.Assign ts >>= assign_at large x) (element_to_at large x)) (call_at small x) (call_at large x)
+        (λ ts. with_some (strip_mark marks.OpenSquare ts) (expect_mark marks.Assign ts >>= assign_at small x) (element_to_at small x))
+        (λ ts. with_some (strip_mark marks.OpenSquare ts) (expect_mark marks.Assign ts >>= assign_at large x) (element_to_at large x)) (call_at small x) (call_at large x)
         (optional gap asks (strip_mark marks.OpenSquare) rest_of (λ v. IsMark marks.OpenSquare) (mark_fronts marks.OpenSquare) (λ v t p. rw p.1 refl) (λ ts h. h.no_square)
         (λ ts. expect_mark marks.Assign ts >>= assign_at small x) (λ ts. expect_mark marks.Assign ts >>= assign_at large x) (element_to_at small x) (element_to_at large x)
         (good_bind gap asks _ _ (assign_mark gap asks) (λ v. assign_good x)) (λ v. fair gap asks (element_to_good x)))
@@ -180,7 +192,8 @@ module _ (gap : Depth → ℕ) (asks : Lexeme → Type 0) where
 
     -- a statement without blocks goes on behind its first token, or both refuse it
     abbrev pub Simply : Lexeme → Type 0
-    Simply t = Fair gap asks (reads TKind) false (simple_from small t) (simple_from large t) ⊎ (((ts : Lexemes) → simple_from small t ts ≡ Err (syntax_fault (suc (length ts)))) × ((ts : Lexemes) → simple_from large t ts ≡ Err (syntax_fault (suc (length ts)))))
+    Simply t = Fair gap asks (reads TKind) false (simple_from small t) (simple_from large t) ⊎
+        (((ts : Lexemes) → simple_from small t ts ≡ Err (syntax_fault (suc (length ts)))) × ((ts : Lexemes) → simple_from large t ts ≡ Err (syntax_fault (suc (length ts)))))
 
     pub simply : (t : Lexeme) → Simply t
     simply (keyword line words.Let) = inl (fair gap asks let_good)

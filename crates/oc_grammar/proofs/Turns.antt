@@ -31,7 +31,8 @@ stmts_enough limits room (suc k) (suc j) n b ts h g =
 abbrev pub onward : Limits → ℕ → TStmt × ℕ × ℕ × Lexemes → ReadNumbered (List TStmt)
 onward limits room s = stmts_at limits room s.1 s.2 s.3 >>= λ x. Ok (s.0 ∷ x.0, x.1, x.2, x.3)
 
-pub stmts_go : (limits : Limits) (room n b : ℕ) (ts : Lexemes) → stmts_at limits room n b ts ≡ with_some (strip_mark marks.CloseCurly ts) (stmt_at limits room n b ts >>= onward limits room) (λ us. Ok ([], n, b, us))
+pub stmts_go : (limits : Limits) (room n b : ℕ) (ts : Lexemes) → stmts_at limits room n b ts
+    ≡ with_some (strip_mark marks.CloseCurly ts) (stmt_at limits room n b ts >>= onward limits room) (λ us. Ok ([], n, b, us))
 unfolding stmts_by stmts_at
 stmts_go limits room n b ts =
     with_some_same (strip_mark marks.CloseCurly ts) _ _ _ _

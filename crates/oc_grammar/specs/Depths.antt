@@ -54,5 +54,6 @@ pub record IsDepth (tokens : Lexemes) (at_token : ℕ) : Type 0 where
 -- no token before passes a depth, and up to and with this one the tokens begin no program, while they
 -- do before it; or all begin one and spell none
 pub data IsSyntax (tokens : Lexemes) (at_token : ℕ) : Type 0 where
-  wrong : (front : Lexemes) (token : Lexeme) (behind : Lexemes) → tokens ≡ front ++ token ∷ behind → at_token ≡ length front → InDepth front → Begins front → (Begins (front ++ token ∷ []) → ⊥) → IsSyntax tokens at_token
+  wrong : (front : Lexemes) (token : Lexeme) (behind : Lexemes) → tokens ≡ front ++ token ∷ behind → at_token ≡ length front → InDepth front → Begins front
+      → (Begins (front ++ token ∷ []) → ⊥) → IsSyntax tokens at_token
   ended : at_token ≡ length tokens → InDepth tokens → Begins tokens → ((limits : Limits) (p : TProgram) → SpellsProgram limits p tokens → ⊥) → IsSyntax tokens at_token

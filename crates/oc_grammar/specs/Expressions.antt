@@ -30,18 +30,23 @@ mutual
     yes : {room : ℕ} {from rest : Lexemes} → Keyword words.True from rest → Spells limits room 0 (truth true) from rest
     no : {room : ℕ} {from rest : Lexemes} → Keyword words.False from rest → Spells limits room 0 (truth false) from rest
     name : {room : ℕ} {x : Text} {from rest : Lexemes} → Named x from rest → Spells limits room 0 (variable x) from rest
-    element : {room : ℕ} {x : Text} {e : TExpr} {from a b c rest : Lexemes} → Named x from a → Sign marks.OpenSquare a b → Spells limits room 5 e b c → Sign marks.CloseSquare c rest → Spells limits (suc room) 0 (index x e) from rest
+    element : {room : ℕ} {x : Text} {e : TExpr} {from a b c rest : Lexemes} → Named x from a → Sign marks.OpenSquare a b → Spells limits room 5 e b c
+        → Sign marks.CloseSquare c rest → Spells limits (suc room) 0 (index x e) from rest
     target : {room : ℕ} {x : Text} {from a rest : Lexemes} → Sign marks.Star from a → Named x a rest → Spells limits room 0 (deref x) from rest
     parens : {room : ℕ} {e : TExpr} {from a b rest : Lexemes} → Sign marks.OpenRound from a → Spells limits room 5 e a b → Sign marks.CloseRound b rest → Spells limits (suc room) 0 e from rest
     minus : {room : ℕ} {e : TExpr} {from a rest : Lexemes} → Sign marks.Minus from a → Spells limits room 0 e a rest → Spells limits (suc room) 0 (unary prefixes.Neg e) from rest
     negation : {room : ℕ} {e : TExpr} {from a rest : Lexemes} → Sign marks.Not from a → Spells limits room 0 e a rest → Spells limits (suc room) 0 (unary prefixes.Not e) from rest
-    input : {room : ℕ} {s : Text} {from a b c rest : Lexemes} → Keyword words.Sense from a → Sign marks.OpenRound a b → Named s b c → Sign marks.CloseRound c rest → Spells limits (suc room) 0 (sensed s) from rest
-    result : {room : ℕ} {f : Text} {args : TArgs} {from a b rest : Lexemes} → Named f from a → Sign marks.OpenRound a b → SpellsArgs limits room args b rest → Spells limits (suc room) 0 (called (call f args)) from rest
+    input : {room : ℕ} {s : Text} {from a b c rest : Lexemes} → Keyword words.Sense from a → Sign marks.OpenRound a b → Named s b c → Sign marks.CloseRound c rest
+        → Spells limits (suc room) 0 (sensed s) from rest
+    result : {room : ℕ} {f : Text} {args : TArgs} {from a b rest : Lexemes} → Named f from a → Sign marks.OpenRound a b → SpellsArgs limits room args b rest
+        → Spells limits (suc room) 0 (called (call f args)) from rest
     one : {room level : ℕ} {e : TExpr} {from rest : Lexemes} → Spells limits room level e from rest → Spells limits room (suc level) e from rest
     -- operators of one level group from the left
-    more : {room level : ℕ} {op : BinaryOp} {l r : TExpr} {from a b rest : Lexemes} → suc level ≢ 3 → Spells limits room (suc level) l from a → Infix op (suc level) a b → Spells limits room level r b rest → Spells limits room (suc level) (binary op l r) from rest
+    more : {room level : ℕ} {op : BinaryOp} {l r : TExpr} {from a b rest : Lexemes} → suc level ≢ 3 → Spells limits room (suc level) l from a → Infix op (suc level) a b
+        → Spells limits room level r b rest → Spells limits room (suc level) (binary op l r) from rest
     -- a comparison has two operands
-    compare : {room : ℕ} {op : BinaryOp} {l r : TExpr} {from a b rest : Lexemes} → Spells limits room 2 l from a → Infix op 3 a b → Spells limits room 2 r b rest → Spells limits room 3 (binary op l r) from rest
+    compare : {room : ℕ} {op : BinaryOp} {l r : TExpr} {from a b rest : Lexemes} → Spells limits room 2 l from a → Infix op 3 a b → Spells limits room 2 r b rest
+        → Spells limits room 3 (binary op l r) from rest
 
   pub data SpellsArg (limits : Limits) : ℕ → TArg → Lexemes → Lexemes → Type 0 where
     by_value : {room : ℕ} {e : TExpr} {from rest : Lexemes} → Spells limits room 5 e from rest → operators e ≤ limits.operators → SpellsArg limits room (value e) from rest
@@ -52,7 +57,8 @@ mutual
   pub data SpellsArgs (limits : Limits) : ℕ → TArgs → Lexemes → Lexemes → Type 0 where
     closed : {room : ℕ} {from rest : Lexemes} → Sign marks.CloseRound from rest → SpellsArgs limits room no_args from rest
     last : {room : ℕ} {arg : TArg} {from a rest : Lexemes} → SpellsArg limits room arg from a → Sign marks.CloseRound a rest → SpellsArgs limits room (more_args arg no_args) from rest
-    further : {room : ℕ} {arg : TArg} {args : TArgs} {from a b rest : Lexemes} → SpellsArg limits room arg from a → Sign marks.Comma a b → SpellsArgs limits room args b rest → SpellsArgs limits room (more_args arg args) from rest
+    further : {room : ℕ} {arg : TArg} {args : TArgs} {from a b rest : Lexemes} → SpellsArg limits room arg from a → Sign marks.Comma a b → SpellsArgs limits room args b rest
+        → SpellsArgs limits room (more_args arg args) from rest
 
 -- a whole expression, within the limits of its brackets and of its binary operators
 pub record SpellsWhole (limits : Limits) (e : TExpr) (from rest : Lexemes) : Type 0 where

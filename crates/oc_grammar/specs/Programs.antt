@@ -26,7 +26,8 @@ pub data SpellsPassing : Passing → Lexemes → Lexemes → Type 0 where
   mutable_ref : {from a rest : Lexemes} → Sign marks.Ampersand from a → Keyword words.Mutable a rest → SpellsPassing passings.Mutable from rest
 
 pub data SpellsParam : Param → Lexemes → Lexemes → Type 0 where
-  a_param : {x : Text} {p : Passing} {k : ValueKind} {from a b c rest : Lexemes} → Named x from a → Sign marks.Colon a b → SpellsPassing p b c → SpellsType k c rest → SpellsParam (record { name = x; passing = p; kind = k }) from rest
+  a_param : {x : Text} {p : Passing} {k : ValueKind} {from a b c rest : Lexemes} → Named x from a → Sign marks.Colon a b → SpellsPassing p b c → SpellsType k c rest
+      → SpellsParam (record { name = x; passing = p; kind = k }) from rest
 
 -- behind the `(` or a comma, up to and with the `)`
 pub data SpellsParams : List Param → Lexemes → Lexemes → Type 0 where
@@ -40,7 +41,9 @@ pub data SpellsResult : Option Scalar → Lexemes → Lexemes → Type 0 where
 
 -- the body's block is inside none
 pub data SpellsFunction (limits : Limits) : TFunction → Place → Place → Type 0 where
-  a_function : {n b : ℕ} {f : Text} {ps : List Param} {r : Option Scalar} {t : TBlock} {from a c d e g : Lexemes} {q : Place} → Keyword words.Function from a → Named f a c → Sign marks.OpenRound c d → SpellsParams ps d e → SpellsResult r e g → SpellsBlock limits limits.blocks t (n, b, g) q → SpellsFunction limits (record { name = f; line = front_line from; params = ps; result = r; body = t }) (n, b, from) q
+  a_function : {n b : ℕ} {f : Text} {ps : List Param} {r : Option Scalar} {t : TBlock} {from a c d e g : Lexemes} {q : Place} → Keyword words.Function from a → Named f a c
+      → Sign marks.OpenRound c d → SpellsParams ps d e → SpellsResult r e g → SpellsBlock limits limits.blocks t (n, b, g) q
+      → SpellsFunction limits (record { name = f; line = front_line from; params = ps; result = r; body = t }) (n, b, from) q
 
 -- ---- declarations
 
@@ -50,7 +53,8 @@ pub data SpellsCells : ℕ → Bool → Lexemes → Lexemes → Type 0 where
   array_cells : {n : ℕ} {from rest : Lexemes} → SpellsArray n from rest → SpellsCells n true from rest
 
 pub data SpellsNv : Text → NvDecl → Lexemes → Lexemes → Type 0 where
-  an_nv : {x : Text} {n : ℕ} {array : Bool} {i : ℤ} {from a b c d e f rest : Lexemes} → Keyword words.Nonvolatile from a → Named x a b → Sign marks.Colon b c → SpellsCells n array c d → Sign marks.Assign d e → SpellsConst i e f → Sign marks.Semicolon f rest → SpellsNv x (record { words = n; array = array; initial = i }) from rest
+  an_nv : {x : Text} {n : ℕ} {array : Bool} {i : ℤ} {from a b c d e f rest : Lexemes} → Keyword words.Nonvolatile from a → Named x a b → Sign marks.Colon b c
+      → SpellsCells n array c d → Sign marks.Assign d e → SpellsConst i e f → Sign marks.Semicolon f rest → SpellsNv x (record { words = n; array = array; initial = i }) from rest
 
 -- ---- programs
 
@@ -96,8 +100,10 @@ with_function f p = record {
 
 -- the item between two places makes the one program the other
 pub data SpellsItem (limits : Limits) : TProgram → Place → TProgram → Place → Type 0 where
-  sensor_item : {p : TProgram} {n b : ℕ} {x : Text} {from a c rest : Lexemes} → Keyword words.Sensor from a → Named x a c → Sign marks.Semicolon c rest → SpellsItem limits p (n, b, from) (with_sensor (front_line from) x p) (n, b, rest)
-  port_item : {p : TProgram} {n b : ℕ} {x : Text} {from a c rest : Lexemes} → Keyword words.Port from a → Named x a c → Sign marks.Semicolon c rest → SpellsItem limits p (n, b, from) (with_port (front_line from) x p) (n, b, rest)
+  sensor_item : {p : TProgram} {n b : ℕ} {x : Text} {from a c rest : Lexemes} → Keyword words.Sensor from a → Named x a c → Sign marks.Semicolon c rest
+      → SpellsItem limits p (n, b, from) (with_sensor (front_line from) x p) (n, b, rest)
+  port_item : {p : TProgram} {n b : ℕ} {x : Text} {from a c rest : Lexemes} → Keyword words.Port from a → Named x a c → Sign marks.Semicolon c rest
+      → SpellsItem limits p (n, b, from) (with_port (front_line from) x p) (n, b, rest)
   nv_item : {p : TProgram} {n b : ℕ} {x : Text} {d : NvDecl} {from rest : Lexemes} → SpellsNv x d from rest → SpellsItem limits p (n, b, from) (with_nv (front_line from) x d p) (n, b, rest)
   function_item : {p : TProgram} {f : TFunction} {x y : Place} → SpellsFunction limits f x y → SpellsItem limits p x (with_function f p) y
 

@@ -1,7 +1,8 @@
 -- Reading statements.
 use Rattle.std.specs.Prelude.{ℕ, zero, suc, ℤ, unsigned_abs, Bool, true, List, [], ◌∷◌, length, Option, Some, None, Result, Ok, Err}
 use Rattle.oc_tree.specs.Names.{Text}
-use Rattle.oc_tree.specs.Tree.{truth, call, TRight, TKind, let_to, let_array, assign, assign_index, assign_deref, if_else, for_in, while_do, call_only, sense_only, emit, fresh, consistent, return, TElse, no_else, else_do, TStmt, stmt, TBlock, block, no_stmts, more}
+use Rattle.oc_tree.specs.Tree.{truth, call, TRight, TKind, let_to, let_array, assign, assign_index, assign_deref, if_else, for_in, while_do, call_only, sense_only, emit, fresh}
+use Rattle.oc_tree.specs.Tree.{consistent, return, TElse, no_else, else_do, TStmt, stmt, TBlock, block, no_stmts, more}
 use Rattle.oc_tree.specs.View.{args_of, stmts_of}
 use Rattle.oc_tree.specs.declared.tree.ValueKind.{ValueKind}
 use Rattle.oc_tree.specs.declared.tree.ValueKind.TheVariants as types
@@ -9,7 +10,8 @@ use Rattle.oc_lex.specs.declared.token.Word.TheVariants as words
 use Rattle.oc_lex.specs.declared.token.Mark.TheVariants as marks
 use Rattle.oc_grammar.specs.Limits.{Limits, blocks_depth}
 use Rattle.oc_grammar.specs.Lexemes.{Lexeme, Lexemes, named, keyword, sign, line_of}
-use Rattle.oc_grammar.specs.Reading.{Fault, depth_fault, Read, ◌>>=◌, with_some, refuse, refuse_last, too_deep, next_at, strip_mark, strip_word, expect_mark, expect_word, name_at, number_at, take_word}
+use Rattle.oc_grammar.specs.Reading.{Fault, depth_fault, Read, ◌>>=◌, with_some, refuse, refuse_last, too_deep, next_at, strip_mark, strip_word, expect_mark, expect_word, name_at}
+use Rattle.oc_grammar.specs.Reading.{number_at, take_word}
 use Rattle.oc_grammar.specs.ReadingExpressions.{args_at, whole_at}
 use Rattle.oc_grammar.specs.Statements.{opposite, right_of}
 

@@ -1,5 +1,5 @@
 -- What passes the tests is timely.
-use Rattle.std.proofs.Common.{◌≡◌, ℕ, inl, inr, Bool, true, false, true≢false, List, [], ◌∷◌, Option, Some, refl, sym, ap, ◌∙◌, subst, ◌==◌, cond, arith}
+use Rattle.std.proofs.Common.{◌≡◌, ℕ, inl, inr, Bool, true, false, true≢false, List, [], ◌∷◌, Some, refl, sym, ap, ◌∙◌, subst, ◌==◌, cond, arith}
 use Rattle.std.specs.Prelude.{ℤ, ◌&&◌, ◌||◌}
 use Rattle.std.specs.List.{list_all, list_any}
 use Rattle.std.specs.Cmp.Derive.{both_true}
@@ -11,8 +11,8 @@ use Rattle.oc_tree.specs.declared.said.Said.{Said}
 use Rattle.oc_tree.specs.declared.said.Said.TheVariants.{Sensed, Showed, Entered, Committed, Aborted, Off, Dark, Ended}
 use Rattle.oc_tree.specs.declared.said.Shown.TheVariants.{Emitted, Used, Finished, Tagged}
 use Rattle.oc_meaning.specs.Store.{Event}
-use Rattle.oc_honest.specs.Timely.{Lived, IsInput, IsUse, AreTogether, AreTimely, set_of}
-use Rattle.oc_honest.specs.Deciding.{input_of, uses, tag_of, holds, feeds, same_set, tags_one_set, together, use_is_fresh, inputs_meet, is_timely, TestsTell}
+use Rattle.oc_honest.specs.Timely.{IsInput, IsUse, AreTogether, set_of}
+use Rattle.oc_honest.specs.Deciding.{input_of, uses, tag_of, holds, feeds, same_set, tags_one_set, together, use_is_fresh, inputs_meet, TestsTell}
 
 first_true : (a b : Bool) → (a && b) ≡ true → a ≡ true
 first_true true b h = refl

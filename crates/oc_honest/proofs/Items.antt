@@ -256,7 +256,8 @@ held_timely p items es al o held = record {
       let pa = placed fa.both fa.one in let pu = placed fu.both fu.one in
       let ea : pa.one.event ≡ a.event = pa.same_event ∙ fa.same_event in
       let eu : pu.one.event ≡ u.event = pu.same_event ∙ fu.same_event in
-      let r = held.fresh pa.one pu.one j pa.stands pu.stands (subst (IsInput j) (sym ea) input) (subst (λ (d : Event). IsUse d.said) (sym eu) end) (subst (λ (d : Event). IsOf j d.samples) (sym eu) of) in
+      let r = held.fresh pa.one pu.one j pa.stands pu.stands (subst (IsInput j) (sym ea) input) (subst (λ (d : Event). IsUse d.said) (sym eu) end)
+      (subst (λ (d : Event). IsOf j d.samples) (sym eu) of) in
       sym fa.same_offs ∙ same fa.both fu.both r.0 fa.one fu.one (sym pa.same_execution ∙ r.1) (sym pu.same_execution ∙ r.2) ∙ fu.same_offs;
   consistent = λ a b t u j k ia ib it iu input other together of also.
       let fa = found a ia in let fb = found b ib in let ft = found t it in let fu = found u iu in
@@ -265,7 +266,9 @@ held_timely p items es al o held = record {
       let eb : pb.one.event ≡ b.event = pb.same_event ∙ fb.same_event in
       let et : pt.one.event ≡ t.event = pt.same_event ∙ ft.same_event in
       let eu : pu.one.event ≡ u.event = pu.same_event ∙ fu.same_event in
-      let r = held.consistent pa.one pb.one pt.one pu.one j k pa.stands pb.stands pt.stands pu.stands (subst (IsInput j) (sym ea) input) (subst (IsInput k) (sym eb) other) (subst (λ (d : Event). AreTogether p d pu.one.event) (sym et) (subst (λ (d : Event). AreTogether p t.event d) (sym eu) together)) (subst (λ (d : Event). IsOf j d.samples) (sym et) of) (subst (λ (d : Event). IsOf k d.samples) (sym eu) also) in
+      let r = held.consistent pa.one pb.one pt.one pu.one j k pa.stands pb.stands pt.stands pu.stands (subst (IsInput j) (sym ea) input) (subst (IsInput k) (sym eb) other)
+      (subst (λ (d : Event). AreTogether p d pu.one.event) (sym et) (subst (λ (d : Event). AreTogether p t.event d) (sym eu) together))
+      (subst (λ (d : Event). IsOf j d.samples) (sym et) of) (subst (λ (d : Event). IsOf k d.samples) (sym eu) also) in
       sym fa.same_offs ∙ same fa.both fb.both r.0 fa.one fb.one (sym pa.same_execution ∙ r.1) (sym pb.same_execution ∙ r.2) ∙ fb.same_offs;
 }
   where

@@ -12,5 +12,6 @@ pub parted_set : PartedSet
 parted_set p n set s t =
     let tag = event (Showed (Tagged n)) (0 ∷ 1 ∷ []) 1 in
     let together : AreTogether p tag tag = record { one = n; other = n; first = refl; second = refl; set = set; first_set = s; second_set = s; instance = refl } in
-    let e : 0 ≡ 1 = t.consistent _ _ _ _ 0 1 (inl refl) (inr (inl refl)) (inr (inr (inl refl))) (inr (inr (inl refl))) (0, pos 5, refl, refl) (1, pos 8, refl, refl) together (inl refl) (inr (inl refl)) in
+    let e : 0 ≡ 1 = t.consistent _ _ _ _ 0 1 (inl refl) (inr (inl refl)) (inr (inr (inl refl))) (inr (inr (inl refl))) (0, pos 5, refl, refl) (1, pos 8, refl, refl) together
+    (inl refl) (inr (inl refl)) in
     absurd (omega (arith, e))

@@ -98,7 +98,8 @@ broken_off = told 5 (Entered 1) ∷ sense_at 6 0 (pos 21) ∷ use_at 8 3 ∷ tol
 
 -- an attempt is broken off, and so are its undoing and the restoring of registers
 abbrev pub undone : List Told
-undone = told 5 (Entered 1) ∷ sense_at 6 0 (pos 21) ∷ use_at 8 3 ∷ done_at 12 3 ∷ told 18 (Aborted 1) ∷ told 18 (Off 10) ∷ told 30 (Off 10) ∷ told 45 (Off 10) ∷ told 62 (Entered 1) ∷ sense_at 63 0 (pos 30)
+undone = told 5 (Entered 1) ∷ sense_at 6 0 (pos 21) ∷ use_at 8 3 ∷ done_at 12 3 ∷ told 18 (Aborted 1) ∷ told 18 (Off 10) ∷ told 30 (Off 10) ∷ told 45 (Off 10) ∷ told 62
+    (Entered 1) ∷ sense_at 63 0 (pos 30)
     ∷ use_at 65 3 ∷ done_at 68 3 ∷ use_at 73 5 ∷ emit_at 75 (pos 30) ∷ done_at 76 5 ∷ told 77 (Committed 1) ∷ told 78 (Ended Halted) ∷ []
 
 -- an outage right behind a `commit`
@@ -107,12 +108,14 @@ behind_commit = told 5 (Entered 1) ∷ sense_at 6 0 (pos 21) ∷ use_at 8 3 ∷ 
 
 -- an outage behind a set, before the sum of its members is shown
 abbrev pub behind_set : List Told
-behind_set = told 6 (Entered 1) ∷ sense_at 7 0 (pos 5) ∷ sense_at 15 1 (pos 8) ∷ told 17 (Showed (Tagged 5)) ∷ told 18 (Showed (Tagged 6)) ∷ told 19 (Committed 1) ∷ told 22 (Off 50) ∷ emit_at 82 (pos 13)
+behind_set = told 6 (Entered 1) ∷ sense_at 7 0 (pos 5) ∷ sense_at 15 1 (pos 8) ∷ told 17 (Showed (Tagged 5)) ∷ told 18 (Showed (Tagged 6)) ∷ told 19 (Committed 1) ∷ told 22
+    (Off 50) ∷ emit_at 82 (pos 13)
     ∷ told 83 (Ended Halted) ∷ []
 
 -- two attempts are broken off
 abbrev pub third_attempt : List Told
-third_attempt = told 4 (Entered 1) ∷ sense_at 6 0 (pos 4) ∷ told 20 (Aborted 1) ∷ told 20 (Off 10) ∷ told 36 (Entered 1) ∷ sense_at 38 0 (pos 4) ∷ told 50 (Aborted 1) ∷ told 50 (Off 10) ∷ told 66 (Entered 1)
+third_attempt = told 4 (Entered 1) ∷ sense_at 6 0 (pos 4) ∷ told 20 (Aborted 1) ∷ told 20 (Off 10) ∷ told 36 (Entered 1) ∷ sense_at 38 0 (pos 4) ∷ told 50 (Aborted 1) ∷ told 50
+    (Off 10) ∷ told 66 (Entered 1)
     ∷ sense_at 68 0 (pos 6) ∷ use_at 83 5 ∷ emit_at 85 (pos 6) ∷ done_at 86 5 ∷ told 88 (Committed 1) ∷ told 89 (Ended Halted) ∷ []
 
 -- ---- what is said of them

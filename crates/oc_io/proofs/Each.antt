@@ -17,12 +17,14 @@ next : {S X : Type 0} (took : S → List ℕ → S → Type 0) (a b : S) (text :
 next took a b text f step xs i d whole h g =
     subst (λ (r : List ℕ). Going took a b r whole) (ap text (drop_more xs i d h) ∙ step (get_or xs i d) (drop (i + 1) xs)) g
 
-pub each_on : {S X : Type 0} (took : S → List ℕ → S → Type 0) (both : Both took) (a b c : S) (text : List X → List ℕ) (f : X → List ℕ) (step : Steps text f) (xs : List X) (i : ℕ) (d : X) (whole : List ℕ) → i < length xs
+pub each_on : {S X : Type 0} (took : S → List ℕ → S → Type 0) (both : Both took) (a b c : S) (text : List X → List ℕ) (f : X → List ℕ) (step : Steps text f) (xs : List X) (i : ℕ)
+    (d : X) (whole : List ℕ) → i < length xs
     → Going took a b (text (drop i xs)) whole → took b (f (get_or xs i d)) c → Going took a c (text (drop (i + 1) xs)) whole
 each_on took both a b c text f step xs i d whole h g p =
     go_on took both a b c (f (get_or xs i d)) (text (drop (i + 1) xs)) whole (next took a b text f step xs i d whole h g) p
 
-pub each_stop : {S X : Type 0} (took : S → List ℕ → S → Type 0) (both : Both took) (a b c : S) (text : List X → List ℕ) (f : X → List ℕ) (step : Steps text f) (xs : List X) (i : ℕ) (d : X) (whole : List ℕ) → i < length xs
+pub each_stop : {S X : Type 0} (took : S → List ℕ → S → Type 0) (both : Both took) (a b c : S) (text : List X → List ℕ) (f : X → List ℕ) (step : Steps text f) (xs : List X) (i : ℕ)
+    (d : X) (whole : List ℕ) → i < length xs
     → Going took a b (text (drop i xs)) whole → TookPart took b (f (get_or xs i d)) c → TookPart took a whole c
 each_stop took both a b c text f step xs i d whole h g p =
     stop took both a b c (f (get_or xs i d)) (text (drop (i + 1) xs)) whole (next took a b text f step xs i d whole h g) p

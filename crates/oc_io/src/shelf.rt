@@ -46,5 +46,6 @@ pub trait Shelf {
 
     ghost asked_nothing: { (s : Self) → asked s [] s };
 
-    ghost asked_both: { (a b c : Self) (x y : List (List ℕ × ℕ)) → asked a x b → asked b y c → asked a (x ++ y) c };
+    ghost asked_both: { (a b c : Self) (x y : List (List ℕ × ℕ))
+        → asked a x b → asked b y c → asked a (x ++ y) c };
 }

@@ -40,7 +40,8 @@ pub trait Sink {
 
     ghost took_nothing: { (s : Self) → took s [] s };
 
-    ghost took_both: { (a b c : Self) (x y : List ℕ) → took a x b → took b y c → took a (x ++ y) c };
+    ghost took_both: { (a b c : Self) (x y : List ℕ)
+        → took a x b → took b y c → took a (x ++ y) c };
 }
 
 /// Counts bytes and line feeds, and never fails.
@@ -76,7 +77,8 @@ impl Sink for CountSink {
     ghost use Rattle.oc_io.specs.Counts.{capped, line_feeds};
     ghost use Rattle.oc_io.specs.Counting.{counted_nothing, counted_both};
 
-    ghost took = { λ a x b. (capped b.bytes ≡ capped (a.bytes + length x)) × (capped b.lines ≡ capped (a.lines + line_feeds x)) };
+    ghost took = { λ a x b. (capped b.bytes ≡ capped (a.bytes + length x))
+        × (capped b.lines ≡ capped (a.lines + line_feeds x)) };
 
     ghost held = { λ _. [] };
 
@@ -95,5 +97,6 @@ impl Sink for CountSink {
 
     ghost took_nothing = { λ s. counted_nothing s.bytes s.lines };
 
-    ghost took_both = { λ a b c x y. counted_both a.bytes a.lines b.bytes b.lines c.bytes c.lines x y };
+    ghost took_both = { λ a b c x y.
+        counted_both a.bytes a.lines b.bytes b.lines c.bytes c.lines x y };
 }

@@ -70,7 +70,8 @@ impl<W: Write + Drop> Sink for StreamSink<W> {
     ghost use Rattle.std.specs.Io.KnownBytes.{Appends};
     ghost use Rattle.std.proofs.KnownBytes.{Appends-nil, Appends-trans};
 
-    ghost took = { λ a x b. Appends (writer_contents W.contents a.to) (writer_contents W.contents b.to) x };
+    ghost took = { λ a x b.
+        Appends (writer_contents W.contents a.to) (writer_contents W.contents b.to) x };
 
     ghost held = { λ s. writer_buffer s.to };
 
@@ -91,7 +92,8 @@ impl<W: Write + Drop> Sink for StreamSink<W> {
 
     ghost took_nothing = { λ s. Appends-nil (writer_contents W.contents s.to) };
 
-    ghost took_both = { λ a b c x y. Appends-trans (writer_contents W.contents a.to) (writer_contents W.contents b.to) (writer_contents W.contents c.to) x y };
+    ghost took_both = { λ a b c x y. Appends-trans (writer_contents W.contents a.to)
+        (writer_contents W.contents b.to) (writer_contents W.contents c.to) x y };
 }
 
 #[cfg(test)]

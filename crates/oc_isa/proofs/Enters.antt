@@ -1,13 +1,12 @@
 -- Only the instruction `enter` enters.
 use Rattle.std.proofs.Common.{◌≡◌, ℕ, ◌+◌, ◌-◌, ℤ, List, [], ◌∷◌, length, Option, Some, None, refl, Bool, true, false}
-use Rattle.std.specs.Prelude.{slice_get, nat_lt, nat_le, if◌then◌else◌}
+use Rattle.std.specs.Prelude.{nat_lt, if◌then◌else◌}
 use Rattle.oc_tree.specs.Word.{is_word}
 use Rattle.oc_tree.specs.declared.said.Ending.{Ending}
 use Rattle.oc_tree.specs.declared.said.Shown.{Shown}
-use Rattle.oc_isa.specs.declared.image.ImageFunction.{ImageFunction}
-use Rattle.oc_isa.specs.declared.instr.Placed.{Placed}
 use Rattle.oc_isa.specs.declared.instr.Instr.{Instr}
-use Rattle.oc_isa.specs.declared.instr.Instr.TheVariants.{Push, Load, Store, Nload, Nstore, Addr, Naddr, Get, Put, Index, Bin, Un, Jump, Jfalse, Call, Ret, Retv, Drop, Sense, Emit, Probe, Enter, Commit, Halt}
+use Rattle.oc_isa.specs.declared.instr.Instr.TheVariants.{Push, Load, Store, Nload, Nstore, Addr, Naddr, Get, Put, Index, Bin, Un, Jump, Jfalse, Call, Ret, Retv, Drop, Sense, Emit}
+use Rattle.oc_isa.specs.declared.instr.Instr.TheVariants.{Probe, Enter, Commit, Halt}
 use Rattle.oc_isa.specs.Image.{Parts}
 use Rattle.oc_isa.specs.Next.{Regs, Write, Next, Goes, Senses, Enters, Commits, Ends, Stuck}
 use Rattle.oc_isa.specs.Power.{State, enter_on, quietly}
@@ -80,7 +79,25 @@ calls_passes size room back fp stack entry params frame = search (check_passes, 
 returns_passes : (k fp : ℕ) (stack : List ℤ) (go : ℕ → ℕ → List ℤ → Next) → ((pc fp : ℕ) (rest : List ℤ) → Passes (go pc fp rest)) → Passes (returns k fp stack go)
 returns_passes k fp stack go p = search (on_passes, p)
 
-ruleset instruction_passes = (check_passes, on_passes, popped_passes, popped_two_passes, if_passes, goes, ends, moves_passes, pushes_passes, pushes_number_passes, jumps_passes, writes_passes, puts_at_passes, element_passes, results_passes, calls_passes, returns_passes)
+ruleset instruction_passes = (
+  check_passes,
+  on_passes,
+  popped_passes,
+  popped_two_passes,
+  if_passes,
+  goes,
+  ends,
+  moves_passes,
+  pushes_passes,
+  pushes_number_passes,
+  jumps_passes,
+  writes_passes,
+  puts_at_passes,
+  element_passes,
+  results_passes,
+  calls_passes,
+  returns_passes,
+)
 
 abbrev pub IsEnter : Instr → Type 0
 IsEnter (Enter r) = Unit {0}

@@ -2,6 +2,7 @@ ghost use Rattle.std.specs.Prelude.{◌≡◌, IfOk, map};
 ghost use Rattle.oc_tree.specs.Names.{names_view};
 ghost use Rattle.oc_isa.specs.Worked as specs;
 
+use crate::bytes::image_bytes;
 use crate::image::{Image, ImageFunction, RawImage};
 use crate::instr::{BinOp, Instr, Placed, ProbeKind};
 use crate::listing::listing;
@@ -158,5 +159,16 @@ fn a_fault_in_the_text(rt: HostRuntime) -> Result<(), Fail> {
     assert!(rt; listing(&image, &mut sink).is_err());
     let lines = b"fn main entry 0 params 0 frame 1\n0 1 ent";
     assert_eq!(rt; sink.bytes(), lines.as_slice());
+    Ok(())
+}
+
+#[test]
+fn the_bytes_of_a_call(rt: HostRuntime) -> Result<(), Fail> {
+    let image = calling_image(rt.alloc())?;
+    let mut sink = MemorySink::new(rt.alloc(), 1000, Vec::new(rt.alloc()))?;
+    image_bytes(&image, &mut sink)?;
+    let bytes =
+        b"OCELOT1\n\x01\0\0\0\x01\0\0\0t\x01\0\0\0\x01\0\0\0r\0\0\0\0\x02\0\0\0\x01\0\0\0f\0\0\0\0\x01\0\0\0\x03\0\0\0\x04\0\0\0main\x07\0\0\0\0\0\0\0\0\0\0\0\x03\0\0\0\x02\0\0\0\0\0\0\0\0\0\0\0\x01\0\0\0\x01\0\0\0\0\0\0\0\x01\0\0\0\0\0\0\0\x01\0\0\0\0\0\0\0\x01\0\0\0\x10\0\0\0\x06\0\0\0\n\0\0\0\x01\0\0\0\x01\0\0\0\xf9\xff\xff\xff\0\0\0\0\x02\0\0\0\x01\0\0\0\0\0\0\0\0\0\0\0\x08\0\0\0\x01\0\0\0\0\0\0\0\0\0\0\0\x0b\0\0\0\x01\0\0\0\0\0\0\0\0\0\0\0\x02\0\0\0\x01\0\0\0\0\0\0\0\0\0\0\0\x09\0\0\0\x01\0\0\0\0\0\0\0\0\0\0\0\x10\0\0\0\0\0\0\0\x01\0\0\0\0\0\0\0\x07\0\0\0\x02\0\0\0\0\0\0\0\0\0\0\0\x0f\0\0\0\x02\0\0\0\0\0\0\0\0\0\0\0\x18\0\0\0\0\0\0\0\0\0\0\0\0\0\0\0";
+    assert_eq!(rt; sink.bytes(), bytes.as_slice());
     Ok(())
 }

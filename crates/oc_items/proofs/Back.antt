@@ -76,7 +76,7 @@ after_tick names s p (item.Trap tick trap.Index n) h = (refl, (refl, (decimal_fi
 after_tick names s p (item.End tick) h = (refl, tt)
 after_tick names s p (item.Dark tick) h = (refl, tt)
 
-line_fits : (names : NameLists) → AreApart names.sensors → AreApart names.ports → (i : Item) → IsItem names i → AllFields (decimal (tick_of i) ∷ fields_of names i)
+pub line_fits : (names : NameLists) → AreApart names.sensors → AreApart names.ports → (i : Item) → IsItem names i → AllFields (decimal (tick_of i) ∷ fields_of names i)
 line_fits names s p i h = (decimal_field (tick_of i) h.tick, after_tick names s p i h)
 
 line_back : (names : NameLists) → AreApart names.sensors → AreApart names.ports → (i : Item) → IsItem names i → told_line names (decimal (tick_of i) ∷ fields_of names i) ≡ i

@@ -7,7 +7,7 @@ use Rattle.oc_tree.specs.declared.said.TrapKind.TheVariants as trap
 use Rattle.oc_items.specs.declared.item.Item.{Item}
 use Rattle.oc_items.specs.declared.item.Item.TheVariants as item
 use Rattle.oc_items.specs.Text.{name_at, tick_of, item_line}
-use Rattle.oc_items.specs.OneText.{ends_field, is_field, IsItem}
+use Rattle.oc_items.specs.OneText.{is_field, IsItem}
 use Rattle.oc_items.specs.Reading.{place_of, HasLine, Tells, body_of, has_no_space, StandsBehind, IsValue, NoneBefore, Named, HasBody, TellsBody, NoSense, NoEmit, NoStatement, NoMark, NoStop}
 use Rattle.oc_items.proofs.Fields.{decimal_field}
 
@@ -80,7 +80,8 @@ pub no_line_without_space : (names : NameLists) (line : List ℕ) → has_no_spa
 no_line_without_space names line s i h = space_there (decimal (tick_of i)) (body_of names i) (rw (body_there names line i h) s)
 
 -- the parts of a line are those of its item
-pub parts_of_line : (names : NameLists) (line digits body : List ℕ) → digits ++ (codes " " ++ body) ≡ line → has_no_space digits ≡ true → (i : Item) → HasLine names line i → (decimal (tick_of i) ≡ digits) × (body_of names i ≡ body)
+pub parts_of_line : (names : NameLists) (line digits body : List ℕ) → digits ++ (codes " " ++ body) ≡ line → has_no_space digits ≡ true → (i : Item) → HasLine names line i
+    → (decimal (tick_of i) ≡ digits) × (body_of names i ≡ body)
 parts_of_line names line digits body e s i h =
     space_cut (decimal (tick_of i)) digits (body_of names i) body (field_has_no_space (decimal (tick_of i)) (decimal_field (tick_of i) h.is.tick)) s (body_there names line i h ∙ sym e)
 
@@ -89,10 +90,12 @@ parts_of_line names line digits body e s i h =
 pub has_line : (names : NameLists) (line digits body : List ℕ) (tick : ℕ) (i : Item) → digits ++ (codes " " ++ body) ≡ line → decimal tick ≡ digits → HasBody names tick body i → HasLine names line i
 has_line names line digits body tick i e d h = record {
   is = h.is;
-  line_is = line_is_body names i ∙ ap (λ (l : List ℕ). l ++ codes "\n") (ap (λ (n : ℕ). decimal n ++ (codes " " ++ body_of names i)) h.tick_is ∙ ap (λ (l : List ℕ). decimal tick ++ (codes " " ++ l)) h.body ∙ ap (λ (l : List ℕ). l ++ (codes " " ++ body)) d ∙ e);
+  line_is = line_is_body names i ∙ ap (λ (l : List ℕ). l ++ codes "\n")
+      (ap (λ (n : ℕ). decimal n ++ (codes " " ++ body_of names i)) h.tick_is ∙ ap (λ (l : List ℕ). decimal tick ++ (codes " " ++ l)) h.body ∙ ap (λ (l : List ℕ). l ++ (codes " " ++ body)) d ∙ e);
 }
 
-pub no_body : (names : NameLists) (tick : ℕ) (bytes : List ℕ) → NoSense names bytes → NoEmit names bytes → NoStatement bytes → NoMark bytes → NoStop bytes → (i : Item) → place_of i < 2 ^ 8 → HasBody names tick bytes i → ⊥
+pub no_body : (names : NameLists) (tick : ℕ) (bytes : List ℕ) → NoSense names bytes → NoEmit names bytes → NoStatement bytes → NoMark bytes → NoStop bytes → (i : Item)
+    → place_of i < 2 ^ 8 → HasBody names tick bytes i → ⊥
 no_body names tick bytes a b c d e (item.Sense t place value) l h = a.none place value l h.is.named h.is.fits h.body
 no_body names tick bytes a b c d e (item.Emit t place value) l h = b.none place value l h.is.named h.is.fits h.body
 no_body names tick bytes a b c d e (item.Use t n) l h = c.uses n (record { below = h.is.fits; spelled = h.body })
@@ -118,9 +121,11 @@ first_named names rest place n k value v = le_by_not place k (λ l. n.none k val
 unlike : (a b : ℕ) (x y : List ℕ) → (a ≡ b → ⊥) → a ∷ x ≡ b ∷ y → ⊥
 unlike a b x y n e = n (head_is a b x y e)
 
-first_sense : (names : NameLists) (tick place : ℕ) (bytes rest : List ℕ) → codes "sense " ++ rest ≡ bytes → NoneBefore names.sensors rest place → (j : Item) → HasBody names tick bytes j → place ≤ place_of j
+first_sense : (names : NameLists) (tick place : ℕ) (bytes rest : List ℕ) → codes "sense " ++ rest ≡ bytes → NoneBefore names.sensors rest place → (j : Item)
+    → HasBody names tick bytes j → place ≤ place_of j
 first_sense names tick place bytes rest e n (item.Sense t k v) h =
-    first_named names.sensors rest place n k v (record { fits = h.is.fits; spelled = append_cancel_left (codes "sense ") (name_at names.sensors k ++ (codes " " ++ signed_decimal v)) rest (h.body ∙ sym e) })
+    first_named names.sensors rest place n k v
+    (record { fits = h.is.fits; spelled = append_cancel_left (codes "sense ") (name_at names.sensors k ++ (codes " " ++ signed_decimal v)) rest (h.body ∙ sym e) })
 first_sense names tick place bytes rest e n (item.Emit t k v) h = absurd (unlike 101 115 _ _ (λ d. omega (arith, d)) (h.body ∙ sym e))
 first_sense names tick place bytes rest e n (item.Use t k) h = absurd (unlike 117 115 _ _ (λ d. omega (arith, d)) (h.body ∙ sym e))
 first_sense names tick place bytes rest e n (item.Done t k) h = absurd (unlike 100 115 _ _ (λ d. omega (arith, d)) (h.body ∙ sym e))
@@ -137,9 +142,14 @@ first_sense names tick place bytes rest e n (item.Dark t) h = absurd (unlike 100
 unlike_second : (a b c : ℕ) (x y : List ℕ) → (a ≡ b → ⊥) → c ∷ a ∷ x ≡ c ∷ b ∷ y → ⊥
 unlike_second a b c x y n e = unlike a b x y n (tail_is c c (a ∷ x) (b ∷ y) e)
 
-first_emit : (names : NameLists) (tick place : ℕ) (bytes rest : List ℕ) → codes "emit " ++ rest ≡ bytes → NoneBefore names.ports rest place → (j : Item) → HasBody names tick bytes j → place ≤ place_of j
+first_emit : (names : NameLists) (tick place : ℕ) (bytes rest : List ℕ) → codes "emit " ++ rest ≡ bytes → NoneBefore names.ports rest place → (j : Item)
+    → HasBody names tick bytes j → place ≤ place_of j
 first_emit names tick place bytes rest e n (item.Emit t k v) h =
-    first_named names.ports rest place n k v (record { fits = h.is.fits; spelled = append_cancel_left (codes "emit ") (name_at names.ports k ++ (codes " " ++ signed_decimal v)) rest (h.body ∙ sym e) })
+    first_named names.ports rest place n k v (record {
+      fits = h.is.fits;
+      spelled =
+          append_cancel_left (codes "emit ") (name_at names.ports k ++ (codes " " ++ signed_decimal v)) rest (h.body ∙ sym e);
+    })
 first_emit names tick place bytes rest e n (item.Sense t k v) h = absurd (unlike 115 101 _ _ (λ d. omega (arith, d)) (h.body ∙ sym e))
 first_emit names tick place bytes rest e n (item.Use t k) h = absurd (unlike 117 101 _ _ (λ d. omega (arith, d)) (h.body ∙ sym e))
 first_emit names tick place bytes rest e n (item.Done t k) h = absurd (unlike 100 101 _ _ (λ d. omega (arith, d)) (h.body ∙ sym e))
@@ -152,13 +162,15 @@ first_emit names tick place bytes rest e n (item.Trap t kind k) h = absurd (unli
 first_emit names tick place bytes rest e n (item.End t) h = absurd (unlike_second 110 109 101 _ _ (λ d. omega (arith, d)) (h.body ∙ sym e))
 first_emit names tick place bytes rest e n (item.Dark t) h = absurd (unlike 100 101 _ _ (λ d. omega (arith, d)) (h.body ∙ sym e))
 
-pub tells_sense : (names : NameLists) (tick place : ℕ) (value : ℤ) (bytes rest : List ℕ) → tick < 2 ^ 64 → StandsBehind (codes "sense ") bytes rest → Named names.sensors rest place value → TellsBody names tick bytes (item.Sense tick place value)
+pub tells_sense : (names : NameLists) (tick place : ℕ) (value : ℤ) (bytes rest : List ℕ) → tick < 2 ^ 64 → StandsBehind (codes "sense ") bytes rest
+    → Named names.sensors rest place value → TellsBody names tick bytes (item.Sense tick place value)
 tells_sense names tick place value bytes rest l e n = record {
   has = record { is = record { tick = l; named = n.there; fits = n.is_value.fits }; tick_is = refl; body = ap (λ (r : List ℕ). codes "sense " ++ r) n.is_value.spelled ∙ e };
   first = first_sense names tick place bytes rest e n.first;
 }
 
-pub tells_emit : (names : NameLists) (tick place : ℕ) (value : ℤ) (bytes rest : List ℕ) → tick < 2 ^ 64 → StandsBehind (codes "emit ") bytes rest → Named names.ports rest place value → TellsBody names tick bytes (item.Emit tick place value)
+pub tells_emit : (names : NameLists) (tick place : ℕ) (value : ℤ) (bytes rest : List ℕ) → tick < 2 ^ 64 → StandsBehind (codes "emit ") bytes rest
+    → Named names.ports rest place value → TellsBody names tick bytes (item.Emit tick place value)
 tells_emit names tick place value bytes rest l e n = record {
   has = record { is = record { tick = l; named = n.there; fits = n.is_value.fits }; tick_is = refl; body = ap (λ (r : List ℕ). codes "emit " ++ r) n.is_value.spelled ∙ e };
   first = first_emit names tick place bytes rest e n.first;
@@ -168,7 +180,8 @@ tells_emit names tick place value bytes rest l e n = record {
 pub tells_other : (names : NameLists) (tick : ℕ) (bytes : List ℕ) (i : Item) → place_of i ≡ 0 → IsItem names i → tick_of i ≡ tick → body_of names i ≡ bytes → TellsBody names tick bytes i
 tells_other names tick bytes i z is t b = record { has = record { is = is; tick_is = t; body = b }; first = λ j h. omega (arith, z) }
 
-pub tells_line : (names : NameLists) (line digits body : List ℕ) (tick : ℕ) (i : Item) → tick < 2 ^ 64 → digits ++ (codes " " ++ body) ≡ line → has_no_space digits ≡ true → decimal tick ≡ digits → TellsBody names tick body i → ((n : ℕ) → n < 2 ^ 64 → decimal n ≡ digits → n ≡ tick) → Tells names line i
+pub tells_line : (names : NameLists) (line digits body : List ℕ) (tick : ℕ) (i : Item) → tick < 2 ^ 64 → digits ++ (codes " " ++ body) ≡ line → has_no_space digits ≡ true
+    → decimal tick ≡ digits → TellsBody names tick body i → ((n : ℕ) → n < 2 ^ 64 → decimal n ≡ digits → n ≡ tick) → Tells names line i
 tells_line names line digits body tick i l e s d t only = record {
   has = has_line names line digits body tick i e d t.has;
   first = λ j h. let p = parts_of_line names line digits body e s j h in t.first j (record { is = h.is; tick_is = only (tick_of j) h.is.tick p.0; body = p.1 });

@@ -1,5 +1,5 @@
 -- A report without its aborted attempts is one alone.
-use Rattle.std.proofs.Common.{◌≡◌, ℕ, zero, suc, ◌+◌, ◌≤◌, ◌==◌, eqb, Bool, true, false, cond, List, [], ◌∷◌, ◌++◌, length, Option, Some, None, refl, sym, ap, subst, ◌∙◌, append_assoc, arith}
+use Rattle.std.proofs.Common.{◌≡◌, ℕ, zero, suc, ◌+◌, ◌≤◌, ◌==◌, Bool, true, false, cond, List, [], ◌∷◌, ◌++◌, length, Option, Some, None, refl, sym, ap, subst, ◌∙◌, append_assoc, arith}
 use Rattle.std.proofs.lemmas.Bool.{eqb-true, eq-eqb}
 use Rattle.std.proofs.lemmas.List.{length-append}
 use Rattle.oc_tree.specs.Said.{Told}
@@ -162,11 +162,13 @@ erases_by n [] h = nothing
 erases_by zero (i ∷ is) h = absurd (omega arith)
 erases_by (suc n) (i ∷ is) h = by_test (begins_stretch i.said (next_mark is)) refl (λ (rest : List Told) l. erases_by n rest (omega (arith, h, l)))
   where
-    by_test : (b : Bool) → begins_stretch i.said (next_mark is) ≡ b → ((rest : List Told) → length rest ≤ length is → Erases rest (erase rest)) → Erases (i ∷ is) (cond b (erase_from true is) (i ∷ erase_from false is))
+    by_test : (b : Bool) → begins_stretch i.said (next_mark is) ≡ b → ((rest : List Told) → length rest ≤ length is → Erases rest (erase rest))
+        → Erases (i ∷ is) (cond b (erase_from true is) (i ∷ erase_from false is))
     by_test true e again =
         let f = begins_there i is e in
         let b = f.begins in
-        subst (λ (l : List Told). Erases l (erase_from true is)) (sym b.is) (subst (λ (l : List Told). Erases (b.taken ++ b.behind) l) (sym f.left) (leaving b.attempts (rw f.same (again f.behind f.shorter))))
+        subst (λ (l : List Told). Erases l (erase_from true is)) (sym b.is)
+        (subst (λ (l : List Told). Erases (b.taken ++ b.behind) l) (sym f.left) (leaving b.attempts (rw f.same (again f.behind f.shorter))))
     by_test false e again =
         keeping (λ b. let t : true ≡ false = sym (begins_stretch_there i is b) ∙ e in cc) (again is (omega arith))
 

@@ -1,5 +1,6 @@
 -- Numbers and keys, read back.
-use Rattle.std.proofs.Common.{ℕ, zero, suc, ℤ, ◌+◌, ◌-◌, ◌<◌, ◌≤◌, ◌^◌, ◌≡◌, ◌≢◌, true, false, List, [], ◌∷◌, ◌++◌, length, take, drop, get_or, codes, decimal, Result, Ok, Err, Option, Some, None, IfSome, IfNone, FitsSigned, refl, sym, ap, subst, ◌∙◌, arith, All, take-append-drop, rules}
+use Rattle.std.proofs.Common.{ℕ, zero, suc, ℤ, ◌+◌, ◌-◌, ◌<◌, ◌≤◌, ◌^◌, ◌≡◌, ◌≢◌, true, false, List, [], ◌∷◌, ◌++◌, length, take, drop, get_or, codes, decimal, Result, Ok, Err}
+use Rattle.std.proofs.Common.{Option, Some, None, IfSome, IfNone, FitsSigned, refl, sym, ap, subst, ◌∙◌, arith, All, take-append-drop, rules}
 use Rattle.std.specs.Int.{w32}
 use Rattle.std.specs.Fmt.{signed_decimal}
 use Rattle.std.specs.Str.{IsUtf8, bytes_eq}
@@ -32,7 +33,8 @@ no_text field h n l e = h (subst IsUtf8 e (IsUtf8-from_ascii (decimal n) (IsAsci
 pub not_parsed : {E : Type 0} (field text : List ℕ) (error : E) → ParsesUnsigned 64 10 text (Err error) → text ≡ field → (n : ℕ) → n < 2 ^ 64 → decimal n ≡ field → ⊥
 not_parsed field text error h t n l e = let r = parse-decimal 64 n text (Err error) l l (t ∙ sym e) h in cc r
 
-pub other_parsed : (field text written : List ℕ) (number : ℕ) → ParsesUnsigned {E = ℕ} 64 10 text (Ok number) → text ≡ field → written ≡ decimal number → bytes_eq written field ≡ false → (n : ℕ) → n < 2 ^ 64 → decimal n ≡ field → ⊥
+pub other_parsed : (field text written : List ℕ) (number : ℕ) → ParsesUnsigned {E = ℕ} 64 10 text (Ok number) → text ≡ field → written ≡ decimal number → bytes_eq written field
+    ≡ false → (n : ℕ) → n < 2 ^ 64 → decimal n ≡ field → ⊥
 other_parsed field text written number h t w d n l e =
     let r : ◌≡◌ {A = Result ℕ ℕ} (Ok number) (Ok n) = parse-decimal 64 n text (Ok number) l l (t ∙ sym e) h in
     let k : number ≡ n = cc in
@@ -46,7 +48,8 @@ no_signed_text field h z l e = h (subst IsUtf8 e (IsUtf8-from_ascii (signed_deci
 pub no_signed_parsed : {E : Type 0} (field text : List ℕ) (error : E) → ParsesSigned w32 10 text (Err error) → text ≡ field → (z : ℤ) → FitsSigned w32 z → signed_decimal z ≡ field → ⊥
 no_signed_parsed field text error h t z l e = let r = parse-signed_decimal w32 z text (Err error) l (search rules) (t ∙ sym e) h in cc r
 
-pub other_signed_parsed : (field text written : List ℕ) (number : ℤ) → ParsesSigned {E = ℕ} w32 10 text (Ok number) → text ≡ field → written ≡ signed_decimal number → bytes_eq written field ≡ false → (z : ℤ) → FitsSigned w32 z → signed_decimal z ≡ field → ⊥
+pub other_signed_parsed : (field text written : List ℕ) (number : ℤ) → ParsesSigned {E = ℕ} w32 10 text (Ok number) → text ≡ field → written ≡ signed_decimal number
+    → bytes_eq written field ≡ false → (z : ℤ) → FitsSigned w32 z → signed_decimal z ≡ field → ⊥
 other_signed_parsed field text written number h t w d z l e =
     let r : ◌≡◌ {A = Result ℤ ℕ} (Ok number) (Ok z) = parse-signed_decimal w32 z text (Ok number) l (search rules) (t ∙ sym e) h in
     let k : number ≡ z = cc in
@@ -59,7 +62,8 @@ other_signed_parsed field text written number h t w d z l e =
 pub none_behind : (key bytes digits : List ℕ) (limit : ℕ) → limit ≤ 2 ^ 64 → StandsBehind key bytes digits → ((n : ℕ) → n < 2 ^ 64 → decimal n ≡ digits → ⊥) → SpelledNone key bytes limit
 none_behind key bytes digits limit l e none n s = none n (omega (arith, l, s.below)) (append_cancel_left key (decimal n) digits (s.spelled ∙ sym e))
 
-pub no_value : (name bytes rest digits : List ℕ) → StandsBehind name bytes rest → StandsBehind (codes " ") rest digits → ((z : ℤ) → FitsSigned w32 z → signed_decimal z ≡ digits → ⊥) → (z : ℤ) → IsValue name bytes z → ⊥
+pub no_value : (name bytes rest digits : List ℕ) → StandsBehind name bytes rest → StandsBehind (codes " ") rest digits
+    → ((z : ℤ) → FitsSigned w32 z → signed_decimal z ≡ digits → ⊥) → (z : ℤ) → IsValue name bytes z → ⊥
 no_value name bytes rest digits e f none z v =
     none z v.fits (append_cancel_left (codes " ") (signed_decimal z) digits (append_cancel_left name (codes " " ++ signed_decimal z) rest (v.spelled ∙ sym e) ∙ sym f))
 
@@ -78,8 +82,10 @@ front_no_space [] (suc n) h = refl
 front_no_space (b ∷ bs) zero h = refl
 front_no_space (b ∷ bs) (suc n) h = rw (ne_eqb b 32 (h 0 (omega arith))) (front_no_space bs n (λ k l. h (suc k) (omega (arith, l))))
 
-pub cut_there : (line : List ℕ) (place : ℕ) → place < length line → get_or line place 0 ≡ 32 → ((k : ℕ) → k < place → get_or line k 0 ≢ 32) → (take place line ++ (codes " " ++ take (length line - (place + 1)) (drop (place + 1) line)) ≡ line) × (has_no_space (take place line) ≡ true)
+pub cut_there : (line : List ℕ) (place : ℕ) → place < length line → get_or line place 0 ≡ 32 → ((k : ℕ) → k < place → get_or line k 0 ≢ 32)
+    → (take place line ++ (codes " " ++ take (length line - (place + 1)) (drop (place + 1) line)) ≡ line) × (has_no_space (take place line) ≡ true)
 cut_there line place l here before = (
-  ap (λ (t : List ℕ). take place line ++ (32 ∷ t)) (take_rest line (place + 1)) ∙ ap (λ (b : ℕ). take place line ++ (b ∷ drop (place + 1) line)) (sym here) ∙ ap (λ (t : List ℕ). take place line ++ t) (sym (drop_more line place 0 l)) ∙ take-append-drop place line,
+  ap (λ (t : List ℕ). take place line ++ (32 ∷ t)) (take_rest line (place + 1)) ∙ ap (λ (b : ℕ). take place line ++ (b ∷ drop (place + 1) line)) (sym here)
+      ∙ ap (λ (t : List ℕ). take place line ++ t) (sym (drop_more line place 0 l)) ∙ take-append-drop place line,
   front_no_space line place before,
 )

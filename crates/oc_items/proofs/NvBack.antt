@@ -1,5 +1,6 @@
 -- The words of the nonvolatile variables are told by their lines.
-use Rattle.std.proofs.Common.{ℕ, ℤ, ◌+◌, ◌<◌, ◌≡◌, Bool, true, false, cond, List, [], ◌∷◌, ◌++◌, length, take, drop, map, sum, min, ap, sym, ◌∙◌, refl, arith, w32, FitsSigned, codes, length-take, length-drop, get_or-take, get_or-drop}
+use Rattle.std.proofs.Common.{ℕ, ℤ, ◌+◌, ◌<◌, ◌≡◌, Bool, true, false, cond, List, [], ◌∷◌, ◌++◌, length, take, drop, map, sum, min, ap, sym, ◌∙◌, refl, arith, w32, FitsSigned}
+use Rattle.std.proofs.Common.{codes, length-take, length-drop, get_or-take, get_or-drop}
 use Rattle.std.proofs.lemmas.List.{take-append-drop}
 use Rattle.std.proofs.lemmas.List.Sums.{sum_by-cons}
 use Rattle.std.specs.Fmt.{signed_decimal}
@@ -24,15 +25,15 @@ words_fit : (words : List ℤ) → AreWords words → AllFields (map signed_deci
 words_fit [] h = tt
 words_fit (x ∷ xs) h = (signed_field x (first_of_all (FitsSigned w32) x xs h), words_fit xs (rest_of_all (FitsSigned w32) x xs h))
 
-front_words : (k : ℕ) (words : List ℤ) → AreWords words → AreWords (take k words)
+pub front_words : (k : ℕ) (words : List ℤ) → AreWords words → AreWords (take k words)
 front_words k words h = λ i d l.
     let few : i < min k (length words) = rw (← length-take k words) l in
     rw (get_or-take k words i d (omega (arith, few))) (h i d (omega (arith, few)))
 
-back_words : (k : ℕ) (words : List ℤ) → AreWords words → AreWords (drop k words)
+pub back_words : (k : ℕ) (words : List ℤ) → AreWords words → AreWords (drop k words)
 back_words k words h = λ i d l. rw (get_or-drop k words i d) (h (k + i) d (omega (arith, l, length-drop k words)))
 
-line_fits : (name : Text) (words : List ℤ) → is_field name ≡ true → AreWords words → AllFields (codes "nv" ∷ name ∷ map signed_decimal words)
+pub line_fits : (name : Text) (words : List ℤ) → is_field name ≡ true → AreWords words → AllFields (codes "nv" ∷ name ∷ map signed_decimal words)
 line_fits name words n h = (refl, (n, words_fit words h))
 
 no_words : (u v : List ℤ) → length u ≡ 0 → length v ≡ 0 → u ≡ v

@@ -8,7 +8,8 @@ use Rattle.std.proofs.lemmas.Cmp.{nat_list_eq_equiv}
 use Rattle.oc_items.specs.Reading.{StandsBehind}
 
 abbrev Strips : List ℕ → List ℕ → Option (Bor (List ℕ)) → Type 0
-Strips key bytes r = MatchOption r (bytes_eq (take (length key) bytes) key ≡ false) (λ x. (bytes_eq (take (length key) bytes) key ≡ true) × (x.now ≡ drop (length key) bytes) × (length x.now + length key ≡ length bytes))
+Strips key bytes r = MatchOption r (bytes_eq (take (length key) bytes) key ≡ false)
+    (λ x. (bytes_eq (take (length key) bytes) key ≡ true) × (x.now ≡ drop (length key) bytes) × (length x.now + length key ≡ length bytes))
 
 front_is : (key rest : List ℕ) → take (length key) (key ++ rest) ≡ key
 front_is [] rest = refl

@@ -1,6 +1,5 @@
 -- The item of what an item tells is that item.
 use Rattle.std.proofs.Common.{refl}
-use Rattle.oc_items.specs.declared.item.Item.{Item}
 use Rattle.oc_items.specs.declared.item.Item.TheVariants as item
 use Rattle.oc_items.specs.Told.{ItemsTell}
 

@@ -32,7 +32,7 @@ fn read_u64(field: &[u8]) -> Option<u64>
 }
 
 /// The number of 32 bits whose digits, with a `-` where it is negative, these are.
-fn read_i32(field: &[u8]) -> Option<i32>
+pub fn read_i32(field: &[u8]) -> Option<i32>
     ensures some { IfSome result (λ z. signed_decimal z ≡ field.now) }
     ensures none { IfNone result ((z : ℤ) → FitsSigned w32 z → signed_decimal z ≡ field.now → ⊥) }
 {
@@ -63,7 +63,7 @@ fn cut(line: &[u8]) -> Option<(&[u8], &[u8])>
 }
 
 /// The bytes behind the key, where it stands in front.
-fn behind<'a>(key: &[u8], bytes: &'a [u8]) -> Option<&'a [u8]>
+pub fn behind<'a>(key: &[u8], bytes: &'a [u8]) -> Option<&'a [u8]>
     ensures some { IfSome result (λ rest. StandsBehind key.now bytes.now rest.now) }
     ensures none { IfNone result ((rest : List ℕ) → StandsBehind key.now bytes.now rest → ⊥) }
 {

@@ -149,7 +149,8 @@ name_most q (suc m) b bs k e t h d = by_piece q k t d (of_class q b (take m bs) 
     by_piece (piece.Mark x) class.Letter t d o = absurd o
     by_piece (piece.Mark x) class.Underscore t d o = absurd o
 
-pub name_longest : (bytes : List ℕ) (n : ℕ) (k : Class) → 1 ≤ length bytes → class_of (get_or bytes 0 0) ≡ k → begins_name_class k ≡ true → n ≡ prefix_len in_name (tail_of bytes) → Longest piece.Name (1 + n) bytes
+pub name_longest : (bytes : List ℕ) (n : ℕ) (k : Class) → 1 ≤ length bytes → class_of (get_or bytes 0 0) ≡ k → begins_name_class k ≡ true → n ≡ prefix_len in_name (tail_of bytes)
+    → Longest piece.Name (1 + n) bytes
 name_longest [] n k h e t f = absurd (omega arith)
 name_longest (b ∷ bs) n k h e t f =
     let w = prefix_len-le-length in_name bs in
@@ -240,7 +241,8 @@ one_most q (suc (suc m)) b [] e n t h d = absurd (omega arith)
 one_most q (suc (suc zero)) b (c ∷ bs) e n t h d = let x = other_mark q 2 b (c ∷ bs) e n d in absurd (t x.0 x.1)
 one_most q (suc (suc (suc m))) b (c ∷ bs) e n t h d = let l = two_most q (suc (suc (suc m))) b (c ∷ bs) e n h d in absurd (omega arith)
 
-pub double_longest : (b : ℕ) (rest : List ℕ) (x : Mark) → 1 ≤ length rest → class_of b ≡ class.Other → NoComment b rest → mark_spelling x ≡ b ∷ get_or rest 0 0 ∷ [] → Longest (piece.Mark x) 2 (b ∷ rest)
+pub double_longest : (b : ℕ) (rest : List ℕ) (x : Mark) → 1 ≤ length rest → class_of b ≡ class.Other → NoComment b rest → mark_spelling x ≡ b ∷ get_or rest 0 0 ∷ []
+    → Longest (piece.Mark x) 2 (b ∷ rest)
 double_longest b [] x h e n s = absurd (omega arith)
 double_longest b (c ∷ bs) x h e n s = record { within = omega arith; is_piece = s; no_longer = λ q m h d. two_most q m b (c ∷ bs) e n h d }
 

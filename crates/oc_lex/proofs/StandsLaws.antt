@@ -36,7 +36,8 @@ kind_spelled (piece.Mark x) text after (kinds.Number v) i d = absurd d
 kind_spelled piece.Blank text after k i d = absurd d
 kind_spelled piece.Comment text after k i d = absurd d
 
-token_stands : (source : List ℕ) (at n : ℕ) (p : Piece) (k : Kind) → Longest p n (drop at source) → IsKind p (take n (drop at source)) (drop n (drop at source)) k → StandsIn source (token_at source at n k)
+token_stands : (source : List ℕ) (at n : ℕ) (p : Piece) (k : Kind) → Longest p n (drop at source) → IsKind p (take n (drop at source)) (drop n (drop at source)) k
+    → StandsIn source (token_at source at n k)
 token_stands source at n p k l d =
     let h = positive p n (drop at source) l.is_piece in
     let w = l.within in
@@ -98,6 +99,7 @@ tokens_count source ts d = let h = order_count 0 ts (length source) (lexed_order
 
 -- ---- the contract of lex
 
-pub of_ok : (source : List ℕ) (P : List Token → Type 0) → ((ts : List Token) → AreTokens source ts → P ts) → (Q : LexError → Type 0) (r : Result (Vec Token) LexError) → MatchResult r (λ v. AreTokens source v.items) Q → IfOk r (λ v. P v.items)
+pub of_ok : (source : List ℕ) (P : List Token → Type 0) → ((ts : List Token) → AreTokens source ts → P ts) → (Q : LexError → Type 0) (r : Result (Vec Token) LexError)
+    → MatchResult r (λ v. AreTokens source v.items) Q → IfOk r (λ v. P v.items)
 of_ok source P f Q (Ok v) h = f v.items h
 of_ok source P f Q (Err e) h = tt

@@ -1,5 +1,6 @@
 -- A source has one list of tokens or one first fault.
-use Rattle.std.proofs.Common.{◌≡◌, ℕ, ◌+◌, ◌<◌, true, false, List, [], ◌∷◌, ◌++◌, length, get_or, take, drop, Option, Some, None, Result, Ok, Err, refl, sym, ap, subst, ◌∙◌, arith, inl, inr, ◌⊎◌, length-drop}
+use Rattle.std.proofs.Common.{◌≡◌, ℕ, ◌+◌, ◌<◌, true, false, List, [], ◌∷◌, ◌++◌, length, get_or, take, drop, Option, Some, None, Result, Ok, Err, refl, sym, ap, subst, ◌∙◌, arith}
+use Rattle.std.proofs.Common.{inl, inr, ◌⊎◌, length-drop}
 use Rattle.std.specs.Prelude.{◌==◌, find, pos, ℤ, MatchResult}
 use Rattle.std.specs.Global.{Vec}
 use Rattle.std.specs.Str.{bytes_eq}
@@ -186,7 +187,8 @@ Ends source at = (p : Piece) (n : ℕ) (o : Option Kind) → Longest p n (drop a
 abbrev GoesOn : List ℕ → ℕ → ℕ → Option Kind → List Token → ℕ → Type 0
 GoesOn source at n o us end = (vs : List Token) × Lexed source (at + n) vs end × (us ≡ token_here source at n o ++ vs)
 
-goes_on : (source : List ℕ) {at end : ℕ} {us : List Token} → Lexed source at us end → (p : Piece) (n : ℕ) (o : Option Kind) → Longest p n (drop at source) → KindIs p (take n (drop at source)) (drop n (drop at source)) o → Ends source end → GoesOn source at n o us end
+goes_on : (source : List ℕ) {at end : ℕ} {us : List Token} → Lexed source at us end → (p : Piece) (n : ℕ) (o : Option Kind) → Longest p n (drop at source)
+    → KindIs p (take n (drop at source)) (drop n (drop at source)) o → Ends source end → GoesOn source at n o us end
 goes_on source (none {at = at}) p n o l k stop = absurd (stop p n o l k)
 goes_on source (between {at = at} {n = m} {to = to} {p = q} {ts = us} l' b' d') p n o l k stop =
     let e : m ≡ n = longest_same q p m n (drop at source) l' l in

@@ -44,7 +44,8 @@ token_at source at n k = record { kind = k; start = at; end = at + n; line = 1 +
 pub data Lexed (source : List ℕ) : ℕ → List Token → ℕ → Type 0 where
   none : {at : ℕ} → Lexed source at [] at
   between : {at n to : ℕ} {p : Piece} {ts : List Token} → Longest p n (drop at source) → IsBetween p → Lexed source (at + n) ts to → Lexed source at ts to
-  token : {at n to : ℕ} {p : Piece} {k : Kind} {ts : List Token} → Longest p n (drop at source) → IsKind p (take n (drop at source)) (drop n (drop at source)) k → Lexed source (at + n) ts to → Lexed source at (token_at source at n k ∷ ts) to
+  token : {at n to : ℕ} {p : Piece} {k : Kind} {ts : List Token} → Longest p n (drop at source) → IsKind p (take n (drop at source)) (drop n (drop at source)) k
+      → Lexed source (at + n) ts to → Lexed source at (token_at source at n k ∷ ts) to
 
 -- these are the tokens of the source
 abbrev pub AreTokens : List ℕ → List Token → Type 0

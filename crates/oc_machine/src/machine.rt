@@ -45,7 +45,8 @@ impl Model for Machine {
       state = record { phase = m.phase; pc = m.pc; fp = m.fp; depth = m.depth; stack = m.stack.words; nv = m.nvm; log = m.log.entries; area = m.area.state; words = m.area.words };
     } };
 
-    ghost invariant = { λ m. IsKept m.image m.rows.items m.entry m.frame m.phase m.pc m.fp m.stack m.nvm m.log m.area };
+    ghost invariant = { λ m. IsKept m.image m.rows.items m.entry m.frame m.phase m.pc m.fp m.stack
+        m.nvm m.log m.area };
 }
 
 /// Where `main` begins, and how many words its frame has.

@@ -2,7 +2,9 @@
 use Rattle.std.proofs.Common.{◌≡◌, ℕ, zero, suc, Bool, true, false, List, [], ◌∷◌, ◌++◌, length, Option, Some, None, refl, sym, ap, ◌∙◌, append-nil}
 use Rattle.std.specs.Prelude.{ℤ, pos, ◌+ℤ◌, ◌-ℤ◌, ◌==◌, if◌then◌else◌, codes}
 use Rattle.oc_tree.specs.Names.{Text, NameLists}
-use Rattle.oc_tree.specs.Tree.{TExpr, number, truth, variable, index, deref, unary, binary, sensed, called, TArg, value, shared, mutable, TCall, call, TArgs, no_args, more_args, TRight, right_value, right_sense, right_call, TKind, let_to, let_array, assign, assign_index, assign_deref, if_else, for_in, while_do, call_only, sense_only, emit, fresh, consistent, return, TElse, no_else, else_do, stmt, TBlock, block, TStmts, no_stmts, more, TFunction, TProgram}
+use Rattle.oc_tree.specs.Tree.{TExpr, number, truth, variable, index, deref, unary, binary, sensed, called, TArg, value, shared, mutable, TCall, call, TArgs, no_args, more_args}
+use Rattle.oc_tree.specs.Tree.{TRight, right_value, right_sense, right_call, TKind, let_to, let_array, assign, assign_index, assign_deref, if_else, for_in, while_do, call_only}
+use Rattle.oc_tree.specs.Tree.{sense_only, emit, fresh, consistent, return, TElse, no_else, else_do, stmt, TBlock, block, TStmts, no_stmts, more, TFunction, TProgram}
 use Rattle.oc_tree.specs.declared.said.Said.TheVariants.{Showed, Entered, Committed, Ended}
 use Rattle.oc_tree.specs.declared.said.Shown.TheVariants.{Emitted}
 use Rattle.oc_tree.specs.declared.said.Ending.TheVariants.{Halted}
@@ -11,7 +13,9 @@ use Rattle.oc_meaning.specs.Store.{Value, Held, Place, Local, Global, Turn, Nowh
 use Rattle.oc_meaning.specs.Eval.{Got, Val, Traps, is_zero, element_of, read_element, unary_value, combined, and_got, value_of}
 use Rattle.oc_meaning.specs.Uses.{is_fresh, is_use, samples_of_fresh, use_samples, begins_use, ends_use}
 use Rattle.oc_tree.specs.Marked.{TRegion}
-use Rattle.oc_meaning.specs.Exec.{begun_by, ended_by, Trap, Short, Outcome, Went, Returned, Stopped, Passed, Passing, Passes, Breaks, number_in, with_value, then_do, with_result, dropped, leave, told_if, opened, closed, used, done, finished, sense, passed_on, value_first, arg_first, args_of, with_args, element_written, for_turns, while_turns, count_of, in_turn, grown, entered, tagged, call_run, right_run, kind_run, else_run, block_run, stmts_run}
+use Rattle.oc_meaning.specs.Exec.{begun_by, ended_by, Trap, Short, Outcome, Went, Returned, Stopped, Passed, Passing, Passes, Breaks, number_in, with_value, then_do, with_result}
+use Rattle.oc_meaning.specs.Exec.{dropped, leave, told_if, opened, closed, used, done, finished, sense, passed_on, value_first, arg_first, args_of, with_args, element_written}
+use Rattle.oc_meaning.specs.Exec.{for_turns, while_turns, count_of, in_turn, grown, entered, tagged, call_run, right_run, kind_run, else_run, block_run, stmts_run}
 use Rattle.oc_meaning.specs.Run.{AtEnd, AtTrap, AtShort, in_order, words_of, trace_of, with_params, function_named, nv_env, function_run, call_to, main_run, first_store}
 use Rattle.oc_meaning.specs.Blocks.{set_home}
 use Rattle.oc_meaning.specs.Unmarked.{is_mark, unmarked, without_marks, MarksOnlyTell}
@@ -134,7 +138,8 @@ for_bare zero i f f' σ h = refl
 for_bare (suc t) i f f' σ h =
     ap (λ o. then_do o (for_turns t (i +ℤ pos 1) f')) (h i σ) ∙ then_bare (f i σ) (for_turns t (i +ℤ pos 1) f) (for_turns t (i +ℤ pos 1) f') (λ τ. for_bare t (i +ℤ pos 1) f f' τ h)
 
-while_bare : (t n : ℕ) (is : Bool) (taken : Store → List ℕ) (test : Store → Got) (f f' : Store → Outcome) (before : List ℕ) (σ : Store) → ((σ : Store) → taken (bare σ) ≡ taken σ) → ((σ : Store) → test (bare σ) ≡ test σ) → ((σ : Store) → f' (bare σ) ≡ bare_out (f σ)) → while_turns t n is taken test f' before (bare σ) ≡ bare_out (while_turns t n is taken test f before σ)
+while_bare : (t n : ℕ) (is : Bool) (taken : Store → List ℕ) (test : Store → Got) (f f' : Store → Outcome) (before : List ℕ) (σ : Store) → ((σ : Store) → taken (bare σ) ≡ taken σ)
+    → ((σ : Store) → test (bare σ) ≡ test σ) → ((σ : Store) → f' (bare σ) ≡ bare_out (f σ)) → while_turns t n is taken test f' before (bare σ) ≡ bare_out (while_turns t n is taken test f before σ)
 while_bare zero n is taken test f f' before σ ht hc hf = ap Went (done_bare is n before σ)
 while_bare (suc t) n is taken test f f' before σ ht hc hf =
     ap (λ s. turn (used is n s (bare σ)) s) (ht σ)
@@ -154,7 +159,9 @@ while_bare (suc t) n is taken test f f' before σ ht hc hf =
     go' : Store → Value → Outcome
     go' υ v = if is_zero v.num then Went (done is n (union before (taken σ)) υ) else then_do (f' υ) (while_turns t n is taken test f' (union before (taken σ)))
 
-    tested : ((υ : Store) → while_turns t n is taken test f' (union before (taken σ)) (bare υ) ≡ bare_out (while_turns t n is taken test f (union before (taken σ)) υ)) → (b : Bool) → (if b then Went (done is n (union before (taken σ)) (bare τ)) else then_do (f' (bare τ)) (while_turns t n is taken test f' (union before (taken σ)))) ≡ bare_out (if b then Went (done is n (union before (taken σ)) τ) else then_do (f τ) (while_turns t n is taken test f (union before (taken σ))))
+    tested : ((υ : Store) → while_turns t n is taken test f' (union before (taken σ)) (bare υ) ≡ bare_out (while_turns t n is taken test f (union before (taken σ)) υ)) → (b : Bool)
+        → (if b then Went (done is n (union before (taken σ)) (bare τ)) else then_do (f' (bare τ)) (while_turns t n is taken test f' (union before (taken σ))))
+        ≡ bare_out (if b then Went (done is n (union before (taken σ)) τ) else then_do (f τ) (while_turns t n is taken test f (union before (taken σ))))
     tested rest true = ap Went (done_bare is n (union before (taken σ)) τ)
     tested rest false =
         ap (λ o. then_do o (while_turns t n is taken test f' (union before (taken σ)))) (hf τ)
@@ -169,7 +176,8 @@ grown_bare (let_to m x t r) rest env σ = refl
 grown_bare (let_array m x t z c) rest env σ = refl
 grown_bare k rest env σ = refl
 
-module _ (names : NameLists) (regions : List TRegion) (call_of call' : Text → List Passed → Store → Outcome) (home : ℤ → ℕ) (calls : (f : Text) (ps : List Passed) (σ : Store) → call' f ps (bare σ) ≡ bare_out (call_of f ps σ)) where
+module _ (names : NameLists) (regions : List TRegion) (call_of call' : Text → List Passed → Store → Outcome) (home : ℤ → ℕ)
+    (calls : (f : Text) (ps : List Passed) (σ : Store) → call' f ps (bare σ) ≡ bare_out (call_of f ps σ)) where
   call_bare : (env : List Binding) (n : ℕ) (σ : Store) (c : TCall) → call_run names [] call' home env n (bare σ) c ≡ bare_out (call_run names regions call_of home env n σ c)
   call_bare env n σ (call f gs) =
       ap (λ ps. with_args ps n (bare σ) (λ ps. call' f ps (bare σ))) (args_bare env σ gs)
@@ -184,7 +192,9 @@ module _ (names : NameLists) (regions : List TRegion) (call_of call' : Text → 
   taken_bare : (env : List Binding) (k : TKind) (σ : Store) → use_samples env k (bare σ) ≡ use_samples env k σ
   taken_bare env k σ = fresh_bare env σ _
 
-  assign_bare : (env : List Binding) (n : ℕ) (x : Text) (r : TRight) (σ : Store) → with_result (right_run names [] call' home env n (bare σ) r) (λ v τ. Went (put τ (place_of env x) (replaced (held_at τ (place_of env x)) v))) ≡ bare_out (with_result (right_run names regions call_of home env n σ r) (λ v τ. Went (put τ (place_of env x) (replaced (held_at τ (place_of env x)) v))))
+  assign_bare : (env : List Binding) (n : ℕ) (x : Text) (r : TRight) (σ : Store)
+      → with_result (right_run names [] call' home env n (bare σ) r) (λ v τ. Went (put τ (place_of env x) (replaced (held_at τ (place_of env x)) v)))
+      ≡ bare_out (with_result (right_run names regions call_of home env n σ r) (λ v τ. Went (put τ (place_of env x) (replaced (held_at τ (place_of env x)) v))))
   assign_bare env n x r σ =
       let p = place_of env x in
       let f : Value → Store → Outcome = λ v τ. Went (put τ p (replaced (held_at τ p) v)) in
@@ -192,13 +202,20 @@ module _ (names : NameLists) (regions : List TRegion) (call_of call' : Text → 
       ∙ result_bare (right_run names regions call_of home env n σ r) f f
       (λ v τ. ap (λ h. Went (put (bare τ) p (replaced h v))) (held_bare τ p) ∙ ap Went (put_bare τ p (replaced (held_at τ p) v)))
 
-  stmt_bare : (env : List Binding) (n line : ℕ) (k : TKind) (rest : TStmts) (σ : Store) → ((τ : Store) → kind_run names [] call' home env n k (bare τ) ≡ bare_out (kind_run names regions call_of home env n k τ)) → ((env' : List Binding) (τ : Store) → stmts_run names [] call' home env' rest (bare τ) ≡ bare_out (stmts_run names regions call_of home env' rest τ)) → stmts_run names [] call' home env (more (stmt n line k) rest) (bare σ) ≡ bare_out (stmts_run names regions call_of home env (more (stmt n line k) rest) σ)
+  stmt_bare : (env : List Binding) (n line : ℕ) (k : TKind) (rest : TStmts) (σ : Store)
+      → ((τ : Store) → kind_run names [] call' home env n k (bare τ) ≡ bare_out (kind_run names regions call_of home env n k τ))
+      → ((env' : List Binding) (τ : Store) → stmts_run names [] call' home env' rest (bare τ) ≡ bare_out (stmts_run names regions call_of home env' rest τ))
+      → stmts_run names [] call' home env (more (stmt n line k) rest) (bare σ) ≡ bare_out (stmts_run names regions call_of home env (more (stmt n line k) rest) σ)
   stmt_bare env n line k rest σ kr sr =
-      ap (λ s. then_do (finished (λ τ. done (ends_use (is_fresh env) k) n s τ) (kind_run names [] call' home env n k (used (begins_use (is_fresh env) k) n s (bare σ)))) (stmts_run names [] call' home (grown k rest env (bare σ)) rest)) (taken_bare env k σ)
+      ap (λ s. then_do (finished (λ τ. done (ends_use (is_fresh env) k) n s τ) (kind_run names [] call' home env n k (used (begins_use (is_fresh env) k) n s (bare σ))))
+      (stmts_run names [] call' home (grown k rest env (bare σ)) rest)) (taken_bare env k σ)
       ∙ ap (λ τ. then_do (finished (λ τ. done d n set τ) (kind_run names [] call' home env n k τ)) after') (ap (used u n set) (sym (opened_bare b σ)) ∙ used_bare u n set (opened b σ))
       ∙ ap (λ o. then_do (finished (λ τ. done d n set τ) o) after') (kr (used u n set (opened b σ)))
-      ∙ ap (λ o. then_do o after') (finished_bare (kind_run names regions call_of home env n k (used u n set (opened b σ))) (λ τ. closed e (done d n set τ)) (λ τ. done d n set τ) (λ τ. done_bare d n set τ ∙ sym (closed_bare e (done d n set τ))))
-      ∙ then_bare (finished (λ τ. closed e (done d n set τ)) (kind_run names regions call_of home env n k (used u n set (opened b σ)))) (stmts_run names regions call_of home (grown k rest env σ) rest) after' (λ τ. ap (λ env'. stmts_run names [] call' home env' rest (bare τ)) (grown_bare k rest env σ) ∙ sr (grown k rest env σ) τ)
+      ∙ ap (λ o. then_do o after') (finished_bare (kind_run names regions call_of home env n k (used u n set (opened b σ))) (λ τ. closed e (done d n set τ)) (λ τ. done d n set τ)
+      (λ τ. done_bare d n set τ ∙ sym (closed_bare e (done d n set τ))))
+      ∙ then_bare (finished (λ τ. closed e (done d n set τ)) (kind_run names regions call_of home env n k (used u n set (opened b σ))))
+      (stmts_run names regions call_of home (grown k rest env σ) rest) after' (λ τ. ap (λ env'. stmts_run names [] call' home env' rest (bare τ)) (grown_bare k rest env σ)
+      ∙ sr (grown k rest env σ) τ)
     where
       b : Option ℕ
       b = begun_by regions n
@@ -231,17 +248,21 @@ module _ (names : NameLists) (regions : List TRegion) (call_of call' : Text → 
         ap (λ o. with_result o f) (right_bare env n σ r)
         ∙ result_bare (right_run names regions call_of home env n σ r) f f
         (λ v τ. ap (λ g. with_value g n (bare τ) (λ i. element_written p (element_of (length (held_at (bare τ) p).words) i.num) i v n (bare τ))) (value_bare env τ e)
-        ∙ with_value_bare (value_of env τ e) n τ (λ i. element_written p (element_of (length (held_at τ p).words) i.num) i v n τ) (λ i. element_written p (element_of (length (held_at (bare τ) p).words) i.num) i v n (bare τ))
+        ∙ with_value_bare (value_of env τ e) n τ (λ i. element_written p (element_of (length (held_at τ p).words) i.num) i v n τ)
+        (λ i. element_written p (element_of (length (held_at (bare τ) p).words) i.num) i v n (bare τ))
         (λ i. ap (λ h. element_written p (element_of (length h.words) i.num) i v n (bare τ)) (held_bare τ p) ∙ element_bare p (element_of (length (held_at τ p).words) i.num) i v n τ))
     kind_bare env n (assign_deref x r) σ = assign_bare env n x r σ
     kind_bare env n (if_else c a b) σ =
         ap (λ g. with_value g n (bare σ) (λ v. if is_zero v.num then else_run names [] call' home env b (bare σ) else block_run names [] call' home env a (bare σ))) (value_bare env σ c)
-        ∙ with_value_bare (value_of env σ c) n σ (λ v. if is_zero v.num then else_run names regions call_of home env b σ else block_run names regions call_of home env a σ) (λ v. if is_zero v.num then else_run names [] call' home env b (bare σ) else block_run names [] call' home env a (bare σ))
+        ∙ with_value_bare (value_of env σ c) n σ (λ v. if is_zero v.num then else_run names regions call_of home env b σ else block_run names regions call_of home env a σ)
+        (λ v. if is_zero v.num then else_run names [] call' home env b (bare σ) else block_run names [] call' home env a (bare σ))
         (λ v. either (is_zero v.num) _ _ _ _ (else_bare env b σ) (block_bare env a σ))
     kind_bare env n (for_in x c d b) σ =
-        for_bare (count_of (d -ℤ c)) c (λ i. block_run names regions call_of home (in_turn x i ∷ env) b) (λ i. block_run names [] call' home (in_turn x i ∷ env) b) σ (λ i τ. block_bare (in_turn x i ∷ env) b τ)
+        for_bare (count_of (d -ℤ c)) c (λ i. block_run names regions call_of home (in_turn x i ∷ env) b) (λ i. block_run names [] call' home (in_turn x i ∷ env) b) σ
+        (λ i τ. block_bare (in_turn x i ∷ env) b τ)
     kind_bare env n (while_do c t b) σ =
-        while_bare t n (is_use (is_fresh env) (while_do c t b)) (use_samples env (while_do c t b)) (λ τ. value_of env τ c) (block_run names regions call_of home env b) (block_run names [] call' home env b) [] σ
+        while_bare t n (is_use (is_fresh env) (while_do c t b)) (use_samples env (while_do c t b)) (λ τ. value_of env τ c) (block_run names regions call_of home env b)
+        (block_run names [] call' home env b) [] σ
         (λ τ. taken_bare env (while_do c t b) τ) (λ τ. value_bare env τ c) (λ τ. block_bare env b τ)
     kind_bare env n (call_only c) σ = ap dropped (call_bare env n σ c) ∙ dropped_bare (call_run names regions call_of home env n σ c)
     kind_bare env n (sense_only s) σ = ap dropped (sense_bare (number_in names.sensors s) σ.left σ) ∙ dropped_bare (sense (number_in names.sensors s) σ.left σ)
@@ -274,7 +295,8 @@ calls_bare : (p : TProgram) (regions : List TRegion) (d : ℕ) (f : Text) (ps : 
 calls_bare p regions zero f ps σ = refl
 calls_bare p regions (suc d) f ps σ = go (function_named p.functions f) (λ f' ps' σ'. calls_bare p regions d f' ps' σ')
   where
-    go : (o : Option TFunction) → ((f : Text) (ps : List Passed) (σ : Store) → call_to p [] d f ps (bare σ) ≡ bare_out (call_to p regions d f ps σ)) → function_run p [] (call_to p [] d) o ps (bare σ) ≡ bare_out (function_run p regions (call_to p regions d) o ps σ)
+    go : (o : Option TFunction) → ((f : Text) (ps : List Passed) (σ : Store) → call_to p [] d f ps (bare σ) ≡ bare_out (call_to p regions d f ps σ))
+        → function_run p [] (call_to p [] d) o ps (bare σ) ≡ bare_out (function_run p regions (call_to p regions d) o ps σ)
     go None calls = refl
     go (Some g) calls =
         let fr = with_params g.params ps (record { env = nv_env 0 p.names.nvs; locals = σ.locals }) in
@@ -293,7 +315,8 @@ in_order_bare : (es : List Event) → in_order (unmarked es) ≡ unmarked (in_or
 in_order_bare [] = refl
 in_order_bare (e ∷ es) = go (is_mark e.said) refl (in_order_bare es) ∙ sym (unmarked-append (in_order es) (e ∷ []))
   where
-    go : (m : Bool) → is_mark e.said ≡ m → in_order (unmarked es) ≡ unmarked (in_order es) → in_order (if m then unmarked es else e ∷ unmarked es) ≡ unmarked (in_order es) ++ (if m then [] else e ∷ [])
+    go : (m : Bool) → is_mark e.said ≡ m → in_order (unmarked es) ≡ unmarked (in_order es) → in_order (if m then unmarked es else e ∷ unmarked es)
+        ≡ unmarked (in_order es) ++ (if m then [] else e ∷ [])
     go true p h = h ∙ sym (append-nil (unmarked (in_order es)))
     go false p h = ap (λ l. l ++ e ∷ []) h
 

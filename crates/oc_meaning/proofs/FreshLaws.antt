@@ -15,7 +15,8 @@ with_names_is env σ [] = refl
 with_names_is env σ (x ∷ xs) = ap (with_name env σ x) (with_names_is env σ xs)
 
 -- one name taken from the end
-pub with_names_taken : (env : List Binding) (σ : Store) (old new : List (Bor Text)) (n : Bor Text) (samples : List ℕ) → old ≡ new ++ n ∷ [] → with_names env σ (names_seen old) samples ≡ with_names env σ (names_seen new) (with_name env σ n.now samples)
+pub with_names_taken : (env : List Binding) (σ : Store) (old new : List (Bor Text)) (n : Bor Text) (samples : List ℕ) → old ≡ new ++ n ∷ []
+    → with_names env σ (names_seen old) samples ≡ with_names env σ (names_seen new) (with_name env σ n.now samples)
 with_names_taken env σ old new n samples e =
     ap (λ ns. with_names env σ (names_seen ns) samples) e ∙ ap (λ xs. with_names env σ xs samples) (map-append (λ m. m.now) new (n ∷ [])) ∙ with_names_last env σ (names_seen new) n.now samples
 

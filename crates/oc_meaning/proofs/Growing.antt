@@ -2,14 +2,17 @@
 use Rattle.std.proofs.Common.{ℕ, zero, suc, Bool, true, false, List, [], ◌∷◌, length, Option, Some, None, refl}
 use Rattle.std.specs.Prelude.{ℤ, pos, ◌+ℤ◌, ◌-ℤ◌, ◌==◌, if◌then◌else◌, codes}
 use Rattle.oc_tree.specs.Names.{Text, NameLists}
-use Rattle.oc_tree.specs.Tree.{TCall, call, TRight, right_value, right_sense, right_call, TKind, let_to, let_array, assign, assign_index, assign_deref, if_else, for_in, while_do, call_only, sense_only, emit, fresh, consistent, return, TElse, no_else, else_do, stmt, TBlock, block, TStmts, no_stmts, more, TFunction, TProgram}
+use Rattle.oc_tree.specs.Tree.{TCall, call, TRight, right_value, right_sense, right_call, TKind, let_to, let_array, assign, assign_index, assign_deref, if_else, for_in, while_do}
+use Rattle.oc_tree.specs.Tree.{call_only, sense_only, emit, fresh, consistent, return, TElse, no_else, else_do, stmt, TBlock, block, TStmts, no_stmts, more, TFunction, TProgram}
 use Rattle.oc_tree.specs.Marked.{TRegion}
 use Rattle.oc_tree.specs.declared.said.Said.TheVariants.{Entered, Committed}
 use Rattle.oc_meaning.specs.Samples.{union}
 use Rattle.oc_meaning.specs.Store.{Value, Held, Place, Local, Global, Turn, Nowhere, Event, Store, Binding, held_at, put, replaced, place_of}
 use Rattle.oc_meaning.specs.Eval.{Got, Val, Traps, is_zero, element_of, value_of}
 use Rattle.oc_meaning.specs.Uses.{is_fresh, is_use, use_samples, begins_use, ends_use}
-use Rattle.oc_meaning.specs.Exec.{begun_by, ended_by, Outcome, Went, Returned, Stopped, Passed, Passing, Passes, Breaks, number_in, with_value, then_do, with_result, dropped, leave, told_if, opened, closed, used, done, finished, sense, args_of, with_args, element_written, for_turns, while_turns, count_of, in_turn, grown, entered, call_run, right_run, kind_run, else_run, block_run, stmts_run}
+use Rattle.oc_meaning.specs.Exec.{begun_by, ended_by, Outcome, Went, Returned, Stopped, Passed, Passing, Passes, Breaks, number_in, with_value, then_do, with_result, dropped}
+use Rattle.oc_meaning.specs.Exec.{leave, told_if, opened, closed, used, done, finished, sense, args_of, with_args, element_written, for_turns, while_turns, count_of, in_turn}
+use Rattle.oc_meaning.specs.Exec.{grown, entered, call_run, right_run, kind_run, else_run, block_run, stmts_run}
 use Rattle.oc_meaning.specs.Run.{with_params, function_named, nv_env, function_run, call_to, main_run, first_store}
 use Rattle.oc_meaning.specs.Blocks.{set_home}
 use Rattle.oc_meaning.specs.Traces.{MayBe}
@@ -90,7 +93,8 @@ module _ (P : List Event → Type 0) (grows : (e : Event) (es : List Event) → 
   either_keeps true x y h k = h
   either_keeps false x y h k = k
 
-  pub while_keeps : (t n : ℕ) (is : Bool) (taken : Store → List ℕ) (test : Store → Got) (f : Store → Outcome) (before : List ℕ) (σ : Store) → P σ.events → ((σ : Store) → P σ.events → P (events_in (f σ))) → P (events_in (while_turns t n is taken test f before σ))
+  pub while_keeps : (t n : ℕ) (is : Bool) (taken : Store → List ℕ) (test : Store → Got) (f : Store → Outcome) (before : List ℕ) (σ : Store) → P σ.events
+      → ((σ : Store) → P σ.events → P (events_in (f σ))) → P (events_in (while_turns t n is taken test f before σ))
   while_keeps zero n is taken test f before σ h go = done_keeps is n before σ h
   while_keeps (suc t) n is taken test f before σ h go =
       let τ : Store = used is n (taken σ) σ in
@@ -100,7 +104,8 @@ module _ (P : List Event → Type 0) (grows : (e : Event) (es : List Event) → 
       (λ v. either_keeps (is_zero v.num) (Went (done is n set τ)) (then_do (f τ) (while_turns t n is taken test f set)) (done_keeps is n set τ k)
       (then_keeps (f τ) (while_turns t n is taken test f set) (go τ k) (λ υ l. while_keeps t n is taken test f set υ l go)))
 
-  module _ (names : NameLists) (regions : List TRegion) (call_of : Text → List Passed → Store → Outcome) (home : ℤ → ℕ) (calls : (f : Text) (ps : List Passed) (σ : Store) → P σ.events → P (events_in (call_of f ps σ))) where
+  module _ (names : NameLists) (regions : List TRegion) (call_of : Text → List Passed → Store → Outcome) (home : ℤ → ℕ)
+      (calls : (f : Text) (ps : List Passed) (σ : Store) → P σ.events → P (events_in (call_of f ps σ))) where
     pub call_keeps : (env : List Binding) (n : ℕ) (σ : Store) (c : TCall) → P σ.events → P (events_in (call_run names regions call_of home env n σ c))
     call_keeps env n σ (call f gs) h = args_keeps (args_of env σ gs) n σ (λ ps. call_of f ps σ) h (λ ps. calls f ps σ h)
 
@@ -109,12 +114,16 @@ module _ (P : List Event → Type 0) (grows : (e : Event) (es : List Event) → 
     right_keeps env n σ (right_sense s) h = sense_keeps (number_in names.sensors s) σ.left σ h
     right_keeps env n σ (right_call c) h = call_keeps env n σ c h
 
-    assign_keeps : (env : List Binding) (n : ℕ) (x : Text) (r : TRight) (σ : Store) → P σ.events → P (events_in (with_result (right_run names regions call_of home env n σ r) (λ v τ. Went (put τ (place_of env x) (replaced (held_at τ (place_of env x)) v)))))
+    assign_keeps : (env : List Binding) (n : ℕ) (x : Text) (r : TRight) (σ : Store) → P σ.events
+        → P (events_in (with_result (right_run names regions call_of home env n σ r) (λ v τ. Went (put τ (place_of env x) (replaced (held_at τ (place_of env x)) v)))))
     assign_keeps env n x r σ h =
         result_keeps (right_run names regions call_of home env n σ r) (λ v τ. Went (put τ (place_of env x) (replaced (held_at τ (place_of env x)) v))) (right_keeps env n σ r h)
         (λ v τ k. put_keeps τ (place_of env x) _ k)
 
-    stmt_keeps : (env : List Binding) (n line : ℕ) (k : TKind) (rest : TStmts) (σ : Store) → P σ.events → ((τ : Store) → P τ.events → P (events_in (kind_run names regions call_of home env n k τ))) → ((env' : List Binding) (τ : Store) → P τ.events → P (events_in (stmts_run names regions call_of home env' rest τ))) → P (events_in (stmts_run names regions call_of home env (more (stmt n line k) rest) σ))
+    stmt_keeps : (env : List Binding) (n line : ℕ) (k : TKind) (rest : TStmts) (σ : Store) → P σ.events
+        → ((τ : Store) → P τ.events → P (events_in (kind_run names regions call_of home env n k τ)))
+        → ((env' : List Binding) (τ : Store) → P τ.events → P (events_in (stmts_run names regions call_of home env' rest τ)))
+        → P (events_in (stmts_run names regions call_of home env (more (stmt n line k) rest) σ))
     stmt_keeps env n line k rest σ h kind after =
         let before : Store = used (begins_use (is_fresh env) k) n (use_samples env k σ) (opened (begun_by regions n) σ) in
         let ends : Store → Store = λ τ. closed (ended_by regions n) (done (ends_use (is_fresh env) k) n (use_samples env k σ) τ) in
@@ -134,10 +143,12 @@ module _ (P : List Event → Type 0) (grows : (e : Event) (es : List Event) → 
           (λ v τ k. value_keeps (value_of env τ e) n τ _ k (λ i. element_keeps (place_of env x) (element_of (length (held_at τ (place_of env x)).words) i.num) i v n τ k))
       kind_keeps env n (assign_deref x r) σ h = assign_keeps env n x r σ h
       kind_keeps env n (if_else c a b) σ h =
-          value_keeps (value_of env σ c) n σ _ h (λ v. either_keeps (is_zero v.num) (else_run names regions call_of home env b σ) (block_run names regions call_of home env a σ) (else_keeps env b σ h) (block_keeps env a σ h))
+          value_keeps (value_of env σ c) n σ _ h (λ v. either_keeps (is_zero v.num) (else_run names regions call_of home env b σ) (block_run names regions call_of home env a σ)
+          (else_keeps env b σ h) (block_keeps env a σ h))
       kind_keeps env n (for_in x c d b) σ h = for_keeps (count_of (d -ℤ c)) c _ σ h (λ i τ k. block_keeps (in_turn x i ∷ env) b τ k)
       kind_keeps env n (while_do c t b) σ h =
-          while_keeps t n (is_use (is_fresh env) (while_do c t b)) (use_samples env (while_do c t b)) (λ τ. value_of env τ c) (block_run names regions call_of home env b) [] σ h (λ τ k. block_keeps env b τ k)
+          while_keeps t n (is_use (is_fresh env) (while_do c t b)) (use_samples env (while_do c t b)) (λ τ. value_of env τ c) (block_run names regions call_of home env b) [] σ h
+          (λ τ k. block_keeps env b τ k)
       kind_keeps env n (call_only c) σ h = dropped_keeps (call_run names regions call_of home env n σ c) (call_keeps env n σ c h)
       kind_keeps env n (sense_only s) σ h = dropped_keeps (sense (number_in names.sensors s) σ.left σ) (sense_keeps (number_in names.sensors s) σ.left σ h)
       kind_keeps env n (emit p e) σ h = value_keeps (value_of env σ e) n σ _ h (λ v. grows _ σ.events tt h)
@@ -145,7 +156,8 @@ module _ (P : List Event → Type 0) (grows : (e : Event) (es : List Event) → 
       kind_keeps env n (consistent x k) σ h = grows _ σ.events tt h
       kind_keeps env n (return e) σ h =
           value_keeps (value_of env σ e) n σ _ h
-          (λ v. closed_keeps (ended_by regions n) (done (is_use (is_fresh env) (return e)) n (use_samples env (return e) σ) σ) (done_keeps (is_use (is_fresh env) (return e)) n (use_samples env (return e) σ) σ h))
+          (λ v. closed_keeps (ended_by regions n) (done (is_use (is_fresh env) (return e)) n (use_samples env (return e) σ) σ)
+          (done_keeps (is_use (is_fresh env) (return e)) n (use_samples env (return e) σ) σ h))
 
       else_keeps : (env : List Binding) (b : TElse) (σ : Store) → P σ.events → P (events_in (else_run names regions call_of home env b σ))
       else_keeps env no_else σ h = h
@@ -159,7 +171,8 @@ module _ (P : List Event → Type 0) (grows : (e : Event) (es : List Event) → 
       stmts_keeps env (more (stmt n line k) rest) σ h = stmt_keeps env n line k rest σ h (λ τ l. kind_keeps env n k τ l) (λ env' τ l. stmts_keeps env' rest τ l)
 
   module _ (p : TProgram) (regions : List TRegion) where
-    function_keeps : (d : ℕ) → ((f : Text) (ps : List Passed) (σ : Store) → P σ.events → P (events_in (call_to p regions d f ps σ))) → (o : Option TFunction) (ps : List Passed) (σ : Store) → P σ.events → P (events_in (function_run p regions (call_to p regions d) o ps σ))
+    function_keeps : (d : ℕ) → ((f : Text) (ps : List Passed) (σ : Store) → P σ.events → P (events_in (call_to p regions d f ps σ)))
+        → (o : Option TFunction) (ps : List Passed) (σ : Store) → P σ.events → P (events_in (function_run p regions (call_to p regions d) o ps σ))
     function_keeps d calls None ps σ h = h
     function_keeps d calls (Some g) ps σ h =
         let fr = with_params g.params ps (record { env = nv_env 0 p.names.nvs; locals = σ.locals }) in

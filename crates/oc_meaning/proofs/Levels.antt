@@ -51,7 +51,8 @@ held-local xs n found is = ap (held_or (meant.Local n)) is ∙ by_case (slice_ge
     by_case (Some h) = refl
 
 -- a local variable is written
-pub put-local : (f : Held → Held) (xs new : List Held) (n : ℕ) (σ : Store) → σ.locals ≡ reverse xs → new ≡ slice_set xs n (f (slice_index_or xs n nothing)) → record σ { locals = reverse new } ≡ put σ (meant.Local n) (f (held_at σ (meant.Local n)))
+pub put-local : (f : Held → Held) (xs new : List Held) (n : ℕ) (σ : Store) → σ.locals ≡ reverse xs → new ≡ slice_set xs n (f (slice_index_or xs n nothing))
+    → record σ { locals = reverse new } ≡ put σ (meant.Local n) (f (held_at σ (meant.Local n)))
 put-local f xs new n σ old is =
     let before : slice_index_or xs n nothing ≡ held_at σ (meant.Local n) =
     sym (ap (λ l. unwrap_or (at l n) nothing) old ∙ ap (λ o. unwrap_or o nothing) (at-reverse xs n) ∙ get_or_nothing xs n) in

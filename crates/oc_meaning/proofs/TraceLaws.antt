@@ -1,5 +1,6 @@
 -- Events and marks added at the end of a trace.
-use Rattle.std.proofs.Common.{◌≡◌, ℕ, suc, ◌+◌, ◌<◌, ◌≤◌, Bool, true, false, ◌==◌, List, [], ◌∷◌, ◌++◌, length, map, reverse, refl, sym, ap, subst, ◌∙◌, arith, rules, tests, append_assoc, append-nil, length-append}
+use Rattle.std.proofs.Common.{◌≡◌, ℕ, suc, ◌+◌, ◌<◌, ◌≤◌, Bool, true, false, ◌==◌, List, [], ◌∷◌, ◌++◌, length, map, reverse, refl, sym, ap, subst, ◌∙◌, arith, rules, tests}
+use Rattle.std.proofs.Common.{append_assoc, append-nil, length-append}
 use Rattle.std.proofs.lemmas.List.{length-map, reverse-reverse}
 use Rattle.std.proofs.lemmas.Grind.{reverse_onto}
 use Rattle.std.specs.Prelude.{if◌then◌else◌}
@@ -30,7 +31,8 @@ marks_at-append : (n : ℕ) (ms qs : List Mark) → marks_at n (ms ++ qs) ≡ ma
 marks_at-append n [] qs = refl
 marks_at-append n (m ∷ ms) qs = go (m.before == n) (marks_at-append n ms qs)
   where
-    go : (b : Bool) → marks_at n (ms ++ qs) ≡ marks_at n ms ++ marks_at n qs → (if b then mark_view m ∷ marks_at n (ms ++ qs) else marks_at n (ms ++ qs)) ≡ (if b then mark_view m ∷ marks_at n ms else marks_at n ms) ++ marks_at n qs
+    go : (b : Bool) → marks_at n (ms ++ qs) ≡ marks_at n ms ++ marks_at n qs → (if b then mark_view m ∷ marks_at n (ms ++ qs) else marks_at n (ms ++ qs))
+        ≡ (if b then mark_view m ∷ marks_at n ms else marks_at n ms) ++ marks_at n qs
     go true h = ap (λ l. mark_view m ∷ l) h
     go false h = h
 
@@ -90,7 +92,8 @@ unmarked-append (e ∷ a) b = go (is_mark e.said) (unmarked-append a b)
 pub tells_none : Tells [] [] []
 tells_none = record { source = refl; parts = refl; rises = omega arith }
 
-pub tells_event : (es : List SourceEvent) (ms : List Mark) (ps : List Event) (e : SourceEvent) (x : Event) → Tells es ms ps → event_view e ≡ x → is_mark x.said ≡ false → Tells (es ++ e ∷ []) ms (ps ++ x ∷ [])
+pub tells_event : (es : List SourceEvent) (ms : List Mark) (ps : List Event) (e : SourceEvent) (x : Event) → Tells es ms ps → event_view e ≡ x → is_mark x.said ≡ false
+    → Tells (es ++ e ∷ []) ms (ps ++ x ∷ [])
 tells_event es ms ps e x h same no_mark =
     let views : map event_view (es ++ e ∷ []) ≡ map event_view es ++ x ∷ [] = map-append event_view es (e ∷ []) ∙ ap (λ y. map event_view es ++ y ∷ []) same in
     let many : length (map event_view es) ≡ length es = length-map es event_view in
@@ -102,7 +105,8 @@ tells_event es ms ps e x h same no_mark =
       rises = Rises-more 0 ms (length es) (length (es ++ e ∷ [])) h.rises (omega (arith, more));
     }
 
-pub tells_mark : (es : List SourceEvent) (ms : List Mark) (ps : List Event) (m : Mark) (x : Event) → Tells es ms ps → m.before ≡ length es → is_mark x.said ≡ true → mark_view m ≡ x → Tells es (ms ++ m ∷ []) (ps ++ x ∷ [])
+pub tells_mark : (es : List SourceEvent) (ms : List Mark) (ps : List Event) (m : Mark) (x : Event) → Tells es ms ps → m.before ≡ length es → is_mark x.said ≡ true → mark_view m ≡ x
+    → Tells es (ms ++ m ∷ []) (ps ++ x ∷ [])
 tells_mark es ms ps m x h before mark same =
     let many : length (map event_view es) ≡ length es = length-map es event_view in
     let there : m.before ≡ 0 + length (map event_view es) = omega (arith, before, many) in
@@ -124,15 +128,18 @@ in_order-reverse (e ∷ es) = ap (λ l. l ++ e ∷ []) (in_order-reverse es) ∙
 pub in_order-told : (es : List Noted) → in_order (told es) ≡ map noted_view es
 in_order-told es = in_order-reverse (told es) ∙ reverse-reverse (map noted_view es)
 
-pub adds_event : (es : List SourceEvent) (ms : List Mark) (e : SourceEvent) (x : Event) (new : List SourceEvent) → new ≡ es ++ e ∷ [] → (event_view e ≡ x) × (is_mark x.said ≡ false) → Adds es ms x new ms
+pub adds_event : (es : List SourceEvent) (ms : List Mark) (e : SourceEvent) (x : Event) (new : List SourceEvent) → new ≡ es ++ e ∷ []
+    → (event_view e ≡ x) × (is_mark x.said ≡ false) → Adds es ms x new ms
 adds_event es ms e x new pushed is =
     record { adds = λ ps may told. subst (λ l. Tells l ms (ps ++ x ∷ [])) (sym pushed) (tells_event es ms ps e x told is.0 is.1) }
 
-pub adds_mark : (es : List SourceEvent) (ms : List Mark) (m : Mark) (x : Event) (new : List Mark) → new ≡ ms ++ m ∷ [] → m.before ≡ length es → is_mark x.said ≡ true → (MayBe x.said x.samples x.instance → mark_view m ≡ x) → Adds es ms x es new
+pub adds_mark : (es : List SourceEvent) (ms : List Mark) (m : Mark) (x : Event) (new : List Mark) → new ≡ ms ++ m ∷ [] → m.before ≡ length es → is_mark x.said ≡ true
+    → (MayBe x.said x.samples x.instance → mark_view m ≡ x) → Adds es ms x es new
 adds_mark es ms m x new pushed before mark same =
     record { adds = λ ps may told. subst (λ l. Tells es l (ps ++ x ∷ [])) (sym pushed) (tells_mark es ms ps m x told before mark (same may)) }
 
-pub tells_more : (ys : List Noted) (y : Noted) (es es' : List SourceEvent) (ms ms' : List Mark) → (AreParts (map noted_view ys) → Tells es ms (map noted_view ys)) → Adds es ms (noted_view y) es' ms' → AreParts (map noted_view (ys ++ y ∷ [])) → Tells es' ms' (map noted_view (ys ++ y ∷ []))
+pub tells_more : (ys : List Noted) (y : Noted) (es es' : List SourceEvent) (ms ms' : List Mark) → (AreParts (map noted_view ys) → Tells es ms (map noted_view ys))
+    → Adds es ms (noted_view y) es' ms' → AreParts (map noted_view (ys ++ y ∷ [])) → Tells es' ms' (map noted_view (ys ++ y ∷ []))
 tells_more ys y es es' ms ms' before step h =
     let l = parts_last ys y h in
     subst (Tells es' ms') (sym (map-append noted_view ys (y ∷ []))) (step.adds (map noted_view ys) l.1 (before l.0))

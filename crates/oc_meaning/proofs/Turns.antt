@@ -37,7 +37,8 @@ module _ (n : ℕ) (is : Bool) (taken : Store → List ℕ) (test : Store → Go
       then Went (done is n (union before (taken σ)) (used is n (taken σ) σ))
       else then_do (body (used is n (taken σ) σ)) (while_turns t n is taken test body (union before (taken σ)))
 
-  tested : (bound turn : ℕ) (before : List ℕ) (σ : Store) (v : Value) → turn < bound → test (used is n (taken σ) σ) ≡ Val v → while_turns (bound - turn) n is taken test body before σ ≡ go_on (bound - (turn + 1)) before σ v
+  tested : (bound turn : ℕ) (before : List ℕ) (σ : Store) (v : Value) → turn < bound → test (used is n (taken σ) σ) ≡ Val v
+      → while_turns (bound - turn) n is taken test body before σ ≡ go_on (bound - (turn + 1)) before σ v
   unfolding go_on
   tested bound turn before σ v h e =
       ap (λ t. while_turns t n is taken test body before σ) (one_left bound turn h)

@@ -18,7 +18,8 @@ found-first : (x : Text) (bs : List Binding) → found x (find (λ b. bytes_eq x
 found-first x [] = refl
 found-first x (b ∷ bs) = by_test (bytes_eq x b.name.now) (found-first x bs)
   where
-    by_test : (t : Bool) → found x (find (λ c. bytes_eq x c.name.now) bs) ≡ binding_of (map binding_view bs) x → found x (cond t (Some b) (find (λ c. bytes_eq x c.name.now) bs)) ≡ cond t (binding_view b) (binding_of (map binding_view bs) x)
+    by_test : (t : Bool) → found x (find (λ c. bytes_eq x c.name.now) bs) ≡ binding_of (map binding_view bs) x → found x (cond t (Some b) (find (λ c. bytes_eq x c.name.now) bs))
+        ≡ cond t (binding_view b) (binding_of (map binding_view bs) x)
     by_test true rest = refl
     by_test false rest = rest
 

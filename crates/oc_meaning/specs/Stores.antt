@@ -1,6 +1,6 @@
 -- What a store holds, in the meaning's terms.
 use Rattle.std.specs.Prelude.{List, map, reverse, drop, Option, Some, None}
-use Rattle.oc_meaning.specs.Store.{Place, Local, Global, Turn, Nowhere, Held, holding, nothing, plain}
+use Rattle.oc_meaning.specs.Store.{Place, Turn, Held, holding, nothing, plain}
 use Rattle.oc_meaning.specs.Store as meant
 use Rattle.oc_meaning.specs.declared.store.Event.{Event}
 use Rattle.oc_meaning.specs.declared.store.Store.TheInside.{Inside}

@@ -71,7 +71,8 @@ functions_numbers p [] = refl
 functions_numbers p (f ∷ fs) =
     map-append (λ a. a.stmt) (function_effects p f) (joined (map (function_effects p) fs))
     ∙ (ap (λ ns. ns ++ numbers (joined (map (function_effects p) fs))) (placed_numbers p (block_placed (at_start f) f.body))
-    ∙ (ap (λ ns. ids (block_placed (at_start f) f.body) ++ ns) (functions_numbers p fs) ∙ sym (map-append (λ a. a.id) (block_placed (at_start f) f.body) (flat_map (λ g. block_placed (at_start g) g.body) fs))))
+    ∙ (ap (λ ns. ids (block_placed (at_start f) f.body) ++ ns) (functions_numbers p fs)
+    ∙ sym (map-append (λ a. a.id) (block_placed (at_start f) f.body) (flat_map (λ g. block_placed (at_start g) g.body) fs))))
 
 pub all_apart : (p : TProgram) (groups : List Group) → IsChecked p groups → Apart (joined (effects p))
 all_apart p groups c = apart_numbers (joined (effects p)) 1 (length (program_statements p)) (functions_numbers p p.functions ∙ (program_ids p ∙ c.form.numbered.statements))
@@ -127,7 +128,8 @@ pub any_find : (Q : TEffect → Bool) (s : ℕ) (es : List TEffect) → Apart es
 any_find Q s [] h = refl
 any_find Q s (a ∷ es) h = by_test (nat_eq a.stmt s) refl (any_find Q s es h.1)
   where
-    by_test : (t : Bool) → nat_eq a.stmt s ≡ t → list_any (λ b. is_numbered s b && Q b) es ≡ found_is Q (find (is_numbered s) es) → (t && Q a) || list_any (λ b. is_numbered s b && Q b) es ≡ found_is Q (cond t (Some a) (find (is_numbered s) es))
+    by_test : (t : Bool) → nat_eq a.stmt s ≡ t → list_any (λ b. is_numbered s b && Q b) es ≡ found_is Q (find (is_numbered s) es)
+        → (t && Q a) || list_any (λ b. is_numbered s b && Q b) es ≡ found_is Q (cond t (Some a) (find (is_numbered s) es))
     by_test true e i = or_nothing (Q a) (list_any (λ b. is_numbered s b && Q b) es) (none_numbered Q s es (λ b o j. h.0 b o (eqb-true a.stmt s e ∙ j)))
     by_test false e i = i
 

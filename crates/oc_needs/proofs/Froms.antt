@@ -37,7 +37,8 @@ pub get_map_from : {A : Type 0} (f : ℕ → A) (count i : ℕ) (d : A) → i < 
 get_map_from f count i d h = let e : 0 + i ≡ i = omega arith in get_from f 0 count i d h ∙ ap f e
 
 -- the same where the code's list is seen through a view
-pub push_view_more : {A B : Type 0} (view : B → A) (f : ℕ → A) (n : ℕ) (old new : List B) (x : B) → map view old ≡ map f (from 0 n) → new ≡ old ++ x ∷ [] → view x ≡ f n → map view new ≡ map f (from 0 (n + 1))
+pub push_view_more : {A B : Type 0} (view : B → A) (f : ℕ → A) (n : ℕ) (old new : List B) (x : B) → map view old ≡ map f (from 0 n) → new ≡ old ++ x ∷ [] → view x ≡ f n
+    → map view new ≡ map f (from 0 (n + 1))
 push_view_more view f n old new x i j k =
     ap (map view) j ∙ (map-append view old (x ∷ []) ∙ (ap (λ xs. xs ++ view x ∷ []) i ∙ (ap (λ y. map f (from 0 n) ++ y ∷ []) k ∙ sym (map_from_more f n))))
 

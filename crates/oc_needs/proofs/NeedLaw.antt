@@ -59,16 +59,19 @@ module _ (p : TProgram) (q : Policy) (flow : (f : ℕ) (u v : VarId) → Decides
   unfolding needs_to
   sound zero g w h = absurd (true≢false (sym h))
   sound (suc depth) g w h =
-      or_case (needs_itself p q g w) (needs_by_call p (needs_to p q depth) g w) (and_right (is_given w) _ h) (own g w (and_left (is_given w) _ h)) (called (needs_to p q depth) (sound depth) g w (and_left (is_given w) _ h))
+      or_case (needs_itself p q g w) (needs_by_call p (needs_to p q depth) g w) (and_right (is_given w) _ h) (own g w (and_left (is_given w) _ h))
+      (called (needs_to p q depth) (sound depth) g w (and_left (is_given w) _ h))
     where
       own : (g : ℕ) (w : VarId) → is_given w ≡ true → needs_itself p q g w ≡ true → Need p q g w
       own g w i e =
           let here : q.function ≡ g = sym (eqb-true g q.function (and_left (nat_eq g q.function) _ e)) in
           let rest = and_right (nat_eq g q.function) _ e in
           let x = any_of (flows p g w) (annotated p q) (and_right (not (is_empty (held p q))) _ rest) in
-          subst (λ f. Need p q f w) here (by_annotation x.1 (not_empty (held p q) (and_left (not (is_empty (held p q))) _ rest)) i (subst (λ f. Flow p f w x.0) (sym here) (decided (flows p g w x.0) (Flow p g w x.0) (flow g w x.0) x.2)))
+          subst (λ f. Need p q f w) here (by_annotation x.1 (not_empty (held p q) (and_left (not (is_empty (held p q))) _ rest)) i
+          (subst (λ f. Flow p f w x.0) (sym here) (decided (flows p g w x.0) (Flow p g w x.0) (flow g w x.0) x.2)))
 
-      at_call : (need : ℕ → VarId → Bool) → ((f : ℕ) (x : VarId) → need f x ≡ true → Need p q f x) → (g : ℕ) (w y : VarId) → is_given w ≡ true → Flow p g w y → (a : TEffect) → IsOf a (effects_at p g) → (o : Option TCalled) → a.call ≡ o → is_needed_at p need o y ≡ true → Need p q g w
+      at_call : (need : ℕ → VarId → Bool) → ((f : ℕ) (x : VarId) → need f x ≡ true → Need p q f x) → (g : ℕ) (w y : VarId) → is_given w ≡ true → Flow p g w y → (a : TEffect)
+          → IsOf a (effects_at p g) → (o : Option TCalled) → a.call ≡ o → is_needed_at p need o y ≡ true → Need p q g w
       at_call need so g w y i f a o None e h = absurd (true≢false (sym h))
       at_call need so g w y i f a o (Some c) e h =
           let x = any_of (λ v. need c.function v && begins c v y) (variables p c.function) h in
@@ -78,18 +81,23 @@ module _ (p : TProgram) (q : Policy) (flow : (f : ℕ) (u v : VarId) → Decides
       called need so g w i e =
           let a = any_of (λ b. list_any (λ y. is_needed_at p need b.call y && flows p g w y) (variables p g)) (effects_at p g) e in
           let y = any_of (λ z. is_needed_at p need a.0.call z && flows p g w z) (variables p g) a.2 in
-          at_call need so g w y.0 i (decided (flows p g w y.0) (Flow p g w y.0) (flow g w y.0) (and_right (is_needed_at p need a.0.call y.0) _ y.2)) a.0 a.1 a.0.call refl (and_left (is_needed_at p need a.0.call y.0) _ y.2)
+          at_call need so g w y.0 i (decided (flows p g w y.0) (Flow p g w y.0) (flow g w y.0) (and_right (is_needed_at p need a.0.call y.0) _ y.2)) a.0 a.1 a.0.call refl
+          (and_left (is_needed_at p need a.0.call y.0) _ y.2)
 
   module _ (rank : ℕ → ℕ) (falls : (g : ℕ) (a : TEffect) (c : TCalled) → IsOf a (effects_at p g) → a.call ≡ Some c → rank c.function < rank g) where
     own_test : (w x : VarId) → IsOf x (annotated p q) → (held p q ≡ [] → ⊥) → Flow p q.function w x → needs_itself p q q.function w ≡ true
     own_test w x o h f =
-        both (nat_eq q.function q.function) _ (eq-eqb q.function q.function refl) (both (not (is_empty (held p q))) _ (some_held (held p q) h) (of_any (flows p q.function w) x (annotated p q) o (back (flows p q.function w x) (Flow p q.function w x) (flow q.function w x) f)))
+        both (nat_eq q.function q.function) _ (eq-eqb q.function q.function refl)
+        (both (not (is_empty (held p q))) _ (some_held (held p q) h)
+        (of_any (flows p q.function w) x (annotated p q) o (back (flows p q.function w x) (Flow p q.function w x) (flow q.function w x) f)))
 
-    call_test : (depth g : ℕ) (x y w : VarId) (a : TEffect) (c : TCalled) → IsOf a (effects_at p g) → a.call ≡ Some c → needs_to p q depth c.function x ≡ true → begins c x y ≡ true → Flow p g w y → needs_by_call p (needs_to p q depth) g w ≡ true
+    call_test : (depth g : ℕ) (x y w : VarId) (a : TEffect) (c : TCalled) → IsOf a (effects_at p g) → a.call ≡ Some c → needs_to p q depth c.function x ≡ true → begins c x y ≡ true
+        → Flow p g w y → needs_by_call p (needs_to p q depth) g w ≡ true
     call_test depth g x y w a c o e n b f =
         let goes : flows p g w y ≡ true = back (flows p g w y) (Flow p g w y) (flow g w y) f in
         let needed : is_needed_at p (needs_to p q depth) (Some c) y ≡ true =
-        of_any (λ v. needs_to p q depth c.function v && begins c v y) x (variables p c.function) (needed_variable p q depth c.function x n) (both (needs_to p q depth c.function x) (begins c x y) n b) in
+        of_any (λ v. needs_to p q depth c.function v && begins c v y) x (variables p c.function) (needed_variable p q depth c.function x n)
+        (both (needs_to p q depth c.function x) (begins c x y) n b) in
         of_any (λ d. list_any (λ z. is_needed_at p (needs_to p q depth) d.call z && flows p g w z) (variables p g)) a (effects_at p g) o
         (of_any (λ z. is_needed_at p (needs_to p q depth) a.call z && flows p g w z) y (variables p g) (listed p g y (ends_in p (length p.functions) g w y goes))
         (both (is_needed_at p (needs_to p q depth) a.call y) (flows p g w y) (subst (λ s. is_needed_at p (needs_to p q depth) s y ≡ true) (sym e) needed) goes))
@@ -102,7 +110,8 @@ module _ (p : TProgram) (q : Policy) (flow : (f : ℕ) (u v : VarId) → Decides
         both (is_given w) _ i (or_first (needs_itself p q q.function w) (needs_by_call p (needs_to p q depth) q.function w) (own_test w x o h f))
     complete _ _ (by_call {g = g} {x = x} {y = y} {w = w} a c o e n b i f) (suc depth) l =
         let deep : rank c.function < rank g = falls g a c o e in
-        both (is_given w) _ i (or_second (needs_itself p q g w) (needs_by_call p (needs_to p q depth) g w) (call_test depth g x y w a c o e (complete c.function x n depth (omega (arith, deep, l))) b f))
+        both (is_given w) _ i (or_second (needs_itself p q g w) (needs_by_call p (needs_to p q depth) g w)
+        (call_test depth g x y w a c o e (complete c.function x n depth (omega (arith, deep, l))) b f))
 
     none_past : (g : ℕ) (w : VarId) → Need p q g w → length p.functions ≤ g → ⊥
     none_past _ _ (by_annotation {w = w} {x = x} o h i f) l = subst (IsOf x) (annotated_past p q l) o

@@ -1,5 +1,6 @@
 -- The rows of each depth of calls are those of the definition.
-use Rattle.std.proofs.Common.{◌≡◌, ◌≢◌, refl, sym, ap, ◌∙◌, subst, ℕ, zero, suc, ◌+◌, ◌<◌, ◌≤◌, arith, Bool, true, false, true≢false, nat_eq, nat_lt, ◌⊎◌, inl, inr, List, [], ◌∷◌, map, length, cond, Option, Some, None}
+use Rattle.std.proofs.Common.{◌≡◌, ◌≢◌, refl, sym, ap, ◌∙◌, subst, ℕ, zero, suc, ◌+◌, ◌<◌, ◌≤◌, arith, Bool, true, false, true≢false, nat_eq, nat_lt, ◌⊎◌, inl, inr, List, [], ◌∷◌}
+use Rattle.std.proofs.Common.{map, length, cond, Option, Some, None}
 use Rattle.std.specs.Prelude.{◌&&◌, ◌||◌, not, filter, flat_map, option_map, option_to_list}
 use Rattle.std.specs.List.{list_any}
 use Rattle.std.proofs.Math.ListN.{get_or}
@@ -15,7 +16,8 @@ use Rattle.oc_tree.specs.Members.{IsOf}
 use Rattle.oc_flow.specs.Flow.{flows, flows_to}
 use Rattle.oc_needs.specs.Policies.{annotated, held, is_note_of, note_variable}
 use Rattle.oc_needs.specs.Need.{Needed, is_empty, is_needed_at, needs_by_call, needs_itself, needs_by, needs_to, needs}
-use Rattle.oc_needs.specs.Code.{row_of, rows_of, stands_for, needed_in_call, needed_in_calls, needed_itself, needing, is_given_to, row_by, is_changed, is_stale, same_row, TLevel, next_row, is_changed_row, is_row_changed, no_row, start_level, next_level, level_at}
+use Rattle.oc_needs.specs.Code.{row_of, rows_of, stands_for, needed_in_call, needed_in_calls, needed_itself, needing, is_given_to, row_by, is_changed, is_stale, same_row, TLevel}
+use Rattle.oc_needs.specs.Code.{next_row, is_changed_row, is_row_changed, no_row, start_level, next_level, level_at}
 use Rattle.oc_needs.proofs.Froms.{get_map_from, length_map_from}
 use Rattle.oc_needs.proofs.Rows.{same_variable_is}
 use Rattle.oc_needs.proofs.Tests.{bool_same, and_left, and_right, or_case, or_no, or_same, any_same, any_none, any_flat_map, any_filter, filter_same, filter_none, any_of, filter_tells}
@@ -75,10 +77,12 @@ pub in_call_is : (p : TProgram) (need : Needed) → EndsThere p need → (vs : L
 in_call_is p need ends vs None = sym (filter_none (λ y. false) vs (λ y. refl))
 in_call_is p need ends vs (Some c) = filter_same (stands_for c (get_or (rows_of p need) c.function [])) (is_needed_at p need (Some c)) vs (stands_is p need ends c)
 
-calls_part : (p : TProgram) (need : Needed) → EndsThere p need → (g : ℕ) (w : VarId) → list_any (flows p g w) (needed_in_calls (rows_of p need) (variables p g) (effects_at p g)) ≡ needs_by_call p need g w
+calls_part : (p : TProgram) (need : Needed) → EndsThere p need → (g : ℕ) (w : VarId) → list_any (flows p g w) (needed_in_calls (rows_of p need) (variables p g) (effects_at p g))
+    ≡ needs_by_call p need g w
 calls_part p need ends g w =
     any_flat_map (flows p g w) (λ a. needed_in_call (rows_of p need) (variables p g) a.call) (effects_at p g)
-    ∙ any_same (λ a. list_any (flows p g w) (needed_in_call (rows_of p need) (variables p g) a.call)) (λ a. list_any (λ y. is_needed_at p need a.call y && flows p g w y) (variables p g)) (effects_at p g)
+    ∙ any_same (λ a. list_any (flows p g w) (needed_in_call (rows_of p need) (variables p g) a.call))
+    (λ a. list_any (λ y. is_needed_at p need a.call y && flows p g w y) (variables p g)) (effects_at p g)
     (λ a. ap (list_any (flows p g w)) (in_call_is p need ends (variables p g) a.call) ∙ any_filter (flows p g w) (is_needed_at p need a.call) (variables p g))
 
 own_part : (p : TProgram) (q : Policy) (g : ℕ) (w : VarId) → list_any (flows p g w) (needed_itself p q g) ≡ needs_itself p q g w
@@ -92,21 +96,29 @@ own_part p q g w = by_tests (nat_eq g q.function) (not (is_empty (held p q)))
 pub row_by_is : (p : TProgram) (q : Policy) (need : Needed) → EndsThere p need → (g : ℕ) → row_by p q (rows_of p need) g ≡ row_of p (needs_by p q need) g
 row_by_is p q need ends g =
     filter_same (is_given_to p g (needing p q (rows_of p need) g)) (needs_by p q need g) (variables p g)
-    (λ w. ap (λ b. is_given w && b) (list_any-append (flows p g w) (needed_itself p q g) (needed_in_calls (rows_of p need) (variables p g) (effects_at p g)) ∙ or_same (list_any (flows p g w) (needed_itself p q g)) (needs_itself p q g w) (list_any (flows p g w) (needed_in_calls (rows_of p need) (variables p g) (effects_at p g))) (needs_by_call p need g w) (own_part p q g w) (calls_part p need ends g w)))
+    (λ w. ap (λ b. is_given w && b) (list_any-append (flows p g w) (needed_itself p q g) (needed_in_calls (rows_of p need) (variables p g) (effects_at p g))
+    ∙ or_same (list_any (flows p g w) (needed_itself p q g)) (needs_itself p q g w) (list_any (flows p g w) (needed_in_calls (rows_of p need) (variables p g) (effects_at p g)))
+    (needs_by_call p need g w) (own_part p q g w) (calls_part p need ends g w)))
 
 -- ---- a row that stays
 
 module _ (p : TProgram) (new before : Needed) (changed : List Bool) (settled : (g : ℕ) (w : VarId) → get_or changed g true ≡ false → new g w ≡ before g w) where
   same_at_call : (o : Option TCalled) (y : VarId) → is_changed changed o ≡ false → is_needed_at p new o y ≡ is_needed_at p before o y
   same_at_call None y h = refl
-  same_at_call (Some c) y h = any_same (λ x. new c.function x && begins c x y) (λ x. before c.function x && begins c x y) (variables p c.function) (λ x. ap (λ b. b && begins c x y) (settled c.function x h))
+  same_at_call (Some c) y h = any_same (λ x. new c.function x && begins c x y) (λ x. before c.function x && begins c x y) (variables p c.function)
+      (λ x. ap (λ b. b && begins c x y) (settled c.function x h))
 
-  pub same_by_calls : (g : ℕ) (w : VarId) (es : List TEffect) → list_any (λ a. is_changed changed a.call) es ≡ false → list_any (λ a. list_any (λ y. is_needed_at p new a.call y && flows p g w y) (variables p g)) es ≡ list_any (λ a. list_any (λ y. is_needed_at p before a.call y && flows p g w y) (variables p g)) es
+  pub same_by_calls : (g : ℕ) (w : VarId) (es : List TEffect) → list_any (λ a. is_changed changed a.call) es ≡ false
+      → list_any (λ a. list_any (λ y. is_needed_at p new a.call y && flows p g w y) (variables p g)) es
+      ≡ list_any (λ a. list_any (λ y. is_needed_at p before a.call y && flows p g w y) (variables p g)) es
   same_by_calls g w [] h = refl
   same_by_calls g w (a ∷ es) h =
       let parts = or_no (is_changed changed a.call) (list_any (λ b. is_changed changed b.call) es) h in
-      or_same (list_any (λ y. is_needed_at p new a.call y && flows p g w y) (variables p g)) (list_any (λ y. is_needed_at p before a.call y && flows p g w y) (variables p g)) (list_any (λ b. list_any (λ y. is_needed_at p new b.call y && flows p g w y) (variables p g)) es) (list_any (λ b. list_any (λ y. is_needed_at p before b.call y && flows p g w y) (variables p g)) es)
-      (any_same (λ y. is_needed_at p new a.call y && flows p g w y) (λ y. is_needed_at p before a.call y && flows p g w y) (variables p g) (λ y. ap (λ b. b && flows p g w y) (same_at_call a.call y parts.0)))
+      or_same (list_any (λ y. is_needed_at p new a.call y && flows p g w y) (variables p g)) (list_any (λ y. is_needed_at p before a.call y && flows p g w y) (variables p g))
+      (list_any (λ b. list_any (λ y. is_needed_at p new b.call y && flows p g w y) (variables p g)) es)
+      (list_any (λ b. list_any (λ y. is_needed_at p before b.call y && flows p g w y) (variables p g)) es)
+      (any_same (λ y. is_needed_at p new a.call y && flows p g w y) (λ y. is_needed_at p before a.call y && flows p g w y) (variables p g)
+      (λ y. ap (λ b. b && flows p g w y) (same_at_call a.call y parts.0)))
       (same_by_calls g w es parts.1)
 
 -- ---- only variables of the function are needed
@@ -197,7 +209,8 @@ module _ (p : TProgram) (q : Policy) (depth : ℕ) (level : TLevel) (is : IsLeve
   made_row : (g : ℕ) → row_by p q level.rows g ≡ row_of p (needs_to p q (suc depth)) g
   made_row g =
       ap (λ rows. row_by p q rows g) is.rows_are
-      ∙ (row_by_is p q (needs_to p q depth) (needs_past p q depth) g ∙ filter_same (needs_by p q (needs_to p q depth) g) (needs_to p q (suc depth) g) (variables p g) (λ w. sym (needs_more p q depth g w)))
+      ∙ (row_by_is p q (needs_to p q depth) (needs_past p q depth) g
+      ∙ filter_same (needs_by p q (needs_to p q depth) g) (needs_to p q (suc depth) g) (variables p g) (λ w. sym (needs_more p q depth g w)))
 
   row_step : (g : ℕ) → g < length p.functions → next_row p q level g ≡ row_of p (needs_to p q (suc depth)) g
   row_step g h = by_stale (is_stale q g (effects_at p g) level.changed) refl
@@ -220,7 +233,8 @@ module _ (p : TProgram) (q : Policy) (depth : ℕ) (level : TLevel) (is : IsLeve
     where
       by_place : (g < length p.functions) ⊎ (length p.functions ≤ g) → needs_to p q (suc depth) g w ≡ needs_to p q depth g w
       by_place (inl l) = changed_step g w l (sym (get_map_from (is_row_changed p q level) (length p.functions) g true l) ∙ h)
-      by_place (inr l) = absurd (true≢false (sym (get_or_past (map (is_row_changed p q level) (from 0 (length p.functions))) g true (omega (arith, l, length_map_from (is_row_changed p q level) 0 (length p.functions)))) ∙ h))
+      by_place (inr l) = absurd (true≢false (sym
+          (get_or_past (map (is_row_changed p q level) (from 0 (length p.functions))) g true (omega (arith, l, length_map_from (is_row_changed p q level) 0 (length p.functions)))) ∙ h))
 
   next_is : IsLevel p q (suc depth) (next_level p q level)
   next_is = record {
@@ -232,7 +246,8 @@ module _ (p : TProgram) (q : Policy) (depth : ℕ) (level : TLevel) (is : IsLeve
 
 -- where nothing is needed, a call needs nothing
 start_calls : (p : TProgram) (q : Policy) (g : ℕ) (w : VarId) → needs_by_call p (needs_to p q zero) g w ≡ false
-start_calls p q g w = any_none (λ a. list_any (λ y. is_needed_at p (needs_to p q zero) a.call y && flows p g w y) (variables p g)) (effects_at p g) (λ a. any_none (λ y. is_needed_at p (needs_to p q zero) a.call y && flows p g w y) (variables p g) (λ y. ap (λ b. b && flows p g w y) (at_call a.call y)))
+start_calls p q g w = any_none (λ a. list_any (λ y. is_needed_at p (needs_to p q zero) a.call y && flows p g w y) (variables p g)) (effects_at p g)
+    (λ a. any_none (λ y. is_needed_at p (needs_to p q zero) a.call y && flows p g w y) (variables p g) (λ y. ap (λ b. b && flows p g w y) (at_call a.call y)))
   where
     at_call : (o : Option TCalled) (y : VarId) → is_needed_at p (needs_to p q zero) o y ≡ false
     at_call None y = refl
@@ -240,7 +255,8 @@ start_calls p q g w = any_none (λ a. list_any (λ y. is_needed_at p (needs_to p
 
 start_closed : (p : TProgram) (q : Policy) (g : ℕ) (w : VarId) → g ≢ q.function → needs_to p q zero g w ≡ needs_by p q (needs_to p q zero) g w
 start_closed p q g w d =
-    needs_none p q g w ∙ sym (and_false (is_given w) _ (or_same (needs_itself p q g w) false (needs_by_call p (needs_to p q zero) g w) false (by_test (nat_eq g q.function) refl) (start_calls p q g w)))
+    needs_none p q g w ∙ sym (and_false (is_given w) _
+    (or_same (needs_itself p q g w) false (needs_by_call p (needs_to p q zero) g w) false (by_test (nat_eq g q.function) refl) (start_calls p q g w)))
   where
     by_test : (t : Bool) → nat_eq g q.function ≡ t → t && (not (is_empty (held p q)) && list_any (flows p g w) (annotated p q)) ≡ false
     by_test false e = refl
@@ -283,13 +299,16 @@ level_ends p q k level e i =
 
 at_same : (p : TProgram) (new before : Needed) → ((g : ℕ) (w : VarId) → new g w ≡ before g w) → (o : Option TCalled) (y : VarId) → is_needed_at p new o y ≡ is_needed_at p before o y
 at_same p new before h None y = refl
-at_same p new before h (Some c) y = any_same (λ x. new c.function x && begins c x y) (λ x. before c.function x && begins c x y) (variables p c.function) (λ x. ap (λ b. b && begins c x y) (h c.function x))
+at_same p new before h (Some c) y = any_same (λ x. new c.function x && begins c x y) (λ x. before c.function x && begins c x y) (variables p c.function)
+    (λ x. ap (λ b. b && begins c x y) (h c.function x))
 
 by_same : (p : TProgram) (q : Policy) (new before : Needed) → ((g : ℕ) (w : VarId) → new g w ≡ before g w) → (g : ℕ) (w : VarId) → needs_by p q new g w ≡ needs_by p q before g w
 by_same p q new before h g w =
     ap (λ b. is_given w && (needs_itself p q g w || b))
-    (any_same (λ a. list_any (λ y. is_needed_at p new a.call y && flows p g w y) (variables p g)) (λ a. list_any (λ y. is_needed_at p before a.call y && flows p g w y) (variables p g)) (effects_at p g)
-    (λ a. any_same (λ y. is_needed_at p new a.call y && flows p g w y) (λ y. is_needed_at p before a.call y && flows p g w y) (variables p g) (λ y. ap (λ b. b && flows p g w y) (at_same p new before h a.call y))))
+    (any_same (λ a. list_any (λ y. is_needed_at p new a.call y && flows p g w y) (variables p g))
+    (λ a. list_any (λ y. is_needed_at p before a.call y && flows p g w y) (variables p g)) (effects_at p g)
+    (λ a. any_same (λ y. is_needed_at p new a.call y && flows p g w y) (λ y. is_needed_at p before a.call y && flows p g w y) (variables p g)
+    (λ y. ap (λ b. b && flows p g w y) (at_same p new before h a.call y))))
 
 stays : (p : TProgram) (q : Policy) (d : ℕ) → ((g : ℕ) (w : VarId) → needs_to p q (suc d) g w ≡ needs_to p q d g w) → (m : ℕ) → d ≤ m → (g : ℕ) (w : VarId) → needs_to p q m g w ≡ needs_to p q d g w
 stays p q d h zero l g w = let e : zero ≡ d = omega (arith, l) in ap (λ n. needs_to p q n g w) e
@@ -304,9 +323,11 @@ none_at [] i h l = absurd (omega (arith, l))
 none_at (b ∷ bs) zero h l = let parts = or_no b (list_any (λ c. c) bs) h in parts.0
 none_at (b ∷ bs) (suc i) h l = let parts = or_no b (list_any (λ c. c) bs) h in none_at bs i parts.1 (omega (arith, l))
 
-pub level_settles : (p : TProgram) (q : Policy) (k : ℕ) (old new : TLevel) → k < length p.functions → new ≡ next_level p q old → old ≡ level_at p q k → list_any (λ b. b) new.changed ≡ false → new.rows ≡ rows_of p (needs p q)
+pub level_settles : (p : TProgram) (q : Policy) (k : ℕ) (old new : TLevel) → k < length p.functions → new ≡ next_level p q old → old ≡ level_at p q k
+    → list_any (λ b. b) new.changed ≡ false → new.rows ≡ rows_of p (needs p q)
 level_settles p q k old new l e i none =
-    ap (λ r. r.rows) same ∙ (now.rows_are ∙ map_from_same (row_of p (needs_to p q (suc k))) (row_of p (needs p q)) 0 (length p.functions) (λ g h. filter_same (needs_to p q (suc k) g) (needs p q g) (variables p g) (λ w. settled g w ∙ sym (stays p q k settled (length p.functions) (omega (arith, l)) g w))))
+    ap (λ r. r.rows) same ∙ (now.rows_are ∙ map_from_same (row_of p (needs_to p q (suc k))) (row_of p (needs p q)) 0 (length p.functions)
+    (λ g h. filter_same (needs_to p q (suc k) g) (needs p q g) (variables p g) (λ w. settled g w ∙ sym (stays p q k settled (length p.functions) (omega (arith, l)) g w))))
   where
     same : new ≡ next_level p q (level_at p q k)
     same = e ∙ ap (next_level p q) i
@@ -321,27 +342,33 @@ level_settles p q k old new l e i none =
     settled g w = by_place (cases_lt g (length p.functions))
       where
         by_place : (g < length p.functions) ⊎ (length p.functions ≤ g) → needs_to p q (suc k) g w ≡ needs_to p q k g w
-        by_place (inl h) = settled_step p q k (level_at p q k) (level_is p q k) g w (none_at (map (is_row_changed p q (level_at p q k)) (from 0 (length p.functions))) g no_change (omega (arith, h, length_map_from (is_row_changed p q (level_at p q k)) 0 (length p.functions))))
+        by_place (inl h) = settled_step p q k (level_at p q k) (level_is p q k) g w
+            (none_at (map (is_row_changed p q (level_at p q k)) (from 0 (length p.functions))) g no_change
+            (omega (arith, h, length_map_from (is_row_changed p q (level_at p q k)) 0 (length p.functions))))
         by_place (inr h) = needs_past p q (suc k) g w h ∙ sym (needs_past p q k g w h)
 
 -- ---- what the code makes of a depth
 
-pub made_is : (p : TProgram) (q : Policy) (old : TLevel) (g : ℕ) (rows : List (List VarId)) (changed : List Bool) → changed ≡ old.changed → rows ≡ old.rows → is_stale q g (effects_at p g) changed ≡ true → row_by p q rows g ≡ next_row p q old g
+pub made_is : (p : TProgram) (q : Policy) (old : TLevel) (g : ℕ) (rows : List (List VarId)) (changed : List Bool) → changed ≡ old.changed → rows ≡ old.rows
+    → is_stale q g (effects_at p g) changed ≡ true → row_by p q rows g ≡ next_row p q old g
 made_is p q old g rows changed c r e =
     ap (λ rs. row_by p q rs g) r ∙ sym (ap (λ t. cond t (row_by p q old.rows g) (get_or old.rows g [])) (ap (is_stale q g (effects_at p g)) (sym c) ∙ e))
 
-pub made_changed : (p : TProgram) (q : Policy) (old : TLevel) (g : ℕ) (rows : List (List VarId)) (changed : List Bool) → changed ≡ old.changed → rows ≡ old.rows → is_stale q g (effects_at p g) changed ≡ true → is_changed_row p q rows g ≡ is_row_changed p q old g
+pub made_changed : (p : TProgram) (q : Policy) (old : TLevel) (g : ℕ) (rows : List (List VarId)) (changed : List Bool) → changed ≡ old.changed → rows ≡ old.rows
+    → is_stale q g (effects_at p g) changed ≡ true → is_changed_row p q rows g ≡ is_row_changed p q old g
 made_changed p q old g rows changed c r e =
     ap (λ rs. is_changed_row p q rs g) r ∙ sym (ap (λ t. cond t (is_changed_row p q old.rows g) false) (ap (is_stale q g (effects_at p g)) (sym c) ∙ e))
 
-pub kept_is : (p : TProgram) (q : Policy) (old : TLevel) (g : ℕ) (rows : List (List VarId)) (changed : List Bool) → changed ≡ old.changed → rows ≡ old.rows → is_stale q g (effects_at p g) changed ≡ false → get_or rows g [] ≡ next_row p q old g
+pub kept_is : (p : TProgram) (q : Policy) (old : TLevel) (g : ℕ) (rows : List (List VarId)) (changed : List Bool) → changed ≡ old.changed → rows ≡ old.rows
+    → is_stale q g (effects_at p g) changed ≡ false → get_or rows g [] ≡ next_row p q old g
 kept_is p q old g rows changed c r e =
     ap (λ rs. get_or rs g []) r ∙ sym (ap (λ t. cond t (row_by p q old.rows g) (get_or old.rows g [])) (ap (is_stale q g (effects_at p g)) (sym c) ∙ e))
 
 pub kept_changed : (p : TProgram) (q : Policy) (old : TLevel) (g : ℕ) (changed : List Bool) → changed ≡ old.changed → is_stale q g (effects_at p g) changed ≡ false → false ≡ is_row_changed p q old g
 kept_changed p q old g changed c e = sym (ap (λ t. cond t (is_changed_row p q old.rows g) false) (ap (is_stale q g (effects_at p g)) (sym c) ∙ e))
 
-pub next_level_is : (p : TProgram) (q : Policy) (old : TLevel) (k : ℕ) (level : TLevel) → k ≡ length p.functions → level.rows ≡ map (next_row p q old) (from 0 k) → level.changed ≡ map (is_row_changed p q old) (from 0 k) → level ≡ next_level p q old
+pub next_level_is : (p : TProgram) (q : Policy) (old : TLevel) (k : ℕ) (level : TLevel) → k ≡ length p.functions → level.rows ≡ map (next_row p q old) (from 0 k)
+    → level.changed ≡ map (is_row_changed p q old) (from 0 k) → level ≡ next_level p q old
 next_level_is p q old k level e r c =
     let rows = r ∙ ap (λ n. map (next_row p q old) (from 0 n)) e in
     let changed = c ∙ ap (λ n. map (is_row_changed p q old) (from 0 n)) e in λ i. record { rows = rows i; changed = changed i }

@@ -13,8 +13,10 @@ each_once-append seen [] ys = refl
 each_once-append seen (q ∷ qs) ys = each_once-append (cond (list_any (same_policy q) seen) seen (seen ++ q ∷ [])) qs ys
 
 -- one function more
-pub policies_more : (p : TProgram) (f : ℕ) (old new whole : List Policy) → f < length p.functions → new ≡ each_once old (asked_by f (effects_at p f)) → each_once old (asked_from f (drop f (effects p))) ≡ whole → each_once new (asked_from (f + 1) (drop (f + 1) (effects p))) ≡ whole
+pub policies_more : (p : TProgram) (f : ℕ) (old new whole : List Policy) → f < length p.functions → new ≡ each_once old (asked_by f (effects_at p f))
+    → each_once old (asked_from f (drop f (effects p))) ≡ whole → each_once new (asked_from (f + 1) (drop (f + 1) (effects p))) ≡ whole
 policies_more p f old new whole h e i =
     let few : f < length (effects p) = omega (arith, length-map p.functions (function_effects p)) in
-    let first : each_once old (asked_by f (effects_at p f) ++ asked_from (f + 1) (drop (f + 1) (effects p))) ≡ whole = subst (λ es. each_once old (asked_from f es) ≡ whole) (drop_more (effects p) f [] few) i in
+    let first : each_once old (asked_by f (effects_at p f) ++ asked_from (f + 1) (drop (f + 1) (effects p))) ≡ whole =
+    subst (λ es. each_once old (asked_from f es) ≡ whole) (drop_more (effects p) f [] few) i in
     ap (λ s. each_once s (asked_from (f + 1) (drop (f + 1) (effects p)))) e ∙ (sym (each_once-append old (asked_by f (effects_at p f)) (asked_from (f + 1) (drop (f + 1) (effects p)))) ∙ first)

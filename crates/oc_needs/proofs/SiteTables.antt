@@ -27,9 +27,11 @@ table_looped p tables n f e k = by (nat_lt f n) refl
   where
     by : (b : Bool) → nat_lt f n ≡ b → IsLooped p f (get_or tables f [])
     by true h = subst (λ t. IsLooped p f t) (sym (ap (λ ts. get_or ts f []) e ∙ get_map_from (looped_at p) n f [] (ltb-true f n h))) (own_looped p f)
-    by false h = let past : get_or tables f [] ≡ [] = get_or_past tables f [] (let m : n ≤ f = ltb-false f n h in omega (arith, m, k)) in subst (λ t. IsLooped p f t) (sym past) (λ i x l. absurd (omega (arith, l)))
+    by false h = let past : get_or tables f [] ≡ [] = get_or_past tables f [] (let m : n ≤ f = ltb-false f n h in omega (arith, m, k)) in
+        subst (λ t. IsLooped p f t) (sym past) (λ i x l. absurd (omega (arith, l)))
 
 -- those of a variable at its place
-pub known_is : (p : TProgram) (f : ℕ) (rows : List (List ℕ)) (vs : List VarId) (i : ℕ) (x : VarId) (sites : List ℕ) → IsLooped p f rows → vs ≡ variables p f → i < length rows → get_or vs i x ≡ x → sites ≡ get_or rows i [] → sites ≡ looped_sites p f (sources p f (effects_at p f)) x
+pub known_is : (p : TProgram) (f : ℕ) (rows : List (List ℕ)) (vs : List VarId) (i : ℕ) (x : VarId) (sites : List ℕ) → IsLooped p f rows → vs ≡ variables p f → i < length rows
+    → get_or vs i x ≡ x → sites ≡ get_or rows i [] → sites ≡ looped_sites p f (sources p f (effects_at p f)) x
 known_is p f rows vs i x sites known own h at is =
     is ∙ (known i x h ∙ ap (looped_sites p f (sources p f (effects_at p f))) (ap (λ ws. get_or ws i x) (sym own) ∙ at))

@@ -56,7 +56,8 @@ module _ (p : TProgram) (groups : List Group) (c : IsChecked p groups) (f : ℕ)
   outside_is loop Returned = refl
 
   lifts_is : (u x : VarId) (loop : ℕ) → lifts_by p f u x loop ≡ lifts p f u x loop
-  lifts_is u x loop = any_same (λ w. carries p f u x w && is_outside_by p f loop w) (λ w. carries p f u x w && is_outside p f loop w) (variables p f) (λ w. ap (λ b. carries p f u x w && b) (outside_is loop w))
+  lifts_is u x loop = any_same (λ w. carries p f u x w && is_outside_by p f loop w) (λ w. carries p f u x w && is_outside p f loop w) (variables p f)
+      (λ w. ap (λ b. carries p f u x w && b) (outside_is loop w))
 
   find_same : (g h : ℕ → Bool) (ns : List ℕ) → ((n : ℕ) → g n ≡ h n) → find g ns ≡ find h ns
   find_same g h [] e = refl
@@ -76,16 +77,20 @@ module _ (p : TProgram) (groups : List Group) (c : IsChecked p groups) (f : ℕ)
   into_cond true g xs = refl
   into_cond false g xs = sym (join_none (λ x. []) xs (λ x. refl))
 
-  between_is : (a : TEffect) (xs : List VarId) (u : VarId) → IsOf a (effects_at p f) → cond (brings_at p a.stmt u) (sites_between p f (source_of p f a) u xs) [] ≡ flat_map (λ x. cond (is_input p f a u x) (site p f a u x ∷ []) []) xs
+  between_is : (a : TEffect) (xs : List VarId) (u : VarId) → IsOf a (effects_at p f) → cond (brings_at p a.stmt u) (sites_between p f (source_of p f a) u xs) []
+      ≡ flat_map (λ x. cond (is_input p f a u x) (site p f a u x ∷ []) []) xs
   between_is a xs u o =
       ap (λ b. cond b (sites_between p f (source_of p f a) u xs) []) (brings_own p groups c f a u o)
       ∙ (into_cond (brings p a u) (λ x. cond (flows p f u x) (source_site p f (source_of p f a) u x ∷ []) []) xs
-      ∙ join_same (λ x. cond (brings p a u) (cond (flows p f u x) (source_site p f (source_of p f a) u x ∷ []) []) []) (λ x. cond (is_input p f a u x) (site p f a u x ∷ []) []) xs (λ x. one_is (brings p a u) (flows p f u x) (source_site p f (source_of p f a) u x) (site p f a u x) (site_is a u x)))
+      ∙ join_same (λ x. cond (brings p a u) (cond (flows p f u x) (source_site p f (source_of p f a) u x ∷ []) []) []) (λ x. cond (is_input p f a u x) (site p f a u x ∷ []) []) xs
+      (λ x. one_is (brings p a u) (flows p f u x) (source_site p f (source_of p f a) u x) (site p f a u x) (site_is a u x)))
 
-  from_is : (a : TEffect) (xs : List VarId) → IsOf a (effects_at p f) → sites_from p f xs (source_of p f a) (source_of p f a).brought ≡ flat_map (λ u. flat_map (λ x. cond (is_input p f a u x) (site p f a u x ∷ []) []) xs) (variables p f)
+  from_is : (a : TEffect) (xs : List VarId) → IsOf a (effects_at p f) → sites_from p f xs (source_of p f a) (source_of p f a).brought
+      ≡ flat_map (λ u. flat_map (λ x. cond (is_input p f a u x) (site p f a u x ∷ []) []) xs) (variables p f)
   from_is a xs o =
       join_filter (λ u. sites_between p f (source_of p f a) u xs) (brings_at p a.stmt) (variables p f)
-      ∙ join_same (λ u. cond (brings_at p a.stmt u) (sites_between p f (source_of p f a) u xs) []) (λ u. flat_map (λ x. cond (is_input p f a u x) (site p f a u x ∷ []) []) xs) (variables p f) (λ u. between_is a xs u o)
+      ∙ join_same (λ u. cond (brings_at p a.stmt u) (sites_between p f (source_of p f a) u xs) []) (λ u. flat_map (λ x. cond (is_input p f a u x) (site p f a u x ∷ []) []) xs)
+      (variables p f) (λ u. between_is a xs u o)
 
   -- a statement that brings nothing has no sites
   listed : (xs us : List VarId) (s : TSource) → us ≡ s.brought → flat_map (λ t. sites_from p f xs t t.brought) (cond (is_empty us) [] (s ∷ [])) ≡ sites_from p f xs s us
@@ -95,5 +100,6 @@ module _ (p : TProgram) (groups : List Group) (c : IsChecked p groups) (f : ℕ)
   pub sites_are : (xs : List VarId) → source_sites p f xs (sources p f (effects_at p f)) ≡ input_sites p f xs
   sites_are xs =
       join_join (λ s. sites_from p f xs s s.brought) (λ a. source_list (source_of p f a)) (effects_at p f)
-      ∙ join_members (λ a. flat_map (λ s. sites_from p f xs s s.brought) (source_list (source_of p f a))) (λ a. flat_map (λ u. flat_map (λ x. cond (is_input p f a u x) (site p f a u x ∷ []) []) xs) (variables p f)) (effects_at p f)
+      ∙ join_members (λ a. flat_map (λ s. sites_from p f xs s s.brought) (source_list (source_of p f a)))
+      (λ a. flat_map (λ u. flat_map (λ x. cond (is_input p f a u x) (site p f a u x ∷ []) []) xs) (variables p f)) (effects_at p f)
       (λ a o. listed xs (source_of p f a).brought (source_of p f a) refl ∙ from_is a xs o)

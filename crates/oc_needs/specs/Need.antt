@@ -18,7 +18,8 @@ use Rattle.oc_needs.specs.Policies.{annotated, held}
 -- a fresh variable without a use, nothing is needed.
 pub data Need (p : TProgram) (q : Policy) : ℕ → VarId → Type 0 where
   by_annotation : {w x : VarId} → IsOf x (annotated p q) → (held p q ≡ [] → ⊥) → is_given w ≡ true → Flow p q.function w x → Need p q q.function w
-  by_call : {g : ℕ} {x y w : VarId} (a : TEffect) (c : TCalled) → IsOf a (effects_at p g) → a.call ≡ Some c → Need p q c.function x → begins c x y ≡ true → is_given w ≡ true → Flow p g w y → Need p q g w
+  by_call : {g : ℕ} {x y w : VarId} (a : TEffect) (c : TCalled) → IsOf a (effects_at p g) → a.call ≡ Some c → Need p q c.function x → begins c x y ≡ true → is_given w ≡ true
+      → Flow p g w y → Need p q g w
 
 -- ---- the same as a test
 

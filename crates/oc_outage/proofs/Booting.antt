@@ -1,9 +1,8 @@
 -- Steps of a boot.
-use Rattle.std.proofs.Common.{◌≡◌, ℕ, zero, suc, ◌+◌, ◌-◌, ◌<◌, ◌≤◌, ℤ, pos, List, [], ◌∷◌, ◌++◌, length, take, Some, refl, sym, ap, ◌∙◌, subst, ⊎_elim, arith, append-nil, Bool, true, false, get_or}
-use Rattle.std.specs.Prelude.{nat_lt, reverse, if◌then◌else◌}
-use Rattle.std.proofs.lemmas.Bool.{ltb-true, ltb-false, cases_lt, lt-ltb, le-ltb}
-use Rattle.std.proofs.lemmas.List.{length-take-le, length-reverse, reverse-append, reverse-reverse}
-use Rattle.std.proofs.Math.Seq.{take-length, take-suc}
+use Rattle.std.proofs.Common.{◌≡◌, ℕ, zero, suc, ◌+◌, ◌-◌, ◌<◌, ◌≤◌, ℤ, List, [], ◌∷◌, ◌++◌, length, take, Some, refl, sym, ap, ◌∙◌, subst, ⊎_elim, arith, append-nil, Bool, true, false}
+use Rattle.std.specs.Prelude.{nat_lt, if◌then◌else◌}
+use Rattle.std.proofs.lemmas.Bool.{ltb-true, ltb-false}
+use Rattle.std.proofs.Math.Seq.{take-length}
 use Rattle.oc_tree.specs.Said.{Told}
 use Rattle.oc_tree.specs.declared.said.Said.TheVariants.{Entered}
 use Rattle.oc_undo.specs.Undo.{put_back, undo}
@@ -12,15 +11,14 @@ use Rattle.oc_ckpt.specs.declared.AreaState.TheVariants.{Sealed, Armed}
 use Rattle.oc_isa.specs.declared.phase.Phase.TheVariants.{Waking, Undoing, Restoring, Running}
 use Rattle.oc_isa.specs.Next.{Regs, Device}
 use Rattle.oc_isa.specs.Run.{core_at}
-use Rattle.oc_isa.specs.Power.{State, Stepped, wake, words_of, word_of, number_of, held, undone, undo_phase, undo_step, restored_pc, restored_fp, restored_stack, restore, resume, quietly}
+use Rattle.oc_isa.specs.Power.{State, wake, held, undone, undo_phase, undo_step, restore, resume, quietly}
 use Rattle.oc_items.specs.Erase.{marked, kept_samples}
 use Rattle.oc_outage.proofs.Continues as continues
 use Rattle.oc_outage.proofs.Continues.{IsAt}
-use Rattle.oc_outage.proofs.Facts.{state_at, regs_at, IsRestored, IsSealed, IsRestoring, IsWaking, IsUndoing, IsUndone, IsSettled, OnArmed, AreHonest, Stays}
+use Rattle.oc_outage.proofs.Facts.{state_at, regs_at, IsSealed, IsRestoring, IsWaking, IsUndoing, IsUndone, IsSettled, OnArmed, AreHonest, Stays}
 use Rattle.oc_outage.proofs.Reports.{settled_later, entry_later, honest_later, at_more, grown}
 use Rattle.oc_outage.proofs.Undone.{undo-set, undo-last, entry_number}
 use Rattle.oc_outage.proofs.Restored.{restored_one, none_restored, more_restored, all_restored}
-use Rattle.oc_outage.proofs.Words.{IsSaved, length-words_of, saved_word, held-saved}
 
 module _ (d : Device) (report : List Told) (made : ℕ) where
   pub sealed_later : (nv words : List ℤ) → IsSealed d report made nv words → IsSealed d report (suc made) nv words
@@ -30,11 +28,13 @@ module _ (d : Device) (report : List Told) (made : ℕ) where
   waking_later nv log words s = record { region = s.region; entry = entry_later d report made s.region.number s.region.saved nv log s.entry }
 
 -- a boot from a checkpoint
-module _ (d : Device) (h : ℕ → ℕ → ℤ) (report : List Told) (made t done pc fp depth : ℕ) (stack nv : List ℤ) (log : List Entry) (words : List ℤ) (a : AreHonest d h made report) (sized : length words ≡ 3 + d.room) where
+module _ (d : Device) (h : ℕ → ℕ → ℤ) (report : List Told) (made t done pc fp depth : ℕ) (stack nv : List ℤ) (log : List Entry) (words : List ℤ) (a : AreHonest d h made report)
+    (sized : length words ≡ 3 + d.room) where
   abbrev sealed_here : State
   sealed_here = state_at (Restoring done) pc fp depth stack nv log Sealed words
 
-  restores_sealed : (more : Bool) → IsRestoring d report made done pc fp stack nv words → log ≡ [] → nat_lt done (held words) ≡ more → Stays d h report made t (if more then restored_one d done sealed_here else resume d Sealed sealed_here)
+  restores_sealed : (more : Bool) → IsRestoring d report made done pc fp stack nv words → log ≡ [] → nat_lt done (held words) ≡ more
+      → Stays d h report made t (if more then restored_one d done sealed_here else resume d Sealed sealed_here)
   restores_sealed false s y q =
       let e = all_restored d words s.sealed.saved s.sealed.is_saved done pc fp stack s.restored (ltb-false done (held words) q) in
       ((subst (λ r. IsSettled d report (suc made) r nv) (sym e) (settled_later d report made s.sealed.saved nv s.sealed.settled), y), honest_later d h report made a, sized)
@@ -57,28 +57,41 @@ module _ (d : Device) (h : ℕ → ℕ → ℤ) (report : List Told) (made t don
 
 -- a boot in a region: the last entries are put back first
 module _ (d : Device) (report : List Told) (made pc fp depth : ℕ) (stack nv : List ℤ) (log : List Entry) (words : List ℤ) where
-  undo_from : (k : ℕ) → (s : IsWaking d report made nv log words) → k ≤ length log → undo (take k log) nv ≡ s.entry.entry_nv → OnArmed d (undo_phase k) depth (state_at (undo_phase k) pc fp depth stack nv log Armed words) report made
+  undo_from : (k : ℕ) → (s : IsWaking d report made nv log words) → k ≤ length log → undo (take k log) nv ≡ s.entry.entry_nv
+      → OnArmed d (undo_phase k) depth (state_at (undo_phase k) pc fp depth stack nv log Armed words) report made
   undo_from zero s le u = record { waking = s; same = u; restored = none_restored d pc fp stack s.region.saved }
   undo_from (suc k) s le u = record { waking = s; short = omega arith; rest = u }
 
-module _ (d : Device) (h : ℕ → ℕ → ℤ) (report : List Told) (made t pc fp depth : ℕ) (stack nv : List ℤ) (log : List Entry) (words : List ℤ) (a : AreHonest d h made report) (sized : length words ≡ 3 + d.room) where
+module _ (d : Device) (h : ℕ → ℕ → ℤ) (report : List Told) (made t pc fp depth : ℕ) (stack nv : List ℤ) (log : List Entry) (words : List ℤ) (a : AreHonest d h made report)
+    (sized : length words ≡ 3 + d.room) where
   pub armed_wakes : IsWaking d report made nv log words → Stays d h report made t (wake d Armed (state_at Waking pc fp depth stack nv log Armed words))
-  armed_wakes s =
-      (undo_from d report (suc made) pc fp depth stack nv log words (length log) (waking_later d report made nv log words s) (omega arith) (ap (λ l. undo l nv) (take-length log) ∙ s.entry.undoes), honest_later d h report made a, sized)
+  armed_wakes s = (
+    undo_from d report (suc made) pc fp depth stack nv log words (length log) (waking_later d report made nv log words s) (omega arith)
+        (ap (λ l. undo l nv) (take-length log) ∙ s.entry.undoes),
+    honest_later d h report made a,
+    sized,
+  )
 
   pub undo_keeps : (k : ℕ) → IsUndoing d report made nv log words k → Stays d h report made t (undo_step k (state_at (Undoing k) pc fp depth stack nv log Armed words))
   undo_keeps k u =
       let l = entry_number log k u.short in
       let e = l.entry in
       let s = u.waking.entry in
-      let waking : IsWaking d report (suc made) (put_back e nv) log words = record { region = u.waking.region; entry = record { m = s.m; within = omega arith; entry_nv = s.entry_nv; undoes = undo-set log nv e.addr e.old l.has ∙ s.undoes; at = s.at; closed = s.closed } } in
+      let waking : IsWaking d report (suc made) (put_back e nv) log words =
+      record {
+        region = u.waking.region;
+        entry =
+            record { m = s.m; within = omega arith; entry_nv = s.entry_nv; undoes = undo-set log nv e.addr e.old l.has ∙ s.undoes; at = s.at; closed = s.closed };
+      } in
       let rest : undo (take k log) (put_back e nv) ≡ s.entry_nv = sym (undo-last (take k log) e nv) ∙ ap (λ l. undo l nv) (sym l.taken) ∙ u.rest in
-      let here : OnArmed d (undo_phase k) depth (state_at (undo_phase k) pc fp depth stack (put_back e nv) log Armed words) report (suc made) = undo_from d report (suc made) pc fp depth stack (put_back e nv) log words k waking (omega (arith, u.short)) rest in
+      let here : OnArmed d (undo_phase k) depth (state_at (undo_phase k) pc fp depth stack (put_back e nv) log Armed words) report (suc made) =
+      undo_from d report (suc made) pc fp depth stack (put_back e nv) log words k waking (omega (arith, u.short)) rest in
       subst (λ o. Stays d h report made t (quietly (state_at (undo_phase k) pc fp depth stack (undone o nv) log Armed words))) (sym l.got)
       (here, honest_later d h report made a, sized)
 
   -- the entry again, from the area
-  resumes : (w : IsWaking d report made nv log words) → nv ≡ w.entry.entry_nv → regs_at pc fp stack ≡ w.region.saved → Stays d h report made t (record { state = state_at Running pc fp 1 stack nv log Armed words; said = Some (Entered (d.region pc)) })
+  resumes : (w : IsWaking d report made nv log words) → nv ≡ w.entry.entry_nv → regs_at pc fp stack ≡ w.region.saved
+      → Stays d h report made t (record { state = state_at Running pc fp 1 stack nv log Armed words; said = Some (Entered (d.region pc)) })
   resumes w same eq =
       let s = w.entry in
       let r = w.region.number in
@@ -107,14 +120,24 @@ module _ (d : Device) (h : ℕ → ℕ → ℤ) (report : List Told) (made t pc 
         sized,
       )
 
-  restores_armed : (done : ℕ) (more : Bool) → IsUndone d report made done pc fp stack nv log words → nat_lt done (held words) ≡ more → Stays d h report made t (if more then restored_one d done (state_at (Restoring done) pc fp depth stack nv log Armed words) else resume d Armed (state_at (Restoring done) pc fp depth stack nv log Armed words))
+  restores_armed : (done : ℕ) (more : Bool) → IsUndone d report made done pc fp stack nv log words → nat_lt done (held words) ≡ more
+      → Stays d h report made t (if more then restored_one d done (state_at (Restoring done) pc fp depth stack nv log Armed words) else resume d Armed
+      (state_at (Restoring done) pc fp depth stack nv log Armed words))
   restores_armed done false s q =
       resumes s.waking s.same (all_restored d words s.waking.region.saved s.waking.region.is_saved done pc fp stack s.restored (ltb-false done (held words) q))
   restores_armed done true s q =
       let e = s.waking.entry in
       let g = s.waking.region in
-      let f = continues.fits d _ _ e.m (core_at g.saved 1 e.entry_nv) e.at in
-      (record { waking = waking_later d report made nv log words s.waking; same = s.same; restored = more_restored d words g.saved g.is_saved done pc fp stack s.restored (ltb-true done (held words) q) f }, honest_later d h report made a, sized)
+      let f = continues.fits d _ _ e.m (core_at g.saved 1 e.entry_nv) e.at in (
+        record {
+          waking = waking_later d report made nv log words s.waking;
+          same = s.same;
+          restored =
+              more_restored d words g.saved g.is_saved done pc fp stack s.restored (ltb-true done (held words) q) f;
+        },
+        honest_later d h report made a,
+        sized,
+      )
 
   pub undone_keeps : (done : ℕ) → IsUndone d report made done pc fp stack nv log words → Stays d h report made t (restore d done (state_at (Restoring done) pc fp depth stack nv log Armed words))
   undone_keeps done s = restores_armed done (nat_lt done (held words)) s refl

@@ -79,7 +79,8 @@ module _ (d : Device) where
 
 -- what the next instruction leads to
 module _ (d : Device) (samples : List ℤ) (out : List Said) (m : ℕ) where
-  goes_by : (c : Core) (x : Next) → IsAt d samples out m c → d.next c.regs c.nv ≡ x → (k : ℕ) (more : List ℤ) → run_on d (suc m + k) (samples ++ more) (start_of d) [] ≡ follow x more c out (run_on d k)
+  goes_by : (c : Core) (x : Next) → IsAt d samples out m c → d.next c.regs c.nv ≡ x → (k : ℕ) (more : List ℤ) → run_on d (suc m + k) (samples ++ more) (start_of d) []
+      ≡ follow x more c out (run_on d k)
   goes_by c x a e k more =
       let n : suc m + k ≡ m + suc k = omega arith in
       ap (λ n. run_on d n (samples ++ more) (start_of d) []) n ∙ a.by (suc k) more ∙ ap (λ x. follow x more c out (run_on d k)) e
@@ -91,25 +92,31 @@ module _ (d : Device) (samples : List ℤ) (out : List Said) (m : ℕ) where
   pub fits : (c : Core) → IsAt d samples out m c → length c.regs.stack ≤ d.room
   fits c a = (a.safe 1 [] no_words).0
 
-  pub goes : (c : Core) (to : Regs) (w : Option Write) (v : Option Shown) → IsAt d samples out m c → d.next c.regs c.nv ≡ Goes to w v → IsAt d samples (then_shown out v) (suc m) (core_at to c.depth (written w c.nv))
+  pub goes : (c : Core) (to : Regs) (w : Option Write) (v : Option Shown) → IsAt d samples out m c → d.next c.regs c.nv ≡ Goes to w v
+      → IsAt d samples (then_shown out v) (suc m) (core_at to c.depth (written w c.nv))
   goes c to w v a e = record { by = goes_by c (Goes to w v) a e; safe = safe_by c (Goes to w v) a e }
 
-  pub senses : (c : Core) (s : ℕ) (to : Regs) (x : ℤ) → is_word x ≡ true → IsAt d samples out m c → d.next c.regs c.nv ≡ Senses s to → IsAt d (samples ++ x ∷ []) (out ++ Sensed s x ∷ []) (suc m) (core_at (pushed to x) c.depth c.nv)
+  pub senses : (c : Core) (s : ℕ) (to : Regs) (x : ℤ) → is_word x ≡ true → IsAt d samples out m c → d.next c.regs c.nv ≡ Senses s to
+      → IsAt d (samples ++ x ∷ []) (out ++ Sensed s x ∷ []) (suc m) (core_at (pushed to x) c.depth c.nv)
   senses c s to x w a e = record {
     by = λ k more. ap (λ l. run_on d (suc m + k) l (start_of d) []) (append_assoc samples (x ∷ []) more) ∙ goes_by c (Senses s to) a e k (x ∷ more);
     safe = λ k more ws. safe_by c (Senses s to) a e k (x ∷ more) (All-cons IsWord x more w ws);
   }
 
-  pub enters : (regs : Regs) (nv : List ℤ) (r : ℕ) (to : Regs) → IsAt d samples out m (core_at regs 0 nv) → d.next regs nv ≡ Enters r to → IsAt d samples (out ++ Entered r ∷ []) (suc m) (core_at to 1 nv)
+  pub enters : (regs : Regs) (nv : List ℤ) (r : ℕ) (to : Regs) → IsAt d samples out m (core_at regs 0 nv) → d.next regs nv ≡ Enters r to
+      → IsAt d samples (out ++ Entered r ∷ []) (suc m) (core_at to 1 nv)
   enters regs nv r to a e = record { by = goes_by (core_at regs 0 nv) (Enters r to) a e; safe = safe_by (core_at regs 0 nv) (Enters r to) a e }
 
-  pub enters_more : (regs : Regs) (depth : ℕ) (nv : List ℤ) (r : ℕ) (to : Regs) → IsAt d samples out m (core_at regs (suc depth) nv) → d.next regs nv ≡ Enters r to → IsAt d samples out (suc m) (core_at to (suc (suc depth)) nv)
+  pub enters_more : (regs : Regs) (depth : ℕ) (nv : List ℤ) (r : ℕ) (to : Regs) → IsAt d samples out m (core_at regs (suc depth) nv) → d.next regs nv ≡ Enters r to
+      → IsAt d samples out (suc m) (core_at to (suc (suc depth)) nv)
   enters_more regs depth nv r to a e = record { by = goes_by (core_at regs (suc depth) nv) (Enters r to) a e; safe = safe_by (core_at regs (suc depth) nv) (Enters r to) a e }
 
-  pub commits : (regs : Regs) (nv : List ℤ) (r : ℕ) (to : Regs) → IsAt d samples out m (core_at regs 1 nv) → d.next regs nv ≡ Commits r to → IsAt d samples (out ++ Committed r ∷ []) (suc m) (core_at to 0 nv)
+  pub commits : (regs : Regs) (nv : List ℤ) (r : ℕ) (to : Regs) → IsAt d samples out m (core_at regs 1 nv) → d.next regs nv ≡ Commits r to
+      → IsAt d samples (out ++ Committed r ∷ []) (suc m) (core_at to 0 nv)
   commits regs nv r to a e = record { by = goes_by (core_at regs 1 nv) (Commits r to) a e; safe = safe_by (core_at regs 1 nv) (Commits r to) a e }
 
-  pub commits_more : (regs : Regs) (depth : ℕ) (nv : List ℤ) (r : ℕ) (to : Regs) → IsAt d samples out m (core_at regs (suc (suc depth)) nv) → d.next regs nv ≡ Commits r to → IsAt d samples out (suc m) (core_at to (suc depth) nv)
+  pub commits_more : (regs : Regs) (depth : ℕ) (nv : List ℤ) (r : ℕ) (to : Regs) → IsAt d samples out m (core_at regs (suc (suc depth)) nv) → d.next regs nv ≡ Commits r to
+      → IsAt d samples out (suc m) (core_at to (suc depth) nv)
   commits_more regs depth nv r to a e = record { by = goes_by (core_at regs (suc (suc depth)) nv) (Commits r to) a e; safe = safe_by (core_at regs (suc (suc depth)) nv) (Commits r to) a e }
 
   pub commits_never : (regs : Regs) (nv : List ℤ) (r : ℕ) (to : Regs) → IsAt d samples out m (core_at regs 0 nv) → d.next regs nv ≡ Commits r to → ⊥

@@ -85,7 +85,9 @@ ahead_on (Off a) xs h = h
 ahead_on Dark xs h = h
 ahead_on (Ended a) xs h = h
 
-choice-append : (c : Bool) (i : Told) (xs ys : List Told) → begins_stretch i.said (next_mark xs) ≡ c → (HasAhead true xs → erase_from true (xs ++ ys) ≡ erase_from true xs ++ erase_from false ys) → erase_from false (xs ++ ys) ≡ erase_from false xs ++ erase_from false ys → (if c then erase_from true (xs ++ ys) else i ∷ erase_from false (xs ++ ys)) ≡ (if c then erase_from true xs else i ∷ erase_from false xs) ++ erase_from false ys
+choice-append : (c : Bool) (i : Told) (xs ys : List Told) → begins_stretch i.said (next_mark xs) ≡ c
+    → (HasAhead true xs → erase_from true (xs ++ ys) ≡ erase_from true xs ++ erase_from false ys) → erase_from false (xs ++ ys) ≡ erase_from false xs ++ erase_from false ys
+    → (if c then erase_from true (xs ++ ys) else i ∷ erase_from false (xs ++ ys)) ≡ (if c then erase_from true xs else i ∷ erase_from false xs) ++ erase_from false ys
 choice-append true i xs ys e ht hf = ht (begins-abort i.said (next_mark xs) e)
 choice-append false i xs ys e ht hf = ap (λ l. i ∷ l) hf
 

@@ -146,4 +146,5 @@ module _ (d : Device) where
 
   -- what a step has to show, for the state that it leads to and what it says
   abbrev pub Stays : (ℕ → ℕ → ℤ) → List Told → ℕ → ℕ → Stepped → Type 0
-  Stays h report made t r = Holds r.state.area r.state.phase r.state.depth r.state (told report t r.said) (suc made) × AreHonest h (suc made) (told report t r.said) × (length r.state.words ≡ 3 + d.room)
+  Stays h report made t r = Holds r.state.area r.state.phase r.state.depth r.state (told report t r.said) (suc made) × AreHonest h (suc made) (told report t r.said) ×
+      (length r.state.words ≡ 3 + d.room)

@@ -43,7 +43,8 @@ plain_more (i ∷ body) t s p q = (p.0, plain_more body t s p.1 q)
 pub parts_more : (report before body : List Told) (i j : Told) → report ≡ before ++ i ∷ body → report ++ j ∷ [] ≡ before ++ i ∷ (body ++ j ∷ [])
 parts_more report before body i j e = ap (λ l. l ++ j ∷ []) e ∙ append_assoc before (i ∷ body) (j ∷ [])
 
-module _ (d : Device) (h : ℕ → ℕ → ℤ) (report : List Told) (made t pc fp : ℕ) (stack : List ℤ) (depth : ℕ) (nv : List ℤ) (log : List Entry) (words : List ℤ) (a : AreHonest d h made report) (sized : length words ≡ 3 + d.room) (g : IsRunning d report made (regs_at pc fp stack) (suc depth) nv log words) where
+module _ (d : Device) (h : ℕ → ℕ → ℤ) (report : List Told) (made t pc fp : ℕ) (stack : List ℤ) (depth : ℕ) (nv : List ℤ) (log : List Entry) (words : List ℤ)
+    (a : AreHonest d h made report) (sized : length words ≡ 3 + d.room) (g : IsRunning d report made (regs_at pc fp stack) (suc depth) nv log words) where
   abbrev here : State
   here = state_at Running pc fp (suc depth) stack nv log Armed words
 
@@ -69,7 +70,8 @@ module _ (d : Device) (h : ℕ → ℕ → ℤ) (report : List Told) (made t pc 
       )
   write_goes to w (Some what) e log_none =
       let s = g.attempt in
-      let at = at_more d report t (Showed what) tt (kept_samples report) (marked report ++ Showed what ∷ []) (suc s.m) (core_at to (suc depth) (written w nv)) (sym (append-nil (kept_samples report))) refl (continues.goes d _ _ s.m (core_at (regs_at pc fp stack) (suc depth) nv) to w (Some what) s.at e) in (
+      let at = at_more d report t (Showed what) tt (kept_samples report) (marked report ++ Showed what ∷ []) (suc s.m) (core_at to (suc depth) (written w nv))
+      (sym (append-nil (kept_samples report))) refl (continues.goes d _ _ s.m (core_at (regs_at pc fp stack) (suc depth) nv) to w (Some what) s.at e) in (
         record {
           region = g.region;
           attempt = record {
@@ -88,7 +90,8 @@ module _ (d : Device) (h : ℕ → ℕ → ℤ) (report : List Told) (made t pc 
         sized,
       )
 
-  goes_by : (to : Regs) (w : Option Write) (v : Option Shown) (o : Option ℕ) → d.next (regs_at pc fp stack) nv ≡ Goes to w v → to_log (suc depth) w log ≡ o → Stays d h report made t (goes o to w v here)
+  goes_by : (to : Regs) (w : Option Write) (v : Option Shown) (o : Option ℕ) → d.next (regs_at pc fp stack) nv ≡ Goes to w v → to_log (suc depth) w log ≡ o
+      → Stays d h report made t (goes o to w v here)
   goes_by to w v None e o = write_goes to w v e o
   goes_by to w v (Some x) e o =
       let s = g.attempt in (
@@ -114,7 +117,8 @@ module _ (d : Device) (h : ℕ → ℕ → ℤ) (report : List Told) (made t pc 
   armed_senses x to word e =
       let s = g.attempt in
       let c = core_at (pushed to (h x t)) (suc depth) nv in
-      let at = at_more d report t (Sensed x (h x t)) tt (kept_samples report ++ h x t ∷ []) (marked report ++ Sensed x (h x t) ∷ []) (suc s.m) c refl refl (continues.senses d _ _ s.m (core_at (regs_at pc fp stack) (suc depth) nv) x to (h x t) word s.at e) in (
+      let at = at_more d report t (Sensed x (h x t)) tt (kept_samples report ++ h x t ∷ []) (marked report ++ Sensed x (h x t) ∷ []) (suc s.m) c refl refl
+      (continues.senses d _ _ s.m (core_at (regs_at pc fp stack) (suc depth) nv) x to (h x t) word s.at e) in (
         record {
           region = g.region;
           attempt = record {
@@ -155,10 +159,13 @@ module _ (d : Device) (h : ℕ → ℕ → ℤ) (report : List Told) (made t pc 
       )
 
 module _ (d : Device) (h : ℕ → ℕ → ℤ) (report : List Told) (made t pc fp : ℕ) (stack : List ℤ) where
-  armed_commits : (depth : ℕ) (nv : List ℤ) (log : List Entry) (words : List ℤ) (q : ℕ) (to : Regs) → AreHonest d h made report → length words ≡ 3 + d.room → IsRunning d report made (regs_at pc fp stack) (suc depth) nv log words → d.next (regs_at pc fp stack) nv ≡ Commits q to → Stays d h report made t (commits (suc depth) q to (state_at Running pc fp (suc depth) stack nv log Armed words))
+  armed_commits : (depth : ℕ) (nv : List ℤ) (log : List Entry) (words : List ℤ) (q : ℕ) (to : Regs) → AreHonest d h made report → length words ≡ 3 + d.room
+      → IsRunning d report made (regs_at pc fp stack) (suc depth) nv log words → d.next (regs_at pc fp stack) nv ≡ Commits q to
+      → Stays d h report made t (commits (suc depth) q to (state_at Running pc fp (suc depth) stack nv log Armed words))
   armed_commits zero nv log words q to a sized g e =
       let s = g.attempt in
-      let at = at_more d report t (Committed q) tt (kept_samples report) (marked report ++ Committed q ∷ []) (suc s.m) (core_at to 0 nv) (sym (append-nil (kept_samples report))) refl (continues.commits d _ _ s.m (regs_at pc fp stack) nv q to s.at e) in (
+      let at = at_more d report t (Committed q) tt (kept_samples report) (marked report ++ Committed q ∷ []) (suc s.m) (core_at to 0 nv) (sym (append-nil (kept_samples report)))
+      refl (continues.commits d _ _ s.m (regs_at pc fp stack) nv q to s.at e) in (
         (settled_more d report t (Committed q) tt (suc made) (suc s.m) to nv at (omega arith) refl, refl),
         grown d report t (Committed q) tt h made (suc s.m) (core_at to 0 nv) a at (omega arith) (tt, tt) tt,
         sized,
@@ -184,7 +191,8 @@ module _ (d : Device) (h : ℕ → ℕ → ℤ) (report : List Told) (made t pc 
       )
 
 -- one step inside a region
-module _ (d : Device) (h : ℕ → ℕ → ℤ) (words_of_h : (s t : ℕ) → is_word (h s t) ≡ true) (report : List Told) (made t pc fp : ℕ) (stack : List ℤ) (depth : ℕ) (nv : List ℤ) (log : List Entry) (words : List ℤ) (a : AreHonest d h made report) (sized : length words ≡ 3 + d.room) (g : IsRunning d report made (regs_at pc fp stack) (suc depth) nv log words) where
+module _ (d : Device) (h : ℕ → ℕ → ℤ) (words_of_h : (s t : ℕ) → is_word (h s t) ≡ true) (report : List Told) (made t pc fp : ℕ) (stack : List ℤ) (depth : ℕ) (nv : List ℤ)
+    (log : List Entry) (words : List ℤ) (a : AreHonest d h made report) (sized : length words ≡ 3 + d.room) (g : IsRunning d report made (regs_at pc fp stack) (suc depth) nv log words) where
   armed_by : (x : Next) → d.next (regs_at pc fp stack) nv ≡ x → Stays d h report made t (run_next (λ s. h s t) x (state_at Running pc fp (suc depth) stack nv log Armed words))
   armed_by (Goes to w v) e = goes_by d h report made t pc fp stack depth nv log words a sized g to w v (to_log (suc depth) w log) e refl
   armed_by (Senses x to) e = armed_senses d h report made t pc fp stack depth nv log words a sized g x to (words_of_h x t) e

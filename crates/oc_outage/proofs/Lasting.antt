@@ -11,7 +11,8 @@ use Rattle.oc_ckpt.specs.declared.AreaState.TheVariants.{Fresh, Open, Sealed, Ar
 use Rattle.oc_isa.specs.declared.phase.Phase.{Phase}
 use Rattle.oc_isa.specs.declared.phase.Phase.TheVariants.{Waking, Undoing, Restoring, Running, Entering, Over, Lost}
 use Rattle.oc_isa.specs.Next.{Regs, Next, Goes, Senses, Enters, Commits, Ends, Stuck, Device}
-use Rattle.oc_isa.specs.Power.{State, Stepped, checkpoint, World, told, held, undo_phase, wake, restore, resume, enter, enters, enter_on, commits, goes, to_log, run_next, next_at, words_of, ticked, tick_on, ticks_on, power_fails, darkness, one_period, through, first_world, power_run}
+use Rattle.oc_isa.specs.Power.{State, Stepped, checkpoint, World, told, held, undo_phase, wake, restore, resume, enter, enters, enter_on, commits, goes, to_log, run_next, next_at}
+use Rattle.oc_isa.specs.Power.{words_of, ticked, tick_on, ticks_on, power_fails, darkness, one_period, through, first_world, power_run}
 use Rattle.oc_outage.specs.Honest.{IsLeft, is_armed, loses, loses_checkpoint}
 use Rattle.oc_items.specs.Reports.{EndsWith}
 
@@ -176,8 +177,16 @@ module _ (d : Device) (h : ℕ → ℕ → ℤ) where
   fails_by p Waking w = record { closed = λ c. tt; lost = asleep p.cut }
   fails_by p (Undoing k) w = record { closed = λ c. tt; lost = asleep p.cut }
   fails_by p (Restoring k) w = record { closed = λ c. tt; lost = asleep p.cut }
-  fails_by p Running w = record { closed = λ c. awake_closed p.cut w.state.area (record w.state { phase = Running }) _ w.tick p.off; lost = awake_lost p.cut w.state.area (record w.state { phase = Running }) }
-  fails_by p (Entering k) w = record { closed = λ c. awake_closed p.cut w.state.area (record w.state { phase = Entering k }) _ w.tick p.off; lost = awake_lost p.cut w.state.area (record w.state { phase = Entering k }) }
+  fails_by p Running w = record {
+    closed = λ c. awake_closed p.cut w.state.area (record w.state { phase = Running }) _ w.tick p.off;
+    lost =
+        awake_lost p.cut w.state.area (record w.state { phase = Running });
+  }
+  fails_by p (Entering k) w = record {
+    closed = λ c. awake_closed p.cut w.state.area (record w.state { phase = Entering k }) _ w.tick p.off;
+    lost =
+        awake_lost p.cut w.state.area (record w.state { phase = Entering k });
+  }
   fails_by p (Over how) w = record { closed = λ c. c; lost = asleep p.cut }
   fails_by p Lost w = record { closed = λ c. c; lost = refl }
 

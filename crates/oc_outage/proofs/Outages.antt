@@ -63,27 +63,33 @@ module _ (d : Device) (report : List Told) (made t off : ℕ) where
   waking_off nv log words s = record { region = s.region; entry = entry_off d report made t off s.region.number s.region.saved nv log s.entry }
 
   -- the low-power checkpoint
-  checkpointed : (regs : Regs) (nv words : List ℤ) → IsSettled d report made regs nv → length words ≡ 3 + d.room → IsSealed d (report ++ item t (Off off) ∷ []) made nv (save_all (words_of regs) words) × (length (save_all (words_of regs) words) ≡ 3 + d.room)
+  checkpointed : (regs : Regs) (nv words : List ℤ) → IsSettled d report made regs nv → length words ≡ 3 + d.room
+      → IsSealed d (report ++ item t (Off off) ∷ []) made nv (save_all (words_of regs) words) × (length (save_all (words_of regs) words) ≡ 3 + d.room)
   checkpointed regs nv words s z =
       let f = fits d _ _ s.m (core_at regs 0 nv) s.at in
       let n = length-words_of regs in
       (record { saved = regs; is_saved = all_saved regs words; settled = settled_off d report made t off regs nv s }, length-save_all (words_of regs) words (omega arith) ∙ z)
 
-module _ (d : Device) (h : ℕ → ℕ → ℤ) (report : List Told) (made t on off : ℕ) (stack nv : List ℤ) (log : List Entry) (words : List ℤ) (a : AreHonest d h made report) (sized : length words ≡ 3 + d.room) where
+module _ (d : Device) (h : ℕ → ℕ → ℤ) (report : List Told) (made t on off : ℕ) (stack nv : List ℤ) (log : List Entry) (words : List ℤ) (a : AreHonest d h made report)
+    (sized : length words ≡ 3 + d.room) where
   abbrev after : Bool → State → World
   after cut s = power_fails d (record { on = on; off = off; cut = cut }) (world_at t s report)
 
   -- power fails outside a region, and the checkpoint is cut or complete
   fails_open : (cut : Bool) (pc fp : ℕ) → IsSettled d report made (regs_at pc fp stack) nv → log ≡ [] → IsGood d h made (after cut (state_at Running pc fp 0 stack nv log Open words))
   fails_open true pc fp s y = record { holds = tt; honest = off_honest d h report made t off a s.closed; sized = sized }
-  fails_open false pc fp s y = let c = checkpointed d report made t off (regs_at pc fp stack) nv words s sized in record { holds = (c.0, y); honest = off_honest d h report made t off a s.closed; sized = c.1 }
+  fails_open false pc fp s y = let c = checkpointed d report made t off (regs_at pc fp stack) nv words s sized in
+      record { holds = (c.0, y); honest = off_honest d h report made t off a s.closed; sized = c.1 }
 
-  fails_entering : (cut : Bool) (k pc fp depth : ℕ) → IsSettled d report made (regs_at pc fp stack) nv → log ≡ [] → IsGood d h made (after cut (state_at (Entering k) pc fp depth stack nv log Open words))
+  fails_entering : (cut : Bool) (k pc fp depth : ℕ) → IsSettled d report made (regs_at pc fp stack) nv → log ≡ []
+      → IsGood d h made (after cut (state_at (Entering k) pc fp depth stack nv log Open words))
   fails_entering true k pc fp depth s y = record { holds = tt; honest = off_honest d h report made t off a s.closed; sized = sized }
-  fails_entering false k pc fp depth s y = let c = checkpointed d report made t off (regs_at pc fp stack) nv words s sized in record { holds = (c.0, y); honest = off_honest d h report made t off a s.closed; sized = c.1 }
+  fails_entering false k pc fp depth s y = let c = checkpointed d report made t off (regs_at pc fp stack) nv words s sized in
+      record { holds = (c.0, y); honest = off_honest d h report made t off a s.closed; sized = c.1 }
 
   -- power fails in a region
-  fails_armed : (cut : Bool) (pc fp depth : ℕ) → IsRunning d report made (regs_at pc fp stack) (suc depth) nv log words → IsGood d h made (after cut (state_at Running pc fp (suc depth) stack nv log Armed words))
+  fails_armed : (cut : Bool) (pc fp depth : ℕ) → IsRunning d report made (regs_at pc fp stack) (suc depth) nv log words
+      → IsGood d h made (after cut (state_at Running pc fp (suc depth) stack nv log Armed words))
   fails_armed cut pc fp depth w =
       let r = w.region.number in
       let saved = w.region.saved in
@@ -96,7 +102,8 @@ module _ (d : Device) (h : ℕ → ℕ → ℤ) (report : List Told) (made t on 
         sized = sized;
       })
 
-  fails_by : (cut : Bool) (area : AreaState) (phase : Phase) (pc fp depth : ℕ) → Holds d area phase depth (state_at phase pc fp depth stack nv log area words) report made → IsGood d h made (after cut (state_at phase pc fp depth stack nv log area words))
+  fails_by : (cut : Bool) (area : AreaState) (phase : Phase) (pc fp depth : ℕ) → Holds d area phase depth (state_at phase pc fp depth stack nv log area words) report made
+      → IsGood d h made (after cut (state_at phase pc fp depth stack nv log area words))
   fails_by cut Fresh Waking pc fp depth s = record { holds = (settled_off d report made t off d.start nv s.0, s.1); honest = off_honest d h report made t off a s.0.closed; sized = sized }
   fails_by cut Fresh (Undoing k) pc fp depth s = absurd s
   fails_by cut Fresh (Restoring k) pc fp depth s = absurd s
@@ -114,14 +121,17 @@ module _ (d : Device) (h : ℕ → ℕ → ℤ) (report : List Told) (made t on 
   fails_by cut Open Lost pc fp depth s = record { holds = tt; honest = a; sized = sized }
   fails_by cut Sealed Waking pc fp depth s = record { holds = (sealed_off d report made t off nv words s.0, s.1); honest = off_honest d h report made t off a s.0.settled.closed; sized = sized }
   fails_by cut Sealed (Undoing k) pc fp depth s = absurd s
-  fails_by cut Sealed (Restoring k) pc fp depth s = record { holds = (sealed_off d report made t off nv words s.0.sealed, s.1); honest = off_honest d h report made t off a s.0.sealed.settled.closed; sized = sized }
+  fails_by cut Sealed (Restoring k) pc fp depth s =
+      record { holds = (sealed_off d report made t off nv words s.0.sealed, s.1); honest = off_honest d h report made t off a s.0.sealed.settled.closed; sized = sized }
   fails_by cut Sealed Running pc fp depth s = absurd s
   fails_by cut Sealed (Entering k) pc fp depth s = absurd s
   fails_by cut Sealed (Over how) pc fp depth s = absurd s
   fails_by cut Sealed Lost pc fp depth s = absurd s
   fails_by cut Armed Waking pc fp depth s = record { holds = waking_off d report made t off nv log words s; honest = off_honest d h report made t off a s.entry.closed; sized = sized }
-  fails_by cut Armed (Undoing k) pc fp depth s = record { holds = waking_off d report made t off nv log words s.waking; honest = off_honest d h report made t off a s.waking.entry.closed; sized = sized }
-  fails_by cut Armed (Restoring k) pc fp depth s = record { holds = waking_off d report made t off nv log words s.waking; honest = off_honest d h report made t off a s.waking.entry.closed; sized = sized }
+  fails_by cut Armed (Undoing k) pc fp depth s =
+      record { holds = waking_off d report made t off nv log words s.waking; honest = off_honest d h report made t off a s.waking.entry.closed; sized = sized }
+  fails_by cut Armed (Restoring k) pc fp depth s =
+      record { holds = waking_off d report made t off nv log words s.waking; honest = off_honest d h report made t off a s.waking.entry.closed; sized = sized }
   fails_by cut Armed Running pc fp zero s = absurd s
   fails_by cut Armed Running pc fp (suc depth) s = fails_armed cut pc fp depth s
   fails_by cut Armed (Entering k) pc fp depth s = absurd s
@@ -130,4 +140,5 @@ module _ (d : Device) (h : ℕ → ℕ → ℤ) (report : List Told) (made t on 
 
 module _ (d : Device) (h : ℕ → ℕ → ℤ) where
   pub outage_keeps : (made : ℕ) (p : Period) (w : World) → IsGood d h made w → IsGood d h made (power_fails d p w)
-  outage_keeps made p w g = fails_by d h w.report made w.tick p.on p.off w.state.stack w.state.nv w.state.log w.state.words g.honest g.sized p.cut w.state.area w.state.phase w.state.pc w.state.fp w.state.depth g.holds
+  outage_keeps made p w g = fails_by d h w.report made w.tick p.on p.off w.state.stack w.state.nv w.state.log w.state.words g.honest g.sized p.cut w.state.area w.state.phase
+      w.state.pc w.state.fp w.state.depth g.holds

@@ -24,29 +24,35 @@ use Rattle.oc_outage.proofs.Reports.{settled_later, honest_later, at_more, settl
 use Rattle.oc_outage.proofs.Words.{IsSaved, length-words_of, one_saved}
 
 -- outside a region
-module _ (d : Device) (h : ℕ → ℕ → ℤ) (report : List Told) (made t pc fp : ℕ) (stack nv : List ℤ) (log : List Entry) (words : List ℤ) (a : AreHonest d h made report) (sized : length words ≡ 3 + d.room) where
-  open_goes : (to : Regs) (w : Option Write) (v : Option Shown) → IsSettled d report made (regs_at pc fp stack) nv → log ≡ [] → d.next (regs_at pc fp stack) nv ≡ Goes to w v → Stays d h report made t (run_next (λ s. h s t) (Goes to w v) (state_at Running pc fp 0 stack nv log Open words))
+module _ (d : Device) (h : ℕ → ℕ → ℤ) (report : List Told) (made t pc fp : ℕ) (stack nv : List ℤ) (log : List Entry) (words : List ℤ) (a : AreHonest d h made report)
+    (sized : length words ≡ 3 + d.room) where
+  open_goes : (to : Regs) (w : Option Write) (v : Option Shown) → IsSettled d report made (regs_at pc fp stack) nv → log ≡ [] → d.next (regs_at pc fp stack) nv ≡ Goes to w v
+      → Stays d h report made t (run_next (λ s. h s t) (Goes to w v) (state_at Running pc fp 0 stack nv log Open words))
   open_goes to w None s y e =
       let at = continues.goes d _ _ s.m (core_at (regs_at pc fp stack) 0 nv) to w None s.at e in
       ((record { m = suc s.m; within = omega arith; at = at; closed = s.closed }, y), honest_later d h report made a, sized)
   open_goes to w (Some what) s y e =
-      let at = at_more d report t (Showed what) tt (kept_samples report) (marked report ++ Showed what ∷ []) (suc s.m) (core_at to 0 (written w nv)) (sym (append-nil (kept_samples report))) refl (continues.goes d _ _ s.m (core_at (regs_at pc fp stack) 0 nv) to w (Some what) s.at e) in (
+      let at = at_more d report t (Showed what) tt (kept_samples report) (marked report ++ Showed what ∷ []) (suc s.m) (core_at to 0 (written w nv))
+      (sym (append-nil (kept_samples report))) refl (continues.goes d _ _ s.m (core_at (regs_at pc fp stack) 0 nv) to w (Some what) s.at e) in (
         (settled_more d report t (Showed what) tt (suc made) (suc s.m) to (written w nv) at (omega arith) s.closed, y),
         grown d report t (Showed what) tt h made (suc s.m) (core_at to 0 (written w nv)) a at (omega arith) (tt, tt) tt,
         sized,
       )
 
-  open_senses : (x : ℕ) (to : Regs) → is_word (h x t) ≡ true → IsSettled d report made (regs_at pc fp stack) nv → log ≡ [] → d.next (regs_at pc fp stack) nv ≡ Senses x to → Stays d h report made t (run_next (λ s. h s t) (Senses x to) (state_at Running pc fp 0 stack nv log Open words))
+  open_senses : (x : ℕ) (to : Regs) → is_word (h x t) ≡ true → IsSettled d report made (regs_at pc fp stack) nv → log ≡ [] → d.next (regs_at pc fp stack) nv ≡ Senses x to
+      → Stays d h report made t (run_next (λ s. h s t) (Senses x to) (state_at Running pc fp 0 stack nv log Open words))
   open_senses x to word s y e =
       let c = core_at (pushed to (h x t)) 0 nv in
-      let at = at_more d report t (Sensed x (h x t)) tt (kept_samples report ++ h x t ∷ []) (marked report ++ Sensed x (h x t) ∷ []) (suc s.m) c refl refl (continues.senses d _ _ s.m (core_at (regs_at pc fp stack) 0 nv) x to (h x t) word s.at e) in (
+      let at = at_more d report t (Sensed x (h x t)) tt (kept_samples report ++ h x t ∷ []) (marked report ++ Sensed x (h x t) ∷ []) (suc s.m) c refl refl
+      (continues.senses d _ _ s.m (core_at (regs_at pc fp stack) 0 nv) x to (h x t) word s.at e) in (
         (settled_more d report t (Sensed x (h x t)) tt (suc made) (suc s.m) (pushed to (h x t)) nv at (omega arith) s.closed, y),
         grown d report t (Sensed x (h x t)) tt h made (suc s.m) c a at (omega arith) (tt, tt) refl,
         sized,
       )
 
 -- a step of an `enter`
-module _ (d : Device) (h : ℕ → ℕ → ℤ) (fit : IsFit d) (report : List Told) (made t : ℕ) (phase : Phase) (pc fp depth : ℕ) (stack nv : List ℤ) (log : List Entry) (words : List ℤ) (a : AreHonest d h made report) (sized : length words ≡ 3 + d.room) (done : ℕ) (en : IsEntering d report made done (regs_at pc fp stack) nv log words) where
+module _ (d : Device) (h : ℕ → ℕ → ℤ) (fit : IsFit d) (report : List Told) (made t : ℕ) (phase : Phase) (pc fp depth : ℕ) (stack nv : List ℤ) (log : List Entry) (words : List ℤ)
+    (a : AreHonest d h made report) (sized : length words ≡ 3 + d.room) (done : ℕ) (en : IsEntering d report made done (regs_at pc fp stack) nv log words) where
   abbrev here : State
   here = state_at phase pc fp depth stack nv log Open words
 
@@ -117,16 +123,20 @@ module _ (d : Device) (h : ℕ → ℕ → ℤ) (fit : IsFit d) (report : List T
   enter_goes_on = subst (λ n. Stays d h report made t (enter_on done n here)) (sym en.next) enter_keeps
 
 -- one step outside a region
-module _ (d : Device) (h : ℕ → ℕ → ℤ) (fit : IsFit d) (words_of_h : (s t : ℕ) → is_word (h s t) ≡ true) (report : List Told) (made t pc fp : ℕ) (stack nv : List ℤ) (log : List Entry) (words : List ℤ) (a : AreHonest d h made report) (sized : length words ≡ 3 + d.room) where
-  open_by : (x : Next) → IsSettled d report made (regs_at pc fp stack) nv → log ≡ [] → d.next (regs_at pc fp stack) nv ≡ x → Stays d h report made t (run_next (λ s. h s t) x (state_at Running pc fp 0 stack nv log Open words))
+module _ (d : Device) (h : ℕ → ℕ → ℤ) (fit : IsFit d) (words_of_h : (s t : ℕ) → is_word (h s t) ≡ true) (report : List Told) (made t pc fp : ℕ) (stack nv : List ℤ)
+    (log : List Entry) (words : List ℤ) (a : AreHonest d h made report) (sized : length words ≡ 3 + d.room) where
+  open_by : (x : Next) → IsSettled d report made (regs_at pc fp stack) nv → log ≡ [] → d.next (regs_at pc fp stack) nv ≡ x
+      → Stays d h report made t (run_next (λ s. h s t) x (state_at Running pc fp 0 stack nv log Open words))
   open_by (Goes to w v) s y e = open_goes d h report made t pc fp stack nv log words a sized to w v s y e
   open_by (Senses x to) s y e = open_senses d h report made t pc fp stack nv log words a sized x to (words_of_h x t) s y e
-  open_by (Enters r to) s y e = enter_keeps d h fit report made t Running pc fp 0 stack nv log words a sized 0 (record { settled = s; number = r; to = to; next = e; empty = y; upto = omega arith; saved = refl })
+  open_by (Enters r to) s y e = enter_keeps d h fit report made t Running pc fp 0 stack nv log words a sized 0
+      (record { settled = s; number = r; to = to; next = e; empty = y; upto = omega arith; saved = refl })
   open_by (Commits r to) s y e = absurd (continues.commits_never d _ _ s.m (regs_at pc fp stack) nv r to s.at e)
   open_by (Ends how) s y e =
       let c = core_at (regs_at pc fp stack) 0 nv in
       (ended_whole d report made t s.m c how s.at s.within e, ended_honest d report made t s.m c how s.at s.within e h a, sized)
   open_by Stuck s y e = absurd (continues.stuck_never d _ _ s.m (core_at (regs_at pc fp stack) 0 nv) s.at e)
 
-  pub open_keeps : IsSettled d report made (regs_at pc fp stack) nv → log ≡ [] → Stays d h report made t (run_next (λ s. h s t) (d.next (regs_at pc fp stack) nv) (state_at Running pc fp 0 stack nv log Open words))
+  pub open_keeps : IsSettled d report made (regs_at pc fp stack) nv → log ≡ []
+      → Stays d h report made t (run_next (λ s. h s t) (d.next (regs_at pc fp stack) nv) (state_at Running pc fp 0 stack nv log Open words))
   open_keeps s y = open_by (d.next (regs_at pc fp stack) nv) s y refl

@@ -46,15 +46,18 @@ module _ (d : Device) (h : ℕ → ℕ → ℤ) (report : List Told) (made : ℕ
 
 module _ (d : Device) (report : List Told) (t : ℕ) (s : Said) (unaborted : IsNoAbort (mark_or s None)) where
   -- what the report leads to, where it got one more item
-  pub at_more : (samples : List ℤ) (out : List Said) (m : ℕ) (c : Core) → samples ≡ kept_samples report ++ kept_samples (item t s ∷ []) → out ≡ marked report ++ marked (item t s ∷ []) → IsAt d samples out m c → IsAt d (kept_samples (report ++ item t s ∷ [])) (marked (report ++ item t s ∷ [])) m c
+  pub at_more : (samples : List ℤ) (out : List Said) (m : ℕ) (c : Core) → samples ≡ kept_samples report ++ kept_samples (item t s ∷ [])
+      → out ≡ marked report ++ marked (item t s ∷ []) → IsAt d samples out m c → IsAt d (kept_samples (report ++ item t s ∷ [])) (marked (report ++ item t s ∷ [])) m c
   at_more samples out m c ev eo a =
       subst (λ v. IsAt d v (marked (report ++ item t s ∷ [])) m c) (ev ∙ sym (samples_more report t s unaborted))
       (subst (λ o. IsAt d samples o m c) (eo ∙ sym (marked_more report t s unaborted)) a)
 
-  pub settled_more : (made m : ℕ) (regs : Regs) (nv : List ℤ) → IsAt d (kept_samples (report ++ item t s ∷ [])) (marked (report ++ item t s ∷ [])) m (core_at regs 0 nv) → m ≤ made → inside (inside false (erase report)) (erase (item t s ∷ [])) ≡ false → IsSettled d (report ++ item t s ∷ []) made regs nv
+  pub settled_more : (made m : ℕ) (regs : Regs) (nv : List ℤ) → IsAt d (kept_samples (report ++ item t s ∷ [])) (marked (report ++ item t s ∷ [])) m (core_at regs 0 nv) → m ≤ made
+      → inside (inside false (erase report)) (erase (item t s ∷ [])) ≡ false → IsSettled d (report ++ item t s ∷ []) made regs nv
   settled_more made m regs nv a le c = record { m = m; within = le; at = a; closed = inside_more report t s unaborted ∙ c }
 
-  pub grown : (h : ℕ → ℕ → ℤ) (made m : ℕ) (c : Core) → AreHonest d h made report → IsAt d (kept_samples (report ++ item t s ∷ [])) (marked (report ++ item t s ∷ [])) m c → m ≤ suc made → HasNoOffInside (inside false (erase report)) (erase (item t s ∷ [])) → IsRead h t s → AreHonest d h (suc made) (report ++ item t s ∷ [])
+  pub grown : (h : ℕ → ℕ → ℤ) (made m : ℕ) (c : Core) → AreHonest d h made report → IsAt d (kept_samples (report ++ item t s ∷ [])) (marked (report ++ item t s ∷ [])) m c
+      → m ≤ suc made → HasNoOffInside (inside false (erase report)) (erase (item t s ∷ [])) → IsRead h t s → AreHonest d h (suc made) (report ++ item t s ∷ [])
   grown h made m c a at le o rd =
       let whole = honest_all d h report made a made (omega arith) in
       honest_more d h report (suc made) t s (honest_later d h report made a)
@@ -65,7 +68,8 @@ module _ (d : Device) (report : List Told) (t : ℕ) (s : Said) (unaborted : IsN
       })
 
 -- the last item of a run that ends by itself
-module _ (d : Device) (report : List Told) (made t m : ℕ) (c : Core) (how : Ending) (at : IsAt d (kept_samples report) (marked report) m c) (within : m ≤ made) (next : d.next c.regs c.nv ≡ Ends how) where
+module _ (d : Device) (report : List Told) (made t m : ℕ) (c : Core) (how : Ending) (at : IsAt d (kept_samples report) (marked report) m c) (within : m ≤ made)
+    (next : d.next c.regs c.nv ≡ Ends how) where
   run-ended : (n : ℕ) → suc made ≤ n → continuous_run d (kept_samples (report ++ item t (Ended how) ∷ [])) n ≡ stops c (marked (report ++ item t (Ended how) ∷ []))
   run-ended n le =
       ap (λ v. continuous_run d v n) (samples_more report t (Ended how) tt ∙ append-nil (kept_samples report))
@@ -90,7 +94,8 @@ module _ (d : Device) (report : List Told) (made t m : ℕ) (c : Core) (how : En
 
 -- an `off` or `dark` changes nothing of what is kept
 module _ (d : Device) (h : ℕ → ℕ → ℤ) (report : List Told) (made t : ℕ) where
-  outage_honest : (s : Said) → IsNoAbort (mark_or s None) → marked (item t s ∷ []) ≡ [] → kept_samples (item t s ∷ []) ≡ [] → HasNoOffInside (inside false (erase report)) (erase (item t s ∷ [])) → IsRead h t s → AreHonest d h made report → AreHonest d h made (report ++ item t s ∷ [])
+  outage_honest : (s : Said) → IsNoAbort (mark_or s None) → marked (item t s ∷ []) ≡ [] → kept_samples (item t s ∷ []) ≡ []
+      → HasNoOffInside (inside false (erase report)) (erase (item t s ∷ [])) → IsRead h t s → AreHonest d h made report → AreHonest d h made (report ++ item t s ∷ [])
   outage_honest s unaborted em es o rd a =
       let kept : kept_samples report ≡ kept_samples (report ++ item t s ∷ []) = sym (append-nil _) ∙ ap (λ l. kept_samples report ++ l) (sym es) ∙ sym (samples_more report t s unaborted) in
       let said : marked report ≡ marked (report ++ item t s ∷ []) = sym (append-nil _) ∙ ap (λ l. marked report ++ l) (sym em) ∙ sym (marked_more report t s unaborted) in
@@ -112,7 +117,8 @@ module _ (d : Device) (h : ℕ → ℕ → ℤ) (report : List Told) (made t : �
 module _ (d : Device) (report : List Told) (made t off : ℕ) where
   pub settled_off : (regs : Regs) (nv : List ℤ) → IsSettled d report made regs nv → IsSettled d (report ++ item t (Off off) ∷ []) made regs nv
   settled_off regs nv s =
-      settled_more d report t (Off off) tt made s.m regs nv (at_more d report t (Off off) tt _ _ s.m (core_at regs 0 nv) (sym (append-nil (kept_samples report))) (sym (append-nil (marked report))) s.at) s.within s.closed
+      settled_more d report t (Off off) tt made s.m regs nv
+      (at_more d report t (Off off) tt _ _ s.m (core_at regs 0 nv) (sym (append-nil (kept_samples report))) (sym (append-nil (marked report))) s.at) s.within s.closed
 
   pub entry_off : (r : ℕ) (saved : Regs) (nv : List ℤ) (log : List Entry) → IsEntry d report made r saved nv log → IsEntry d (report ++ item t (Off off) ∷ []) made r saved nv log
   entry_off r saved nv log s = record {
@@ -121,7 +127,8 @@ module _ (d : Device) (report : List Told) (made t off : ℕ) where
     entry_nv = s.entry_nv;
     undoes = s.undoes;
     at =
-        subst (λ v. IsAt d v (marked (report ++ item t (Off off) ∷ []) ++ Entered r ∷ []) s.m (core_at saved 1 s.entry_nv)) (sym (append-nil (kept_samples report)) ∙ sym (samples_more report t (Off off) tt))
+        subst (λ v. IsAt d v (marked (report ++ item t (Off off) ∷ []) ++ Entered r ∷ []) s.m (core_at saved 1 s.entry_nv))
+        (sym (append-nil (kept_samples report)) ∙ sym (samples_more report t (Off off) tt))
         (subst (λ o. IsAt d (kept_samples report) (o ++ Entered r ∷ []) s.m (core_at saved 1 s.entry_nv)) (sym (append-nil (marked report)) ∙ sym (marked_more report t (Off off) tt)) s.at);
     closed = inside_more report t (Off off) tt ∙ s.closed;
   }

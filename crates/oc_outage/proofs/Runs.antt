@@ -26,7 +26,8 @@ use Rattle.oc_outage.proofs.Reports.{settled_later, whole_later, honest_later, d
 module _ (d : Device) (h : ℕ → ℕ → ℤ) (fit : IsFit d) (words_of_h : (s t : ℕ) → is_word (h s t) ≡ true) where
   module _ (report : List Told) (made t : ℕ) (stack nv : List ℤ) (log : List Entry) (words : List ℤ) (a : AreHonest d h made report) (sized : length words ≡ 3 + d.room) where
     -- one step, by the area and what is under way
-    step_keeps : (area : AreaState) (phase : Phase) (pc fp depth : ℕ) → Holds d area phase depth (state_at phase pc fp depth stack nv log area words) report made → Stays d h report made t (step_in d (λ s. h s t) phase (state_at phase pc fp depth stack nv log area words))
+    step_keeps : (area : AreaState) (phase : Phase) (pc fp depth : ℕ) → Holds d area phase depth (state_at phase pc fp depth stack nv log area words) report made
+        → Stays d h report made t (step_in d (λ s. h s t) phase (state_at phase pc fp depth stack nv log area words))
     step_keeps Fresh Waking pc fp depth s = ((settled_later d report made d.start nv s.0, s.1), honest_later d h report made a, sized)
     step_keeps Fresh (Undoing k) pc fp depth s = absurd s
     step_keeps Fresh (Restoring k) pc fp depth s = absurd s
@@ -133,7 +134,8 @@ module _ (d : Device) (h : ℕ → ℕ → ℤ) (fit : IsFit d) (words_of_h : (s
   pub every_prefix : (periods : List Period) (q rest : List Told) → IsSound d → q ++ rest ≡ (power_run d h periods).report → IsHonest d h (all_on periods) q
   every_prefix periods q rest s e = (run_end periods s).honest.each q rest e (all_on periods) (omega arith)
 
-  pub over_is_whole : (periods : List Period) (how : Ending) → IsSound d → (power_run d h periods).state.phase ≡ Over how → IsWhole d (all_on periods) (power_run d h periods).report (power_run d h periods).state.nv
+  pub over_is_whole : (periods : List Period) (how : Ending) → IsSound d → (power_run d h periods).state.phase ≡ Over how
+      → IsWhole d (all_on periods) (power_run d h periods).report (power_run d h periods).state.nv
   over_is_whole periods how s e = (run_end periods s).whole how e
 
   -- the same, against any longer run without outages

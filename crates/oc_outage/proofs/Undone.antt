@@ -25,7 +25,8 @@ undo-under : (es : List Entry) (nv : List ℤ) (a : ℕ) (v o : ℤ) → slice_s
 undo-under [] nv a v o = set-set nv a v o
 undo-under (e ∷ es) nv a v o =
     ⊎_elim
-    (λ h. ap (λ b. slice_set (slice_set (undo es (slice_set nv a v)) b e.old) a o) h.1 ∙ set-set _ a e.old o ∙ undo-under es nv a v o ∙ sym (set-set (undo es nv) a e.old o) ∙ ap (λ b. slice_set (slice_set (undo es nv) b e.old) a o) (sym h.1))
+    (λ h. ap (λ b. slice_set (slice_set (undo es (slice_set nv a v)) b e.old) a o) h.1 ∙ set-set _ a e.old o ∙ undo-under es nv a v o ∙ sym (set-set (undo es nv) a e.old o)
+    ∙ ap (λ b. slice_set (slice_set (undo es nv) b e.old) a o) (sym h.1))
     (λ h. set_comm _ e.addr a e.old o h.1 ∙ ap (λ l. slice_set l e.addr e.old) (undo-under es nv a v o) ∙ sym (set_comm (undo es nv) e.addr a e.old o h.1))
     (eqb_tells e.addr a)
 

@@ -39,26 +39,33 @@ after_more : {A : Type 0} (front : List A) (x : A) (read : Read (List A)) → af
 after_more front x (Ok y) = ap (λ (l : List _). Ok (l, y.1)) (sym (append_assoc front (x ∷ []) y.0))
 after_more front x (Err f) = refl
 
-pub list_goes_on : {A : Type 0} (part : Lexemes → Read A) → Shortens part → (front : List A) (ts : Lexemes) (x : A) (us vs : Lexemes) (total : Read (List A)) → strip_mark marks.CloseRound ts ≡ None → part ts ≡ Ok (x, us) → strip_mark marks.Comma us ≡ Some vs → after front (listed_at part ts) ≡ total → after (front ++ x ∷ []) (listed_at part vs) ≡ total
+pub list_goes_on : {A : Type 0} (part : Lexemes → Read A) → Shortens part → (front : List A) (ts : Lexemes) (x : A) (us vs : Lexemes) (total : Read (List A))
+    → strip_mark marks.CloseRound ts ≡ None → part ts ≡ Ok (x, us) → strip_mark marks.Comma us ≡ Some vs → after front (listed_at part ts) ≡ total → after (front ++ x ∷ []) (listed_at part vs) ≡ total
 list_goes_on part short front ts x us vs total none e comma so_far =
     let turn : listed_at part ts ≡ (listed_at part vs >>= λ xs. Ok (x ∷ xs.0, xs.1)) = listed_turn part short ts none ∙ rw (e, comma) refl in
     sym (ap (λ (r : Read (List _)). after front r) turn ∙ after_more front x (listed_at part vs)) ∙ so_far
 
-pub list_ends : {A : Type 0} (part : Lexemes → Read A) → Shortens part → (front : List A) (ts : Lexemes) (x : A) (us vs : Lexemes) (total : Read (List A)) → strip_mark marks.CloseRound ts ≡ None → part ts ≡ Ok (x, us) → strip_mark marks.Comma us ≡ None → expect_mark marks.CloseRound us ≡ Ok vs → after front (listed_at part ts) ≡ total → total ≡ Ok (front ++ x ∷ [], vs)
+pub list_ends : {A : Type 0} (part : Lexemes → Read A) → Shortens part → (front : List A) (ts : Lexemes) (x : A) (us vs : Lexemes) (total : Read (List A))
+    → strip_mark marks.CloseRound ts ≡ None → part ts ≡ Ok (x, us) → strip_mark marks.Comma us ≡ None → expect_mark marks.CloseRound us ≡ Ok vs → after front (listed_at part ts)
+    ≡ total → total ≡ Ok (front ++ x ∷ [], vs)
 list_ends part short front ts x us vs total none e comma close so_far =
     let turn : listed_at part ts ≡ Ok (x ∷ [], vs) = listed_turn part short ts none ∙ rw (e, comma, close) refl in
     sym so_far ∙ ap (λ (r : Read (List _)). after front r) turn
 
-pub list_closes : {A : Type 0} (part : Lexemes → Read A) (front : List A) (ts us : Lexemes) (total : Read (List A)) → strip_mark marks.CloseRound ts ≡ Some us → after front (listed_at part ts) ≡ total → total ≡ Ok (front, us)
+pub list_closes : {A : Type 0} (part : Lexemes → Read A) (front : List A) (ts us : Lexemes) (total : Read (List A)) → strip_mark marks.CloseRound ts ≡ Some us
+    → after front (listed_at part ts) ≡ total → total ≡ Ok (front, us)
 list_closes part front ts us total e so_far =
     sym so_far ∙ ap (λ (r : Read (List _)). after front r) (listed_closed part ts us e) ∙ ap (λ (l : List _). Ok (l, us)) (append-nil front)
 
-pub list_stops : {A : Type 0} (part : Lexemes → Read A) → Shortens part → (front : List A) (ts : Lexemes) (s : Stop) (total : Read (List A)) → strip_mark marks.CloseRound ts ≡ None → Stopped s (part ts) → after front (listed_at part ts) ≡ total → Stopped s total
+pub list_stops : {A : Type 0} (part : Lexemes → Read A) → Shortens part → (front : List A) (ts : Lexemes) (s : Stop) (total : Read (List A)) → strip_mark marks.CloseRound ts ≡ None
+    → Stopped s (part ts) → after front (listed_at part ts) ≡ total → Stopped s total
 list_stops part short front ts s total none h so_far =
     stopped_along s _ total (sym (ap (λ (r : Read (List _)). after front r) (listed_turn part short ts none)) ∙ so_far)
     (stopped_bind s (part ts >>= behind (listed_at part)) _ (stopped_bind s (part ts) (behind (listed_at part)) h))
 
-pub list_close_stops : {A : Type 0} (part : Lexemes → Read A) → Shortens part → (front : List A) (ts : Lexemes) (x : A) (us : Lexemes) (s : Stop) (total : Read (List A)) → strip_mark marks.CloseRound ts ≡ None → part ts ≡ Ok (x, us) → strip_mark marks.Comma us ≡ None → Stopped s (expect_mark marks.CloseRound us) → after front (listed_at part ts) ≡ total → Stopped s total
+pub list_close_stops : {A : Type 0} (part : Lexemes → Read A) → Shortens part → (front : List A) (ts : Lexemes) (x : A) (us : Lexemes) (s : Stop) (total : Read (List A))
+    → strip_mark marks.CloseRound ts ≡ None → part ts ≡ Ok (x, us) → strip_mark marks.Comma us ≡ None → Stopped s (expect_mark marks.CloseRound us)
+    → after front (listed_at part ts) ≡ total → Stopped s total
 list_close_stops part short front ts x us s total none e comma h so_far =
     let turn : listed_at part ts ≡ (expect_mark marks.CloseRound us >>= λ vs. Ok (x ∷ [], vs)) = listed_turn part short ts none ∙ rw (e, comma) refl in
     stopped_along s _ total (sym (ap (λ (r : Read (List _)). after front r) turn) ∙ so_far)
@@ -81,12 +88,14 @@ unfolding levels
 level_zero zero room n ts e = unary_is the_depths room n ts
 level_zero (suc level) room n ts e = absurd (omega arith)
 
-chain_here : (level : ℕ) (part : ℕ → Lexemes → ReadExpr) (e : TExpr) (n : ℕ) (ts : Lexemes) (op : BinaryOp) (mid : Lexemes) → operator_front level ts ≡ Some (op, mid) → (k : ℕ) × (chain level part (length ts) e n ts ≡ (spend_at n mid >>= λ m. part m mid >>= λ x. chain level part k (binary op e x.0) x.1 x.2))
+chain_here : (level : ℕ) (part : ℕ → Lexemes → ReadExpr) (e : TExpr) (n : ℕ) (ts : Lexemes) (op : BinaryOp) (mid : Lexemes) → operator_front level ts ≡ Some (op, mid)
+    → (k : ℕ) × (chain level part (length ts) e n ts ≡ (spend_at n mid >>= λ m. part m mid >>= λ x. chain level part k (binary op e x.0) x.1 x.2))
 unfolding chain
 chain_here level part e n [] op mid o = absurd (no_front level (op, mid) o)
 chain_here level part e n (t ∷ ts) op mid o = (length ts, rw o refl)
 
-pub level_turn : (room level : ℕ) (e : TExpr) (n : ℕ) (ts : Lexemes) (op : BinaryOp) (mid : Lexemes) (m : ℕ) (r : TExpr) (k : ℕ) (rest : Lexemes) → 0 < level → operator_front level ts ≡ Some (op, mid) → spend_at n mid ≡ Ok m → level_at the_depths (level - 1) room m mid ≡ Ok (r, k, rest)
+pub level_turn : (room level : ℕ) (e : TExpr) (n : ℕ) (ts : Lexemes) (op : BinaryOp) (mid : Lexemes) (m : ℕ) (r : TExpr) (k : ℕ) (rest : Lexemes) → 0 < level
+    → operator_front level ts ≡ Some (op, mid) → spend_at n mid ≡ Ok m → level_at the_depths (level - 1) room m mid ≡ Ok (r, k, rest)
     → chain level (level_at the_depths (level - 1) room) (length ts) e n ts ≡ chain level (level_at the_depths (level - 1) room) (length rest) (binary op e r) k rest
 level_turn room zero e n ts op mid m r k rest h o s p = absurd (omega arith)
 level_turn room (suc level) e n ts op mid m r k rest h o s p =
@@ -94,12 +103,14 @@ level_turn room (suc level) e n ts op mid m r k rest h o s p =
     let p' : level_at the_depths level room m mid ≡ Ok (r, k, rest) = rw q at p in
     rw (q, spent n mid m s) (chain_turn the_depths room level e m op ts mid (r, k, rest) o p')
 
-pub spend_stops : (level : ℕ) (part : ℕ → Lexemes → ReadExpr) (e : TExpr) (n : ℕ) (ts : Lexemes) (op : BinaryOp) (mid : Lexemes) (s : Stop) (total : ReadExpr) → operator_front level ts ≡ Some (op, mid) → Stopped s (spend_at n mid) → chain level part (length ts) e n ts ≡ total → Stopped s total
+pub spend_stops : (level : ℕ) (part : ℕ → Lexemes → ReadExpr) (e : TExpr) (n : ℕ) (ts : Lexemes) (op : BinaryOp) (mid : Lexemes) (s : Stop) (total : ReadExpr)
+    → operator_front level ts ≡ Some (op, mid) → Stopped s (spend_at n mid) → chain level part (length ts) e n ts ≡ total → Stopped s total
 spend_stops level part e n ts op mid s total o h so_far =
     let c = chain_here level part e n ts op mid o in
     stopped_along s _ total (sym c.1 ∙ so_far) (stopped_bind s (spend_at n mid) _ h)
 
-pub level_stops : (level : ℕ) (part : ℕ → Lexemes → ReadExpr) (e : TExpr) (n : ℕ) (ts : Lexemes) (op : BinaryOp) (mid : Lexemes) (m : ℕ) (s : Stop) (total : ReadExpr) → operator_front level ts ≡ Some (op, mid) → spend_at n mid ≡ Ok m → Stopped s (part m mid) → chain level part (length ts) e n ts ≡ total → Stopped s total
+pub level_stops : (level : ℕ) (part : ℕ → Lexemes → ReadExpr) (e : TExpr) (n : ℕ) (ts : Lexemes) (op : BinaryOp) (mid : Lexemes) (m : ℕ) (s : Stop) (total : ReadExpr)
+    → operator_front level ts ≡ Some (op, mid) → spend_at n mid ≡ Ok m → Stopped s (part m mid) → chain level part (length ts) e n ts ≡ total → Stopped s total
 level_stops level part e n ts op mid m s total o p h so_far =
     let c = chain_here level part e n ts op mid o in
     let rest : TExpr × ℕ × Lexemes → ReadExpr = λ x. chain level part c.0 (binary op e x.0) x.1 x.2 in
@@ -111,5 +122,7 @@ level_ends level part e n ts h = chain_stopped level part (length ts) e n ts h
 
 -- ---- prefix operators
 
-pub prefixed_stops : (room : ℕ) (op : UnaryOp) (n : ℕ) (ts : Lexemes) (s : Stop) → 0 < room → Stopped s (unary_here the_depths (room - 1) n ts) → Stopped s (prefix_by (prefixed_at the_depths room) op n ts)
-prefixed_stops room op n ts s h d = stopped_bind s (prefixed_at the_depths room n ts) _ (stopped_along s (unary_here the_depths (room - 1) n ts) (prefixed_at the_depths room n ts) (sym (prefixed_is the_depths room n ts h)) d)
+pub prefixed_stops : (room : ℕ) (op : UnaryOp) (n : ℕ) (ts : Lexemes) (s : Stop) → 0 < room → Stopped s (unary_here the_depths (room - 1) n ts)
+    → Stopped s (prefix_by (prefixed_at the_depths room) op n ts)
+prefixed_stops room op n ts s h d = stopped_bind s (prefixed_at the_depths room n ts) _
+    (stopped_along s (unary_here the_depths (room - 1) n ts) (prefixed_at the_depths room n ts) (sym (prefixed_is the_depths room n ts h)) d)

@@ -34,14 +34,26 @@ placed P source tokens left token e h =
     let i : length (lexemes_of source tokens) - left ≡ token = omega arith in
     subst P i h
 
-pub syntax_is : (source : List ℕ) (tokens : List Token) (s : Stop) (left token : ℕ) → Stopped s (program_at the_depths (lexemes_of source tokens)) → s ≡ stops.Syntax left → token ≡ length tokens - left → IsSyntax (lexemes_of source tokens) token
-syntax_is source tokens s left token h e k = placed (IsSyntax (lexemes_of source tokens)) source tokens left token k (syntax_there (lexemes_of source tokens) left (subst (λ (z : Stop). Stopped z (program_at the_depths (lexemes_of source tokens))) e h))
+pub syntax_is : (source : List ℕ) (tokens : List Token) (s : Stop) (left token : ℕ) → Stopped s (program_at the_depths (lexemes_of source tokens)) → s ≡ stops.Syntax left
+    → token ≡ length tokens - left → IsSyntax (lexemes_of source tokens) token
+syntax_is source tokens s left token h e k =
+    placed (IsSyntax (lexemes_of source tokens)) source tokens left token k
+    (syntax_there (lexemes_of source tokens) left (subst (λ (z : Stop). Stopped z (program_at the_depths (lexemes_of source tokens))) e h))
 
-pub blocks_are : (source : List ℕ) (tokens : List Token) (s : Stop) (left token : ℕ) → Stopped s (program_at the_depths (lexemes_of source tokens)) → s ≡ stops.Blocks left → token ≡ length tokens - left → IsDepth (lexemes_of source tokens) token
-blocks_are source tokens s left token h e k = placed (IsDepth (lexemes_of source tokens)) source tokens left token k (depth_there (lexemes_of source tokens) blocks_depth left (subst (λ (z : Stop). Stopped z (program_at the_depths (lexemes_of source tokens))) e h))
+pub blocks_are : (source : List ℕ) (tokens : List Token) (s : Stop) (left token : ℕ) → Stopped s (program_at the_depths (lexemes_of source tokens)) → s ≡ stops.Blocks left
+    → token ≡ length tokens - left → IsDepth (lexemes_of source tokens) token
+blocks_are source tokens s left token h e k =
+    placed (IsDepth (lexemes_of source tokens)) source tokens left token k
+    (depth_there (lexemes_of source tokens) blocks_depth left (subst (λ (z : Stop). Stopped z (program_at the_depths (lexemes_of source tokens))) e h))
 
-pub brackets_are : (source : List ℕ) (tokens : List Token) (s : Stop) (left token : ℕ) → Stopped s (program_at the_depths (lexemes_of source tokens)) → s ≡ stops.Brackets left → token ≡ length tokens - left → IsDepth (lexemes_of source tokens) token
-brackets_are source tokens s left token h e k = placed (IsDepth (lexemes_of source tokens)) source tokens left token k (depth_there (lexemes_of source tokens) brackets_depth left (subst (λ (z : Stop). Stopped z (program_at the_depths (lexemes_of source tokens))) e h))
+pub brackets_are : (source : List ℕ) (tokens : List Token) (s : Stop) (left token : ℕ) → Stopped s (program_at the_depths (lexemes_of source tokens)) → s ≡ stops.Brackets left
+    → token ≡ length tokens - left → IsDepth (lexemes_of source tokens) token
+brackets_are source tokens s left token h e k =
+    placed (IsDepth (lexemes_of source tokens)) source tokens left token k
+    (depth_there (lexemes_of source tokens) brackets_depth left (subst (λ (z : Stop). Stopped z (program_at the_depths (lexemes_of source tokens))) e h))
 
-pub operators_are : (source : List ℕ) (tokens : List Token) (s : Stop) (left token : ℕ) → Stopped s (program_at the_depths (lexemes_of source tokens)) → s ≡ stops.Operators left → token ≡ length tokens - left → IsDepth (lexemes_of source tokens) token
-operators_are source tokens s left token h e k = placed (IsDepth (lexemes_of source tokens)) source tokens left token k (depth_there (lexemes_of source tokens) operators_depth left (subst (λ (z : Stop). Stopped z (program_at the_depths (lexemes_of source tokens))) e h))
+pub operators_are : (source : List ℕ) (tokens : List Token) (s : Stop) (left token : ℕ) → Stopped s (program_at the_depths (lexemes_of source tokens)) → s ≡ stops.Operators left
+    → token ≡ length tokens - left → IsDepth (lexemes_of source tokens) token
+operators_are source tokens s left token h e k =
+    placed (IsDepth (lexemes_of source tokens)) source tokens left token k
+    (depth_there (lexemes_of source tokens) operators_depth left (subst (λ (z : Stop). Stopped z (program_at the_depths (lexemes_of source tokens))) e h))

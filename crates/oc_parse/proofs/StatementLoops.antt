@@ -25,18 +25,24 @@ afterwards_more : (front : List TStmt) (s : TStmt) (read : ReadNumbered (List TS
 afterwards_more front s (Ok y) = ap (λ (l : List TStmt). Ok (l, y.1, y.2, y.3)) (sym (append_assoc front (s ∷ []) y.0))
 afterwards_more front s (Err f) = refl
 
-pub block_goes_on : (room : ℕ) (front : List TStmt) (n b : ℕ) (ts : Lexemes) (s : TStmt) (n' b' : ℕ) (us : Lexemes) (total : ReadNumbered (List TStmt)) → strip_mark marks.CloseCurly ts ≡ None → stmt_here the_depths room n b ts ≡ Ok (s, n', b', us) → afterwards front (stmts_at the_depths room n b ts) ≡ total → afterwards (front ++ s ∷ []) (stmts_at the_depths room n' b' us) ≡ total
+pub block_goes_on : (room : ℕ) (front : List TStmt) (n b : ℕ) (ts : Lexemes) (s : TStmt) (n' b' : ℕ) (us : Lexemes) (total : ReadNumbered (List TStmt))
+    → strip_mark marks.CloseCurly ts ≡ None → stmt_here the_depths room n b ts ≡ Ok (s, n', b', us) → afterwards front (stmts_at the_depths room n b ts) ≡ total
+    → afterwards (front ++ s ∷ []) (stmts_at the_depths room n' b' us) ≡ total
 block_goes_on room front n b ts s n' b' us total none e so_far =
     let one : stmt_at the_depths room n b ts ≡ Ok (s, n', b', us) = stmt_is the_depths room n b ts ∙ e in
     let turn : stmts_at the_depths room n b ts ≡ (stmts_at the_depths room n' b' us >>= λ x. Ok (s ∷ x.0, x.1, x.2, x.3)) = stmts_turn room n b ts none ∙ rw one refl in
     sym (ap (λ (r : ReadNumbered (List TStmt)). afterwards front r) turn ∙ afterwards_more front s (stmts_at the_depths room n' b' us)) ∙ so_far
 
-pub block_stops : (room : ℕ) (front : List TStmt) (n b : ℕ) (ts : Lexemes) (s : Stop) (total : ReadNumbered (List TStmt)) → strip_mark marks.CloseCurly ts ≡ None → Stopped s (stmt_here the_depths room n b ts) → afterwards front (stmts_at the_depths room n b ts) ≡ total → Stopped s total
+pub block_stops : (room : ℕ) (front : List TStmt) (n b : ℕ) (ts : Lexemes) (s : Stop) (total : ReadNumbered (List TStmt)) → strip_mark marks.CloseCurly ts ≡ None
+    → Stopped s (stmt_here the_depths room n b ts) → afterwards front (stmts_at the_depths room n b ts) ≡ total → Stopped s total
 block_stops room front n b ts s total none h so_far =
     stopped_along s _ total (sym (ap (λ (r : ReadNumbered (List TStmt)). afterwards front r) (stmts_turn room n b ts none)) ∙ so_far)
-    (stopped_bind s (stmt_at the_depths room n b ts >>= onward the_depths room) _ (stopped_bind s (stmt_at the_depths room n b ts) (onward the_depths room) (stopped_along s (stmt_here the_depths room n b ts) (stmt_at the_depths room n b ts) (sym (stmt_is the_depths room n b ts)) h)))
+    (stopped_bind s (stmt_at the_depths room n b ts >>= onward the_depths room) _
+    (stopped_bind s (stmt_at the_depths room n b ts) (onward the_depths room)
+    (stopped_along s (stmt_here the_depths room n b ts) (stmt_at the_depths room n b ts) (sym (stmt_is the_depths room n b ts)) h)))
 
-pub block_ends : (room : ℕ) (front : List TStmt) (n b : ℕ) (ts us : Lexemes) (total : ReadNumbered (List TStmt)) → strip_mark marks.CloseCurly ts ≡ Some us → afterwards front (stmts_at the_depths room n b ts) ≡ total → total ≡ Ok (front, n, b, us)
+pub block_ends : (room : ℕ) (front : List TStmt) (n b : ℕ) (ts us : Lexemes) (total : ReadNumbered (List TStmt)) → strip_mark marks.CloseCurly ts ≡ Some us
+    → afterwards front (stmts_at the_depths room n b ts) ≡ total → total ≡ Ok (front, n, b, us)
 unfolding stmts_by stmts_at
 block_ends room front n b ts us total e so_far =
     let closed : stmts_at the_depths room n b ts ≡ Ok ([], n, b, us) = rw e refl in
@@ -49,21 +55,26 @@ unfolding block_at
 expect_stops zero n b ts s h = stopped_bind s (expect_mark marks.OpenCurly ts) _ h
 expect_stops (suc room) n b ts s h = stopped_bind s (expect_mark marks.OpenCurly ts) _ h
 
-pub block_too_deep : (room n b : ℕ) (ts us : Lexemes) (k : ℕ) → room ≡ 0 → expect_mark marks.OpenCurly ts ≡ Ok us → length us ≡ k → block_at the_depths room n b ts ≡ Err (depth_fault blocks_depth (suc k))
+pub block_too_deep : (room n b : ℕ) (ts us : Lexemes) (k : ℕ) → room ≡ 0 → expect_mark marks.OpenCurly ts ≡ Ok us → length us ≡ k → block_at the_depths room n b ts
+    ≡ Err (depth_fault blocks_depth (suc k))
 unfolding block_at
 block_too_deep zero n b ts us k h e l = rw (e, l) refl
 block_too_deep (suc room) n b ts us k h e l = absurd (omega arith)
 
-braced : (room n b : ℕ) (ts us : Lexemes) → 0 < room → expect_mark marks.OpenCurly ts ≡ Ok us → block_at the_depths room n b ts ≡ (stmts_at the_depths (room - 1) n (b + 1) us >>= λ x. Ok (block b (stmts_of x.0), x.1, x.2, x.3))
+braced : (room n b : ℕ) (ts us : Lexemes) → 0 < room → expect_mark marks.OpenCurly ts ≡ Ok us → block_at the_depths room n b ts
+    ≡ (stmts_at the_depths (room - 1) n (b + 1) us >>= λ x. Ok (block b (stmts_of x.0), x.1, x.2, x.3))
 unfolding block_at stmts_at
 braced zero n b ts us h e = absurd (omega arith)
 braced (suc room) n b ts us h e = let p : suc room - 1 ≡ room = omega arith in let q : b + 1 ≡ suc b = omega arith in rw (p, q, e) refl
 
-pub inside_stops : (room n b : ℕ) (ts us : Lexemes) (s : Stop) → 0 < room → expect_mark marks.OpenCurly ts ≡ Ok us → Stopped s (stmts_at the_depths (room - 1) n (b + 1) us) → Stopped s (block_at the_depths room n b ts)
+pub inside_stops : (room n b : ℕ) (ts us : Lexemes) (s : Stop) → 0 < room → expect_mark marks.OpenCurly ts ≡ Ok us → Stopped s (stmts_at the_depths (room - 1) n (b + 1) us)
+    → Stopped s (block_at the_depths room n b ts)
 inside_stops room n b ts us s h e d =
-    stopped_along s _ (block_at the_depths room n b ts) (sym (braced room n b ts us h e)) (stopped_bind s (stmts_at the_depths (room - 1) n (b + 1) us) (λ x. Ok (block b (stmts_of x.0), x.1, x.2, x.3)) d)
+    stopped_along s _ (block_at the_depths room n b ts) (sym (braced room n b ts us h e))
+    (stopped_bind s (stmts_at the_depths (room - 1) n (b + 1) us) (λ x. Ok (block b (stmts_of x.0), x.1, x.2, x.3)) d)
 
-pub block_is : (room n b : ℕ) (ts us : Lexemes) (ss : List TStmt) (n' b' : ℕ) (vs : Lexemes) → 0 < room → expect_mark marks.OpenCurly ts ≡ Ok us → stmts_at the_depths (room - 1) n (b + 1) us ≡ Ok (ss, n', b', vs) → block_at the_depths room n b ts ≡ Ok (block b (stmts_of ss), n', b', vs)
+pub block_is : (room n b : ℕ) (ts us : Lexemes) (ss : List TStmt) (n' b' : ℕ) (vs : Lexemes) → 0 < room → expect_mark marks.OpenCurly ts ≡ Ok us
+    → stmts_at the_depths (room - 1) n (b + 1) us ≡ Ok (ss, n', b', vs) → block_at the_depths room n b ts ≡ Ok (block b (stmts_of ss), n', b', vs)
 block_is room n b ts us ss n' b' vs h e d = braced room n b ts us h e ∙ rw d refl
 
 pub chained_too_deep : (room n b : ℕ) (ts : Lexemes) (k : ℕ) → room ≡ 0 → length ts ≡ k → chained_at the_depths room n b ts ≡ Err (depth_fault blocks_depth k)
@@ -78,7 +89,9 @@ chained_is_by (suc room) n b ts h = let p : suc room - 1 ≡ room = omega arith 
 
 pub chained_stops : (room n b : ℕ) (ts : Lexemes) (s : Stop) → 0 < room → Stopped s (stmt_here the_depths (room - 1) n (b + 1) ts) → Stopped s (chained_at the_depths room n b ts)
 chained_stops room n b ts s h d =
-    stopped_along s _ (chained_at the_depths room n b ts) (sym (chained_is_by room n b ts h)) (stopped_bind s (stmt_here the_depths (room - 1) n (b + 1) ts) (λ s. Ok (block b (more s.0 no_stmts), s.1, s.2, s.3)) d)
+    stopped_along s _ (chained_at the_depths room n b ts) (sym (chained_is_by room n b ts h))
+    (stopped_bind s (stmt_here the_depths (room - 1) n (b + 1) ts) (λ s. Ok (block b (more s.0 no_stmts), s.1, s.2, s.3)) d)
 
-pub chained_is : (room n b : ℕ) (ts : Lexemes) (s : TStmt) (n' b' : ℕ) (us : Lexemes) → 0 < room → stmt_here the_depths (room - 1) n (b + 1) ts ≡ Ok (s, n', b', us) → chained_at the_depths room n b ts ≡ Ok (block b (more s no_stmts), n', b', us)
+pub chained_is : (room n b : ℕ) (ts : Lexemes) (s : TStmt) (n' b' : ℕ) (us : Lexemes) → 0 < room → stmt_here the_depths (room - 1) n (b + 1) ts ≡ Ok (s, n', b', us)
+    → chained_at the_depths room n b ts ≡ Ok (block b (more s no_stmts), n', b', us)
 chained_is room n b ts s n' b' us h e = chained_is_by room n b ts h ∙ rw e refl

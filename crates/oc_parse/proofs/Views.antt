@@ -5,7 +5,7 @@ use Rattle.oc_tree.specs.View.{expr_view, arg_view, call_view, args_of, arg_step
 use Rattle.oc_tree.specs.Names.{Text}
 use Rattle.oc_tree.specs.declared.tree.UnaryOp.{UnaryOp}
 use Rattle.oc_tree.specs.declared.tree.BinaryOp.{BinaryOp}
-use Rattle.oc_tree.specs.declared.tree.Expr.{Expr, the_lemmas}
+use Rattle.oc_tree.specs.declared.tree.Expr.{the_lemmas}
 use Rattle.oc_tree.specs.declared.tree.Expr as code
 use Rattle.oc_tree.specs.declared.tree.Call.{Call, roll-Call, fold-roll-Call}
 use Rattle.oc_tree.specs.declared.tree.Block.{roll-Block, fold-roll-Block}

@@ -25,7 +25,10 @@ impl Model for Cutter {
 
     ghost Value = { Cutting };
 
-    ghost view = { λ a. record { len = a.len; left = cut_after a.len a.told (drop a.place a.rows.items) } };
+    ghost view = { λ a. record {
+      len = a.len;
+      left = cut_after a.len a.told (drop a.place a.rows.items);
+    } };
 
     ghost invariant = { λ a. (1 ≤ a.len) × IsTold a.told (drop a.place a.rows.items) };
 }

@@ -26,7 +26,10 @@ impl Model for Looped {
 
     ghost Value = { Looping };
 
-    ghost view = { λ a. record { rounds = a.rounds; left = drop a.place a.rows.items ++ times a.rounds_left a.rows.items } };
+    ghost view = { λ a. record {
+      rounds = a.rounds;
+      left = drop a.place a.rows.items ++ times a.rounds_left a.rows.items;
+    } };
 
     ghost invariant = { λ a. a.place ≤ length a.rows.items };
 }

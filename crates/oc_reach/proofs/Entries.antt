@@ -19,7 +19,9 @@ pub insert-seen : (es : List (Bor Text × ℕ)) (k : Bor Text) (v : ℕ) → num
 insert-seen [] k v h = refl
 insert-seen (e ∷ es) k v h = by (bytes_eq k.now e.0.now) h (insert-seen es k v)
   where
-    by : (b : Bool) → cond b (Some e.1) (number_in (seen es) k.now) ≡ None → (number_in (seen es) k.now ≡ None → seen (insert_entry (λ x y. bytes_eq x.now y.now) es k v) ≡ seen es ++ (k.now, v) ∷ []) → seen (cond b ((e.0, v) ∷ es) (e ∷ insert_entry (λ x y. bytes_eq x.now y.now) es k v)) ≡ seen (e ∷ es) ++ (k.now, v) ∷ []
+    by : (b : Bool) → cond b (Some e.1) (number_in (seen es) k.now) ≡ None
+        → (number_in (seen es) k.now ≡ None → seen (insert_entry (λ x y. bytes_eq x.now y.now) es k v) ≡ seen es ++ (k.now, v) ∷ [])
+        → seen (cond b ((e.0, v) ∷ es) (e ∷ insert_entry (λ x y. bytes_eq x.now y.now) es k v)) ≡ seen (e ∷ es) ++ (k.now, v) ∷ []
     by true none rest = absurd (cc)
     by false none rest = ap (λ r. (e.0.now, e.1) ∷ r) (rest none)
 
@@ -27,7 +29,8 @@ pub found_push : (m : Entries) (n x : Text) (i : ℕ) → number_in (m ++ (n, i)
 found_push [] n x i = refl
 found_push (e ∷ m) n x i = by (bytes_eq x e.0) (found_push m n x i)
   where
-    by : (b : Bool) → number_in (m ++ (n, i) ∷ []) x ≡ or_else (number_in m x) (cond (bytes_eq x n) (Some i) None) → cond b (Some e.1) (number_in (m ++ (n, i) ∷ []) x) ≡ or_else (cond b (Some e.1) (number_in m x)) (cond (bytes_eq x n) (Some i) None)
+    by : (b : Bool) → number_in (m ++ (n, i) ∷ []) x ≡ or_else (number_in m x) (cond (bytes_eq x n) (Some i) None) → cond b (Some e.1) (number_in (m ++ (n, i) ∷ []) x)
+        ≡ or_else (cond b (Some e.1) (number_in m x)) (cond (bytes_eq x n) (Some i) None)
     by true h = refl
     by false h = h
 

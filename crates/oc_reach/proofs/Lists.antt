@@ -89,4 +89,5 @@ in_at (x ∷ xs) zero h = or_left _ _ (eq-eqb x x refl)
 in_at (x ∷ xs) (suc j) h = or_right (nat_eq x (get_or xs j 0)) _ (in_at xs j (omega arith))
 
 pub in_drop : (i : ℕ) (xs : List ℕ) → i < length xs → is_in (drop i xs) (get_or xs i 0) ≡ true
-in_drop i xs h = subst (λ l. is_in l (get_or xs i 0) ≡ true) (sym (drop-cons xs i 0 h)) (or_left (nat_eq (get_or xs i 0) (get_or xs i 0)) (is_in (drop (suc i) xs) (get_or xs i 0)) (eq-eqb (get_or xs i 0) (get_or xs i 0) refl))
+in_drop i xs h = subst (λ l. is_in l (get_or xs i 0) ≡ true) (sym (drop-cons xs i 0 h))
+    (or_left (nat_eq (get_or xs i 0) (get_or xs i 0)) (is_in (drop (suc i) xs) (get_or xs i 0)) (eq-eqb (get_or xs i 0) (get_or xs i 0) refl))

@@ -1,7 +1,7 @@
 -- References are passed on between parameters that exist.
-use Rattle.std.proofs.Common.{◌≡◌, ◌<◌, ◌≤◌, ◌+◌, ◌++◌, ℕ, zero, suc, Bool, true, false, List, [], ◌∷◌, Option, Some, None, cond, nat_eq, length, map, drop, sum_by, refl, sym, ap, ◌∙◌, true≢false, arith, subst}
+use Rattle.std.proofs.Common.{◌≡◌, ◌<◌, ◌≤◌, ◌+◌, ◌++◌, ℕ, zero, suc, Bool, true, false, List, [], ◌∷◌, Option, Some, None, cond, nat_eq, length, map, drop, refl, sym, ap, ◌∙◌, true≢false, arith}
 use Rattle.std.specs.Prelude.{◌&&◌, ◌||◌, option_map}
-use Rattle.std.specs.List.{list_any, flat_map}
+use Rattle.std.specs.List.{flat_map}
 use Rattle.std.proofs.Math.ListN.{get_or}
 use Rattle.std.proofs.lemmas.List.{length-map, append_assoc}
 use Rattle.std.proofs.lemmas.List.Sums.{sum_by-cons}
@@ -13,7 +13,8 @@ use Rattle.oc_tree.specs.declared.tree.Function.{Function}
 use Rattle.oc_tree.specs.View.{function_view}
 use Rattle.oc_tree.specs.Reach.{Links, linked, is_link}
 use Rattle.oc_tree.specs.Calls.{place, function_place, body_calls}
-use Rattle.oc_tree.specs.Assigned.{is_mutable, alone, first_params, first_param, param_count, mutable_params, takes_mutable, mutable_param, own_param, link_of, arg_links, args_links, to_links, pass_call, function_links, pass_links_from, pass_links, param_names}
+use Rattle.oc_tree.specs.Assigned.{is_mutable, alone, first_params, first_param, param_count, mutable_params, takes_mutable, mutable_param, own_param, link_of, arg_links}
+use Rattle.oc_tree.specs.Assigned.{args_links, to_links, pass_call, function_links, pass_links_from, pass_links, param_names}
 use Rattle.oc_tree.proofs.ReachLaws.{or_elim}
 use Rattle.oc_reach.specs.Within.{IsWithin}
 use Rattle.oc_reach.proofs.Bools.{and_first, and_second}
@@ -131,7 +132,8 @@ pub passes_within : (fs : List TFunction) → IsWithin (pass_links fs) (param_co
 passes_within fs x y h = from_pass fs 0 fs refl x y h
 
 -- the parameters of a function as code reads them
-pub mutable_at : (xs : List Function) (u : ℕ) (f : Function) → u < length xs → f ≡ get_or xs u f → get_or (map mutable_params (map function_view xs)) u [] ≡ map (λ p. is_mutable p.passing) f.params.items
+pub mutable_at : (xs : List Function) (u : ℕ) (f : Function) → u < length xs → f ≡ get_or xs u f → get_or (map mutable_params (map function_view xs)) u []
+    ≡ map (λ p. is_mutable p.passing) f.params.items
 mutable_at [] u f h e = absurd (omega arith)
 mutable_at (x ∷ xs) zero f h e = ap (λ g. map (λ p. is_mutable p.passing) g.params.items) (sym e)
 mutable_at (x ∷ xs) (suc u) f h e = mutable_at xs u f (omega (arith, h)) e

@@ -5,8 +5,7 @@ use Rattle.std.proofs.Math.ListN.{get_or}
 use Rattle.std.proofs.lemmas.List.{take_all}
 use Rattle.std.proofs.lemmas.Bool.{eqb-true, eq-eqb}
 use Rattle.std.proofs.lemmas.Bool.Decides.{nat_tests}
-use Rattle.oc_tree.specs.Reach.{Links, reaches, some_below, reaches_some}
-use Rattle.oc_tree.proofs.ReachLaws.{or_right}
+use Rattle.oc_tree.specs.Reach.{Links, reaches, reaches_some}
 use Rattle.oc_reach.specs.Marked.{is_in, add}
 use Rattle.oc_reach.proofs.Bools.{or_false, and_both, and_first, and_second, both_ways}
 use Rattle.oc_reach.proofs.Lists.{in_add}
@@ -35,7 +34,8 @@ take_test (t ∷ ts) (suc i) (suc v) = take_test ts i v ∙ ap (λ b. get_or (ta
     same : (i v : ℕ) → nat_eq i v ≡ nat_eq (suc i) (suc v)
     same i v = grind (arith, nat_tests)
 
-pub test_on : (xs : List ℕ) (tests : List Bool) (i : ℕ) → ((v : ℕ) → is_in xs v ≡ get_or (take i tests) v false) → get_or tests i false ≡ true → (v : ℕ) → is_in (add xs i) v ≡ get_or (take (i + 1) tests) v false
+pub test_on : (xs : List ℕ) (tests : List Bool) (i : ℕ) → ((v : ℕ) → is_in xs v ≡ get_or (take i tests) v false) → get_or tests i false ≡ true → (v : ℕ)
+    → is_in (add xs i) v ≡ get_or (take (i + 1) tests) v false
 test_on xs tests i h e v =
     let s : nat_eq i v ≡ nat_eq i v && get_or tests i false = by (nat_eq i v) (get_or tests i false) e in
     let n : suc i ≡ i + 1 = omega arith in
@@ -45,7 +45,8 @@ test_on xs tests i h e v =
     by true b k = sym k
     by false b k = refl
 
-pub test_off : (xs : List ℕ) (tests : List Bool) (i : ℕ) → ((v : ℕ) → is_in xs v ≡ get_or (take i tests) v false) → get_or tests i false ≡ false → (v : ℕ) → is_in xs v ≡ get_or (take (i + 1) tests) v false
+pub test_off : (xs : List ℕ) (tests : List Bool) (i : ℕ) → ((v : ℕ) → is_in xs v ≡ get_or (take i tests) v false) → get_or tests i false ≡ false → (v : ℕ)
+    → is_in xs v ≡ get_or (take (i + 1) tests) v false
 test_off xs tests i h e v =
     let s : nat_eq i v && get_or tests i false ≡ false = by (nat_eq i v) (get_or tests i false) e in
     let n : suc i ≡ i + 1 = omega arith in

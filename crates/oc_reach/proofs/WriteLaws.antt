@@ -1,5 +1,5 @@
 -- The parameters that are written through exist.
-use Rattle.std.proofs.Common.{◌≡◌, ◌<◌, ◌≤◌, ◌+◌, ◌++◌, ℕ, Bool, true, false, List, [], ◌∷◌, Option, Some, None, nat_eq, length, drop, refl, sym, ap, ◌∙◌, true≢false, arith, subst}
+use Rattle.std.proofs.Common.{◌≡◌, ◌<◌, ◌≤◌, ◌+◌, ◌++◌, ℕ, true, false, List, [], ◌∷◌, Option, Some, None, nat_eq, length, drop, refl, sym, ap, ◌∙◌, true≢false, arith, subst}
 use Rattle.std.specs.Prelude.{◌||◌, option_to_list}
 use Rattle.std.specs.List.{list_any, flat_map}
 use Rattle.std.proofs.lemmas.List.{length-map}
@@ -7,7 +7,7 @@ use Rattle.std.proofs.lemmas.Bool.{eqb-true}
 use Rattle.oc_tree.specs.Names.{Text}
 use Rattle.oc_tree.specs.Tree.{TKind, TFunction}
 use Rattle.oc_tree.specs.Calls.{block_kinds}
-use Rattle.oc_tree.specs.Reach.{Links, reaches_some}
+use Rattle.oc_tree.specs.Reach.{reaches_some}
 use Rattle.oc_tree.specs.Assigned.{first_param, param_count, param_names, param_assigned, own_param, written_through, function_writes, writes_from, writes_through, pass_links}
 use Rattle.oc_tree.proofs.ReachLaws.{or_elim}
 use Rattle.oc_reach.specs.Marked.{is_in, add_all}

@@ -111,7 +111,9 @@ impl<'a> Model for Assigned<'a> {
 
     ghost view = { λ a. a.functions.now };
 
-    ghost invariant = { λ a. (a.calls ≡ a.functions.now) × (a.params ≡ a.functions.now) × (a.marks.1 ≡ param_count (map function_view a.functions.now)) × ((n : ℕ) → is_in a.marks.0 n ≡ param_assigned (map function_view a.functions.now) n) };
+    ghost invariant = { λ a. (a.calls ≡ a.functions.now) × (a.params ≡ a.functions.now)
+        × (a.marks.1 ≡ param_count (map function_view a.functions.now))
+        × ((n : ℕ) → is_in a.marks.0 n ≡ param_assigned (map function_view a.functions.now) n) };
 }
 
 impl<'a> Assigned<'a> {

@@ -128,7 +128,8 @@ impl<'a> Model for Calls<'a> {
 
     ghost view = { λ c. c.functions.now };
 
-    ghost invariant = { λ c. (c.table ≡ function_names (map function_view c.functions.now)) × (c.reach ≡ (call_links (map function_view c.functions.now), length c.functions.now)) };
+    ghost invariant = { λ c. (c.table ≡ function_names (map function_view c.functions.now))
+        × (c.reach ≡ (call_links (map function_view c.functions.now), length c.functions.now)) };
 }
 
 impl<'a> Calls<'a> {

@@ -97,7 +97,8 @@ impl<'a> Model for Params<'a> {
 
     ghost view = { λ p. p.functions.now };
 
-    ghost invariant = { λ p. (p.firsts.items ≡ first_params 0 (map function_view p.functions.now)) × (p.count ≡ param_count (map function_view p.functions.now)) × (p.count < 2 ^ 63) };
+    ghost invariant = { λ p. (p.firsts.items ≡ first_params 0 (map function_view p.functions.now))
+        × (p.count ≡ param_count (map function_view p.functions.now)) × (p.count < 2 ^ 63) };
 }
 
 impl<'a> Params<'a> {

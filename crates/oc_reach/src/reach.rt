@@ -22,7 +22,8 @@ impl Model for Reach {
 
     ghost view = { λ r. (r.links.items, length r.leaders.items) };
 
-    ghost invariant = { λ r. (IsWithin r.links.items (length r.leaders.items)) × ((u v : ℕ) → is_in (get_or (rows r.leaders.items) v []) u ≡ linked r.links.items u v) };
+    ghost invariant = { λ r. (IsWithin r.links.items (length r.leaders.items))
+        × ((u v : ℕ) → is_in (get_or (rows r.leaders.items) v []) u ≡ linked r.links.items u v) };
 }
 
 fn no_leaders(alloc: Global, bound: usize) -> Result<Vec<Vec<usize>>, AllocError>

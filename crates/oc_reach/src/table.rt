@@ -91,7 +91,8 @@ impl<'a> Model for Table<'a> {
 
     ghost view = { λ t. names_seen t.names.items };
 
-    ghost invariant = { λ t. (x : List ℕ) → number_in t.numbers x ≡ place (names_seen t.names.items) x };
+    ghost invariant = { λ t. (x : List ℕ) → number_in t.numbers x
+        ≡ place (names_seen t.names.items) x };
 }
 
 impl<'a> Table<'a> {

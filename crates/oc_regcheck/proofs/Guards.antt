@@ -1,14 +1,14 @@
 -- The test of guarded functions decides the relation.
-use Rattle.std.proofs.Common.{◌≡◌, ◌≢◌, ◌<◌, ◌≤◌, ℕ, zero, suc, ◌+◌, Bool, true, false, true≢false, List, [], ◌∷◌, ◌++◌, length, map, Option, Some, None, cond, refl, ap, sym, subst, ◌∙◌, inl, inr, arith}
+use Rattle.std.proofs.Common.{◌≡◌, ◌≢◌, ◌<◌, ◌≤◌, ℕ, zero, suc, ◌+◌, Bool, true, false, true≢false, List, [], ◌∷◌, ◌++◌, length, map, Option, Some, None, cond, refl, ap, sym}
+use Rattle.std.proofs.Common.{subst, ◌∙◌, inl, inr, arith}
 use Rattle.std.specs.Prelude.{◌⊎◌, ◌&&◌, ◌||◌, not, flat_map, nat_eq, option_to_list}
-use Rattle.std.specs.List.{list_any}
 use Rattle.std.proofs.lemmas.Bool.{eqb-true, eq-eqb, and_parts, and_from, or_left, or_right}
 use Rattle.std.proofs.lemmas.Option.{same_Some, none-some}
 use Rattle.oc_tree.specs.Tree.{TProgram}
 use Rattle.oc_tree.specs.Rules.{main}
 use Rattle.oc_tree.specs.Calls.{function_place}
 use Rattle.oc_tree.specs.Members.{IsOf}
-use Rattle.oc_tree.specs.Reach.{Links, is_link, linked, leads, reaches}
+use Rattle.oc_tree.specs.Reach.{is_link, linked, leads, reaches}
 use Rattle.oc_tree.proofs.ReachLaws.{links_lead, leads_trans, least}
 use Rattle.oc_effects.specs.Effects.{TCalled, TEffect, effects_at}
 use Rattle.oc_flow.specs.Variables.{from}
@@ -39,7 +39,8 @@ module _ (p : TProgram) (blocks : List ℕ) where
       let a = of_join (open_call p blocks h.0) l.0 (effects_at p h.0) h.2 in
       by l.0 (eqb-true l.0.0 f ends.0) (eqb-true l.0.1 g ends.1) h.0 (from_below h.0 0 (length p.functions) h.1) a.0 a.1 (is_inside p blocks a.0.stmt) refl a.0.call refl a.2
     where
-      by : (l : ℕ × ℕ) → l.0 ≡ f → l.1 ≡ g → (k : ℕ) → k < 0 + length p.functions → (a : TEffect) → IsOf a (effects_at p k) → (b : Bool) → is_inside p blocks a.stmt ≡ b → (o : Option TCalled) → a.call ≡ o → IsOf l (cond b [] (map (λ c. (c.function, k)) (option_to_list o))) → Calls f g
+      by : (l : ℕ × ℕ) → l.0 ≡ f → l.1 ≡ g → (k : ℕ) → k < 0 + length p.functions → (a : TEffect) → IsOf a (effects_at p k) → (b : Bool) → is_inside p blocks a.stmt ≡ b
+          → (o : Option TCalled) → a.call ≡ o → IsOf l (cond b [] (map (λ c. (c.function, k)) (option_to_list o))) → Calls f g
       by l x y k s a i true is o there m = absurd m
       by l x y k s a i false is None there m = absurd m
       by l x y k s a i false is (Some c) there (inr m) = absurd m
@@ -55,10 +56,13 @@ module _ (p : TProgram) (blocks : List ℕ) where
             small = omega (arith, s, same);
           }
 
-  call_links : (f g : ℕ) (a : TEffect) (c : TCalled) → g < length p.functions → IsOf a (effects_at p g) → a.call ≡ Some c → c.function ≡ f → is_inside p blocks a.stmt ≡ false → linked (open_calls p blocks) f g ≡ true
+  call_links : (f g : ℕ) (a : TEffect) (c : TCalled) → g < length p.functions → IsOf a (effects_at p g) → a.call ≡ Some c → c.function ≡ f → is_inside p blocks a.stmt ≡ false
+      → linked (open_calls p blocks) f g ≡ true
   call_links f g a c small i there callee outside =
       let l : ℕ × ℕ = (c.function, g) in
-      let one : IsOf l (open_call p blocks g a) = subst (λ b. IsOf l (cond b [] (map (λ d. (d.function, g)) (option_to_list a.call)))) (sym outside) (subst (λ o. IsOf l (map (λ d. (d.function, g)) (option_to_list o))) (sym there) (inl refl)) in
+      let one : IsOf l (open_call p blocks g a) =
+      subst (λ b. IsOf l (cond b [] (map (λ d. (d.function, g)) (option_to_list a.call)))) (sym outside)
+      (subst (λ o. IsOf l (map (λ d. (d.function, g)) (option_to_list o))) (sym there) (inl refl)) in
       of_any (is_link f g) l (open_calls p blocks)
       (in_join (λ k. flat_map (open_call p blocks k) (effects_at p k)) l g (from 0 (length p.functions)) (in_from g 0 (length p.functions) (omega arith) (omega (arith, small)))
       (in_join (open_call p blocks g) l a (effects_at p g) i one))
@@ -89,10 +93,12 @@ module _ (p : TProgram) (blocks : List ℕ) where
   not_so false h = refl
 
   -- the caller of a guarded function outside of blocks is guarded
-  pub caller_guarded : (o : Option ℕ) (f g : ℕ) (a : TEffect) (c : TCalled) → g < length p.functions → IsOf a (effects_at p g) → a.call ≡ Some c → c.function ≡ f → is_inside p blocks a.stmt ≡ false → comes_to (open_calls p blocks) (length p.functions) o f ≡ false → comes_to (open_calls p blocks) (length p.functions) o g ≡ false
+  pub caller_guarded : (o : Option ℕ) (f g : ℕ) (a : TEffect) (c : TCalled) → g < length p.functions → IsOf a (effects_at p g) → a.call ≡ Some c → c.function ≡ f
+      → is_inside p blocks a.stmt ≡ false → comes_to (open_calls p blocks) (length p.functions) o f ≡ false → comes_to (open_calls p blocks) (length p.functions) o g ≡ false
   caller_guarded None f g a c small i there callee outside e = refl
   caller_guarded (Some m) f g a c small i there callee outside e =
-      not_so (reaches (open_calls p blocks) (length p.functions) g m) (λ h. true≢false (sym (or_right (nat_eq f m) (leads (open_calls p blocks) (length p.functions) f m) (on (either (nat_eq g m) (leads (open_calls p blocks) (length p.functions) g m) h))) ∙ e))
+      not_so (reaches (open_calls p blocks) (length p.functions) g m)
+      (λ h. true≢false (sym (or_right (nat_eq f m) (leads (open_calls p blocks) (length p.functions) f m) (on (either (nat_eq g m) (leads (open_calls p blocks) (length p.functions) g m) h))) ∙ e))
     where
       first : leads (open_calls p blocks) (length p.functions) f g ≡ true
       first = links_lead (open_calls p blocks) (length p.functions) f g (call_links f g a c small i there callee outside)

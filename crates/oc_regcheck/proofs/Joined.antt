@@ -32,7 +32,8 @@ in_join f z x [] o h = absurd o
 in_join f z x (y ∷ ys) (inl e) h = in_front z (f y) (flat_map f ys) (subst (λ w. IsOf z (f w)) e h)
 in_join f z x (y ∷ ys) (inr o) h = in_back z (f y) (flat_map f ys) (in_join f z x ys o h)
 
-joined_of : {A B : Type 0} (f : A → List B) (z : B) (y : A) (ys : List A) → (IsOf z (f y) ⊎ IsOf z (flat_map f ys)) → (IsOf z (flat_map f ys) → (x : A) × IsOf x ys × IsOf z (f x)) → (x : A) × IsOf x (y ∷ ys) × IsOf z (f x)
+joined_of : {A B : Type 0} (f : A → List B) (z : B) (y : A) (ys : List A) → (IsOf z (f y) ⊎ IsOf z (flat_map f ys)) → (IsOf z (flat_map f ys) → (x : A) × IsOf x ys × IsOf z (f x))
+    → (x : A) × IsOf x (y ∷ ys) × IsOf z (f x)
 joined_of f z y ys (inl i) r = (y, inl refl, i)
 joined_of f z y ys (inr i) r = let k = r i in (k.0, inr k.1, k.2)
 
@@ -40,7 +41,8 @@ pub of_join : {A B : Type 0} (f : A → List B) (z : B) (xs : List A) → IsOf z
 of_join f z [] h = absurd h
 of_join f z (y ∷ ys) h = joined_of f z y ys (of_either z (f y) (flat_map f ys) h) (of_join f z ys)
 
-any_later : {A : Type 0} (t : A → Bool) (x : A) (xs : List A) → (t x ≡ true) ⊎ (list_any t xs ≡ true) → (list_any t xs ≡ true → (y : A) × IsOf y xs × (t y ≡ true)) → (y : A) × IsOf y (x ∷ xs) × (t y ≡ true)
+any_later : {A : Type 0} (t : A → Bool) (x : A) (xs : List A) → (t x ≡ true) ⊎ (list_any t xs ≡ true) → (list_any t xs ≡ true → (y : A) × IsOf y xs × (t y ≡ true))
+    → (y : A) × IsOf y (x ∷ xs) × (t y ≡ true)
 any_later t x xs (inl h) r = (x, inl refl, h)
 any_later t x xs (inr h) r = let k = r h in (k.0, inr k.1, k.2)
 

@@ -1,10 +1,9 @@
 -- Blocks as regions: they are regions, and where they suffice they cover what is required.
 use Rattle.std.proofs.Common.{◌≡◌, ◌<◌, ◌≤◌, ℕ, suc, ◌+◌, Bool, true, false, true≢false, List, [], ◌∷◌, length, map, Option, Some, None, cond, refl, ap, sym, subst, ◌∙◌, inl, inr, arith}
-use Rattle.std.specs.Prelude.{◌⊎◌, ◌&&◌, not, filter, find, is_some, nat_eq, nat_le, option_map}
+use Rattle.std.specs.Prelude.{◌⊎◌, ◌&&◌, not, filter, is_some, nat_eq, nat_le, option_map}
 use Rattle.std.specs.List.{list_any, list_all}
 use Rattle.std.specs.Option.{unwrap_or}
-use Rattle.std.proofs.lemmas.Bool.{eqb-true, eq-eqb, leb-true, le-leb, or_left, or_right, and_parts, and_from, false_from_ne_true}
-use Rattle.std.proofs.lemmas.Option.{same_Some}
+use Rattle.std.proofs.lemmas.Bool.{eq-eqb, leb-true, le-leb, or_left, or_right, and_parts, and_from, false_from_ne_true}
 use Rattle.std.proofs.lemmas.List.Elements.{All-nil}
 use Rattle.oc_tree.specs.Tree.{TProgram}
 use Rattle.oc_tree.specs.Rules.{main}
@@ -12,29 +11,26 @@ use Rattle.oc_tree.specs.Calls.{function_place}
 use Rattle.oc_tree.specs.Numbers.{numbers_on}
 use Rattle.oc_tree.specs.Form.{Numbered}
 use Rattle.oc_tree.specs.Places.{Placed, placed, block_of, stands_in, encloses}
-use Rattle.oc_tree.specs.Checked.{Group, same_block, TChecked, IsChecked}
+use Rattle.oc_tree.specs.Checked.{Group, same_block, IsChecked}
 use Rattle.oc_tree.specs.Marked.{TRegion, TMarked, IsRegion, AreRegions, IsMarked, around, is_in_region, covers, function_of}
 use Rattle.oc_tree.specs.Members.{IsOf}
 use Rattle.oc_effects.specs.Effects.{TCalled, TEffect, effects_at}
 use Rattle.oc_flow.specs.Laws.{Decides}
-use Rattle.oc_flow.proofs.Fixpoint.{Ranked}
 use Rattle.oc_flow.proofs.Ranks.{ranked}
 use Rattle.oc_needs.specs.Need.{is_empty}
 use Rattle.oc_needs.specs.Policies.{policies}
 use Rattle.oc_needs.specs.Requirements.{TRequirement, requirements, rising}
 use Rattle.oc_needs.proofs.Tests.{any_same}
 use Rattle.oc_needs.proofs.Rising.{Rises, rises_rising, of_rising, in_rising}
-use Rattle.oc_honest.specs.Timely.{RunsAreTimely}
 use Rattle.oc_timely.specs.Covering.{IsCoveredAt, IsGuarding, IsMet, IsCovering}
-use Rattle.oc_region.specs.Smallest.{line_up}
-use Rattle.oc_region.proofs.Elements.{Each, Pairs, each_all, pairs_all, all_each}
-use Rattle.oc_region.proofs.Owners.{own_statements, owner, statement_function, around_function}
+use Rattle.oc_region.proofs.Elements.{Each, Pairs, each_all, pairs_all}
+use Rattle.oc_region.proofs.Owners.{owner, statement_function, around_function}
 use Rattle.oc_region.proofs.Required.{Own, own_effects, Asks, asked}
-use Rattle.oc_region.proofs.Chains.{Chain, Standing, line_chain}
+use Rattle.oc_region.proofs.Chains.{Chain, line_chain}
 use Rattle.oc_regcheck.specs.Enough.{AreStatements, AreCovered, is_inside, covers_all, is_covered, Guarded, comes_to, open_calls, is_guarded}
 use Rattle.oc_regcheck.specs.BlockMarks.{outermost, block_region, block_regions, blocks_marked}
-use Rattle.oc_regcheck.specs.Outermost.{is_among, outermost_from, outer}
-use Rattle.oc_regcheck.proofs.Outer.{Line, or_else, outermost_in, any_among, among_any, over, is_one, is_alone, inside_is}
+use Rattle.oc_regcheck.specs.Outermost.{is_among, outer}
+use Rattle.oc_regcheck.proofs.Outer.{Line, or_else, outermost_in, among_any, over, is_one, is_alone, inside_is}
 use Rattle.oc_regcheck.proofs.Joined.{any_of, of_any, in_filter, of_filter, of_all, all_of, each_of, among_of, of_among}
 use Rattle.oc_regcheck.proofs.Guards.{caller_guarded, not_true, guarded_is}
 
@@ -81,7 +77,9 @@ module _ (p : TProgram) where
       by (Some a) e = refl
 
   itself_in : (i b : ℕ) → is_some (placed p b) ≡ true → is_in_region p (block_region p i b) b ≡ true
-  itself_in i b h = and_from (same_block (block_of p b) (Some (unwrap_or (block_of p b) 0))) (nat_le b b && nat_le b b) (subst (λ o. same_block o (Some (unwrap_or (block_of p b) 0)) ≡ true) (sym (region_block b h)) (eq-eqb (unwrap_or (block_of p b) 0) (unwrap_or (block_of p b) 0) refl)) (and_from (nat_le b b) (nat_le b b) (le-leb b b (omega arith)) (le-leb b b (omega arith)))
+  itself_in i b h = and_from (same_block (block_of p b) (Some (unwrap_or (block_of p b) 0))) (nat_le b b && nat_le b b)
+      (subst (λ o. same_block o (Some (unwrap_or (block_of p b) 0)) ≡ true) (sym (region_block b h)) (eq-eqb (unwrap_or (block_of p b) 0) (unwrap_or (block_of p b) 0) refl))
+      (and_from (nat_le b b) (nat_le b b) (le-leb b b (omega arith)) (le-leb b b (omega arith)))
 
   only_itself : (i b t : ℕ) → is_in_region p (block_region p i b) t ≡ true → t ≡ b
   only_itself i b t e =
@@ -91,7 +89,8 @@ module _ (p : TProgram) where
       omega (arith, low, high)
 
   covers_inside : (i t s : ℕ) → is_some (placed p t) ≡ true → is_among (up s) t ≡ true → covers p (block_region p i t) s ≡ true
-  covers_inside i t s h m = or_right (is_in_region p (block_region p i t) s) (list_any (is_in_region p (block_region p i t)) (up s)) (among_any (is_in_region p (block_region p i t)) (up s) t m (itself_in i t h))
+  covers_inside i t s h m = or_right (is_in_region p (block_region p i t) s) (list_any (is_in_region p (block_region p i t)) (up s))
+      (among_any (is_in_region p (block_region p i t)) (up s) t m (itself_in i t h))
 
   in_regions : (t i : ℕ) (bs : List ℕ) → IsOf t bs → (j : ℕ) × IsOf (block_region p j t) (block_regions p i bs)
   in_regions t i [] h = absurd h
@@ -177,7 +176,9 @@ module _ (p : TProgram) where
           each = each_all (IsRegion p n) regions (each_region n 1 bs (λ b o. (outer_of b o).one));
           numbered = ids 1 bs;
           rising = pairs_all (λ r q. r.first < q.first) regions (pairs_of (λ r q. r.first < q.first) (λ i j a b h k l. l) 1 bs outer_of rises);
-          apart = pairs_all (λ r q. (covers p r q.first ≡ false) × (covers p q r.first ≡ false)) regions (pairs_of (λ r q. (covers p r q.first ≡ false) × (covers p q r.first ≡ false)) (λ i j a b h k l. (away i a b h k (λ e. omega (arith, l, e)), away j b a k h (λ e. omega (arith, l, e)))) 1 bs outer_of rises);
+          apart = pairs_all (λ r q. (covers p r q.first ≡ false) × (covers p q r.first ≡ false)) regions
+              (pairs_of (λ r q. (covers p r q.first ≡ false) × (covers p q r.first ≡ false))
+              (λ i j a b h k l. (away i a b h k (λ e. omega (arith, l, e)), away j b a k h (λ e. omega (arith, l, e)))) 1 bs outer_of rises);
         }
 
     -- ---- what is inside blocks is covered
@@ -225,9 +226,11 @@ module _ (p : TProgram) where
         at_main : (f : ℕ) → function_place p.functions main ≡ Some f → is_guarded p blocks f ≡ false
         at_main f e = ap (λ o. not (comes_to (open_calls p blocks) (length p.functions) o f)) e ∙ ap not (or_left (nat_eq f f) _ (eq-eqb f f refl))
 
-        by : (f : ℕ) (a : TEffect) (c : TCalled) → IsOf a (effects_at p f) → a.call ≡ Some c → is_guarded p blocks c.function ≡ true → (b : Bool) → is_inside p blocks a.stmt ≡ b → (is_guarded p blocks f ≡ true) ⊎ IsCoveredAt by_blocks f a.stmt
+        by : (f : ℕ) (a : TEffect) (c : TCalled) → IsOf a (effects_at p f) → a.call ≡ Some c → is_guarded p blocks c.function ≡ true → (b : Bool) → is_inside p blocks a.stmt ≡ b
+            → (is_guarded p blocks f ≡ true) ⊎ IsCoveredAt by_blocks f a.stmt
         by f a c i there g true e = inr (covered_at f a i e)
-        by f a c i there g false e = inl (ap not (caller_guarded p blocks (function_place p.functions main) c.function f a c ((ranked p groups checked).within f a i) i there refl e (not_true p blocks _ g)))
+        by f a c i there g false e = inl (ap not (caller_guarded p blocks (function_place p.functions main) c.function f a c ((ranked p groups checked).within f a i) i there refl e
+            (not_true p blocks _ g)))
 
     met : (r : TRequirement) → IsOf r (requirements p) → is_covered p blocks r ≡ true → IsMet by_blocks r
     met r o e =
@@ -236,7 +239,8 @@ module _ (p : TProgram) where
         let t = one_outer checked.form.numbered blocks b.0 b.1 in
         let all = (and_parts _ (list_all (encloses p b.0) r.sites) b.2).1 in
         let s = some_site checked.form.numbered blocks statements r.sites asks.some in
-        let home = region_of checked.form.numbered blocks statements r.function s.0 t.0 (each_of (Own p r.function) s.0 r.sites asks.sites s.1) (t.1 s.0 (of_all (encloses p b.0) s.0 r.sites all s.1)) in
+        let home = region_of checked.form.numbered blocks statements r.function s.0 t.0 (each_of (Own p r.function) s.0 r.sites asks.sites s.1)
+        (t.1 s.0 (of_all (encloses p b.0) s.0 r.sites all s.1)) in
         record { region = home.region; one = home.one; there = home.function; covered = all_of (covers p home.region) r.sites (λ u i. home.covers u (t.1 u (of_all (encloses p b.0) u r.sites all i))) }
 
     tells_so : (b : Bool) (A : Type 0) → Decides b A → A → b ≡ true

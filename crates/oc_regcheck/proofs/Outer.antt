@@ -1,7 +1,7 @@
 -- Two statements share a block just where the outermost blocks around them are one.
-use Rattle.std.proofs.Common.{◌≡◌, ◌<◌, ℕ, suc, Bool, true, false, true≢false, ◌==◌, List, [], ◌∷◌, length, Option, Some, None, cond, refl, ap, sym, subst, ◌∙◌, inl, inr, arith}
-use Rattle.std.specs.Prelude.{◌⊎◌, ◌&&◌, ◌||◌, not, is_some, nat_eq}
-use Rattle.std.specs.List.{list_any, list_all}
+use Rattle.std.proofs.Common.{◌≡◌, ◌<◌, ℕ, Bool, true, false, true≢false, ◌==◌, List, [], ◌∷◌, length, Option, Some, None, cond, refl, ap, sym, subst, ◌∙◌, inl, inr, arith}
+use Rattle.std.specs.Prelude.{◌⊎◌, ◌&&◌, ◌||◌, is_some}
+use Rattle.std.specs.List.{list_any}
 use Rattle.std.proofs.lemmas.Bool.{eqb-true, eq-eqb, or_left, or_right, and_parts, and_from}
 use Rattle.std.proofs.lemmas.Option.{same_Some, none-some}
 use Rattle.oc_regcheck.specs.Outermost.{is_among, outermost_from, same_place}
@@ -57,7 +57,8 @@ module _ (is_block : ℕ → Bool) where
   from_found o [] = refl
   from_found o (t ∷ l) = by (is_block t) (λ u. from_found u l)
     where
-      by : (b : Bool) → ((u : Option ℕ) → outermost_from is_block u l ≡ or_else (outermost_in l) u) → outermost_from is_block (cond b (Some t) o) l ≡ or_else (outermost_from is_block (cond b (Some t) None) l) o
+      by : (b : Bool) → ((u : Option ℕ) → outermost_from is_block u l ≡ or_else (outermost_in l) u) → outermost_from is_block (cond b (Some t) o) l
+          ≡ or_else (outermost_from is_block (cond b (Some t) None) l) o
       by true h = h (Some t) ∙ some_behind (outermost_in l) t o ∙ ap (λ x. or_else x o) (sym (h (Some t)))
       by false h = h o
 
@@ -98,7 +99,8 @@ module _ (is_block : ℕ → Bool) where
   is_one [] b e = absurd (none-some b e)
   is_one (t ∷ l) b e = by (outermost_in l) refl (is_block t) refl (sym (from_found (cond (is_block t) (Some t) None) l) ∙ e) (is_one l b)
     where
-      by : (o : Option ℕ) → outermost_in l ≡ o → (k : Bool) → is_block t ≡ k → or_else (outermost_in l) (cond (is_block t) (Some t) None) ≡ Some b → (outermost_in l ≡ Some b → (is_block b ≡ true) × (is_among l b ≡ true)) → (is_block b ≡ true) × (is_among (t ∷ l) b ≡ true)
+      by : (o : Option ℕ) → outermost_in l ≡ o → (k : Bool) → is_block t ≡ k → or_else (outermost_in l) (cond (is_block t) (Some t) None) ≡ Some b
+          → (outermost_in l ≡ Some b → (is_block b ≡ true) × (is_among l b ≡ true)) → (is_block b ≡ true) × (is_among (t ∷ l) b ≡ true)
       by (Some c) is k block f rest =
           let q : Some c ≡ Some b = sym (ap (λ x. or_else x (cond (is_block t) (Some t) None)) is) ∙ f in
           let r = rest (is ∙ q) in (r.0, or_right (t == b) (is_among l b) r.1)

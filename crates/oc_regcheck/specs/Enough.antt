@@ -37,7 +37,8 @@ is_covered p blocks r = list_any (covers_all p r) blocks
 
 -- A function is guarded where it isn't `main` and each call of it is inside a block or in a guarded function.
 pub data Guarded (p : TProgram) (blocks : List ℕ) : ℕ → Type 0 where
-  guarded : {f : ℕ} → (function_place p.functions main ≢ Some f) → ((g : ℕ) (a : TEffect) (c : TCalled) → IsOf a (effects_at p g) → a.call ≡ Some c → c.function ≡ f → is_inside p blocks a.stmt ≡ false → Guarded p blocks g) → Guarded p blocks f
+  guarded : {f : ℕ} → (function_place p.functions main ≢ Some f)
+      → ((g : ℕ) (a : TEffect) (c : TCalled) → IsOf a (effects_at p g) → a.call ≡ Some c → c.function ≡ f → is_inside p blocks a.stmt ≡ false → Guarded p blocks g) → Guarded p blocks f
 
 -- the calls that are inside no block, each from the called function back to the caller
 abbrev pub open_call : TProgram → List ℕ → (caller : ℕ) → TEffect → Links

@@ -25,9 +25,11 @@ find_own : (i : ℕ) (xs : List Placed) → Rise i (map (λ a. a.id) xs) → Eac
 find_own i [] h = tt
 find_own i (x ∷ xs) h =
     let later : Each (λ a. suc i ≤ a.id) xs = each_unmapped (λ n. suc i ≤ n) (λ a. a.id) xs (rise_above (suc i) (suc i) (map (λ a. a.id) xs) (omega arith) h.1) in
-    let rest : Each (λ a. (suc i ≤ a.id) × (find (λ b. b.id == a.id) xs ≡ Some a)) xs = each_both (λ a. suc i ≤ a.id) (λ a. find (λ b. b.id == a.id) xs ≡ Some a) xs later (find_own (suc i) xs h.1) in (
+    let rest : Each (λ a. (suc i ≤ a.id) × (find (λ b. b.id == a.id) xs ≡ Some a)) xs =
+    each_both (λ a. suc i ≤ a.id) (λ a. find (λ b. b.id == a.id) xs ≡ Some a) xs later (find_own (suc i) xs h.1) in (
       ap (λ b. cond b (Some x) (find (λ b. b.id == x.id) xs)) (eq-eqb x.id x.id refl),
-      each_weaker (λ a. (suc i ≤ a.id) × (find (λ b. b.id == a.id) xs ≡ Some a)) (λ a. find (λ b. b.id == a.id) (x ∷ xs) ≡ Some a) (λ a k. (let own : x.id ≡ i = h.0 in let l = k.0 in ap (λ b. cond b (Some x) (find (λ b. b.id == a.id) xs)) (ne_eqb x.id a.id (λ e. omega (arith, own, l, e))) ∙ k.1)) xs rest,
+      each_weaker (λ a. (suc i ≤ a.id) × (find (λ b. b.id == a.id) xs ≡ Some a)) (λ a. find (λ b. b.id == a.id) (x ∷ xs) ≡ Some a)
+          (λ a k. (let own : x.id ≡ i = h.0 in let l = k.0 in ap (λ b. cond b (Some x) (find (λ b. b.id == a.id) xs)) (ne_eqb x.id a.id (λ e. omega (arith, own, l, e))) ∙ k.1)) xs rest,
     )
 
 -- ---- what is around a block
@@ -79,7 +81,8 @@ functions_ins fs = flat_map (λ f. block_ins [] f.body) fs
 
 functions_firsts : (fs : List TFunction) → map (λ x. x.0) (flat_map (λ f. block_ins [] f.body) fs) ≡ flat_map (λ f. block_blocks f.body) fs
 functions_firsts [] = refl
-functions_firsts (f ∷ fs) = joined_firsts (block_ins [] f.body) (flat_map (λ g. block_ins [] g.body) fs) (block_blocks f.body) (flat_map (λ g. block_blocks g.body) fs) (block_firsts [] f.body) (functions_firsts fs)
+functions_firsts (f ∷ fs) = joined_firsts (block_ins [] f.body) (flat_map (λ g. block_ins [] g.body) fs) (block_blocks f.body) (flat_map (λ g. block_blocks g.body) fs)
+    (block_firsts [] f.body) (functions_firsts fs)
 
 -- what stands beside a number
 look : List Pair → ℕ → List ℕ
@@ -93,7 +96,8 @@ look_own i (x ∷ xs) h =
     let later : Each (λ a. suc i ≤ a.0) xs = each_unmapped (λ n. suc i ≤ n) (λ a. a.0) xs (rise_above (suc i) (suc i) (map (λ a. a.0) xs) (omega arith) h.1) in
     let rest : Each (λ a. (suc i ≤ a.0) × (look xs a.0 ≡ a.1)) xs = each_both (λ a. suc i ≤ a.0) (λ a. look xs a.0 ≡ a.1) xs later (look_own (suc i) xs h.1) in (
       ap (λ b. cond b x.1 (look xs x.0)) (eq-eqb x.0 x.0 refl),
-      each_weaker (λ a. (suc i ≤ a.0) × (look xs a.0 ≡ a.1)) (λ a. look (x ∷ xs) a.0 ≡ a.1) (λ a k. (let own : x.0 ≡ i = h.0 in let l = k.0 in ap (λ b. cond b x.1 (look xs a.0)) (ne_eqb x.0 a.0 (λ e. omega (arith, own, l, e))) ∙ k.1)) xs rest,
+      each_weaker (λ a. (suc i ≤ a.0) × (look xs a.0 ≡ a.1)) (λ a. look (x ∷ xs) a.0 ≡ a.1)
+          (λ a k. (let own : x.0 ≡ i = h.0 in let l = k.0 in ap (λ b. cond b x.1 (look xs a.0)) (ne_eqb x.0 a.0 (λ e. omega (arith, own, l, e))) ∙ k.1)) xs rest,
     )
 
 module _ (A : ℕ → List ℕ) where
@@ -105,7 +109,9 @@ module _ (A : ℕ → List ℕ) where
 
   mutual
     kind_as : (at : Place) (id : ℕ) (k : TKind) → Each Beside (kind_ins at.around id k) → Each AsBlock (kind_placed at id k)
-    kind_as at id (if_else c a b) h = each_append AsBlock (block_placed (in_branch at id) a) (else_placed (in_branch at id) b) (block_as (in_branch at id) a (each_left Beside (block_ins (id ∷ at.around) a) (else_ins (id ∷ at.around) b) h)) (else_as (in_branch at id) b (each_right Beside (block_ins (id ∷ at.around) a) (else_ins (id ∷ at.around) b) h))
+    kind_as at id (if_else c a b) h = each_append AsBlock (block_placed (in_branch at id) a) (else_placed (in_branch at id) b)
+        (block_as (in_branch at id) a (each_left Beside (block_ins (id ∷ at.around) a) (else_ins (id ∷ at.around) b) h))
+        (else_as (in_branch at id) b (each_right Beside (block_ins (id ∷ at.around) a) (else_ins (id ∷ at.around) b) h))
     kind_as at id (for_in x m n b) h = block_as (in_loop at id ((x, variables.Declared id) ∷ [])) b h
     kind_as at id (while_do c n b) h = block_as (in_loop at id []) b h
     kind_as at id _ h = tt
@@ -119,11 +125,17 @@ module _ (A : ℕ → List ℕ) where
 
     stmts_as : (at : Place) (ss : TStmts) → A at.block ≡ at.around → Each Beside (stmts_ins at.around ss) → Each AsBlock (stmts_placed at ss)
     stmts_as at no_stmts e h = tt
-    stmts_as at (more (stmt id line k) ss) e h = (e, each_append AsBlock (kind_placed at id k) (stmts_placed (behind at id k) ss) (kind_as at id k (each_left Beside (kind_ins at.around id k) (stmts_ins at.around ss) h)) (stmts_as (behind at id k) ss e (each_right Beside (kind_ins at.around id k) (stmts_ins at.around ss) h)))
+    stmts_as at (more (stmt id line k) ss) e h = (
+      e,
+      each_append AsBlock (kind_placed at id k) (stmts_placed (behind at id k) ss) (kind_as at id k (each_left Beside (kind_ins at.around id k) (stmts_ins at.around ss) h))
+          (stmts_as (behind at id k) ss e (each_right Beside (kind_ins at.around id k) (stmts_ins at.around ss) h)),
+    )
 
   functions_as : (fs : List TFunction) → Each Beside (flat_map (λ f. block_ins [] f.body) fs) → Each AsBlock (flat_map (λ f. block_placed (at_start f) f.body) fs)
   functions_as [] h = tt
-  functions_as (f ∷ fs) h = each_append AsBlock (block_placed (at_start f) f.body) (flat_map (λ g. block_placed (at_start g) g.body) fs) (block_as (at_start f) f.body (each_left Beside (block_ins [] f.body) (flat_map (λ g. block_ins [] g.body) fs) h)) (functions_as fs (each_right Beside (block_ins [] f.body) (flat_map (λ g. block_ins [] g.body) fs) h))
+  functions_as (f ∷ fs) h = each_append AsBlock (block_placed (at_start f) f.body) (flat_map (λ g. block_placed (at_start g) g.body) fs)
+      (block_as (at_start f) f.body (each_left Beside (block_ins [] f.body) (flat_map (λ g. block_ins [] g.body) fs) h))
+      (functions_as fs (each_right Beside (block_ins [] f.body) (flat_map (λ g. block_ins [] g.body) fs) h))
 
 -- ---- chains
 
@@ -147,7 +159,10 @@ module _ (p : TProgram) where
 
   mutual
     kind_chain : (at : Place) (id : ℕ) (k : TKind) → Standing id at.around → Chain at.around → Each IsOwn (kind_placed at id k) → Each InChain (kind_placed at id k)
-    kind_chain at id (if_else c a b) s h own = each_append InChain (block_placed (in_branch at id) a) (else_placed (in_branch at id) b) (block_chain (in_branch at id) a (s, h) (each_left IsOwn (block_placed (in_branch at id) a) (else_placed (in_branch at id) b) own)) (else_chain (in_branch at id) b (s, h) (each_right IsOwn (block_placed (in_branch at id) a) (else_placed (in_branch at id) b) own))
+    kind_chain at id (if_else c a b) s h own =
+        each_append InChain (block_placed (in_branch at id) a) (else_placed (in_branch at id) b)
+        (block_chain (in_branch at id) a (s, h) (each_left IsOwn (block_placed (in_branch at id) a) (else_placed (in_branch at id) b) own))
+        (else_chain (in_branch at id) b (s, h) (each_right IsOwn (block_placed (in_branch at id) a) (else_placed (in_branch at id) b) own))
     kind_chain at id (for_in x m n b) s h own = block_chain (in_loop at id ((x, variables.Declared id) ∷ [])) b (s, h) own
     kind_chain at id (while_do c n b) s h own = block_chain (in_loop at id []) b (s, h) own
     kind_chain at id _ s h own = tt
@@ -162,12 +177,18 @@ module _ (p : TProgram) where
     stmts_chain : (at : Place) (ss : TStmts) → Chain at.around → Each IsOwn (stmts_placed at ss) → Each InChain (stmts_placed at ss)
     stmts_chain at no_stmts h own = tt
     stmts_chain at (more (stmt id line k) ss) h own =
-        let s : Standing id at.around = record { found = record { id = id; line = line; kind = k; at = at }; there = own.0; around = refl } in
-        (h, each_append InChain (kind_placed at id k) (stmts_placed (behind at id k) ss) (kind_chain at id k s h (each_left IsOwn (kind_placed at id k) (stmts_placed (behind at id k) ss) own.1)) (stmts_chain (behind at id k) ss h (each_right IsOwn (kind_placed at id k) (stmts_placed (behind at id k) ss) own.1)))
+        let s : Standing id at.around = record { found = record { id = id; line = line; kind = k; at = at }; there = own.0; around = refl } in (
+          h,
+          each_append InChain (kind_placed at id k) (stmts_placed (behind at id k) ss)
+              (kind_chain at id k s h (each_left IsOwn (kind_placed at id k) (stmts_placed (behind at id k) ss) own.1))
+              (stmts_chain (behind at id k) ss h (each_right IsOwn (kind_placed at id k) (stmts_placed (behind at id k) ss) own.1)),
+        )
 
   functions_chain : (fs : List TFunction) → Each IsOwn (flat_map (λ f. block_placed (at_start f) f.body) fs) → Each InChain (flat_map (λ f. block_placed (at_start f) f.body) fs)
   functions_chain [] own = tt
-  functions_chain (f ∷ fs) own = each_append InChain (block_placed (at_start f) f.body) (flat_map (λ g. block_placed (at_start g) g.body) fs) (block_chain (at_start f) f.body tt (each_left IsOwn (block_placed (at_start f) f.body) (flat_map (λ g. block_placed (at_start g) g.body) fs) own)) (functions_chain fs (each_right IsOwn (block_placed (at_start f) f.body) (flat_map (λ g. block_placed (at_start g) g.body) fs) own))
+  functions_chain (f ∷ fs) own = each_append InChain (block_placed (at_start f) f.body) (flat_map (λ g. block_placed (at_start g) g.body) fs)
+      (block_chain (at_start f) f.body tt (each_left IsOwn (block_placed (at_start f) f.body) (flat_map (λ g. block_placed (at_start g) g.body) fs) own))
+      (functions_chain fs (each_right IsOwn (block_placed (at_start f) f.body) (flat_map (λ g. block_placed (at_start g) g.body) fs) own))
 
   -- ---- in a program in form
 
@@ -182,7 +203,8 @@ module _ (p : TProgram) where
     all_as : Each (λ a. around_block a.at.block ≡ a.at.around) (program_placed p)
     unfolding around_block functions_ins
     all_as =
-        let firsts : Rise 1 (map (λ x. x.0) (flat_map (λ f. block_ins [] f.body) p.functions)) = subst (Rise 1) (sym (functions_firsts p.functions)) (rise 1 (length (program_blocks p)) (program_blocks p) form.blocks) in
+        let firsts : Rise 1 (map (λ x. x.0) (flat_map (λ f. block_ins [] f.body) p.functions)) =
+        subst (Rise 1) (sym (functions_firsts p.functions)) (rise 1 (length (program_blocks p)) (program_blocks p) form.blocks) in
         functions_as (look (flat_map (λ f. block_ins [] f.body) p.functions)) p.functions (look_own 1 (flat_map (λ f. block_ins [] f.body) p.functions) firsts)
 
     pub around_is : (t b : ℕ) → block_of p t ≡ Some b → around (placed p t) ≡ around_block b

@@ -1,8 +1,8 @@
 -- The inferred regions cover what is required: each requirement's smallest range lies in a region of its function.
-use Rattle.std.proofs.Common.{◌≡◌, ◌<◌, ◌≤◌, ℕ, zero, suc, ◌+◌, Bool, true, false, true≢false, List, [], ◌∷◌, ◌++◌, length, Option, Some, None, min, max, cond, refl, ap, sym, subst, ◌∙◌, inl, inr, arith}
+use Rattle.std.proofs.Common.{◌≡◌, ◌<◌, ◌≤◌, ℕ, zero, suc, ◌+◌, Bool, true, false, true≢false, List, [], ◌∷◌, ◌++◌, length, Option, Some, None, min, cond, refl, ap, sym, subst, ◌∙◌, inl, inr, arith}
 use Rattle.std.specs.Prelude.{◌⊎◌, ◌&&◌, not, flat_map, filter, nat_eq, nat_le, option_to_list}
 use Rattle.std.specs.List.{list_any, list_all}
-use Rattle.std.proofs.lemmas.Bool.{eqb-true, eq-eqb, leb-true, le-leb, and_parts, and_from, cases_lt}
+use Rattle.std.proofs.lemmas.Bool.{eqb-true, leb-true, le-leb, and_parts, and_from, cases_lt}
 use Rattle.std.proofs.lemmas.Option.{same_Some}
 use Rattle.oc_tree.specs.Tree.{TProgram}
 use Rattle.oc_tree.specs.Form.{Numbered}
@@ -16,11 +16,11 @@ use Rattle.oc_region.specs.Smallest.{line_up, smallest, LiesIn}
 use Rattle.oc_region.specs.Law.{HasSmallest}
 use Rattle.oc_region.specs.Regions.{shares, joined, joined_all, with_range, united, is_inside, outermost, with_region, by_first, reasons, ranges, numbered, regions, marked}
 use Rattle.oc_region.proofs.Elements.{Each, each_weaker, each_both, each_filter, each_passes, each_flat_map, all_each}
-use Rattle.oc_region.proofs.Owners.{function_of_block, statement_function, block_function, around_function}
+use Rattle.oc_region.proofs.Owners.{statement_function, block_function, around_function}
 use Rattle.oc_region.proofs.Required.{Own, Asks, IsSome, asked}
 use Rattle.oc_region.proofs.Ranges.{IsRangeOf, same_block_is, smallest_sound}
 use Rattle.oc_region.proofs.Chains.{Chain, line_chain}
-use Rattle.oc_region.proofs.Least.{In, Found, any_found, in_any, each_in, all_passing, passing_all, shorter, beyond, same_around}
+use Rattle.oc_region.proofs.Least.{In, any_found, in_any, each_in, all_passing, passing_all, shorter, beyond, same_around}
 use Rattle.oc_region.proofs.Exists.{each_smallest}
 use Rattle.oc_region.proofs.Regions.{ordered_regions, is_marked}
 use Rattle.oc_timely.specs.Covering.{IsMet, IsCovering}
@@ -100,14 +100,21 @@ all_first r (q ∷ qs) = spans_on r (joined r q) (joined_all (joined r q) qs) (f
 
 all_others : (r : TRegion) (qs : List TRegion) → Each (Beside r) qs → (x : TRegion) → In x qs → Spans x (joined_all r qs)
 all_others r [] each x h = absurd h
-all_others r (q ∷ qs) each x (inl s) = subst (λ y. Spans y (joined_all (joined r q) qs)) (sym s) (spans_on q (joined r q) (joined_all (joined r q) qs) (second_joined r q each.0) (all_first (joined r q) qs))
+all_others r (q ∷ qs) each x (inl s) = subst (λ y. Spans y (joined_all (joined r q) qs)) (sym s)
+    (spans_on q (joined r q) (joined_all (joined r q) qs) (second_joined r q each.0) (all_first (joined r q) qs))
 all_others r (q ∷ qs) each x (inr h) = all_others (joined r q) qs each.1 x h
 
 shared_beside : (r : TRegion) (rs : List TRegion) → Each (Beside r) (filter (shares r) rs)
-shared_beside r rs = each_weaker (λ q. shares r q ≡ true) (Beside r) (λ q e. eqb-true r.block q.block (and_parts (nat_eq r.block q.block) (nat_le r.first q.last && nat_le q.first r.last) e).0) (filter (shares r) rs) (each_passes (shares r) rs)
+shared_beside r rs = each_weaker (λ q. shares r q ≡ true) (Beside r)
+    (λ q e. eqb-true r.block q.block (and_parts (nat_eq r.block q.block) (nat_le r.first q.last && nat_le q.first r.last) e).0) (filter (shares r) rs) (each_passes (shares r) rs)
 
 with_spanned : (r : TRegion) (rs : List TRegion) (x : TRegion) → In x (r ∷ rs) → Spanned x (with_range r rs)
-with_spanned r rs x (inl s) = record { wide = joined_all r (filter (shares r) rs); inside = inl refl; spans = subst (λ y. Spans y (joined_all r (filter (shares r) rs))) (sym s) (all_first r (filter (shares r) rs)) }
+with_spanned r rs x (inl s) = record {
+  wide = joined_all r (filter (shares r) rs);
+  inside = inl refl;
+  spans =
+      subst (λ y. Spans y (joined_all r (filter (shares r) rs))) (sym s) (all_first r (filter (shares r) rs));
+}
 with_spanned r rs x (inr h) = by_test (shares r x) refl
   where
     by_test : (b : Bool) → shares r x ≡ b → Spanned x (with_range r rs)
@@ -160,7 +167,8 @@ module _ (p : TProgram) where
       let high = leb-true t r.last ends.1 in
       let from = h.from in
       let upto = h.upto in
-      and_from (same_block (block_of p t) (Some q.block)) (nat_le q.first t && nat_le t q.last) (subst (λ b. same_block (block_of p t) (Some b) ≡ true) h.block parts.0) (and_from (nat_le q.first t) (nat_le t q.last) (le-leb q.first t (omega (arith, low, from))) (le-leb t q.last (omega (arith, high, upto))))
+      and_from (same_block (block_of p t) (Some q.block)) (nat_le q.first t && nat_le t q.last) (subst (λ b. same_block (block_of p t) (Some b) ≡ true) h.block parts.0)
+      (and_from (nat_le q.first t) (nat_le t q.last) (le-leb q.first t (omega (arith, low, from))) (le-leb t q.last (omega (arith, high, upto))))
 
   span_lies : (r q : TRegion) → Spans r q → LiesIn p r q
   span_lies r q h s e = any_weaker (is_in_region p r) (is_in_region p q) (in_span r q h) (line_up p s) e
@@ -245,17 +253,23 @@ module _ (p : TProgram) where
       function_along x k [] h some own held = cc some
       function_along x k (s ∷ ss) h some own held =
           let f = any_found (is_in_region p x) (line_up p s) held.0 in
-          let stands = each_in (λ t. function_of p t ≡ Some k) f.value (line_up p s) f.inside (statement_function p checked.form.numbered.statements checked.form.numbered.blocks k s own.0, around_function p checked.form.numbered.statements checked.form.numbered.blocks k s own.0) in
+          let stands = each_in (λ t. function_of p t ≡ Some k) f.value (line_up p s) f.inside (
+            statement_function p checked.form.numbered.statements checked.form.numbered.blocks k s own.0,
+            around_function p checked.form.numbered.statements
+                checked.form.numbered.blocks k s own.0,
+          ) in
           same_Some x.function k (sym h.function_there ∙ sym (block_function p checked.form.numbered.statements checked.form.numbered.blocks f.value x.block (in_block_of x f.value f.passes)) ∙ stands)
 
       all_ranges : Each (IsRangeOf p) (ranges p groups (requirements p))
-      all_ranges = each_flat_map (Asks p (length (policies p))) (IsRangeOf p) (λ q. option_to_list (smallest p groups q)) (λ q a. smallest_sound p groups checked.grouped checked.form.numbered (length (policies p)) q a) (requirements p) (asked p)
+      all_ranges = each_flat_map (Asks p (length (policies p))) (IsRangeOf p) (λ q. option_to_list (smallest p groups q))
+          (λ q a. smallest_sound p groups checked.grouped checked.form.numbered (length (policies p)) q a) (requirements p) (asked p)
 
       lies_holds : (r q : TRegion) → LiesIn p r q → (ss : List ℕ) → list_all (covers p r) ss ≡ true → Each (λ s. covers p q s ≡ true) ss
       lies_holds r q f ss e = each_weaker (λ s. covers p r s ≡ true) (λ s. covers p q s ≡ true) f ss (all_passing (covers p r) ss e)
 
       -- a range that holds the sites of a requirement is met by what it becomes
-      met_by : (r : TRequirement) → Asks p (length (policies p)) r → (x : TRegion) → IsRangeOf p x → Each (λ s. covers p x s ≡ true) r.sites → Numbering x (regions p groups) → IsMet (marked p groups) r
+      met_by : (r : TRequirement) → Asks p (length (policies p)) r → (x : TRegion) → IsRangeOf p x → Each (λ s. covers p x s ≡ true) r.sites → Numbering x (regions p groups)
+          → IsMet (marked p groups) r
       met_by r asks x ranged held n = record {
         region = n.region;
         one = in_is n.region (regions p groups) n.inside;
@@ -276,7 +290,8 @@ module _ (p : TProgram) where
           let sorted : List TRegion = by_first (outermost p (united all)) in
           let here : In out.outer sorted = in_by_first out.outer (outermost p (united all)) out.inside in
           let lies : LiesIn p has.range out.outer = λ s e. out.lies s (span_lies has.range wide.wide wide.spans s e) in
-          met_by r (each_in (Asks p (length (policies p))) r qs i (asked p)) out.outer (each_in (IsRangeOf p) out.outer sorted here (ordered_regions p all all_ranges).0) (lies_holds has.range out.outer lies r.sites has.smallest.holds) (in_numbered qs out.outer 1 sorted here)
+          met_by r (each_in (Asks p (length (policies p))) r qs i (asked p)) out.outer (each_in (IsRangeOf p) out.outer sorted here (ordered_regions p all all_ranges).0)
+          (lies_holds has.range out.outer lies r.sites has.smallest.holds) (in_numbered qs out.outer 1 sorted here)
 
       pub is_covering : IsCovering (marked p groups)
       is_covering = record { guarded = λ f. false; guarding = record { main = λ f e. refl; calls = λ f a c i e g. absurd (true≢false (sym g)) }; met = λ r i. inr (is_met r i) }

@@ -90,7 +90,8 @@ module _ {A : Type 0} where
   find_append t [] ys x e = inr e
   find_append t (y ∷ xs) ys x e = by_test (t y) e (find_append t xs ys x)
     where
-      by_test : (b : Bool) → cond b (Some y) (find t (xs ++ ys)) ≡ Some x → (find t (xs ++ ys) ≡ Some x → (find t xs ≡ Some x) ⊎ (find t ys ≡ Some x)) → (cond b (Some y) (find t xs) ≡ Some x) ⊎ (find t ys ≡ Some x)
+      by_test : (b : Bool) → cond b (Some y) (find t (xs ++ ys)) ≡ Some x → (find t (xs ++ ys) ≡ Some x → (find t xs ≡ Some x) ⊎ (find t ys ≡ Some x))
+          → (cond b (Some y) (find t xs) ≡ Some x) ⊎ (find t ys ≡ Some x)
       by_test true f rest = inl f
       by_test false f rest = rest f
 

@@ -26,7 +26,8 @@ use Rattle.oc_region.proofs.Least.{In, any_found, find_passes, is_found, passing
 
 mutual
   kind_ids : (at : Place) (id : ℕ) (k : TKind) → map (λ a. a.id) (kind_placed at id k) ≡ kind_statements k
-  kind_ids at id (if_else c a b) = map-append (λ a. a.id) (block_placed (in_branch at id) a) (else_placed (in_branch at id) b) ∙ (λ i. block_ids (in_branch at id) a i ++ else_ids (in_branch at id) b i)
+  kind_ids at id (if_else c a b) = map-append (λ a. a.id) (block_placed (in_branch at id) a) (else_placed (in_branch at id) b)
+      ∙ (λ i. block_ids (in_branch at id) a i ++ else_ids (in_branch at id) b i)
   kind_ids at id (for_in x m n b) = block_ids (in_loop at id ((x, variables.Declared id) ∷ [])) b
   kind_ids at id (while_do c n b) = block_ids (in_loop at id []) b
   kind_ids at id _ = refl
@@ -40,7 +41,8 @@ mutual
 
   stmts_ids : (at : Place) (ss : TStmts) → map (λ a. a.id) (stmts_placed at ss) ≡ stmts_statements ss
   stmts_ids at no_stmts = refl
-  stmts_ids at (more (stmt id line k) ss) = ap (λ ns. id ∷ ns) (map-append (λ a. a.id) (kind_placed at id k) (stmts_placed (behind at id k) ss) ∙ (λ i. kind_ids at id k i ++ stmts_ids (behind at id k) ss i))
+  stmts_ids at (more (stmt id line k) ss) =
+      ap (λ ns. id ∷ ns) (map-append (λ a. a.id) (kind_placed at id k) (stmts_placed (behind at id k) ss) ∙ (λ i. kind_ids at id k i ++ stmts_ids (behind at id k) ss i))
 
 each_id : (P : ℕ → Type 0) (xs : List Placed) → Each (λ a. P a.id) xs → Each P (map (λ a. a.id) xs)
 each_id P [] h = tt
@@ -78,7 +80,9 @@ module _ (p : TProgram) (b : ℕ) where
 
   mutual
     kind_lined : (at : Place) (id : ℕ) (k : TKind) → list_any stands (id ∷ at.around) ≡ true → Each (IsOwn p) (kind_placed at id k) → Each Lined (kind_placed at id k)
-    kind_lined at id (if_else c x y) h own = each_append Lined (block_placed (in_branch at id) x) (else_placed (in_branch at id) y) (block_lined (in_branch at id) x (inr h) (each_left (IsOwn p) (block_placed (in_branch at id) x) (else_placed (in_branch at id) y) own)) (else_lined (in_branch at id) y (inr h) (each_right (IsOwn p) (block_placed (in_branch at id) x) (else_placed (in_branch at id) y) own))
+    kind_lined at id (if_else c x y) h own = each_append Lined (block_placed (in_branch at id) x) (else_placed (in_branch at id) y)
+        (block_lined (in_branch at id) x (inr h) (each_left (IsOwn p) (block_placed (in_branch at id) x) (else_placed (in_branch at id) y) own))
+        (else_lined (in_branch at id) y (inr h) (each_right (IsOwn p) (block_placed (in_branch at id) x) (else_placed (in_branch at id) y) own))
     kind_lined at id (for_in x m n y) h own = block_lined (in_loop at id ((x, variables.Declared id) ∷ [])) y (inr h) own
     kind_lined at id (while_do c n y) h own = block_lined (in_loop at id []) y (inr h) own
     kind_lined at id _ h own = tt
@@ -94,8 +98,12 @@ module _ (p : TProgram) (b : ℕ) where
     stmts_lined at no_stmts h own = tt
     stmts_lined at (more (stmt id line k) ss) h own =
         let a : Placed = record { id = id; line = line; kind = k; at = at } in
-        let u : list_any stands (id ∷ at.around) ≡ true = under_own a own.0 h in
-        (sym (line_own a own.0) ∙ u, each_append Lined (kind_placed at id k) (stmts_placed (behind at id k) ss) (kind_lined at id k u (each_left (IsOwn p) (kind_placed at id k) (stmts_placed (behind at id k) ss) own.1)) (stmts_lined (behind at id k) ss h (each_right (IsOwn p) (kind_placed at id k) (stmts_placed (behind at id k) ss) own.1)))
+        let u : list_any stands (id ∷ at.around) ≡ true = under_own a own.0 h in (
+          sym (line_own a own.0) ∙ u,
+          each_append Lined (kind_placed at id k) (stmts_placed (behind at id k) ss)
+              (kind_lined at id k u (each_left (IsOwn p) (kind_placed at id k) (stmts_placed (behind at id k) ss) own.1))
+              (stmts_lined (behind at id k) ss h (each_right (IsOwn p) (kind_placed at id k) (stmts_placed (behind at id k) ss) own.1)),
+        )
 
 -- the outermost block of the function at a place
 abbrev root_at : List TFunction → ℕ → ℕ
@@ -112,7 +120,8 @@ in_right b [] ys h = h
 in_right b (x ∷ xs) ys h = inr (in_right b xs ys h)
 
 module _ (p : TProgram) where
-  root_stands : (fs : List TFunction) (g s : ℕ) → Owns own_statements fs g s → Each (IsOwn p) (flat_map (λ f. block_placed (at_start f) f.body) fs) → list_any (stands p (root_at fs g)) (line_up p s) ≡ true
+  root_stands : (fs : List TFunction) (g s : ℕ) → Owns own_statements fs g s → Each (IsOwn p) (flat_map (λ f. block_placed (at_start f) f.body) fs)
+      → list_any (stands p (root_at fs g)) (line_up p s) ≡ true
   root_stands [] g s h own = absurd h
   root_stands (f ∷ fs) zero s h own =
       let P : ℕ → Type 0 = λ n. list_any (stands p (root f.body)) (line_up p n) ≡ true in
@@ -133,7 +142,9 @@ module _ (p : TProgram) where
       let test : ℕ → Bool = λ c. list_all (λ t. is_some (in_block p c t)) ss in
       let f = any_found (stands p b) (line_up p s) h.0 in
       let inside = in_blocks f.value b (line_up p s) f.inside (same_block_is (block_of p f.value) b f.passes) in
-      let each : Each (λ t. is_some (in_block p b t) ≡ true) ss = each_weaker (λ t. list_any (stands p b) (line_up p t) ≡ true) (λ t. is_some (in_block p b t) ≡ true) (λ t k. (let q = any_found (stands p b) (line_up p t) k in is_found (stands p b) q.value (line_up p t) q.inside q.passes)) ss h.1 in
+      let each : Each (λ t. is_some (in_block p b t) ≡ true) ss =
+      each_weaker (λ t. list_any (stands p b) (line_up p t) ≡ true) (λ t. is_some (in_block p b t) ≡ true)
+      (λ t k. (let q = any_found (stands p b) (line_up p t) k in is_found (stands p b) q.value (line_up p t) q.inside q.passes)) ss h.1 in
       some_value (find test (blocks_of p s)) (is_found test b (blocks_of p s) inside (passing_all (λ t. is_some (in_block p b t)) ss each))
 
   module _ (groups : List Group) (form : Numbered p) (are : AreGroups p groups) where
@@ -149,14 +160,16 @@ module _ (p : TProgram) where
     range_there : (r : TRequirement) (b : ℕ) → IsSome r.sites → common_block p r.sites ≡ Some b → (x : TRegion) × (range_in p groups r b ≡ Some x)
     range_there r b some common = by_groups (groups_in p groups b r.sites) refl
       where
-        by_groups : (gs : List Group) → groups_in p groups b r.sites ≡ gs → (x : TRegion) × (option_map (λ g. record { id = 0; function = r.function; block = b; first = g.0; last = g.1; reasons = [] }) (spread gs) ≡ Some x)
+        by_groups : (gs : List Group) → groups_in p groups b r.sites ≡ gs
+            → (x : TRegion) × (option_map (λ g. record { id = 0; function = r.function; block = b; first = g.0; last = g.1; reasons = [] }) (spread gs) ≡ Some x)
         by_groups [] e = absurd (some_groups b r.sites some (all_in_common p r.sites b common) e)
         by_groups (g ∷ gs) e = (_, refl)
 
     has_smallest : (n : ℕ) (r : TRequirement) → Asks p n r → HasSmallest p groups r
     has_smallest n r asks =
         let root_block : ℕ = root_at p.functions r.function in
-        let each : Each (λ s. list_any (stands p root_block) (line_up p s) ≡ true) r.sites = each_weaker (Own p r.function) (λ s. list_any (stands p root_block) (line_up p s) ≡ true) (λ s own. root_stands p.functions r.function s own (all_own p form)) r.sites asks.sites in
+        let each : Each (λ s. list_any (stands p root_block) (line_up p s) ≡ true) r.sites =
+        each_weaker (Own p r.function) (λ s. list_any (stands p root_block) (line_up p s) ≡ true) (λ s own. root_stands p.functions r.function s own (all_own p form)) r.sites asks.sites in
         let common = common_there root_block r.sites asks.some each in
         let there = range_there r common.0 asks.some common.1 in
         let found : smallest p groups r ≡ Some there.0 = ap (option_and_then (range_in p groups r)) common.1 ∙ there.1 in
@@ -164,4 +177,5 @@ module _ (p : TProgram) where
 
 -- each requirement of a checked program has a smallest range
 pub each_smallest : (p : TProgram) (groups : List Group) → IsChecked p groups → All (HasSmallest p groups) (requirements p)
-each_smallest p groups checked = each_all (HasSmallest p groups) (requirements p) (each_weaker (Asks p (length (policies p))) (HasSmallest p groups) (has_smallest p groups checked.form.numbered checked.grouped (length (policies p))) (requirements p) (asked p))
+each_smallest p groups checked = each_all (HasSmallest p groups) (requirements p)
+    (each_weaker (Asks p (length (policies p))) (HasSmallest p groups) (has_smallest p groups checked.form.numbered checked.grouped (length (policies p))) (requirements p) (asked p))

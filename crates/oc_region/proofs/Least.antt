@@ -211,7 +211,8 @@ module _ (p : TProgram) where
       let own = standing_block p t l chain.0 in
       by_test own.0 (test own.0) own.1 refl (ap (λ o. find test (option_to_list o ++ Blocks l)) (sym own.1) ∙ e) i (outer_of test l b c u chain.1)
     where
-      by_test : (d : ℕ) (q : Bool) → block_of p t ≡ Some d → test d ≡ q → cond q (Some d) (find test (Blocks l)) ≡ Some b → ((u ≡ t) ⊎ In u l) → (find test (Blocks l) ≡ Some b → In u l → block_of p u ≡ Some c → test c ≡ true → Outer b u l) → Outer b u (t ∷ l)
+      by_test : (d : ℕ) (q : Bool) → block_of p t ≡ Some d → test d ≡ q → cond q (Some d) (find test (Blocks l)) ≡ Some b → ((u ≡ t) ⊎ In u l)
+          → (find test (Blocks l) ≡ Some b → In u l → block_of p u ≡ Some c → test c ≡ true → Outer b u l) → Outer b u (t ∷ l)
       by_test d true is q f (inl s) rest = record { statement = t; inside = inl refl; block = is ∙ f; outer = inl s }
       by_test d true is q f (inr j) rest = record { statement = t; inside = inl refl; block = is ∙ f; outer = inr (subst (λ m. In u m) (sym (standing_around p t l chain.0)) j) }
       by_test d false is q f (inl s) rest =
@@ -250,7 +251,8 @@ module _ (p : TProgram) where
       record { block = same_block_is (block_of p t) r.block parts.0; from = leb-true r.first t ends.0; upto = leb-true t r.last ends.1 }
 
   is_in : (r : TRegion) (t : ℕ) → InRegion r t → is_in_region p r t ≡ true
-  is_in r t h = and_from (same_block (block_of p t) (Some r.block)) (nat_le r.first t && nat_le t r.last) (ap (λ o. same_block o (Some r.block)) h.block ∙ eq-eqb r.block r.block refl) (and_from (nat_le r.first t) (nat_le t r.last) (le-leb r.first t h.from) (le-leb t r.last h.upto))
+  is_in r t h = and_from (same_block (block_of p t) (Some r.block)) (nat_le r.first t && nat_le t r.last)
+      (ap (λ o. same_block o (Some r.block)) h.block ∙ eq-eqb r.block r.block refl) (and_from (nat_le r.first t) (nat_le t r.last) (le-leb r.first t h.from) (le-leb t r.last h.upto))
 
 -- ---- from the first group to the last
 
@@ -291,7 +293,8 @@ spans g (h ∷ gs) = wider (spans (min g.0 h.0, max g.1 h.1) gs) (cases_lt g.0 h
     last_from m (inl e) o = last_of_two m e o
     last_from m (inr i) o = (m, inr (inr i), refl)
 
-    wider : Spans ((min g.0 h.0, max g.1 h.1) ∷ gs) (spread_on (min g.0 h.0, max g.1 h.1) gs) → (g.0 < h.0) ⊎ (h.0 ≤ g.0) → (g.1 < h.1) ⊎ (h.1 ≤ g.1) → Spans (g ∷ (h ∷ gs)) (spread_on (min g.0 h.0, max g.1 h.1) gs)
+    wider : Spans ((min g.0 h.0, max g.1 h.1) ∷ gs) (spread_on (min g.0 h.0, max g.1 h.1) gs) → (g.0 < h.0) ⊎ (h.0 ≤ g.0) → (g.1 < h.1) ⊎ (h.1 ≤ g.1)
+        → Spans (g ∷ (h ∷ gs)) (spread_on (min g.0 h.0, max g.1 h.1) gs)
     wider s o q =
         let f = first_from s.first s.first_inside o in
         let l = last_from s.last s.last_inside q in
@@ -317,7 +320,8 @@ module _ (p : TProgram) (groups : List Group) (form : Numbered p) (are : AreGrou
       by_place None is f = cc
       by_place (Some a) is f =
           let one : Each (λ m. count_by (is_in_group p m) groups ≡ 1) (program_statements p) = all_each (λ m. count_by (is_in_group p m) groups ≡ 1) (program_statements p) are.one_each in
-          let told : Each (λ x. count_by (is_in_group p x.id) groups ≡ 1) (program_placed p) = each_unmapped (λ m. count_by (is_in_group p m) groups ≡ 1) (λ x. x.id) (program_placed p) (subst (Each (λ m. count_by (is_in_group p m) groups ≡ 1)) (sym (program_ids p)) one) in
+          let told : Each (λ x. count_by (is_in_group p x.id) groups ≡ 1) (program_placed p) =
+          each_unmapped (λ m. count_by (is_in_group p m) groups ≡ 1) (λ x. x.id) (program_placed p) (subst (Each (λ m. count_by (is_in_group p m) groups ≡ 1)) (sym (program_ids p)) one) in
           let found = each_find (λ x. count_by (is_in_group p x.id) groups ≡ 1) (λ x. x.id == n) (program_placed p) a is told in
           subst (λ m. count_by (is_in_group p m) groups ≡ 1) (eqb-true a.id n found.0) found.1
 
@@ -344,14 +348,16 @@ module _ (p : TProgram) (groups : List Group) (form : Numbered p) (are : AreGrou
       record { grouped = (find_in (is_in_group p t) groups h e, group_in p groups are b t h there e); from = leb-true h.0 t ends.0; upto = leb-true t h.1 ends.1 }
 
   in_group : (n b : ℕ) (g : Group) → block_of p n ≡ Some b → GroupIn p b g → g.0 ≤ n → n ≤ g.1 → is_in_group p n g ≡ true
-  in_group n b g e h l m = and_from (same_block (block_of p n) (block_of p g.0)) (nat_le g.0 n && nat_le n g.1) (ap (λ o. same_block o (block_of p g.0)) e ∙ ap (λ o. same_block (Some b) o) h.first_there ∙ eq-eqb b b refl) (and_from (nat_le g.0 n) (nat_le n g.1) (le-leb g.0 n l) (le-leb n g.1 m))
+  in_group n b g e h l m = and_from (same_block (block_of p n) (block_of p g.0)) (nat_le g.0 n && nat_le n g.1)
+      (ap (λ o. same_block o (block_of p g.0)) e ∙ ap (λ o. same_block (Some b) o) h.first_there ∙ eq-eqb b b refl) (and_from (nat_le g.0 n) (nat_le n g.1) (le-leb g.0 n l) (le-leb n g.1 m))
 
   -- two groups with a statement in common are one
   same_group : (n b : ℕ) (g h : Group) → block_of p n ≡ Some b → Grouped b g → Grouped b h → g.0 ≤ n → n ≤ g.1 → h.0 ≤ n → n ≤ h.1 → g ≡ h
   same_group n b g h e a d l m q r = let c = counted n b e in one_passes (is_in_group p n) g h groups (omega (arith, c)) a.0 d.0 (in_group n b g e a.1 l m) (in_group n b h e d.1 q r)
 
   groups_there : (b : ℕ) (ss : List ℕ) → Each (Grouped b) (groups_in p groups b ss)
-  groups_there b ss = each_flat_map (λ s. Unit {0}) (Grouped b) (λ s. option_to_list (option_and_then (group_of p groups) (in_block p b s))) (λ s _. one s) ss (each_always (λ s. Unit {0}) (λ s. tt) ss)
+  groups_there b ss = each_flat_map (λ s. Unit {0}) (Grouped b) (λ s. option_to_list (option_and_then (group_of p groups) (in_block p b s))) (λ s _. one s) ss
+      (each_always (λ s. Unit {0}) (λ s. tt) ss)
     where
       by_group : (t : ℕ) (o : Option Group) → block_of p t ≡ Some b → group_of p groups t ≡ o → Each (Grouped b) (option_to_list o)
       by_group t None there is = tt
@@ -382,7 +388,8 @@ module _ (p : TProgram) (groups : List Group) (form : Numbered p) (are : AreGrou
       let f = covers_found p q s h.0 in
       let i = in_region p q f.value f.passes in
       let test : ℕ → Bool = λ c. list_all (λ t. is_some (in_block p c t)) ss in
-      let all : test q.block ≡ true = passing_all (λ t. is_some (in_block p q.block t)) ss (each_weaker (λ t. covers p q t ≡ true) (λ t. is_some (in_block p q.block t) ≡ true) (λ t k. covered_found q t k) ss h.1) in
+      let all : test q.block ≡ true = passing_all (λ t. is_some (in_block p q.block t)) ss
+      (each_weaker (λ t. covers p q t ≡ true) (λ t. is_some (in_block p q.block t) ≡ true) (λ t k. covered_found q t k) ss h.1) in
       by_outer f.value i (outer_of p test (line_up p s) b q.block f.value (chain_of p form s f.value q.block f.inside i.block) e f.inside i.block all)
     where
       by_outer : (u : ℕ) → InRegion p q u → Outer p b u (line_up p s) → (q.block ≡ b) ⊎ AroundIn b q
@@ -393,7 +400,8 @@ module _ (p : TProgram) (groups : List Group) (form : Numbered p) (are : AreGrou
           by_case (inr j) = inr (record { statement = u; around_it = subst (λ l. In u l) (around_is p form o.statement b o.block) j; in_it = i })
 
   -- the group of a site that a range in the block holds lies in the range
-  site_group : (b : ℕ) (q : TRegion) → IsRange p groups q → q.block ≡ b → (s : ℕ) → covers p q s ≡ true → Each (Within (q.first, q.last)) (option_to_list (option_and_then (group_of p groups) (in_block p b s)))
+  site_group : (b : ℕ) (q : TRegion) → IsRange p groups q → q.block ≡ b → (s : ℕ) → covers p q s ≡ true
+      → Each (Within (q.first, q.last)) (option_to_list (option_and_then (group_of p groups) (in_block p b s)))
   site_group b q is_range same s e = by_statement (in_block p b s) refl
     where
       by_group : (o : Option Group) → has_group q o ≡ true → Each (Within (q.first, q.last)) (option_to_list o)
@@ -435,7 +443,8 @@ module _ (p : TProgram) (groups : List Group) (form : Numbered p) (are : AreGrou
             let first : range.first ≡ (spans g gs).first.0 = (spans g gs).first_is in
             let ordered = first_grouped.1.ordered in
             let upto = hold.upto in
-            let same : h ≡ (spans g gs).first = same_group (spans g gs).first.0 b h (spans g gs).first first_grouped.1.first_there hold.grouped first_grouped (omega (arith, m, first)) (omega (arith, upto, l, first)) (omega arith) (omega (arith, ordered)) in
+            let same : h ≡ (spans g gs).first = same_group (spans g gs).first.0 b h (spans g gs).first first_grouped.1.first_there hold.grouped first_grouped
+            (omega (arith, m, first)) (omega (arith, upto, l, first)) (omega arith) (omega (arith, ordered)) in
             let e : h.0 ≡ (spans g gs).first.0 = ap (λ x. x.0) same in absurd (omega (arith, e, m, first))
 
     upto_last : (s : ℕ) (h : Group) → Holding b s h → s ≤ range.last → h.1 ≤ range.last
@@ -447,7 +456,8 @@ module _ (p : TProgram) (groups : List Group) (form : Numbered p) (are : AreGrou
             let last : range.last ≡ (spans g gs).last.1 = (spans g gs).last_is in
             let ordered = last_grouped.1.ordered in
             let from = hold.from in
-            let same : h ≡ (spans g gs).last = same_group (spans g gs).last.1 b h (spans g gs).last last_grouped.1.last_there hold.grouped last_grouped (omega (arith, from, l, last)) (omega (arith, m, last)) (omega (arith, ordered)) (omega arith) in
+            let same : h ≡ (spans g gs).last = same_group (spans g gs).last.1 b h (spans g gs).last last_grouped.1.last_there hold.grouped last_grouped
+            (omega (arith, from, l, last)) (omega (arith, m, last)) (omega (arith, ordered)) (omega arith) in
             let e : h.1 ≡ (spans g gs).last.1 = ap (λ x. x.1) same in absurd (omega (arith, e, m, last))
 
     has : (h : Group) → range.first ≤ h.0 → h.1 ≤ range.last → has_group range (Some h) ≡ true
@@ -455,10 +465,12 @@ module _ (p : TProgram) (groups : List Group) (form : Numbered p) (are : AreGrou
 
     is_range : IsRange p groups range
     is_range = record {
-      ordered = (let f = first_grouped.1.ordered in let first = (spans g gs).first_is in let w = each_in (Within (spread_on g gs)) (spans g gs).first (g ∷ gs) (spans g gs).first_inside (spans g gs).all in let high = w.1 in omega (arith, f, first, high));
+      ordered = (let f = first_grouped.1.ordered in let first = (spans g gs).first_is in let w =
+          each_in (Within (spread_on g gs)) (spans g gs).first (g ∷ gs) (spans g gs).first_inside (spans g gs).all in let high = w.1 in omega (arith, f, first, high));
       first_there = ap (block_of p) (spans g gs).first_is ∙ first_grouped.1.first_there;
       last_there = ap (block_of p) (spans g gs).last_is ∙ last_grouped.1.last_there;
-      whole = λ s e. (let i = in_region p range s e in let there = group_there s b i.block in let hold = holding s b there.0 i.block there.1 in ap (has_group range) there.1 ∙ has there.0 (from_first s there.0 hold i.from) (upto_last s there.0 hold i.upto));
+      whole = λ s e. (let i = in_region p range s e in let there = group_there s b i.block in let hold = holding s b there.0 i.block there.1 in ap (has_group range) there.1
+          ∙ has there.0 (from_first s there.0 hold i.from) (upto_last s there.0 hold i.upto));
     }
 
     -- it holds the sites
@@ -480,7 +492,8 @@ module _ (p : TProgram) (groups : List Group) (form : Numbered p) (are : AreGrou
             found_covers p range s t (find_in test (line_up p s) t is) (is_in p range t (record { block = block; from = omega (arith, low, from); upto = omega (arith, high, upto) }))
 
     spread_each : Each Spread r.sites
-    spread_each = each_flat_mapped (Within (spread_on g gs)) (λ s. option_to_list (option_and_then (group_of p groups) (in_block p b s))) r.sites (subst (Each (Within (spread_on g gs))) (sym are_those) (spans g gs).all)
+    spread_each = each_flat_mapped (Within (spread_on g gs)) (λ s. option_to_list (option_and_then (group_of p groups) (in_block p b s))) r.sites
+        (subst (Each (Within (spread_on g gs))) (sym are_those) (spans g gs).all)
 
     holds : Holds p range r.sites
     holds =
@@ -496,7 +509,10 @@ module _ (p : TProgram) (groups : List Group) (form : Numbered p) (are : AreGrou
 
         by_case : ((q.block ≡ b) ⊎ AroundIn b q) → LiesIn p range q
         by_case (inl same) = λ s e. (
-            let within : Each (Within (q.first, q.last)) (g ∷ gs) = subst (Each (Within (q.first, q.last))) are_those (each_flat_map (λ t. covers p q t ≡ true) (Within (q.first, q.last)) (λ t. option_to_list (option_and_then (group_of p groups) (in_block p b t))) (λ t k. site_group b q is same t k) r.sites covered) in
+            let within : Each (Within (q.first, q.last)) (g ∷ gs) =
+            subst (Each (Within (q.first, q.last))) are_those
+            (each_flat_map (λ t. covers p q t ≡ true) (Within (q.first, q.last)) (λ t. option_to_list (option_and_then (group_of p groups) (in_block p b t)))
+            (λ t k. site_group b q is same t k) r.sites covered) in
             let low = (each_in (Within (q.first, q.last)) (spans g gs).first (g ∷ gs) (spans g gs).first_inside within).0 in
             let high = (each_in (Within (q.first, q.last)) (spans g gs).last (g ∷ gs) (spans g gs).last_inside within).1 in
             let first = (spans g gs).first_is in
@@ -519,7 +535,8 @@ module _ (p : TProgram) (groups : List Group) (form : Numbered p) (are : AreGrou
   pub is_smallest : (r : TRequirement) (x : TRegion) → smallest p groups r ≡ Some x → IsSmallest p groups r.sites x
   is_smallest r x e = by_block (common_block p r.sites) refl e
     where
-      by_groups : (b : ℕ) (gs : List Group) → common_block p r.sites ≡ Some b → groups_in p groups b r.sites ≡ gs → option_map (λ g. record { id = 0; function = r.function; block = b; first = g.0; last = g.1; reasons = [] }) (spread gs) ≡ Some x → IsSmallest p groups r.sites x
+      by_groups : (b : ℕ) (gs : List Group) → common_block p r.sites ≡ Some b → groups_in p groups b r.sites ≡ gs
+          → option_map (λ g. record { id = 0; function = r.function; block = b; first = g.0; last = g.1; reasons = [] }) (spread gs) ≡ Some x → IsSmallest p groups r.sites x
       by_groups b [] is those f = cc
       by_groups b (g ∷ gs) is those f = subst (IsSmallest p groups r.sites) (same_Some (range r b g gs is those) x f) (is_least r b g gs is those)
 

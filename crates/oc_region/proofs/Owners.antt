@@ -6,7 +6,8 @@ use Rattle.std.proofs.lemmas.Bool.{eqb-true, eq-eqb, ltb-true, lt-ltb, or_left, 
 use Rattle.std.proofs.lemmas.Option.{same_Some}
 use Rattle.oc_tree.specs.Tree.{TKind, if_else, for_in, while_do, TElse, no_else, else_do, stmt, TBlock, block, TStmts, no_stmts, more, TFunction, TProgram}
 use Rattle.oc_tree.specs.declared.tree.VarId.TheVariants as variables
-use Rattle.oc_tree.specs.Numbers.{numbers_on, kind_statements, else_statements, block_statements, stmts_statements, program_statements, kind_blocks, else_blocks, block_blocks, stmts_blocks, program_blocks}
+use Rattle.oc_tree.specs.Numbers.{numbers_on, kind_statements, else_statements, block_statements, stmts_statements, program_statements, kind_blocks, else_blocks, block_blocks}
+use Rattle.oc_tree.specs.Numbers.{stmts_blocks, program_blocks}
 use Rattle.oc_tree.specs.Places.{Place, Placed, behind, in_branch, in_loop, at_start, kind_placed, else_placed, block_placed, stmts_placed, placed, block_of}
 use Rattle.oc_tree.specs.Marked.{function_of, around}
 use Rattle.oc_region.proofs.Elements.{Each, each_weaker, each_append, each_left, each_right, each_find, each_any, find_append, has}
@@ -104,7 +105,9 @@ module _ (S B : ℕ → Type 0) where
   mutual
     kind_fits : (at : Place) (id : ℕ) (k : TKind) → S id → B at.block → Each S at.around → Each S (kind_statements k) → Each B (kind_blocks k) → Each (Fits S B) (kind_placed at id k)
     kind_fits at id (if_else c a b) i l o s t =
-        each_append (Fits S B) (block_placed (in_branch at id) a) (else_placed (in_branch at id) b) (block_fits (in_branch at id) a (i, o) (each_left S (block_statements a) (else_statements b) s) (each_left B (block_blocks a) (else_blocks b) t)) (else_fits (in_branch at id) b (i, o) (each_right S (block_statements a) (else_statements b) s) (each_right B (block_blocks a) (else_blocks b) t))
+        each_append (Fits S B) (block_placed (in_branch at id) a) (else_placed (in_branch at id) b)
+        (block_fits (in_branch at id) a (i, o) (each_left S (block_statements a) (else_statements b) s) (each_left B (block_blocks a) (else_blocks b) t))
+        (else_fits (in_branch at id) b (i, o) (each_right S (block_statements a) (else_statements b) s) (each_right B (block_blocks a) (else_blocks b) t))
     kind_fits at id (for_in x m n b) i l o s t = block_fits (in_loop at id ((x, variables.Declared id) ∷ [])) b (i, o) s t
     kind_fits at id (while_do c n b) i l o s t = block_fits (in_loop at id []) b (i, o) s t
     kind_fits at id _ i l o s t = tt
@@ -118,8 +121,12 @@ module _ (S B : ℕ → Type 0) where
 
     stmts_fit : (at : Place) (ss : TStmts) → B at.block → Each S at.around → Each S (stmts_statements ss) → Each B (stmts_blocks ss) → Each (Fits S B) (stmts_placed at ss)
     stmts_fit at no_stmts l o s t = tt
-    stmts_fit at (more (stmt id line k) ss) l o s t =
-        ((s.0, l, o), each_append (Fits S B) (kind_placed at id k) (stmts_placed (behind at id k) ss) (kind_fits at id k s.0 l o (each_left S (kind_statements k) (stmts_statements ss) s.1) (each_left B (kind_blocks k) (stmts_blocks ss) t)) (stmts_fit (behind at id k) ss l o (each_right S (kind_statements k) (stmts_statements ss) s.1) (each_right B (kind_blocks k) (stmts_blocks ss) t)))
+    stmts_fit at (more (stmt id line k) ss) l o s t = (
+      (s.0, l, o),
+      each_append (Fits S B) (kind_placed at id k) (stmts_placed (behind at id k) ss)
+          (kind_fits at id k s.0 l o (each_left S (kind_statements k) (stmts_statements ss) s.1) (each_left B (kind_blocks k) (stmts_blocks ss) t))
+          (stmts_fit (behind at id k) ss l o (each_right S (kind_statements k) (stmts_statements ss) s.1) (each_right B (kind_blocks k) (stmts_blocks ss) t)),
+    )
 
 each_has : (ns : List ℕ) → Each (λ n. has n ns ≡ true) ns
 each_has [] = tt
@@ -150,7 +157,8 @@ pub owner : (fs : List TFunction) (s : ℕ) (a : Placed) → find (λ b. b.id ==
 owner [] s a e = cc
 owner (f ∷ fs) s a e = by_case (find_append (λ b. b.id == s) (block_placed (at_start f) f.body) (flat_map (λ g. block_placed (at_start g) g.body) fs) a e) (owner fs s a)
   where
-    by_case : (find (λ b. b.id == s) (block_placed (at_start f) f.body) ≡ Some a) ⊎ (find (λ b. b.id == s) (flat_map (λ g. block_placed (at_start g) g.body) fs) ≡ Some a) → (find (λ b. b.id == s) (flat_map (λ g. block_placed (at_start g) g.body) fs) ≡ Some a → Owner fs s a) → Owner (f ∷ fs) s a
+    by_case : (find (λ b. b.id == s) (block_placed (at_start f) f.body) ≡ Some a) ⊎ (find (λ b. b.id == s) (flat_map (λ g. block_placed (at_start g) g.body) fs) ≡ Some a)
+        → (find (λ b. b.id == s) (flat_map (λ g. block_placed (at_start g) g.body) fs) ≡ Some a → Owner fs s a) → Owner (f ∷ fs) s a
     by_case (inl here) rest =
         let found = each_find (InFunction f) (λ b. b.id == s) (block_placed (at_start f) f.body) a here (function_fits f) in
         record { place = 0; statement = subst (λ n. has n (own_statements f) ≡ true) (eqb-true a.id s found.0) found.1.0; block = found.1.1; around = found.1.2 }
@@ -175,7 +183,8 @@ module _ (p : TProgram) (statements : program_statements p ≡ numbers_on 1 (len
       by_place (Some a) is f =
           let o = owner p.functions s a is in
           let same : a.at.block ≡ b = same_Some a.at.block b f in
-          statement_function o.place s o.statement ∙ sym (owned_first own_blocks p.functions o.place b (distinct own_blocks p.functions blocks) (subst (λ c. Owns own_blocks p.functions o.place c) same o.block))
+          statement_function o.place s o.statement ∙ sym
+          (owned_first own_blocks p.functions o.place b (distinct own_blocks p.functions blocks) (subst (λ c. Owns own_blocks p.functions o.place c) same o.block))
 
   -- what is around a statement stands in its function
   pub around_function : (k s : ℕ) → Owns own_statements p.functions k s → Each (λ t. function_of p t ≡ Some k) (around (placed p s))

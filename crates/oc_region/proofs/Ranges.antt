@@ -103,7 +103,8 @@ module _ (p : TProgram) (groups : List Group) (are : AreGroups p groups) where
     range_sound : (n : ℕ) (r : TRequirement) (block : ℕ) → Asks p n r → Sound (range_in p groups r block)
     range_sound n r block asks = by_groups (groups_in p groups block r.sites) (groups_in_own r.function block r.sites asks.sites)
       where
-        by_groups : (gs : List Group) → Each (InOwn r.function block) gs → Sound (option_map (λ g. record { id = 0; function = r.function; block = block; first = g.0; last = g.1; reasons = [] }) (spread gs))
+        by_groups : (gs : List Group) → Each (InOwn r.function block) gs
+            → Sound (option_map (λ g. record { id = 0; function = r.function; block = block; first = g.0; last = g.1; reasons = [] }) (spread gs))
         by_groups [] each = tt
         by_groups (g ∷ gs) each =
             let all = spread_on_in p block g gs each.0.0 (each_weaker (InOwn r.function block) (GroupIn p block) (λ h k. k.0) gs each.1) in

@@ -22,10 +22,12 @@ flat_map_last : {A B : Type 0} (f : A → List B) (xs : List A) (x : A) → flat
 flat_map_last f [] x = refl
 flat_map_last f (y ∷ xs) x = ap (λ l. f y ++ l) (flat_map_last f xs x) ∙ sym (append_assoc (f y) (flat_map f xs) (f x ++ []))
 
-pub reason_more : (p : TProgram) (r : TRegion) (left rest : List Ask) (a : Ask) (found new whole : List ℕ) → left ≡ rest ++ a ∷ [] → covers p r a.range.range.first ≡ true → new ≡ with_sample a.policy found → union (flat_map (ask_reason p r) (map ask_view left)) found ≡ whole → union (flat_map (ask_reason p r) (map ask_view rest)) new ≡ whole
+pub reason_more : (p : TProgram) (r : TRegion) (left rest : List Ask) (a : Ask) (found new whole : List ℕ) → left ≡ rest ++ a ∷ [] → covers p r a.range.range.first ≡ true
+    → new ≡ with_sample a.policy found → union (flat_map (ask_reason p r) (map ask_view left)) found ≡ whole → union (flat_map (ask_reason p r) (map ask_view rest)) new ≡ whole
 reason_more p r left rest a found new whole e c step before =
     let f : TAsk → List ℕ = ask_reason p r in
-    let split : flat_map f (map ask_view left) ≡ flat_map f (map ask_view rest) ++ (f (ask_view a) ++ []) = ap (λ l. flat_map f (map ask_view l)) e ∙ ap (flat_map f) (map-append ask_view rest (a ∷ [])) ∙ flat_map_last f (map ask_view rest) (ask_view a) in
+    let split : flat_map f (map ask_view left) ≡ flat_map f (map ask_view rest) ++ (f (ask_view a) ++ []) = ap (λ l. flat_map f (map ask_view l)) e
+    ∙ ap (flat_map f) (map-append ask_view rest (a ∷ [])) ∙ flat_map_last f (map ask_view rest) (ask_view a) in
     let one : union (f (ask_view a) ++ []) found ≡ with_sample a.policy found = ap (λ b. union (cond b (a.policy ∷ []) [] ++ []) found) c in
     ap (union (flat_map f (map ask_view rest))) (step ∙ sym one) ∙ sym (union_append (flat_map f (map ask_view rest)) (f (ask_view a) ++ []) found) ∙ ap (λ l. union l found) (sym split) ∙ before
 
@@ -54,7 +56,8 @@ module _ (p : TProgram) (groups : List Group) where
   asked_reasons_are : (r : TRegion) (qs : List TRequirement) → ask_reasons p (asks p groups qs) r ≡ reasons p groups qs r
   asked_reasons_are r qs = ap rising (flat_map_of (ask_reason p r) (asks_of p groups) (reason p groups r) (λ q. by_range q (smallest p groups q)) qs)
     where
-      by_range : (q : TRequirement) (o : Option TRegion) → flat_map (ask_reason p r) (map (λ range. record { policy = q.policy; range = range }) (option_to_list o)) ≡ flat_map (λ range. cond (covers p r range.first) (q.policy ∷ []) []) (option_to_list o)
+      by_range : (q : TRequirement) (o : Option TRegion) → flat_map (ask_reason p r) (map (λ range. record { policy = q.policy; range = range }) (option_to_list o))
+          ≡ flat_map (λ range. cond (covers p r range.first) (q.policy ∷ []) []) (option_to_list o)
       by_range q None = refl
       by_range q (Some x) = refl
 
@@ -64,7 +67,8 @@ module _ (p : TProgram) (groups : List Group) where
 
 -- ---- the regions, step by step
 
-pub steps_told : (p : TProgram) (groups : List Group) (qs : List TRequirement) (all : List TAsk) (rs us ks ss : List TRegion) → qs ≡ requirements p → all ≡ asks p groups qs → rs ≡ map ask_range all → us ≡ united rs → ks ≡ outermost p us → ss ≡ by_first ks → numbered_for p all 1 ss ≡ regions p groups
+pub steps_told : (p : TProgram) (groups : List Group) (qs : List TRequirement) (all : List TAsk) (rs us ks ss : List TRegion) → qs ≡ requirements p → all ≡ asks p groups qs
+    → rs ≡ map ask_range all → us ≡ united rs → ks ≡ outermost p us → ss ≡ by_first ks → numbered_for p all 1 ss ≡ regions p groups
 steps_told p groups qs all rs us ks ss e a r u k s =
     let ranged : rs ≡ ranges p groups qs = r ∙ ap (map ask_range) a ∙ asked_ranges_are p groups qs in
     let sorted : ss ≡ by_first (outermost p (united (ranges p groups qs))) = s ∙ ap by_first (k ∙ ap (outermost p) (u ∙ ap united ranged)) in

@@ -33,7 +33,8 @@ shares_is r q e =
     record { block = eqb-true r.block q.block parts.0; before = leb-true r.first q.last ends.0; behind = leb-true q.first r.last ends.1 }
 
 is_shares : (r q : TRegion) → Shares r q → shares r q ≡ true
-is_shares r q h = and_from (nat_eq r.block q.block) (nat_le r.first q.last && nat_le q.first r.last) (eq-eqb r.block q.block h.block) (and_from (nat_le r.first q.last) (nat_le q.first r.last) (le-leb r.first q.last h.before) (le-leb q.first r.last h.behind))
+is_shares r q h = and_from (nat_eq r.block q.block) (nat_le r.first q.last && nat_le q.first r.last) (eq-eqb r.block q.block h.block)
+    (and_from (nat_le r.first q.last) (nat_le q.first r.last) (le-leb r.first q.last h.before) (le-leb q.first r.last h.behind))
 
 abbrev pub Apart : TRegion → TRegion → Type 0
 Apart r q = Shares r q → ⊥
@@ -46,8 +47,18 @@ apart_joined : (r q x : TRegion) → x.first ≤ x.last → Shares r q → Apart
 apart_joined r q x o s h k both = by_order (cases_lt r.last x.first) (cases_lt x.last r.first)
   where
     by_order : (r.last < x.first) ⊎ (x.first ≤ r.last) → (x.last < r.first) ⊎ (r.first ≤ x.last) → ⊥
-    by_order (inl l) m = k (record { block = sym s.block ∙ both.block; before = (let a = both.before in let b = both.behind in let c = s.behind in let d = s.before in omega arith); behind = (let a = both.before in let b = both.behind in omega arith) })
-    by_order (inr l) (inl m) = k (record { block = sym s.block ∙ both.block; before = (let a = both.before in let b = both.behind in omega arith); behind = (let a = both.before in let b = both.behind in let c = s.behind in let d = s.before in omega arith) })
+    by_order (inl l) m = k (record {
+      block = sym s.block ∙ both.block;
+      before =
+          (let a = both.before in let b = both.behind in let c = s.behind in let d = s.before in omega arith);
+      behind = (let a = both.before in let b = both.behind in omega arith);
+    })
+    by_order (inr l) (inl m) = k (record {
+      block = sym s.block ∙ both.block;
+      before = (let a = both.before in let b = both.behind in omega arith);
+      behind =
+          (let a = both.before in let b = both.behind in let c = s.behind in let d = s.before in omega arith);
+    })
     by_order (inr l) (inr m) = h (record { block = both.block; before = m; behind = l })
 
 shares_joined : (r q x : TRegion) → Shares r x → Shares (joined r q) x
@@ -73,7 +84,8 @@ module _ (p : TProgram) where
 
   all_range : (r : TRegion) (qs : List TRegion) → IsRangeOf p r → Each (λ q. IsRangeOf p q × Shares r q) qs → IsRangeOf p (joined_all r qs)
   all_range r [] h each = h
-  all_range r (q ∷ qs) h each = all_range (joined r q) qs (joined_range r q h each.0.0 each.0.1) (each_weaker (λ x. IsRangeOf p x × Shares r x) (λ x. IsRangeOf p x × Shares (joined r q) x) (λ x k. (k.0, shares_joined r q x k.1)) qs each.1)
+  all_range r (q ∷ qs) h each = all_range (joined r q) qs (joined_range r q h each.0.0 each.0.1)
+      (each_weaker (λ x. IsRangeOf p x × Shares r x) (λ x. IsRangeOf p x × Shares (joined r q) x) (λ x k. (k.0, shares_joined r q x k.1)) qs each.1)
 
   all_apart : (r : TRegion) (qs : List TRegion) (x : TRegion) → x.first ≤ x.last → Each (Shares r) qs → Apart r x → Each (λ q. Apart q x) qs → Apart (joined_all r qs) x
   all_apart r [] x o s h k = h
@@ -85,11 +97,13 @@ apart_turned : (r q : TRegion) → Apart r q → Apart q r
 apart_turned r q h s = h (record { block = sym s.block; before = s.behind; behind = s.before })
 
 -- those that pass a test with those that don't
-parted : (R : TRegion → TRegion → Type 0) → ((r q : TRegion) → R r q → R q r) → (t : TRegion → Bool) (rs : List TRegion) → Pairs R rs → Each (λ x. Each (λ q. R q x) (filter t rs)) (filter (λ q. not (t q)) rs)
+parted : (R : TRegion → TRegion → Type 0) → ((r q : TRegion) → R r q → R q r) → (t : TRegion → Bool) (rs : List TRegion) → Pairs R rs
+    → Each (λ x. Each (λ q. R q x) (filter t rs)) (filter (λ q. not (t q)) rs)
 parted R turned t [] h = tt
 parted R turned t (y ∷ rs) h = by_test (t y) (parted R turned t rs h.1)
   where
-    by_test : (b : Bool) → Each (λ x. Each (λ q. R q x) (filter t rs)) (filter (λ q. not (t q)) rs) → Each (λ x. Each (λ q. R q x) (cond b (y ∷ filter t rs) (filter t rs))) (cond (not b) (y ∷ filter (λ q. not (t q)) rs) (filter (λ q. not (t q)) rs))
+    by_test : (b : Bool) → Each (λ x. Each (λ q. R q x) (filter t rs)) (filter (λ q. not (t q)) rs)
+        → Each (λ x. Each (λ q. R q x) (cond b (y ∷ filter t rs) (filter t rs))) (cond (not b) (y ∷ filter (λ q. not (t q)) rs) (filter (λ q. not (t q)) rs))
     by_test true rest = each_both (λ x. R y x) (λ x. Each (λ q. R q x) (filter t rs)) (filter (λ q. not (t q)) rs) (each_filter (R y) (λ q. not (t q)) rs h.0) rest
     by_test false rest = (each_weaker (R y) (λ q. R q y) (λ q k. turned y q k) (filter t rs) (each_filter (R y) t rs h.0), rest)
 
@@ -106,8 +120,11 @@ module _ (p : TProgram) where
       let part : Each (Apart r) others = each_weaker (λ q. not (shares r q) ≡ true) (Apart r) (λ q e. apart_from r q (not-true (shares r q) e)) others (each_passes (λ q. not (shares r q)) rs) in
       let ranges_left : Each (IsRangeOf p) others = each_filter (IsRangeOf p) (λ q. not (shares r q)) rs are.0 in
       let all : IsRangeOf p (joined_all r shared) = all_range p r shared h (each_both (IsRangeOf p) (Shares r) shared (each_filter (IsRangeOf p) (shares r) rs are.0) share) in
-      let clear : Each (λ x. (IsRangeOf p x × Apart r x) × Each (λ q. Apart q x) shared) others = each_both (λ x. IsRangeOf p x × Apart r x) (λ x. Each (λ q. Apart q x) shared) others (each_both (IsRangeOf p) (Apart r) others ranges_left part) (parted Apart apart_turned (shares r) rs are.1) in
-      let first : Each (Apart (joined_all r shared)) others = each_weaker (λ x. (IsRangeOf p x × Apart r x) × Each (λ q. Apart q x) shared) (Apart (joined_all r shared)) (λ x k. all_apart p r shared x k.0.0.ordered share k.0.1 k.1) others clear in
+      let clear : Each (λ x. (IsRangeOf p x × Apart r x) × Each (λ q. Apart q x) shared) others =
+      each_both (λ x. IsRangeOf p x × Apart r x) (λ x. Each (λ q. Apart q x) shared) others (each_both (IsRangeOf p) (Apart r) others ranges_left part)
+      (parted Apart apart_turned (shares r) rs are.1) in
+      let first : Each (Apart (joined_all r shared)) others =
+      each_weaker (λ x. (IsRangeOf p x × Apart r x) × Each (λ q. Apart q x) shared) (Apart (joined_all r shared)) (λ x k. all_apart p r shared x k.0.0.ordered share k.0.1 k.1) others clear in
       ((all, ranges_left), (first, pairs_filter Apart (λ q. not (shares r q)) rs are.1))
 
   united_apart : (rs : List TRegion) → Each (IsRangeOf p) rs → AreApart (united rs)
@@ -130,7 +147,9 @@ module _ (p : TProgram) where
   outside_outermost rs =
       let t : TRegion → Bool = λ r. not (list_any (is_inside p r) rs) in
       let kept : List TRegion = outermost p rs in
-      let none : Each (λ r. Each (Outside r) kept) kept = each_weaker (λ r. t r ≡ true) (λ r. Each (Outside r) kept) (λ r e. each_filter (Outside r) t rs (each_none (is_inside p r) rs (not-true (list_any (is_inside p r) rs) e))) kept (each_passes t rs) in
+      let none : Each (λ r. Each (Outside r) kept) kept =
+      each_weaker (λ r. t r ≡ true) (λ r. Each (Outside r) kept) (λ r e. each_filter (Outside r) t rs (each_none (is_inside p r) rs (not-true (list_any (is_inside p r) rs) e)))
+      kept (each_passes t rs) in
       both_ways_in Outside kept none
 
   -- ---- as regions say it
@@ -209,7 +228,9 @@ module _ (p : TProgram) where
   pairs_before : (rs : List TRegion) → Each (IsRangeOf p) rs → Pairs UpTo rs → Pairs Apart rs → Pairs (λ r q. Outside r q × Outside q r) rs → Pairs Before rs
   pairs_before [] h l a o = tt
   pairs_before (r ∷ rs) h l a o =
-      let one : Each (λ q. (IsRangeOf p q × UpTo r q) × (Apart r q × (Outside r q × Outside q r))) rs = each_both (λ q. IsRangeOf p q × UpTo r q) (λ q. Apart r q × (Outside r q × Outside q r)) rs (each_both (IsRangeOf p) (UpTo r) rs h.1 l.0) (each_both (Apart r) (λ q. Outside r q × Outside q r) rs a.0 o.0) in
+      let one : Each (λ q. (IsRangeOf p q × UpTo r q) × (Apart r q × (Outside r q × Outside q r))) rs =
+      each_both (λ q. IsRangeOf p q × UpTo r q) (λ q. Apart r q × (Outside r q × Outside q r)) rs (each_both (IsRangeOf p) (UpTo r) rs h.1 l.0)
+      (each_both (Apart r) (λ q. Outside r q × Outside q r) rs a.0 o.0) in
       (each_weaker (λ q. (IsRangeOf p q × UpTo r q) × (Apart r q × (Outside r q × Outside q r))) (Before r) (λ q k. before_of r q h.0 k.0.0 k.0.1 k.1.0 k.1.1) rs one, pairs_before rs h.1 l.1 a.1 o.1)
 
   -- ranges as they are numbered
@@ -243,7 +264,11 @@ module _ (p : TProgram) where
 
     reasons_below : (n : ℕ) (r : TRegion) → Each (Asks p n) qs → Each (λ k. k < n) (reasons p groups qs r)
     reasons_below n r asks =
-        each_rising (λ k. k < n) (flat_map (reason p groups r) qs) (each_flat_map (Asks p n) (λ k. k < n) (reason p groups r) (λ q a. each_flat_map (λ x. Unit {0}) (λ k. k < n) (λ range. cond (covers p r range.first) (q.policy ∷ []) []) (λ x _. each_cond (λ k. k < n) (covers p r x.first) (q.policy ∷ []) [] (λ e. (a.policy, tt)) (λ e. tt)) (option_to_list (smallest p groups q)) (each_always (λ x. Unit {0}) (λ x. tt) (option_to_list (smallest p groups q)))) qs asks)
+        each_rising (λ k. k < n) (flat_map (reason p groups r) qs)
+        (each_flat_map (Asks p n) (λ k. k < n) (reason p groups r)
+        (λ q a. each_flat_map (λ x. Unit {0}) (λ k. k < n) (λ range. cond (covers p r range.first) (q.policy ∷ []) [])
+        (λ x _. each_cond (λ k. k < n) (covers p r x.first) (q.policy ∷ []) [] (λ e. (a.policy, tt)) (λ e. tt)) (option_to_list (smallest p groups q))
+        (each_always (λ x. Unit {0}) (λ x. tt) (option_to_list (smallest p groups q)))) qs asks)
 
     regions_numbered : (n i : ℕ) (rs : List TRegion) → Numbered p → Each (Asks p n) qs → Each (IsRangeOf p) rs → Each (IsRegion p n) (numbered p groups qs i rs)
     regions_numbered n i [] form asks h = tt
@@ -265,7 +290,8 @@ module _ (p : TProgram) where
       let qs : List TRequirement = requirements p in
       let n : ℕ = length (policies p) in
       let form : Numbered p = checked.form.numbered in
-      let ranged : Each (IsRangeOf p) (ranges p groups qs) = each_flat_map (Asks p n) (IsRangeOf p) (λ q. option_to_list (smallest p groups q)) (λ q a. smallest_sound p groups checked.grouped form n q a) qs (asked p) in
+      let ranged : Each (IsRangeOf p) (ranges p groups qs) =
+      each_flat_map (Asks p n) (IsRangeOf p) (λ q. option_to_list (smallest p groups q)) (λ q a. smallest_sound p groups checked.grouped form n q a) qs (asked p) in
       let order : InOrder (by_first (outermost p (united (ranges p groups qs)))) = ordered_regions (ranges p groups qs) ranged in
       let rs : List TRegion = by_first (outermost p (united (ranges p groups qs))) in
       let all : AllPairs Before (regions p groups) = pairs_all Before (regions p groups) (pairs_numbered groups qs 1 rs order.1) in

@@ -14,7 +14,8 @@ use Rattle.oc_meaning.specs.Samples.{with_sample}
 use Rattle.oc_needs.specs.Policies.{policies, annotated, held, is_held}
 use Rattle.oc_needs.specs.Sites.{is_loop_at, loops_of, lifts, site, is_input, input_sites}
 use Rattle.oc_needs.specs.Need.{is_empty}
-use Rattle.oc_needs.specs.Requirements.{TRequirement, rising, is_before, with_list, in_order, with_inputs, own_sites, needed_at, call_sites, function_sites, required_in, required_of, required_from, requirements}
+use Rattle.oc_needs.specs.Requirements.{TRequirement, rising, is_before, with_list, in_order, with_inputs, own_sites, needed_at, call_sites, function_sites, required_in}
+use Rattle.oc_needs.specs.Requirements.{required_of, required_from, requirements}
 use Rattle.oc_region.proofs.Elements.{Each, each_always, each_append, each_cond, each_filter, each_passes, each_find, each_any, each_flat_map, each_mapped}
 use Rattle.oc_region.proofs.Owners.{Owns, own_statements, InFunction, function_fits}
 
@@ -83,7 +84,8 @@ module _ (p : TProgram) where
 
   -- loops are such
   loop_own : (g s : ℕ) → is_loop_at p g s ≡ true → Own g s
-  loop_own g s e = each_any (λ a. Own g a.stmt) (λ a. nat_eq a.stmt s && a.is_loop) (Own g s) (effects_at p g) e (own_effects g) (λ a own is. subst (Own g) (eqb-true a.stmt s (and_parts (nat_eq a.stmt s) a.is_loop is).0) own)
+  loop_own g s e = each_any (λ a. Own g a.stmt) (λ a. nat_eq a.stmt s && a.is_loop) (Own g s) (effects_at p g) e (own_effects g)
+      (λ a own is. subst (Own g) (eqb-true a.stmt s (and_parts (nat_eq a.stmt s) a.is_loop is).0) own)
 
   site_own : (g : ℕ) (a : TEffect) (u x : VarId) → Own g a.stmt → Own g (site p g a u x)
   site_own g a u x h = by_loop (find (lifts p g u x) (loops_of p g a)) refl
@@ -94,24 +96,34 @@ module _ (p : TProgram) where
 
   inputs_own : (g : ℕ) (xs : List VarId) → Each (Own g) (input_sites p g xs)
   inputs_own g xs =
-      each_flat_map (λ a. Own g a.stmt) (Own g) (λ a. flat_map (λ u. flat_map (λ x. cond (is_input p g a u x) (site p g a u x ∷ []) []) xs) (variables p g)) (λ a own. each_flat_map (λ u. Unit {0}) (Own g) (λ u. flat_map (λ x. cond (is_input p g a u x) (site p g a u x ∷ []) []) xs) (λ u _. each_flat_map (λ x. Unit {0}) (Own g) (λ x. cond (is_input p g a u x) (site p g a u x ∷ []) []) (λ x _. each_cond (Own g) (is_input p g a u x) (site p g a u x ∷ []) [] (λ e. (site_own g a u x own, tt)) (λ e. tt)) xs (each_always (λ x. Unit {0}) (λ x. tt) xs)) (variables p g) (each_always (λ u. Unit {0}) (λ u. tt) (variables p g))) (effects_at p g) (own_effects g)
+      each_flat_map (λ a. Own g a.stmt) (Own g) (λ a. flat_map (λ u. flat_map (λ x. cond (is_input p g a u x) (site p g a u x ∷ []) []) xs) (variables p g))
+      (λ a own. each_flat_map (λ u. Unit {0}) (Own g) (λ u. flat_map (λ x. cond (is_input p g a u x) (site p g a u x ∷ []) []) xs)
+      (λ u _. each_flat_map (λ x. Unit {0}) (Own g) (λ x. cond (is_input p g a u x) (site p g a u x ∷ []) [])
+      (λ x _. each_cond (Own g) (is_input p g a u x) (site p g a u x ∷ []) [] (λ e. (site_own g a u x own, tt)) (λ e. tt)) xs (each_always (λ x. Unit {0}) (λ x. tt) xs))
+      (variables p g) (each_always (λ u. Unit {0}) (λ u. tt) (variables p g))) (effects_at p g) (own_effects g)
 
   -- the sites of a requirement in a function
   abbrev pub AreSites : ℕ → List ℕ → Type 0
   AreSites g ns = Each (Own g) ns × IsSome ns
 
   with_own : (g : ℕ) (inputs others : List ℕ) → Each (Own g) inputs → Each (Own g) others → Each (AreSites g) (with_inputs inputs others)
-  with_own g inputs others h k = each_cond (AreSites g) (is_empty inputs) [] (rising (inputs ++ others) ∷ []) (λ e. tt) (λ e. ((each_rising (Own g) (inputs ++ others) (each_append (Own g) inputs others h k), some_rising inputs others e), tt))
+  with_own g inputs others h k = each_cond (AreSites g) (is_empty inputs) [] (rising (inputs ++ others) ∷ []) (λ e. tt)
+      (λ e. ((each_rising (Own g) (inputs ++ others) (each_append (Own g) inputs others h k), some_rising inputs others e), tt))
 
   held_own : (q : Policy) → Each (Own q.function) (held p q)
-  held_own q = each_mapped (λ a. Own q.function a.stmt) (Own q.function) (λ a. a.stmt) (λ a h. h) (filter (is_held q.kind) (effects_at p q.function)) (each_filter (λ a. Own q.function a.stmt) (is_held q.kind) (effects_at p q.function) (own_effects q.function))
+  held_own q = each_mapped (λ a. Own q.function a.stmt) (Own q.function) (λ a. a.stmt) (λ a h. h) (filter (is_held q.kind) (effects_at p q.function))
+      (each_filter (λ a. Own q.function a.stmt) (is_held q.kind) (effects_at p q.function) (own_effects q.function))
 
   own_sites_own : (q : Policy) → Each (AreSites q.function) (own_sites p q)
-  own_sites_own q = each_cond (AreSites q.function) (is_empty (held p q)) [] (with_inputs (input_sites p q.function (annotated p q)) (held p q)) (λ e. tt) (λ e. with_own q.function (input_sites p q.function (annotated p q)) (held p q) (inputs_own q.function (annotated p q)) (held_own q))
+  own_sites_own q = each_cond (AreSites q.function) (is_empty (held p q)) [] (with_inputs (input_sites p q.function (annotated p q)) (held p q)) (λ e. tt)
+      (λ e. with_own q.function (input_sites p q.function (annotated p q)) (held p q) (inputs_own q.function (annotated p q)) (held_own q))
 
   sites_own : (q : Policy) (g : ℕ) → Each (AreSites g) (function_sites p q g)
   sites_own q g =
-      each_append (AreSites g) (cond (nat_eq g q.function) (own_sites p q) []) (flat_map (call_sites p q g) (effects_at p g)) (each_cond (AreSites g) (nat_eq g q.function) (own_sites p q) [] (λ e. subst (λ f. Each (AreSites f) (own_sites p q)) (sym (eqb-true g q.function e)) (own_sites_own q)) (λ e. tt)) (each_flat_map (λ a. Own g a.stmt) (AreSites g) (call_sites p q g) (λ a own. with_own g (input_sites p g (needed_at p q g a)) (a.stmt ∷ []) (inputs_own g (needed_at p q g a)) (own, tt)) (effects_at p g) (own_effects g))
+      each_append (AreSites g) (cond (nat_eq g q.function) (own_sites p q) []) (flat_map (call_sites p q g) (effects_at p g))
+      (each_cond (AreSites g) (nat_eq g q.function) (own_sites p q) [] (λ e. subst (λ f. Each (AreSites f) (own_sites p q)) (sym (eqb-true g q.function e)) (own_sites_own q))
+      (λ e. tt)) (each_flat_map (λ a. Own g a.stmt) (AreSites g) (call_sites p q g)
+      (λ a own. with_own g (input_sites p g (needed_at p q g a)) (a.stmt ∷ []) (inputs_own g (needed_at p q g a)) (own, tt)) (effects_at p g) (own_effects g))
 
   -- ---- requirements
 
@@ -122,10 +134,12 @@ module _ (p : TProgram) where
     pub policy : r.policy < n
 
   asks_in : (m n : ℕ) (q : Policy) (g : ℕ) → n < m → Each (Asks m) (required_in p n q g)
-  asks_in m n q g h = each_mapped (AreSites g) (Asks m) (λ sites. record { policy = n; function = g; sites = sites }) (λ sites own. record { sites = own.0; some = own.1; policy = h }) (in_order (function_sites p q g)) (each_in_order (AreSites g) (function_sites p q g) (sites_own q g))
+  asks_in m n q g h = each_mapped (AreSites g) (Asks m) (λ sites. record { policy = n; function = g; sites = sites })
+      (λ sites own. record { sites = own.0; some = own.1; policy = h }) (in_order (function_sites p q g)) (each_in_order (AreSites g) (function_sites p q g) (sites_own q g))
 
   asks_of : (m n : ℕ) (q : Policy) → n < m → Each (Asks m) (required_of p n q)
-  asks_of m n q h = each_flat_map (λ g. Unit {0}) (Asks m) (required_in p n q) (λ g _. asks_in m n q g h) (from 0 (length p.functions)) (each_always (λ g. Unit {0}) (λ g. tt) (from 0 (length p.functions)))
+  asks_of m n q h = each_flat_map (λ g. Unit {0}) (Asks m) (required_in p n q) (λ g _. asks_in m n q g h) (from 0 (length p.functions))
+      (each_always (λ g. Unit {0}) (λ g. tt) (from 0 (length p.functions)))
 
   asks_from : (m n : ℕ) (qs : List Policy) → n + length qs ≤ m → Each (Asks m) (required_from p n qs)
   asks_from m n [] h = tt

@@ -5,7 +5,7 @@ mod asks;
 mod groups;
 pub mod infer;
 pub mod laws;
-mod places;
+pub mod places;
 mod range;
 mod smallest;
 mod unite;

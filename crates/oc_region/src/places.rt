@@ -21,7 +21,7 @@ pub fn is_in_block(effects: &Effects, s: StmtId, block: BlockId) -> bool
 }
 
 /// The statements around a statement, the innermost first.
-fn around<'a>(effects: &'a Effects, s: StmtId) -> &'a [StmtId]
+pub fn around<'a>(effects: &'a Effects, s: StmtId) -> &'a [StmtId]
     ensures { result.now ≡ around (placed effects.now.program s) }
 {
     match effects.at(s) {

@@ -36,7 +36,8 @@ impl<'a> Model for Grouped<'a> {
 
     ghost view = { λ a. a.effects.now };
 
-    ghost invariant = { λ a. (s : ℕ) → get_or a.groups.items s None ≡ group_of a.effects.now.program a.effects.now.groups s };
+    ghost invariant = { λ a. (s : ℕ) → get_or a.groups.items s None
+        ≡ group_of a.effects.now.program a.effects.now.groups s };
 }
 
 /// From the first statement of groups to their last, with one more group.

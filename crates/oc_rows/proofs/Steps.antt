@@ -4,7 +4,8 @@ use Rattle.std.specs.Borrow.{Bor}
 use Rattle.std.specs.Prelude.{◌==◌, ◌&&◌, not}
 use Rattle.std.proofs.lemmas.Bool.{cases_Bool}
 use Rattle.csv.specs.Machine.{Read, next_record}
-use Rattle.csv.specs.Reading.{ExplainsRead, NextIs, ReadRecord, Ready, default_config, has_failed, is_flexible, pending_of, reader_config, reader_state, reader_trim, source_of, stops_reader, took_first}
+use Rattle.csv.specs.Reading.{ExplainsRead, NextIs, ReadRecord, Ready, default_config, has_failed, is_flexible, pending_of, reader_config, reader_state, reader_trim, source_of}
+use Rattle.csv.specs.Reading.{stops_reader, took_first}
 use Rattle.csv.specs.declared.parser.State.{State}
 use Rattle.csv.specs.declared.reader.Reader.{Reader}
 use Rattle.csv.specs.declared.reader.Trim.TheVariants as trim

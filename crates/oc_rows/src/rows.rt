@@ -24,7 +24,11 @@ impl<'a> Model for Rows<'a> {
 
     ghost Value = { Place };
 
-    ghost view = { λ a. record { number = a.number; row = fields_of a.row; left = rows_left a.ended a.reader } };
+    ghost view = { λ a. record {
+      number = a.number;
+      row = fields_of a.row;
+      left = rows_left a.ended a.reader;
+    } };
 
     ghost invariant = { λ a. ReadsPlainly a.reader a.number a.ended };
 }

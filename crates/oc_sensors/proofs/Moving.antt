@@ -53,6 +53,7 @@ one_on rows last place now d value h t e k =
     record {
       leads = λ sensor tick s l.
           let s' : sensor < length last = omega (arith, length-set {A = ℤ}) in
-          shown row rest last value sensor tick o.1 (omega arith) e ∙ ap (λ (r : List Row). shown_after (get_or last sensor (pos 0)) r sensor tick) (sym (drop_more rows place d h)) ∙ k.leads sensor tick s' l;
+          shown row rest last value sensor tick o.1 (omega arith) e ∙ ap (λ (r : List Row). shown_after (get_or last sensor (pos 0)) r sensor tick) (sym (drop_more rows place d h))
+          ∙ k.leads sensor tick s' l;
       ordered = rw length-set (lower (length last) 0 row.time rest (omega arith) o.2);
     }

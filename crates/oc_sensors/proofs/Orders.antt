@@ -48,7 +48,8 @@ pub rows_fit : (names : List (List ℕ)) (number before : ℕ) (left : List (Lis
 rows_fit names number before [] rows e = let none : [] ≡ rows = cc e in rw (← none) tt
 rows_fit names number before (fields ∷ rest) rows e = by (sensor_row names before fields) refl e (λ row. rows_fit names (number + 1) row.time rest)
   where
-    first : (row : Row) (more : Readings) → ((rs : List Row) → more ≡ readings rs → Ordered (length names) row.time rs) → (before ≤ row.time) × (row.sensor < length names) → with_row row more ≡ readings rows → Ordered (length names) before rows
+    first : (row : Row) (more : Readings) → ((rs : List Row) → more ≡ readings rs → Ordered (length names) row.time rs) → (before ≤ row.time) × (row.sensor < length names)
+        → with_row row more ≡ readings rows → Ordered (length names) before rows
     first row (readings rs) rest fits e = let all : row ∷ rs ≡ rows = cc e in rw (← all) (fits.0, fits.1, rest rs refl)
     first row (bad n what) rest fits e = cc e
 

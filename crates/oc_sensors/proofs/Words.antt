@@ -1,7 +1,7 @@
 -- What sensors show are words.
-use Rattle.std.proofs.Common.{ℕ, ℤ, pos, negsuc, zero, suc, neg_ℤ, ◌+◌, ◌≤◌, ◌<◌, ◌^◌, ◌≡◌, List, [], ◌∷◌, length, Option, Some, None, Result, Ok, Err, Bool, true, false, arith, inl, inr, refl, ap, ◌∙◌, sym, subst}
+use Rattle.std.proofs.Common.{ℕ, ℤ, pos, negsuc, zero, suc, neg_ℤ, ◌+◌, ◌≤◌, ◌<◌, ◌^◌, ◌≡◌, List, [], ◌∷◌, length, Option, Some, None, Result, Ok, Err, Bool, true, false, arith}
+use Rattle.std.proofs.Common.{inl, inr, refl, ◌∙◌, subst}
 use Rattle.std.specs.Prelude.{nat_lt, nat_le, get_or, ◌==◌, ◌&&◌, ⊤, if◌then◌else◌, option_and_then}
-use Rattle.std.specs.Int.{w32}
 use Rattle.std.proofs.lemmas.Bool.{cases_Bool}
 use Rattle.std.proofs.lemmas.Bool.Decides.{nat_tests}
 use Rattle.oc_rows.specs.Numbers.{number_of}
@@ -49,7 +49,8 @@ named_word time (Some sensor) None w row e = cc e
 named_word time (Some sensor) (Some value) w row e =
     let same : value ≡ row.value = grind arith in subst (λ z. is_word z ≡ true) same (w value refl)
 
-after_word : (before : ℕ) (time sensor : Option ℕ) (value : Option ℤ) → ((v : ℤ) → value ≡ Some v → is_word v ≡ true) → (row : Row) → row_after before time sensor value ≡ Ok row → is_word row.value ≡ true
+after_word : (before : ℕ) (time sensor : Option ℕ) (value : Option ℤ) → ((v : ℤ) → value ≡ Some v → is_word v ≡ true) → (row : Row) → row_after before time sensor value ≡ Ok row
+    → is_word row.value ≡ true
 after_word before None sensor value w row e = cc e
 after_word before (Some time) sensor value w row e = elim (cases_Bool (nat_lt time before)) [
   | inl early ↦ let f = rw early at e in cc f
@@ -58,7 +59,8 @@ after_word before (Some time) sensor value w row e = elim (cases_Bool (nat_lt ti
 
 row_word : (names : List (List ℕ)) (before : ℕ) (fields : List (List ℕ)) (row : Row) → sensor_row names before fields ≡ Ok row → is_word row.value ≡ true
 row_word names before fields row e = elim (cases_Bool (length fields == 3)) [
-  | inl three ↦ let f = rw three at e in after_word before (number_of (get_or fields 0 [])) (sensor_of names (get_or fields 1 [])) (value_of (get_or fields 2 [])) (value_word (get_or fields 2 [])) row f
+  | inl three ↦ let f = rw three at e in after_word before (number_of (get_or fields 0 [])) (sensor_of names (get_or fields 1 [])) (value_of (get_or fields 2 []))
+      (value_word (get_or fields 2 [])) row f
   | inr other ↦ let f = rw other at e in cc f
 ]
 
@@ -89,5 +91,6 @@ shown_word value (row ∷ rest) sensor tick w ws =
     shown_word (if (row.sensor == sensor) && nat_le row.time tick then row.value else value) rest sensor tick (either_word ((row.sensor == sensor) && nat_le row.time tick) row.value value ws.0 w) ws.1
 
 -- what the rows of a file show at any tick is a word
-pub history_word : (names : List (List ℕ)) (number before : ℕ) (left : List (List (List ℕ))) (rows : List Row) → sensor_rows names number before left ≡ readings rows → (sensor tick : ℕ) → is_word (history rows sensor tick) ≡ true
+pub history_word : (names : List (List ℕ)) (number before : ℕ) (left : List (List (List ℕ))) (rows : List Row) → sensor_rows names number before left ≡ readings rows
+    → (sensor tick : ℕ) → is_word (history rows sensor tick) ≡ true
 history_word names number before left rows e sensor tick = shown_word (pos 0) rows sensor tick refl (rows_words names number before left rows e)

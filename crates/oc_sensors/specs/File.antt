@@ -1,5 +1,6 @@
 -- The rows of a sensor file, or its first bad row.
-use Rattle.std.specs.Prelude.{ℕ, ℤ, pos, neg_ℤ, ◌+◌, ◌^◌, ◌==◌, ◌≡◌, ◌&&◌, ⊤, Bool, List, [], ◌∷◌, length, get_or, codes, Option, Some, None, option_and_then, Result, Ok, Err, nat_le, nat_lt, if◌then◌else◌}
+use Rattle.std.specs.Prelude.{ℕ, ℤ, pos, neg_ℤ, ◌+◌, ◌^◌, ◌==◌, ◌≡◌, ◌&&◌, ⊤, Bool, List, [], ◌∷◌, length, get_or, codes, Option, Some, None, option_and_then, Result, Ok, Err}
+use Rattle.std.specs.Prelude.{nat_le, nat_lt, if◌then◌else◌}
 use Rattle.std.specs.List.{position_from}
 use Rattle.std.specs.Str.{bytes_eq}
 use Rattle.oc_rows.specs.Numbers.{number_of}

@@ -32,9 +32,14 @@ impl Model for Sensors {
 
     ghost Value = { Told };
 
-    ghost view = { λ a. record { sensors = length a.last.items; rows = a.rows.items; now = a.now } };
+    ghost view = { λ a. record {
+      sensors = length a.last.items;
+      rows = a.rows.items;
+      now = a.now;
+    } };
 
-    ghost invariant = { λ a. Keeps a.rows.items a.last.items a.place a.now × ShowsWords a.rows.items };
+    ghost invariant = { λ a. Keeps a.rows.items a.last.items a.place a.now
+        × ShowsWords a.rows.items };
 }
 
 /// Takes in the rows up to a tick, from a place on, and answers the place of the first later row.

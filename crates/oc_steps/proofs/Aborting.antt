@@ -46,7 +46,8 @@ stands_last [] rest x = inl refl
 stands_last (y ∷ xs) rest x = inr (stands_last xs rest x)
 
 -- all but the end of a report goes by its erased items
-same_so_far : (p : TProgram) (regions : List TRegion) (nv : Option (List ℤ)) (a b : List Told) → erase b ≡ erase a → ((how : Ending) → EndsWith b (Ended how) → ⊥) → IsHonestSoFar p regions nv a → IsHonestSoFar p regions nv b
+same_so_far : (p : TProgram) (regions : List TRegion) (nv : Option (List ℤ)) (a b : List Told) → erase b ≡ erase a → ((how : Ending) → EndsWith b (Ended how) → ⊥)
+    → IsHonestSoFar p regions nv a → IsHonestSoFar p regions nv b
 same_so_far p regions nv a b e n h = record {
   said = subst (λ l. IsPrefixOf (without_offs l) (said_in (marked_run p regions (samples_in l)))) (sym e) h.said;
   outside = subst (HasNoOffInside false) (sym e) h.outside;

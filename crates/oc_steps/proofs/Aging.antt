@@ -5,7 +5,9 @@ use Rattle.std.proofs.Math.ListN.{get_or-map}
 use Rattle.std.specs.Prelude.{pos, ◌+ℤ◌, ◌-ℤ◌, ◌==◌, unwrap_or, if◌then◌else◌}
 use Rattle.oc_tree.specs.Names.{Text}
 use Rattle.oc_tree.specs.Marked.{TRegion}
-use Rattle.oc_tree.specs.Tree.{TExpr, number, truth, variable, index, deref, unary, binary, sensed, called, TArg, value, shared, mutable, TCall, call, TArgs, no_args, more_args, TRight, right_value, right_sense, right_call, TKind, let_to, let_array, assign, assign_index, assign_deref, if_else, for_in, while_do, call_only, sense_only, emit, fresh, consistent, return, TElse, no_else, else_do, stmt, TBlock, block, TStmts, no_stmts, more, TFunction, TProgram}
+use Rattle.oc_tree.specs.Tree.{TExpr, number, truth, variable, index, deref, unary, binary, sensed, called, TArg, value, shared, mutable, TCall, call, TArgs, no_args, more_args}
+use Rattle.oc_tree.specs.Tree.{TRight, right_value, right_sense, right_call, TKind, let_to, let_array, assign, assign_index, assign_deref, if_else, for_in, while_do, call_only}
+use Rattle.oc_tree.specs.Tree.{sense_only, emit, fresh, consistent, return, TElse, no_else, else_do, stmt, TBlock, block, TStmts, no_stmts, more, TFunction, TProgram}
 use Rattle.oc_tree.specs.declared.tree.Param.{Param}
 use Rattle.oc_tree.specs.declared.tree.UnaryOp.{UnaryOp}
 use Rattle.oc_tree.specs.declared.tree.BinaryOp.{BinaryOp}
@@ -14,15 +16,18 @@ use Rattle.oc_tree.specs.declared.said.Said.{Said}
 use Rattle.oc_tree.specs.declared.said.Said.TheVariants.{Showed, Entered, Committed}
 use Rattle.oc_tree.specs.declared.said.Shown.TheVariants.{Emitted}
 use Rattle.oc_meaning.specs.Samples.{union}
-use Rattle.oc_meaning.specs.Store.{Value, Held, Place, Local, Global, Turn, Nowhere, Event, Store, Binding, plain, holding, nothing, replaced, value_in, at, put_at, held_at, put, left_at, noted, place_of}
+use Rattle.oc_meaning.specs.Store.{Value, Held, Place, Local, Global, Turn, Nowhere, Event, Store, Binding, plain, holding, nothing, replaced, value_in, at, put_at, held_at, put}
+use Rattle.oc_meaning.specs.Store.{left_at, noted, place_of}
 use Rattle.oc_meaning.specs.Eval.{Got, Val, Traps, is_zero, element_of, and_got, given, apply, unary_value}
 use Rattle.oc_meaning.specs.Uses.{is_fresh, is_use, begins_use, ends_use, own_names}
 use Rattle.oc_meaning.specs.Blocks.{set_home}
-use Rattle.oc_meaning.specs.Exec.{begun_by, ended_by, Stop, Outcome, Went, Returned, Stopped, Passed, Copied, Lent, Passing, Passes, Breaks, passed_first, value_first, passed_on, number_in, told_if, opened, closed, used, done, count_of, in_turn, bound_to, grown, array_of, tagged}
+use Rattle.oc_meaning.specs.Exec.{begun_by, ended_by, Outcome, Went, Returned, Stopped, Passed, Copied, Lent, Passing, Passes, Breaks, passed_first, value_first, passed_on}
+use Rattle.oc_meaning.specs.Exec.{number_in, told_if, opened, closed, used, done, in_turn, bound_to, grown, tagged}
 use Rattle.oc_meaning.specs.Run.{Frame, with_param, with_params, nv_env, function_named}
 use Rattle.oc_meaning.specs.Run as runs
 use Rattle.oc_steps.specs.Sets.{depending_by, combined_by, and_then_by, or_else_by, operated_by, element_by, value_by, fresh_by, use_by, arg_by, args_by, with_element_by, element_written_by}
-use Rattle.oc_steps.specs.Steps.{Inside, Rest, Use, Work, Done, Close, Take, Leave, Turns, Loop, Test, Back, Step, Goes, Asks, Over, begin, begin_else, on_value, step_function, step_passed, step_args, step_call, step_right, taken, work, step_rest, step_turns, step_loop, step_test, step_went, step_returned, step}
+use Rattle.oc_steps.specs.Steps.{Inside, Rest, Use, Work, Done, Close, Take, Leave, Turns, Loop, Test, Back, Step, Goes, begin, begin_else, on_value, step_function, step_passed}
+use Rattle.oc_steps.specs.Steps.{step_args, step_call, step_right, taken, work, step_rest, step_turns, step_loop, step_test, step_went, step_returned, step}
 use Rattle.oc_steps.specs.Steps as steps
 use Rattle.oc_steps.specs.Ages.{join_ages, age_of, aged_value, aged_held, aged_event, aged_store, aged_got, aged_passed, aged_passing, aged_outcome, aged_frame, aged_step, StepsAge, SensesAge}
 use Rattle.oc_steps.proofs.Joining.{union_age}
@@ -43,7 +48,8 @@ module _ (before : ℕ → ℕ) (c : ℕ) where
   abbrev F : steps.Frame → steps.Frame
   F = aged_frame before
 
-  at_first : (x : Held) (xs : List Held) (l : ℕ) (b : Bool) → unwrap_or (at (map H xs) l) nothing ≡ H (unwrap_or (at xs l) nothing) → unwrap_or (if b then Some (H x) else at (map H xs) l) nothing ≡ H (unwrap_or (if b then Some x else at xs l) nothing)
+  at_first : (x : Held) (xs : List Held) (l : ℕ) (b : Bool) → unwrap_or (at (map H xs) l) nothing ≡ H (unwrap_or (at xs l) nothing)
+      → unwrap_or (if b then Some (H x) else at (map H xs) l) nothing ≡ H (unwrap_or (if b then Some x else at xs l) nothing)
   at_first x xs l true h = refl
   at_first x xs l false h = h
 
@@ -59,7 +65,8 @@ module _ (before : ℕ → ℕ) (c : ℕ) where
   held_aged σ (Turn z) = refl
   held_aged σ Nowhere = refl
 
-  put_first : (x h : Held) (xs : List Held) (l : ℕ) (b : Bool) → put_at (map H xs) l (H h) ≡ map H (put_at xs l h) → (if b then H h ∷ map H xs else H x ∷ put_at (map H xs) l (H h)) ≡ map H (if b then h ∷ xs else x ∷ put_at xs l h)
+  put_first : (x h : Held) (xs : List Held) (l : ℕ) (b : Bool) → put_at (map H xs) l (H h) ≡ map H (put_at xs l h) → (if b then H h ∷ map H xs else H x ∷ put_at (map H xs) l (H h))
+      ≡ map H (if b then h ∷ xs else x ∷ put_at xs l h)
   put_first x h xs l true e = refl
   put_first x h xs l false e = ap (λ ys. H x ∷ ys) e
 
@@ -80,11 +87,13 @@ module _ (before : ℕ → ℕ) (c : ℕ) where
   depending_aged s (Val y) = ap (λ t. Val (record { num = y.num; samples = t })) (sym (union_age before s y.samples))
   depending_aged s (Traps k) = refl
 
-  and_aged : (x : Value) (h : Got) (b : Bool) → (if b then Val (record { num = pos 0; samples = S x.samples }) else depending_by join_ages (S x.samples) (G h)) ≡ G (if b then Val (record { num = pos 0; samples = x.samples }) else depending_by union x.samples h)
+  and_aged : (x : Value) (h : Got) (b : Bool) → (if b then Val (record { num = pos 0; samples = S x.samples }) else depending_by join_ages (S x.samples) (G h))
+      ≡ G (if b then Val (record { num = pos 0; samples = x.samples }) else depending_by union x.samples h)
   and_aged x h true = refl
   and_aged x h false = depending_aged x.samples h
 
-  or_aged : (x : Value) (h : Got) (b : Bool) → (if b then depending_by join_ages (S x.samples) (G h) else Val (record { num = pos 1; samples = S x.samples })) ≡ G (if b then depending_by union x.samples h else Val (record { num = pos 1; samples = x.samples }))
+  or_aged : (x : Value) (h : Got) (b : Bool) → (if b then depending_by join_ages (S x.samples) (G h) else Val (record { num = pos 1; samples = S x.samples }))
+      ≡ G (if b then depending_by union x.samples h else Val (record { num = pos 1; samples = x.samples }))
   or_aged x h true = depending_aged x.samples h
   or_aged x h false = refl
 
@@ -114,7 +123,8 @@ module _ (before : ℕ → ℕ) (c : ℕ) where
   element_aged h None s = refl
   element_aged h (Some i) s = ap (λ t. Val (record { num = Rattle.std.specs.Prelude.slice_index_or h.words i (pos 0); samples = t })) (sym (union_age before h.samples s))
 
-  indexed_aged : (h : Held) (g : Got) → and_got (G g) (λ i. element_by join_ages (H h) (element_of (length h.words) i.num) i.samples) ≡ G (and_got g (λ i. element_by union h (element_of (length h.words) i.num) i.samples))
+  indexed_aged : (h : Held) (g : Got) → and_got (G g) (λ i. element_by join_ages (H h) (element_of (length h.words) i.num) i.samples)
+      ≡ G (and_got g (λ i. element_by union h (element_of (length h.words) i.num) i.samples))
   indexed_aged h (Val v) = element_aged h (element_of (length h.words) v.num) v.samples
   indexed_aged h (Traps k) = refl
 
@@ -176,7 +186,8 @@ module _ (before : ℕ → ℕ) (c : ℕ) where
   aged_fr fr = record { env = fr.env; locals = map H fr.locals }
 
   param_aged : (x : Text) (q : Passed) (fr : runs.Frame) → with_param x (aged_passed before q) (aged_fr fr) ≡ aged_fr (with_param x q fr)
-  param_aged x (Copied v) fr = ap (λ n. record { env = record { name = x; place = Local n; reference = false; fresh = false } ∷ fr.env; locals = H (holding v) ∷ map H fr.locals }) (length-map fr.locals H)
+  param_aged x (Copied v) fr = ap (λ n. record { env = record { name = x; place = Local n; reference = false; fresh = false } ∷ fr.env; locals = H (holding v) ∷ map H fr.locals })
+      (length-map fr.locals H)
   param_aged x (Lent q) fr = refl
 
   params_aged : (qs : List Param) (ps : List Passed) (fr : runs.Frame) → with_params qs (map (aged_passed before) ps) (aged_fr fr) ≡ aged_fr (with_params qs ps fr)
@@ -216,12 +227,14 @@ module _ (before : ℕ → ℕ) (c : ℕ) where
   put_taken_aged : (σ : Store) (q : Place) (v : Value) → put (A σ) q (replaced (held_at (A σ) q) (aged_value before v)) ≡ A (put σ q (replaced (held_at σ q) v))
   put_taken_aged σ q v = ap (λ h. put (A σ) q (replaced h (aged_value before v))) (held_aged σ q) ∙ put_aged σ q (replaced (held_at σ q) v)
 
-  written_aged : (q : Place) (o : Option ℕ) (i v : Value) (n : ℕ) (σ : Store) → element_written_by join_ages q o (aged_value before i) (aged_value before v) n (A σ) ≡ aged_outcome before c (element_written_by union q o i v n σ)
+  written_aged : (q : Place) (o : Option ℕ) (i v : Value) (n : ℕ) (σ : Store) → element_written_by join_ages q o (aged_value before i) (aged_value before v) n (A σ)
+      ≡ aged_outcome before c (element_written_by union q o i v n σ)
   written_aged q None i v n σ = refl
   written_aged q (Some e) i v n σ =
       ap (λ h. Went (put (A σ) q (with_element_by join_ages h e v.num (join_ages (S i.samples) (S v.samples))))) (held_aged σ q)
       ∙ ap (λ s. Went (put (A σ) q (with_element_by join_ages (H (held_at σ q)) e v.num s))) (sym (union_age before i.samples v.samples))
-      ∙ ap (λ s. Went (put (A σ) q (record { words = Rattle.std.specs.Prelude.slice_set (held_at σ q).words e v.num; samples = s }))) (sym (union_age before (held_at σ q).samples (union i.samples v.samples)))
+      ∙ ap (λ s. Went (put (A σ) q (record { words = Rattle.std.specs.Prelude.slice_set (held_at σ q).words e v.num; samples = s })))
+      (sym (union_age before (held_at σ q).samples (union i.samples v.samples)))
       ∙ ap Went (put_aged σ q (with_element_by union (held_at σ q) e v.num (union i.samples v.samples)))
 
   -- steps
@@ -235,7 +248,8 @@ module _ (before : ℕ → ℕ) (c : ℕ) where
   begin_else_aged f env no_else fs σ = refl
   begin_else_aged f env (else_do b) fs σ = begin_aged f env b fs σ
 
-  on_value_aged : (g : Got) (n : ℕ) (σ : Store) (fs : List steps.Frame) (go go' : Value → Step) → ((v : Value) → go' (aged_value before v) ≡ P (go v)) → on_value (G g) n (A σ) (map F fs) go' ≡ P (on_value g n σ fs go)
+  on_value_aged : (g : Got) (n : ℕ) (σ : Store) (fs : List steps.Frame) (go go' : Value → Step) → ((v : Value) → go' (aged_value before v) ≡ P (go v))
+      → on_value (G g) n (A σ) (map F fs) go' ≡ P (on_value g n σ fs go)
   on_value_aged (Val v) n σ fs go go' h = h v
   on_value_aged (Traps k) n σ fs go go' h = refl
 
@@ -244,7 +258,8 @@ module _ (before : ℕ → ℕ) (c : ℕ) where
   if_aged false x y x' y' h k = k
 
   module _ (p : TProgram) (regions : List TRegion) where
-    function_aged : (d : ℕ) (o : Option TFunction) (ps : List Passed) (fs : List steps.Frame) (σ : Store) → step_function p regions join_ages (λ n. n) d o (map (aged_passed before) ps) (map F fs) (A σ) ≡ P (step_function p regions union suc d o ps fs σ)
+    function_aged : (d : ℕ) (o : Option TFunction) (ps : List Passed) (fs : List steps.Frame) (σ : Store)
+        → step_function p regions join_ages (λ n. n) d o (map (aged_passed before) ps) (map F fs) (A σ) ≡ P (step_function p regions union suc d o ps fs σ)
     function_aged d None ps fs σ = refl
     function_aged d (Some f) ps fs σ =
         let fr0 : runs.Frame = record { env = nv_env 0 p.names.nvs; locals = σ.locals } in
@@ -254,32 +269,39 @@ module _ (before : ℕ → ℕ) (c : ℕ) where
         ∙ ap (λ n. begin inner fr.env f.body (Leave n ∷ map F fs) (record (A σ) { locals = map H fr.locals })) (length-map σ.locals H)
         ∙ begin_aged inner fr.env f.body (Leave (length σ.locals) ∷ fs) (record σ { locals = fr.locals })
 
-    pub passed_to_aged : (d : ℕ) (x : Text) (ps : List Passed) (fs : List steps.Frame) (σ : Store) → step_passed p regions join_ages (λ n. n) d x (map (aged_passed before) ps) (map F fs) (A σ) ≡ P (step_passed p regions union suc d x ps fs σ)
+    pub passed_to_aged : (d : ℕ) (x : Text) (ps : List Passed) (fs : List steps.Frame) (σ : Store)
+        → step_passed p regions join_ages (λ n. n) d x (map (aged_passed before) ps) (map F fs) (A σ) ≡ P (step_passed p regions union suc d x ps fs σ)
     passed_to_aged zero x ps fs σ = refl
     passed_to_aged (suc d) x ps fs σ = function_aged d (function_named p.functions x) ps fs σ
 
-    step_args_aged : (d : ℕ) (x : Text) (gs : Passing) (n : ℕ) (fs : List steps.Frame) (σ : Store) → step_args p regions join_ages (λ n. n) d x (aged_passing before gs) n (map F fs) (A σ) ≡ P (step_args p regions union suc d x gs n fs σ)
+    step_args_aged : (d : ℕ) (x : Text) (gs : Passing) (n : ℕ) (fs : List steps.Frame) (σ : Store)
+        → step_args p regions join_ages (λ n. n) d x (aged_passing before gs) n (map F fs) (A σ) ≡ P (step_args p regions union suc d x gs n fs σ)
     step_args_aged d x (Passes ps) n fs σ = passed_to_aged d x ps fs σ
     step_args_aged d x (Breaks k) n fs σ = refl
 
-    call_aged : (f : Inside) (env : List Binding) (n : ℕ) (k : TCall) (fs : List steps.Frame) (σ : Store) → step_call p regions join_ages (λ n. n) f env n k (map F fs) (A σ) ≡ P (step_call p regions union suc f env n k fs σ)
+    call_aged : (f : Inside) (env : List Binding) (n : ℕ) (k : TCall) (fs : List steps.Frame) (σ : Store) → step_call p regions join_ages (λ n. n) f env n k (map F fs) (A σ)
+        ≡ P (step_call p regions union suc f env n k fs σ)
     call_aged f env n (call x gs) fs σ =
         ap (λ q. step_args p regions join_ages (λ n. n) f.depth x q n (map F fs) (A σ)) (args_aged env σ gs) ∙ step_args_aged f.depth x (args_by union env σ gs) n fs σ
 
-    right_aged : (f : Inside) (env : List Binding) (n : ℕ) (r : TRight) (fs : List steps.Frame) (σ : Store) → step_right p regions join_ages (λ n. n) f env n r (map F fs) (A σ) ≡ P (step_right p regions union suc f env n r fs σ)
+    right_aged : (f : Inside) (env : List Binding) (n : ℕ) (r : TRight) (fs : List steps.Frame) (σ : Store) → step_right p regions join_ages (λ n. n) f env n r (map F fs) (A σ)
+        ≡ P (step_right p regions union suc f env n r fs σ)
     right_aged f env n (right_value e) fs σ =
         ap (λ g. on_value g n (A σ) (map F fs) (λ v. Goes (map F fs) (Returned v (A σ)))) (value_aged env σ e)
         ∙ on_value_aged (value_by union env σ e) n σ fs (λ v. Goes fs (Returned v σ)) (λ v. Goes (map F fs) (Returned v (A σ))) (λ v. refl)
     right_aged f env n (right_sense s) fs σ = refl
     right_aged f env n (right_call k) fs σ = call_aged f env n k fs σ
 
-    taken_aged : (env : List Binding) (n : ℕ) (k : TKind) (v : Value) (fs : List steps.Frame) (σ : Store) → taken p regions join_ages (λ n. n) env n k (aged_value before v) (map F fs) (A σ) ≡ P (taken p regions union suc env n k v fs σ)
+    taken_aged : (env : List Binding) (n : ℕ) (k : TKind) (v : Value) (fs : List steps.Frame) (σ : Store)
+        → taken p regions join_ages (λ n. n) env n k (aged_value before v) (map F fs) (A σ) ≡ P (taken p regions union suc env n k v fs σ)
     taken_aged env n (let_to m x t r) v fs σ = refl
     taken_aged env n (assign x r) v fs σ = ap (λ τ. Goes (map F fs) (Went τ)) (put_taken_aged σ (place_of env x) v)
     taken_aged env n (assign_index x e r) v fs σ =
         let q : Place = place_of env x in
-        ap (λ g. on_value g n (A σ) (map F fs) (λ i. Goes (map F fs) (element_written_by join_ages q (element_of (length (held_at (A σ) q).words) i.num) i (aged_value before v) n (A σ)))) (value_aged env σ e)
-        ∙ ap (λ h. on_value (G (value_by union env σ e)) n (A σ) (map F fs) (λ i. Goes (map F fs) (element_written_by join_ages q (element_of (length h.words) i.num) i (aged_value before v) n (A σ)))) (held_aged σ q)
+        ap (λ g. on_value g n (A σ) (map F fs) (λ i. Goes (map F fs)
+        (element_written_by join_ages q (element_of (length (held_at (A σ) q).words) i.num) i (aged_value before v) n (A σ)))) (value_aged env σ e)
+        ∙ ap (λ h. on_value (G (value_by union env σ e)) n (A σ) (map F fs)
+        (λ i. Goes (map F fs) (element_written_by join_ages q (element_of (length h.words) i.num) i (aged_value before v) n (A σ)))) (held_aged σ q)
         ∙ on_value_aged (value_by union env σ e) n σ fs
         (λ i. Goes fs (element_written_by union q (element_of (length (held_at σ q).words) i.num) i v n σ))
         (λ i. Goes (map F fs) (element_written_by join_ages q (element_of (length (held_at σ q).words) i.num) i (aged_value before v) n (A σ)))
@@ -287,7 +309,8 @@ module _ (before : ℕ → ℕ) (c : ℕ) where
     taken_aged env n (assign_deref x r) v fs σ = ap (λ τ. Goes (map F fs) (Went τ)) (put_taken_aged σ (place_of env x) v)
     taken_aged env n k v fs σ = refl
 
-    work_aged : (f : Inside) (env : List Binding) (n : ℕ) (k : TKind) (fs : List steps.Frame) (σ : Store) → work p regions join_ages (λ n. n) f env n k (map F fs) (A σ) ≡ P (work p regions union suc f env n k fs σ)
+    work_aged : (f : Inside) (env : List Binding) (n : ℕ) (k : TKind) (fs : List steps.Frame) (σ : Store) → work p regions join_ages (λ n. n) f env n k (map F fs) (A σ)
+        ≡ P (work p regions union suc f env n k fs σ)
     work_aged f env n (let_to m x t r) fs σ = right_aged f env n r (Take env n (let_to m x t r) ∷ fs) σ
     work_aged f env n (let_array m x t z w) fs σ = refl
     work_aged f env n (assign x r) fs σ = right_aged f env n r (Take env n (assign x r) ∷ fs) σ
@@ -297,7 +320,8 @@ module _ (before : ℕ → ℕ) (c : ℕ) where
         ap (λ g. on_value g n (A σ) (map F fs) (λ v. if is_zero v.num then begin_else f env b (map F fs) (A σ) else begin f env a (map F fs) (A σ))) (value_aged env σ e)
         ∙ on_value_aged (value_by union env σ e) n σ fs (λ v. if is_zero v.num then begin_else f env b fs σ else begin f env a fs σ)
         (λ v. if is_zero v.num then begin_else f env b (map F fs) (A σ) else begin f env a (map F fs) (A σ))
-        (λ v. if_aged (is_zero v.num) (begin_else f env b fs σ) (begin f env a fs σ) (begin_else f env b (map F fs) (A σ)) (begin f env a (map F fs) (A σ)) (begin_else_aged f env b fs σ) (begin_aged f env a fs σ))
+        (λ v. if_aged (is_zero v.num) (begin_else f env b fs σ) (begin f env a fs σ) (begin_else f env b (map F fs) (A σ)) (begin f env a (map F fs) (A σ))
+        (begin_else_aged f env b fs σ) (begin_aged f env a fs σ))
     work_aged f env n (for_in x a b d) fs σ = refl
     work_aged f env n (while_do e t b) fs σ = refl
     work_aged f env n (call_only k) fs σ = call_aged f env n k (Take env n (call_only k) ∷ fs) σ
@@ -317,19 +341,25 @@ module _ (before : ℕ → ℕ) (c : ℕ) where
         (λ v. Goes (Back v r ∷ map F fs) (Went (done is n (S (use_by union env (return e) σ)) (A σ))))
         (λ v. ap (λ τ. Goes (Back (aged_value before v) r ∷ map F fs) (Went τ)) (done_aged is n (use_by union env (return e) σ) σ))
 
-    rest_aged : (f : Inside) (env : List Binding) (ss : TStmts) (fs : List steps.Frame) (σ : Store) → step_rest p regions join_ages (λ n. n) f env ss (map F fs) (A σ) ≡ P (step_rest p regions union suc f env ss fs σ)
+    rest_aged : (f : Inside) (env : List Binding) (ss : TStmts) (fs : List steps.Frame) (σ : Store) → step_rest p regions join_ages (λ n. n) f env ss (map F fs) (A σ)
+        ≡ P (step_rest p regions union suc f env ss fs σ)
     rest_aged f env no_stmts fs σ = refl
     rest_aged f env (more (stmt n line k) rest) fs σ =
         let e : Option ℕ = ended_by regions n in
-        ap (λ u. Goes (Use f env n u k ∷ Done (ends_use (is_fresh env) k) n u ∷ Close e ∷ Rest f (grown k rest env (A σ)) rest ∷ map F fs) (Went (opened (begun_by regions n) (A σ)))) (use_aged env k σ)
-        ∙ ap (λ γ. Goes (Use f env n (S (use_by union env k σ)) k ∷ Done (ends_use (is_fresh env) k) n (S (use_by union env k σ)) ∷ Close e ∷ Rest f γ rest ∷ map F fs) (Went (opened (begun_by regions n) (A σ)))) (grown_aged k rest env σ)
-        ∙ ap (λ τ. Goes (Use f env n (S (use_by union env k σ)) k ∷ Done (ends_use (is_fresh env) k) n (S (use_by union env k σ)) ∷ Close e ∷ Rest f (grown k rest env σ) rest ∷ map F fs) (Went τ)) (opened_aged (begun_by regions n) σ)
+        ap (λ u. Goes (Use f env n u k ∷ Done (ends_use (is_fresh env) k) n u ∷ Close e ∷ Rest f (grown k rest env (A σ)) rest ∷ map F fs)
+        (Went (opened (begun_by regions n) (A σ)))) (use_aged env k σ)
+        ∙ ap (λ γ. Goes (Use f env n (S (use_by union env k σ)) k ∷ Done (ends_use (is_fresh env) k) n (S (use_by union env k σ)) ∷ Close e ∷ Rest f γ rest ∷ map F fs)
+        (Went (opened (begun_by regions n) (A σ)))) (grown_aged k rest env σ)
+        ∙ ap (λ τ. Goes (Use f env n (S (use_by union env k σ)) k ∷ Done (ends_use (is_fresh env) k) n (S (use_by union env k σ)) ∷ Close e ∷ Rest f
+        (grown k rest env σ) rest ∷ map F fs) (Went τ)) (opened_aged (begun_by regions n) σ)
 
-    turns_aged : (f : Inside) (x : Text) (t : ℕ) (i : ℤ) (b : TBlock) (env : List Binding) (fs : List steps.Frame) (σ : Store) → step_turns p regions join_ages (λ n. n) f x t i b env (map F fs) (A σ) ≡ P (step_turns p regions union suc f x t i b env fs σ)
+    turns_aged : (f : Inside) (x : Text) (t : ℕ) (i : ℤ) (b : TBlock) (env : List Binding) (fs : List steps.Frame) (σ : Store)
+        → step_turns p regions join_ages (λ n. n) f x t i b env (map F fs) (A σ) ≡ P (step_turns p regions union suc f x t i b env fs σ)
     turns_aged f x zero i b env fs σ = refl
     turns_aged f x (suc t) i b env fs σ = begin_aged f (in_turn x i ∷ env) b (Turns f x t (i +ℤ pos 1) b env ∷ fs) σ
 
-    loop_aged : (f : Inside) (env : List Binding) (n : ℕ) (e : TExpr) (t : ℕ) (b : TBlock) (u : List ℕ) (fs : List steps.Frame) (σ : Store) → step_loop p regions join_ages (λ n. n) f env n e t b (S u) (map F fs) (A σ) ≡ P (step_loop p regions union suc f env n e t b u fs σ)
+    loop_aged : (f : Inside) (env : List Binding) (n : ℕ) (e : TExpr) (t : ℕ) (b : TBlock) (u : List ℕ) (fs : List steps.Frame) (σ : Store)
+        → step_loop p regions join_ages (λ n. n) f env n e t b (S u) (map F fs) (A σ) ≡ P (step_loop p regions union suc f env n e t b u fs σ)
     loop_aged f env n e zero b u fs σ = ap (λ τ. Goes (map F fs) (Went τ)) (done_aged (is_use (is_fresh env) (while_do e 0 b)) n u σ)
     loop_aged f env n e (suc t) b u fs σ =
         let is : Bool = is_use (is_fresh env) (while_do e 0 b) in
@@ -338,10 +368,12 @@ module _ (before : ℕ → ℕ) (c : ℕ) where
         ∙ ap (λ s. Goes (Test f env n e t b s ∷ map F fs) (Went (used is n (S w) (A σ)))) (sym (union_age before u w))
         ∙ ap (λ τ. Goes (Test f env n e t b (S (union u w)) ∷ map F fs) (Went τ)) (used_aged is n w σ)
 
-    test_aged : (f : Inside) (env : List Binding) (n : ℕ) (e : TExpr) (t : ℕ) (b : TBlock) (u : List ℕ) (fs : List steps.Frame) (σ : Store) → step_test p regions join_ages (λ n. n) f env n e t b (S u) (map F fs) (A σ) ≡ P (step_test p regions union suc f env n e t b u fs σ)
+    test_aged : (f : Inside) (env : List Binding) (n : ℕ) (e : TExpr) (t : ℕ) (b : TBlock) (u : List ℕ) (fs : List steps.Frame) (σ : Store)
+        → step_test p regions join_ages (λ n. n) f env n e t b (S u) (map F fs) (A σ) ≡ P (step_test p regions union suc f env n e t b u fs σ)
     test_aged f env n e t b u fs σ =
         let is : Bool = is_use (is_fresh env) (while_do e 0 b) in
-        ap (λ g. on_value g n (A σ) (map F fs) (λ v. if is_zero v.num then Goes (map F fs) (Went (done is n (S u) (A σ))) else begin f env b (Loop f env n e t b (S u) ∷ map F fs) (A σ))) (value_aged env σ e)
+        ap (λ g. on_value g n (A σ) (map F fs) (λ v. if is_zero v.num then Goes (map F fs) (Went (done is n (S u) (A σ))) else begin f env b (Loop f env n e t b (S u) ∷ map F fs)
+        (A σ))) (value_aged env σ e)
         ∙ on_value_aged (value_by union env σ e) n σ fs (λ v. if is_zero v.num then Goes fs (Went (done is n u σ)) else begin f env b (Loop f env n e t b u ∷ fs) σ)
         (λ v. if is_zero v.num then Goes (map F fs) (Went (done is n (S u) (A σ))) else begin f env b (Loop f env n e t b (S u) ∷ map F fs) (A σ))
         (λ v. if_aged (is_zero v.num) (Goes fs (Went (done is n u σ))) (begin f env b (Loop f env n e t b u ∷ fs) σ)
@@ -361,7 +393,8 @@ module _ (before : ℕ → ℕ) (c : ℕ) where
     went_aged (Test f env n e t b u) fs σ = test_aged f env n e t b u fs σ
     went_aged (Back v r) fs σ = ap (λ τ. Goes (map F fs) (Returned (aged_value before v) τ)) (closed_aged r σ)
 
-    returned_aged : (f : steps.Frame) (v : Value) (fs : List steps.Frame) (σ : Store) → step_returned p regions join_ages (λ n. n) (F f) (aged_value before v) (map F fs) (A σ) ≡ P (step_returned p regions union suc f v fs σ)
+    returned_aged : (f : steps.Frame) (v : Value) (fs : List steps.Frame) (σ : Store) → step_returned p regions join_ages (λ n. n) (F f) (aged_value before v) (map F fs) (A σ)
+        ≡ P (step_returned p regions union suc f v fs σ)
     returned_aged (Take env n k) v fs σ = taken_aged env n k v fs σ
     returned_aged (Leave n) v fs σ = ap (λ τ. Goes (map F fs) (Returned (aged_value before v) τ)) (left_aged n σ)
     returned_aged (Rest f env ss) v fs σ = refl
@@ -384,4 +417,5 @@ pub steps_age : StepsAge
 steps_age = λ p regions before c fs o. step_aged before c p regions fs o
 
 pub senses_age : SensesAge
-senses_age = λ p regions before c s z σ e. ap (λ n. Returned (record { num = z; samples = n ∷ [] }) (noted (Rattle.oc_tree.specs.declared.said.Said.TheVariants.Sensed s z) (n ∷ []) (aged_store before c σ))) (sym e)
+senses_age = λ p regions before c s z σ e. ap
+    (λ n. Returned (record { num = z; samples = n ∷ [] }) (noted (Rattle.oc_tree.specs.declared.said.Said.TheVariants.Sensed s z) (n ∷ []) (aged_store before c σ))) (sym e)

@@ -1,5 +1,6 @@
 -- The answer to an item that a run tells.
-use Rattle.std.proofs.Common.{◌≡◌, ℕ, suc, ℤ, Bool, true, false, List, [], ◌∷◌, ◌++◌, length, map, get_or, Option, Some, None, refl, sym, ap, ◌∙◌, subst, inl, inr, ⊎_elim, eqb-true, eq-eqb, append-nil, arith}
+use Rattle.std.proofs.Common.{◌≡◌, ℕ, suc, ℤ, Bool, true, false, List, [], ◌∷◌, ◌++◌, length, map, get_or, Option, Some, None, refl, sym, ap, ◌∙◌, subst, inl, inr, ⊎_elim}
+use Rattle.std.proofs.Common.{eqb-true, eq-eqb, append-nil, arith}
 use Rattle.std.specs.Prelude.{◌==◌, ◌&&◌, not, if◌then◌else◌}
 use Rattle.std.specs.Ordering.{int_eq}
 use Rattle.std.proofs.lemmas.Bool.Decides.{Decides-int_eq}
@@ -34,15 +35,18 @@ use Rattle.oc_steps.specs.Honest.{IsWhole, IsHonestSoFar}
 use Rattle.oc_steps.specs.Erasing.{item, last_mark}
 use Rattle.oc_steps.specs.Freshness.{AreNumbered}
 use Rattle.oc_steps.specs.Little.{IsNoInput, IsNoEnd}
-use Rattle.oc_steps.specs.Fold.{Instance, Way, Watch, Next, Says, Wants, Stands, Went_on, Rises, steps_on, is_new, is_said, is_shown, is_kind, are_words, has_words, words, outages, may_show, with_shown, may_tag, with_tag, falls, falls_at, at_end, on_event, on_want, on_end, on_next}
+use Rattle.oc_steps.specs.Fold.{Instance, Way, Watch, Next, Says, Wants, Stands, Went_on, Rises, steps_on, is_new, is_said, is_shown, is_kind, are_words, has_words, words, outages}
+use Rattle.oc_steps.specs.Fold.{may_show, with_shown, may_tag, with_tag, falls, falls_at, at_end, on_event, on_want, on_end, on_next}
 use Rattle.oc_steps.specs.Watching.{samples_in, offs_in, offs_before, lives_of, IsSeen, IsGoing, Follows, IsWay, IsSaved, IsWatch, IsAnswer, IsMade, IsTelling, TellsRight}
 use Rattle.oc_steps.proofs.Aging.{senses_age}
 use Rattle.oc_steps.proofs.Telling.{hears, over_always}
 use Rattle.oc_steps.proofs.Adding.{last_mark-more, saved_more, offs_before-more}
 use Rattle.oc_steps.proofs.Onward.{Same, IsLast, cleared_aged, Saying, Wanting, Standing, Leads, onward, stays}
-use Rattle.oc_steps.proofs.Using.{not_input, get_first, get_last, length-last, timely_more, numbered_more, no_tags, seen_more, use_timely, use_late, use_below, input_numbered, input_timely, input_seen}
+use Rattle.oc_steps.proofs.Using.{not_input, get_first, get_last, length-last, timely_more, numbered_more, no_tags, seen_more, use_timely, use_late, use_below, input_numbered}
+use Rattle.oc_steps.proofs.Using.{input_timely, input_seen}
 use Rattle.oc_steps.proofs.Together.{tag_timely, tag_seen, tag_apart}
-use Rattle.oc_steps.proofs.Lives.{told_last, too_long, silent_facts, begins_now, lived_same, lives_more, added, said_more, samples_more, samples_same, table_same, said_back, honest_more, timely_back, way_more, going_more}
+use Rattle.oc_steps.proofs.Lives.{told_last, too_long, silent_facts, begins_now, lived_same, lives_more, added, said_more, samples_more, samples_same, table_same, said_back}
+use Rattle.oc_steps.proofs.Lives.{honest_more, timely_back, way_more, going_more}
 
 -- ---- what is the same
 
@@ -227,9 +231,11 @@ module _ (p : TProgram) (regions : List TRegion) (nv : Option (List ℤ)) (q : L
       halts : (out : Outcome) → (IsHonestSoFar p regions nv (with (Ended Halted)) → ⊥) → IsAnswer p regions nv (with (Ended Halted)) (at_end p nv w w.now out)
       halts (Stopped a σ) never = never
       halts (Went σ) never =
-          subst (λ b. IsAnswer p regions nv (with (Ended Halted)) (if not b && has_words p nv nv (words p nv (Went σ)) then Some (record w { now = record w.now { over = true } }) else None)) (sym o) never
+          subst (λ b. IsAnswer p regions nv (with (Ended Halted))
+          (if not b && has_words p nv nv (words p nv (Went σ)) then Some (record w { now = record w.now { over = true } }) else None)) (sym o) never
       halts (Returned v σ) never =
-          subst (λ b. IsAnswer p regions nv (with (Ended Halted)) (if not b && has_words p nv nv (words p nv (Returned v σ)) then Some (record w { now = record w.now { over = true } }) else None)) (sym o) never
+          subst (λ b. IsAnswer p regions nv (with (Ended Halted))
+          (if not b && has_words p nv nv (words p nv (Returned v σ)) then Some (record w { now = record w.now { over = true } }) else None)) (sym o) never
 
       answers : (s : Said) → (IsHonestSoFar p regions nv (with s) → ⊥) → IsAnswer p regions nv (with s) (on_end p nv w s w.now)
       answers (Ended Halted) never = halts w.now.out never
@@ -296,7 +302,8 @@ module _ (p : TProgram) (regions : List TRegion) (nv : Option (List ℤ)) (q : L
             honest_more p regions nv q t (Ended how) tt V es (record { rest = []; is = ap (λ r. r.events) (ap (marked_run p regions) (sym (append-nil V)) ∙ run []) ∙ sym (append-nil es) })
                 (samples_same p regions nv q t (Ended how) tt tt) tells h.outside lived (λ how' d. whole (sym e ∙ ap (λ l. Some l) vw)),
             record {
-              now = way_more p regions nv q t (Ended how) tt V T past fs o (record now { over = true }) (samples_same p regions nv q t (Ended how) tt tt) (table_same p regions nv q t (Ended how) tt tt) follows
+              now = way_more p regions nv q t (Ended how) tt V T past fs o (record now { over = true }) (samples_same p regions nv q t (Ended how) tt tt)
+                  (table_same p regions nv q t (Ended how) tt tt) follows
                   (k.now.inside ∙ sym same.inside) (λ d. absurd (cc (d))) (λ d x. ap said_in (run x) ∙ tells) (λ d. over);
               saved = saved_more t (Ended how) p regions q tt w.saved k.saved;
             },
@@ -582,7 +589,8 @@ module _ (p : TProgram) (regions : List TRegion) (nv : Option (List ℤ)) (q : L
           honest_more p regions nv q t (Sensed a z) tt (V ++ z ∷ []) (in_order past_in) (begins_now p regions (V ++ z ∷ []) past_in y.after o' under) vs tells h.outside
               (subst (AreTimely p) (sym lived) (input_timely p all T w.now.sets g.numbered timely g.seen u_in C is_input refl)) (λ how d. absurd (cc (d))),
           record {
-            now = way_more p regions nv q t (Sensed a z) tt (V ++ z ∷ []) T' past_in y.after o' (record w.now { frames = gs; out = cleared (sensed p regions join_ages (λ n. n) sensor z τ) }) vs ts follows k.now.inside
+            now = way_more p regions nv q t (Sensed a z) tt (V ++ z ∷ []) T' past_in y.after o'
+                (record w.now { frames = gs; out = cleared (sensed p regions join_ages (λ n. n) sensor z τ) }) vs ts follows k.now.inside
                 (λ d. going_more p regions nv q t (Sensed a z) tt T' past_in w.now.sets (all ++ u_in ∷ []) tells ts lived
                 (input_numbered p all T w.now.sets g.numbered timely g.seen u_in C is_input refl) (input_seen p all T w.now.sets g.numbered timely g.seen u_in C is_input refl))
                 (λ d. absurd (let no : true ≡ false = sym d ∙ off in cc (no)))
@@ -681,10 +689,12 @@ module _ (p : TProgram) (regions : List TRegion) (nv : Option (List ℤ)) (q : L
       halts : (o : Outcome) → y.o ≡ o → IsAnswer p regions nv (with (Ended Halted)) (at_end p nv w now (aged_outcome known C o))
       halts (Stopped st σ) e = no_stop (Ended Halted) tt st σ e
       halts (Went σ) e =
-          subst (λ b. IsAnswer p regions nv (with (Ended Halted)) (if not b && has_words p nv nv (words_of (map (aged_held known) σ.nv)) then Some (record w { now = record now { over = true } }) else None))
+          subst (λ b. IsAnswer p regions nv (with (Ended Halted))
+          (if not b && has_words p nv nv (words_of (map (aged_held known) σ.nv)) then Some (record w { now = record now { over = true } }) else None))
           (sym (y.same.over ∙ off)) (told_end σ (nothing (Went σ) e) (run_of (Went σ) e))
       halts (Returned v σ) e =
-          subst (λ b. IsAnswer p regions nv (with (Ended Halted)) (if not b && has_words p nv nv (words_of (map (aged_held known) σ.nv)) then Some (record w { now = record now { over = true } }) else None))
+          subst (λ b. IsAnswer p regions nv (with (Ended Halted))
+          (if not b && has_words p nv nv (words_of (map (aged_held known) σ.nv)) then Some (record w { now = record now { over = true } }) else None))
           (sym (y.same.over ∙ off)) (told_end σ (nothing (Returned v σ) e) (run_of (Returned v σ) e))
 
       stands : (s : Said) → IsTelling s → IsAnswer p regions nv (with s) (on_end p nv w s now)

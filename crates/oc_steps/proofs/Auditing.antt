@@ -141,7 +141,8 @@ module _ (p : TProgram) (regions : List TRegion) where
   length-more (x ∷ q) i = ap suc (length-more q i)
 
   module _ (r : TReport) where
-    finds_from : {w : Watch} {is : List Told} {n : ℕ} {v : Option ℕ} → Finds p regions r.nv w is n v → (q : List Told) → q ++ is ≡ r.items → n ≡ suc (length q) → AllHonest p regions r.nv q → IsWatch p regions q w
+    finds_from : {w : Watch} {is : List Told} {n : ℕ} {v : Option ℕ} → Finds p regions r.nv w is n v → (q : List Told) → q ++ is ≡ r.items → n ≡ suc (length q)
+        → AllHonest p regions r.nv q → IsWatch p regions q w
         → Judges p regions r v
     finds_from all q s m h k = λ front rest e. h front rest (e ∙ sym s ∙ append-nil q)
     finds_from (breaks {w = w} {i = i} {is = is} {n = n} e) q s m h k = record {

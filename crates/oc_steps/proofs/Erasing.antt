@@ -4,7 +4,7 @@ use Rattle.std.specs.Prelude.{◌≢◌, ◌==◌, if◌then◌else◌}
 use Rattle.oc_tree.specs.Said.{Told}
 use Rattle.oc_tree.specs.declared.said.Said.{Said}
 use Rattle.oc_tree.specs.declared.said.Said.TheVariants.{Sensed, Showed, Entered, Committed, Aborted, Off, Dark, Ended}
-use Rattle.oc_steps.specs.Erasing.{item, newer, last_mark, IsUnmarked, AreUnmarked, LeftOver, LeavesNothing, IsAdded, Erases}
+use Rattle.oc_steps.specs.Erasing.{item, newer, last_mark, IsUnmarked, AreUnmarked, Erases}
 use Rattle.oc_items.specs.Erase.{mark_or, next_mark, begins_stretch, goes_on, erase_from, erase}
 
 -- the mark is an `abort`
@@ -83,7 +83,9 @@ ahead_on (Off a) xs h = h
 ahead_on Dark xs h = h
 ahead_on (Ended a) xs h = h
 
-choice-append : (c : Bool) (i : Told) (xs ys : List Told) → begins_stretch i.said (next_mark xs) ≡ c → (HasAhead true xs → erase_from true (xs ++ ys) ≡ erase_from true xs ++ erase_from false ys) → erase_from false (xs ++ ys) ≡ erase_from false xs ++ erase_from false ys → (if c then erase_from true (xs ++ ys) else i ∷ erase_from false (xs ++ ys)) ≡ (if c then erase_from true xs else i ∷ erase_from false xs) ++ erase_from false ys
+choice-append : (c : Bool) (i : Told) (xs ys : List Told) → begins_stretch i.said (next_mark xs) ≡ c
+    → (HasAhead true xs → erase_from true (xs ++ ys) ≡ erase_from true xs ++ erase_from false ys) → erase_from false (xs ++ ys) ≡ erase_from false xs ++ erase_from false ys
+    → (if c then erase_from true (xs ++ ys) else i ∷ erase_from false (xs ++ ys)) ≡ (if c then erase_from true xs else i ∷ erase_from false xs) ++ erase_from false ys
 choice-append true i xs ys e ht hf = ht (begins-abort i.said (next_mark xs) e)
 choice-append false i xs ys e ht hf = ap (λ l. i ∷ l) hf
 
@@ -162,7 +164,9 @@ module _ (t r : ℕ) where
   entered_same k [] h = not_same k (k == r) refl h
   entered_same k (i ∷ is) h = by i.said h (entered_same k is)
     where
-      by : (s : Said) → last_mark (newer s (Some (Entered k))) is ≢ Some (Entered r) → (last_mark (Some (Entered k)) is ≢ Some (Entered r) → begins_stretch (Entered k) (next_mark (is ++ end)) ≡ begins_stretch (Entered k) (next_mark is)) → begins_stretch (Entered k) (mark_or s (next_mark (is ++ end))) ≡ begins_stretch (Entered k) (mark_or s (next_mark is))
+      by : (s : Said) → last_mark (newer s (Some (Entered k))) is ≢ Some (Entered r)
+          → (last_mark (Some (Entered k)) is ≢ Some (Entered r) → begins_stretch (Entered k) (next_mark (is ++ end)) ≡ begins_stretch (Entered k) (next_mark is))
+          → begins_stretch (Entered k) (mark_or s (next_mark (is ++ end))) ≡ begins_stretch (Entered k) (mark_or s (next_mark is))
       by (Sensed a b) h ih = ih h
       by (Showed a) h ih = ih h
       by (Entered a) h ih = refl
@@ -182,7 +186,9 @@ module _ (t r : ℕ) where
   begins_same Dark is h = refl
   begins_same (Ended a) is h = refl
 
-  choice : (c : Bool) (i : Told) (is : List Told) → begins_stretch i.said (next_mark is) ≡ c → (HasAhead true is → erase_from true (is ++ end) ≡ erase_from true is ++ end) → erase_from false (is ++ end) ≡ erase_from false is ++ end → (if c then erase_from true (is ++ end) else i ∷ erase_from false (is ++ end)) ≡ (if c then erase_from true is else i ∷ erase_from false is) ++ end
+  choice : (c : Bool) (i : Told) (is : List Told) → begins_stretch i.said (next_mark is) ≡ c → (HasAhead true is → erase_from true (is ++ end) ≡ erase_from true is ++ end)
+      → erase_from false (is ++ end) ≡ erase_from false is ++ end → (if c then erase_from true (is ++ end) else i ∷ erase_from false (is ++ end))
+      ≡ (if c then erase_from true is else i ∷ erase_from false is) ++ end
   choice true i is e ht hf = ht (begins-abort i.said (next_mark is) e)
   choice false i is e ht hf = ap (λ l. i ∷ l) hf
 

@@ -83,7 +83,8 @@ module _ (before : ℕ → ℕ) where
   with_age n [] = refl
   with_age n (m ∷ ms) = first (with_age n ms) (nat_lt n m) (n == m) refl
     where
-      first : age_of before (with_sample n ms) ≡ join_ages (before n ∷ []) (age_of before ms) → (a b : Bool) → (n == m) ≡ b → age_of before (if a then n ∷ m ∷ ms else (if b then m ∷ ms else m ∷ with_sample n ms)) ≡ join_ages (before n ∷ []) (age_of before (m ∷ ms))
+      first : age_of before (with_sample n ms) ≡ join_ages (before n ∷ []) (age_of before ms) → (a b : Bool) → (n == m) ≡ b
+          → age_of before (if a then n ∷ m ∷ ms else (if b then m ∷ ms else m ∷ with_sample n ms)) ≡ join_ages (before n ∷ []) (age_of before (m ∷ ms))
       first ih true b e = refl
       first ih false true e =
           let nm : n ≡ m = eqb-true n m e in

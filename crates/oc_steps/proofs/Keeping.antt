@@ -3,7 +3,9 @@ use Rattle.std.proofs.Common.{◌≡◌, ℕ, zero, suc, ℤ, Bool, true, false,
 use Rattle.std.specs.Prelude.{pos, ◌+ℤ◌, if◌then◌else◌}
 use Rattle.oc_tree.specs.Names.{Text}
 use Rattle.oc_tree.specs.Marked.{TRegion}
-use Rattle.oc_tree.specs.Tree.{TExpr, TCall, call, TRight, right_value, right_sense, right_call, TKind, let_to, let_array, assign, assign_index, assign_deref, if_else, for_in, while_do, call_only, sense_only, emit, fresh, consistent, return, TElse, no_else, else_do, stmt, TBlock, block, TStmts, no_stmts, more, TFunction, TProgram}
+use Rattle.oc_tree.specs.Tree.{TExpr, TCall, call, TRight, right_value, right_sense, right_call, TKind, let_to, let_array, assign, assign_index, assign_deref, if_else, for_in}
+use Rattle.oc_tree.specs.Tree.{while_do, call_only, sense_only, emit, fresh, consistent, return, TElse, no_else, else_do, stmt, TBlock, block, TStmts, no_stmts, more, TFunction}
+use Rattle.oc_tree.specs.Tree.{TProgram}
 use Rattle.oc_tree.specs.declared.said.Said.TheVariants.{Showed}
 use Rattle.oc_tree.specs.declared.said.Shown.TheVariants.{Emitted}
 use Rattle.oc_meaning.specs.Samples.{union}
@@ -11,11 +13,14 @@ use Rattle.oc_meaning.specs.Store.{Value, Place, Event, Store, Binding, plain, r
 use Rattle.oc_meaning.specs.Eval.{Got, Val, Traps, is_zero, element_of, value_of}
 use Rattle.oc_meaning.specs.Uses.{is_fresh, is_use, use_samples, begins_use, ends_use}
 use Rattle.oc_meaning.specs.Blocks.{set_home}
-use Rattle.oc_meaning.specs.Exec.{begun_by, ended_by, Stop, Short, Outcome, Went, Returned, Stopped, Passed, Passing, Passes, Breaks, number_in, trapped, with_value, then_do, with_result, dropped, finished, leave, opened, closed, used, done, count_of, in_turn, grown, args_of, with_args, element_written, for_turns, while_turns, call_run, right_run, kind_run, else_run}
+use Rattle.oc_meaning.specs.Exec.{begun_by, ended_by, Stop, Short, Outcome, Went, Returned, Stopped, Passed, Passing, Passes, Breaks, number_in, with_value, then_do, finished}
+use Rattle.oc_meaning.specs.Exec.{opened, closed, used, done, in_turn, grown, args_of, with_args, element_written, for_turns, call_run, right_run, else_run}
 use Rattle.oc_meaning.specs.Exec as exec
 use Rattle.oc_meaning.specs.Run.{with_params, nv_env, function_named, function_run, call_to}
 use Rattle.oc_steps.specs.Sets.{value_by, use_by, args_by, element_written_by}
-use Rattle.oc_steps.specs.Steps.{Inside, Frame, Rest, Use, Work, Done, Close, Take, Leave, Turns, Loop, Test, Back, Step, Goes, Asks, Over, begin, begin_else, on_value, step_function, step_passed, step_args, step_call, step_right, taken, work, step_rest, step_turns, step_loop, step_test, step_went, step_returned, step, sensed}
+use Rattle.oc_steps.specs.Steps.{Inside, Frame, Rest, Use, Work, Done, Close, Take, Leave, Turns, Loop, Test, Back, Step, Goes, Asks, Over, begin, begin_else, on_value}
+use Rattle.oc_steps.specs.Steps.{step_function, step_passed, step_args, step_call, step_right, taken, work, step_rest, step_turns, step_loop, step_test, step_went, step_returned}
+use Rattle.oc_steps.specs.Steps.{step, sensed}
 use Rattle.oc_steps.specs.Follow.{with_left, with_more, give, stmts_in, block_in, kind_in, after, resume, Keeps, StepsKeep}
 use Rattle.oc_steps.proofs.Lefts.{held_left, value_left, use_left, args_left, put_left, opened_left, closed_left, used_left, done_left, grown_left, written_left}
 
@@ -38,7 +43,8 @@ module _ (p : TProgram) (regions : List TRegion) (past : List Event) where
   makes_under (Asks s fs' σ) f fs W h = h
   makes_under Over f fs W h = h
 
-  makes_value : (g : Got) (n : ℕ) (σ : Store) (fs : List Frame) (go : Value → Step) (W : Value → List ℤ → Outcome) → ((v : Value) → Makes (go v) fs (W v)) → Makes (on_value g n σ fs go) fs (λ t. with_value g n (with_left past t σ) (λ v. W v t))
+  makes_value : (g : Got) (n : ℕ) (σ : Store) (fs : List Frame) (go : Value → Step) (W : Value → List ℤ → Outcome) → ((v : Value) → Makes (go v) fs (W v))
+      → Makes (on_value g n σ fs go) fs (λ t. with_value g n (with_left past t σ) (λ v. W v t))
   makes_value (Val v) n σ fs go W h = h v
   makes_value (Traps k) n σ fs go W h = λ t. refl
 
@@ -49,11 +55,13 @@ module _ (p : TProgram) (regions : List TRegion) (past : List Event) where
   makes_begin : (f : Inside) (env : List Binding) (b : TBlock) (fs : List Frame) (σ : Store) → Makes (begin f env b fs σ) fs (λ t. block_in p regions f env b (with_left past t σ))
   makes_begin f env (block id ss) fs σ = λ t. refl
 
-  makes_else : (f : Inside) (env : List Binding) (b : TElse) (fs : List Frame) (σ : Store) → Makes (begin_else f env b fs σ) fs (λ t. else_run p.names regions (call_to p regions f.depth) (set_home f.body) env b (with_left past t σ))
+  makes_else : (f : Inside) (env : List Binding) (b : TElse) (fs : List Frame) (σ : Store)
+      → Makes (begin_else f env b fs σ) fs (λ t. else_run p.names regions (call_to p regions f.depth) (set_home f.body) env b (with_left past t σ))
   makes_else f env no_else fs σ = λ t. refl
   makes_else f env (else_do b) fs σ = makes_begin f env b fs σ
 
-  makes_function : (d : ℕ) (o : Option TFunction) (ps : List Passed) (fs : List Frame) (σ : Store) → Makes (step_function p regions union suc d o ps fs σ) fs (λ t. function_run p regions (call_to p regions d) o ps (with_left past t σ))
+  makes_function : (d : ℕ) (o : Option TFunction) (ps : List Passed) (fs : List Frame) (σ : Store)
+      → Makes (step_function p regions union suc d o ps fs σ) fs (λ t. function_run p regions (call_to p regions d) o ps (with_left past t σ))
   makes_function d None ps fs σ = λ t. refl
   makes_function d (Some f) ps fs σ =
       let fr = with_params f.params ps (record { env = nv_env 0 p.names.nvs; locals = σ.locals }) in
@@ -65,11 +73,13 @@ module _ (p : TProgram) (regions : List TRegion) (past : List Event) where
   makes_passed zero x ps fs σ = λ t. refl
   makes_passed (suc d) x ps fs σ = makes_function d (function_named p.functions x) ps fs σ
 
-  makes_args : (d : ℕ) (x : Text) (gs : Passing) (n : ℕ) (fs : List Frame) (σ : Store) → Makes (step_args p regions union suc d x gs n fs σ) fs (λ t. with_args gs n (with_left past t σ) (λ ps. call_to p regions d x ps (with_left past t σ)))
+  makes_args : (d : ℕ) (x : Text) (gs : Passing) (n : ℕ) (fs : List Frame) (σ : Store)
+      → Makes (step_args p regions union suc d x gs n fs σ) fs (λ t. with_args gs n (with_left past t σ) (λ ps. call_to p regions d x ps (with_left past t σ)))
   makes_args d x (Passes ps) n fs σ = makes_passed d x ps fs σ
   makes_args d x (Breaks k) n fs σ = λ t. refl
 
-  makes_call : (f : Inside) (env : List Binding) (n : ℕ) (c : TCall) (fs : List Frame) (σ : Store) → Makes (step_call p regions union suc f env n c fs σ) fs (λ t. call_run p.names regions (call_to p regions f.depth) (set_home f.body) env n (with_left past t σ) c)
+  makes_call : (f : Inside) (env : List Binding) (n : ℕ) (c : TCall) (fs : List Frame) (σ : Store)
+      → Makes (step_call p regions union suc f env n c fs σ) fs (λ t. call_run p.names regions (call_to p regions f.depth) (set_home f.body) env n (with_left past t σ) c)
   makes_call f env n (call x gs) fs σ =
       makes_as (step_args p regions union suc f.depth x (args_by union env σ gs) n fs σ) fs
       (λ t. with_args (args_by union env σ gs) n (with_left past t σ) (λ ps. call_to p regions f.depth x ps (with_left past t σ)))
@@ -98,9 +108,11 @@ module _ (p : TProgram) (regions : List TRegion) (past : List Event) where
   makes_sense : (s : ℕ) (f : Frame) (fs : List Frame) (σ : Store) → Makes (Asks s (f ∷ fs) σ) fs (λ t. after p regions f (exec.sense s t (with_left past t σ)))
   makes_sense s f fs σ = ((λ z t. refl), short (f ∷ fs) (with_left past [] σ))
 
-  makes_right : (f : Inside) (env : List Binding) (n : ℕ) (r : TRight) (g : Frame) (fs : List Frame) (σ : Store) → Makes (step_right p regions union suc f env n r (g ∷ fs) σ) fs (λ t. after p regions g (right_run p.names regions (call_to p regions f.depth) (set_home f.body) env n (with_left past t σ) r))
+  makes_right : (f : Inside) (env : List Binding) (n : ℕ) (r : TRight) (g : Frame) (fs : List Frame) (σ : Store)
+      → Makes (step_right p regions union suc f env n r (g ∷ fs) σ) fs (λ t. after p regions g (right_run p.names regions (call_to p regions f.depth) (set_home f.body) env n (with_left past t σ) r))
   makes_right f env n (right_value e) g fs σ =
-      makes_under (step_right p regions union suc f env n (right_value e) (g ∷ fs) σ) g fs (λ t. with_value (value_of env (with_left past t σ) e) n (with_left past t σ) (λ v. Returned v (with_left past t σ)))
+      makes_under (step_right p regions union suc f env n (right_value e) (g ∷ fs) σ) g fs
+      (λ t. with_value (value_of env (with_left past t σ) e) n (with_left past t σ) (λ v. Returned v (with_left past t σ)))
       (makes_as (step_right p regions union suc f env n (right_value e) (g ∷ fs) σ) (g ∷ fs)
       (λ t. with_value (value_by union env σ e) n (with_left past t σ) (λ v. Returned v (with_left past t σ)))
       (λ t. with_value (value_of env (with_left past t σ) e) n (with_left past t σ) (λ v. Returned v (with_left past t σ)))
@@ -108,7 +120,8 @@ module _ (p : TProgram) (regions : List TRegion) (past : List Event) where
       (makes_value (value_by union env σ e) n σ (g ∷ fs) (λ v. Goes (g ∷ fs) (Returned v σ)) (λ v t. Returned v (with_left past t σ)) (λ v t. refl)))
   makes_right f env n (right_sense s) g fs σ = makes_sense (number_in p.names.sensors s) g fs σ
   makes_right f env n (right_call c) g fs σ =
-      makes_under (step_call p regions union suc f env n c (g ∷ fs) σ) g fs (λ t. call_run p.names regions (call_to p regions f.depth) (set_home f.body) env n (with_left past t σ) c) (makes_call f env n c (g ∷ fs) σ)
+      makes_under (step_call p regions union suc f env n c (g ∷ fs) σ) g fs
+      (λ t. call_run p.names regions (call_to p regions f.depth) (set_home f.body) env n (with_left past t σ) c) (makes_call f env n c (g ∷ fs) σ)
 
   -- what becomes of a value
   put_taken : (σ : Store) (q : Place) (v : Value) (t : List ℤ) → with_left past t (put σ q (replaced (held_at σ q) v)) ≡ put (with_left past t σ) q (replaced (held_at (with_left past t σ) q) v)
@@ -119,21 +132,27 @@ module _ (p : TProgram) (regions : List TRegion) (past : List Event) where
   makes_taken env n (assign x r) v fs σ = λ t. ap (λ τ. resume p regions fs (Went τ)) (put_taken σ (place_of env x) v t)
   makes_taken env n (assign_index x e r) v fs σ =
       makes_as (taken p regions union suc env n (assign_index x e r) v fs σ) fs
-      (λ t. with_value (value_by union env σ e) n (with_left past t σ) (λ i. with_more past t (element_written_by union (place_of env x) (element_of (length (held_at σ (place_of env x)).words) i.num) i v n σ)))
+      (λ t. with_value (value_by union env σ e) n (with_left past t σ)
+      (λ i. with_more past t (element_written_by union (place_of env x) (element_of (length (held_at σ (place_of env x)).words) i.num) i v n σ)))
       (λ t. give env n (assign_index x e r) v (with_left past t σ))
       (λ t. written (value_by union env σ e) t
-      ∙ ap (λ h. with_value (value_by union env σ e) n (with_left past t σ) (λ i. element_written (place_of env x) (element_of (length h.words) i.num) i v n (with_left past t σ))) (sym (held_left past t σ (place_of env x)))
-      ∙ ap (λ q. with_value q n (with_left past t σ) (λ i. element_written (place_of env x) (element_of (length (held_at (with_left past t σ) (place_of env x)).words) i.num) i v n (with_left past t σ))) (sym (value_left past t env σ e)))
+      ∙ ap (λ h. with_value (value_by union env σ e) n (with_left past t σ) (λ i. element_written (place_of env x) (element_of (length h.words) i.num) i v n (with_left past t σ)))
+      (sym (held_left past t σ (place_of env x)))
+      ∙ ap (λ q. with_value q n (with_left past t σ)
+      (λ i. element_written (place_of env x) (element_of (length (held_at (with_left past t σ) (place_of env x)).words) i.num) i v n (with_left past t σ))) (sym (value_left past t env σ e)))
       (makes_value (value_by union env σ e) n σ fs (λ i. Goes fs (element_written_by union (place_of env x) (element_of (length (held_at σ (place_of env x)).words) i.num) i v n σ))
       (λ i t. with_more past t (element_written_by union (place_of env x) (element_of (length (held_at σ (place_of env x)).words) i.num) i v n σ)) (λ i t. refl))
     where
-      written : (g : Got) (t : List ℤ) → with_value g n (with_left past t σ) (λ i. with_more past t (element_written_by union (place_of env x) (element_of (length (held_at σ (place_of env x)).words) i.num) i v n σ)) ≡ with_value g n (with_left past t σ) (λ i. element_written (place_of env x) (element_of (length (held_at σ (place_of env x)).words) i.num) i v n (with_left past t σ))
+      written : (g : Got) (t : List ℤ) → with_value g n (with_left past t σ)
+          (λ i. with_more past t (element_written_by union (place_of env x) (element_of (length (held_at σ (place_of env x)).words) i.num) i v n σ))
+          ≡ with_value g n (with_left past t σ) (λ i. element_written (place_of env x) (element_of (length (held_at σ (place_of env x)).words) i.num) i v n (with_left past t σ))
       written (Val i) t = sym (written_left past t (place_of env x) (element_of (length (held_at σ (place_of env x)).words) i.num) i v n σ)
       written (Traps k) t = refl
   makes_taken env n (assign_deref x r) v fs σ = λ t. ap (λ τ. resume p regions fs (Went τ)) (put_taken σ (place_of env x) v t)
   makes_taken env n k v fs σ = λ t. refl
 
-  makes_work : (f : Inside) (env : List Binding) (n : ℕ) (k : TKind) (fs : List Frame) (σ : Store) → Makes (work p regions union suc f env n k fs σ) fs (λ t. kind_in p regions f env n k (with_left past t σ))
+  makes_work : (f : Inside) (env : List Binding) (n : ℕ) (k : TKind) (fs : List Frame) (σ : Store)
+      → Makes (work p regions union suc f env n k fs σ) fs (λ t. kind_in p regions f env n k (with_left past t σ))
   makes_work f env n (let_to m x k r) fs σ = makes_right f env n r (Take env n (let_to m x k r)) fs σ
   makes_work f env n (let_array m x k z c) fs σ = λ t. refl
   makes_work f env n (assign x r) fs σ = makes_right f env n r (Take env n (assign x r)) fs σ
@@ -141,9 +160,12 @@ module _ (p : TProgram) (regions : List TRegion) (past : List Event) where
   makes_work f env n (assign_deref x r) fs σ = makes_right f env n r (Take env n (assign_deref x r)) fs σ
   makes_work f env n (if_else c a b) fs σ =
       makes_as (work p regions union suc f env n (if_else c a b) fs σ) fs
-      (λ t. with_value (value_by union env σ c) n (with_left past t σ) (λ v. if is_zero v.num then else_run p.names regions (call_to p regions f.depth) (set_home f.body) env b (with_left past t σ) else block_in p regions f env a (with_left past t σ)))
+      (λ t. with_value (value_by union env σ c) n (with_left past t σ)
+      (λ v. if is_zero v.num then else_run p.names regions (call_to p regions f.depth) (set_home f.body) env b (with_left past t σ) else block_in p regions f env a (with_left past t σ)))
       (λ t. kind_in p regions f env n (if_else c a b) (with_left past t σ))
-      (λ t. ap (λ q. with_value q n (with_left past t σ) (λ v. if is_zero v.num then else_run p.names regions (call_to p regions f.depth) (set_home f.body) env b (with_left past t σ) else block_in p regions f env a (with_left past t σ))) (sym (value_left past t env σ c)))
+      (λ t. ap (λ q. with_value q n (with_left past t σ)
+      (λ v. if is_zero v.num then else_run p.names regions (call_to p regions f.depth) (set_home f.body) env b (with_left past t σ) else block_in p regions f env a
+      (with_left past t σ))) (sym (value_left past t env σ c)))
       (makes_value (value_by union env σ c) n σ fs (λ v. if is_zero v.num then begin_else f env b fs σ else begin f env a fs σ)
       (λ v t. if is_zero v.num then else_run p.names regions (call_to p regions f.depth) (set_home f.body) env b (with_left past t σ) else block_in p regions f env a (with_left past t σ))
       (λ v. makes_if (is_zero v.num) (begin_else f env b fs σ) (begin f env a fs σ) fs
@@ -156,7 +178,8 @@ module _ (p : TProgram) (regions : List TRegion) (past : List Event) where
       (λ t. after p regions (Take env n (call_only c)) (call_run p.names regions (call_to p regions f.depth) (set_home f.body) env n (with_left past t σ) c))
       (λ t. kind_in p regions f env n (call_only c) (with_left past t σ))
       (λ t. refl)
-      (makes_under (step_call p regions union suc f env n c (Take env n (call_only c) ∷ fs) σ) (Take env n (call_only c)) fs (λ t. call_run p.names regions (call_to p regions f.depth) (set_home f.body) env n (with_left past t σ) c)
+      (makes_under (step_call p regions union suc f env n c (Take env n (call_only c) ∷ fs) σ) (Take env n (call_only c)) fs
+      (λ t. call_run p.names regions (call_to p regions f.depth) (set_home f.body) env n (with_left past t σ) c)
       (makes_call f env n c (Take env n (call_only c) ∷ fs) σ))
   makes_work f env n (sense_only s) fs σ = makes_sense (number_in p.names.sensors s) (Take env n (sense_only s)) fs σ
   makes_work f env n (emit q e) fs σ =
@@ -177,7 +200,8 @@ module _ (p : TProgram) (regions : List TRegion) (past : List Event) where
       (λ t.
       ap (λ τ. with_value (value_by union env σ e) n (with_left past t σ) (λ v. Returned v (closed (ended_by regions n) τ))) (sym (done_left past t is n (use_by union env (return e) σ) σ))
       ∙ ap (λ u. with_value (value_by union env σ e) n (with_left past t σ) (λ v. Returned v (closed (ended_by regions n) (done is n u (with_left past t σ))))) (sym (use_left past t env (return e) σ))
-      ∙ ap (λ g. with_value g n (with_left past t σ) (λ v. Returned v (closed (ended_by regions n) (done is n (use_samples env (return e) (with_left past t σ)) (with_left past t σ))))) (sym (value_left past t env σ e)))
+      ∙ ap (λ g. with_value g n (with_left past t σ)
+      (λ v. Returned v (closed (ended_by regions n) (done is n (use_samples env (return e) (with_left past t σ)) (with_left past t σ))))) (sym (value_left past t env σ e)))
       (makes_value (value_by union env σ e) n σ fs (λ v. Goes (Back v (ended_by regions n) ∷ fs) (Went (done is n (use_by union env (return e) σ) σ)))
       (λ v t. Returned v (closed (ended_by regions n) (with_left past t (done is n (use_by union env (return e) σ) σ)))) (λ v t. refl))
 
@@ -186,7 +210,8 @@ module _ (p : TProgram) (regions : List TRegion) (past : List Event) where
   finished_both g h (Returned v σ) = refl
   finished_both g h (Stopped s σ) = refl
 
-  makes_rest : (f : Inside) (env : List Binding) (ss : TStmts) (fs : List Frame) (σ : Store) → Makes (step_rest p regions union suc f env ss fs σ) fs (λ t. stmts_in p regions f env ss (with_left past t σ))
+  makes_rest : (f : Inside) (env : List Binding) (ss : TStmts) (fs : List Frame) (σ : Store)
+      → Makes (step_rest p regions union suc f env ss fs σ) fs (λ t. stmts_in p regions f env ss (with_left past t σ))
   makes_rest f env no_stmts fs σ = λ t. refl
   makes_rest f env (more (stmt n line k) rest) fs σ =
       λ t.
@@ -196,17 +221,23 @@ module _ (p : TProgram) (regions : List TRegion) (past : List Event) where
       let e : Option ℕ = ended_by regions n in
       ap (λ o. resume p regions fs (then_do o (stmts_in p regions f (grown k rest env σ) rest)))
       (finished_both (closed e) (done en n u) (kind_in p regions f env n k (used be n u (with_left past t (opened (begun_by regions n) σ)))))
-      ∙ ap (λ τ. resume p regions fs (then_do (finished (λ υ. closed e (done en n u υ)) (kind_in p regions f env n k (used be n u τ))) (stmts_in p regions f (grown k rest env σ) rest))) (sym (opened_left past t (begun_by regions n) σ))
-      ∙ ap (λ γ. resume p regions fs (then_do (finished (λ υ. closed e (done en n u υ)) (kind_in p regions f env n k (used be n u (opened (begun_by regions n) (with_left past t σ))))) (stmts_in p regions f γ rest))) (sym (grown_left past t k rest env σ))
-      ∙ ap (λ w. resume p regions fs (then_do (finished (λ υ. closed e (done en n w υ)) (kind_in p regions f env n k (used be n w (opened (begun_by regions n) (with_left past t σ))))) (stmts_in p regions f (grown k rest env (with_left past t σ)) rest))) (sym (use_left past t env k σ))
+      ∙ ap (λ τ. resume p regions fs (then_do (finished (λ υ. closed e (done en n u υ)) (kind_in p regions f env n k (used be n u τ)))
+      (stmts_in p regions f (grown k rest env σ) rest))) (sym (opened_left past t (begun_by regions n) σ))
+      ∙ ap (λ γ. resume p regions fs (then_do (finished (λ υ. closed e (done en n u υ))
+      (kind_in p regions f env n k (used be n u (opened (begun_by regions n) (with_left past t σ))))) (stmts_in p regions f γ rest))) (sym (grown_left past t k rest env σ))
+      ∙ ap (λ w. resume p regions fs (then_do (finished (λ υ. closed e (done en n w υ))
+      (kind_in p regions f env n k (used be n w (opened (begun_by regions n) (with_left past t σ))))) (stmts_in p regions f (grown k rest env (with_left past t σ)) rest)))
+      (sym (use_left past t env k σ))
 
-  makes_turns : (f : Inside) (x : Text) (c : ℕ) (i : ℤ) (b : TBlock) (env : List Binding) (fs : List Frame) (σ : Store) → Makes (step_turns p regions union suc f x c i b env fs σ) fs (λ t. for_turns c i (λ j. block_in p regions f (in_turn x j ∷ env) b) (with_left past t σ))
+  makes_turns : (f : Inside) (x : Text) (c : ℕ) (i : ℤ) (b : TBlock) (env : List Binding) (fs : List Frame) (σ : Store)
+      → Makes (step_turns p regions union suc f x c i b env fs σ) fs (λ t. for_turns c i (λ j. block_in p regions f (in_turn x j ∷ env) b) (with_left past t σ))
   makes_turns f x zero i b env fs σ = λ t. refl
   makes_turns f x (suc c) i b env fs σ =
       makes_under (begin f (in_turn x i ∷ env) b (Turns f x c (i +ℤ pos 1) b env ∷ fs) σ) (Turns f x c (i +ℤ pos 1) b env) fs (λ t. block_in p regions f (in_turn x i ∷ env) b (with_left past t σ))
       (makes_begin f (in_turn x i ∷ env) b (Turns f x c (i +ℤ pos 1) b env ∷ fs) σ)
 
-  makes_loop : (f : Inside) (env : List Binding) (n : ℕ) (c : TExpr) (m : ℕ) (b : TBlock) (before : List ℕ) (fs : List Frame) (σ : Store) → Makes (step_loop p regions union suc f env n c m b before fs σ) fs (λ t. after p regions (Loop f env n c m b before) (Went (with_left past t σ)))
+  makes_loop : (f : Inside) (env : List Binding) (n : ℕ) (c : TExpr) (m : ℕ) (b : TBlock) (before : List ℕ) (fs : List Frame) (σ : Store)
+      → Makes (step_loop p regions union suc f env n c m b before fs σ) fs (λ t. after p regions (Loop f env n c m b before) (Went (with_left past t σ)))
   makes_loop f env n c zero b before fs σ = λ t. ap (λ τ. resume p regions fs (Went τ)) (sym (done_left past t (is_use (is_fresh env) (while_do c 0 b)) n before σ))
   makes_loop f env n c (suc m) b before fs σ =
       λ t.
@@ -215,20 +246,26 @@ module _ (p : TProgram) (regions : List TRegion) (past : List Event) where
       ap (λ τ. resume p regions fs (after p regions (Test f env n c m b (union before u)) (Went τ))) (sym (used_left past t is n u σ))
       ∙ ap (λ w. resume p regions fs (after p regions (Test f env n c m b (union before w)) (Went (used is n w (with_left past t σ))))) (sym (use_left past t env (while_do c 0 b) σ))
 
-  makes_test : (f : Inside) (env : List Binding) (n : ℕ) (c : TExpr) (m : ℕ) (b : TBlock) (all : List ℕ) (fs : List Frame) (σ : Store) → Makes (step_test p regions union suc f env n c m b all fs σ) fs (λ t. after p regions (Test f env n c m b all) (Went (with_left past t σ)))
+  makes_test : (f : Inside) (env : List Binding) (n : ℕ) (c : TExpr) (m : ℕ) (b : TBlock) (all : List ℕ) (fs : List Frame) (σ : Store)
+      → Makes (step_test p regions union suc f env n c m b all fs σ) fs (λ t. after p regions (Test f env n c m b all) (Went (with_left past t σ)))
   makes_test f env n c m b all fs σ =
       let is : Bool = is_use (is_fresh env) (while_do c 0 b) in
-      let V : Value → List ℤ → Outcome = λ v t. if is_zero v.num then Went (with_left past t (done is n all σ)) else after p regions (Loop f env n c m b all) (block_in p regions f env b (with_left past t σ)) in
+      let V : Value → List ℤ → Outcome = λ v t. if is_zero v.num then Went (with_left past t (done is n all σ)) else after p regions (Loop f env n c m b all)
+      (block_in p regions f env b (with_left past t σ)) in
       makes_as (step_test p regions union suc f env n c m b all fs σ) fs
       (λ t. with_value (value_by union env σ c) n (with_left past t σ) (λ v. V v t))
       (λ t. after p regions (Test f env n c m b all) (Went (with_left past t σ)))
-      (λ t. ap (λ τ. with_value (value_by union env σ c) n (with_left past t σ) (λ v. if is_zero v.num then Went τ else after p regions (Loop f env n c m b all) (block_in p regions f env b (with_left past t σ)))) (sym (done_left past t is n all σ))
-      ∙ ap (λ g. with_value g n (with_left past t σ) (λ v. if is_zero v.num then Went (done is n all (with_left past t σ)) else after p regions (Loop f env n c m b all) (block_in p regions f env b (with_left past t σ)))) (sym (value_left past t env σ c)))
+      (λ t. ap (λ τ. with_value (value_by union env σ c) n (with_left past t σ)
+      (λ v. if is_zero v.num then Went τ else after p regions (Loop f env n c m b all) (block_in p regions f env b (with_left past t σ)))) (sym (done_left past t is n all σ))
+      ∙ ap (λ g. with_value g n (with_left past t σ)
+      (λ v. if is_zero v.num then Went (done is n all (with_left past t σ)) else after p regions (Loop f env n c m b all) (block_in p regions f env b (with_left past t σ))))
+      (sym (value_left past t env σ c)))
       (makes_value (value_by union env σ c) n σ fs (λ v. if is_zero v.num then Goes fs (Went (done is n all σ)) else begin f env b (Loop f env n c m b all ∷ fs) σ) V
       (λ v. makes_if (is_zero v.num) (Goes fs (Went (done is n all σ))) (begin f env b (Loop f env n c m b all ∷ fs) σ) fs
       (λ t. Went (with_left past t (done is n all σ))) (λ t. after p regions (Loop f env n c m b all) (block_in p regions f env b (with_left past t σ)))
       (λ t. refl)
-      (makes_under (begin f env b (Loop f env n c m b all ∷ fs) σ) (Loop f env n c m b all) fs (λ t. block_in p regions f env b (with_left past t σ)) (makes_begin f env b (Loop f env n c m b all ∷ fs) σ))))
+      (makes_under (begin f env b (Loop f env n c m b all ∷ fs) σ) (Loop f env n c m b all) fs (λ t. block_in p regions f env b (with_left past t σ))
+      (makes_begin f env b (Loop f env n c m b all ∷ fs) σ))))
 
   makes_went : (f : Frame) (fs : List Frame) (σ : Store) → Makes (step_went p regions union suc f fs σ) fs (λ t. after p regions f (Went (with_left past t σ)))
   makes_went (Rest f env ss) fs σ = makes_rest f env ss fs σ

@@ -37,11 +37,13 @@ module _ (past : List Event) (t : List ℤ) where
   value_left env σ (variable x) = ap (λ h. Val (value_in h)) (held_left σ (place_of env x))
   value_left env σ (deref x) = ap (λ h. Val (value_in h)) (held_left σ (place_of env x))
   value_left env σ (index x e) =
-      ap (λ g. and_got g (λ i. read_element (held_at (with_left past t σ) (place_of env x)) (element_of (length (held_at (with_left past t σ) (place_of env x)).words) i.num) i.samples)) (value_left env σ e)
+      ap (λ g. and_got g (λ i. read_element (held_at (with_left past t σ) (place_of env x)) (element_of (length (held_at (with_left past t σ) (place_of env x)).words) i.num)
+      i.samples)) (value_left env σ e)
       ∙ ap (λ h. and_got (value_by union env σ e) (λ i. read_element h (element_of (length h.words) i.num) i.samples)) (held_left σ (place_of env x))
       ∙ index_same (value_by union env σ e) (held_at σ (place_of env x))
     where
-      index_same : (g : Got) (h : Held) → and_got g (λ i. read_element h (element_of (length h.words) i.num) i.samples) ≡ and_got g (λ i. element_by union h (element_of (length h.words) i.num) i.samples)
+      index_same : (g : Got) (h : Held) → and_got g (λ i. read_element h (element_of (length h.words) i.num) i.samples)
+          ≡ and_got g (λ i. element_by union h (element_of (length h.words) i.num) i.samples)
       index_same (Val v) h = element_same h (element_of (length h.words) v.num) v.samples
       index_same g h = refl
   value_left env σ (unary op e) = ap (unary_value op) (value_left env σ e)

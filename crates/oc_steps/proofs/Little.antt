@@ -3,7 +3,9 @@ use Rattle.std.proofs.Common.{◌≡◌, ℕ, zero, suc, ℤ, Bool, true, false,
 use Rattle.std.specs.Prelude.{pos, ◌+ℤ◌, ◌==◌, if◌then◌else◌}
 use Rattle.oc_tree.specs.Names.{Text}
 use Rattle.oc_tree.specs.Marked.{TRegion}
-use Rattle.oc_tree.specs.Tree.{TExpr, TCall, call, TRight, right_value, right_sense, right_call, TKind, let_to, let_array, assign, assign_index, assign_deref, if_else, for_in, while_do, call_only, sense_only, emit, fresh, consistent, return, TElse, no_else, else_do, stmt, TBlock, block, TStmts, no_stmts, more, TFunction, TProgram}
+use Rattle.oc_tree.specs.Tree.{TExpr, TCall, call, TRight, right_value, right_sense, right_call, TKind, let_to, let_array, assign, assign_index, assign_deref, if_else, for_in}
+use Rattle.oc_tree.specs.Tree.{while_do, call_only, sense_only, emit, fresh, consistent, return, TElse, no_else, else_do, stmt, TBlock, block, TStmts, no_stmts, more, TFunction}
+use Rattle.oc_tree.specs.Tree.{TProgram}
 use Rattle.oc_tree.specs.declared.said.Said.TheVariants.{Showed, Entered, Committed, Ended}
 use Rattle.oc_tree.specs.declared.said.Ending.TheVariants.{Trapped}
 use Rattle.oc_tree.specs.declared.said.Shown.TheVariants.{Emitted}
@@ -16,7 +18,8 @@ use Rattle.oc_meaning.specs.Uses.{is_fresh, is_use, begins_use}
 use Rattle.oc_meaning.specs.Exec.{begun_by, ended_by, Went, Returned, Stopped, Passed, Passing, Passes, Breaks, number_in, told_if, trapped, opened, closed, used, done, in_turn}
 use Rattle.oc_meaning.specs.Run.{with_params, nv_env, function_named}
 use Rattle.oc_steps.specs.Sets.{value_by, use_by, args_by, element_written_by}
-use Rattle.oc_steps.specs.Steps.{Inside, Frame, Rest, Use, Work, Done, Close, Take, Leave, Turns, Loop, Test, Back, Step, Goes, begin, begin_else, on_value, step_function, step_passed, step_args, step_call, step_right, taken, work, step_rest, step_turns, step_loop, step_test, step_went, step_returned}
+use Rattle.oc_steps.specs.Steps.{Inside, Frame, Rest, Use, Work, Done, Close, Take, Leave, Turns, Loop, Test, Back, Step, Goes, begin, begin_else, on_value, step_function}
+use Rattle.oc_steps.specs.Steps.{step_passed, step_args, step_call, step_right, taken, work, step_rest, step_turns, step_loop, step_test, step_went, step_returned}
 use Rattle.oc_steps.specs.Little.{IsNoInput, IsNoEnd, IsSilent, AtMostOne, SaysOne, Little, SaysLittle}
 
 -- so many samples were taken
@@ -136,11 +139,13 @@ module _ (m : ℕ) where
     turns_little f x zero i b env fs σ h = (h.1, inl h.0)
     turns_little f x (suc t) i b env fs σ h = begin_little f (in_turn x i ∷ env) b (Turns f x t (i +ℤ pos 1) b env ∷ fs) σ h
 
-    loop_little : (f : Inside) (env : List Binding) (n : ℕ) (e : TExpr) (t : ℕ) (b : TBlock) (u : List ℕ) (fs : List Frame) (σ : Store) → IsSilent m σ → Little m (step_loop p regions union suc f env n e t b u fs σ)
+    loop_little : (f : Inside) (env : List Binding) (n : ℕ) (e : TExpr) (t : ℕ) (b : TBlock) (u : List ℕ) (fs : List Frame) (σ : Store) → IsSilent m σ
+        → Little m (step_loop p regions union suc f env n e t b u fs σ)
     loop_little f env n e zero b u fs σ h = done_one (is_use (is_fresh env) (while_do e 0 b)) n u σ h
     loop_little f env n e (suc t) b u fs σ h = used_one (is_use (is_fresh env) (while_do e 0 b)) n (use_by union env (while_do e 0 b) σ) σ h
 
-    test_little : (f : Inside) (env : List Binding) (n : ℕ) (e : TExpr) (t : ℕ) (b : TBlock) (u : List ℕ) (fs : List Frame) (σ : Store) → IsSilent m σ → Little m (step_test p regions union suc f env n e t b u fs σ)
+    test_little : (f : Inside) (env : List Binding) (n : ℕ) (e : TExpr) (t : ℕ) (b : TBlock) (u : List ℕ) (fs : List Frame) (σ : Store) → IsSilent m σ
+        → Little m (step_test p regions union suc f env n e t b u fs σ)
     test_little f env n e t b u fs σ h =
         let is : Bool = is_use (is_fresh env) (while_do e 0 b) in
         value_little (value_by union env σ e) n σ fs (λ v. if is_zero v.num then Goes fs (Went (done is n u σ)) else begin f env b (Loop f env n e t b u ∷ fs) σ) h

@@ -137,7 +137,8 @@ module _ (p : TProgram) (regions : List TRegion) where
         (subst (λ l. IsPrefixOf l (said_in (marked_run p regions (samples_in (erase q ++ end))))) said_more
         (subst (λ l. IsPrefixOf (without_offs l) (said_in (marked_run p regions (samples_in l)))) added h.said))
 
-    module _ (v' : List ℤ) (es : List Event) (b : Begins es (marked_run p regions v').events) (is : samples_in (erase q ++ end) ≡ v') (tells : map (λ x. x.said) es ≡ without_offs (erase q ++ end)) where
+    module _ (v' : List ℤ) (es : List Event) (b : Begins es (marked_run p regions v').events) (is : samples_in (erase q ++ end) ≡ v')
+        (tells : map (λ x. x.said) es ≡ without_offs (erase q ++ end)) where
       pub honest_more : HasNoOffInside false (erase q) → AreTimely p (lived_from 0 (erase q ++ end) (unmarked es)) → ((how : Ending) → s ≡ Ended how → IsWhole p regions (q ++ end) nv)
           → IsHonestSoFar p regions nv (q ++ end)
       honest_more outside timely whole = record {

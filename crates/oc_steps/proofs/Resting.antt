@@ -82,7 +82,8 @@ module _ (t : ℕ) (s : Said) (k : IsQuiet s) where
       by (Ended a) k = absurd k
   same_lived n (i ∷ e) es = by i.said es (λ m fs. same_lived m e fs)
     where
-      by : (x : Said) (es : List Event) → ((m : ℕ) (fs : List Event) → lived_from m (e ++ end) fs ≡ lived_from m e fs) → lives x n es (λ m fs. lived_from m (e ++ end) fs) ≡ lives x n es (λ m fs. lived_from m e fs)
+      by : (x : Said) (es : List Event) → ((m : ℕ) (fs : List Event) → lived_from m (e ++ end) fs ≡ lived_from m e fs) → lives x n es (λ m fs. lived_from m (e ++ end) fs)
+          ≡ lives x n es (λ m fs. lived_from m e fs)
       by (Off m) es ih = ih (suc n) es
       by Dark es ih = ih n es
       by (Entered r) es ih = ih n es
@@ -110,7 +111,8 @@ module _ (t : ℕ) (s : Said) (k : IsQuiet s) where
       whole = λ how x. absurd ((quiet_adds s k).1 how (ends_so t s q x.0 x.1 (Ended how) x.2));
     }
 
-    way : (w : Way) (out' : Outcome) → ((before : ℕ → ℕ) (o : Outcome) → aged_outcome before (offs_in 0 (erase q)) o ≡ w.out → aged_outcome before (off_more s (offs_in 0 (erase q))) o ≡ out') → IsWay p regions (erase q) w → IsWay p regions (erase q ++ end) (record w { out = out' })
+    way : (w : Way) (out' : Outcome) → ((before : ℕ → ℕ) (o : Outcome) → aged_outcome before (offs_in 0 (erase q)) o ≡ w.out
+        → aged_outcome before (off_more s (offs_in 0 (erase q))) o ≡ out') → IsWay p regions (erase q) w → IsWay p regions (erase q ++ end) (record w { out = out' })
     way w out' f h = record {
       past = h.past;
       fs = h.fs;

@@ -3,13 +3,13 @@ use Rattle.std.proofs.Common.{◌≡◌, ℕ, suc, ℤ, Bool, List, [], ◌∷�
 use Rattle.std.specs.Prelude.{if◌then◌else◌}
 use Rattle.std.proofs.lemmas.List.{map-append}
 use Rattle.oc_tree.specs.Marked.{TRegion}
-use Rattle.oc_tree.specs.Tree.{TKind, let_to, let_array, assign, assign_index, assign_deref, if_else, for_in, while_do, call_only, sense_only, emit, fresh, consistent, return, TProgram}
+use Rattle.oc_tree.specs.Tree.{TKind, let_to, assign, assign_index, assign_deref, while_do, TProgram}
 use Rattle.oc_meaning.specs.Samples.{union}
 use Rattle.oc_meaning.specs.Store.{Value, Event, Store, Binding, replaced, held_at, place_of}
 use Rattle.oc_meaning.specs.Eval.{is_zero, element_of, value_of}
 use Rattle.oc_meaning.specs.Uses.{is_fresh, is_use, use_samples, begins_use}
 use Rattle.oc_meaning.specs.Blocks.{set_home}
-use Rattle.oc_meaning.specs.Exec.{Stop, Trap, Short, Outcome, Went, Returned, Stopped, with_value, then_do, done, closed, element_written, for_turns, while_turns, in_turn, used}
+use Rattle.oc_meaning.specs.Exec.{Trap, Short, Outcome, Went, Returned, Stopped, with_value, then_do, done, closed, element_written, for_turns, while_turns, in_turn, used}
 use Rattle.oc_meaning.specs.Traces.{MayBe}
 use Rattle.oc_meaning.specs.Run.{in_order, call_to, main_run, marked_run, said_in, trace_of}
 use Rattle.oc_steps.specs.Steps.{Inside, Frame, Rest, Use, Work, Done, Close, Take, Leave, Turns, Loop, Test, Back, Goes, Asks, Over, step, sensed}
@@ -20,7 +20,8 @@ use Rattle.oc_items.specs.Reports.{IsPrefixOf}
 use Rattle.oc_steps.specs.Heard.{cleared, told, Under}
 use Rattle.oc_steps.specs.Hearing.{GoesOn, TakesOne, BeginsIt, IsShort, IsOver, SaysOne, Hears}
 use Rattle.oc_steps.proofs.Keeping.{steps_keep}
-use Rattle.oc_meaning.proofs.Growing.{used_keeps, done_keeps, closed_keeps, put_keeps, value_keeps, then_keeps, result_keeps, finished_keeps, leave_keeps, element_keeps, for_keeps, either_keeps, while_keeps, kind_keeps, block_keeps, stmts_keeps, call_to_keeps}
+use Rattle.oc_meaning.proofs.Growing.{used_keeps, done_keeps, closed_keeps, put_keeps, value_keeps, then_keeps, result_keeps, finished_keeps, leave_keeps, element_keeps, for_keeps}
+use Rattle.oc_meaning.proofs.Growing.{either_keeps, while_keeps, kind_keeps, block_keeps, stmts_keeps, call_to_keeps}
 
 -- what each run keeps of its events, the frames keep
 module _ (P : List Event → Type 0) (more : (e : Event) (es : List Event) → P es → P (e ∷ es)) (p : TProgram) (regions : List TRegion) where
@@ -43,20 +44,25 @@ module _ (P : List Event → Type 0) (more : (e : Event) (es : List Event) → P
   block_grows f env b σ h = block_keeps P grows p.names regions (call_to p regions f.depth) (set_home f.body) (call_grows f.depth) env b σ h
 
   after_grows : (f : Frame) (o : Outcome) → P (events_in o) → P (events_in (after p regions f o))
-  after_grows (Rest f env ss) o h = then_keeps P grows o (stmts_in p regions f env ss) h (λ σ k. stmts_keeps P grows p.names regions (call_to p regions f.depth) (set_home f.body) (call_grows f.depth) env ss σ k)
+  after_grows (Rest f env ss) o h = then_keeps P grows o (stmts_in p regions f env ss) h
+      (λ σ k. stmts_keeps P grows p.names regions (call_to p regions f.depth) (set_home f.body) (call_grows f.depth) env ss σ k)
   after_grows (Use f env n u k) o h =
       then_keeps P grows o (λ σ. kind_in p regions f env n k (used (begins_use (is_fresh env) k) n u σ)) h
-      (λ σ l. kind_keeps P grows p.names regions (call_to p regions f.depth) (set_home f.body) (call_grows f.depth) env n k (used (begins_use (is_fresh env) k) n u σ) (used_keeps P grows (begins_use (is_fresh env) k) n u σ l))
-  after_grows (Work f env n k) o h = then_keeps P grows o (kind_in p regions f env n k) h (λ σ l. kind_keeps P grows p.names regions (call_to p regions f.depth) (set_home f.body) (call_grows f.depth) env n k σ l)
+      (λ σ l. kind_keeps P grows p.names regions (call_to p regions f.depth) (set_home f.body) (call_grows f.depth) env n k (used (begins_use (is_fresh env) k) n u σ)
+      (used_keeps P grows (begins_use (is_fresh env) k) n u σ l))
+  after_grows (Work f env n k) o h = then_keeps P grows o (kind_in p regions f env n k) h
+      (λ σ l. kind_keeps P grows p.names regions (call_to p regions f.depth) (set_home f.body) (call_grows f.depth) env n k σ l)
   after_grows (Done is n u) o h = finished_keeps P grows o (done is n u) h (λ σ l. done_keeps P grows is n u σ l)
   after_grows (Close r) o h = finished_keeps P grows o (closed r) h (λ σ l. closed_keeps P grows r σ l)
   after_grows (Take env n k) o h = result_keeps P grows o (give env n k) h (λ v σ l. give_grows env n k v σ l)
   after_grows (Leave n) o h = leave_keeps P grows n o h
   after_grows (Turns f x t i b env) o h =
-      then_keeps P grows o (for_turns t i (λ i. block_in p regions f (in_turn x i ∷ env) b)) h (λ σ l. for_keeps P grows t i (λ i. block_in p regions f (in_turn x i ∷ env) b) σ l (λ j τ m. block_grows f (in_turn x j ∷ env) b τ m))
+      then_keeps P grows o (for_turns t i (λ i. block_in p regions f (in_turn x i ∷ env) b)) h
+      (λ σ l. for_keeps P grows t i (λ i. block_in p regions f (in_turn x i ∷ env) b) σ l (λ j τ m. block_grows f (in_turn x j ∷ env) b τ m))
   after_grows (Loop f env n c t b u) o h =
       then_keeps P grows o (while_turns t n (is_use (is_fresh env) (while_do c 0 b)) (use_samples env (while_do c 0 b)) (λ τ. value_of env τ c) (block_in p regions f env b) u) h
-      (λ σ l. while_keeps P grows t n (is_use (is_fresh env) (while_do c 0 b)) (use_samples env (while_do c 0 b)) (λ τ. value_of env τ c) (block_in p regions f env b) u σ l (λ τ m. block_grows f env b τ m))
+      (λ σ l. while_keeps P grows t n (is_use (is_fresh env) (while_do c 0 b)) (use_samples env (while_do c 0 b)) (λ τ. value_of env τ c) (block_in p regions f env b) u σ l
+      (λ τ m. block_grows f env b τ m))
   after_grows (Test f env n c t b u) o h =
       let is : Bool = is_use (is_fresh env) (while_do c 0 b) in
       let rest : Store → Outcome = while_turns t n is (use_samples env (while_do c 0 b)) (λ τ. value_of env τ c) (block_in p regions f env b) u in

@@ -1,5 +1,6 @@
 -- A tag of a consistent set more.
-use Rattle.std.proofs.Common.{◌≡◌, ◌<◌, ◌≤◌, ℕ, ℤ, Bool, true, false, List, [], ◌∷◌, ◌++◌, length, get_or, Option, Some, None, refl, sym, ap, ◌∙◌, subst, inl, inr, ⊎_elim, arith, nat_lt, ltb-true, ltb-false, eqb-true, eq-eqb}
+use Rattle.std.proofs.Common.{◌≡◌, ◌<◌, ◌≤◌, ℕ, ℤ, Bool, true, false, List, [], ◌∷◌, ◌++◌, length, get_or, Option, Some, None, refl, sym, ap, ◌∙◌, subst, inl, inr, ⊎_elim, arith}
+use Rattle.std.proofs.Common.{nat_lt, ltb-true, ltb-false, eqb-true, eq-eqb}
 use Rattle.std.specs.Prelude.{◌⊎◌, ◌==◌, ◌&&◌, find, if◌then◌else◌}
 use Rattle.std.specs.Ordering.{int_eq}
 use Rattle.std.proofs.lemmas.Bool.Decides.{Decides-int_eq}
@@ -168,8 +169,15 @@ module _ (p : TProgram) (all : List Lived) (table : List ℕ) (sets : List Insta
       by : (a : List ℕ) → e.samples ≡ a → (x : ℕ) × IsOf x e.samples × IsAt table j x
       by [] h = absurd (subst (IsOf j) (ages_tell.none (λ i. get_or table i 0) u0.event.samples (age (λ i. get_or table i 0) (λ i l. refl) ∙ h)) s)
       by (x ∷ []) h =
-          let at : HasAge table u0.event.samples (x ∷ []) = λ before a. age before a ∙ h in
-          (x, subst (IsOf x) (sym h) (inl refl), (ages_tell.within table u0.event.samples x at j s, ages_tell.each (λ i. get_or table i 0) u0.event.samples x (at (λ i. get_or table i 0) (λ i l. refl)) j s))
+          let at : HasAge table u0.event.samples (x ∷ []) = λ before a. age before a ∙ h in (
+            x,
+            subst (IsOf x) (sym h) (inl refl),
+            (
+              ages_tell.within table u0.event.samples x at j s,
+              ages_tell.each (λ i. get_or table i 0) u0.event.samples x
+                  (at (λ i. get_or table i 0) (λ i l. refl)) j s,
+            ),
+          )
       by (x ∷ y ∷ w) h = absurd (mixes old (subst (λ a. is_one (join_ages old a) ≡ true) h o))
         where
           mixes : (b : List ℕ) → is_one (join_ages b (x ∷ y ∷ w)) ≡ true → ⊥
@@ -315,7 +323,8 @@ module _ (p : TProgram) (all : List Lived) (table : List ℕ) (sets : List Insta
           let is : i ≡ new = own j i w f in
           let h : IsOf x joined = subst (λ y. IsOf x y.age) is m in
           let num : e.instance ≡ i.number = sym (ap (λ y. y.number) is) in
-          subst (λ q. IsAged p all' table j q x) num (subst (λ y. IsAged p all' table y e.instance x) (sym w) (⊎_elim (from_old (find (is_set k) sets) refl) from_new (join-either old e.samples x o h)))
+          subst (λ q. IsAged p all' table j q x) num
+          (subst (λ y. IsAged p all' table y e.instance x) (sym w) (⊎_elim (from_old (find (is_set k) sets) refl) from_new (join-either old e.samples x o h)))
         where
           from_old : (q : Option Instance) → find (is_set k) sets ≡ q → IsOf x (age_at e.instance q) → IsAged p all' table k e.instance x
           from_old None f h = absurd h

@@ -7,7 +7,8 @@ use Rattle.oc_meaning.specs.Store.{Value, Event, Store, Binding, holding, replac
 use Rattle.oc_meaning.specs.Eval.{is_zero, element_of, value_of}
 use Rattle.oc_meaning.specs.Uses.{is_fresh, is_use, use_samples, begins_use}
 use Rattle.oc_meaning.specs.Blocks.{set_home}
-use Rattle.oc_meaning.specs.Exec.{Short, Outcome, Went, Returned, Stopped, with_value, then_do, with_result, finished, leave, closed, used, done, element_written, for_turns, while_turns, in_turn, kind_run, block_run, stmts_run}
+use Rattle.oc_meaning.specs.Exec.{Short, Outcome, Went, Returned, Stopped, with_value, then_do, with_result, finished, leave, closed, used, done, element_written, for_turns}
+use Rattle.oc_meaning.specs.Exec.{while_turns, in_turn, kind_run, block_run, stmts_run}
 use Rattle.oc_meaning.specs.Run.{call_to}
 use Rattle.oc_steps.specs.Steps.{Inside, Frame, Rest, Use, Work, Done, Close, Take, Leave, Turns, Loop, Test, Back, Step, Goes, Asks, Over, step, sensed}
 

@@ -1,5 +1,5 @@
 -- Samples stay within the flow, at each statement of each function, however deep calls go.
-use Rattle.std.proofs.Common.{◌≡◌, ℕ, zero, suc, ◌+◌, Bool, true, true≢false, List, [], ◌∷◌, ◌++◌, map, length, Some, refl, sym, ap, ◌∙◌, subst, arith}
+use Rattle.std.proofs.Common.{◌≡◌, ℕ, zero, suc, ◌+◌, true, true≢false, List, [], ◌∷◌, ◌++◌, map, length, Some, refl, sym, ◌∙◌, subst, arith}
 use Rattle.std.specs.Prelude.{slice_get, nat_lt, ◌&&◌}
 use Rattle.oc_tree.specs.Tree.{TFunction, TProgram}
 use Rattle.oc_tree.specs.Numbers.{block_statements}
@@ -7,16 +7,14 @@ use Rattle.oc_tree.specs.Places.{Placed, at_start, block_placed}
 use Rattle.oc_tree.specs.Marked.{TMarked, IsMarked}
 use Rattle.oc_tree.specs.declared.tree.VarId.TheVariants as variables
 use Rattle.oc_meaning.specs.Blocks.{set_home}
-use Rattle.oc_meaning.specs.Store.{Store, Binding}
-use Rattle.oc_meaning.specs.Exec.{Outcome, Went, Returned, Stopped, Passed, block_run}
+use Rattle.oc_meaning.specs.Store.{Store}
+use Rattle.oc_meaning.specs.Exec.{Outcome, Went, Returned, Stopped}
 use Rattle.oc_meaning.specs.Run.{call_to}
 use Rattle.oc_effects.specs.Effects.{TEffect, effects_at, params_at}
 use Rattle.oc_flow.specs.Variables.{is_among, variables as all_variables, is_variable, from}
 use Rattle.oc_tree.specs.Members.{IsOf}
-use Rattle.oc_copies.specs.Copies.{HasStored, own_frame, own_run}
-use Rattle.oc_copies.specs.Stands.{AreFormed}
-use Rattle.oc_timely.specs.Within.{Where, start_where, AnyOf}
-use Rattle.oc_timely.specs.Steps.{AreTaken}
+use Rattle.oc_copies.specs.Copies.{own_frame, own_run}
+use Rattle.oc_timely.specs.Within.{start_where, AnyOf}
 use Rattle.oc_timely.specs.Modes.{Among, PairedBlock}
 use Rattle.oc_timely.proofs.Beginning.{both_true}
 use Rattle.oc_timely.proofs.CallsGoes.{FlowsOut, RunsFlow, calls_go}
@@ -24,7 +22,6 @@ use Rattle.oc_timely.proofs.Distinct.{checked_sees}
 use Rattle.oc_timely.specs.Modes.{AllFlows}
 use Rattle.oc_timely.proofs.Flowing.{Known, block_goes, all_flows}
 use Rattle.oc_timely.proofs.Gives.{block_gives}
-use Rattle.oc_timely.proofs.Going.{BlockGone}
 use Rattle.oc_timely.proofs.Known.{static_of}
 use Rattle.oc_timely.proofs.Laying.{bodies_laid}
 use Rattle.oc_timely.proofs.NamedAll.{checked_named}

@@ -43,7 +43,8 @@ module _ (p : TProgram) (policies : ℕ) (regions : List TRegion) (are : AreRegi
   clash r q s j b d e =
       let low = d.low in let high = d.high in let low' = e.low in
       let same : r.block ≡ q.block = some_is r.block q.block (sym d.there ∙ e.there) in
-      let inside : is_in_region p r q.first ≡ true = of_direct p r q.first (record { there = (its q j).first_there ∙ ap Some (sym same); low = let k = b.0 in omega (arith, k); high = omega (arith, low', high) }) in
+      let inside : is_in_region p r q.first ≡ true =
+      of_direct p r q.first (record { there = (its q j).first_there ∙ ap Some (sym same); low = let k = b.0 in omega (arith, k); high = omega (arith, low', high) }) in
       true≢false (sym (first_any (is_in_region p r q.first) (list_any (is_in_region p r) (around (placed p q.first))) inside) ∙ b.1)
 
   pub one_region : (r q : TRegion) (s : ℕ) → IsOf r regions → IsOf q regions → is_in_region p r s ≡ true → is_in_region p q s ≡ true → r ≡ q

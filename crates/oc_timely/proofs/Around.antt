@@ -1,11 +1,13 @@
 -- What the statics take of numbers: what is around a statement has a lower number, the outermost the lowest.
-use Rattle.std.proofs.Common.{◌≡◌, ◌⊎◌, inl, inr, ℕ, zero, suc, ◌+◌, ◌<◌, ◌≤◌, Bool, true, false, true≢false, List, [], ◌∷◌, ◌++◌, map, length, Option, Some, None, nat_eq, cond, refl, sym, ap, ◌∙◌, subst, arith}
+use Rattle.std.proofs.Common.{◌≡◌, ◌⊎◌, inl, inr, ℕ, zero, suc, ◌+◌, ◌<◌, ◌≤◌, Bool, true, false, true≢false, List, [], ◌∷◌, ◌++◌, map, length, Option, Some, None, nat_eq, cond}
+use Rattle.std.proofs.Common.{refl, sym, ap, ◌∙◌, subst, arith}
 use Rattle.std.specs.Prelude.{◌==◌, ◌&&◌, not, slice_get, find, flat_map}
 use Rattle.std.specs.List.{list_any}
 use Rattle.std.proofs.Math.ListN.{get_or}
 use Rattle.std.proofs.lemmas.Bool.{eqb-true}
 use Rattle.std.proofs.lemmas.Option.{none-some, same_Some}
-use Rattle.oc_tree.specs.Tree.{TKind, let_to, let_array, assign, assign_index, assign_deref, if_else, for_in, while_do, call_only, sense_only, emit, fresh, consistent, return, TElse, no_else, else_do, stmt, TBlock, block, TStmts, no_stmts, more, TFunction, TProgram}
+use Rattle.oc_tree.specs.Tree.{TKind, let_to, let_array, assign, assign_index, assign_deref, if_else, for_in, while_do, call_only, sense_only, emit, fresh, consistent, return}
+use Rattle.oc_tree.specs.Tree.{TElse, no_else, else_do, stmt, TBlock, block, TStmts, no_stmts, more, TFunction, TProgram}
 use Rattle.oc_tree.specs.Numbers.{kind_statements, else_statements, block_statements, stmts_statements, program_statements}
 use Rattle.oc_tree.specs.Places.{Place, Placed, in_branch, in_loop, behind, kind_placed, else_placed, block_placed, stmts_placed, at_start, program_placed, placed}
 use Rattle.oc_tree.specs.Marked.{around}
@@ -114,7 +116,8 @@ functions_nested : (i : ℕ) (fs : List TFunction) → Follow i (flat_map (λ f.
 functions_nested i [] h q o = absurd o
 functions_nested i (f ∷ fs) h q o =
     let s = parts i (block_statements f.body) (flat_map (λ z. block_statements z.body) fs) h in
-    by (in_append q (block_placed (at_start f) f.body) (flat_map (λ z. block_placed (at_start z) z.body) fs) o) (block_nested i (at_start f) f.body (none_around i) s.0 q) (functions_nested (i + length (block_statements f.body)) fs s.1 q)
+    by (in_append q (block_placed (at_start f) f.body) (flat_map (λ z. block_placed (at_start z) z.body) fs) o) (block_nested i (at_start f) f.body (none_around i) s.0 q)
+    (functions_nested (i + length (block_statements f.body)) fs s.1 q)
   where
     by : {A B C : Type 0} → A ⊎ B → (A → C) → (B → C) → C
     by (inl x) f g = f x

@@ -3,7 +3,8 @@ use Rattle.std.proofs.Common.{◌≡◌, inl, inr, ◌<◌, ◌≤◌, ℕ, zero
 use Rattle.std.specs.Prelude.{ℤ, ◌||◌, slice_get, option_map, option_and_then}
 use Rattle.std.proofs.lemmas.Option.{same_Some}
 use Rattle.oc_tree.specs.Names.{Text}
-use Rattle.oc_tree.specs.Tree.{call, TKind, let_to, let_array, assign, assign_index, assign_deref, if_else, for_in, while_do, call_only, sense_only, emit, fresh, consistent, return, TElse, no_else, else_do, stmt, TBlock, block, TStmts, no_stmts, more, TFunction, TProgram}
+use Rattle.oc_tree.specs.Tree.{call, TKind, let_to, let_array, assign, assign_index, assign_deref, if_else, for_in, while_do, call_only, sense_only, emit, fresh, consistent}
+use Rattle.oc_tree.specs.Tree.{return, TElse, no_else, else_do, stmt, TBlock, block, TStmts, no_stmts, more, TFunction, TProgram}
 use Rattle.oc_tree.specs.declared.tree.VarId.TheVariants as variables
 use Rattle.oc_tree.specs.Calls.{function_place}
 use Rattle.oc_tree.specs.Checked.{Group, IsChecked}
@@ -77,7 +78,12 @@ module _ (p : TProgram) (groups : List Group) (checked : IsChecked p groups) (ra
 
       mutual
         pub kind_fits : (i : Bool) (spot : Spot) (id : ℕ) (s : TKind) → AllFit i (kind_placed spot id s) → KindFits p f g k older c own regions call_at home i s
-        kind_fits i spot id (if_else d a b) h = (block_fits i (in_branch spot id) a (λ z o. h z (of_left z (block_placed (in_branch spot id) a) (else_placed (in_branch spot id) b) o)), else_fits i (in_branch spot id) b (λ z o. h z (of_right z (block_placed (in_branch spot id) a) (else_placed (in_branch spot id) b) o)))
+        kind_fits i spot id (if_else d a b) h = (
+          block_fits i (in_branch spot id) a
+              (λ z o. h z (of_left z (block_placed (in_branch spot id) a) (else_placed (in_branch spot id) b) o)),
+          else_fits i (in_branch spot id) b
+              (λ z o. h z (of_right z (block_placed (in_branch spot id) a) (else_placed (in_branch spot id) b) o)),
+        )
         kind_fits i spot id (for_in x m n b) h = block_fits i (in_loop spot id ((x, variables.Declared id) ∷ [])) b h
         kind_fits i spot id (while_do d t b) h = block_fits i (in_loop spot id []) b h
         kind_fits i spot id s h = tt
@@ -91,8 +97,12 @@ module _ (p : TProgram) (groups : List Group) (checked : IsChecked p groups) (ra
 
         pub stmts_fit : (i : Bool) (spot : Spot) (ss : TStmts) → AllFit i (stmts_placed spot ss) → StmtsFit p f g k older c own regions call_at home i ss
         stmts_fit i spot no_stmts h = tt
-        stmts_fit i spot (more (stmt id line s) rest) h =
-            (h _ (inl refl) i (λ e. e), kind_fits i spot id s (λ z o. h z (inr (of_left z (kind_placed spot id s) (stmts_placed (behind spot id s) rest) o))), stmts_fit i (behind spot id s) rest (λ z o. h z (inr (of_right z (kind_placed spot id s) (stmts_placed (behind spot id s) rest) o))))
+        stmts_fit i spot (more (stmt id line s) rest) h = (
+          h _ (inl refl) i (λ e. e),
+          kind_fits i spot id s (λ z o. h z (inr (of_left z (kind_placed spot id s) (stmts_placed (behind spot id s) rest) o))),
+          stmts_fit i
+              (behind spot id s) rest (λ z o. h z (inr (of_right z (kind_placed spot id s) (stmts_placed (behind spot id s) rest) o))),
+        )
 
     leaves : (i : Bool) (n : ℕ) (o : Outcome) → SinceOut p f g k older c own i o → SinceOut p f g k older c own i (leave n o)
     leaves i n (Went τ) h = since_like p f g k older c own i τ _ refl refl h
@@ -108,7 +118,8 @@ module _ (p : TProgram) (groups : List Group) (checked : IsChecked p groups) (ra
         let fr : Frame = with_params h.params ps (record { env = nv_env 0 p.names.nvs; locals = σ.locals }) in
         leaves i (length σ.locals) (block_run p.names regions (call_to p regions depth) (set_home h.body) fr.env h.body (record σ { locals = fr.locals }))
         (block_since p f g k older c own regions (call_to p regions depth) (set_home h.body) i fr.env h.body (record σ { locals = fr.locals })
-        (block_fits (call_to p regions depth) (set_home h.body) i (at_start h) h.body (λ b o j t. fits depth calls q.0 h q.2 (omega (arith, l)) b o j (λ y d n. absurd (let m : ranked.rank q.0 ≡ ranked.rank f = ap ranked.rank n in omega (arith, l, m)))))
+        (block_fits (call_to p regions depth) (set_home h.body) i (at_start h) h.body
+        (λ b o j t. fits depth calls q.0 h q.2 (omega (arith, l)) b o j (λ y d n. absurd (let m : ranked.rank q.0 ≡ ranked.rank f = ap ranked.rank n in omega (arith, l, m)))))
         (since_like p f g k older c own i σ (record σ { locals = fr.locals }) refl refl s))
 
     pub calls_away : (depth : ℕ) → CallsAway depth

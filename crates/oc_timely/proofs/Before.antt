@@ -1,10 +1,11 @@
 -- What is visible at a statement was declared by an earlier one.
-use Rattle.std.proofs.Common.{◌≡◌, ◌⊎◌, inl, inr, ℕ, suc, ◌+◌, ◌<◌, ◌≤◌, Bool, true, false, List, [], ◌∷◌, ◌++◌, length, Option, Some, None, cond, refl, sym, ◌∙◌, subst, ap, arith, append-nil}
+use Rattle.std.proofs.Common.{◌≡◌, ◌⊎◌, inl, inr, ℕ, suc, ◌+◌, ◌<◌, ◌≤◌, Bool, true, false, List, [], ◌∷◌, ◌++◌, length, Option, Some, None, cond, refl, sym, ◌∙◌, subst, arith, append-nil}
 use Rattle.std.specs.Prelude.{slice_get}
 use Rattle.std.specs.Str.{bytes_eq}
 use Rattle.std.proofs.lemmas.Option.{none-some}
 use Rattle.oc_tree.specs.Names.{Text}
-use Rattle.oc_tree.specs.Tree.{TKind, let_to, let_array, assign, assign_index, assign_deref, if_else, for_in, while_do, call_only, sense_only, emit, fresh, consistent, return, TElse, no_else, else_do, stmt, TBlock, block, TStmts, no_stmts, more, TFunction, TProgram}
+use Rattle.oc_tree.specs.Tree.{TKind, let_to, let_array, assign, assign_index, assign_deref, if_else, for_in, while_do, call_only, sense_only, emit, fresh, consistent, return}
+use Rattle.oc_tree.specs.Tree.{TElse, no_else, else_do, stmt, TBlock, block, TStmts, no_stmts, more, TFunction, TProgram}
 use Rattle.oc_tree.specs.declared.tree.Param.{Param}
 use Rattle.oc_tree.specs.declared.tree.VarId.{VarId}
 use Rattle.oc_tree.specs.declared.tree.VarId.TheVariants as variables
@@ -91,7 +92,8 @@ mutual
       let inside : Follow (suc id) (kind_statements k) = subst (λ n. Follow (suc n) (kind_statements k)) (sym own.0) own.1 in
       let low : suc id ≤ next = (let e = own.0 in omega (arith, e)) in
       either o (λ (e : q ≡ record { id = id; line = line; kind = k; at = at }). subst Declares (sym e) here)
-      (λ j. either (in_append q (kind_placed at id k) (stmts_placed (behind at id k) ss) j) (kind_before id at k here inside q) (stmts_before next (behind at id k) ss (on_behind id next at.variables k low here) s.1 q))
+      (λ j. either (in_append q (kind_placed at id k) (stmts_placed (behind at id k) ss) j) (kind_before id at k here inside q)
+      (stmts_before next (behind at id k) ss (on_behind id next at.variables k low here) s.1 q))
 
 -- parameters are declared by no statement
 none_declared : (i : ℕ) (qs : List Param) (y : Text) (s : ℕ) → find_variable (param_variables i qs) y ≡ Some (variables.Declared s) → ⊥

@@ -53,7 +53,8 @@ found_at w env y (Some v) = w v
 -- one parameter more
 named_one : (w : Where) (old : List Binding) (b : Binding) (i : ℕ) (qs : List Param) (y : Text) (at : Place) → b.place ≡ w (variables.Param i) →
     find_variable (param_variables (i + 1) qs) b.name ≡ None →
-    at ≡ found_at w (b ∷ old) y (find_variable (param_variables (i + 1) qs) y) → (c : Bool) → bytes_eq y b.name ≡ c → at ≡ found_at w old y (cond c (Some (variables.Param i)) (find_variable (param_variables (i + 1) qs) y))
+    at ≡ found_at w (b ∷ old) y (find_variable (param_variables (i + 1) qs) y) → (c : Bool) → bytes_eq y b.name ≡ c
+    → at ≡ found_at w old y (cond c (Some (variables.Param i)) (find_variable (param_variables (i + 1) qs) y))
 named_one w old b i qs y at its none rest true e =
     rest ∙ ap (found_at w (b ∷ old) y) (ap (find_variable (param_variables (i + 1) qs)) ((bytes_eq-Decides y b.name).0 e) ∙ none) ∙ ap (λ c. (if c then b else binding_of old y).place) e ∙ its
 named_one w old b i qs y at its none rest false e = rest ∙ last (find_variable (param_variables (i + 1) qs) y)
@@ -104,7 +105,9 @@ nv_named w total n [] few nvs y = refl
 nv_named w total n (x ∷ xs) few nvs y =
     by (bytes_eq y x) (subst (λ m. place_of (nv_env m xs) y ≡ place_in w (option_map variables.Nv (place_from (n + 1) xs y))) (omega arith) (nv_named w total (n + 1) xs (omega (arith, few)) nvs y))
   where
-    by : (c : Bool) → place_of (nv_env (suc n) xs) y ≡ place_in w (option_map variables.Nv (place_from (n + 1) xs y)) → (if c then record { name = x; place = Global n; reference = false; fresh = false } else binding_of (nv_env (suc n) xs) y).place ≡ place_in w (option_map variables.Nv (cond c (Some n) (place_from (n + 1) xs y)))
+    by : (c : Bool) → place_of (nv_env (suc n) xs) y ≡ place_in w (option_map variables.Nv (place_from (n + 1) xs y))
+        → (if c then record { name = x; place = Global n; reference = false; fresh = false } else binding_of (nv_env (suc n) xs) y).place
+        ≡ place_in w (option_map variables.Nv (cond c (Some n) (place_from (n + 1) xs y)))
     by true h = sym (nvs n (omega (arith, few)))
     by false h = h
 
@@ -115,7 +118,8 @@ module _ (p : TProgram) (f : ℕ) (g : TFunction) (inside : nat_lt f (length p.f
   has_nv i h = both_true _ _ inside (among_front (variables.Nv i) (map variables.Nv (from 0 (length p.names.nvs))) _ (from_has variables.Nv 0 (length p.names.nvs) i (omega arith) (omega (arith, h))))
 
   has_param : (i : ℕ) → i < length (params_at p f) → is_variable p f (variables.Param i) ≡ true
-  has_param i h = both_true _ _ inside (among_back (variables.Param i) (map variables.Nv (from 0 (length p.names.nvs))) _ (among_front (variables.Param i) (map variables.Param (from 0 (length (params_at p f)))) _ (from_has variables.Param 0 (length (params_at p f)) i (omega arith) (omega (arith, h)))))
+  has_param i h = both_true _ _ inside (among_back (variables.Param i) (map variables.Nv (from 0 (length p.names.nvs))) _
+      (among_front (variables.Param i) (map variables.Param (from 0 (length (params_at p f)))) _ (from_has variables.Param 0 (length (params_at p f)) i (omega arith) (omega (arith, h)))))
 
   module _ (base : ℕ) where
     abbrev w : Where

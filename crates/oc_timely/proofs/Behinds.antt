@@ -1,41 +1,45 @@
 -- A straight statement goes through: with what is seen behind it.
-use Rattle.std.proofs.Common.{◌≡◌, ◌⊎◌, inl, inr, ℕ, suc, ◌+◌, ◌<◌, ◌≤◌, Bool, true, false, List, [], ◌∷◌, ◌++◌, length, Option, Some, None, refl, sym, ap, ◌∙◌, subst, arith, append-nil}
+use Rattle.std.proofs.Common.{◌≡◌, ◌⊎◌, inl, inr, ℕ, suc, ◌+◌, ◌<◌, ◌≤◌, true, List, [], ◌∷◌, ◌++◌, length, Some, None, refl, sym, ap, ◌∙◌, subst, arith, append-nil}
 use Rattle.std.specs.Prelude.{ℤ, cond}
-use Rattle.std.specs.Str.{bytes_eq}
 use Rattle.std.proofs.lemmas.Slice.Eq.{bytes_eq-Decides}
 use Rattle.oc_tree.specs.Names.{Text}
-use Rattle.oc_tree.specs.Tree.{TKind, let_to, let_array, assign, assign_index, assign_deref, if_else, for_in, while_do, call_only, sense_only, emit, fresh, consistent, return, stmt, TBlock, TStmts, more, TProgram}
-use Rattle.oc_tree.specs.Places.{Place as Spot, Placed, find_variable, or_nonvolatile, behind, in_loop, stmts_placed, kind_placed}
+use Rattle.oc_tree.specs.Tree.{TKind, let_to, let_array, assign, assign_index, assign_deref, if_else, for_in, while_do, call_only, sense_only, emit, fresh, consistent, return}
+use Rattle.oc_tree.specs.Tree.{stmt, TBlock, TStmts, more, TProgram}
+use Rattle.oc_tree.specs.Places.{Place as Spot, Placed, find_variable, or_nonvolatile, behind, in_loop, stmts_placed}
 use Rattle.oc_tree.specs.Marked.{TRegion}
 use Rattle.oc_tree.specs.declared.tree.VarId.TheVariants as variables
 use Rattle.oc_tree.specs.declared.marked.PolicyKind.TheVariants as kinds
 use Rattle.oc_meaning.specs.Uses.{is_annotated}
 use Rattle.oc_meaning.specs.Store.{Local, Turn, Store, Binding}
-use Rattle.oc_meaning.specs.Exec.{Outcome, Went, Passed, bound_to, in_turn, grown, kind_run}
+use Rattle.oc_meaning.specs.Exec.{Outcome, Went, Passed, bound_to, in_turn, kind_run}
 use Rattle.oc_flow.specs.Variables.{is_variable}
 use Rattle.oc_tree.specs.Members.{IsOf}
 use Rattle.oc_needs.specs.Policies.{policies}
 use Rattle.oc_copies.specs.Copies.{HasStored}
-use Rattle.oc_copies.specs.Stands.{Stands, makes}
+use Rattle.oc_copies.specs.Stands.{Stands}
 use Rattle.oc_timely.specs.Scopes.{var_declared, scope_of}
 use Rattle.oc_timely.proofs.Scopes.{stands_let, stands_turn}
-use Rattle.oc_timely.specs.Within.{Where, Came}
+use Rattle.oc_timely.specs.Within.{Where}
 use Rattle.oc_timely.specs.Steps.{AreTaken}
-use Rattle.oc_timely.specs.Modes.{Sees, IsSteady, Goes, In, Among, own_placed, with_place, where_behind}
+use Rattle.oc_timely.specs.Modes.{Sees, Goes, In, Among, own_placed, with_place, where_behind}
 use Rattle.oc_timely.proofs.Marks.{sees_length, sees_later, sees_spot}
 use Rattle.oc_timely.proofs.Straight.{IsStraight}
 use Rattle.oc_timely.proofs.Writes.{came_wider}
 use Rattle.oc_timely.proofs.SeesOn.{AreNamed, sees_more, annotated, find_not}
-use Rattle.oc_timely.proofs.StraightGoes.{IsThis, CallsGo, Leaves, straight_leaves}
+use Rattle.oc_timely.proofs.StraightGoes.{IsThis, CallsGo, straight_leaves}
 
 module _ (p : TProgram) (regions : List TRegion) (call : Text → List Passed → Store → Outcome) (home : ℤ → ℕ) (f base : ℕ) (body : List Placed) (names : AreNamed p f body) where
   -- behind a `let`
   let_sees : (spot : Spot) (id line : ℕ) (k : TKind) (x : Text) (rest : TStmts) → IsOf (record { id = id; line = line; kind = k; at = spot }) body → find_variable spot.variables x ≡ None →
       ((y : Text) (s : ℕ) → find_variable spot.variables y ≡ Some (variables.Declared s) → s < id) →
-      is_variable p f (variables.Declared id) ≡ true → (behind spot id k).variables ≡ spot.variables ++ (x, variables.Declared id) ∷ [] → ((z : Placed) → IsOf z (stmts_placed (behind spot id k) rest) → IsOf z body) →
-      (env : List Binding) (w : Where) (first σ υ : Store) → length first.locals ≡ length σ.locals → length υ.locals ≡ 1 + length σ.locals → Sees p f base id spot env w σ → Sees p f base (suc id) (behind spot id k) (bound_to x rest first ∷ env) (with_place w id (Local (length first.locals))) υ
+      is_variable p f (variables.Declared id) ≡ true → (behind spot id k).variables ≡ spot.variables ++ (x, variables.Declared id) ∷ []
+      → ((z : Placed) → IsOf z (stmts_placed (behind spot id k) rest) → IsOf z body) →
+      (env : List Binding) (w : Where) (first σ υ : Store) → length first.locals ≡ length σ.locals → length υ.locals ≡ 1 + length σ.locals → Sees p f base id spot env w σ
+      → Sees p f base (suc id) (behind spot id k) (bound_to x rest first ∷ env) (with_place w id (Local (length first.locals))) υ
   let_sees spot id line k x rest one none before known grows sub env w first σ υ same many sees =
-      sees_more p f base id spot (behind spot id k) env w σ υ (bound_to x rest first) grows none before known (inl (ap Local same, omega (arith, many))) (omega (arith, many)) noted (subst (λ vs. Stands p (scope_of p f vs) (bound_to x rest first ∷ env) υ) (sym grows) (stands_let p f spot.variables env σ υ id sees.stands x rest first none same (omega (arith, many)))) sees
+      sees_more p f base id spot (behind spot id k) env w σ υ (bound_to x rest first) grows none before known (inl (ap Local same, omega (arith, many))) (omega (arith, many)) noted
+      (subst (λ vs. Stands p (scope_of p f vs) (bound_to x rest first ∷ env) υ) (sym grows)
+      (stands_let p f spot.variables env σ υ id sees.stands x rest first none same (omega (arith, many)))) sees
     where
       found : find_variable (behind spot id k).variables x ≡ Some (variables.Declared id)
       found =
@@ -55,7 +59,9 @@ module _ (p : TProgram) (regions : List TRegion) (call : Text → List Passed �
       (env : List Binding) (w : Where) (σ : Store) (i : ℤ) → Sees p f base id spot env w σ →
       Sees p f base (suc id) (in_loop spot id ((x, variables.Declared id) ∷ [])) (in_turn x i ∷ env) (with_place w id (Turn i)) σ
   turn_sees spot id line x c d b one env w σ i sees =
-      sees_more p f base id spot (in_loop spot id ((x, variables.Declared id) ∷ [])) env w σ σ (in_turn x i) refl (names.unused _ x one refl) (λ y s. names.before _ y s one) (names.declared _ one refl) (inr (i, refl)) (omega arith) (λ h. absurd (cc)) (stands_turn p f spot.variables env σ σ id sees.stands x i (names.unused _ x one refl) (ap (var_declared p (scope_of p f spot.variables)) (names.found _ one))) sees
+      sees_more p f base id spot (in_loop spot id ((x, variables.Declared id) ∷ [])) env w σ σ (in_turn x i) refl (names.unused _ x one refl) (λ y s. names.before _ y s one)
+      (names.declared _ one refl) (inr (i, refl)) (omega arith) (λ h. absurd (cc))
+      (stands_turn p f spot.variables env σ σ id sees.stands x i (names.unused _ x one refl) (ap (var_declared p (scope_of p f spot.variables)) (names.found _ one))) sees
 
   module _ (calls : CallsGo p regions call home f base body) where
     pub straight_goes : (spot : Spot) (id line : ℕ) (k : TKind) (rest : TStmts) → IsStraight k → In p regions call home f base body (stmts_placed spot (more (stmt id line k) rest)) →
@@ -63,37 +69,116 @@ module _ (p : TProgram) (regions : List TRegion) (call : Text → List Passed �
         kind_run p.names regions call home env id k σ ≡ Went υ → Goes p regions call home f base body spot id line k rest env w first σ υ
     straight_goes spot id line (let_to m x t r) rest s sub env w first σ υ same sees taken stored e =
         let l = straight_leaves p regions call home f base body names calls spot id line (let_to m x t r) s (sub _ (inl refl)) env w first σ υ same sees taken stored e in
-        record { came = came_wider p f base (IsThis p regions call home f base body (record { id = id; line = line; kind = let_to m x t r; at = spot })) (Among p (own_placed spot id line (let_to m x t r))) (λ a i. (_, inl refl, i)) w (where_behind w id (let_to m x t r) first) σ υ l.came; sees = let_sees spot id line (let_to m x t r) x rest (sub _ (inl refl)) (names.unused _ x (sub _ (inl refl)) refl) (λ y s. names.before _ y s (sub _ (inl refl))) (names.declared _ (sub _ (inl refl)) refl) refl (λ z h. sub z (inr h)) env w first σ υ same l.many sees; steady = l.steady; more = let m = l.many in omega (arith, m) }
+        record {
+          came = came_wider p f base (IsThis p regions call home f base body (record { id = id; line = line; kind = let_to m x t r; at = spot }))
+              (Among p (own_placed spot id line (let_to m x t r))) (λ a i. (_, inl refl, i)) w (where_behind w id (let_to m x t r) first) σ υ l.came;
+          sees =
+              let_sees spot id line (let_to m x t r) x rest (sub _ (inl refl)) (names.unused _ x (sub _ (inl refl)) refl) (λ y s. names.before _ y s (sub _ (inl refl)))
+              (names.declared _ (sub _ (inl refl)) refl) refl (λ z h. sub z (inr h)) env w first σ υ same l.many sees;
+          steady = l.steady;
+          more = let m = l.many in omega (arith, m);
+        }
     straight_goes spot id line (let_array m x t z n) rest s sub env w first σ υ same sees taken stored e =
         let l = straight_leaves p regions call home f base body names calls spot id line (let_array m x t z n) s (sub _ (inl refl)) env w first σ υ same sees taken stored e in
-        record { came = came_wider p f base (IsThis p regions call home f base body (record { id = id; line = line; kind = let_array m x t z n; at = spot })) (Among p (own_placed spot id line (let_array m x t z n))) (λ a i. (_, inl refl, i)) w (where_behind w id (let_array m x t z n) first) σ υ l.came; sees = let_sees spot id line (let_array m x t z n) x rest (sub _ (inl refl)) (names.unused _ x (sub _ (inl refl)) refl) (λ y s. names.before _ y s (sub _ (inl refl))) (names.declared _ (sub _ (inl refl)) refl) refl (λ z h. sub z (inr h)) env w first σ υ same l.many sees; steady = l.steady; more = let m = l.many in omega (arith, m) }
+        record {
+          came = came_wider p f base (IsThis p regions call home f base body (record { id = id; line = line; kind = let_array m x t z n; at = spot }))
+              (Among p (own_placed spot id line (let_array m x t z n))) (λ a i. (_, inl refl, i)) w (where_behind w id (let_array m x t z n) first) σ υ l.came;
+          sees =
+              let_sees spot id line (let_array m x t z n) x rest (sub _ (inl refl)) (names.unused _ x (sub _ (inl refl)) refl) (λ y s. names.before _ y s (sub _ (inl refl)))
+              (names.declared _ (sub _ (inl refl)) refl) refl (λ z h. sub z (inr h)) env w first σ υ same l.many sees;
+          steady = l.steady;
+          more = let m = l.many in omega (arith, m);
+        }
     straight_goes spot id line (assign x r) rest s sub env w first σ υ same sees taken stored e =
         let l = straight_leaves p regions call home f base body names calls spot id line (assign x r) s (sub _ (inl refl)) env w first σ υ same sees taken stored e in
-        record { came = came_wider p f base (IsThis p regions call home f base body (record { id = id; line = line; kind = assign x r; at = spot })) (Among p (own_placed spot id line (assign x r))) (λ a i. (_, inl refl, i)) w (where_behind w id (assign x r) first) σ υ l.came; sees = kept_sees spot (behind spot id (assign x r)) id env w σ υ refl (let m = l.many in omega (arith, m)) sees; steady = l.steady; more = let m = l.many in omega (arith, m) }
+        record {
+          came = came_wider p f base (IsThis p regions call home f base body (record { id = id; line = line; kind = assign x r; at = spot }))
+              (Among p (own_placed spot id line (assign x r))) (λ a i. (_, inl refl, i)) w (where_behind w id (assign x r) first) σ υ l.came;
+          sees =
+              kept_sees spot (behind spot id (assign x r)) id env w σ υ refl (let m = l.many in omega (arith, m)) sees;
+          steady = l.steady;
+          more = let m = l.many in omega (arith, m);
+        }
     straight_goes spot id line (assign_index x i r) rest s sub env w first σ υ same sees taken stored e =
         let l = straight_leaves p regions call home f base body names calls spot id line (assign_index x i r) s (sub _ (inl refl)) env w first σ υ same sees taken stored e in
-        record { came = came_wider p f base (IsThis p regions call home f base body (record { id = id; line = line; kind = assign_index x i r; at = spot })) (Among p (own_placed spot id line (assign_index x i r))) (λ a i. (_, inl refl, i)) w (where_behind w id (assign_index x i r) first) σ υ l.came; sees = kept_sees spot (behind spot id (assign_index x i r)) id env w σ υ refl (let m = l.many in omega (arith, m)) sees; steady = l.steady; more = let m = l.many in omega (arith, m) }
+        record {
+          came = came_wider p f base (IsThis p regions call home f base body (record { id = id; line = line; kind = assign_index x i r; at = spot }))
+              (Among p (own_placed spot id line (assign_index x i r))) (λ a i. (_, inl refl, i)) w (where_behind w id (assign_index x i r) first) σ υ l.came;
+          sees =
+              kept_sees spot (behind spot id (assign_index x i r)) id env w σ υ refl (let m = l.many in omega (arith, m)) sees;
+          steady = l.steady;
+          more = let m = l.many in omega (arith, m);
+        }
     straight_goes spot id line (assign_deref x r) rest s sub env w first σ υ same sees taken stored e =
         let l = straight_leaves p regions call home f base body names calls spot id line (assign_deref x r) s (sub _ (inl refl)) env w first σ υ same sees taken stored e in
-        record { came = came_wider p f base (IsThis p regions call home f base body (record { id = id; line = line; kind = assign_deref x r; at = spot })) (Among p (own_placed spot id line (assign_deref x r))) (λ a i. (_, inl refl, i)) w (where_behind w id (assign_deref x r) first) σ υ l.came; sees = kept_sees spot (behind spot id (assign_deref x r)) id env w σ υ refl (let m = l.many in omega (arith, m)) sees; steady = l.steady; more = let m = l.many in omega (arith, m) }
+        record {
+          came = came_wider p f base (IsThis p regions call home f base body (record { id = id; line = line; kind = assign_deref x r; at = spot }))
+              (Among p (own_placed spot id line (assign_deref x r))) (λ a i. (_, inl refl, i)) w (where_behind w id (assign_deref x r) first) σ υ l.came;
+          sees =
+              kept_sees spot (behind spot id (assign_deref x r)) id env w σ υ refl (let m = l.many in omega (arith, m)) sees;
+          steady = l.steady;
+          more = let m = l.many in omega (arith, m);
+        }
     straight_goes spot id line (call_only c) rest s sub env w first σ υ same sees taken stored e =
         let l = straight_leaves p regions call home f base body names calls spot id line (call_only c) s (sub _ (inl refl)) env w first σ υ same sees taken stored e in
-        record { came = came_wider p f base (IsThis p regions call home f base body (record { id = id; line = line; kind = call_only c; at = spot })) (Among p (own_placed spot id line (call_only c))) (λ a i. (_, inl refl, i)) w (where_behind w id (call_only c) first) σ υ l.came; sees = kept_sees spot (behind spot id (call_only c)) id env w σ υ refl (let m = l.many in omega (arith, m)) sees; steady = l.steady; more = let m = l.many in omega (arith, m) }
+        record {
+          came = came_wider p f base (IsThis p regions call home f base body (record { id = id; line = line; kind = call_only c; at = spot }))
+              (Among p (own_placed spot id line (call_only c))) (λ a i. (_, inl refl, i)) w (where_behind w id (call_only c) first) σ υ l.came;
+          sees =
+              kept_sees spot (behind spot id (call_only c)) id env w σ υ refl (let m = l.many in omega (arith, m)) sees;
+          steady = l.steady;
+          more = let m = l.many in omega (arith, m);
+        }
     straight_goes spot id line (sense_only q) rest s sub env w first σ υ same sees taken stored e =
         let l = straight_leaves p regions call home f base body names calls spot id line (sense_only q) s (sub _ (inl refl)) env w first σ υ same sees taken stored e in
-        record { came = came_wider p f base (IsThis p regions call home f base body (record { id = id; line = line; kind = sense_only q; at = spot })) (Among p (own_placed spot id line (sense_only q))) (λ a i. (_, inl refl, i)) w (where_behind w id (sense_only q) first) σ υ l.came; sees = kept_sees spot (behind spot id (sense_only q)) id env w σ υ refl (let m = l.many in omega (arith, m)) sees; steady = l.steady; more = let m = l.many in omega (arith, m) }
+        record {
+          came = came_wider p f base (IsThis p regions call home f base body (record { id = id; line = line; kind = sense_only q; at = spot }))
+              (Among p (own_placed spot id line (sense_only q))) (λ a i. (_, inl refl, i)) w (where_behind w id (sense_only q) first) σ υ l.came;
+          sees =
+              kept_sees spot (behind spot id (sense_only q)) id env w σ υ refl (let m = l.many in omega (arith, m)) sees;
+          steady = l.steady;
+          more = let m = l.many in omega (arith, m);
+        }
     straight_goes spot id line (emit q x) rest s sub env w first σ υ same sees taken stored e =
         let l = straight_leaves p regions call home f base body names calls spot id line (emit q x) s (sub _ (inl refl)) env w first σ υ same sees taken stored e in
-        record { came = came_wider p f base (IsThis p regions call home f base body (record { id = id; line = line; kind = emit q x; at = spot })) (Among p (own_placed spot id line (emit q x))) (λ a i. (_, inl refl, i)) w (where_behind w id (emit q x) first) σ υ l.came; sees = kept_sees spot (behind spot id (emit q x)) id env w σ υ refl (let m = l.many in omega (arith, m)) sees; steady = l.steady; more = let m = l.many in omega (arith, m) }
+        record {
+          came = came_wider p f base (IsThis p regions call home f base body (record { id = id; line = line; kind = emit q x; at = spot }))
+              (Among p (own_placed spot id line (emit q x))) (λ a i. (_, inl refl, i)) w (where_behind w id (emit q x) first) σ υ l.came;
+          sees =
+              kept_sees spot (behind spot id (emit q x)) id env w σ υ refl (let m = l.many in omega (arith, m)) sees;
+          steady = l.steady;
+          more = let m = l.many in omega (arith, m);
+        }
     straight_goes spot id line (fresh x) rest s sub env w first σ υ same sees taken stored e =
         let l = straight_leaves p regions call home f base body names calls spot id line (fresh x) s (sub _ (inl refl)) env w first σ υ same sees taken stored e in
-        record { came = came_wider p f base (IsThis p regions call home f base body (record { id = id; line = line; kind = fresh x; at = spot })) (Among p (own_placed spot id line (fresh x))) (λ a i. (_, inl refl, i)) w (where_behind w id (fresh x) first) σ υ l.came; sees = kept_sees spot (behind spot id (fresh x)) id env w σ υ refl (let m = l.many in omega (arith, m)) sees; steady = l.steady; more = let m = l.many in omega (arith, m) }
+        record {
+          came = came_wider p f base (IsThis p regions call home f base body (record { id = id; line = line; kind = fresh x; at = spot }))
+              (Among p (own_placed spot id line (fresh x))) (λ a i. (_, inl refl, i)) w (where_behind w id (fresh x) first) σ υ l.came;
+          sees =
+              kept_sees spot (behind spot id (fresh x)) id env w σ υ refl (let m = l.many in omega (arith, m)) sees;
+          steady = l.steady;
+          more = let m = l.many in omega (arith, m);
+        }
     straight_goes spot id line (consistent x n) rest s sub env w first σ υ same sees taken stored e =
         let l = straight_leaves p regions call home f base body names calls spot id line (consistent x n) s (sub _ (inl refl)) env w first σ υ same sees taken stored e in
-        record { came = came_wider p f base (IsThis p regions call home f base body (record { id = id; line = line; kind = consistent x n; at = spot })) (Among p (own_placed spot id line (consistent x n))) (λ a i. (_, inl refl, i)) w (where_behind w id (consistent x n) first) σ υ l.came; sees = kept_sees spot (behind spot id (consistent x n)) id env w σ υ refl (let m = l.many in omega (arith, m)) sees; steady = l.steady; more = let m = l.many in omega (arith, m) }
+        record {
+          came = came_wider p f base (IsThis p regions call home f base body (record { id = id; line = line; kind = consistent x n; at = spot }))
+              (Among p (own_placed spot id line (consistent x n))) (λ a i. (_, inl refl, i)) w (where_behind w id (consistent x n) first) σ υ l.came;
+          sees =
+              kept_sees spot (behind spot id (consistent x n)) id env w σ υ refl (let m = l.many in omega (arith, m)) sees;
+          steady = l.steady;
+          more = let m = l.many in omega (arith, m);
+        }
     straight_goes spot id line (return x) rest s sub env w first σ υ same sees taken stored e =
         let l = straight_leaves p regions call home f base body names calls spot id line (return x) s (sub _ (inl refl)) env w first σ υ same sees taken stored e in
-        record { came = came_wider p f base (IsThis p regions call home f base body (record { id = id; line = line; kind = return x; at = spot })) (Among p (own_placed spot id line (return x))) (λ a i. (_, inl refl, i)) w (where_behind w id (return x) first) σ υ l.came; sees = kept_sees spot (behind spot id (return x)) id env w σ υ refl (let m = l.many in omega (arith, m)) sees; steady = l.steady; more = let m = l.many in omega (arith, m) }
+        record {
+          came = came_wider p f base (IsThis p regions call home f base body (record { id = id; line = line; kind = return x; at = spot }))
+              (Among p (own_placed spot id line (return x))) (λ a i. (_, inl refl, i)) w (where_behind w id (return x) first) σ υ l.came;
+          sees =
+              kept_sees spot (behind spot id (return x)) id env w σ υ refl (let m = l.many in omega (arith, m)) sees;
+          steady = l.steady;
+          more = let m = l.many in omega (arith, m);
+        }
     straight_goes spot id line (if_else c a b) rest s sub env w first σ υ same sees taken stored e = absurd s
     straight_goes spot id line (for_in x c d b) rest s sub env w first σ υ same sees taken stored e = absurd s
     straight_goes spot id line (while_do c t b) rest s sub env w first σ υ same sees taken stored e = absurd s

@@ -47,7 +47,8 @@ AnyTarget m f x = (a : TEffect) × AnyOf m.program f a × Target m.program f a x
 pub body_ok : (m : TMarked) (guarded : ℕ → Bool) (f : ℕ) (g : TFunction) → Static m guarded f (block_placed (at_start g) g.body) → guarded f ≡ false → (n k : ℕ) → LaidBlock m.program n g.body k →
     ((r : TRegion) → IsOf r m.regions → r.function ≡ f → n ≤ r.first) → OkBlock m guarded f (AnyTarget m f) (at_start g) g.body
 body_ok m guarded f g facts loose n k laid from =
-    ok_block m guarded f (block_placed (at_start g) g.body) facts loose (AnyTarget m f) (at_start g) n g.body k laid (λ z i. i) (λ r t i j d. absurd j) (λ b x i t. ((effect_of m.program b, facts.effect b i, t), by b x (facts.met loose b x i t)))
+    ok_block m guarded f (block_placed (at_start g) g.body) facts loose (AnyTarget m f) (at_start g) n g.body k laid (λ z i. i) (λ r t i j d. absurd j)
+    (λ b x i t. ((effect_of m.program b, facts.effect b i, t), by b x (facts.met loose b x i t)))
   where
     by : (b : Placed) (x : VarId) → Met m f (effect_of m.program b) x → Later m guarded f (block_placed (at_start g) g.body) facts loose n b x
     by b x (apart none) = inl none
@@ -55,7 +56,8 @@ body_ok m guarded f g facts loose n k laid from =
 
 module _ (m : TMarked) (guarded : ℕ → Bool) (call : Text → List Passed → Store → Outcome) (home : ℤ → ℕ) (f base : ℕ) (g : TFunction)
     (calls : CallFine m guarded call home f base (block_placed (at_start g) g.body)) (flows : Flows m.program m.regions call home f base (block_placed (at_start g) g.body))
-    (inner : (loop s : ℕ) → is_outside m.program f loop (variables.Declared s) ≡ false → loop < s) (effect : (b : Placed) → IsOf b (block_placed (at_start g) g.body) → IsOf (effect_of m.program b) (effects_at m.program f)) (needs : TargetsNeed m.program f) where
+    (inner : (loop s : ℕ) → is_outside m.program f loop (variables.Declared s) ≡ false → loop < s)
+    (effect : (b : Placed) → IsOf b (block_placed (at_start g) g.body) → IsOf (effect_of m.program b) (effects_at m.program f)) (needs : TargetsNeed m.program f) where
   -- what the body finds
   pub record FindsAll (n : ℕ) (env : List Binding) (σ : Store) : Type 0 where
     pub sees : Sees m.program f base n (at_start g) env (start_where m.program f base) σ
@@ -77,5 +79,6 @@ module _ (m : TMarked) (guarded : ℕ → Bool) (call : Text → List Passed →
       (λ a x i t. (a, subst (λ (e : TEffect). IsOf e (effects_at m.program f)) (sym i.2) (effect i.0 i.1), t)) env (start_where m.program f base) σ h.sees
       (record { taken = h.taken; stored = h.stored; deep = was_deep σ h.taken (h.deep d); held = λ x c v j i fl. (needed n env σ h x c v j i fl).1; all = h.all })
   body_fine n env σ pair (inr ok) h =
-      block_shut m guarded call home f base (block_placed (at_start g) g.body) calls flows inner (is_open σ.events) (since σ.events) (AnyTarget m f) (at_start g) n g.body (λ z i. i) pair ok env (start_where m.program f base) σ h.sees
+      block_shut m guarded call home f base (block_placed (at_start g) g.body) calls flows inner (is_open σ.events) (since σ.events) (AnyTarget m f) (at_start g) n g.body
+      (λ z i. i) pair ok env (start_where m.program f base) σ h.sees
       (record { taken = h.taken; stored = h.stored; marks = omega arith; entered = λ d. (was_deep σ h.taken d, refl); clean = λ x c v j i fl. needed n env σ h x c v j i fl; all = h.all })

@@ -1,5 +1,5 @@
 -- A call adds fine events, where the runs of functions do.
-use Rattle.std.proofs.Common.{◌≡◌, ◌⊎◌, inl, inr, ℕ, suc, ◌+◌, ◌<◌, ◌≤◌, Bool, true, false, List, [], ◌∷◌, length, Option, Some, None, refl, sym, ap, ◌∙◌, subst, arith}
+use Rattle.std.proofs.Common.{◌≡◌, ◌⊎◌, ℕ, suc, ◌+◌, ◌<◌, ◌≤◌, Bool, true, List, [], ◌∷◌, length, Option, Some, None, refl, sym, ap, ◌∙◌, subst}
 use Rattle.std.specs.Prelude.{ℤ, option_map, option_and_then, slice_get}
 use Rattle.oc_tree.specs.Names.{Text}
 use Rattle.oc_tree.specs.Tree.{call, TFunction, TProgram}
@@ -90,7 +90,8 @@ module _ (m : TMarked) (groups : List Group) (checked : IsChecked m.program grou
 
   module _ (b : Placed) (x : Text) (args : _) (is : call_of b.kind ≡ Some (call x args)) (env : List Binding) (w : Where) (σ : Store) (sees : Sees p f base b.id b.at env w σ) (taken : AreTaken σ)
       (deep : (t : TCalled) → (effect_of p b).call ≡ Some t → guarded t.function ≡ true → is_open σ.events ≡ true) (held : (x : VarId) → Target p f (effect_of p b) x → IsHeld w σ x)
-      (u : ℕ) (g : TFunction) (place : function_place p.functions x ≡ Some u) (params : params_at p u ≡ g.params) (ps : List Passed) (passes : args_of env σ args ≡ Passes ps) (many : length ps ≡ length g.params) where
+      (u : ℕ) (g : TFunction) (place : function_place p.functions x ≡ Some u) (params : params_at p u ≡ g.params) (ps : List Passed) (passes : args_of env σ args ≡ Passes ps)
+      (many : length ps ≡ length g.params) where
     called : (effect_of p b).call ≡ Some (called_at p b args u)
     called = ap (λ o. option_and_then (called_by p b) o) is ∙ ap (λ o. option_map (called_at p b args) o) place
 

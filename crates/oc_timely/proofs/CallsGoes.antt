@@ -1,7 +1,7 @@
 -- A call leaves what it must, where the run of its function does.
 use Rattle.std.proofs.Common.{◌≡◌, ◌⊎◌, inl, inr, ℕ, zero, suc, ◌+◌, ◌<◌, ◌≤◌, Bool, true, false, List, [], ◌∷◌, length, Option, Some, None, refl, sym, ap, ◌∙◌, subst, arith}
 use Rattle.std.specs.Prelude.{ℤ, pos, ◌==◌, ◌&&◌, nat_lt, if◌then◌else◌, slice_get, slice_index_or, unwrap_or, option_and_then, option_map}
-use Rattle.std.proofs.lemmas.Option.{none-some, same_Some}
+use Rattle.std.proofs.lemmas.Option.{none-some}
 use Rattle.oc_tree.specs.Names.{Text}
 use Rattle.oc_tree.specs.Tree.{call, TArgs, TFunction, TProgram}
 use Rattle.oc_tree.specs.Calls.{function_place}
@@ -15,18 +15,18 @@ use Rattle.oc_tree.specs.declared.tree.Passing.{Passing}
 use Rattle.oc_tree.specs.declared.tree.Passing.TheVariants as passings
 use Rattle.oc_tree.specs.declared.tree.VarId.{VarId}
 use Rattle.oc_tree.specs.declared.tree.VarId.TheVariants as variables
-use Rattle.oc_meaning.specs.Store.{Value, Held, nothing, plain, Place, Local, Global, Turn, Nowhere, Store, Binding, at, held_at, left_at, place_of}
+use Rattle.oc_meaning.specs.Store.{Value, Held, nothing, plain, Place, Local, Global, Turn, Nowhere, Store, Binding, at, held_at, left_at}
 use Rattle.oc_meaning.specs.Exec.{Outcome, Went, Returned, Stopped, Passing as Given, Passes, Breaks, Passed, with_args, args_of}
-use Rattle.oc_meaning.specs.Run.{nv_env, call_to}
-use Rattle.oc_effects.specs.Effects.{TEffect, TCalled, effects_at, effect_of, call_of, called_by, called_at, params_at, variable_at}
+use Rattle.oc_meaning.specs.Run.{call_to}
+use Rattle.oc_effects.specs.Effects.{TEffect, TCalled, effect_of, call_of, called_by, called_at, params_at, variable_at}
 use Rattle.oc_flow.specs.Variables.{same_variable, is_variable, is_variable_of, arg_at, ends}
 use Rattle.oc_tree.specs.Members.{IsOf}
-use Rattle.oc_flow.specs.Relations.{Flow, itself, by_call, Brings, by_callee}
-use Rattle.oc_copies.specs.Copies.{MayPass, AreCopies, AreCopiedBack, IsCopiedBack, HasStored, own_frame, own_run, lent_place, passing_at, NotWritten, all_copied_back, beside, behind_call}
+use Rattle.oc_flow.specs.Relations.{itself, by_call, by_callee}
+use Rattle.oc_copies.specs.Copies.{AreCopies, AreCopiedBack, IsCopiedBack, HasStored, own_frame, own_run, lent_place, passing_at, NotWritten, beside, behind_call}
 use Rattle.oc_copies.specs.Stands.{AreFormed, IsRuledCall, DoesCopy}
 use Rattle.oc_desugar.proofs.KeptExpressions.{second_holds}
 use Rattle.oc_copies.proofs.Cells.{IsCell}
-use Rattle.oc_copies.proofs.Behind.{left_length, copied_locals, copied_nv, copied_beside}
+use Rattle.oc_copies.proofs.Behind.{left_length, copied_locals, copied_beside}
 use Rattle.oc_copies.proofs.DoCopy.{calls_do_copy}
 use Rattle.oc_timely.specs.Scopes.{scope_of}
 use Rattle.oc_timely.specs.Within.{Where, place_in, samples_of, start_where, Comes, old, new, AnyOf, Came}

@@ -9,7 +9,8 @@ use Rattle.oc_tree.specs.declared.said.Shown.TheVariants.{Tagged}
 use Rattle.oc_meaning.specs.Samples.{union}
 use Rattle.oc_meaning.specs.Store.{Value, Held, Place, Local, Global, Turn, Nowhere, Event, Store, put, happened}
 use Rattle.oc_meaning.specs.Eval.{Got, Val, Traps, is_zero}
-use Rattle.oc_meaning.specs.Exec.{Passing as Given, Passes, Breaks, Passed, Outcome, Went, Returned, Stopped, trapped, with_value, with_args, with_result, then_do, finished, leave, told_if, used, done, closed, opened, sense, element_written, for_turns, while_turns, entered}
+use Rattle.oc_meaning.specs.Exec.{Passing as Given, Passes, Breaks, Passed, Outcome, Went, Returned, Stopped, trapped, with_value, with_args, with_result, then_do, finished, leave}
+use Rattle.oc_meaning.specs.Exec.{told_if, used, done, closed, opened, sense, element_written, for_turns, while_turns, entered}
 
 -- which statement a tag tells
 abbrev pub tag_number : Said → ℕ
@@ -119,4 +120,5 @@ module _ (K : Store → Type 0) (stays : IsClosed K) where
       let υ : Store = used uses n (s σ) σ in
       let b : K υ = k_used uses n (s σ) σ a in
       k_value (c υ) n υ _ b
-      (λ v. k_if (is_zero v.num) (Went (done uses n (union before (s σ)) υ)) _ (k_done uses n (union before (s σ)) υ b) (k_then (go υ) _ (h υ b) (λ τ e d. k_while t n uses s c go (union before (s σ)) τ h d)))
+      (λ v. k_if (is_zero v.num) (Went (done uses n (union before (s σ)) υ)) _ (k_done uses n (union before (s σ)) υ b)
+      (k_then (go υ) _ (h υ b) (λ τ e d. k_while t n uses s c go (union before (s σ)) τ h d)))

@@ -97,7 +97,8 @@ direct_of p r s e = by (block_of p s) refl e
         let k = split (b == r.block) (nat_le r.first s) (nat_le s r.last) z in record { there = q ∙ same b k.0; low = let a = k.1 in grind (arith, a); high = let a = k.2 in grind (arith, a) }
 
 pub of_direct : (p : TProgram) (r : TRegion) (s : ℕ) → Direct p r s → is_in_region p r s ≡ true
-of_direct p r s d = subst (λ o. same_block o (Some r.block) && (nat_le r.first s && nat_le s r.last) ≡ true) (sym d.there) (both (r.block == r.block) (nat_le r.first s) (nat_le s r.last) (grind arith) (let a = d.low in grind (arith, a)) (let a = d.high in grind (arith, a)))
+of_direct p r s d = subst (λ o. same_block o (Some r.block) && (nat_le r.first s && nat_le s r.last) ≡ true) (sym d.there)
+    (both (r.block == r.block) (nat_le r.first s) (nat_le s r.last) (grind arith) (let a = d.low in grind (arith, a)) (let a = d.high in grind (arith, a)))
   where
     both : (x y z : Bool) → x ≡ true → y ≡ true → z ≡ true → x && (y && z) ≡ true
     both true true true a b c = refl
@@ -378,7 +379,8 @@ module _ (m : TMarked) (guarded : ℕ → Bool) (f : ℕ) (body : List Placed) (
 
       plain_step : (e : Option ℕ) → begun_by m.regions id ≡ None → ended_by m.regions id ≡ e → State None id C0 C spot (stmts_placed spot (more (stmt id line k) rest)) → Result C0 C None None e
       plain_step e n q s =
-          let st : State None mid C0 (C' C) Next (stmts_placed Next rest) = (clear_on s.0 (λ r i a l. begun_none m.regions id r n i a), λ b x i t. step C b x i (λ r j c a. begun_none m.regions id r n j a) (s.1 b x (in_rest b i) t)) in
+          let st : State None mid C0 (C' C) Next (stmts_placed Next rest) =
+          (clear_on s.0 (λ r i a l. begun_none m.regions id r n i a), λ b x i t. step C b x i (λ r j c a. begun_none m.regions id r n j a) (s.1 b x (in_rest b i) t)) in
           (((λ x t. (s.1 This x (inl refl) t).0, free_call n s.0), inner n s.0 s.1), go e st)
         where
           go : (e : Option ℕ) → State None mid C0 (C' C) Next (stmts_placed Next rest) → OkStmts m guarded f (next_mode None None e) C0 (C' C) Next rest
@@ -555,17 +557,38 @@ module _ (m : TMarked) (guarded : ℕ → Bool) (f : ℕ) (body : List Placed) (
         ((x : VarId) → Target p f (effect_of p (record { id = id; line = line; kind = k; at = spot })) x → Apart p f All x) → FitsOut C (suc id) (kind_placed spot id k) →
         OkKind m guarded f C spot id line k
     ok_kind C spot id line (if_else c a b) mid laid this sub free own fits = (
-      ok_block C (in_branch spot id) (suc id) a laid.0 laid.1 (λ z i. sub z (of_left z (block_placed (in_branch spot id) a) (else_placed (in_branch spot id) b) i)) free (λ z x i t. fits z x (of_left z (block_placed (in_branch spot id) a) (else_placed (in_branch spot id) b) i) t),
+      ok_block C (in_branch spot id) (suc id) a laid.0 laid.1 (λ z i. sub z (of_left z (block_placed (in_branch spot id) a) (else_placed (in_branch spot id) b) i)) free
+          (λ z x i t. fits z x (of_left z (block_placed (in_branch spot id) a) (else_placed (in_branch spot id) b) i) t),
       ok_else C (in_branch spot id) laid.0 b mid laid.2 (λ z i. sub z (of_right z (block_placed (in_branch spot id) a) (else_placed (in_branch spot id) b) i)) free
-          (λ z x i t. let h = fits z x (of_right z (block_placed (in_branch spot id) a) (else_placed (in_branch spot id) b) i) t in (h.0, later_behind (suc id) laid.0 mid (in_branch spot id) z x (sub z (of_right z (block_placed (in_branch spot id) a) (else_placed (in_branch spot id) b) i)) (closed_block p (suc id) a laid.0 laid.1) (lies_else p laid.0 b mid (in_branch spot id) z laid.2 i) free h.1)),
+          (λ z x i t. let h = fits z x (of_right z (block_placed (in_branch spot id) a) (else_placed (in_branch spot id) b) i) t in (
+            h.0,
+            later_behind (suc id) laid.0 mid (in_branch spot id) z x (sub z (of_right z (block_placed (in_branch spot id) a) (else_placed (in_branch spot id) b) i))
+                (closed_block p (suc id) a laid.0 laid.1) (lies_else p laid.0 b mid (in_branch spot id) z laid.2 i) free h.1,
+          )),
     )
     ok_kind C spot id line (for_in y c d b) mid laid this sub free own fits =
         ok_block (λ v. C v × Calm p f id (Among p (kind_placed spot id (for_in y c d b))) v) (in_loop spot id ((y, variables.Declared id) ∷ [])) (suc id) b mid laid sub free
-        (λ z x i t. let h = fits z x i t in ((h.0, calm id (kind_placed spot id (for_in y c d b)) (loop_at (record { id = id; line = line; kind = for_in y c d b; at = spot }) this refl) (λ e j. (sub e j, (lies_block p (suc id) b mid (in_loop spot id ((y, variables.Declared id) ∷ [])) e laid j).has id (inl refl))) z x h.1), h.1))
+        (λ z x i t. let h = fits z x i t in (
+          (
+            h.0,
+            calm id (kind_placed spot id (for_in y c d b))
+                (loop_at (record { id = id; line = line; kind = for_in y c d b; at = spot }) this refl)
+                (λ e j. (sub e j, (lies_block p (suc id) b mid (in_loop spot id ((y, variables.Declared id) ∷ [])) e laid j).has id (inl refl))) z x h.1,
+          ),
+          h.1,
+        ))
     ok_kind C spot id line (while_do c n b) mid laid this sub free own fits = (
       (λ x t a u w i br fl fl'. absurd (own x t a u (subst All (sym i.2) (facts.effect i.0 (sub i.0 i.1))) br (flow_on p x fl fl'))),
       ok_block (λ v. C v × Calm p f id (Among p (kind_placed spot id (while_do c n b))) v) (in_loop spot id []) (suc id) b mid laid sub free
-          (λ z x i t. let h = fits z x i t in ((h.0, calm id (kind_placed spot id (while_do c n b)) (loop_at (record { id = id; line = line; kind = while_do c n b; at = spot }) this refl) (λ e j. (sub e j, (lies_block p (suc id) b mid (in_loop spot id []) e laid j).has id (inl refl))) z x h.1), h.1)),
+          (λ z x i t. let h = fits z x i t in (
+            (
+              h.0,
+              calm id (kind_placed spot id (while_do c n b))
+                  (loop_at (record { id = id; line = line; kind = while_do c n b; at = spot }) this refl)
+                  (λ e j. (sub e j, (lies_block p (suc id) b mid (in_loop spot id []) e laid j).has id (inl refl))) z x h.1,
+            ),
+            h.1,
+          )),
     )
     ok_kind C spot id line k mid laid this sub free own fits = tt
 
@@ -578,15 +601,22 @@ module _ (m : TMarked) (guarded : ℕ → Bool) (f : ℕ) (body : List Placed) (
         FitsOut C n (block_placed spot b) → OkBlock m guarded f C spot b
     ok_block C spot n (block bid no_stmts) k laid sub free fits = tt
     ok_block C spot n (block bid (more (stmt id line s) rest)) k laid sub free fits =
-        ok_stmts None C C (record spot { block = bid }) n (more (stmt id line s) rest) k laid.1 sub free
-        (λ r i e h l. absurd (let q = (laid.0 id r.first bid (let z = laid.1.0 in omega (arith, z)) (let u = up_kind p (suc id) s laid.1.1 laid.1.2 in let v = up_stmts p laid.1.1 rest k laid.1.3 in omega (arith, u, v)) (ap (option_map (λ (a : Placed). a.at.block)) (facts.found (record { id = id; line = line; kind = s; at = record spot { block = bid } }) (sub _ (inl refl)))) ((facts.region r i).1 ∙ ap Some e)).0 in omega (arith, q, h)), fits)
+        ok_stmts None C C (record spot { block = bid }) n (more (stmt id line s) rest) k laid.1 sub free (
+          λ r i e h l. absurd (let q = (laid.0 id r.first bid (let z = laid.1.0 in omega (arith, z)) (let u = up_kind p (suc id) s laid.1.1 laid.1.2 in let v =
+              up_stmts p laid.1.1 rest k laid.1.3 in omega (arith, u, v))
+              (ap (option_map (λ (a : Placed). a.at.block)) (facts.found (record { id = id; line = line; kind = s; at = record spot { block = bid } }) (sub _ (inl refl))))
+              ((facts.region r i).1 ∙ ap Some e)).0 in omega (arith, q, h)),
+          fits,
+        )
 
     ok_stmts : (inside : Option ℕ) (C0 C : VarId → Type 0) (spot : Spot) (n : ℕ) (ss : TStmts) (k : ℕ) → LaidStmts p n ss k → ((z : Placed) → IsOf z (stmts_placed spot ss) → IsOf z body) → Free spot →
         State inside n C0 C spot (stmts_placed spot ss) → OkStmts m guarded f inside C0 C spot ss
     ok_stmts inside C0 C spot n no_stmts k laid sub free st = tt
     ok_stmts inside C0 C spot n (more (stmt id line s) rest) k laid sub free st =
         ok_step spot id line s rest laid.1 k laid.2 laid.3 sub free C0 C
-        (λ next D st'. ok_stmts next D (λ v. C v × Apart p f (Among p (own_placed spot id line s)) v) (behind spot id s) laid.1 rest k laid.3 (λ z i. sub z (in_rest spot id line s rest laid.1 k laid.2 laid.3 sub free z i)) free st')
-        (λ e c fits. ok_kind C spot id line s laid.1 laid.2 (one spot id line s rest laid.1 k laid.2 laid.3 sub free) (sub_kind spot id line s rest laid.1 k laid.2 laid.3 sub free) (free_in spot id line s rest laid.1 k laid.2 laid.3 sub free e c)
+        (λ next D st'. ok_stmts next D (λ v. C v × Apart p f (Among p (own_placed spot id line s)) v) (behind spot id s) laid.1 rest k laid.3
+        (λ z i. sub z (in_rest spot id line s rest laid.1 k laid.2 laid.3 sub free z i)) free st')
+        (λ e c fits. ok_kind C spot id line s laid.1 laid.2 (one spot id line s rest laid.1 k laid.2 laid.3 sub free) (sub_kind spot id line s rest laid.1 k laid.2 laid.3 sub free)
+        (free_in spot id line s rest laid.1 k laid.2 laid.3 sub free e c)
         (λ x t. own_apart spot id line s rest laid.1 k laid.2 laid.3 sub free e c x (fits _ x (inl refl) t).1) (kids spot id line s rest laid.1 k laid.2 laid.3 sub free C e fits))
         inside (subst (λ z. State inside z C0 C spot (stmts_placed spot (more (stmt id line s) rest))) (sym laid.0) st)

@@ -1,21 +1,17 @@
 -- All runs are good, where flow stays within what is said of it and no mark stands between the tags of a set.
-use Rattle.std.proofs.Common.{◌≡◌, ℕ, zero, suc, true≢false, List, [], ◌∷◌, length, Some, refl, sym, ap, ◌∙◌, subst, arith}
+use Rattle.std.proofs.Common.{◌≡◌, ℕ, zero, suc, true≢false, List, [], ◌∷◌, Some, refl, sym, ap, ◌∙◌, subst, arith}
 use Rattle.std.specs.Prelude.{ℤ, codes, slice_get, slice_index_or}
 use Rattle.std.proofs.lemmas.Option.{same_Some}
 use Rattle.oc_tree.specs.Tree.{TFunction, TProgram}
 use Rattle.oc_tree.specs.Calls.{function_place}
-use Rattle.oc_tree.specs.Numbers.{block_statements}
-use Rattle.oc_tree.specs.Places.{at_start, block_placed}
 use Rattle.oc_tree.specs.Marked.{TMarked, IsMarked}
 use Rattle.oc_tree.specs.declared.tree.Param.{Param}
-use Rattle.oc_meaning.specs.Blocks.{set_home}
 use Rattle.oc_meaning.specs.Store.{Place, Local, Global, Turn, Nowhere, Store, held_at, nothing}
-use Rattle.oc_meaning.specs.Exec.{Passed, Outcome, Went, Returned, Stopped}
-use Rattle.oc_meaning.specs.Run.{Frame, nv_env, call_to, first_values, first_store, main_run}
+use Rattle.oc_meaning.specs.Exec.{Outcome, Went, Returned, Stopped}
+use Rattle.oc_meaning.specs.Run.{Frame, nv_env, first_values, first_store, main_run}
 use Rattle.oc_meaning.specs.Cuts.{events_in}
 use Rattle.oc_tree.specs.Members.{IsOf}
-use Rattle.oc_desugar.proofs.NumberLists.{Follow}
-use Rattle.oc_copies.specs.Copies.{HasStored, MayPass, own_params, own_frame}
+use Rattle.oc_copies.specs.Copies.{MayPass, own_params, own_frame}
 use Rattle.oc_copies.specs.Stands.{AreFormed}
 use Rattle.oc_timely.specs.Covering.{IsCovering}
 use Rattle.oc_timely.specs.Within.{start_where, samples_of}
@@ -87,7 +83,8 @@ fine_events (Stopped s τ) h = h
 pub fine_run : AllFlows → (m : TMarked) → IsMarked m → IsCovering m → (samples : List ℤ) → AllFine (events_in (main_run m.program m.regions samples))
 fine_run flows m marked c samples =
     fine_events (main_run m.program m.regions samples)
-    (main_fine m m.groups marked.checked c.guarded calls_copy (callee_at m.program) (λ f g at. known m marked c f g at (flows m marked f g at)) samples (main_copies m.program m.groups marked.checked m.regions samples).0 (starts m marked c samples))
+    (main_fine m m.groups marked.checked c.guarded calls_copy (callee_at m.program) (λ f g at. known m marked c f g at (flows m marked f g at)) samples
+    (main_copies m.program m.groups marked.checked m.regions samples).0 (starts m marked c samples))
 
 pub runs_are_good : AllFlows → RunsPartNone → RunsAreGood
 runs_are_good flows unparted m marked c samples =

@@ -1,12 +1,12 @@
 -- What a called function begins with: each sample of its variables is one of a variable of the caller that stands for it.
-use Rattle.std.proofs.Common.{◌≡◌, ◌⊎◌, inl, inr, ℕ, zero, suc, ◌+◌, ◌<◌, ◌≤◌, Bool, true, false, List, [], ◌∷◌, length, Option, Some, None, refl, sym, ap, ◌∙◌, subst, arith}
+use Rattle.std.proofs.Common.{◌≡◌, ◌⊎◌, inl, inr, ℕ, ◌+◌, ◌<◌, ◌≤◌, Bool, true, false, List, [], ◌∷◌, length, refl, sym, ap, ◌∙◌, subst, arith}
 use Rattle.std.specs.Prelude.{unwrap_or, ◌-◌, nat_lt, if◌then◌else◌}
 use Rattle.oc_tree.specs.Tree.{TArgs, TFunction, TProgram}
 use Rattle.oc_tree.specs.Places.{Placed}
 use Rattle.oc_tree.specs.declared.tree.Param.{Param}
 use Rattle.oc_tree.specs.declared.tree.VarId.{VarId}
 use Rattle.oc_tree.specs.declared.tree.VarId.TheVariants as variables
-use Rattle.oc_meaning.specs.Store.{Held, nothing, Place, Local, Global, Turn, Nowhere, Store, Binding, held_at}
+use Rattle.oc_meaning.specs.Store.{nothing, Place, Local, Global, Turn, Nowhere, Store, Binding, held_at}
 use Rattle.oc_meaning.specs.Exec.{Passed, Passes, args_of}
 use Rattle.oc_meaning.specs.Run.{nv_env}
 use Rattle.oc_effects.specs.Effects.{called_at, params_at}

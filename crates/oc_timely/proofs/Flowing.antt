@@ -8,18 +8,18 @@ use Rattle.oc_tree.specs.Marked.{TRegion}
 use Rattle.oc_tree.specs.declared.tree.VarId.TheVariants as variables
 use Rattle.oc_meaning.specs.Samples.{union}
 use Rattle.oc_meaning.specs.Uses.{is_fresh, is_use, use_samples, begins_use, ends_use}
-use Rattle.oc_meaning.specs.Store.{Value, Held, Turn, Nowhere, Store, Binding}
+use Rattle.oc_meaning.specs.Store.{Held, Turn, Nowhere, Store, Binding}
 use Rattle.oc_meaning.specs.Eval.{Got, is_zero, value_of}
-use Rattle.oc_meaning.specs.Exec.{Outcome, Went, Returned, Stopped, Passed, begun_by, ended_by, opened, closed, used, done, finished, then_do, with_value, count_of, for_turns, while_turns, in_turn, grown, entered, kind_run, else_run, block_run, stmts_run}
-use Rattle.oc_effects.specs.Effects.{TEffect}
+use Rattle.oc_meaning.specs.Exec.{Outcome, Went, Returned, Stopped, Passed, begun_by, ended_by, opened, closed, used, done, finished, then_do, count_of, for_turns, while_turns}
+use Rattle.oc_meaning.specs.Exec.{in_turn, grown, entered, kind_run, else_run, block_run, stmts_run}
 use Rattle.oc_tree.specs.Members.{IsOf}
 use Rattle.oc_copies.specs.Copies.{HasStored}
-use Rattle.oc_timely.specs.Within.{Where, Owns, Came}
+use Rattle.oc_timely.specs.Within.{Where, Came}
 use Rattle.oc_timely.specs.Enough.{since, next_mode}
 use Rattle.oc_timely.specs.Steps.{AreTaken}
-use Rattle.oc_timely.specs.Modes.{Sees, IsSteady, IsStep, PairedKind, PairedElse, PairedBlock, PairedStmts, Goes, In, Among, own_placed, with_place, where_behind, Flows}
-use Rattle.oc_timely.proofs.Came.{stays, came_on}
-use Rattle.oc_timely.proofs.Marks.{IsLike, like_sees, sees_length, sees_later, sees_spot, IsQuiet, quiet_used, quiet_done, quiet_taken, quiet_entered, like_opened, like_closed}
+use Rattle.oc_timely.specs.Modes.{Sees, IsStep, PairedKind, PairedElse, PairedBlock, PairedStmts, Goes, In, Among, own_placed, with_place, where_behind, Flows}
+use Rattle.oc_timely.proofs.Came.{came_on}
+use Rattle.oc_timely.proofs.Marks.{like_sees, sees_length, sees_later, sees_spot, IsQuiet, quiet_used, quiet_done, quiet_taken, quiet_entered, like_opened, like_closed}
 use Rattle.oc_timely.proofs.Inside.{of_left, of_right, count_open}
 use Rattle.oc_timely.proofs.Writes.{came_wider}
 use Rattle.oc_timely.proofs.SeesOn.{AreNamed}
@@ -186,7 +186,8 @@ module _ (p : TProgram) (regions : List TRegion) (call : Text → List Passed �
       came_here =
           came_on p f base (Among p all) w w w' σ marked (behind_it τ) (like_came p f base (Among p all) spot env w σ marked known.sees.owns (like_opened begun σ))
           (came_on p f base (Among p all) w w w' marked start (behind_it τ) (like_came p f base (Among p all) spot env w marked start at_mark.sees.owns quiet.like)
-          (came_on p f base (Among p all) w w' w' start τ (behind_it τ) (wider (own_placed spot id line k) all (λ b i. of_left b (own_placed spot id line k) (stmts_placed (behind spot id k) rest) i) w w' start τ g.came)
+          (came_on p f base (Among p all) w w' w' start τ (behind_it τ)
+          (wider (own_placed spot id line k) all (λ b i. of_left b (own_placed spot id line k) (stmts_placed (behind spot id k) rest) i) w w' start τ g.came)
           (came_on p f base (Among p all) w' w' w' τ (used_up τ) (behind_it τ) (like_came p f base (Among p all) (behind spot id k) (grown k rest env σ) w' τ (used_up τ) g.sees.owns quiet_end.like)
           (like_came p f base (Among p all) (behind spot id k) (grown k rest env σ) w' (used_up τ) (behind_it τ) at_done.sees.owns (like_closed ended (used_up τ))))))
 
@@ -224,7 +225,8 @@ module _ (p : TProgram) (regions : List TRegion) (call : Text → List Passed �
 
     -- the statement, and then the others
     stmt_goes : ((τ : Store) → kind_run p.names regions call home env id k start ≡ Went τ → Goes p regions call home f base body spot id line k rest env w σ start τ) →
-        ((τ : Store) → Known (suc id) (behind spot id k) (grown k rest env σ) w' τ → count_open next ≤ τ.depth → stmts_run p.names regions call home (grown k rest env σ) rest τ ≡ Went υ → ListGone p f base (Among p (stmts_placed (behind spot id k) rest)) next w' τ υ) →
+        ((τ : Store) → Known (suc id) (behind spot id k) (grown k rest env σ) w' τ → count_open next ≤ τ.depth → stmts_run p.names regions call home (grown k rest env σ) rest τ
+        ≡ Went υ → ListGone p f base (Among p (stmts_placed (behind spot id k) rest)) next w' τ υ) →
         stmts_run p.names regions call home env (more (stmt id line k) rest) σ ≡ Went υ → ListGone p f base (Among p all) inside w σ υ
     stmt_goes one others e = by (kind_run p.names regions call home env id k start) refl e
       where
@@ -273,30 +275,57 @@ module _ (p : TProgram) (regions : List TRegion) (call : Text → List Passed �
         let g : Gone (own_placed spot id line (if_else c a b)) w σ υ =
         by_value_run (value_of env σ c) id σ _ υ (Gone (own_placed spot id line (if_else c a b)) w σ υ) e (λ v is h.
         test_of (is_zero v.num) (else_run p.names regions call home env b σ) (block_run p.names regions call home env a σ) υ (Gone (own_placed spot id line (if_else c a b)) w σ υ) h
-        (λ h'. wide_gone (else_placed (in_branch spot id) b) (own_placed spot id line (if_else c a b)) (λ z i. inr (of_right z (block_placed (in_branch spot id) a) (else_placed (in_branch spot id) b) i)) w σ υ
-        (else_goes (in_branch spot id) (suc id) b (in_all spot id line (if_else c a b) rest (else_placed (in_branch spot id) b) sub (λ z i. of_right z (block_placed (in_branch spot id) a) (else_placed (in_branch spot id) b) i)) pair.1 env w σ υ (in_branch_known spot id env w σ known) h'))
-        (λ h'. wide_gone (block_placed (in_branch spot id) a) (own_placed spot id line (if_else c a b)) (λ z i. inr (of_left z (block_placed (in_branch spot id) a) (else_placed (in_branch spot id) b) i)) w σ υ
-        (block_goes (in_branch spot id) (suc id) a (in_all spot id line (if_else c a b) rest (block_placed (in_branch spot id) a) sub (λ z i. of_left z (block_placed (in_branch spot id) a) (else_placed (in_branch spot id) b) i)) pair.0 env w σ υ (in_branch_known spot id env w σ known) h')))
+        (λ h'. wide_gone (else_placed (in_branch spot id) b) (own_placed spot id line (if_else c a b))
+        (λ z i. inr (of_right z (block_placed (in_branch spot id) a) (else_placed (in_branch spot id) b) i)) w σ υ
+        (else_goes (in_branch spot id) (suc id) b
+        (in_all spot id line (if_else c a b) rest (else_placed (in_branch spot id) b) sub
+        (λ z i. of_right z (block_placed (in_branch spot id) a) (else_placed (in_branch spot id) b) i)) pair.1 env w σ υ (in_branch_known spot id env w σ known) h'))
+        (λ h'. wide_gone (block_placed (in_branch spot id) a) (own_placed spot id line (if_else c a b))
+        (λ z i. inr (of_left z (block_placed (in_branch spot id) a) (else_placed (in_branch spot id) b) i)) w σ υ
+        (block_goes (in_branch spot id) (suc id) a
+        (in_all spot id line (if_else c a b) rest (block_placed (in_branch spot id) a) sub
+        (λ z i. of_left z (block_placed (in_branch spot id) a) (else_placed (in_branch spot id) b) i)) pair.0 env w σ υ (in_branch_known spot id env w σ known) h')))
         in
-        record { came = g.came; sees = kept_sees p regions call home f base body names spot (behind spot id (if_else c a b)) id env w σ υ refl g.many known.sees; steady = g.steady; more = let m = g.many in omega (arith, m) }
+        record {
+          came = g.came;
+          sees = kept_sees p regions call home f base body names spot (behind spot id (if_else c a b)) id env w σ υ refl g.many known.sees;
+          steady =
+              g.steady;
+          more = let m = g.many in omega (arith, m);
+        }
     kind_goes spot id line (for_in x c d b) rest sub pair env w first σ υ same known e =
         let g : Gone (own_placed spot id line (for_in x c d b)) w σ υ =
         for_gone id spot env (own_placed spot id line (for_in x c d b)) w (count_of (d -ℤ c)) c (λ i. block_run p.names regions call home (in_turn x i ∷ env) b)
         (λ i σ τ k h. turn_gone p f base (Among p (own_placed spot id line (for_in x c d b))) w id i σ τ (none_here spot id env w σ k)
         (wide_gone (block_placed (in_loop spot id ((x, variables.Declared id) ∷ [])) b) (own_placed spot id line (for_in x c d b)) (λ z j. inr j) (with_place w id (Turn i)) σ τ
-        (block_goes (in_loop spot id ((x, variables.Declared id) ∷ [])) (suc id) b (in_all spot id line (for_in x c d b) rest (block_placed (in_loop spot id ((x, variables.Declared id) ∷ [])) b) sub (λ z j. j)) pair (in_turn x i ∷ env) (with_place w id (Turn i)) σ τ
+        (block_goes (in_loop spot id ((x, variables.Declared id) ∷ [])) (suc id) b
+        (in_all spot id line (for_in x c d b) rest (block_placed (in_loop spot id ((x, variables.Declared id) ∷ [])) b) sub (λ z j. j)) pair (in_turn x i ∷ env) (with_place w id (Turn i)) σ τ
         (record { sees = turn_sees p regions call home f base body names spot id line x c d b (sub _ (inl refl)) env w σ i k.sees; taken = k.taken; stored = k.stored }) h)))
         σ υ known e
         in
-        record { came = g.came; sees = kept_sees p regions call home f base body names spot (behind spot id (for_in x c d b)) id env w σ υ refl g.many known.sees; steady = g.steady; more = let m = g.many in omega (arith, m) }
+        record {
+          came = g.came;
+          sees = kept_sees p regions call home f base body names spot (behind spot id (for_in x c d b)) id env w σ υ refl g.many known.sees;
+          steady =
+              g.steady;
+          more = let m = g.many in omega (arith, m);
+        }
     kind_goes spot id line (while_do c t b) rest sub pair env w first σ υ same known e =
         let g : Gone (own_placed spot id line (while_do c t b)) w σ υ =
-        while_gone id spot env (own_placed spot id line (while_do c t b)) w t id (is_use (is_fresh env) (while_do c t b)) (use_samples env (while_do c t b)) (λ τ. value_of env τ c) (block_run p.names regions call home env b)
+        while_gone id spot env (own_placed spot id line (while_do c t b)) w t id (is_use (is_fresh env) (while_do c t b)) (use_samples env (while_do c t b)) (λ τ. value_of env τ c)
+        (block_run p.names regions call home env b)
         (λ σ τ k h. wide_gone (block_placed (in_loop spot id []) b) (own_placed spot id line (while_do c t b)) (λ z j. inr j) w σ τ
-        (block_goes (in_loop spot id []) (suc id) b (in_all spot id line (while_do c t b) rest (block_placed (in_loop spot id []) b) sub (λ z j. j)) pair env w σ τ (in_while_known spot id env w σ k) h))
+        (block_goes (in_loop spot id []) (suc id) b (in_all spot id line (while_do c t b) rest (block_placed (in_loop spot id []) b) sub (λ z j. j)) pair env w σ τ
+        (in_while_known spot id env w σ k) h))
         [] σ υ known e
         in
-        record { came = g.came; sees = kept_sees p regions call home f base body names spot (behind spot id (while_do c t b)) id env w σ υ refl g.many known.sees; steady = g.steady; more = let m = g.many in omega (arith, m) }
+        record {
+          came = g.came;
+          sees = kept_sees p regions call home f base body names spot (behind spot id (while_do c t b)) id env w σ υ refl g.many known.sees;
+          steady =
+              g.steady;
+          more = let m = g.many in omega (arith, m);
+        }
     kind_goes spot id line k rest sub pair env w first σ υ same known e =
         straight_goes p regions call home f base body names calls spot id line k rest tt sub env w first σ υ same known.sees known.taken known.stored e
 
@@ -310,19 +339,36 @@ module _ (p : TProgram) (regions : List TRegion) (call : Text → List Passed �
     block_goes spot n (block id ss) sub pair env w σ τ known e =
         block_left p f base (Among p (block_placed spot (block id ss))) spot n id env w σ τ (stmts_run p.names regions call home env ss (entered id σ)) known.sees
         (λ υ h. stmts_goes (record spot { block = id }) n None ss sub pair env w (entered id σ) υ
-        (record { sees = sees_spot p f base n spot (record spot { block = id }) env w (entered id σ) refl (like_sees p f base n spot env w σ (entered id σ) (quiet_entered id σ).like known.sees); taken = quiet_taken σ (entered id σ) (quiet_entered id σ) known.taken; stored = known.stored }) (omega arith) h) e
+        (record {
+          sees = sees_spot p f base n spot (record spot { block = id }) env w (entered id σ) refl
+              (like_sees p f base n spot env w σ (entered id σ) (quiet_entered id σ).like known.sees);
+          taken = quiet_taken σ (entered id σ) (quiet_entered id σ) known.taken;
+          stored =
+              known.stored;
+        }) (omega arith) h) e
 
     stmts_goes : (spot : Spot) (n : ℕ) (inside : Option ℕ) (ss : TStmts) → InBody (stmts_placed spot ss) → PairedStmts regions n inside ss → (env : List Binding) (w : Where) (σ υ : Store) →
         Known n spot env w σ → count_open inside ≤ σ.depth → stmts_run p.names regions call home env ss σ ≡ Went υ → ListGone p f base (Among p (stmts_placed spot ss)) inside w σ υ
     stmts_goes spot n None no_stmts sub pair env w σ υ known deep e =
         let g = none_gone n spot env [] w σ υ known e in
-        record { after = w; came = g.came; kept = λ v. inr refl; taken = g.steady.taken; deep = let d = g.steady.deep in omega (arith, d); since = λ d. g.steady.since d; more = let m = g.many in omega (arith, m) }
+        record {
+          after = w;
+          came = g.came;
+          kept = λ v. inr refl;
+          taken = g.steady.taken;
+          deep = let d = g.steady.deep in omega (arith, d);
+          since = λ d. g.steady.since d;
+          more =
+              let m = g.many in omega (arith, m);
+        }
     stmts_goes spot n (Some r) no_stmts sub pair env w σ υ known deep e = absurd pair
     stmts_goes spot n inside (more (stmt id line k) rest) sub pair env w σ υ known deep e =
         let at_it : Known id spot env w σ = record { sees = sees_later p f base n id spot env w σ pair.0 known.sees; taken = known.taken; stored = known.stored } in
         stmt_goes spot id line k rest inside env w σ υ at_it deep pair.1
-        (λ τ h. kind_goes spot id line k rest sub pair.2 env w σ (start spot id line k rest inside env w σ υ at_it deep pair.1) τ (same_length spot id line k rest inside env w σ υ at_it deep pair.1) (at_start spot id line k rest inside env w σ υ at_it deep pair.1) h)
-        (λ τ at d h. stmts_goes (behind spot id k) (suc id) (next_mode inside (begun_by regions id) (ended_by regions id)) rest (λ z i. sub z (inr (of_right z (kind_placed spot id k) (stmts_placed (behind spot id k) rest) i))) pair.3 (grown k rest env σ) (where_behind w id k σ) τ υ at d h) e
+        (λ τ h. kind_goes spot id line k rest sub pair.2 env w σ (start spot id line k rest inside env w σ υ at_it deep pair.1) τ
+        (same_length spot id line k rest inside env w σ υ at_it deep pair.1) (at_start spot id line k rest inside env w σ υ at_it deep pair.1) h)
+        (λ τ at d h. stmts_goes (behind spot id k) (suc id) (next_mode inside (begun_by regions id) (ended_by regions id)) rest
+        (λ z i. sub z (inr (of_right z (kind_placed spot id k) (stmts_placed (behind spot id k) rest) i))) pair.3 (grown k rest env σ) (where_behind w id k σ) τ υ at d h) e
 
   -- All that `Flows` asks for.
   pub all_flows : Flows p regions call home f base body

@@ -1,25 +1,25 @@
 -- What a function's own list leaves that ends with a `return`.
-use Rattle.std.proofs.Common.{◌≡◌, ◌⊎◌, inl, inr, ℕ, zero, suc, ◌+◌, ◌<◌, ◌≤◌, Bool, true, false, List, [], ◌∷◌, ◌++◌, length, Option, Some, None, refl, sym, ap, ◌∙◌, subst, arith}
+use Rattle.std.proofs.Common.{◌≡◌, ◌⊎◌, inl, inr, ℕ, suc, ◌+◌, ◌<◌, ◌≤◌, true, List, [], ◌∷◌, ◌++◌, length, Option, Some, None, refl, ap, ◌∙◌, subst, arith}
 use Rattle.std.specs.Prelude.{ℤ}
 use Rattle.oc_tree.specs.Names.{Text}
-use Rattle.oc_tree.specs.Tree.{TExpr, TKind, let_to, let_array, assign, assign_index, assign_deref, if_else, for_in, while_do, call_only, sense_only, emit, fresh, consistent, return, stmt, TBlock, block, TStmts, no_stmts, more, TProgram}
+use Rattle.oc_tree.specs.Tree.{TExpr, TKind, return, stmt, TBlock, block, TStmts, no_stmts, more, TProgram}
 use Rattle.oc_tree.specs.Places.{Place as Spot, Placed, behind, kind_placed, block_placed, stmts_placed}
 use Rattle.oc_tree.specs.Marked.{TRegion}
 use Rattle.oc_tree.specs.declared.tree.VarId.TheVariants as variables
 use Rattle.oc_meaning.specs.Uses.{is_fresh, is_use, begins_use, ends_use, use_samples}
 use Rattle.oc_meaning.specs.Store.{Value, Held, Store, Binding, left_at}
 use Rattle.oc_meaning.specs.Eval.{Got, Val, Traps, value_of}
-use Rattle.oc_meaning.specs.Exec.{Outcome, Went, Returned, Stopped, Passed, begun_by, ended_by, opened, closed, used, done, finished, then_do, with_value, leave, grown, entered, kind_run, block_run, stmts_run}
-use Rattle.oc_effects.specs.Effects.{TEffect, effect_of}
+use Rattle.oc_meaning.specs.Exec.{Outcome, Went, Returned, Stopped, Passed, begun_by, ended_by, opened, closed, used, done, finished, then_do, with_value, leave, grown, entered}
+use Rattle.oc_meaning.specs.Exec.{kind_run, block_run, stmts_run}
 use Rattle.oc_flow.specs.Variables.{is_variable}
 use Rattle.oc_tree.specs.Members.{IsOf}
 use Rattle.oc_timely.specs.Within.{Where, samples_of, Comes}
 use Rattle.oc_timely.specs.Enough.{since, next_mode}
 use Rattle.oc_timely.specs.Steps.{AreTaken}
-use Rattle.oc_timely.specs.Modes.{Sees, IsShutMode, IsStep, PairedKind, PairedBlock, PairedStmts, Goes, Among, where_behind}
+use Rattle.oc_timely.specs.Modes.{IsShutMode, IsStep, PairedBlock, PairedStmts, Goes, Among, where_behind}
 use Rattle.oc_timely.proofs.Came.{comes_back}
 use Rattle.oc_timely.proofs.Marks.{IsLike, like_sees, sees_later, sees_spot, IsQuiet, quiet_used, quiet_done, quiet_taken, quiet_entered, like_opened, like_closed}
-use Rattle.oc_timely.proofs.Inside.{of_left, of_right, count_open}
+use Rattle.oc_timely.proofs.Inside.{of_right, count_open}
 use Rattle.oc_timely.proofs.SeesOn.{AreNamed}
 use Rattle.oc_timely.proofs.Writes.{comes_wider}
 use Rattle.oc_timely.proofs.StraightGoes.{IsThis, CallsGo, value_to, value_below}

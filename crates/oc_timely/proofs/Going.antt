@@ -1,7 +1,6 @@
 -- What blocks and lists of statements leave, step by step.
-use Rattle.std.proofs.Common.{◌≡◌, ◌⊎◌, inl, inr, ℕ, suc, ◌+◌, ◌-◌, ◌<◌, ◌≤◌, Bool, true, false, List, [], ◌∷◌, ◌++◌, length, Option, Some, None, refl, sym, ap, ◌∙◌, subst, arith}
+use Rattle.std.proofs.Common.{◌≡◌, ◌⊎◌, inl, inr, ℕ, ◌+◌, ◌-◌, ◌<◌, ◌≤◌, Bool, true, false, List, [], ◌∷◌, ◌++◌, length, Option, Some, None, refl, sym, ap, ◌∙◌, subst, arith}
 use Rattle.std.specs.Prelude.{ℤ, if◌then◌else◌, nat_lt, unwrap_or}
-use Rattle.oc_tree.specs.Names.{Text}
 use Rattle.oc_tree.specs.Tree.{TKind, let_to, let_array, TProgram}
 use Rattle.oc_tree.specs.Places.{Place as Spot}
 use Rattle.oc_tree.specs.declared.tree.VarId.{VarId}
@@ -87,7 +86,13 @@ module _ (p : TProgram) (f base : ℕ) (P : TEffect → Type 0) where
   pub like_came : (spot : Spot) (env : List Binding) (w : Where) (σ τ : Store) → Owns p f base spot env w σ → IsLike σ τ → Came p f base P w w σ τ
   like_came spot env w σ τ owns l =
       let c = stays p f base P spot env w σ owns in
-      record { within = λ v j h. c.within v j (like_samples σ τ l w v j h); later = let e = l.taken in omega (arith, e); stored = ap (λ (xs : List Held). length xs) l.nv; below = λ i h. ap (λ xs. at xs i) l.locals }
+      record {
+        within = λ v j h. c.within v j (like_samples σ τ l w v j h);
+        later = let e = l.taken in omega (arith, e);
+        stored = ap (λ (xs : List Held). length xs) l.nv;
+        below =
+            λ i h. ap (λ xs. at xs i) l.locals;
+      }
 
   -- ---- blocks
 

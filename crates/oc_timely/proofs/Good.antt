@@ -45,7 +45,8 @@ more_on P s b n e later = P b n (ran_more s b n e later)
 
 last_more : (r : Ran) (s : Said) (b : Bool) (n : ℕ) (e : Event) (xs : List Event) (d : Event) →
     ((b : Bool) (n : ℕ) → IsOf r (ran_from b n (xs ++ d ∷ [])) → IsOf r (ran_from b n xs) ⊎ IsOf r (back_more d.said d (open_from b xs) (begun_from n xs) [])) →
-    IsOf r (ran_more s b n e (λ o m. ran_from o m (xs ++ d ∷ []))) → IsOf r (ran_more s b n e (λ o m. ran_from o m xs)) ⊎ IsOf r (back_more d.said d (open_from (open_after s b) xs) (begun_from (begun_after s n) xs) [])
+    IsOf r (ran_more s b n e (λ o m. ran_from o m (xs ++ d ∷ [])))
+    → IsOf r (ran_more s b n e (λ o m. ran_from o m xs)) ⊎ IsOf r (back_more d.said d (open_from (open_after s b) xs) (begun_from (begun_after s n) xs) [])
 last_more r (Entered q) b n e xs d rest h = rest true (suc n) h
 last_more r (Committed q) b n e xs d rest h = rest false n h
 last_more r s b n e xs d rest (inl h) = inl (inl h)
@@ -92,7 +93,8 @@ in_back : (r : Ran) (es : List Event) → IsOf r (ran (in_order es)) → IsOf r 
 in_back r [] h = h
 in_back r (e ∷ es) h = elim (last_of r (in_order es) e false 0 h) [
   | inl k ↦ front_back r e.said e (is_open es) (begun es) (back es) (in_back r es k)
-  | inr k ↦ new_back r e.said e (is_open es) (begun es) (back es) (subst (λ b. IsOf r (back_more e.said e b (begun es) [])) (open_is es) (subst (λ n. IsOf r (back_more e.said e (open_from false (in_order es)) n [])) (begun_is es) k))
+  | inr k ↦ new_back r e.said e (is_open es) (begun es) (back es)
+      (subst (λ b. IsOf r (back_more e.said e b (begun es) [])) (open_is es) (subst (λ n. IsOf r (back_more e.said e (open_from false (in_order es)) n [])) (begun_is es) k))
 ]
 
 -- ---- the newest event, and what is older

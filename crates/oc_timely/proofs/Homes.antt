@@ -233,13 +233,15 @@ module _ (p : TProgram) (groups : List Group) (checked : IsChecked p groups) (ra
               let zero : stmts_notes k rest ≡ 0 = (let q = kind_many k n its_home s l in omega (arith, q, m)) in (
                 own_fit (λ z e. absurd (no_note its_home l z e)),
                 x l,
-                stmts_fit p groups checked ranked regions f g at k older c Any call_at home i (behind spot id s) rest (any_fit i (stmts_placed (behind spot id s) rest) in_rest (λ z o v e. absurd (stmts_clear k (behind spot id s) rest zero z o v e))),
+                stmts_fit p groups checked ranked regions f g at k older c Any call_at home i (behind spot id s) rest
+                    (any_fit i (stmts_placed (behind spot id s) rest) in_rest (λ z o v e. absurd (stmts_clear k (behind spot id s) rest zero z o v e))),
               )
           by (inr r) x y =
               let zero : kind_notes k s ≡ 0 = (let q = stmts_many k n its_home rest r.1 in omega (arith, q, m)) in
               let none = own_clear k spot id line s zero in (
                 own_fit (λ z e. absurd (none _ (inl refl) z e)),
-                kind_fits p groups checked ranked regions f g at k older c Any call_at home i spot id s (any_fit i (kind_placed spot id s) (λ z o. in_own z (inr o)) (λ z o v e. absurd (none z (inr o) v e))),
+                kind_fits p groups checked ranked regions f g at k older c Any call_at home i spot id s
+                    (any_fit i (kind_placed spot id s) (λ z o. in_own z (inr o)) (λ z o v e. absurd (none z (inr o) v e))),
                 y r.1,
               )
 

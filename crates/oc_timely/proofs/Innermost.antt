@@ -4,7 +4,8 @@ use Rattle.std.specs.Prelude.{ℤ, option_map, if◌then◌else◌}
 use Rattle.std.specs.Ordering.{int_eq}
 use Rattle.std.proofs.lemmas.Bool.{eq-eqb}
 use Rattle.std.proofs.lemmas.Option.{none-some}
-use Rattle.oc_tree.specs.Tree.{TKind, let_to, let_array, assign, assign_index, assign_deref, if_else, for_in, while_do, call_only, sense_only, emit, fresh, consistent, return, TElse, no_else, else_do, stmt, TBlock, block, TStmts, no_stmts, more, TProgram}
+use Rattle.oc_tree.specs.Tree.{TKind, let_to, let_array, assign, assign_index, assign_deref, if_else, for_in, while_do, call_only, sense_only, emit, fresh, consistent, return}
+use Rattle.oc_tree.specs.Tree.{TElse, no_else, else_do, stmt, TBlock, block, TStmts, no_stmts, more, TProgram}
 use Rattle.oc_tree.specs.declared.tree.VarId.TheVariants as variables
 use Rattle.oc_tree.specs.Places.{Place as Spot, Placed, placed, block_of, behind, in_branch, in_loop, kind_placed, else_placed, block_placed, stmts_placed}
 use Rattle.oc_tree.specs.Marked.{TRegion, around, is_in_region, covers}
@@ -170,10 +171,13 @@ module _ (k : ℤ) where
 
         by : (laid.0 ≤ q.first) ⊎ (q.first < laid.0) → ⊥
         by (inr l) =
-            let zero = else_zero (in_branch spot id) b (elsewhere (suc id) laid.0 laid.0 mid (in_branch spot id) (else_placed (in_branch spot id) b) (closed_block p (suc id) a laid.0 laid.1) low l (λ t u v w z. omega (arith, u, z)) in_b free) in
+            let zero = else_zero (in_branch spot id) b
+            (elsewhere (suc id) laid.0 laid.0 mid (in_branch spot id) (else_placed (in_branch spot id) b) (closed_block p (suc id) a laid.0 laid.1) low l
+            (λ t u v w z. omega (arith, u, z)) in_b free) in
             home_there n a (omega (arith, e, zero)) none.0
         by (inl l) =
-            let zero = block_zero (in_branch spot id) a (elsewhere laid.0 mid (suc id) laid.0 (in_branch spot id) (block_placed (in_branch spot id) a) (closed_other b laid.2) l high (λ t u v w z. omega (arith, v, w)) in_a free) in
+            let zero = block_zero (in_branch spot id) a
+            (elsewhere laid.0 mid (suc id) laid.0 (in_branch spot id) (block_placed (in_branch spot id) a) (closed_other b laid.2) l high (λ t u v w z. omega (arith, v, w)) in_a free) in
             other b laid.2 (omega (arith, e, zero)) none.1 l
     kind_inner n spot id (for_in x c d b) mid laid sub free low high e h = home_there n b e h
     kind_inner n spot id (while_do c t b) mid laid sub free low high e h = home_there n b e h
@@ -241,7 +245,8 @@ module _ (k : ℤ) where
 
         by : (suc id ≤ q.first) ⊎ (q.first < suc id) → (laid.1 ≤ q.first) ⊎ (q.first < laid.1) → (stmts_notes k rest ≡ n → ⊥) → ⊥
         by (inl l) (inr u) rec =
-            let zero = stmts_zero (behind spot id s) rest (elsewhere (suc id) laid.1 laid.1 e (behind spot id s) (stmts_placed (behind spot id s) rest) closed l u (λ t a b c d. omega (arith, a, d)) in_rest free) in
+            let zero = stmts_zero (behind spot id s) rest
+            (elsewhere (suc id) laid.1 laid.1 e (behind spot id s) (stmts_placed (behind spot id s) rest) closed l u (λ t a b c d. omega (arith, a, d)) in_rest free) in
             kind_inner n spot id s laid.1 laid.2 (λ z i. sub z (inr (of_left z (kind_placed spot id s) (stmts_placed (behind spot id s) rest) i))) free_in l u (omega (arith, m, zero)) none.0
         by (inl l) (inl u) rec = beside rec (λ t a b d. let c = closed t q.first q.block a b d.there its in omega (arith, c.1, u))
         by (inr l) z rec = beside rec (λ t a b d. let c = closed t q.first q.block a b d.there its in omega (arith, c.0, l))
@@ -256,4 +261,5 @@ module _ (k : ℤ) where
 
         by : (c : Bool) → (q.block == spot.block) ≡ c → q.block ≡ spot.block
         by true t = grind (arith, t)
-        by false t = absurd (stmts_inner n start e spot ss laid sub free (λ u i d. let same : q.block ≡ spot.block = some_is q.block spot.block (sym d.there ∙ ids_block spot ss sub u i) in grind (arith, t, same)) some m h)
+        by false t = absurd (stmts_inner n start e spot ss laid sub free
+            (λ u i d. let same : q.block ≡ spot.block = some_is q.block spot.block (sym d.there ∙ ids_block spot ss sub u i) in grind (arith, t, same)) some m h)

@@ -11,7 +11,8 @@ use Rattle.oc_meaning.specs.Samples.{union}
 use Rattle.oc_meaning.specs.Uses.{is_fresh, is_use, use_samples, begins_use, ends_use}
 use Rattle.oc_meaning.specs.Store.{Held, Turn, Nowhere, Store, Binding, held_at}
 use Rattle.oc_meaning.specs.Eval.{is_zero, value_of}
-use Rattle.oc_meaning.specs.Exec.{Outcome, Went, Returned, Stopped, Passed, then_do, finished, leave, used, done, closed, opened, begun_by, ended_by, count_of, for_turns, while_turns, in_turn, grown, entered, kind_run, else_run, block_run, stmts_run}
+use Rattle.oc_meaning.specs.Exec.{Outcome, Went, Returned, Stopped, Passed, then_do, finished, leave, used, done, closed, opened, begun_by, ended_by, count_of, for_turns}
+use Rattle.oc_meaning.specs.Exec.{while_turns, in_turn, grown, entered, kind_run, else_run, block_run, stmts_run}
 use Rattle.oc_effects.specs.Effects.{TEffect, effect_of}
 use Rattle.oc_flow.specs.Variables.{same_variable}
 use Rattle.oc_tree.specs.Members.{IsOf}
@@ -23,7 +24,8 @@ use Rattle.oc_timely.specs.Steps.{AreTaken}
 use Rattle.oc_timely.specs.Modes.{AllFine, FineOut, Sees, CallFine, Flows, Goes, In, Among, own_placed, IsSteady, with_place, where_behind, IsStep, PairedKind, PairedElse, PairedBlock, PairedStmts}
 use Rattle.oc_timely.proofs.Came.{flow_on}
 use Rattle.oc_timely.proofs.Sampled.{in_union}
-use Rattle.oc_timely.proofs.Marks.{IsLike, like_held, like_samples, sees_length, like_sees, sees_later, like_stored, IsQuiet, quiet_used, quiet_done, quiet_taken, sees_spot, quiet_entered, like_opened, like_closed, is_deep, begun_is, ended_is}
+use Rattle.oc_timely.proofs.Marks.{IsLike, like_held, like_samples, sees_length, like_sees, sees_later, like_stored, IsQuiet, quiet_used, quiet_done, quiet_taken, sees_spot}
+use Rattle.oc_timely.proofs.Marks.{quiet_entered, like_opened, like_closed, is_deep, begun_is, ended_is}
 use Rattle.oc_timely.proofs.Straight.{fine_value, fine_used, fine_done, fine_closed, fine_opened, use_target, straight_fine}
 
 -- ---- outcomes
@@ -172,14 +174,28 @@ module _ (m : TMarked) (guarded : ℕ → Bool) (call : Text → List Passed →
       ends r σ o =
           let d = o.deep in
           let e = ended_is r σ o.taken (omega (arith, d)) in
-          record { taken = e.taken; stored = o.stored; deep = let l = e.deep in omega (arith, d, l); held = λ x c v j h fl. let l = o.held x c v j h fl in let k = e.still in omega (arith, l, k); all = fine_closed (Some r) σ o.all }
+          record {
+            taken = e.taken;
+            stored = o.stored;
+            deep = let l = e.deep in omega (arith, d, l);
+            held = λ x c v j h fl. let l = o.held x c v j h fl in let k = e.still in
+                omega (arith, l, k);
+            all = fine_closed (Some r) σ o.all;
+          }
   open_closed C w (Some q) None (Some r) σ s o = ends r σ o
     where
       ends : (r : ℕ) (σ : Store) → Open C w 1 σ → Open C w 0 (closed (Some r) σ)
       ends r σ o =
           let d = o.deep in
           let e = ended_is r σ o.taken (omega (arith, d)) in
-          record { taken = e.taken; stored = o.stored; deep = let l = e.deep in omega (arith, d, l); held = λ x c v j h fl. let l = o.held x c v j h fl in let k = e.still in omega (arith, l, k); all = fine_closed (Some r) σ o.all }
+          record {
+            taken = e.taken;
+            stored = o.stored;
+            deep = let l = e.deep in omega (arith, d, l);
+            held = λ x c v j h fl. let l = o.held x c v j h fl in let k = e.still in
+                omega (arith, l, k);
+            all = fine_closed (Some r) σ o.all;
+          }
 
   pub fits_part : (C : VarId → Type 0) (bs cs : List Placed) → ((b : Placed) → IsOf b bs → IsOf b cs) → FitsAt C (Among p cs) → FitsAt C (Among p bs)
   fits_part C bs cs h k a x i t = k a x (i.0, h i.0 i.1, i.2) t
@@ -210,18 +226,21 @@ module _ (m : TMarked) (guarded : ℕ → Bool) (call : Text → List Passed →
       FitsAt C (Among p bs) → (j : ℕ) → IsOf j (use_samples env b.kind σ) → SinceAt τ j
   use_open C w n b bs env σ τ s l o i fit j h =
       let u = use_target p f base b.id b env w σ s j h in
-      open_since C w n b.id b.at env τ (like_sees p f base b.id b.at env w σ τ l s) o u.0 (fit (effect_of p b) u.0 (b, i, refl) u.1) j (subst (λ (x : Held). IsOf j x.samples) (sym (like_held σ τ l (w u.0))) u.2)
+      open_since C w n b.id b.at env τ (like_sees p f base b.id b.at env w σ τ l s) o u.0 (fit (effect_of p b) u.0 (b, i, refl) u.1) j
+      (subst (λ (x : Held). IsOf j x.samples) (sym (like_held σ τ l (w u.0))) u.2)
 
   module _ (C : VarId → Type 0) where
     module _ (spot : Spot) (id line : ℕ) (env : List Binding) (w : Where) where
       -- the turns of a `for`
       for_open : (x : Text) (c d : ℤ) (b : TBlock) → In m.program m.regions call home f base body (own_placed spot id line (for_in x c d b)) → PairedBlock m.regions (suc id) b →
-          ((i : ℤ) (σ : Store) → Sees p f base (suc id) (in_loop spot id ((x, variables.Declared id) ∷ [])) (in_turn x i ∷ env) (with_place w id (Turn i)) σ → Open C (with_place w id (Turn i)) 0 σ → FineOut (block_run p.names m.regions call home (in_turn x i ∷ env) b σ)) →
+          ((i : ℤ) (σ : Store) → Sees p f base (suc id) (in_loop spot id ((x, variables.Declared id) ∷ [])) (in_turn x i ∷ env) (with_place w id (Turn i)) σ
+          → Open C (with_place w id (Turn i)) 0 σ → FineOut (block_run p.names m.regions call home (in_turn x i ∷ env) b σ)) →
           (t : ℕ) (i : ℤ) (σ : Store) → Sees p f base id spot env w σ → Open C w 0 σ → FineOut (for_turns t i (λ i. block_run p.names m.regions call home (in_turn x i ∷ env) b) σ)
       for_open x c d b sub pair each zero i σ s o = o.all
       for_open x c d b sub pair each (suc t) i σ s o =
           let s' = flows.turn spot id line x c d b (sub _ (inl refl)) env w σ i s in
-          let o' : Open C (with_place w id (Turn i)) 0 σ = record { taken = o.taken; stored = o.stored; deep = o.deep; held = λ y k v j h fl. o.held y k v j (turn_samples σ w id i v j h) fl; all = o.all } in
+          let o' : Open C (with_place w id (Turn i)) 0 σ =
+          record { taken = o.taken; stored = o.stored; deep = o.deep; held = λ y k v j h fl. o.held y k v j (turn_samples σ w id i v j h) fl; all = o.all } in
           fine_then (block_run p.names m.regions call home (in_turn x i ∷ env) b σ) _ (each i σ s' o') (λ τ e a.
           let r = flows.block (in_loop spot id ((x, variables.Declared id) ∷ [])) (suc id) b (λ z h. sub z (inr h)) pair (in_turn x i ∷ env) (with_place w id (Turn i)) σ τ s' o.taken o.stored e in
           let q = open_on C _ (with_place w id (Turn i)) (with_place w id (Turn i)) 0 σ τ r.0 r.1 a o' in
@@ -326,7 +345,8 @@ module _ (m : TMarked) (guarded : ℕ → Bool) (call : Text → List Passed →
         at_end = open_on C (Among p (own_placed spot id line k)) w (where_behind w id k σ) (count_open inside + count_open begun) start τ gone.came gone.steady a at_start
 
         uses_still : (j : ℕ) → IsOf j uses → SinceAt τ j
-        uses_still j h = since_on (Among p (own_placed spot id line k)) w (where_behind w id k σ) start τ j at_start.taken (let d = at_start.deep in omega (arith, d)) gone.came gone.steady (since_quiet marked start j quiet (uses_then j h))
+        uses_still j h = since_on (Among p (own_placed spot id line k)) w (where_behind w id k σ) start τ j at_start.taken (let d = at_start.deep in omega (arith, d)) gone.came
+            gone.steady (since_quiet marked start j quiet (uses_then j h))
 
         abbrev used_up : Store
         used_up = done (ends_use (is_fresh env) k) id uses τ
@@ -354,12 +374,21 @@ module _ (m : TMarked) (guarded : ℕ → Bool) (call : Text → List Passed →
           (env : List Binding) (w : Where) (σ : Store) → Sees p f base id spot env w σ → Open C w 0 σ → FineOut (kind_run p.names m.regions call home env id k σ)
       kind_open spot id line (if_else c a b) sub pair fit env w σ s o =
           fine_value (value_of env σ c) id σ _ o.all (λ v. fine_if (is_zero v.num) (else_run p.names m.regions call home env b σ) (block_run p.names m.regions call home env a σ)
-          (else_open (in_branch spot id) (suc id) b (λ z h. sub z (inr (of_right z (block_placed (in_branch spot id) a) (else_placed (in_branch spot id) b) h))) pair.1 (fits_part C (else_placed (in_branch spot id) b) (own_placed spot id line (if_else c a b)) (λ z h. inr (of_right z (block_placed (in_branch spot id) a) (else_placed (in_branch spot id) b) h)) fit) env w σ (branch_sees spot id env w σ s) o)
-          (block_open (in_branch spot id) (suc id) a (λ z h. sub z (inr (of_left z (block_placed (in_branch spot id) a) (else_placed (in_branch spot id) b) h))) pair.0 (fits_part C (block_placed (in_branch spot id) a) (own_placed spot id line (if_else c a b)) (λ z h. inr (of_left z (block_placed (in_branch spot id) a) (else_placed (in_branch spot id) b) h)) fit) env w σ (branch_sees spot id env w σ s) o))
+          (else_open (in_branch spot id) (suc id) b (λ z h. sub z (inr (of_right z (block_placed (in_branch spot id) a) (else_placed (in_branch spot id) b) h))) pair.1
+          (fits_part C (else_placed (in_branch spot id) b) (own_placed spot id line (if_else c a b))
+          (λ z h. inr (of_right z (block_placed (in_branch spot id) a) (else_placed (in_branch spot id) b) h)) fit) env w σ (branch_sees spot id env w σ s) o)
+          (block_open (in_branch spot id) (suc id) a (λ z h. sub z (inr (of_left z (block_placed (in_branch spot id) a) (else_placed (in_branch spot id) b) h))) pair.0
+          (fits_part C (block_placed (in_branch spot id) a) (own_placed spot id line (if_else c a b))
+          (λ z h. inr (of_left z (block_placed (in_branch spot id) a) (else_placed (in_branch spot id) b) h)) fit) env w σ (branch_sees spot id env w σ s) o))
       kind_open spot id line (for_in x c d b) sub pair fit env w σ s o =
-          for_open spot id line env w x c d b sub pair (λ i τ s' o'. block_open (in_loop spot id ((x, variables.Declared id) ∷ [])) (suc id) b (λ z h. sub z (inr h)) pair (fits_part C (block_placed (in_loop spot id ((x, variables.Declared id) ∷ [])) b) (own_placed spot id line (for_in x c d b)) (λ z h. inr h) fit) (in_turn x i ∷ env) (with_place w id (Turn i)) τ s' o') (count_of (d -ℤ c)) c σ s o
+          for_open spot id line env w x c d b sub pair
+          (λ i τ s' o'. block_open (in_loop spot id ((x, variables.Declared id) ∷ [])) (suc id) b (λ z h. sub z (inr h)) pair
+          (fits_part C (block_placed (in_loop spot id ((x, variables.Declared id) ∷ [])) b) (own_placed spot id line (for_in x c d b)) (λ z h. inr h) fit) (in_turn x i ∷ env)
+          (with_place w id (Turn i)) τ s' o') (count_of (d -ℤ c)) c σ s o
       kind_open spot id line (while_do c t b) sub pair fit env w σ s o =
-          while_open spot id line env w c t b sub pair fit (λ τ s' o'. block_open (in_loop spot id []) (suc id) b (λ z h. sub z (inr h)) pair (fits_part C (block_placed (in_loop spot id []) b) (own_placed spot id line (while_do c t b)) (λ z h. inr h) fit) env w τ s' o') t [] σ (λ j h. absurd h) s o
+          while_open spot id line env w c t b sub pair fit
+          (λ τ s' o'. block_open (in_loop spot id []) (suc id) b (λ z h. sub z (inr h)) pair
+          (fits_part C (block_placed (in_loop spot id []) b) (own_placed spot id line (while_do c t b)) (λ z h. inr h) fit) env w τ s' o') t [] σ (λ j h. absurd h) s o
       kind_open spot id line k sub pair fit env w σ s o =
           straight_fine m guarded call home f base body calls spot id line k env w σ tt (record {
             one = sub _ (inl refl);
@@ -389,8 +418,15 @@ module _ (m : TMarked) (guarded : ℕ → Bool) (call : Text → List Passed →
       stmts_open spot n inside no_stmts sub pair fit env w σ s o = o.all
       stmts_open spot n inside (more (stmt id line k) rest) sub pair fit env w σ s o =
           let s' = sees_later p f base n id spot env w σ pair.0 s in
-          fine_finished (kind_run p.names m.regions call home env id k (start spot id line k rest inside env w σ s' o sub fit)) (after spot id line k rest inside env w σ s' o sub fit) (stmts_run p.names m.regions call home (grown k rest env σ) rest)
-          (kind_open spot id line k (λ z h. sub z (of_left z (own_placed spot id line k) (stmts_placed (behind spot id k) rest) h)) pair.2 (fits_part C (own_placed spot id line k) (stmts_placed spot (more (stmt id line k) rest)) (λ z h. of_left z (own_placed spot id line k) (stmts_placed (behind spot id k) rest) h) fit) env w (start spot id line k rest inside env w σ s' o sub fit) (sees_start spot id line k rest inside env w σ s' o sub fit) (open_start spot id line k rest inside env w σ s' o sub fit))
-          (λ τ e a. stmts_open (behind spot id k) (suc id) (next_mode inside (begun_by m.regions id) (ended_by m.regions id)) rest (λ z h. sub z (of_right z (own_placed spot id line k) (stmts_placed (behind spot id k) rest) h)) pair.3 (fits_part C (stmts_placed (behind spot id k) rest) (stmts_placed spot (more (stmt id line k) rest)) (λ z h. of_right z (own_placed spot id line k) (stmts_placed (behind spot id k) rest) h) fit)
+          fine_finished (kind_run p.names m.regions call home env id k (start spot id line k rest inside env w σ s' o sub fit))
+          (after spot id line k rest inside env w σ s' o sub fit) (stmts_run p.names m.regions call home (grown k rest env σ) rest)
+          (kind_open spot id line k (λ z h. sub z (of_left z (own_placed spot id line k) (stmts_placed (behind spot id k) rest) h)) pair.2
+          (fits_part C (own_placed spot id line k) (stmts_placed spot (more (stmt id line k) rest))
+          (λ z h. of_left z (own_placed spot id line k) (stmts_placed (behind spot id k) rest) h) fit) env w (start spot id line k rest inside env w σ s' o sub fit)
+          (sees_start spot id line k rest inside env w σ s' o sub fit) (open_start spot id line k rest inside env w σ s' o sub fit))
+          (λ τ e a. stmts_open (behind spot id k) (suc id) (next_mode inside (begun_by m.regions id) (ended_by m.regions id)) rest
+          (λ z h. sub z (of_right z (own_placed spot id line k) (stmts_placed (behind spot id k) rest) h)) pair.3
+          (fits_part C (stmts_placed (behind spot id k) rest) (stmts_placed spot (more (stmt id line k) rest))
+          (λ z h. of_right z (own_placed spot id line k) (stmts_placed (behind spot id k) rest) h) fit)
           (grown k rest env σ) (where_behind w id k σ) (after spot id line k rest inside env w σ s' o sub fit τ)
           (sees_after spot id line k rest inside env w σ s' o sub fit pair.2 τ e a) (open_after spot id line k rest inside env w σ s' o sub fit pair.2 τ e a pair.1))

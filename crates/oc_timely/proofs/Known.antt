@@ -1,31 +1,25 @@
 -- What is known of each function of a program with marks that cover what is required.
-use Rattle.std.proofs.Common.{◌≡◌, ◌⊎◌, inl, inr, ℕ, ◌+◌, Bool, true, false, true≢false, List, length, Some, refl, sym, ◌∙◌}
+use Rattle.std.proofs.Common.{◌≡◌, ◌⊎◌, inl, inr, ℕ, ◌+◌, Bool, true, false, true≢false, List, length, Some, sym, ◌∙◌}
 use Rattle.std.specs.Prelude.{slice_get}
-use Rattle.oc_tree.specs.Tree.{TCall, call, TFunction, TProgram}
+use Rattle.oc_tree.specs.Tree.{call, TFunction, TProgram}
 use Rattle.oc_tree.specs.Numbers.{block_statements}
 use Rattle.oc_tree.specs.Places.{Placed, at_start, block_placed}
 use Rattle.oc_tree.specs.Marked.{TMarked, IsMarked}
 use Rattle.oc_tree.specs.declared.tree.VarId.{VarId}
 use Rattle.oc_meaning.specs.Blocks.{set_home}
-use Rattle.oc_meaning.specs.Store.{Store}
-use Rattle.oc_meaning.specs.Exec.{Passed}
 use Rattle.oc_meaning.specs.Run.{call_to}
-use Rattle.oc_effects.specs.Effects.{TCalled, effect_of, call_of}
+use Rattle.oc_effects.specs.Effects.{TCalled, effect_of}
 use Rattle.oc_tree.specs.Members.{IsOf}
 use Rattle.oc_flow.specs.Laws.{FlowsIsFlow, BringsIsBrings}
 use Rattle.oc_flow.proofs.FlowLaw.{flows_decide, brings_decide}
 use Rattle.oc_flow.proofs.Ranks.{ranked}
 use Rattle.oc_needs.specs.Need.{NeedsIsNeed}
 use Rattle.oc_needs.proofs.NeedLaw.{needs_decide}
-use Rattle.oc_desugar.proofs.NumberLists.{Follow}
-use Rattle.oc_copies.specs.Copies.{HasStored, own_frame}
 use Rattle.oc_timely.specs.Covering.{IsCoveredAt, IsCovering}
 use Rattle.oc_timely.specs.Enough.{Target, Met}
-use Rattle.oc_copies.specs.Stands.{AreFormed, IsRuledCall}
 use Rattle.oc_timely.specs.Scopes.{scope_of}
-use Rattle.oc_timely.specs.Within.{start_where}
 use Rattle.oc_timely.specs.Steps.{RequirementsMeet}
-use Rattle.oc_timely.specs.Modes.{Sees, Flows}
+use Rattle.oc_timely.specs.Modes.{Flows}
 use Rattle.oc_timely.specs.Laid.{Static}
 use Rattle.oc_timely.proofs.Apart.{its, region, one_region}
 use Rattle.oc_timely.proofs.Inputs.{input_is}
@@ -90,7 +84,8 @@ module _ (m : TMarked) (marked : IsMarked m) (c : IsCovering m) (f : ℕ) (g : T
   -- what its calls pass
   may_pass : (base : ℕ) → CallsMayPass m.program f base (block_placed (at_start g) g.body)
   may_pass base b o x args is env w σ sees stored u h place stands ps e =
-      calls_may_pass m.program (scope_of m.program f b.at.variables) env σ sees.stands x args (ruled m.program m.groups marked.checked f g at (found m.program f g at marked.checked.form.numbered.statements) b o (call x args) is) u h place stands ps e
+      calls_may_pass m.program (scope_of m.program f b.at.variables) env σ sees.stands x args
+      (ruled m.program m.groups marked.checked f g at (found m.program f g at marked.checked.form.numbered.statements) b o (call x args) is) u h place stands ps e
 
   -- what is left: the flow at each statement
   pub known : ((depth base : ℕ) → Flows m.program m.regions (call_to m.program m.regions depth) (set_home g.body) f base (block_placed (at_start g) g.body)) → Knows m c.guarded f g

@@ -1,9 +1,11 @@
 -- Statements are numbered in source order, and each block of which a part has a statement has all of them there.
-use Rattle.std.proofs.Common.{◌≡◌, ◌<◌, ◌≤◌, ◌⊎◌, inl, inr, ℕ, zero, suc, ◌+◌, Bool, true, false, List, [], ◌∷◌, ◌++◌, length, Some, cond, refl, sym, ◌∙◌, subst, arith, length-append, append-nil, flat_map}
+use Rattle.std.proofs.Common.{◌≡◌, ◌<◌, ◌≤◌, ◌⊎◌, inl, inr, ℕ, zero, suc, ◌+◌, Bool, true, false, List, [], ◌∷◌, ◌++◌, length, Some, cond, refl, sym, ◌∙◌, subst, arith}
+use Rattle.std.proofs.Common.{length-append, append-nil, flat_map}
 use Rattle.std.specs.Prelude.{◌==◌, slice_get}
 use Rattle.std.proofs.lemmas.Bool.{eqb-true}
 use Rattle.std.proofs.lemmas.Option.{none-some, same_Some}
-use Rattle.oc_tree.specs.Tree.{TKind, let_to, let_array, assign, assign_index, assign_deref, if_else, for_in, while_do, call_only, sense_only, emit, fresh, consistent, return, TElse, no_else, else_do, stmt, TBlock, block, TStmts, no_stmts, more, TFunction, TProgram}
+use Rattle.oc_tree.specs.Tree.{TKind, let_to, let_array, assign, assign_index, assign_deref, if_else, for_in, while_do, call_only, sense_only, emit, fresh, consistent, return}
+use Rattle.oc_tree.specs.Tree.{TElse, no_else, else_do, stmt, TBlock, block, TStmts, no_stmts, more, TFunction, TProgram}
 use Rattle.oc_tree.specs.Form.{Numbered}
 use Rattle.oc_tree.specs.Numbers.{kind_statements, else_statements, block_statements, stmts_statements, kind_blocks, else_blocks, block_blocks, stmts_blocks}
 use Rattle.oc_tree.specs.Places.{block_of}
@@ -83,14 +85,16 @@ module _ (p : TProgram) where
     -- around what is inside and behind it
     behind_own : Known → Around p (suc i) (next + length (stmts_statements rest)) j (after + length (stmts_blocks rest)) (kind_pairs k ++ stmts_pairs b rest)
     behind_own h =
-        around_second p i (next + length (stmts_statements rest)) j (after + length (stmts_blocks rest)) (suc i) j (after + length (stmts_blocks rest)) ((i, b) ∷ []) (kind_pairs k ++ stmts_pairs b rest) (omega arith) (omega arith) (omega arith)
+        around_second p i (next + length (stmts_statements rest)) j (after + length (stmts_blocks rest)) (suc i) j (after + length (stmts_blocks rest)) ((i, b) ∷ [])
+        (kind_pairs k ++ stmts_pairs b rest) (omega arith) (omega arith) (omega arith)
         ((omega arith, inl h.below), tt) h.row
 
     -- around the statements inside it
     inside_part : Known → Around p (suc i) next j after (kind_pairs k)
     inside_part h =
         around_first p (suc i) (next + length (stmts_statements rest)) j (after + length (stmts_blocks rest)) next j after (kind_pairs k) (stmts_pairs b rest) (omega arith) (omega arith) (omega arith)
-        (pairs_map (RangedIn b next (next + length (stmts_statements rest)) after (after + length (stmts_blocks rest))) (Later next j after) (λ x r. (r.0.0, apart x r.1)) (stmts_pairs b rest) h.others) (behind_own h)
+        (pairs_map (RangedIn b next (next + length (stmts_statements rest)) after (after + length (stmts_blocks rest))) (Later next j after) (λ x r. (r.0.0, apart x r.1))
+        (stmts_pairs b rest) h.others) (behind_own h)
       where
         apart : (x : Pair) → (x.1 ≡ b) ⊎ From after (after + length (stmts_blocks rest)) x.1 → Outside j after x.1
         apart x (inl e) = let below = h.below in inl (omega (arith, e, below))
@@ -99,7 +103,8 @@ module _ (p : TProgram) where
     -- around the statements behind it
     rest_part : Known → Around p next (next + length (stmts_statements rest)) after (after + length (stmts_blocks rest)) (stmts_pairs b rest)
     rest_part h =
-        around_second p (suc i) (next + length (stmts_statements rest)) j (after + length (stmts_blocks rest)) next after (after + length (stmts_blocks rest)) (kind_pairs k) (stmts_pairs b rest) (omega arith) (omega arith) (omega arith)
+        around_second p (suc i) (next + length (stmts_statements rest)) j (after + length (stmts_blocks rest)) next after (after + length (stmts_blocks rest)) (kind_pairs k)
+        (stmts_pairs b rest) (omega arith) (omega arith) (omega arith)
         (earlier_part (suc i) next j after (after + length (stmts_blocks rest)) (kind_pairs k) h.inside) (behind_own h)
 
   -- what holds of each statement and its block
@@ -145,7 +150,8 @@ module _ (p : TProgram) where
         let n : i' + length (else_statements b) ≡ i + length (block_statements a ++ else_statements b) = omega (arith, length-append (block_statements a) (else_statements b)) in (
           i',
           block_laid i j a s.0 t.0 (part_first i j (block_statements a) (else_statements b) (block_blocks a) (else_blocks b) (block_pairs a) (else_pairs b) (else_ranged i' j' b s.1 t.1) h),
-          subst (λ k. LaidElse p i' b k) n (else_laid i' j' b s.1 t.1 (part_second i j (block_statements a) (else_statements b) (block_blocks a) (else_blocks b) (block_pairs a) (else_pairs b) (block_ranged i j a s.0 t.0) h)),
+          subst (λ k. LaidElse p i' b k) n (else_laid i' j' b s.1 t.1
+              (part_second i j (block_statements a) (else_statements b) (block_blocks a) (else_blocks b) (block_pairs a) (else_pairs b) (block_ranged i j a s.0 t.0) h)),
         )
     kind_laid i j (for_in x m n b) f g h = block_laid i j b f g h
     kind_laid i j (while_do c n b) f g h = block_laid i j b f g h
@@ -186,7 +192,8 @@ module _ (p : TProgram) where
         let after = j + length (kind_blocks k) in
         let top : i + length (n ∷ (kind_statements k ++ stmts_statements rest)) ≡ next + length (stmts_statements rest) = omega (arith, length-append (kind_statements k) (stmts_statements rest)) in
         let deep : j + length (kind_blocks k ++ stmts_blocks rest) ≡ after + length (stmts_blocks rest) = omega (arith, length-append (kind_blocks k) (stmts_blocks rest)) in
-        let row1 = subst (λ m. Around p i (i + length (n ∷ (kind_statements k ++ stmts_statements rest))) j (j + length (kind_blocks k ++ stmts_blocks rest)) ((m, b) ∷ (kind_pairs k ++ stmts_pairs b rest))) o.0 h in
+        let row1 = subst (λ m. Around p i (i + length (n ∷ (kind_statements k ++ stmts_statements rest))) j (j + length (kind_blocks k ++ stmts_blocks rest))
+        ((m, b) ∷ (kind_pairs k ++ stmts_pairs b rest))) o.0 h in
         let row2 = subst (λ z. Around p i z j (j + length (kind_blocks k ++ stmts_blocks rest)) ((i, b) ∷ (kind_pairs k ++ stmts_pairs b rest))) top row1 in
         let row3 = subst (λ d. Around p i (next + length (stmts_statements rest)) j d ((i, b) ∷ (kind_pairs k ++ stmts_pairs b rest))) deep row2 in
         let width : suc i + length (kind_statements k) ≡ next = omega arith in
@@ -222,8 +229,15 @@ module _ (p : TProgram) where
       let cs = flat_map (λ f. block_blocks f.body) fs in
       let s = parts i us vs f in
       let t = parts j bs cs g in
-      let own : IsLaid i y = record { first = i; from = omega arith; follows = s.0; laid = block_laid i j y.body s.0 t.0 (part_first i j us vs bs cs (block_pairs y.body) (flat_map (λ f. block_pairs f.body) fs) (functions_ranged (i + length us) (j + length bs) fs s.1 t.1) h) } in
-      let others = functions_laid (i + length us) (j + length bs) fs s.1 t.1 (part_second i j us vs bs cs (block_pairs y.body) (flat_map (λ f. block_pairs f.body) fs) (block_ranged i j y.body s.0 t.0) h) in
+      let own : IsLaid i y = record {
+        first = i;
+        from = omega arith;
+        follows = s.0;
+        laid =
+            block_laid i j y.body s.0 t.0 (part_first i j us vs bs cs (block_pairs y.body) (flat_map (λ f. block_pairs f.body) fs) (functions_ranged (i + length us) (j + length bs) fs s.1 t.1) h);
+      } in
+      let others = functions_laid (i + length us) (j + length bs) fs s.1 t.1
+      (part_second i j us vs bs cs (block_pairs y.body) (flat_map (λ f. block_pairs f.body) fs) (block_ranged i j y.body s.0 t.0) h) in
       go u e own others
     where
       go : (u : ℕ) → slice_get (y ∷ fs) u ≡ Some x → IsLaid i y → ((v : ℕ) (z : TFunction) → slice_get fs v ≡ Some z → IsLaid (i + length (block_statements y.body)) z) → IsLaid i x

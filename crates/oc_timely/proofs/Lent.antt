@@ -1,10 +1,10 @@
 -- What is copied back behind a call was lent by a name of its arguments.
-use Rattle.std.proofs.Common.{◌≡◌, ◌⊎◌, inl, inr, ℕ, zero, suc, ◌+◌, ◌<◌, ◌≤◌, Bool, true, false, true≢false, List, [], ◌∷◌, length, Option, Some, None, cond, refl, sym, ap, ◌∙◌, subst, arith}
-use Rattle.std.specs.Prelude.{◌&&◌, ◌==◌, if◌then◌else◌, option_and_then, unwrap_or}
+use Rattle.std.proofs.Common.{◌≡◌, ◌⊎◌, inl, inr, ℕ, zero, suc, ◌+◌, ◌<◌, ◌≤◌, Bool, true, false, true≢false, List, [], ◌∷◌, Option, Some, None, cond, refl, sym, ap, ◌∙◌, subst, arith}
+use Rattle.std.specs.Prelude.{◌&&◌, ◌==◌, if◌then◌else◌, option_and_then}
 use Rattle.std.proofs.Math.ListN.{get_or}
 use Rattle.std.proofs.lemmas.Option.{none-some, same_Some}
 use Rattle.oc_tree.specs.Names.{Text}
-use Rattle.oc_tree.specs.Tree.{TExpr, variable, TArg, value, shared, mutable, call, TArgs, no_args, more_args, TProgram}
+use Rattle.oc_tree.specs.Tree.{TExpr, variable, TArg, value, shared, mutable, TArgs, no_args, more_args, TProgram}
 use Rattle.oc_tree.specs.declared.tree.Param.{Param}
 use Rattle.oc_tree.specs.declared.tree.Passing.{Passing}
 use Rattle.oc_tree.specs.declared.tree.Passing.TheVariants as passings
@@ -13,15 +13,14 @@ use Rattle.oc_tree.specs.Assigned.{is_mutable}
 use Rattle.oc_tree.specs.Places.{Placed}
 use Rattle.oc_tree.specs.Scope.{Scope, variable_of}
 use Rattle.oc_tree.specs.Rules.{shared_meets, arg_meets, args_meet}
-use Rattle.oc_meaning.specs.Store.{Held, Place, Local, Global, Turn, Nowhere, Store, Binding, at, nothing, held_at, left_at, binding_of, place_of}
+use Rattle.oc_meaning.specs.Store.{Place, Local, Store, Binding, held_at, binding_of, place_of}
 use Rattle.oc_meaning.specs.Eval.{Got, Val, Traps, value_of}
 use Rattle.oc_meaning.specs.Exec.{Passed, Copied, Lent, Passing as Given, Passes, Breaks, passed_first, value_first, passed_on, arg_first, args_of}
 use Rattle.oc_effects.specs.Effects.{variable_at, lent_name, all_passed}
 use Rattle.oc_flow.specs.Variables.{nothing_passed}
 use Rattle.oc_tree.specs.Members.{IsOf}
 use Rattle.oc_desugar.proofs.KeptExpressions.{first_holds, second_holds}
-use Rattle.oc_copies.specs.Copies.{lent_place, passing_at, copied_back, all_copied_back, beside, behind_call}
-use Rattle.oc_timely.proofs.Going.{left_or}
+use Rattle.oc_copies.specs.Copies.{lent_place, passing_at, copied_back, all_copied_back}
 use Rattle.oc_timely.proofs.Writes.{put_or}
 
 -- ---- what is copied back

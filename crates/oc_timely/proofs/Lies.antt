@@ -84,9 +84,11 @@ module _ (p : TProgram) where
         let u = up_block (suc id) x h.0 h.1 in
         let v = up_else h.0 y k h.2 in
         elim (in_append b (block_placed (in_branch spot id) x) (else_placed (in_branch spot id) y) i) [
-          | inl l ↦ let q = lies_block (suc id) x h.0 (in_branch spot id) b h.1 l in (q.low, outer id k spot (in_branch spot id) b refl (omega (arith, u, v)) (wider (suc id) h.0 (suc id) k (in_branch spot id) b (omega arith) v q))
+          | inl l ↦ let q = lies_block (suc id) x h.0 (in_branch spot id) b h.1 l in
+              (q.low, outer id k spot (in_branch spot id) b refl (omega (arith, u, v)) (wider (suc id) h.0 (suc id) k (in_branch spot id) b (omega arith) v q))
           | inr r ↦ let q =
-              wider h.0 k (suc id) k (in_branch spot id) b u (omega arith) (lies_else h.0 y k (in_branch spot id) b h.2 r) in (q.low, outer id k spot (in_branch spot id) b refl (omega (arith, u, v)) q)
+              wider h.0 k (suc id) k (in_branch spot id) b u (omega arith) (lies_else h.0 y k (in_branch spot id) b h.2 r) in
+              (q.low, outer id k spot (in_branch spot id) b refl (omega (arith, u, v)) q)
         ]
     lies_kind id (for_in x c d y) k spot b h i =
         let u = up_block (suc id) y k h in
@@ -116,5 +118,6 @@ module _ (p : TProgram) where
         let v = up_stmts h.1 rest k h.3 in
         elim (in_append b (kind_placed spot id s) (stmts_placed (behind spot id s) rest) i) [
           | inl l ↦ wider id h.1 n k spot b (omega (arith, h.0)) v (lies_kind id s h.1 spot b h.2 l).1
-          | inr r ↦ let q = wider h.1 k n k (behind spot id s) b (omega (arith, u, h.0)) (omega arith) (lies_stmts h.1 rest k (behind spot id s) b h.3 r) in record { low = q.low; high = q.high; split = q.split; has = q.has }
+          | inr r ↦ let q = wider h.1 k n k (behind spot id s) b (omega (arith, u, h.0)) (omega arith) (lies_stmts h.1 rest k (behind spot id s) b h.3 r) in
+              record { low = q.low; high = q.high; split = q.split; has = q.has }
         ]

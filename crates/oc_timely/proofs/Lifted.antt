@@ -64,7 +64,8 @@ module _ (flow : FlowsIsFlow) (p : TProgram) (groups : List Group) (checked : Is
   lifted u w x loop a b o =
       let first = decide_true (flows p f u w) (Flow p f u w) (flow p groups checked f u w) a in
       let second = decide_true (flows p f w x) (Flow p f w x) (flow p groups checked f w x) b in
-      any_in (λ w. carries p f u x w && is_outside p f loop w) (variables p f) w (there p f w (flow_from p f w x b)) (both (carries p f u x w) (is_outside p f loop w) (both (flows p f u w) (flows p f w x) first second) o)
+      any_in (λ w. carries p f u x w && is_outside p f loop w) (variables p f) w (there p f w (flow_from p f w x b))
+      (both (carries p f u x w) (is_outside p f loop w) (both (flows p f u w) (flows p f w x) first second) o)
 
   pub low : (a : TEffect) (u x : VarId) → IsOf a (effects_at p f) → site p f a u x ≤ a.stmt
   low a u x i = site_low p f a u x (λ y o. let n = effects_nested p checked.form.numbered.statements f a i in let l = n.0 y (in_reverse y a.around o) in omega (arith, l))

@@ -19,7 +19,8 @@ use Rattle.oc_flow.proofs.Lists.{any_in, row_within, first_of_both, second_of_bo
 use Rattle.oc_needs.specs.Policies.{policies, annotated, held}
 use Rattle.oc_needs.specs.Need.{Need, by_annotation, by_call as need_by_call, NeedsIsNeed, is_empty, is_needed_at, needs}
 use Rattle.oc_needs.specs.Sites.{site, is_input, input_sites}
-use Rattle.oc_needs.specs.Requirements.{TRequirement, rising, is_before, with_list, in_order, with_inputs, own_sites, needed_at, call_sites, function_sites, required_in, required_of, required_from, requirements}
+use Rattle.oc_needs.specs.Requirements.{TRequirement, rising, is_before, with_list, in_order, with_inputs, own_sites, needed_at, call_sites, function_sites, required_in}
+use Rattle.oc_needs.specs.Requirements.{required_of, required_from, requirements}
 use Rattle.oc_needs.proofs.Tests.{in_filter, or_no}
 use Rattle.oc_needs.proofs.Rising.{in_rising}
 use Rattle.oc_timely.specs.Covering.{IsCovering, IsMet}
@@ -110,13 +111,15 @@ own_required p q h e =
     let sites = rising (input_sites p q.function (annotated p q) ++ held p q) in
     let some = with_some (input_sites p q.function (annotated p q)) (held p q) e in
     let own : IsOf sites (own_sites p q) = subst (λ b. IsOf sites (cond b [] (with_inputs (input_sites p q.function (annotated p q)) (held p q)))) (sym h) some in
-    of_left sites (cond (nat_eq q.function q.function) (own_sites p q) []) (flat_map (call_sites p q q.function) (effects_at p q.function)) (subst (λ b. IsOf sites (cond b (own_sites p q) [])) (sym (self_eq q.function)) own)
+    of_left sites (cond (nat_eq q.function q.function) (own_sites p q) []) (flat_map (call_sites p q q.function) (effects_at p q.function))
+    (subst (λ b. IsOf sites (cond b (own_sites p q) [])) (sym (self_eq q.function)) own)
 
 call_required : (p : TProgram) (q : Policy) (g : ℕ) (a : TEffect) → IsOf a (effects_at p g) → is_empty (input_sites p g (needed_at p q g a)) ≡ false →
     IsOf (rising (input_sites p g (needed_at p q g a) ++ a.stmt ∷ [])) (function_sites p q g)
 call_required p q g a o e =
     let sites = rising (input_sites p g (needed_at p q g a) ++ a.stmt ∷ []) in
-    of_right sites (cond (nat_eq g q.function) (own_sites p q) []) (flat_map (call_sites p q g) (effects_at p g)) (in_flat (call_sites p q g) (effects_at p g) a sites o (with_some (input_sites p g (needed_at p q g a)) (a.stmt ∷ []) e))
+    of_right sites (cond (nat_eq g q.function) (own_sites p q) []) (flat_map (call_sites p q g) (effects_at p g))
+    (in_flat (call_sites p q g) (effects_at p g) a sites o (with_some (input_sites p g (needed_at p q g a)) (a.stmt ∷ []) e))
 
 -- ---- meeting
 
@@ -159,7 +162,8 @@ module _ (flow : FlowsIsFlow) (bring : BringsIsBrings) (need : NeedsIsNeed) (m :
       of k (inl g) = inl g
       of k (inr met) = inr (covered met.region met.one met.there
           (all_of (covers p met.region) (rising (input_sites p f xs ++ others)) a.stmt met.covered (in_rising a.stmt (input_sites p f xs ++ others) (of_right a.stmt (input_sites p f xs) others i)))
-          (λ b u j t. all_of (covers p met.region) (rising (input_sites p f xs ++ others)) (site p f b u x) met.covered (in_rising (site p f b u x) (input_sites p f xs ++ others) (of_left (site p f b u x) (input_sites p f xs) others (site_in xs b u x j o t)))))
+          (λ b u j t. all_of (covers p met.region) (rising (input_sites p f xs ++ others)) (site p f b u x) met.covered
+          (in_rising (site p f b u x) (input_sites p f xs ++ others) (of_left (site p f b u x) (input_sites p f xs) others (site_in xs b u x j o t)))))
 
       by : (e : Bool) → is_empty (input_sites p f xs) ≡ e → (c.guarded f ≡ true) ⊎ Met m f a x
       by true e = inr (apart (λ b u j br fl. none_there (input_sites p f xs) (site p f b u x) e (site_in xs b u x j o (input_is flow bring p m.groups marked.checked f b u x j br fl))))
@@ -173,7 +177,8 @@ module _ (flow : FlowsIsFlow) (bring : BringsIsBrings) (need : NeedsIsNeed) (m :
   own_meets q a x e i o k h =
       meets a x (annotated p q) (held p q) k h
       (λ n. is_required p q f (rising (input_sites p f (annotated p q) ++ held p q)) o (there_is a i)
-      (subst (λ g. IsOf (rising (input_sites p g (annotated p q) ++ held p q)) (function_sites p q g)) e (own_required p q (some_there (held p q) a.stmt h) (subst (λ g. is_empty (input_sites p g (annotated p q)) ≡ false) (sym e) n))))
+      (subst (λ g. IsOf (rising (input_sites p g (annotated p q) ++ held p q)) (function_sites p q g)) e
+      (own_required p q (some_there (held p q) a.stmt h) (subst (λ g. is_empty (input_sites p g (annotated p q)) ≡ false) (sym e) n))))
 
   -- at a call
   call_meets : (q : Policy) (a : TEffect) (d : TCalled) (x y : VarId) → AnyOf p f a → IsOf q (policies p) → a.call ≡ Some d → Need p q d.function y → begins d y x ≡ true →
@@ -185,7 +190,8 @@ module _ (flow : FlowsIsFlow) (bring : BringsIsBrings) (need : NeedsIsNeed) (m :
       by true k =
           let test : needs p q d.function y ≡ true = decide_true (needs p q d.function y) (Need p q d.function y) (need p m.groups marked.checked q d.function y) n in
           let some : is_needed_at p (needs p q) (Some d) x ≡ true =
-          any_in (λ y. needs p q d.function y && begins d y x) (variables p d.function) y (there p d.function y (need_known p q d.function y n)) (both (needs p q d.function y) (begins d y x) test b) in
+          any_in (λ y. needs p q d.function y && begins d y x) (variables p d.function) y (there p d.function y (need_known p q d.function y n))
+          (both (needs p q d.function y) (begins d y x) test b) in
           let needed : IsOf x (needed_at p q f a) = in_filter (is_needed_at p (needs p q) a.call) x (variables p f) (there p f x k) (ap (λ z. is_needed_at p (needs p q) z x) e ∙ some) in
           meets a x (needed_at p q f a) (a.stmt ∷ []) needed (inl refl)
           (λ z. is_required p q f (rising (input_sites p f (needed_at p q f a) ++ a.stmt ∷ [])) o (there_is a i) (call_required p q f a i z))

@@ -1,10 +1,9 @@
 -- Each statement of a function has its effect, and what it declares is a variable of the function.
-use Rattle.std.proofs.Common.{◌≡◌, inl, inr, ℕ, zero, suc, Bool, true, false, List, [], ◌∷◌, ◌++◌, length, map, filter, Option, Some, None, refl, sym, ap, ◌∙◌, subst, arith}
-use Rattle.std.specs.Prelude.{cond, nat_lt, slice_get, ◌||◌, ◌&&◌}
+use Rattle.std.proofs.Common.{◌≡◌, inl, inr, ℕ, zero, suc, Bool, true, false, List, [], ◌∷◌, ◌++◌, length, map, filter, Some, sym, ap, ◌∙◌, subst, arith}
+use Rattle.std.specs.Prelude.{cond, slice_get, ◌||◌, ◌&&◌}
 use Rattle.std.proofs.Math.ListN.{get_or}
 use Rattle.oc_tree.specs.Tree.{TFunction, TProgram}
 use Rattle.oc_tree.specs.Places.{Placed, declares, at_start, block_placed}
-use Rattle.oc_tree.specs.declared.tree.VarId.{VarId}
 use Rattle.oc_tree.specs.declared.tree.VarId.TheVariants as variables
 use Rattle.oc_effects.specs.Effects.{TEffect, effect_of, effects_at, function_effects, params_at}
 use Rattle.oc_flow.specs.Variables.{same_variable, is_among, is_variable, from}
@@ -31,7 +30,8 @@ declared_among : (a : TEffect) (es : List TEffect) → IsOf a es → a.declares 
 declared_among a [] h d = absurd h
 declared_among a (x ∷ es) (inl e) d =
     subst (λ (y : TEffect). is_among (variables.Declared a.stmt) (map (λ a. variables.Declared a.stmt) (cond y.declares (y ∷ filter (λ a. a.declares) es) (filter (λ a. a.declares) es))) ≡ true) e
-    (ap (λ c. is_among (variables.Declared a.stmt) (map (λ a. variables.Declared a.stmt) (cond c (a ∷ filter (λ a. a.declares) es) (filter (λ a. a.declares) es)))) d ∙ any_first (same_variable (variables.Declared a.stmt) (variables.Declared a.stmt)) _ (same_self (variables.Declared a.stmt)))
+    (ap (λ c. is_among (variables.Declared a.stmt) (map (λ a. variables.Declared a.stmt) (cond c (a ∷ filter (λ a. a.declares) es) (filter (λ a. a.declares) es)))) d
+    ∙ any_first (same_variable (variables.Declared a.stmt) (variables.Declared a.stmt)) _ (same_self (variables.Declared a.stmt)))
 declared_among a (x ∷ es) (inr h) d = by x.declares (declared_among a es h d)
   where
     by : (c : Bool) → is_among (variables.Declared a.stmt) (map (λ a. variables.Declared a.stmt) (filter (λ a. a.declares) es)) ≡ true →

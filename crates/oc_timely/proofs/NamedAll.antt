@@ -1,5 +1,5 @@
 -- What `Flows` takes from a function's statements.
-use Rattle.std.proofs.Common.{◌≡◌, ℕ, ◌<◌, List, Option, Some, None}
+use Rattle.std.proofs.Common.{◌≡◌, ℕ, ◌<◌, List, Some, None}
 use Rattle.std.specs.Prelude.{slice_get}
 use Rattle.oc_tree.specs.Names.{Text}
 use Rattle.oc_tree.specs.Tree.{TCall, TFunction, TProgram}

@@ -90,6 +90,10 @@ nonempty xs n o e = subst (IsOf n) e o
 pub targets_need : (p : TProgram) (f : ℕ) → TargetsNeed p f
 targets_need p f a x v i (by_use o t) given fl =
     (fresh_of f x, o, by_annotation (fresh_annotated p f x o) (nonempty (held p (fresh_of f x)) a.stmt (held_there p (fresh_of f x) a i t)) given fl)
-targets_need p f a x v i (by_tag k e) given fl =
-    (set_by f k, is_policy p f a (notes.Consistent x k) i e, by_annotation (is_annotated p (set_by f k) a (notes.Consistent x k) i e refl) (nonempty (held p (set_by f k)) a.stmt (held_there p (set_by f k) a i (set_held k x a e))) given fl)
+targets_need p f a x v i (by_tag k e) given fl = (
+  set_by f k,
+  is_policy p f a (notes.Consistent x k) i e,
+  by_annotation (is_annotated p (set_by f k) a (notes.Consistent x k) i e refl)
+      (nonempty (held p (set_by f k)) a.stmt (held_there p (set_by f k) a i (set_held k x a e))) given fl,
+)
 targets_need p f a x v i (by_call q c o e need b) given fl = (q, o, need_by_call a c i e need b given fl)

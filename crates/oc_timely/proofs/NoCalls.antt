@@ -1,18 +1,15 @@
 -- Where calls go no deeper, each leaves what it must; and what a function sees when it begins, from where it stands.
-use Rattle.std.proofs.Common.{◌≡◌, ℕ, zero, suc, ◌<◌, true, List, [], ◌∷◌, length, Option, Some, None, refl, sym, ap, ◌∙◌, arith}
-use Rattle.std.specs.Prelude.{ℤ, nat_lt, slice_get, map}
+use Rattle.std.proofs.Common.{◌≡◌, ℕ, zero, suc, ◌<◌, List, [], ◌∷◌, length, Some, refl, ap, ◌∙◌, arith}
+use Rattle.std.specs.Prelude.{ℤ, slice_get, map}
 use Rattle.std.proofs.Math.ListN.{get_or}
-use Rattle.oc_tree.specs.Names.{Text}
 use Rattle.oc_tree.specs.Tree.{call, TFunction, TProgram}
 use Rattle.oc_tree.specs.Places.{Placed, at_start}
 use Rattle.oc_tree.specs.Marked.{TRegion}
-use Rattle.oc_tree.specs.declared.tree.Param.{Param}
-use Rattle.oc_meaning.specs.Store.{Store, Binding}
+use Rattle.oc_meaning.specs.Store.{Store}
 use Rattle.oc_meaning.specs.Exec.{Passed, Passing, Passes, Breaks, with_args, args_of}
 use Rattle.oc_meaning.specs.Run.{call_to}
-use Rattle.oc_effects.specs.Effects.{params_at}
 use Rattle.oc_copies.specs.Copies.{own_frame}
-use Rattle.oc_timely.specs.Within.{Where, start_where}
+use Rattle.oc_timely.specs.Within.{start_where}
 use Rattle.oc_copies.specs.Stands.{Stands}
 use Rattle.oc_timely.specs.Scopes.{scope_of}
 use Rattle.oc_timely.specs.Modes.{Sees}

@@ -1,19 +1,17 @@
 -- A variable that is annotated as fresh has its policy.
-use Rattle.std.proofs.Common.{◌≡◌, inl, inr, ℕ, zero, suc, ◌+◌, Bool, true, false, List, [], ◌∷◌, ◌++◌, Option, Some, None, refl, sym, ap, ◌∙◌, subst, arith}
+use Rattle.std.proofs.Common.{◌≡◌, inl, inr, ℕ, zero, suc, ◌+◌, Bool, true, false, List, [], ◌∷◌, ◌++◌, Some, refl, sym, ap, ◌∙◌, subst, arith}
 use Rattle.std.specs.Prelude.{cond, flat_map, option_map, option_to_list, nat_eq, ◌||◌, ◌&&◌}
 use Rattle.std.specs.List.{list_any}
 use Rattle.std.proofs.Math.ListN.{get_or}
 use Rattle.oc_tree.specs.Names.{Text}
-use Rattle.oc_tree.specs.Tree.{fresh, TFunction, TProgram}
+use Rattle.oc_tree.specs.Tree.{fresh, TProgram}
 use Rattle.oc_tree.specs.Places.{Placed}
 use Rattle.oc_tree.specs.declared.tree.VarId.{VarId}
 use Rattle.oc_tree.specs.declared.marked.Policy.{Policy}
 use Rattle.oc_tree.specs.declared.marked.PolicyKind.{PolicyKind}
 use Rattle.oc_tree.specs.declared.marked.PolicyKind.TheVariants as kinds
-use Rattle.oc_effects.specs.declared.effect.Note.{Note}
 use Rattle.oc_effects.specs.declared.effect.Note.TheVariants as notes
 use Rattle.oc_effects.specs.Effects.{TEffect, effect_of, effects, effects_at, variable_at, note_of}
-use Rattle.oc_flow.specs.Variables.{same_variable}
 use Rattle.oc_tree.specs.Members.{IsOf}
 use Rattle.oc_needs.specs.Policies.{policies, same_policy, same_kind, kind_of_note, asked_from, each_once}
 use Rattle.oc_timely.proofs.Inside.{same_is, of_left, of_right}
@@ -67,7 +65,8 @@ asks f a = option_to_list (option_map (λ note. record { function = f; kind = ki
 in_asks : (f : ℕ) (v : VarId) (a : TEffect) (es : List TEffect) → IsOf a es → a.note ≡ Some (notes.Fresh v) → IsOf (asked f v) (flat_map (asks f) es)
 in_asks f v a [] h n = absurd h
 in_asks f v a (x ∷ es) (inl e) n =
-    of_left (asked f v) (asks f x) (flat_map (asks f) es) (subst (λ o. IsOf (asked f v) (option_to_list (option_map (λ note. record { function = f; kind = kind_of_note note }) o))) (sym (ap (λ (y : TEffect). y.note) (sym e) ∙ n)) (inl refl))
+    of_left (asked f v) (asks f x) (flat_map (asks f) es)
+    (subst (λ o. IsOf (asked f v) (option_to_list (option_map (λ note. record { function = f; kind = kind_of_note note }) o))) (sym (ap (λ (y : TEffect). y.note) (sym e) ∙ n)) (inl refl))
 in_asks f v a (x ∷ es) (inr h) n = of_right (asked f v) (asks f x) (flat_map (asks f) es) (in_asks f v a es h n)
 
 in_asked : (n f m : ℕ) (v : VarId) (a : TEffect) (ess : List (List TEffect)) → m ≡ n + f → IsOf a (get_or ess f []) → a.note ≡ Some (notes.Fresh v) → IsOf (asked m v) (asked_from n ess)

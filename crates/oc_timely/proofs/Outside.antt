@@ -11,7 +11,8 @@ use Rattle.oc_meaning.specs.Samples.{union}
 use Rattle.oc_meaning.specs.Uses.{is_fresh, is_use, use_samples, begins_use, ends_use}
 use Rattle.oc_meaning.specs.Store.{Held, Turn, Nowhere, Store, Binding, held_at}
 use Rattle.oc_meaning.specs.Eval.{is_zero, value_of}
-use Rattle.oc_meaning.specs.Exec.{Outcome, Went, Passed, used, done, closed, opened, begun_by, ended_by, count_of, for_turns, while_turns, in_turn, grown, entered, kind_run, else_run, block_run, stmts_run}
+use Rattle.oc_meaning.specs.Exec.{Outcome, Went, Passed, used, done, closed, opened, begun_by, ended_by, count_of, for_turns, while_turns, in_turn, grown, entered, kind_run}
+use Rattle.oc_meaning.specs.Exec.{else_run, block_run, stmts_run}
 use Rattle.oc_effects.specs.Effects.{TEffect, effect_of}
 use Rattle.oc_tree.specs.Members.{IsOf}
 use Rattle.oc_flow.specs.Relations.{Flow, itself}
@@ -23,9 +24,11 @@ use Rattle.oc_timely.specs.Steps.{AreTaken}
 use Rattle.oc_timely.specs.Modes.{AllFine, FineOut, Sees, CallFine, Flows, Goes, In, Among, own_placed, IsSteady, with_place, where_behind, IsStep, PairedKind, PairedElse, PairedBlock, PairedStmts}
 use Rattle.oc_timely.proofs.Came.{flow_on}
 use Rattle.oc_timely.proofs.Sampled.{in_union}
-use Rattle.oc_timely.proofs.Marks.{like_held, like_samples, sees_length, like_sees, sees_later, like_stored, IsQuiet, quiet_used, quiet_done, quiet_taken, sees_spot, quiet_entered, like_opened, like_closed, is_deep, was_deep, begun_is, ended_is}
+use Rattle.oc_timely.proofs.Marks.{like_held, like_samples, sees_length, like_sees, sees_later, like_stored, IsQuiet, quiet_used, quiet_done, quiet_taken, sees_spot, quiet_entered}
+use Rattle.oc_timely.proofs.Marks.{like_opened, like_closed, is_deep, was_deep, begun_is, ended_is}
 use Rattle.oc_timely.proofs.Straight.{fine_value, fine_used, fine_done, fine_closed, fine_opened, use_target, straight_fine}
-use Rattle.oc_timely.proofs.Inside.{fine_then, fine_finished, fine_leave, fine_if, turn_samples, samples_turn, of_left, of_right, SinceAt, since_quiet, count_open, FitsAt, Open, open_opened, open_less, open_quiet, open_on, use_open, since_on, kind_open}
+use Rattle.oc_timely.proofs.Inside.{fine_then, fine_finished, fine_leave, fine_if, turn_samples, samples_turn, of_left, of_right, SinceAt, since_quiet, count_open, FitsAt, Open}
+use Rattle.oc_timely.proofs.Inside.{open_opened, open_less, open_quiet, open_on, use_open, since_on, kind_open}
 
 module _ (m : TMarked) (guarded : ℕ → Bool) (call : Text → List Passed → Store → Outcome) (home : ℤ → ℕ) (f base : ℕ) (body : List Placed) (calls : CallFine m guarded call home f base body)
     (flows : Flows m.program m.regions call home f base body)
@@ -97,7 +100,15 @@ module _ (m : TMarked) (guarded : ℕ → Bool) (call : Text → List Passed →
       let l = o.marks in
       let e = ended_is r σ o.taken (omega (arith, l)) in
       let d = e.deep in
-      record { taken = e.taken; stored = o.stored; marks = omega arith; entered = λ h. let a = o.entered h in (omega (arith, a.0, d), e.still ∙ a.1); clean = o.clean; all = fine_closed (Some r) σ o.all }
+      record {
+        taken = e.taken;
+        stored = o.stored;
+        marks = omega arith;
+        entered = λ h. let a = o.entered h in (omega (arith, a.0, d), e.still ∙ a.1);
+        clean = o.clean;
+        all =
+            fine_closed (Some r) σ o.all;
+      }
 
   shut_closed : (C : VarId → Type 0) (w : Where) (inside begun ended : Option ℕ) (σ : Store) → IsStep inside begun ended → Shut C w (count_open inside + count_open begun) σ →
       Shut C w (count_open (next_mode inside begun ended)) (closed ended σ)
@@ -172,8 +183,14 @@ module _ (m : TMarked) (guarded : ℕ → Bool) (call : Text → List Passed →
       ⊎ (plain × ((w' : Where) (τ : Store) → OpenOr inside begun (OkClean m guarded f inside C0 C begun) w' τ))
 
   mode_at : (inside begun : Option ℕ) (C0 C : VarId → Type 0) (P : TEffect → Type 0) (plain : Type 0) (w : Where) (σ : Store) →
-      OkStep m guarded f inside begun (FitsAt m guarded call home f base body calls flows C0 P) (FitsAt m guarded call home f base body calls flows C P) plain → Shut C w (count_open inside) σ → OpenIf inside C0 w σ → ModeAt inside begun C0 C P plain w σ
-  mode_at (Some r) begun C0 C P plain w σ ok o i = inl (open_less m guarded call home f base body calls flows C0 w (0 + count_open begun) 0 (opened begun σ) (omega arith) (open_opened m guarded call home f base body calls flows C0 w 0 begun σ i), ok)
+      OkStep m guarded f inside begun (FitsAt m guarded call home f base body calls flows C0 P) (FitsAt m guarded call home f base body calls flows C P) plain
+      → Shut C w (count_open inside) σ → OpenIf inside C0 w σ → ModeAt inside begun C0 C P plain w σ
+  mode_at (Some r) begun C0 C P plain w σ ok o i =
+      inl (
+        open_less m guarded call home f base body calls flows C0 w (0 + count_open begun) 0 (opened begun σ) (omega arith)
+            (open_opened m guarded call home f base body calls flows C0 w 0 begun σ i),
+        ok,
+      )
   mode_at None (Some q) C0 C P plain w σ ok o i = inl (begins_open C w q σ o, ok)
   mode_at None None C0 C P plain w σ ok o i = inr (ok, λ w' τ. tt)
 
@@ -215,12 +232,15 @@ module _ (m : TMarked) (guarded : ℕ → Bool) (call : Text → List Passed →
 
   module _ (C : VarId → Type 0) (spot : Spot) (id line : ℕ) (env : List Binding) (w : Where) where
     for_shut : (x : Text) (c d : ℤ) (b : TBlock) → InBody (own_placed spot id line (for_in x c d b)) → PairedBlock m.regions (suc id) b →
-        ((i : ℤ) (σ : Store) → Sees p f base (suc id) (in_loop spot id ((x, variables.Declared id) ∷ [])) (in_turn x i ∷ env) (with_place w id (Turn i)) σ → Shut (CleanTurn C id (Among p (kind_placed spot id (for_in x c d b)))) (with_place w id (Turn i)) 0 σ → FineOut (block_run p.names m.regions call home (in_turn x i ∷ env) b σ)) →
-        (t : ℕ) (i : ℤ) (σ : Store) → Sees p f base id spot env w σ → Shut (CleanTurn C id (Among p (kind_placed spot id (for_in x c d b)))) w 0 σ → FineOut (for_turns t i (λ i. block_run p.names m.regions call home (in_turn x i ∷ env) b) σ)
+        ((i : ℤ) (σ : Store) → Sees p f base (suc id) (in_loop spot id ((x, variables.Declared id) ∷ [])) (in_turn x i ∷ env) (with_place w id (Turn i)) σ
+        → Shut (CleanTurn C id (Among p (kind_placed spot id (for_in x c d b)))) (with_place w id (Turn i)) 0 σ → FineOut (block_run p.names m.regions call home (in_turn x i ∷ env) b σ)) →
+        (t : ℕ) (i : ℤ) (σ : Store) → Sees p f base id spot env w σ → Shut (CleanTurn C id (Among p (kind_placed spot id (for_in x c d b)))) w 0 σ
+        → FineOut (for_turns t i (λ i. block_run p.names m.regions call home (in_turn x i ∷ env) b) σ)
     for_shut x c d b sub pair each zero i σ s o = o.all
     for_shut x c d b sub pair each (suc t) i σ s o =
         let s' = flows.turn spot id line x c d b (sub _ (inl refl)) env w σ i s in
-        let o' : Shut (CleanTurn C id (Among p (kind_placed spot id (for_in x c d b)))) (with_place w id (Turn i)) 0 σ = record { taken = o.taken; stored = o.stored; marks = o.marks; entered = o.entered; clean = λ y k v j h fl. o.clean y k v j (turn_samples σ w id i v j h) fl; all = o.all } in
+        let o' : Shut (CleanTurn C id (Among p (kind_placed spot id (for_in x c d b)))) (with_place w id (Turn i)) 0 σ =
+        record { taken = o.taken; stored = o.stored; marks = o.marks; entered = o.entered; clean = λ y k v j h fl. o.clean y k v j (turn_samples σ w id i v j h) fl; all = o.all } in
         fine_then (block_run p.names m.regions call home (in_turn x i ∷ env) b σ) _ (each i σ s' o') (λ τ e a.
         let r = flows.block (in_loop spot id ((x, variables.Declared id) ∷ [])) (suc id) b (λ z h. sub z (inr h)) pair (in_turn x i ∷ env) (with_place w id (Turn i)) σ τ s' o.taken o.stored e in
         let gone : w (variables.Declared id) ≡ Nowhere = elim (s.older id) [ inl g ↦ g | inr l ↦ absurd (omega (arith, l)) ] in
@@ -229,11 +249,14 @@ module _ (m : TMarked) (guarded : ℕ → Bool) (call : Text → List Passed →
 
     while_shut : (c : TExpr) (z : ℕ) (b : TBlock) → InBody (own_placed spot id line (while_do c z b)) → PairedBlock m.regions (suc id) b →
         ((x : VarId) → Target p f (effect_of p (record { id = id; line = line; kind = while_do c z b; at = spot })) x → CleanTurn C id (Among p (kind_placed spot id (while_do c z b))) x) →
-        ((σ : Store) → Sees p f base (suc id) (in_loop spot id []) env w σ → Shut (CleanTurn C id (Among p (kind_placed spot id (while_do c z b)))) w 0 σ → FineOut (block_run p.names m.regions call home env b σ)) →
-        (t : ℕ) (before : List ℕ) (σ : Store) → ((j : ℕ) → IsOf j before → (d0 ≡ true) × (s0 ≤ j) × (j < taken_in σ.events)) → Sees p f base id spot env w σ → Shut (CleanTurn C id (Among p (kind_placed spot id (while_do c z b)))) w 0 σ →
+        ((σ : Store) → Sees p f base (suc id) (in_loop spot id []) env w σ → Shut (CleanTurn C id (Among p (kind_placed spot id (while_do c z b)))) w 0 σ
+        → FineOut (block_run p.names m.regions call home env b σ)) →
+        (t : ℕ) (before : List ℕ) (σ : Store) → ((j : ℕ) → IsOf j before → (d0 ≡ true) × (s0 ≤ j) × (j < taken_in σ.events)) → Sees p f base id spot env w σ
+        → Shut (CleanTurn C id (Among p (kind_placed spot id (while_do c z b)))) w 0 σ →
         FineOut (while_turns t id (is_use (is_fresh env) (while_do c z b)) (use_samples env (while_do c z b)) (λ τ. value_of env τ c) (block_run p.names m.regions call home env b) before σ)
     while_shut c z b sub pair fit each zero before σ h s o =
-        fine_done (is_use (is_fresh env) (while_do c z b)) id before σ (λ j i. let k = h j i in clean_since (CleanTurn C id (Among p (kind_placed spot id (while_do c z b)))) w 0 σ o j (k.0, k.1) k.2) o.all
+        fine_done (is_use (is_fresh env) (while_do c z b)) id before σ
+        (λ j i. let k = h j i in clean_since (CleanTurn C id (Among p (kind_placed spot id (while_do c z b)))) w 0 σ o j (k.0, k.1) k.2) o.all
     while_shut c z b sub pair fit each (suc t) before σ h s o =
         fine_value (value_of env first c) id first _ seen.all (λ v.
         fine_if (is_zero v.num) (Went (done is id (union before uses) first)) _
@@ -313,10 +336,12 @@ module _ (m : TMarked) (guarded : ℕ → Bool) (call : Text → List Passed →
 
     uses_then : (j : ℕ) → IsOf j uses → SinceAt marked j
     uses_then j h = elim mode [
-      | inl i ↦ use_open m guarded call home f base body calls flows D w 0 (record { id = id; line = line; kind = k; at = spot }) (own_placed spot id line k) env σ marked s (like_opened begun σ) i.0 (inl refl) i.1 j h
+      | inl i ↦ use_open m guarded call home f base body calls flows D w 0 (record { id = id; line = line; kind = k; at = spot }) (own_placed spot id line k) env σ marked s
+          (like_opened begun σ) i.0 (inl refl) i.1 j h
       | inr i ↦
           let u = use_target p f base id (record { id = id; line = line; kind = k; at = spot }) env w σ s j h in
-          let c = target_clean C w count id spot env marked sees_mark at_mark u.0 (own i.0 u.0 u.1) j (subst (λ (x : Held). IsOf j x.samples) (sym (like_held σ marked (like_opened begun σ) (w u.0))) u.2) in
+          let c = target_clean C w count id spot env marked sees_mark at_mark u.0 (own i.0 u.0 u.1) j
+          (subst (λ (x : Held). IsOf j x.samples) (sym (like_held σ marked (like_opened begun σ) (w u.0))) u.2) in
           clean_since C w count marked at_mark j (c.0, c.1) c.2
     ]
 
@@ -339,7 +364,9 @@ module _ (m : TMarked) (guarded : ℕ → Bool) (call : Text → List Passed →
     kind_fine : PairedKind m.regions (suc id) k → (plain → Shut C w 0 start → FineOut (kind_run p.names m.regions call home env id k start)) →
         FineOut (kind_run p.names m.regions call home env id k start)
     kind_fine pair out = elim mode [
-      | inl i ↦ kind_open m guarded call home f base body calls flows D spot id line k (λ z h. sub z (of_left z (own_placed spot id line k) (stmts_placed (behind spot id k) rest) h)) pair i.1 env w start sees_start (open_quiet m guarded call home f base body calls flows D w 0 marked start quiet all_start i.0)
+      | inl i ↦ kind_open m guarded call home f base body calls flows D spot id line k
+          (λ z h. sub z (of_left z (own_placed spot id line k) (stmts_placed (behind spot id k) rest) h)) pair i.1 env w start sees_start
+          (open_quiet m guarded call home f base body calls flows D w 0 marked start quiet all_start i.0)
       | inr i ↦ out i.0 (shut_less C w count 0 start (omega arith) at_start)
     ]
 
@@ -382,7 +409,8 @@ module _ (m : TMarked) (guarded : ℕ → Bool) (call : Text → List Passed →
       open_after : IsStep inside begun ended → OpenIf (next_mode inside begun ended) D w' (after τ)
       open_after h = open_next inside begun ended D w' used_up h (elim mode [
         | inl i ↦ open_or inside begun D w' used_up (open_quiet m guarded call home f base body calls flows D w' 0 τ used_up quiet_end all_end
-            (open_on m guarded call home f base body calls flows D (Among p (own_placed spot id line k)) w w' 0 start τ went.came went.steady a (open_quiet m guarded call home f base body calls flows D w 0 marked start quiet all_start i.0)))
+            (open_on m guarded call home f base body calls flows D (Among p (own_placed spot id line k)) w w' 0 start τ went.came went.steady a
+            (open_quiet m guarded call home f base body calls flows D w 0 marked start quiet all_start i.0)))
         | inr i ↦ i.1 w' used_up
       ])
 
@@ -407,11 +435,14 @@ module _ (m : TMarked) (guarded : ℕ → Bool) (call : Text → List Passed →
         Sees p f base id spot env w σ → Shut C w 0 σ → FineOut (kind_run p.names m.regions call home env id k σ)
     kind_shut C spot id line (if_else c a b) sub pair own ok env w σ s o =
         fine_value (value_of env σ c) id σ _ o.all (λ v. fine_if (is_zero v.num) (else_run p.names m.regions call home env b σ) (block_run p.names m.regions call home env a σ)
-        (else_shut C (in_branch spot id) (suc id) b (λ z h. sub z (inr (of_right z (block_placed (in_branch spot id) a) (else_placed (in_branch spot id) b) h))) pair.1 ok.1 env w σ (branch_sees spot id env w σ s) o)
-        (block_shut C (in_branch spot id) (suc id) a (λ z h. sub z (inr (of_left z (block_placed (in_branch spot id) a) (else_placed (in_branch spot id) b) h))) pair.0 ok.0 env w σ (branch_sees spot id env w σ s) o))
+        (else_shut C (in_branch spot id) (suc id) b (λ z h. sub z (inr (of_right z (block_placed (in_branch spot id) a) (else_placed (in_branch spot id) b) h))) pair.1 ok.1 env w σ
+        (branch_sees spot id env w σ s) o)
+        (block_shut C (in_branch spot id) (suc id) a (λ z h. sub z (inr (of_left z (block_placed (in_branch spot id) a) (else_placed (in_branch spot id) b) h))) pair.0 ok.0 env w σ
+        (branch_sees spot id env w σ s) o))
     kind_shut C spot id line (for_in x c d b) sub pair own ok env w σ s o =
         for_shut C spot id line env w x c d b sub pair
-        (λ i τ s' o'. block_shut (CleanTurn C id (Among p (kind_placed spot id (for_in x c d b)))) (in_loop spot id ((x, variables.Declared id) ∷ [])) (suc id) b (λ z h. sub z (inr h)) pair ok (in_turn x i ∷ env) (with_place w id (Turn i)) τ s' o')
+        (λ i τ s' o'. block_shut (CleanTurn C id (Among p (kind_placed spot id (for_in x c d b)))) (in_loop spot id ((x, variables.Declared id) ∷ [])) (suc id) b
+        (λ z h. sub z (inr h)) pair ok (in_turn x i ∷ env) (with_place w id (Turn i)) τ s' o')
         (count_of (d -ℤ c)) c σ s (shut_part C (CleanTurn C id (Among p (kind_placed spot id (for_in x c d b)))) w 0 σ (λ x d. d.0) o)
     kind_shut C spot id line (while_do c t b) sub pair own ok env w σ s o =
         while_shut C spot id line env w c t b sub pair (λ x z. (own.0 x z, ok.0 x z))
@@ -448,7 +479,15 @@ module _ (m : TMarked) (guarded : ℕ → Bool) (call : Text → List Passed →
     stmts_shut C0 C spot n inside (more (stmt id line k) rest) sub pair ok env w σ s o i =
         let s' = sees_later p f base n id spot env w σ pair.0 s in
         let md = mode_at inside (begun_by m.regions id) C0 C (Among p (own_placed spot id line k)) (Plain C spot id line k) w σ ok.0 o i in
-        fine_finished (kind_run p.names m.regions call home env id k (start spot id line k rest inside C0 C (Plain C spot id line k) env w σ s' o sub (λ pl x t. pl.0.0 x t) md)) (after spot id line k rest inside C0 C (Plain C spot id line k) env w σ s' o sub (λ pl x t. pl.0.0 x t) md) (stmts_run p.names m.regions call home (grown k rest env σ) rest)
-        (kind_fine spot id line k rest inside C0 C (Plain C spot id line k) env w σ s' o sub (λ pl x t. pl.0.0 x t) md pair.2 (λ pl o'. kind_shut C spot id line k (λ z h. sub z (of_left z (own_placed spot id line k) (stmts_placed (behind spot id k) rest) h)) pair.2 pl.0 pl.1 env w (start spot id line k rest inside C0 C (Plain C spot id line k) env w σ s' o sub (λ pl x t. pl.0.0 x t) md) (sees_start spot id line k rest inside C0 C (Plain C spot id line k) env w σ s' o sub (λ pl x t. pl.0.0 x t) md) o'))
-        (λ τ e a. stmts_shut (OkClean m guarded f inside C0 C (begun_by m.regions id)) (λ v. C v × Apart p f (Among p (own_placed spot id line k)) v) (behind spot id k) (suc id) (next_mode inside (begun_by m.regions id) (ended_by m.regions id)) rest (λ z h. sub z (of_right z (own_placed spot id line k) (stmts_placed (behind spot id k) rest) h)) pair.3 ok.1
-        (grown k rest env σ) (where_behind w id k σ) (after spot id line k rest inside C0 C (Plain C spot id line k) env w σ s' o sub (λ pl x t. pl.0.0 x t) md τ) (sees_after spot id line k rest inside C0 C (Plain C spot id line k) env w σ s' o sub (λ pl x t. pl.0.0 x t) md pair.2 τ e a) (shut_after spot id line k rest inside C0 C (Plain C spot id line k) env w σ s' o sub (λ pl x t. pl.0.0 x t) md pair.2 τ e a pair.1) (open_after spot id line k rest inside C0 C (Plain C spot id line k) env w σ s' o sub (λ pl x t. pl.0.0 x t) md pair.2 τ e a pair.1))
+        fine_finished (kind_run p.names m.regions call home env id k (start spot id line k rest inside C0 C (Plain C spot id line k) env w σ s' o sub (λ pl x t. pl.0.0 x t) md))
+        (after spot id line k rest inside C0 C (Plain C spot id line k) env w σ s' o sub (λ pl x t. pl.0.0 x t) md) (stmts_run p.names m.regions call home (grown k rest env σ) rest)
+        (kind_fine spot id line k rest inside C0 C (Plain C spot id line k) env w σ s' o sub (λ pl x t. pl.0.0 x t) md pair.2
+        (λ pl o'. kind_shut C spot id line k (λ z h. sub z (of_left z (own_placed spot id line k) (stmts_placed (behind spot id k) rest) h)) pair.2 pl.0 pl.1 env w
+        (start spot id line k rest inside C0 C (Plain C spot id line k) env w σ s' o sub (λ pl x t. pl.0.0 x t) md)
+        (sees_start spot id line k rest inside C0 C (Plain C spot id line k) env w σ s' o sub (λ pl x t. pl.0.0 x t) md) o'))
+        (λ τ e a. stmts_shut (OkClean m guarded f inside C0 C (begun_by m.regions id)) (λ v. C v × Apart p f (Among p (own_placed spot id line k)) v) (behind spot id k) (suc id)
+        (next_mode inside (begun_by m.regions id) (ended_by m.regions id)) rest (λ z h. sub z (of_right z (own_placed spot id line k) (stmts_placed (behind spot id k) rest) h)) pair.3 ok.1
+        (grown k rest env σ) (where_behind w id k σ) (after spot id line k rest inside C0 C (Plain C spot id line k) env w σ s' o sub (λ pl x t. pl.0.0 x t) md τ)
+        (sees_after spot id line k rest inside C0 C (Plain C spot id line k) env w σ s' o sub (λ pl x t. pl.0.0 x t) md pair.2 τ e a)
+        (shut_after spot id line k rest inside C0 C (Plain C spot id line k) env w σ s' o sub (λ pl x t. pl.0.0 x t) md pair.2 τ e a pair.1)
+        (open_after spot id line k rest inside C0 C (Plain C spot id line k) env w σ s' o sub (λ pl x t. pl.0.0 x t) md pair.2 τ e a pair.1))

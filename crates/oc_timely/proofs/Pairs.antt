@@ -162,7 +162,8 @@ module _ (m : TMarked) (guarded : ℕ → Bool) (f : ℕ) (body : List Placed) (
     paired_kind : (low : ℕ) (spot : Spot) (id : ℕ) (k : TKind) (n mid : ℕ) → low ≤ n → LaidKind p n k mid → ((z : Placed) → IsOf z (kind_placed spot id k) → IsOf z body) → PairedKind m.regions low k
     paired_kind low spot id (if_else c a b) n mid h laid sub = (
       paired_block low (in_branch spot id) n a laid.0 h laid.1 (λ z i. sub z (left z (block_placed (in_branch spot id) a) (else_placed (in_branch spot id) b) i)),
-      paired_else low (in_branch spot id) laid.0 b mid (let u = up_block p n a laid.0 laid.1 in omega (arith, u, h)) laid.2 (λ z i. sub z (right z (block_placed (in_branch spot id) a) (else_placed (in_branch spot id) b) i)),
+      paired_else low (in_branch spot id) laid.0 b mid (let u = up_block p n a laid.0 laid.1 in omega (arith, u, h)) laid.2
+          (λ z i. sub z (right z (block_placed (in_branch spot id) a) (else_placed (in_branch spot id) b) i)),
     )
     paired_kind low spot id (for_in x c d b) n mid h laid sub = paired_block low (in_loop spot id ((x, variables.Declared id) ∷ [])) n b mid h laid sub
     paired_kind low spot id (while_do c t b) n mid h laid sub = paired_block low (in_loop spot id []) n b mid h laid sub
@@ -193,5 +194,6 @@ module _ (m : TMarked) (guarded : ℕ → Bool) (f : ℕ) (body : List Placed) (
           omega (arith, h, z),
           q.0,
           paired_kind (suc id) spot id s (suc id) laid.1 (omega arith) laid.2 (λ y i. sub y (inr (left y (kind_placed spot id s) (stmts_placed (behind spot id s) rest) i))),
-          paired_stmts (suc id) (next_mode inside (begun_by m.regions id) (ended_by m.regions id)) (behind spot id s) laid.1 rest k u laid.3 (λ y i. sub y (inr (right y (kind_placed spot id s) (stmts_placed (behind spot id s) rest) i))) last q.1,
+          paired_stmts (suc id) (next_mode inside (begun_by m.regions id) (ended_by m.regions id)) (behind spot id s) laid.1 rest k u laid.3
+              (λ y i. sub y (inr (right y (kind_placed spot id s) (stmts_placed (behind spot id s) rest) i))) last q.1,
         )

@@ -1,5 +1,6 @@
 -- No run parts a consistent set.
-use Rattle.std.proofs.Common.{◌≡◌, ◌⊎◌, inl, inr, ℕ, zero, suc, ◌+◌, ◌-◌, ◌<◌, ◌≤◌, Bool, true, false, List, [], ◌∷◌, ◌++◌, length, Option, Some, None, refl, sym, ap, ◌∙◌, subst, arith, append_assoc, true≢false}
+use Rattle.std.proofs.Common.{◌≡◌, ◌⊎◌, inl, inr, ℕ, zero, suc, ◌+◌, ◌-◌, ◌<◌, ◌≤◌, Bool, true, false, List, [], ◌∷◌, ◌++◌, length, Option, Some, None, refl, sym, ap, ◌∙◌, subst}
+use Rattle.std.proofs.Common.{arith, append_assoc, true≢false}
 use Rattle.std.specs.Prelude.{ℤ, codes, slice_get, nat_lt, not, count_by, position, map, filter, is_some, cond, option_map, option_and_then, unwrap_or, if◌then◌else◌, ◌==◌}
 use Rattle.std.specs.List.{list_any, prefix_len}
 use Rattle.std.proofs.lemmas.Option.{none-some, same_Some}
@@ -224,7 +225,12 @@ module _ (m : TMarked) (marked : IsMarked m) (c : IsCovering m) (flows : AllFlow
       by : {n : ℕ} → (c.guarded f ≡ true) ⊎ IsMet m (record { policy = n; function = f; sites = rising (input_sites p f (annotated p set) ++ held p set) }) →
           (q : TRegion) × IsOf q m.regions × ((b : Placed) → IsOf b body → (x : Text) → b.kind ≡ consistent x k → covers p q b.id ≡ true)
       by (inl t) = absurd (true≢false (sym t ∙ loose))
-      by (inr met) = (met.region, met.one, λ b o x e. all_of (covers p met.region) (rising (input_sites p f (annotated p set) ++ held p set)) b.id met.covered (in_rising b.id (input_sites p f (annotated p set) ++ held p set) (of_right b.id (input_sites p f (annotated p set)) (held p set) (held_here b o x e))))
+      by (inr met) = (
+        met.region,
+        met.one,
+        λ b o x e. all_of (covers p met.region) (rising (input_sites p f (annotated p set) ++ held p set)) b.id met.covered
+            (in_rising b.id (input_sites p f (annotated p set) ++ held p set) (of_right b.id (input_sites p f (annotated p set)) (held p set) (held_here b o x e))),
+      )
 
   -- ---- a set that has none: its tags' samples were there when the function began
 
@@ -296,17 +302,21 @@ module _ (m : TMarked) (marked : IsMarked m) (c : IsCovering m) (flows : AllFlow
     deep_kept : 0 < σ.depth → KeptOut p f g k run
     deep_kept d =
         adds_out p f g k own.events (suc (times g k own)) (λ n. Unit {0}) false 1 1 run later
-        (block_quiet own.events p.names m.regions (call_to p m.regions depth) (set_home g.body) (λ d x ps τ l h. calls_deep depth d x ps τ own.events l h) (knows f g at).first 1 env g.body own (paired_at f g at) (omega arith) (record { deep = omega (arith, d); adds = ([], refl, tt) }))
+        (block_quiet own.events p.names m.regions (call_to p m.regions depth) (set_home g.body) (λ d x ps τ l h. calls_deep depth d x ps τ own.events l h)
+        (knows f g at).first 1 env g.body own (paired_at f g at) (omega arith) (record { deep = omega (arith, d); adds = ([], refl, tt) }))
         early own_kept.weak
 
     none_kept : NoneNoted k body → KeptOut p f g k run
-    none_kept none = clear_out p f g k own (times g k own) true run (clear_block p m.groups marked.checked ranks m.regions f g at k depth own.events (times g k own) true (at_start g) g.body (λ b o. o) none env own (start p f g k (λ n. ⊥) true own own_kept.numbered)) own_kept
+    none_kept none = clear_out p f g k own (times g k own) true run
+        (clear_block p m.groups marked.checked ranks m.regions f g at k depth own.events (times g k own) true (at_start g) g.body (λ b o. o) none env own
+        (start p f g k (λ n. ⊥) true own own_kept.numbered)) own_kept
 
     -- inputs of its own, in one region
     region_kept : 0 < block_notes k g.body → (q : TRegion) × IsOf q m.regions × ((b : Placed) → IsOf b body → (x : Text) → b.kind ≡ consistent x k → covers p q b.id ≡ true) → KeptOut p f g k run
     region_kept some q =
         let w = knows f g at in
-        block_path m c.guarded ranks marked.checked f g at k depth w.static (λ d x ps τ es l h. calls_deep depth d x ps τ es l h) q.0 q.1 q.2 (block_notes k g.body) some w.first (at_start g) w.first g.body w.end w.laid (λ z i. i) (λ t i d. absurd i)
+        block_path m c.guarded ranks marked.checked f g at k depth w.static (λ d x ps τ es l h. calls_deep depth d x ps τ es l h) q.0 q.1 q.2 (block_notes k g.body) some w.first
+        (at_start g) w.first g.body w.end w.laid (λ z i. i) (λ t i d. absurd i)
         (paired_at f g at) refl (home (block_home k (block_notes k g.body) g.body) refl) env own own_kept
       where
         home : (o : Option ℕ) → block_home k (block_notes k g.body) g.body ≡ o → block_home k (block_notes k g.body) g.body ≡ Some (set_home g.body k)
@@ -370,13 +380,16 @@ module _ (m : TMarked) (marked : IsMarked m) (c : IsCovering m) (flows : AllFlow
           by : (r : HandedOn) → KOut Old (with_args r b.id τ (λ ps. call_to p m.regions depth x ps τ))
           by (Breaks z) = old_told own.events σ.taken _ τ tt t.kept
           by (Passes ps) = old_out own.events σ.taken τ (call_to p m.regions depth x ps τ)
-              (calls_away p m.groups marked.checked ranks m.regions f g at k τ.events (times g k τ) (λ n. ⊥) depth true x (lower p m.groups marked.checked ranks m.regions f g at k f g at (omega arith) b o x args is) ps τ (start p f g k (λ n. ⊥) true τ t.kept.numbers)) t.kept
+              (calls_away p m.groups marked.checked ranks m.regions f g at k τ.events (times g k τ) (λ n. ⊥) depth true x
+              (lower p m.groups marked.checked ranks m.regions f g at k f g at (omega arith) b o x args is) ps τ (start p f g k (λ n. ⊥) true τ t.kept.numbers)) t.kept
 
       old_run : KOut Old run
       old_run =
           let w = knows f g at in
-          block_track Old (old_closed own.events σ.taken) m c.guarded (call_to p m.regions depth) (set_home g.body) f base body (w.flows depth base) Noted σ.taken (effect p f g at) (apart e) old_tag old_call
-          (AnyTarget m f) (at_start g) w.first g.body (λ z i. i) (paired_at f g at) env (start_where p f base) own (inr (body_ok m c.guarded f g w.static loose w.first w.end w.laid w.regions)) (w.sees ps σ stored formed)
+          block_track Old (old_closed own.events σ.taken) m c.guarded (call_to p m.regions depth) (set_home g.body) f base body (w.flows depth base) Noted σ.taken (effect p f g at)
+          (apart e) old_tag old_call
+          (AnyTarget m f) (at_start g) w.first g.body (λ z i. i) (paired_at f g at) env (start_where p f base) own
+          (inr (body_ok m c.guarded f g w.static loose w.first w.end w.laid w.regions)) (w.sees ps σ stored formed)
           (record {
             taken = taken;
             stored = stored;
@@ -471,7 +484,8 @@ module _ (m : TMarked) (marked : IsMarked m) (c : IsCovering m) (flows : AllFlow
           let q = callee_at p x z n in
           let pass = (knows u h at_u).may low b o x args is env w σ sees stored q.0 z q.1 q.2 ps e in
           let called : (effect_of p b).call ≡ Some (called_at p b args q.0) = ap (λ o. option_and_then (called_by p b) o) is ∙ ap (λ o. option_map (called_at p b args) o) q.1 in
-          kept_copies p f g k (length σ.locals) z ps (lent_run p m.regions depth z ps σ) (own_run p m.regions depth z ps σ) (calls_copy p m.groups marked.checked m.regions depth q.0 z q.2 ps σ stored pass.0)
+          kept_copies p f g k (length σ.locals) z ps (lent_run p m.regions depth z ps σ) (own_run p m.regions depth z ps σ)
+          (calls_copy p m.groups marked.checked m.regions depth q.0 z q.2 ps σ stored pass.0)
           (runs q.0 z q.2 ps σ stored pass.1 (own_taken u h low b args env w σ sees taken ps e q.0 z q.3 pass.0.as_many) (λ t. deep (called_at p b args q.0) called t) kept)
 
       by : (r : HandedOn) → args_of env σ args ≡ r → KOut Its (with_args r b.id σ (λ ps. call_to p m.regions (suc depth) x ps σ))
@@ -503,12 +517,15 @@ module _ (m : TMarked) (marked : IsMarked m) (c : IsCovering m) (flows : AllFlow
           let same : u ≡ f = grind (arith, e) in
           let is : h ≡ g = same_Some h g (sym at_u ∙ ap (slice_get p.functions) same ∙ at) in
           subst (λ (z : TFunction). KOut Its (own_run p m.regions depth z ps σ)) (sym is)
-          (own_kept_run depth ps σ stored (subst (λ (z : TFunction). AreFormed z.params ps) is formed) (subst (λ (z : TFunction). AreTaken (record σ { locals = (own_frame p z ps σ).locals })) is taken) kept (λ t. deep (ap c.guarded same ∙ t)))
+          (own_kept_run depth ps σ stored (subst (λ (z : TFunction). AreFormed z.params ps) is formed)
+          (subst (λ (z : TFunction). AreTaken (record σ { locals = (own_frame p z ps σ).locals })) is taken) kept (λ t. deep (ap c.guarded same ∙ t)))
       by false e =
-          block_track Its (kept_closed p f g k) m c.guarded (call_to p m.regions depth) (set_home h.body) u (length σ.locals) (block_placed (at_start h) h.body) (w.flows depth (length σ.locals)) (λ v. ⊥) 0 (effect p u h at_u) (λ x y. absurd y)
+          block_track Its (kept_closed p f g k) m c.guarded (call_to p m.regions depth) (set_home h.body) u (length σ.locals) (block_placed (at_start h) h.body)
+          (w.flows depth (length σ.locals)) (λ v. ⊥) 0 (effect p u h at_u) (λ x y. absurd y)
           (λ b o x j kind env v τ sees t. other_tag (λ q. absurd (grind (arith, e, q))) b o x j kind (held_at τ (place_of env x)).samples τ t.kept)
           (λ b o d is env v τ sees t guards. calls (length σ.locals) b o d is env v τ sees t.taken t.stored guards t.kept)
-          (AnyTarget m u) (at_start h) w.first h.body (λ z i. i) (paired_at u h at_u) (own_frame p h ps σ).env (start_where p u (length σ.locals)) (record σ { locals = (own_frame p h ps σ).locals }) (mode (c.guarded u) refl) (w.sees ps σ stored formed)
+          (AnyTarget m u) (at_start h) w.first h.body (λ z i. i) (paired_at u h at_u) (own_frame p h ps σ).env (start_where p u (length σ.locals))
+          (record σ { locals = (own_frame p h ps σ).locals }) (mode (c.guarded u) refl) (w.sees ps σ stored formed)
           (record { taken = taken; stored = stored; old = λ x y. absurd y; kept = kept_like p f g k σ _ refl refl kept })
 
   pub runs_keep : (depth : ℕ) → RunsKeep depth
@@ -532,7 +549,8 @@ module _ (m : TMarked) (marked : IsMarked m) (c : IsCovering m) (flows : AllFlow
           let q = callee_at p (codes "main") h e in
           let s = starts m marked c samples q.0 h q.1 q.2 in
           let stored = (main_copies p m.groups marked.checked m.regions samples).0 in
-          kept_copies p f g k (length σ.locals) h [] (lent_run p m.regions (length p.functions) h [] σ) (own_run p m.regions (length p.functions) h [] σ) (calls_copy p m.groups marked.checked m.regions (length p.functions) q.0 h q.2 [] σ stored s.0)
+          kept_copies p f g k (length σ.locals) h [] (lent_run p m.regions (length p.functions) h [] σ) (own_run p m.regions (length p.functions) h [] σ)
+          (calls_copy p m.groups marked.checked m.regions (length p.functions) q.0 h q.2 [] σ stored s.0)
           (runs_keep (length p.functions) q.0 h q.2 [] σ stored s.1 s.2.taken (λ t. was_deep (record σ { locals = (own_frame p h [] σ).locals }) s.2.taken (s.2.deep t)) nothing_told)
 
 -- ---- the law

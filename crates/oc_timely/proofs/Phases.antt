@@ -13,7 +13,8 @@ use Rattle.oc_meaning.specs.Blocks.{kind_notes, else_notes, block_notes, stmts_n
 use Rattle.oc_meaning.specs.Store.{Event, Store, Binding}
 use Rattle.oc_meaning.specs.Eval.{Got, Val, Traps, is_zero, value_of}
 use Rattle.oc_meaning.specs.Uses.{is_fresh, is_use, use_samples, begins_use, ends_use}
-use Rattle.oc_meaning.specs.Exec.{begun_by, ended_by, Passed, Outcome, Went, Returned, Stopped, with_value, then_do, opened, closed, used, done, finished, count_of, in_turn, grown, entered, kind_run, else_run, block_run, stmts_run}
+use Rattle.oc_meaning.specs.Exec.{begun_by, ended_by, Passed, Outcome, Went, Returned, Stopped, with_value, then_do, opened, closed, used, done, finished, count_of, in_turn, grown}
+use Rattle.oc_meaning.specs.Exec.{entered, kind_run, else_run, block_run, stmts_run}
 use Rattle.oc_tree.specs.Members.{IsOf}
 use Rattle.oc_flow.proofs.Fixpoint.{Ranked}
 use Rattle.oc_timely.specs.Enough.{next_mode}
@@ -93,7 +94,8 @@ module _ (p : TProgram) (f : ℕ) (g : TFunction) (k : ℤ) where
 
 module _ (m : TMarked) (guarded : ℕ → Bool) (ranked : Ranked m.program) (checked : IsChecked m.program m.groups) (f : ℕ) (g : TFunction) (at : slice_get m.program.functions f ≡ Some g) (k : ℤ)
     (depth : ℕ)
-    (facts : Static m guarded f (block_placed (at_start g) g.body)) (paired : (d : ℕ) (x : Text) (ps : List Passed) (σ : Store) (es : List Event) → 0 < d → Deep es d σ → Quiet es d d (call_at m.program m.groups checked ranked m.regions f g at k depth x ps σ))
+    (facts : Static m guarded f (block_placed (at_start g) g.body))
+    (paired : (d : ℕ) (x : Text) (ps : List Passed) (σ : Store) (es : List Event) → 0 < d → Deep es d σ → Quiet es d d (call_at m.program m.groups checked ranked m.regions f g at k depth x ps σ))
     (q : TRegion) (one : IsOf q m.regions) (covered : (b : Placed) → IsOf b (block_placed (at_start g) g.body) → (x : Text) → b.kind ≡ consistent x k → covers m.program q b.id ≡ true) where
   abbrev p : TProgram
   p = m.program
@@ -272,7 +274,8 @@ module _ (m : TMarked) (guarded : ℕ → Bool) (ranked : Ranked m.program) (che
       by (inr i) = let a = b e i t in let z = c.reached refl in omega (arith, a, z)
 
   -- so far as the region hasn't begun, and behind its end
-  phase_clear : (spot : Spot) (id line : ℕ) (s : TKind) (rest : TStmts) (mid : ℕ) (laid : LaidKind p (suc id) s mid) (sub : In (stmts_placed spot (more (stmt id line s) rest))) (free : Free spot.around) (env : List Binding) (σ τ : Store) → q.block ≡ spot.block →
+  phase_clear : (spot : Spot) (id line : ℕ) (s : TKind) (rest : TStmts) (mid : ℕ) (laid : LaidKind p (suc id) s mid) (sub : In (stmts_placed spot (more (stmt id line s) rest)))
+      (free : Free spot.around) (env : List Binding) (σ τ : Store) → q.block ≡ spot.block →
       (Direct p q id → ⊥) → Phase id σ → Clear p f g k σ τ → Phase mid τ
   phase_clear spot id line s rest mid laid sub free env σ τ b out ph c = record {
     before = λ l. (let u = up spot id line s rest mid laid sub free env σ in before_clear σ τ (ph.before (omega (arith, l, u))) c);
@@ -287,7 +290,8 @@ module _ (m : TMarked) (guarded : ℕ → Bool) (ranked : Ranked m.program) (che
       by l h (inl x) = out (direct spot id line s rest mid laid sub free env σ b x (let v = u in omega (arith, h, v)))
 
   -- a statement that isn't in the region has no annotation
-  outside_none : (spot : Spot) (id line : ℕ) (s : TKind) (rest : TStmts) (mid : ℕ) (laid : LaidKind p (suc id) s mid) (sub : In (stmts_placed spot (more (stmt id line s) rest))) (free : Free spot.around) (env : List Binding) (σ : Store) → q.block ≡ spot.block →
+  outside_none : (spot : Spot) (id line : ℕ) (s : TKind) (rest : TStmts) (mid : ℕ) (laid : LaidKind p (suc id) s mid) (sub : In (stmts_placed spot (more (stmt id line s) rest)))
+      (free : Free spot.around) (env : List Binding) (σ : Store) → q.block ≡ spot.block →
       (Direct p q id → ⊥) → NoneNoted k (own_placed spot id line s)
   outside_none spot id line s rest mid laid sub free env σ b out z o x e =
       let i = in_own spot id line s rest mid laid sub free env σ z o in
@@ -300,7 +304,8 @@ module _ (m : TMarked) (guarded : ℕ → Bool) (ranked : Ranked m.program) (che
       by t d l u (inl v) = let same : t ≡ id = omega (arith, l, v) in out (subst (Direct p q) same d)
 
   -- where the region begins, or is open
-  held_begin : (spot : Spot) (id line : ℕ) (s : TKind) (rest : TStmts) (mid : ℕ) (laid : LaidKind p (suc id) s mid) (sub : In (stmts_placed spot (more (stmt id line s) rest))) (free : Free spot.around) (env : List Binding) (σ : Store) → Direct p q id → Kept σ → Phase id σ → IsInside (begin spot id line s rest mid laid sub free env σ)
+  held_begin : (spot : Spot) (id line : ℕ) (s : TKind) (rest : TStmts) (mid : ℕ) (laid : LaidKind p (suc id) s mid) (sub : In (stmts_placed spot (more (stmt id line s) rest)))
+      (free : Free spot.around) (env : List Binding) (σ : Store) → Direct p q id → Kept σ → Phase id σ → IsInside (begin spot id line s rest mid laid sub free env σ)
   held_begin spot id line s rest mid laid sub free env σ d kept ph = by (either id q.first) (either q.first id)
     where
       b : Store
@@ -323,7 +328,8 @@ module _ (m : TMarked) (guarded : ℕ → Bool) (ranked : Ranked m.program) (che
       by (inl x) (inl y) =
           let clear = clear_begin spot id line s rest mid laid sub free env σ kept in
           let now = kept_begin spot id line s rest mid laid sub free env σ kept in
-          let deep = used_deep (begins_use (is_fresh env) s) id (use_samples env s σ) (opened (begun_by m.regions id) σ) (open_at m guarded f all facts q one id σ d (λ l. absurd (omega (arith, l, y)))) in
+          let deep = used_deep (begins_use (is_fresh env) s) id (use_samples env s σ) (opened (begun_by m.regions id) σ)
+          (open_at m guarded f all facts q one id σ d (λ l. absurd (omega (arith, l, y)))) in
           record {
             older = b.events;
             count = times g k b;
@@ -353,7 +359,8 @@ module _ (m : TMarked) (guarded : ℕ → Bool) (ranked : Ranked m.program) (che
       q.block ≡ spot.block → (env : List Binding) (σ : Store) → Kept σ → Phase n σ → Out (stmts_run p.names m.regions calls its env ss σ)
   phases low inside spot n no_stmts e laid sub free pair b env σ kept ph = kept
   phases low inside spot n (more (stmt id line s) rest) e laid sub free pair b env σ kept ph =
-      by (is_in_region p q id) refl (λ τ. phases (suc id) (next_mode inside (begun_by m.regions id) (ended_by m.regions id)) (behind spot id s) laid.1 rest e laid.3 (in_rest spot id line s rest laid.1 laid.2 sub free env σ) free pair.3 b (grown s rest env σ) τ)
+      by (is_in_region p q id) refl (λ τ. phases (suc id) (next_mode inside (begun_by m.regions id) (ended_by m.regions id)) (behind spot id s) laid.1 rest e laid.3
+      (in_rest spot id line s rest laid.1 laid.2 sub free env σ) free pair.3 b (grown s rest env σ) τ)
     where
       at_id : Phase id σ
       at_id = subst (λ z. Phase z σ) (sym laid.0) ph
@@ -375,7 +382,8 @@ module _ (m : TMarked) (guarded : ℕ → Bool) (ranked : Ranked m.program) (che
       in_region : Direct p q id → ((τ : Store) → Kept τ → Phase laid.1 τ → Out (go τ)) → Out (then_do (finished next_store (run env id s b0)) go)
       in_region d rest_run = elim (is_return s) [
         | inl r ↦ return_kept s r env id b0 next_store go (held_kept b0 held)
-        | inr r ↦ ends (run env id s b0) (any_kind p m.groups checked ranked m.regions f g at k depth held.older held.count spot id line s (in_own spot id line s rest laid.1 laid.2 sub free env σ) env b0 held.since)
+        | inr r ↦ ends (run env id s b0) (any_kind p m.groups checked ranked m.regions f g at k depth held.older held.count spot id line s
+            (in_own spot id line s rest laid.1 laid.2 sub free env σ) env b0 held.since)
             (quiet_run spot id line s rest laid.1 laid.2 sub free env σ held.older pair.2 (λ z. absurd (r z)) held.deep)
       ]
         where
@@ -454,7 +462,9 @@ module _ (m : TMarked) (guarded : ℕ → Bool) (ranked : Ranked m.program) (che
               Out (else_run p.names m.regions calls its env y σ)
           in_else (inl l) rec =
               let zero : else_notes k y ≡ 0 = (let z = block_many k n h x l in omega (arith, z, many)) in
-              clear_out p f g k σ (times g k σ) true (else_run p.names m.regions calls its env y σ) (clear_else p m.groups checked ranked m.regions f g at k depth σ.events (times g k σ) true (in_branch spot id) y in_y (else_clear k (in_branch spot id) y zero) env σ (start p f g k (λ n. ⊥) true σ kept.numbered)) kept
+              clear_out p f g k σ (times g k σ) true (else_run p.names m.regions calls its env y σ)
+              (clear_else p m.groups checked ranked m.regions f g at k depth σ.events (times g k σ) true (in_branch spot id) y in_y (else_clear k (in_branch spot id) y zero)
+              env σ (start p f g k (λ n. ⊥) true σ kept.numbered)) kept
           in_else (inr r) rec = rec r.1
 
           in_block : (block_home k n x ≡ Some h) ⊎ ((block_home k n x ≡ None) × (else_home k n y ≡ Some h)) → (block_home k n x ≡ Some h → Out (block_run p.names m.regions calls its env x σ)) →
@@ -462,7 +472,9 @@ module _ (m : TMarked) (guarded : ℕ → Bool) (ranked : Ranked m.program) (che
           in_block (inl l) rec = rec l
           in_block (inr r) rec =
               let zero : block_notes k x ≡ 0 = (let z = else_many k n h y r.1 in omega (arith, z, many)) in
-              clear_out p f g k σ (times g k σ) true (block_run p.names m.regions calls its env x σ) (clear_block p m.groups checked ranked m.regions f g at k depth σ.events (times g k σ) true (in_branch spot id) x in_x (block_clear k (in_branch spot id) x zero) env σ (start p f g k (λ n. ⊥) true σ kept.numbered)) kept
+              clear_out p f g k σ (times g k σ) true (block_run p.names m.regions calls its env x σ)
+              (clear_block p m.groups checked ranked m.regions f g at k depth σ.events (times g k σ) true (in_branch spot id) x in_x (block_clear k (in_branch spot id) x zero)
+              env σ (start p f g k (λ n. ⊥) true σ kept.numbered)) kept
       kind_path low spot id line (for_in x c d b) mid laid sub free pair many there env σ kept =
           k_for Kept stays (count_of (d -ℤ c)) c (λ i. block_run p.names m.regions calls its (in_turn x i ∷ env) b) σ
           (λ i τ t. block_path low (in_loop spot id ((x, variables.Declared id) ∷ [])) (suc id) b mid laid (λ z o. sub z (inr o)) free pair many there (in_turn x i ∷ env) τ t) kept
@@ -480,7 +492,8 @@ module _ (m : TMarked) (guarded : ℕ → Bool) (ranked : Ranked m.program) (che
           block_notes k b ≡ n → block_home k n b ≡ Some h → (env : List Binding) (σ : Store) → Kept σ → Out (block_run p.names m.regions calls its env b σ)
       block_path low spot from (block bid ss) e laid sub free pair many there env σ kept =
           k_leave Kept stays (length σ.locals) (stmts_run p.names m.regions calls its env ss (entered bid σ)) (by (block_split k n h bid ss there)
-          (λ l. stmts_path low None (record spot { block = bid }) from ss e laid.1 sub free pair many l env (entered bid σ) now (λ b x y. absurd (let z = not_before spot from bid ss e laid sub many b in omega (arith, x, z)))))
+          (λ l. stmts_path low None (record spot { block = bid }) from ss e laid.1 sub free pair many l env (entered bid σ) now
+          (λ b x y. absurd (let z = not_before spot from bid ss e laid sub many b in omega (arith, x, z)))))
         where
           now : Kept (entered bid σ)
           now = stays.enters bid σ kept
@@ -502,8 +515,10 @@ module _ (m : TMarked) (guarded : ℕ → Bool) (ranked : Ranked m.program) (che
           (q.block ≡ spot.block → q.first < from → from ≤ q.last → 0 < σ.depth) → Out (stmts_run p.names m.regions calls its env ss σ)
       stmts_path low inside spot from no_stmts e laid sub free pair many there env σ kept deep_in = kept
       stmts_path low inside spot from (more (stmt id line s) rest) e laid sub free pair many there env σ kept deep_in = by (split_first (kind_home k n s) (stmts_home k n rest) h there)
-          (λ l w. kind_path (suc id) spot id line s laid.1 laid.2 own w pair.2 (let z = kind_many k n h s l in omega (arith, z, many)) l env b0 (kept_begin spot id line s rest laid.1 laid.2 sub free env σ kept))
-          (λ l τ t w. stmts_path (suc id) (next_mode inside (begun_by m.regions id) (ended_by m.regions id)) (behind spot id s) laid.1 rest e laid.3 others free pair.3 (let z = stmts_many k n h rest l in omega (arith, z, many)) l (grown s rest env σ) τ t w)
+          (λ l w. kind_path (suc id) spot id line s laid.1 laid.2 own w pair.2 (let z = kind_many k n h s l in omega (arith, z, many)) l env b0
+          (kept_begin spot id line s rest laid.1 laid.2 sub free env σ kept))
+          (λ l τ t w. stmts_path (suc id) (next_mode inside (begun_by m.regions id) (ended_by m.regions id)) (behind spot id s) laid.1 rest e laid.3 others free pair.3
+          (let z = stmts_many k n h rest l in omega (arith, z, many)) l (grown s rest env σ) τ t w)
         where
           own : In (own_placed spot id line s)
           own = in_own spot id line s rest laid.1 laid.2 sub free env σ
@@ -539,12 +554,16 @@ module _ (m : TMarked) (guarded : ℕ → Bool) (ranked : Ranked m.program) (che
           rest_clear : kind_home k n s ≡ Some h → (τ : Store) → Kept τ → Out (go τ)
           rest_clear l τ t =
               let zero : stmts_notes k rest ≡ 0 = (let z = kind_many k n h s l in omega (arith, z, many)) in
-              clear_out p f g k τ (times g k τ) true (go τ) (clear_stmts p m.groups checked ranked m.regions f g at k depth τ.events (times g k τ) true (behind spot id s) rest others (stmts_clear k (behind spot id s) rest zero) (grown s rest env σ) τ (start p f g k (λ n. ⊥) true τ t.numbered)) t
+              clear_out p f g k τ (times g k τ) true (go τ)
+              (clear_stmts p m.groups checked ranked m.regions f g at k depth τ.events (times g k τ) true (behind spot id s) rest others
+              (stmts_clear k (behind spot id s) rest zero) (grown s rest env σ) τ (start p f g k (λ n. ⊥) true τ t.numbered)) t
 
           by : (kind_home k n s ≡ Some h) ⊎ ((kind_home k n s ≡ None) × (stmts_home k n rest ≡ Some h)) → (kind_home k n s ≡ Some h → Free (id ∷ spot.around) → Out (run env id s b0)) →
-              (stmts_home k n rest ≡ Some h → (τ : Store) → Kept τ → (q.block ≡ spot.block → q.first < laid.1 → laid.1 ≤ q.last → 0 < τ.depth) → Out (go τ)) → Out (then_do (finished next_store (run env id s b0)) go)
+              (stmts_home k n rest ≡ Some h → (τ : Store) → Kept τ → (q.block ≡ spot.block → q.first < laid.1 → laid.1 ≤ q.last → 0 < τ.depth) → Out (go τ))
+              → Out (then_do (finished next_store (run env id s b0)) go)
           by (inl l) hook r =
-              k_finished Kept stays (run env id s b0) next_store go (its_run l (hook l) (is_in_region p q id) refl) (λ τ t z. rest_clear l (next_store τ) (kept_after spot id line s rest laid.1 laid.2 sub free env σ τ z))
+              k_finished Kept stays (run env id s b0) next_store go (its_run l (hook l) (is_in_region p q id) refl)
+              (λ τ t z. rest_clear l (next_store τ) (kept_after spot id line s rest laid.1 laid.2 sub free env σ τ z))
           by (inr l) hook r =
               let zero : kind_notes k s ≡ 0 = (let z = stmts_many k n h rest l.1 in omega (arith, z, many)) in
               clear_step spot id line s rest laid.1 laid.2 sub free env σ (own_clear k spot id line s zero) go kept

@@ -1,24 +1,27 @@
 -- Where a region is open, a call tells no mark.
-use Rattle.std.proofs.Common.{◌≡◌, ℕ, zero, suc, ◌+◌, ◌<◌, ◌≤◌, ◌-◌, ◌==◌, Bool, true, false, List, [], ◌∷◌, ◌++◌, length, Option, Some, None, cond, refl, ap, sym, subst, ◌∙◌, arith}
-use Rattle.std.specs.Prelude.{ℤ, pos, ◌+ℤ◌, ◌-ℤ◌, slice_get, if◌then◌else◌}
+use Rattle.std.proofs.Common.{◌≡◌, ℕ, zero, suc, ◌+◌, ◌<◌, ◌≤◌, ◌-◌, ◌==◌, Bool, true, false, List, [], ◌∷◌, ◌++◌, length, Option, Some, None, refl, ap, sym, subst, ◌∙◌, arith}
+use Rattle.std.specs.Prelude.{ℤ, pos, ◌+ℤ◌, ◌-ℤ◌, if◌then◌else◌}
 use Rattle.std.proofs.lemmas.Bool.{ne_eqb}
 use Rattle.oc_tree.specs.Names.{Text, NameLists}
-use Rattle.oc_tree.specs.Tree.{TCall, call, TRight, right_value, right_sense, right_call, TKind, let_to, let_array, assign, assign_index, assign_deref, if_else, for_in, while_do, call_only, sense_only, emit, fresh, consistent, return, TElse, no_else, else_do, stmt, TBlock, block, TStmts, no_stmts, more, TFunction, TProgram}
+use Rattle.oc_tree.specs.Tree.{TCall, call, TRight, right_value, right_sense, right_call, TKind, let_to, let_array, assign, assign_index, assign_deref, if_else, for_in, while_do}
+use Rattle.oc_tree.specs.Tree.{call_only, sense_only, emit, fresh, consistent, return, TElse, no_else, else_do, stmt, TBlock, block, TStmts, no_stmts, more, TFunction, TProgram}
 use Rattle.oc_tree.specs.Marked.{TRegion}
 use Rattle.oc_tree.specs.declared.said.TrapKind.{TrapKind}
 use Rattle.oc_tree.specs.declared.said.TrapKind.TheVariants as traps
 use Rattle.oc_tree.specs.declared.said.Said.TheVariants.{Entered, Committed}
 use Rattle.oc_meaning.specs.Samples.{union}
 use Rattle.oc_meaning.specs.Blocks.{set_home}
-use Rattle.oc_meaning.specs.Store.{Value, Held, Place, Local, Global, Turn, Nowhere, Event, Store, Binding, held_at, put, made, holding, place_of, happened}
+use Rattle.oc_meaning.specs.Store.{Value, Held, Place, Local, Global, Turn, Nowhere, Event, Store, Binding, held_at, put, place_of, happened}
 use Rattle.oc_meaning.specs.Eval.{Got, Val, Traps, is_zero, element_of, value_of}
 use Rattle.oc_meaning.specs.Uses.{is_fresh, is_use, use_samples, begins_use, ends_use}
-use Rattle.oc_meaning.specs.Exec.{begun_by, ended_by, Outcome, Went, Returned, Stopped, Passed, Passing as Given, Passes, Breaks, number_in, trapped, with_value, then_do, with_result, leave, told_if, opened, closed, used, done, finished, sense, args_of, with_args, element_written, count_of, for_turns, while_turns, in_turn, grown, entered, call_run, right_run, kind_run, else_run, block_run, stmts_run}
+use Rattle.oc_meaning.specs.Exec.{begun_by, ended_by, Outcome, Went, Returned, Stopped, Passed, Passing as Given, Passes, Breaks, number_in, trapped, with_value, then_do}
+use Rattle.oc_meaning.specs.Exec.{with_result, leave, told_if, opened, closed, used, done, finished, sense, args_of, with_args, element_written, count_of, for_turns, while_turns}
+use Rattle.oc_meaning.specs.Exec.{in_turn, grown, entered, call_run, right_run, kind_run, else_run, block_run, stmts_run}
 use Rattle.oc_meaning.specs.Cuts.{events_in}
 use Rattle.oc_meaning.specs.Run.{Frame, with_params, function_named, nv_env, function_run, call_to}
 use Rattle.oc_timely.specs.Enough.{next_mode}
 use Rattle.oc_timely.specs.Modes.{IsStep, PairedKind, PairedElse, PairedBlock, PairedStmts}
-use Rattle.oc_timely.specs.Sets.{IsNoMark, AreNoMarks, Adds, ArePaired, InsideTellsNone}
+use Rattle.oc_timely.specs.Sets.{IsNoMark, Adds, InsideTellsNone}
 use Rattle.oc_timely.proofs.Inside.{count_open}
 
 -- it may close a region by itself
@@ -123,7 +126,8 @@ module _ (es : List Event) where
   while_quiet d (suc t) n uses s c f before σ k h =
       let υ : Store = used uses n (s σ) σ in
       let g : Deep d υ = quiet_used d uses n (s σ) σ h in
-      value_quiet d d d (c υ) n υ _ g (λ v. either_quiet d d (is_zero v.num) (Went (done uses n (union before (s σ)) υ)) _ (quiet_done d uses n (union before (s σ)) υ g) (then_quiet d d d (f υ) _ (k υ g) (λ τ i. while_quiet d t n uses s c f (union before (s σ)) τ k i)))
+      value_quiet d d d (c υ) n υ _ g (λ v. either_quiet d d (is_zero v.num) (Went (done uses n (union before (s σ)) υ)) _ (quiet_done d uses n (union before (s σ)) υ g)
+      (then_quiet d d d (f υ) _ (k υ g) (λ τ i. while_quiet d t n uses s c f (union before (s σ)) τ k i)))
 
   leave_quiet : (d n : ℕ) (o : Outcome) → Quiet d d o → Quiet d d (leave n o)
   leave_quiet d n (Went τ) h = record { deep = h.deep; adds = h.adds }
@@ -169,24 +173,38 @@ module _ (es : List Event) where
           (λ v τ g. value_quiet r d d (value_of env τ i) n τ _ g (λ w. element_quiet r d (place_of env x) (element_of (length (held_at τ (place_of env x)).words) w.num) w v n τ g))
       kind_quiet m r d env n (assign_deref x e) σ p l q only h =
           result_quiet r d d (right_run names regions call_of home env n σ e) _ (right_quiet d env n σ e (omega (arith, l, q)) h) (λ v τ g. quiet_put d τ (place_of env x) _ g)
-      kind_quiet m r d env n (if_else c a b) σ p l q only h = value_quiet r d d (value_of env σ c) n σ _ h (λ v. either_quiet r d (is_zero v.num) (else_run names regions call_of home env b σ) _ (weaker r d d (else_run names regions call_of home env b σ) (omega arith) (omega (arith, q)) (else_quiet m d env b σ p.1 (omega (arith, l, q)) h)) (weaker r d d (block_run names regions call_of home env a σ) (omega arith) (omega (arith, q)) (block_quiet m d env a σ p.0 (omega (arith, l, q)) h)))
+      kind_quiet m r d env n (if_else c a b) σ p l q only h =
+          value_quiet r d d (value_of env σ c) n σ _ h
+          (λ v. either_quiet r d (is_zero v.num) (else_run names regions call_of home env b σ) _
+          (weaker r d d (else_run names regions call_of home env b σ) (omega arith) (omega (arith, q)) (else_quiet m d env b σ p.1 (omega (arith, l, q)) h))
+          (weaker r d d (block_run names regions call_of home env a σ) (omega arith) (omega (arith, q)) (block_quiet m d env a σ p.0 (omega (arith, l, q)) h)))
       kind_quiet m r d env n (for_in x c e b) σ p l q only h =
           weaker r d d (for_turns (count_of (e -ℤ c)) c (λ i. block_run names regions call_of home (in_turn x i ∷ env) b) σ) (omega arith) (omega (arith, q))
           (for_quiet d (count_of (e -ℤ c)) c _ σ (λ i τ g. block_quiet m d (in_turn x i ∷ env) b τ p (omega (arith, l, q)) g) h)
-      kind_quiet m r d env n (while_do c t b) σ p l q only h = weaker r d d (while_turns t n (is_use (is_fresh env) (while_do c t b)) (use_samples env (while_do c t b)) (λ τ. value_of env τ c) (block_run names regions call_of home env b) [] σ) (omega arith) (omega (arith, q)) (while_quiet d t n (is_use (is_fresh env) (while_do c t b)) (use_samples env (while_do c t b)) (λ τ. value_of env τ c) (block_run names regions call_of home env b) [] σ (λ τ g. block_quiet m d env b τ p (omega (arith, l, q)) g) h)
+      kind_quiet m r d env n (while_do c t b) σ p l q only h =
+          weaker r d d (while_turns t n (is_use (is_fresh env) (while_do c t b)) (use_samples env (while_do c t b)) (λ τ. value_of env τ c)
+          (block_run names regions call_of home env b) [] σ) (omega arith) (omega (arith, q))
+          (while_quiet d t n (is_use (is_fresh env) (while_do c t b)) (use_samples env (while_do c t b)) (λ τ. value_of env τ c) (block_run names regions call_of home env b) [] σ
+          (λ τ g. block_quiet m d env b τ p (omega (arith, l, q)) g) h)
       kind_quiet m r d env n (call_only c) σ p l q only h = result_quiet r d d (call_run names regions call_of home env n σ c) _ (call_quiet d env n σ c (omega (arith, l, q)) h) (λ v τ g. g)
       kind_quiet m r d env n (sense_only s) σ p l q only h = result_quiet r d d (sense (number_in names.sensors s) σ.left σ) _ (sense_quiet d (number_in names.sensors s) σ.left σ h) (λ v τ g. g)
       kind_quiet m r d env n (emit s e) σ p l q only h = value_quiet r d d (value_of env σ e) n σ _ h (λ v. told d _ σ tt h)
       kind_quiet m r d env n (fresh x) σ p l q only h = h
       kind_quiet m r d env n (consistent x k) σ p l q only h = told d _ σ tt h
-      kind_quiet m r d env n (return e) σ p l q only h = value_quiet r d d (value_of env σ e) n σ _ h (λ v. (let υ : Store = done (is_use (is_fresh env) (return e)) n (use_samples env (return e) σ) σ in quiet_closed r (ended_by regions n) υ (only tt).0 (less d (r + count_open (ended_by regions n)) υ (only tt).1 (quiet_done d (is_use (is_fresh env) (return e)) n (use_samples env (return e) σ) σ h))))
+      kind_quiet m r d env n (return e) σ p l q only h =
+          value_quiet r d d (value_of env σ e) n σ _ h
+          (λ v. (let υ : Store = done (is_use (is_fresh env) (return e)) n (use_samples env (return e) σ) σ in
+          quiet_closed r (ended_by regions n) υ (only tt).0
+          (less d (r + count_open (ended_by regions n)) υ (only tt).1 (quiet_done d (is_use (is_fresh env) (return e)) n (use_samples env (return e) σ) σ h))))
 
       else_quiet : (m d : ℕ) (env : List Binding) (b : TElse) (σ : Store) → PairedElse regions m b → 0 < d → Deep d σ → Quiet d d (else_run names regions call_of home env b σ)
       else_quiet m d env no_else σ p l h = h
       else_quiet m d env (else_do b) σ p l h = block_quiet m d env b σ p l h
 
       pub block_quiet : (m d : ℕ) (env : List Binding) (b : TBlock) (σ : Store) → PairedBlock regions m b → 0 < d → Deep d σ → Quiet d d (block_run names regions call_of home env b σ)
-      block_quiet m d env (block id ss) σ p l h = leave_quiet d (length σ.locals) (stmts_run names regions call_of home env ss (entered id σ)) (stmts_quiet m None d env ss (entered id σ) p l (record { deep = (let a = h.deep in omega (arith, a)); adds = h.adds }))
+      block_quiet m d env (block id ss) σ p l h =
+          leave_quiet d (length σ.locals) (stmts_run names regions call_of home env ss (entered id σ))
+          (stmts_quiet m None d env ss (entered id σ) p l (record { deep = (let a = h.deep in omega (arith, a)); adds = h.adds }))
 
       stmts_quiet : (m : ℕ) (inside : Option ℕ) (d : ℕ) (env : List Binding) (ss : TStmts) (σ : Store) → PairedStmts regions m inside ss → 0 < d → Deep (d + count_open inside) σ →
           Quiet d d (stmts_run names regions call_of home env ss σ)
@@ -200,8 +218,10 @@ module _ (es : List Event) where
           let υ : Store = used (begins_use (is_fresh env) k) n (use_samples env k σ) (opened begun σ) in
           let g : Deep c υ = quiet_used c (begins_use (is_fresh env) k) n (use_samples env k σ) (opened begun σ) (quiet_opened (d + count_open inside) begun σ (omega (arith, l)) h) in
           then_quiet d (d + count_open next) d (finished _ (kind_run names regions call_of home env n k υ)) _
-          (finished_quiet d c (d + count_open next) (kind_run names regions call_of home env n k υ) _ (kind_quiet (suc n) d c env n k υ p.2 (omega (arith, l)) (omega (arith, e)) (λ z. (l, omega (arith, e))) g)
-          (λ τ i. quiet_closed (d + count_open next) ended (done (ends_use (is_fresh env) k) n (use_samples env k σ) τ) (omega (arith, l)) (quiet_done ((d + count_open next) + count_open ended) (ends_use (is_fresh env) k) n (use_samples env k σ) τ (less c ((d + count_open next) + count_open ended) τ (omega (arith, e)) i))))
+          (finished_quiet d c (d + count_open next) (kind_run names regions call_of home env n k υ) _
+          (kind_quiet (suc n) d c env n k υ p.2 (omega (arith, l)) (omega (arith, e)) (λ z. (l, omega (arith, e))) g)
+          (λ τ i. quiet_closed (d + count_open next) ended (done (ends_use (is_fresh env) k) n (use_samples env k σ) τ) (omega (arith, l))
+          (quiet_done ((d + count_open next) + count_open ended) (ends_use (is_fresh env) k) n (use_samples env k σ) τ (less c ((d + count_open next) + count_open ended) τ (omega (arith, e)) i))))
           (λ τ i. stmts_quiet (suc n) next d (grown k rest env σ) rest τ p.3 l i)
 
   -- ---- calls
@@ -213,7 +233,8 @@ module _ (es : List Event) where
     function_quiet call_of calls d x (Some g) is ps σ l h =
         let fr : Frame = with_params g.params ps (record { env = nv_env 0 p.names.nvs; locals = σ.locals }) in
         let q = paired x g is in
-        leave_quiet d (length σ.locals) (block_run p.names regions call_of (set_home g.body) fr.env g.body (record σ { locals = fr.locals })) (block_quiet p.names regions call_of (set_home g.body) calls q.0 d fr.env g.body (record σ { locals = fr.locals }) q.1 l (record { deep = h.deep; adds = h.adds }))
+        leave_quiet d (length σ.locals) (block_run p.names regions call_of (set_home g.body) fr.env g.body (record σ { locals = fr.locals }))
+        (block_quiet p.names regions call_of (set_home g.body) calls q.0 d fr.env g.body (record σ { locals = fr.locals }) q.1 l (record { deep = h.deep; adds = h.adds }))
 
     pub calls_quiet : (depth : ℕ) (d : ℕ) (x : Text) (ps : List Passed) (σ : Store) → 0 < d → Deep d σ → Quiet d d (call_to p regions depth x ps σ)
     calls_quiet zero d x ps σ l h = h

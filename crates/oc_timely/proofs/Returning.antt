@@ -1,8 +1,9 @@
 -- A `return` is the last statement of its function: no other statement returns.
-use Rattle.std.proofs.Common.{◌≡◌, ◌⊎◌, inl, inr, ℕ, zero, suc, Bool, true, false, true≢false, List, [], ◌∷◌, ◌++◌, length, Option, Some, None, refl, sym, ap, ◌∙◌, subst}
+use Rattle.std.proofs.Common.{◌≡◌, ◌⊎◌, ℕ, zero, suc, Bool, true, false, true≢false, List, [], ◌∷◌, ◌++◌, length, Option, Some, None, refl, sym, ap, ◌∙◌}
 use Rattle.std.specs.Prelude.{ℤ, pos, ◌+ℤ◌, ◌-ℤ◌, ◌&&◌, not, slice_get, if◌then◌else◌}
 use Rattle.oc_tree.specs.Names.{Text, NameLists}
-use Rattle.oc_tree.specs.Tree.{TExpr, TKind, let_to, let_array, assign, assign_index, assign_deref, if_else, for_in, while_do, call_only, sense_only, emit, fresh, consistent, return, TElse, no_else, else_do, stmt, TBlock, block, TStmts, no_stmts, more, TFunction, TProgram}
+use Rattle.oc_tree.specs.Tree.{TExpr, TKind, let_to, let_array, assign, assign_index, assign_deref, if_else, for_in, while_do, call_only, sense_only, emit, fresh, consistent}
+use Rattle.oc_tree.specs.Tree.{return, TElse, no_else, else_do, stmt, TBlock, block, TStmts, no_stmts, more, TFunction, TProgram}
 use Rattle.oc_tree.specs.Checked.{Group, IsChecked}
 use Rattle.oc_tree.specs.Marked.{TRegion}
 use Rattle.oc_tree.specs.Types.{type_of, is_same}
@@ -14,9 +15,11 @@ use Rattle.oc_meaning.specs.Store.{Value, Place, Store, Binding, plain, holding,
 use Rattle.oc_tree.specs.declared.said.Said.TheVariants.{Showed}
 use Rattle.oc_tree.specs.declared.said.Shown.TheVariants.{Emitted}
 use Rattle.oc_meaning.specs.Eval.{Got, Val, Traps, is_zero, element_of, value_of}
-use Rattle.oc_meaning.specs.Exec.{Outcome, Went, Returned, Stopped, Passed, begun_by, ended_by, opened, closed, used, done, finished, then_do, with_value, with_result, number_in, sense, element_written, leave, count_of, for_turns, while_turns, in_turn as turn_of, grown, entered, call_run, right_run, kind_run, else_run, block_run, stmts_run}
+use Rattle.oc_meaning.specs.Exec.{Outcome, Went, Returned, Stopped, Passed, begun_by, ended_by, opened, closed, used, done, finished, then_do, with_value, with_result, number_in}
+use Rattle.oc_meaning.specs.Exec.{sense, element_written, leave, count_of, for_turns, while_turns, in_turn as turn_of, grown, entered, call_run, right_run, kind_run, else_run}
+use Rattle.oc_meaning.specs.Exec.{block_run, stmts_run}
 use Rattle.oc_desugar.proofs.KeptExpressions.{first_holds, second_holds}
-use Rattle.oc_desugar.proofs.Unbroken.{Unbroken, unbroken}
+use Rattle.oc_desugar.proofs.Unbroken.{unbroken}
 use Rattle.oc_formed.proofs.BodiesPass.{AllFine, fine_front, fine_back, function_fine}
 
 -- ---- statements

@@ -1,21 +1,18 @@
 -- What the rules leave of each statement of a function, with the scope that its variables tell: names that are declared are new, and
 -- calls break no rule.
-use Rattle.std.proofs.Common.{◌≡◌, ◌⊎◌, inl, inr, ℕ, ◌+◌, Bool, true, false, true≢false, List, [], ◌∷◌, ◌++◌, Option, Some, None, cond, refl, sym, ap, ◌∙◌, subst, append-nil}
+use Rattle.std.proofs.Common.{◌≡◌, ◌⊎◌, inl, inr, ℕ, ◌+◌, true, false, true≢false, List, [], ◌∷◌, ◌++◌, Some, None, refl, sym, ap, ◌∙◌, subst, append-nil}
 use Rattle.std.specs.Prelude.{slice_get, ◌&&◌}
-use Rattle.std.specs.Str.{bytes_eq}
 use Rattle.std.proofs.lemmas.Option.{none-some, same_Some}
 use Rattle.oc_tree.specs.Names.{Text}
-use Rattle.oc_tree.specs.Tree.{TExpr, TCall, call, TArgs, TRight, right_value, right_sense, right_call, TKind, let_to, let_array, assign, assign_index, assign_deref, if_else, for_in, while_do, call_only, sense_only, emit, fresh, consistent, return, TElse, no_else, else_do, stmt, TBlock, block, TStmts, no_stmts, more, TFunction, TProgram}
+use Rattle.oc_tree.specs.Tree.{TCall, call, TRight, right_value, right_sense, right_call, TKind, let_to, let_array, assign, assign_index, assign_deref, if_else, for_in, while_do}
+use Rattle.oc_tree.specs.Tree.{call_only, sense_only, emit, fresh, consistent, return, TElse, no_else, else_do, stmt, TBlock, block, TStmts, no_stmts, more, TFunction, TProgram}
 use Rattle.oc_tree.specs.Calls.{expr_calls, args_calls, call_calls, right_calls}
 use Rattle.oc_tree.specs.Checked.{Group, IsChecked}
 use Rattle.oc_tree.specs.declared.tree.VarId.TheVariants as variables
-use Rattle.oc_tree.specs.declared.scope.Origin.TheVariants as origins
-use Rattle.oc_tree.specs.declared.scope.Var.{Var}
 use Rattle.oc_tree.specs.Scope.{Scope, variable_in, is_variable, is_taken}
-use Rattle.oc_tree.specs.Types.{right_type}
-use Rattle.oc_tree.specs.Elements.{Here, kind_of, let_var, turn_var, inside, in_turn, before_stmts, scope_after, after_stmt, kind_elements, else_elements, stmt_elements, block_elements, stmts_elements, in_function}
-use Rattle.oc_tree.specs.Rules.{takes_name, call_known, expr_known, right_known}
-use Rattle.oc_tree.specs.Places.{Place, Placed, Variables, find_variable, let_variables, at_start, behind, in_branch, in_loop, kind_placed, else_placed, block_placed, stmts_placed, placed}
+use Rattle.oc_tree.specs.Elements.{Here, inside, in_turn, before_stmts, scope_after, after_stmt, kind_elements, else_elements, stmt_elements, block_elements, stmts_elements, in_function}
+use Rattle.oc_tree.specs.Rules.{takes_name, expr_known, right_known}
+use Rattle.oc_tree.specs.Places.{Place, Placed, find_variable, let_variables, at_start, behind, in_branch, in_loop, kind_placed, else_placed, block_placed, stmts_placed, placed}
 use Rattle.oc_effects.specs.Effects.{right_call_of, call_of}
 use Rattle.oc_tree.specs.Members.{IsOf}
 use Rattle.oc_desugar.proofs.KeptExpressions.{second_holds}
@@ -69,8 +66,10 @@ module _ (p : TProgram) (f : ℕ) (body : List Placed) (found : (b : Placed) →
         InBody (kind_placed at id k) → (q : Placed) → IsOf q (kind_placed at id k) → IsPassed p f q
     kind_passed h at id line (if_else c a b) fits e fine sub q o =
         either (in_append q (block_placed (in_branch at id) a) (else_placed (in_branch at id) b) o)
-        (block_passed (inside h) (in_branch at id) a fits (fine_front p (block_elements p (inside h) a) (else_elements p (inside h) b) fine) (λ z i. sub z (of_left z (block_placed (in_branch at id) a) (else_placed (in_branch at id) b) i)) q)
-        (else_passed (inside h) (in_branch at id) b fits (fine_back p (block_elements p (inside h) a) (else_elements p (inside h) b) fine) (λ z i. sub z (of_right z (block_placed (in_branch at id) a) (else_placed (in_branch at id) b) i)) q)
+        (block_passed (inside h) (in_branch at id) a fits (fine_front p (block_elements p (inside h) a) (else_elements p (inside h) b) fine)
+        (λ z i. sub z (of_left z (block_placed (in_branch at id) a) (else_placed (in_branch at id) b) i)) q)
+        (else_passed (inside h) (in_branch at id) b fits (fine_back p (block_elements p (inside h) a) (else_elements p (inside h) b) fine)
+        (λ z i. sub z (of_right z (block_placed (in_branch at id) a) (else_placed (in_branch at id) b) i)) q)
     kind_passed h at id line (for_in x m n b) fits e fine sub q o =
         block_passed (in_turn h x) (in_loop at id ((x, variables.Declared id) ∷ [])) b (var_more h at id line (for_in x m n b) x fits e, fits.1) fine sub q o
     kind_passed h at id line (while_do c n b) fits e fine sub q o =
@@ -105,7 +104,8 @@ module _ (p : TProgram) (f : ℕ) (body : List Placed) (found : (b : Placed) →
         either o (λ s. subst (IsPassed p f) (sym s) one)
         (λ i. either (in_append q (kind_placed at id k) (stmts_placed (behind at id k) ss) i)
         (kind_passed here at id line k fits e own.1 (λ z j. sub z (inr (of_left z (kind_placed at id k) (stmts_placed (behind at id k) ss) j))) q)
-        (stmts_passed (after_stmt p h (stmt id line k)) (behind at id k) ss (fits_behind h at id line k fits e, fits.1) rest (λ z j. sub z (inr (of_right z (kind_placed at id k) (stmts_placed (behind at id k) ss) j))) q))
+        (stmts_passed (after_stmt p h (stmt id line k)) (behind at id k) ss (fits_behind h at id line k fits e, fits.1) rest
+        (λ z j. sub z (inr (of_right z (kind_placed at id k) (stmts_placed (behind at id k) ss) j))) q))
 
 -- ---- calls
 

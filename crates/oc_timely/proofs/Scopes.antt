@@ -1,10 +1,11 @@
 -- The scope that variables tell: it has their names, and grows as they do.
-use Rattle.std.proofs.Common.{◌≡◌, ◌⊎◌, inl, inr, ℕ, suc, ◌+◌, ◌<◌, ◌≤◌, Bool, true, false, true≢false, List, [], ◌∷◌, ◌++◌, length, Option, Some, None, cond, refl, sym, ap, ◌∙◌, subst, arith, append_assoc, length-append}
+use Rattle.std.proofs.Common.{◌≡◌, ◌⊎◌, inl, inr, ℕ, ◌+◌, ◌<◌, ◌≤◌, Bool, true, false, true≢false, List, [], ◌∷◌, ◌++◌, length, Option, Some, None, cond, refl, sym, ap, ◌∙◌, subst}
+use Rattle.std.proofs.Common.{arith, append_assoc, length-append}
 use Rattle.std.specs.Prelude.{ℤ, slice_get}
 use Rattle.std.specs.Str.{bytes_eq}
 use Rattle.std.proofs.lemmas.Option.{none-some}
 use Rattle.oc_tree.specs.Names.{Text}
-use Rattle.oc_tree.specs.Tree.{TKind, let_to, let_array, assign, assign_index, assign_deref, if_else, for_in, while_do, call_only, sense_only, emit, fresh, consistent, return, TStmts, TProgram}
+use Rattle.oc_tree.specs.Tree.{TKind, let_to, let_array, TStmts, TProgram}
 use Rattle.oc_tree.specs.declared.tree.Param.{Param}
 use Rattle.oc_tree.specs.declared.tree.VarId.{VarId}
 use Rattle.oc_tree.specs.declared.tree.VarId.TheVariants as variables
@@ -41,7 +42,8 @@ module _ (p : TProgram) (f : ℕ) where
   none_from s (v ∷ vs) x e n = by (bytes_eq x v.0) refl n (none_from (s ++ (v.0, var_of p f s v.1) ∷ []) vs x)
     where
       by : (b : Bool) → bytes_eq x v.0 ≡ b → cond b (Some v.1) (find_variable vs x) ≡ None →
-          (variable_in (s ++ (v.0, var_of p f s v.1) ∷ []) x ≡ None → find_variable vs x ≡ None → variable_in (scope_from p f (s ++ (v.0, var_of p f s v.1) ∷ []) vs) x ≡ None) → variable_in (scope_from p f (s ++ (v.0, var_of p f s v.1) ∷ []) vs) x ≡ None
+          (variable_in (s ++ (v.0, var_of p f s v.1) ∷ []) x ≡ None → find_variable vs x ≡ None → variable_in (scope_from p f (s ++ (v.0, var_of p f s v.1) ∷ []) vs) x ≡ None)
+          → variable_in (scope_from p f (s ++ (v.0, var_of p f s v.1) ∷ []) vs) x ≡ None
       by true is q rest = absurd (none-some v.1 (sym q))
       by false is q rest = rest (not_more s x v.0 (var_of p f s v.1) e is) q
 
@@ -106,11 +108,13 @@ module _ (p : TProgram) (f : ℕ) (vs : Variables) (env : List Binding) (σ τ :
       Stands p (scope_of p f (vs ++ (x, variables.Declared id) ∷ [])) (bound_to x rest first ∷ env) τ
   stands_let x rest first none same more =
       subst (λ s. Stands p s (bound_to x rest first ∷ env) τ) (sym (scope_more p f vs x (variables.Declared id)))
-      (stands_more p (scope_of p f vs) env σ τ (bound_to x rest first) (var_declared p (scope_of p f vs) (placed p id)) (none_of p f vs x none) (inl (ap Local same, more)) (omega (arith, more)) (sym (plain_var p (scope_of p f vs) (placed p id))) h)
+      (stands_more p (scope_of p f vs) env σ τ (bound_to x rest first) (var_declared p (scope_of p f vs) (placed p id)) (none_of p f vs x none) (inl (ap Local same, more))
+      (omega (arith, more)) (sym (plain_var p (scope_of p f vs) (placed p id))) h)
 
   -- in a turn of a `for`
   pub stands_turn : (x : Text) (i : ℤ) → find_variable vs x ≡ None → var_declared p (scope_of p f vs) (placed p id) ≡ turn_var →
       Stands p (scope_of p f (vs ++ (x, variables.Declared id) ∷ [])) (in_turn x i ∷ env) σ
   stands_turn x i none turn =
       subst (λ s. Stands p s (in_turn x i ∷ env) σ) (sym (scope_more p f vs x (variables.Declared id)))
-      (stands_more p (scope_of p f vs) env σ σ (in_turn x i) (var_declared p (scope_of p f vs) (placed p id)) (none_of p f vs x none) (inr (i, refl, turn)) (omega arith) (sym (plain_var p (scope_of p f vs) (placed p id))) h)
+      (stands_more p (scope_of p f vs) env σ σ (in_turn x i) (var_declared p (scope_of p f vs) (placed p id)) (none_of p f vs x none) (inr (i, refl, turn)) (omega arith)
+      (sym (plain_var p (scope_of p f vs) (placed p id))) h)

@@ -1,23 +1,23 @@
 -- What is seen of variables with one variable more: behind a `let`, and in a turn of a `for`.
-use Rattle.std.proofs.Common.{◌≡◌, ◌⊎◌, inl, inr, ℕ, suc, ◌<◌, ◌≤◌, Bool, true, false, List, [], ◌∷◌, ◌++◌, length, Option, Some, None, refl, sym, ap, ◌∙◌, subst, arith}
+use Rattle.std.proofs.Common.{◌≡◌, ◌⊎◌, inl, inr, ℕ, suc, ◌<◌, ◌≤◌, Bool, true, false, List, [], ◌∷◌, ◌++◌, length, Option, Some, None, refl, sym, ap, ◌∙◌, arith}
 use Rattle.std.specs.Prelude.{ℤ, ◌||◌, cond, if◌then◌else◌, option_map}
 use Rattle.std.specs.Str.{bytes_eq}
 use Rattle.std.proofs.lemmas.Slice.Eq.{bytes_eq-Decides}
 use Rattle.oc_tree.specs.Names.{Text}
 use Rattle.oc_tree.specs.Calls.{place}
-use Rattle.oc_tree.specs.Tree.{TKind, let_to, let_array, assign, assign_index, assign_deref, if_else, for_in, while_do, call_only, sense_only, emit, fresh, consistent, return, stmt, TCall, TStmts, no_stmts, more, TProgram}
-use Rattle.oc_tree.specs.Places.{Place as Spot, Placed, Variables, find_variable, or_nonvolatile, nv_variable, behind, in_loop, declares, stmts_placed, kind_placed, placed}
+use Rattle.oc_tree.specs.Tree.{TKind, let_to, let_array, for_in, fresh, stmt, TCall, TStmts, no_stmts, more, TProgram}
+use Rattle.oc_tree.specs.Places.{Place as Spot, Placed, Variables, find_variable, or_nonvolatile, behind, declares, stmts_placed, kind_placed, placed}
 use Rattle.oc_tree.specs.declared.tree.VarId.{VarId}
 use Rattle.oc_tree.specs.declared.tree.VarId.TheVariants as variables
 use Rattle.oc_tree.specs.declared.marked.PolicyKind.TheVariants as kinds
-use Rattle.oc_meaning.specs.Uses.{is_fresh, is_fresh_note, is_annotated}
-use Rattle.oc_meaning.specs.Store.{Place, Local, Global, Turn, Nowhere, Store, Binding, binding_of, place_of}
+use Rattle.oc_meaning.specs.Uses.{is_fresh_note, is_annotated}
+use Rattle.oc_meaning.specs.Store.{Place, Local, Global, Turn, Nowhere, Store, Binding, binding_of}
 use Rattle.oc_effects.specs.Effects.{effect_of, effects_at, variable_at, call_of}
 use Rattle.oc_flow.specs.Variables.{same_variable, is_variable}
 use Rattle.oc_tree.specs.Members.{IsOf}
 use Rattle.oc_needs.specs.Policies.{policies}
 use Rattle.oc_copies.specs.Stands.{Stands, IsRuledCall}
-use Rattle.oc_timely.specs.Within.{Where, place_in, Owns}
+use Rattle.oc_timely.specs.Within.{Where, place_in}
 use Rattle.oc_timely.specs.Scopes.{scope_of}
 use Rattle.oc_timely.specs.Modes.{Sees, with_place}
 use Rattle.oc_timely.proofs.Inside.{same_is, of_right}

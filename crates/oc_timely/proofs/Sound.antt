@@ -64,4 +64,5 @@ module _ (m : TMarked) (groups : List Group) (checked : IsChecked m.program grou
   pub runs_fine : (depth : ℕ) → RunsFine m guarded depth
   runs_fine zero f g i ps σ stored many finds all = run_fine 0 f g (knows f g i) (λ base. none_fine f g base) i ps σ stored many finds all
   runs_fine (suc d) f g i ps σ stored many finds all =
-      run_fine (suc d) f g (knows f g i) (λ base. call_fine m groups checked guarded copies callees (set_home g.body) f base (block_placed (at_start g) g.body) ((knows f g i).may base) d (runs_fine d)) i ps σ stored many finds all
+      run_fine (suc d) f g (knows f g i) (λ base. call_fine m groups checked guarded copies callees (set_home g.body) f base (block_placed (at_start g) g.body)
+      ((knows f g i).may base) d (runs_fine d)) i ps σ stored many finds all

@@ -2,7 +2,8 @@
 use Rattle.std.proofs.Common.{◌≡◌, inl, inr, ℕ, ◌<◌, ◌≤◌, Bool, true, false, List, [], ◌∷◌, Option, Some, None, refl, sym, ap, ◌∙◌, subst, arith}
 use Rattle.std.specs.Prelude.{ℤ, option_map, if◌then◌else◌, ◌==◌}
 use Rattle.oc_tree.specs.Names.{Text}
-use Rattle.oc_tree.specs.Tree.{TRight, right_value, right_sense, right_call, TCall, TKind, let_to, let_array, assign, assign_index, assign_deref, if_else, for_in, while_do, call_only, sense_only, emit, fresh, consistent, return, TProgram}
+use Rattle.oc_tree.specs.Tree.{TRight, right_value, right_sense, right_call, TCall, TKind, let_to, let_array, assign, assign_index, assign_deref, if_else, for_in, while_do}
+use Rattle.oc_tree.specs.Tree.{call_only, sense_only, emit, fresh, consistent, return, TProgram}
 use Rattle.oc_tree.specs.Places.{Place as Spot, Placed}
 use Rattle.oc_tree.specs.Marked.{TMarked}
 use Rattle.oc_tree.specs.declared.tree.VarId.{VarId}
@@ -12,7 +13,8 @@ use Rattle.oc_meaning.specs.Samples.{union}
 use Rattle.oc_meaning.specs.Uses.{is_fresh, own_names, samples_of_fresh, is_use, use_samples}
 use Rattle.oc_meaning.specs.Store.{Value, Held, Place, Local, Global, Turn, Nowhere, Store, Binding, held_at, place_of, put}
 use Rattle.oc_meaning.specs.Eval.{Got, Val, Traps, value_of}
-use Rattle.oc_meaning.specs.Exec.{Outcome, Went, Returned, Stopped, Passed, with_value, with_result, sense, number_in, element_written, used, done, closed, opened, told_if, ended_by, right_run, kind_run}
+use Rattle.oc_meaning.specs.Exec.{Outcome, Went, Returned, Stopped, Passed, with_value, with_result, sense, number_in, element_written, used, done, closed, opened, told_if}
+use Rattle.oc_meaning.specs.Exec.{ended_by, right_run, kind_run}
 use Rattle.oc_effects.specs.Effects.{TCalled, effect_of, call_of, right_call_of, variable_at}
 use Rattle.oc_tree.specs.Members.{IsOf}
 use Rattle.oc_copies.specs.Copies.{HasStored}
@@ -165,8 +167,11 @@ module _ (m : TMarked) (guarded : ℕ → Bool) (call : Text → List Passed →
     straight_fine (sense_only s) env w σ i h = fine_result _ _ (fine_sense (number_in p.names.sensors s) σ.left σ h.taken h.all) (λ v τ a. a)
     straight_fine (emit q e) env w σ i h = fine_value (value_of env σ e) id σ _ h.all (λ v. (tt, h.all))
     straight_fine (fresh x) env w σ i h = h.all
-    straight_fine (consistent x k) env w σ i h =
-        (tag_since (There (consistent x k)) h.one env w σ h.sees h.taken h.stored h.deep h.held h.all x (variable_at p (There (consistent x k)) x) k refl (λ y e. ap (option_map (λ v. notes.Consistent v k)) e), h.all)
+    straight_fine (consistent x k) env w σ i h = (
+      tag_since (There (consistent x k)) h.one env w σ h.sees h.taken h.stored h.deep h.held h.all x (variable_at p (There (consistent x k)) x) k refl
+          (λ y e. ap (option_map (λ v. notes.Consistent v k)) e),
+      h.all,
+    )
     straight_fine (return e) env w σ i h =
         fine_value (value_of env σ e) id σ _ h.all (λ v.
         fine_closed (ended_by m.regions id) _ (fine_done (is_use (is_fresh env) (return e)) id (use_samples env (return e) σ) σ

@@ -1,39 +1,38 @@
 -- What straight statements leave, where calls leave what they must: samples come to variables by the flow and by input alone.
-use Rattle.std.proofs.Common.{◌≡◌, ◌⊎◌, inl, inr, ℕ, suc, ◌+◌, ◌<◌, ◌≤◌, Bool, true, false, List, [], ◌∷◌, ◌++◌, length, Option, Some, None, refl, sym, ap, ◌∙◌, subst, arith}
-use Rattle.std.specs.Prelude.{ℤ, pos, option_map, if◌then◌else◌, nat_lt}
+use Rattle.std.proofs.Common.{◌≡◌, ◌⊎◌, inl, inr, ℕ, suc, ◌+◌, ◌<◌, ◌≤◌, true, List, [], ◌∷◌, ◌++◌, length, Option, Some, None, refl, sym, ap, ◌∙◌, subst, arith}
+use Rattle.std.specs.Prelude.{ℤ, pos, if◌then◌else◌}
 use Rattle.oc_tree.specs.Names.{Text}
-use Rattle.oc_tree.specs.Tree.{TExpr, TRight, right_value, right_sense, right_call, TCall, TKind, let_to, let_array, assign, assign_index, assign_deref, if_else, for_in, while_do, call_only, sense_only, emit, fresh, consistent, return, TStmts, TProgram}
-use Rattle.oc_tree.specs.Places.{Place as Spot, Placed, find_variable, or_nonvolatile, behind, declares, stmts_placed}
+use Rattle.oc_tree.specs.Tree.{TExpr, TRight, right_value, right_sense, right_call, TCall, TKind, let_to, let_array, assign, assign_index, assign_deref, if_else, for_in, while_do}
+use Rattle.oc_tree.specs.Tree.{call_only, sense_only, emit, fresh, consistent, return, TProgram}
+use Rattle.oc_tree.specs.Places.{Place as Spot, Placed}
 use Rattle.oc_tree.specs.Marked.{TRegion}
 use Rattle.oc_tree.specs.declared.tree.VarId.{VarId}
 use Rattle.oc_tree.specs.declared.tree.VarId.TheVariants as variables
-use Rattle.oc_tree.specs.declared.marked.PolicyKind.TheVariants as kinds
 use Rattle.oc_meaning.specs.Samples.{union}
-use Rattle.oc_meaning.specs.Uses.{expr_names, is_annotated}
+use Rattle.oc_meaning.specs.Uses.{expr_names}
 use Rattle.oc_meaning.specs.Store.{Value, Held, Place, Local, Global, Turn, Nowhere, Store, Binding, plain, holding, replaced, with_element, held_at, place_of, put, made, at, noted}
 use Rattle.oc_tree.specs.declared.said.Said.TheVariants.{Sensed, Showed}
-use Rattle.oc_tree.specs.declared.said.Shown.TheVariants.{Emitted, Tagged}
+use Rattle.oc_tree.specs.declared.said.Shown.TheVariants.{Emitted}
 use Rattle.oc_meaning.specs.Eval.{Got, Val, Traps, element_of, value_of}
-use Rattle.oc_meaning.specs.Exec.{Outcome, Went, Returned, Stopped, Passed, with_value, with_result, dropped, sense, number_in, element_written, tagged, bound_to, grown, array_of, call_run, right_run, kind_run}
+use Rattle.oc_meaning.specs.Exec.{Outcome, Went, Returned, Stopped, Passed, with_value, with_result, sense, number_in, element_written, tagged, array_of, call_run, right_run, kind_run}
 use Rattle.oc_effects.specs.Effects.{TEffect, effect_of, call_of, right_of, right_call_of, is_sense, value_names, source_names, variable_at}
 use Rattle.oc_flow.specs.Variables.{is_variable}
 use Rattle.oc_tree.specs.Members.{IsOf}
-use Rattle.oc_flow.specs.Relations.{Flow, itself, by_input}
-use Rattle.oc_needs.specs.Policies.{policies}
+use Rattle.oc_flow.specs.Relations.{itself, by_input}
 use Rattle.oc_copies.specs.Copies.{HasStored}
-use Rattle.oc_timely.specs.Within.{Where, place_in, samples_of, Owns, Comes, old, new, Came}
-use Rattle.oc_timely.specs.Enough.{taken_in, is_open, since}
+use Rattle.oc_timely.specs.Within.{Where, place_in, samples_of, Comes, new, Came}
+use Rattle.oc_timely.specs.Enough.{since}
 use Rattle.oc_timely.specs.Steps.{AreTaken}
-use Rattle.oc_timely.specs.Modes.{Sees, IsSteady, Goes, In, Among, own_placed, with_place, where_behind}
+use Rattle.oc_timely.specs.Modes.{Sees, IsSteady, with_place, where_behind}
 use Rattle.oc_copies.specs.Stands.{makes}
 use Rattle.oc_copies.proofs.Cells.{put_locals}
 use Rattle.oc_timely.proofs.Sampled.{in_union, got_samples, of_front, of_back, value_from}
 use Rattle.oc_timely.proofs.Came.{comes_back, stays}
 use Rattle.oc_timely.proofs.Sources.{source_comes}
-use Rattle.oc_timely.proofs.Marks.{IsLike, like_samples, IsQuiet, quiet_taken, sees_length, sees_later, sees_spot}
+use Rattle.oc_timely.proofs.Marks.{like_samples, IsQuiet, quiet_taken, sees_length}
 use Rattle.oc_timely.proofs.Straight.{IsStraight}
-use Rattle.oc_timely.proofs.Writes.{steady_put, steady_made, came_wider, put_later, made_later}
-use Rattle.oc_timely.proofs.SeesOn.{AreNamed, sees_more, annotated, find_not}
+use Rattle.oc_timely.proofs.Writes.{steady_put, steady_made, put_later, made_later}
+use Rattle.oc_timely.proofs.SeesOn.{AreNamed}
 
 -- ---- outcomes
 
@@ -59,7 +58,13 @@ same_held s z zs σ Nowhere = refl
 
 steady_sensed : (s : ℕ) (z : ℤ) (zs : List ℤ) (σ : Store) → AreTaken σ → IsSteady σ (sensed_at s z zs σ)
 steady_sensed s z zs σ t = record {
-  taken = record { held = λ q j h. let a = t.held q j (subst (λ (x : Held). IsOf j x.samples) (same_held s z zs σ q) h) in omega (arith, a); count = ap suc t.count; opened = t.opened; begun = let a = t.begun in omega (arith, a) };
+  taken = record {
+    held = λ q j h. let a = t.held q j (subst (λ (x : Held). IsOf j x.samples) (same_held s z zs σ q) h) in omega (arith, a);
+    count = ap suc t.count;
+    opened =
+        t.opened;
+    begun = let a = t.begun in omega (arith, a);
+  };
   deep = refl;
   since = λ d. refl;
 }
@@ -173,7 +178,13 @@ module _ (p : TProgram) (regions : List TRegion) (call : Text → List Passed �
     -- only the events are others
     quiet_left : (υ : Store) → IsQuiet σ υ → Leaves w 0 υ
     quiet_left υ q = record {
-      came = record { within = λ v j h. stay.within v j (like_samples σ υ q.like w v j h); later = let e = q.like.taken in omega (arith, e); stored = ap (λ (xs : List Held). length xs) q.like.nv; below = λ l h. ap (λ xs. at xs l) q.like.locals };
+      came = record {
+        within = λ v j h. stay.within v j (like_samples σ υ q.like w v j h);
+        later = let e = q.like.taken in omega (arith, e);
+        stored =
+            ap (λ (xs : List Held). length xs) q.like.nv;
+        below = λ l h. ap (λ xs. at xs l) q.like.locals;
+      };
       steady = record { taken = quiet_taken σ υ q taken; deep = q.depth; since = λ d. q.since };
       many = let l = ap (λ (xs : List Held). length xs) q.like.locals in omega (arith, l);
     }
@@ -219,31 +230,53 @@ module _ (p : TProgram) (regions : List TRegion) (call : Text → List Passed �
         (sees : Sees p f base id spot env w σ) (taken : AreTaken σ) (stored : HasStored p σ) → kind_run p.names regions call home env id k σ ≡ Went υ →
         Leaves names calls (this k) one env w σ sees taken stored (where_behind w id k first) (makes k) υ
     straight_leaves (let_to m x t r) s one env w first σ υ same sees taken stored e =
-        by_result (this (let_to m x t r)) w σ (right_run p.names regions call home env id σ r) (λ v τ. Went (made (holding v) τ)) υ _ (right_left names calls (this (let_to m x t r)) one env w σ sees taken stored r refl (λ x i. i) (λ c q. ap right_call_of q)) e
-        (λ v τ g h. to_store names calls (this (let_to m x t r)) one env w σ sees taken stored (with_place w id (Local (length first.locals))) 1 (made (holding v) τ) υ h (made_one names calls (this (let_to m x t r)) one env w σ sees taken stored (length first.locals) τ (holding v) same g.came g.steady g.many (g.comes (variables.Declared id) refl (names.declared (this (let_to m x t r)) one refl)) g.below))
+        by_result (this (let_to m x t r)) w σ (right_run p.names regions call home env id σ r) (λ v τ. Went (made (holding v) τ)) υ _
+        (right_left names calls (this (let_to m x t r)) one env w σ sees taken stored r refl (λ x i. i) (λ c q. ap right_call_of q)) e
+        (λ v τ g h. to_store names calls (this (let_to m x t r)) one env w σ sees taken stored (with_place w id (Local (length first.locals))) 1 (made (holding v) τ) υ h
+        (made_one names calls (this (let_to m x t r)) one env w σ sees taken stored (length first.locals) τ (holding v) same g.came g.steady g.many
+        (g.comes (variables.Declared id) refl (names.declared (this (let_to m x t r)) one refl)) g.below))
     straight_leaves (let_array m x t z n) s one env w first σ υ same sees taken stored e =
-        to_store names calls (this (let_array m x t z n)) one env w σ sees taken stored (with_place w id (Local (length first.locals))) 1 (made (array_of z n) σ) υ e (made_one names calls (this (let_array m x t z n)) one env w σ sees taken stored (length first.locals) σ (array_of z n) same (stay names calls (this (let_array m x t z n)) one env w σ sees taken stored) (steady_self σ taken) refl (λ j h. absurd h) (λ j h. absurd h))
+        to_store names calls (this (let_array m x t z n)) one env w σ sees taken stored (with_place w id (Local (length first.locals))) 1 (made (array_of z n) σ) υ e
+        (made_one names calls (this (let_array m x t z n)) one env w σ sees taken stored (length first.locals) σ (array_of z n) same
+        (stay names calls (this (let_array m x t z n)) one env w σ sees taken stored) (steady_self σ taken) refl (λ j h. absurd h) (λ j h. absurd h))
     straight_leaves (assign x r) s one env w first σ υ same sees taken stored e =
-        by_result (this (assign x r)) w σ (right_run p.names regions call home env id σ r) (λ v τ. Went (put τ (place_of env x) (replaced (held_at τ (place_of env x)) v))) υ _ (right_left names calls (this (assign x r)) one env w σ sees taken stored r refl (λ x i. i) (λ c q. ap right_call_of q)) e
-        (λ v τ g h. to_store names calls (this (assign x r)) one env w σ sees taken stored w 0 (put τ (place_of env x) (replaced (held_at τ (place_of env x)) v)) υ h (written names calls (this (assign x r)) one env w σ sees taken stored x τ (replaced (held_at τ (place_of env x)) v) g.came g.steady g.many refl (λ t q k j i. g.comes t q k j i) g.below))
+        by_result (this (assign x r)) w σ (right_run p.names regions call home env id σ r) (λ v τ. Went (put τ (place_of env x) (replaced (held_at τ (place_of env x)) v))) υ _
+        (right_left names calls (this (assign x r)) one env w σ sees taken stored r refl (λ x i. i) (λ c q. ap right_call_of q)) e
+        (λ v τ g h. to_store names calls (this (assign x r)) one env w σ sees taken stored w 0 (put τ (place_of env x) (replaced (held_at τ (place_of env x)) v)) υ h
+        (written names calls (this (assign x r)) one env w σ sees taken stored x τ (replaced (held_at τ (place_of env x)) v) g.came g.steady g.many refl (λ t q k j i. g.comes t q k j i) g.below))
     straight_leaves (assign_deref x r) s one env w first σ υ same sees taken stored e =
-        by_result (this (assign_deref x r)) w σ (right_run p.names regions call home env id σ r) (λ v τ. Went (put τ (place_of env x) (replaced (held_at τ (place_of env x)) v))) υ _ (right_left names calls (this (assign_deref x r)) one env w σ sees taken stored r refl (λ x i. i) (λ c q. ap right_call_of q)) e
-        (λ v τ g h. to_store names calls (this (assign_deref x r)) one env w σ sees taken stored w 0 (put τ (place_of env x) (replaced (held_at τ (place_of env x)) v)) υ h (written names calls (this (assign_deref x r)) one env w σ sees taken stored x τ (replaced (held_at τ (place_of env x)) v) g.came g.steady g.many refl (λ t q k j i. g.comes t q k j i) g.below))
+        by_result (this (assign_deref x r)) w σ (right_run p.names regions call home env id σ r) (λ v τ. Went (put τ (place_of env x) (replaced (held_at τ (place_of env x)) v))) υ
+        _ (right_left names calls (this (assign_deref x r)) one env w σ sees taken stored r refl (λ x i. i) (λ c q. ap right_call_of q)) e
+        (λ v τ g h. to_store names calls (this (assign_deref x r)) one env w σ sees taken stored w 0 (put τ (place_of env x) (replaced (held_at τ (place_of env x)) v)) υ h
+        (written names calls (this (assign_deref x r)) one env w σ sees taken stored x τ (replaced (held_at τ (place_of env x)) v) g.came g.steady g.many refl
+        (λ t q k j i. g.comes t q k j i) g.below))
     straight_leaves (assign_index x i0 r) s one env w first σ υ same sees taken stored e =
-        by_result (this (assign_index x i0 r)) w σ (right_run p.names regions call home env id σ r) (λ v τ. with_value (value_of env τ i0) id τ (λ i. element_written (place_of env x) (element_of (length (held_at τ (place_of env x)).words) i.num) i v id τ)) υ _ (right_left names calls (this (assign_index x i0 r)) one env w σ sees taken stored r refl (λ x i. of_back x (expr_names i0) (value_names r) i) (λ c q. ap right_call_of q)) e
+        by_result (this (assign_index x i0 r)) w σ (right_run p.names regions call home env id σ r)
+        (λ v τ. with_value (value_of env τ i0) id τ (λ i. element_written (place_of env x) (element_of (length (held_at τ (place_of env x)).words) i.num) i v id τ)) υ _
+        (right_left names calls (this (assign_index x i0 r)) one env w σ sees taken stored r refl (λ x i. of_back x (expr_names i0) (value_names r) i) (λ c q. ap right_call_of q)) e
         (λ v τ g h. by_value_run (value_of env τ i0) id τ (λ i. element_written (place_of env x) (element_of (length (held_at τ (place_of env x)).words) i.num) i v id τ) υ _ h
-        (λ i is h'. element_left names calls (this (assign_index x i0 r)) one env w σ sees taken stored x i0 (element_of (length (held_at τ (place_of env x)).words) i.num) i v τ υ g is refl (λ y n. of_front y (expr_names i0) (value_names r) n) h'))
+        (λ i is h'. element_left names calls (this (assign_index x i0 r)) one env w σ sees taken stored x i0 (element_of (length (held_at τ (place_of env x)).words) i.num) i v τ υ
+        g is refl (λ y n. of_front y (expr_names i0) (value_names r) n) h'))
     straight_leaves (call_only c) s one env w first σ υ same sees taken stored e =
-        by_result (this (call_only c)) w σ (call_run p.names regions call home env id σ c) (λ v τ. Went τ) υ _ (calls (this (call_only c)) one c refl env w σ sees taken stored) e (λ v τ g h. to_store names calls (this (call_only c)) one env w σ sees taken stored w 0 τ υ h (right_only names calls (this (call_only c)) one env w σ sees taken stored τ v g))
+        by_result (this (call_only c)) w σ (call_run p.names regions call home env id σ c) (λ v τ. Went τ) υ _ (calls (this (call_only c)) one c refl env w σ sees taken stored) e
+        (λ v τ g h. to_store names calls (this (call_only c)) one env w σ sees taken stored w 0 τ υ h (right_only names calls (this (call_only c)) one env w σ sees taken stored τ v g))
     straight_leaves (sense_only q) s one env w first σ υ same sees taken stored e =
-        by_result (this (sense_only q)) w σ (sense (number_in p.names.sensors q) σ.left σ) (λ v τ. Went τ) υ _ (sense_left names calls (this (sense_only q)) one env w σ sees taken stored (number_in p.names.sensors q) σ.left (λ t e. absurd (cc))) e (λ v τ g h. to_store names calls (this (sense_only q)) one env w σ sees taken stored w 0 τ υ h (right_only names calls (this (sense_only q)) one env w σ sees taken stored τ v g))
+        by_result (this (sense_only q)) w σ (sense (number_in p.names.sensors q) σ.left σ) (λ v τ. Went τ) υ _
+        (sense_left names calls (this (sense_only q)) one env w σ sees taken stored (number_in p.names.sensors q) σ.left (λ t e. absurd (cc))) e
+        (λ v τ g h. to_store names calls (this (sense_only q)) one env w σ sees taken stored w 0 τ υ h (right_only names calls (this (sense_only q)) one env w σ sees taken stored τ v g))
     straight_leaves (emit q x) s one env w first σ υ same sees taken stored e =
         by_value_run (value_of env σ x) id σ (λ v. Went (noted (Showed (Emitted (number_in p.names.ports q) v.num)) v.samples σ)) υ _ e
-        (λ v is h. to_store names calls (this (emit q x)) one env w σ sees taken stored w 0 (noted (Showed (Emitted (number_in p.names.ports q) v.num)) v.samples σ) υ h (quiet_left names calls (this (emit q x)) one env w σ sees taken stored _ (record { like = record { locals = refl; nv = refl; taken = refl }; depth = refl; taken = refl; opened = refl; since = refl })))
+        (λ v is h. to_store names calls (this (emit q x)) one env w σ sees taken stored w 0 (noted (Showed (Emitted (number_in p.names.ports q) v.num)) v.samples σ) υ h
+        (quiet_left names calls (this (emit q x)) one env w σ sees taken stored _
+        (record { like = record { locals = refl; nv = refl; taken = refl }; depth = refl; taken = refl; opened = refl; since = refl })))
     straight_leaves (fresh x) s one env w first σ υ same sees taken stored e =
-        to_store names calls (this (fresh x)) one env w σ sees taken stored w 0 σ υ e (quiet_left names calls (this (fresh x)) one env w σ sees taken stored σ (record { like = record { locals = refl; nv = refl; taken = refl }; depth = refl; taken = refl; opened = refl; since = refl }))
+        to_store names calls (this (fresh x)) one env w σ sees taken stored w 0 σ υ e
+        (quiet_left names calls (this (fresh x)) one env w σ sees taken stored σ
+        (record { like = record { locals = refl; nv = refl; taken = refl }; depth = refl; taken = refl; opened = refl; since = refl }))
     straight_leaves (consistent x n) s one env w first σ υ same sees taken stored e =
-        to_store names calls (this (consistent x n)) one env w σ sees taken stored w 0 (tagged (home n) id (held_at σ (place_of env x)).samples σ) υ e (quiet_left names calls (this (consistent x n)) one env w σ sees taken stored (tagged (home n) id (held_at σ (place_of env x)).samples σ) (record { like = record { locals = refl; nv = refl; taken = refl }; depth = refl; taken = refl; opened = refl; since = refl }))
+        to_store names calls (this (consistent x n)) one env w σ sees taken stored w 0 (tagged (home n) id (held_at σ (place_of env x)).samples σ) υ e
+        (quiet_left names calls (this (consistent x n)) one env w σ sees taken stored (tagged (home n) id (held_at σ (place_of env x)).samples σ)
+        (record { like = record { locals = refl; nv = refl; taken = refl }; depth = refl; taken = refl; opened = refl; since = refl }))
     straight_leaves (return x) s one env w first σ υ same sees taken stored e =
         by_value_run (value_of env σ x) id σ _ υ _ e (λ v is h. absurd (cc))
     straight_leaves (if_else c a b) s one env w first σ υ same sees taken stored e = absurd s

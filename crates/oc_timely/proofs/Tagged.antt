@@ -3,7 +3,8 @@ use Rattle.std.proofs.Common.{◌≡◌, inl, inr, ℕ, suc, ◌+◌, ◌≤◌,
 use Rattle.std.specs.Prelude.{ℤ, ◌||◌, ◌-ℤ◌, count_by}
 use Rattle.std.proofs.lemmas.List.Sums.{sum_by-cons}
 use Rattle.oc_tree.specs.Names.{Text, NameLists}
-use Rattle.oc_tree.specs.Tree.{TCall, call, TRight, right_value, right_sense, right_call, TKind, let_to, let_array, assign, assign_index, assign_deref, if_else, for_in, while_do, call_only, sense_only, emit, fresh, consistent, return, TElse, no_else, else_do, stmt, TBlock, block, TStmts, no_stmts, more, TFunction, TProgram}
+use Rattle.oc_tree.specs.Tree.{TCall, call, TRight, right_value, right_sense, right_call, TKind, let_to, let_array, assign, assign_index, assign_deref, if_else, for_in, while_do}
+use Rattle.oc_tree.specs.Tree.{call_only, sense_only, emit, fresh, consistent, return, TElse, no_else, else_do, stmt, TBlock, block, TStmts, no_stmts, more, TFunction, TProgram}
 use Rattle.oc_tree.specs.Marked.{TRegion}
 use Rattle.oc_tree.specs.declared.said.Said.TheVariants.{Showed}
 use Rattle.oc_tree.specs.declared.said.Shown.TheVariants.{Tagged}
@@ -11,13 +12,15 @@ use Rattle.oc_meaning.specs.Blocks.{set_home}
 use Rattle.oc_meaning.specs.Store.{Event, Store, Binding, held_at, place_of, happened}
 use Rattle.oc_meaning.specs.Eval.{is_zero, element_of, value_of}
 use Rattle.oc_meaning.specs.Uses.{is_fresh, is_use, use_samples, begins_use, ends_use}
-use Rattle.oc_meaning.specs.Exec.{begun_by, ended_by, Outcome, Went, Returned, Stopped, Passed, number_in, opened, closed, used, done, sense, args_of, count_of, in_turn, grown, entered, tagged, call_run, right_run, kind_run, else_run, block_run, stmts_run}
+use Rattle.oc_meaning.specs.Exec.{begun_by, ended_by, Outcome, Went, Returned, Stopped, Passed, number_in, opened, closed, used, done, sense, args_of, count_of, in_turn, grown}
+use Rattle.oc_meaning.specs.Exec.{entered, tagged, call_run, right_run, kind_run, else_run, block_run, stmts_run}
 use Rattle.oc_effects.specs.Effects.{call_of, right_call_of}
 use Rattle.oc_tree.specs.Members.{IsOf}
 use Rattle.oc_honest.specs.Timely.{set_of}
 use Rattle.oc_timely.specs.Steps.{IsTag}
 use Rattle.oc_timely.specs.Sets.{times}
-use Rattle.oc_timely.proofs.Closed.{tag_number, IsNoTag, IsClosed, KOut, k_opened, k_closed, k_used, k_done, k_put, k_finished, k_leave, k_result, k_value, k_if, k_sense, k_element, k_args, k_for, k_while}
+use Rattle.oc_timely.proofs.Closed.{tag_number, IsNoTag, IsClosed, KOut, k_opened, k_closed, k_used, k_done, k_put, k_finished, k_leave, k_result, k_value, k_if, k_sense}
+use Rattle.oc_timely.proofs.Closed.{k_element, k_args, k_for, k_while}
 
 -- ---- what was told
 
@@ -100,7 +103,11 @@ module _ (p : TProgram) (f : ℕ) (g : TFunction) (k : ℤ) where
           now x s t = ap (λ (y : Event). y.instance) s ∙ ap (λ m. count_by (λ b. m == b) σ.blocks) (sym (its (ap (set_of p) (number x s t) ∙ t.set_is)).1)
 
           tags : (x : Event) → IsOf x (e ∷ h.newer) → (t : IsOne x) → (c ≤ x.instance) × own t.stmt
-          tags x (inl s) t = (let l = h.reached (its (ap (set_of p) (number x s t) ∙ t.set_is)).0 in let i = now x s t in omega (arith, l, i), subst own (number x s t) (its (ap (set_of p) (number x s t) ∙ t.set_is)).2)
+          tags x (inl s) t = (
+            let l = h.reached (its (ap (set_of p) (number x s t) ∙ t.set_is)).0 in let i = now x s t in
+                omega (arith, l, i),
+            subst own (number x s t) (its (ap (set_of p) (number x s t) ∙ t.set_is)).2,
+          )
           tags x (inr o) t = h.tags x o t
 
           numbered : AreNumbered (tagged home n samples σ)
@@ -199,7 +206,10 @@ module _ (p : TProgram) (f : ℕ) (g : TFunction) (k : ℤ) where
         kind_since i env n (let_array mu x t z c) σ a p h = since_like i σ _ refl refl h
         kind_since i env n (assign x e) σ a p h =
             k_result (Its i) (is_closed i) (right_run names regions call_at home env n σ e) _ (right_since i env n σ e a.1 h) (λ v τ g. k_put (Its i) (is_closed i) τ (place_of env x) _ g)
-        kind_since i env n (assign_index x y e) σ a p h = k_result (Its i) (is_closed i) (right_run names regions call_at home env n σ e) _ (right_since i env n σ e a.1 h) (λ v τ g. k_value (Its i) (is_closed i) (value_of env τ y) n τ _ g (λ w. k_element (Its i) (is_closed i) (place_of env x) (element_of (length (held_at τ (place_of env x)).words) w.num) w v n τ g))
+        kind_since i env n (assign_index x y e) σ a p h =
+            k_result (Its i) (is_closed i) (right_run names regions call_at home env n σ e) _ (right_since i env n σ e a.1 h)
+            (λ v τ g. k_value (Its i) (is_closed i) (value_of env τ y) n τ _ g
+            (λ w. k_element (Its i) (is_closed i) (place_of env x) (element_of (length (held_at τ (place_of env x)).words) w.num) w v n τ g))
         kind_since i env n (assign_deref x e) σ a p h =
             k_result (Its i) (is_closed i) (right_run names regions call_at home env n σ e) _ (right_since i env n σ e a.1 h) (λ v τ g. k_put (Its i) (is_closed i) τ (place_of env x) _ g)
         kind_since i env n (if_else c x y) σ a p h =
@@ -215,14 +225,18 @@ module _ (p : TProgram) (f : ℕ) (g : TFunction) (k : ℤ) where
         kind_since i env n (emit s e) σ a p h = k_value (Its i) (is_closed i) (value_of env σ e) n σ _ h (λ v. since_told i _ σ tt h)
         kind_since i env n (fresh x) σ a p h = h
         kind_since i env n (consistent x j) σ a p h = since_tagged i (home j) n (held_at σ (place_of env x)).samples σ a.0 h
-        kind_since i env n (return e) σ a p h = k_value (Its i) (is_closed i) (value_of env σ e) n σ _ h (λ v. since_closed i (ended_by regions n) (done (is_use (is_fresh env) (return e)) n (use_samples env (return e) σ) σ) (since_done i (is_use (is_fresh env) (return e)) n (use_samples env (return e) σ) σ h))
+        kind_since i env n (return e) σ a p h = k_value (Its i) (is_closed i) (value_of env σ e) n σ _ h
+            (λ v. since_closed i (ended_by regions n) (done (is_use (is_fresh env) (return e)) n (use_samples env (return e) σ) σ)
+            (since_done i (is_use (is_fresh env) (return e)) n (use_samples env (return e) σ) σ h))
 
         pub else_since : (i : Bool) (env : List Binding) (b : TElse) (σ : Store) → ElseFits i b → Since older c own i σ → SinceOut i (else_run names regions call_at home env b σ)
         else_since i env no_else σ p h = h
         else_since i env (else_do b) σ p h = block_since i env b σ p h
 
         pub block_since : (i : Bool) (env : List Binding) (b : TBlock) (σ : Store) → BlockFits i b → Since older c own i σ → SinceOut i (block_run names regions call_at home env b σ)
-        block_since i env (block id ss) σ p h = k_leave (Its i) (is_closed i) (length σ.locals) (stmts_run names regions call_at home env ss (entered id σ)) (less_out (i || (set_home g.body k == id)) i (stmts_run names regions call_at home env ss (entered id σ)) (λ e. ap (λ z. z || (set_home g.body k == id)) e) (stmts_since (i || (set_home g.body k == id)) env ss (entered id σ) p (since_entered i id σ h)))
+        block_since i env (block id ss) σ p h = k_leave (Its i) (is_closed i) (length σ.locals) (stmts_run names regions call_at home env ss (entered id σ))
+            (less_out (i || (set_home g.body k == id)) i (stmts_run names regions call_at home env ss (entered id σ)) (λ e. ap (λ z. z || (set_home g.body k == id)) e)
+            (stmts_since (i || (set_home g.body k == id)) env ss (entered id σ) p (since_entered i id σ h)))
 
         pub stmts_since : (i : Bool) (env : List Binding) (ss : TStmts) (σ : Store) → StmtsFit i ss → Since older c own i σ → SinceOut i (stmts_run names regions call_at home env ss σ)
         stmts_since i env no_stmts σ p h = h
@@ -231,4 +245,5 @@ module _ (p : TProgram) (f : ℕ) (g : TFunction) (k : ℤ) where
             k_finished (Its i) (is_closed i) (kind_run names regions call_at home env n s υ)
             (λ τ. closed (ended_by regions n) (done (ends_use (is_fresh env) s) n (use_samples env s σ) τ)) (stmts_run names regions call_at home (grown s rest env σ) rest)
             (kind_since i env n s υ p.0 p.1 (since_used i (begins_use (is_fresh env) s) n (use_samples env s σ) (opened (begun_by regions n) σ) (since_opened i (begun_by regions n) σ h)))
-            (λ τ e d. stmts_since i (grown s rest env σ) rest _ p.2 (since_closed i (ended_by regions n) (done (ends_use (is_fresh env) s) n (use_samples env s σ) τ) (since_done i (ends_use (is_fresh env) s) n (use_samples env s σ) τ d)))
+            (λ τ e d. stmts_since i (grown s rest env σ) rest _ p.2
+            (since_closed i (ended_by regions n) (done (ends_use (is_fresh env) s) n (use_samples env s σ) τ) (since_done i (ends_use (is_fresh env) s) n (use_samples env s σ) τ d)))

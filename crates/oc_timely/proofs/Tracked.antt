@@ -1,8 +1,10 @@
 -- A walk over a function's statements that keeps what is known of the tags of one set, with the names as they stand, what was taken, and where samples come from.
-use Rattle.std.proofs.Common.{◌≡◌, ◌⊎◌, inl, inr, ℕ, zero, suc, ◌+◌, ◌-◌, ◌<◌, ◌≤◌, Bool, true, false, List, [], ◌∷◌, length, Option, Some, None, refl, sym, ap, ◌∙◌, subst, arith, append-nil, true≢false}
+use Rattle.std.proofs.Common.{◌≡◌, ◌⊎◌, inl, inr, ℕ, zero, suc, ◌+◌, ◌-◌, ◌<◌, ◌≤◌, Bool, true, false, List, [], ◌∷◌, length, Option, Some, None, refl, sym, ap, ◌∙◌, subst, arith}
+use Rattle.std.proofs.Common.{append-nil, true≢false}
 use Rattle.std.specs.Prelude.{ℤ, pos, ◌+ℤ◌, ◌-ℤ◌, if◌then◌else◌}
 use Rattle.oc_tree.specs.Names.{Text}
-use Rattle.oc_tree.specs.Tree.{TExpr, TCall, TRight, right_value, right_sense, right_call, TKind, let_to, let_array, assign, assign_index, assign_deref, if_else, for_in, while_do, call_only, sense_only, emit, fresh, consistent, return, TElse, no_else, else_do, stmt, TBlock, block, TStmts, no_stmts, more, TProgram}
+use Rattle.oc_tree.specs.Tree.{TExpr, TCall, TRight, right_value, right_sense, right_call, TKind, let_to, let_array, assign, assign_index, assign_deref, if_else, for_in, while_do}
+use Rattle.oc_tree.specs.Tree.{call_only, sense_only, emit, fresh, consistent, return, TElse, no_else, else_do, stmt, TBlock, block, TStmts, no_stmts, more, TProgram}
 use Rattle.oc_tree.specs.Places.{Place as Spot, Placed, behind, in_branch, in_loop, kind_placed, else_placed, block_placed, stmts_placed}
 use Rattle.oc_tree.specs.Marked.{TMarked}
 use Rattle.oc_tree.specs.declared.tree.VarId.{VarId}
@@ -11,7 +13,8 @@ use Rattle.oc_meaning.specs.Samples.{union}
 use Rattle.oc_meaning.specs.Uses.{is_fresh, is_use, use_samples, begins_use, ends_use}
 use Rattle.oc_meaning.specs.Store.{Held, Turn, Nowhere, Store, Binding, held_at, place_of}
 use Rattle.oc_meaning.specs.Eval.{is_zero, value_of}
-use Rattle.oc_meaning.specs.Exec.{Outcome, Went, Returned, Passed, number_in, used, done, closed, opened, begun_by, ended_by, count_of, for_turns, while_turns, in_turn, grown, entered, tagged, call_run, right_run, kind_run, else_run, block_run, stmts_run}
+use Rattle.oc_meaning.specs.Exec.{Outcome, Went, Returned, Passed, number_in, used, done, closed, opened, begun_by, ended_by, count_of, for_turns, while_turns, in_turn, grown}
+use Rattle.oc_meaning.specs.Exec.{entered, tagged, call_run, right_run, kind_run, else_run, block_run, stmts_run}
 use Rattle.oc_effects.specs.Effects.{TCalled, TEffect, right_call_of, call_of, effect_of, effects_at}
 use Rattle.oc_tree.specs.Members.{IsOf}
 use Rattle.oc_flow.specs.Relations.{Flow}
@@ -21,7 +24,8 @@ use Rattle.oc_timely.specs.Enough.{Apart, Calm, next_mode, OkOwn, OkStep, OkClea
 use Rattle.oc_timely.specs.Steps.{AreTaken}
 use Rattle.oc_timely.specs.Modes.{Sees, Flows, Goes, In, Among, own_placed, IsSteady, with_place, where_behind, IsStep, PairedKind, PairedElse, PairedBlock, PairedStmts}
 use Rattle.oc_timely.proofs.Came.{flow_on}
-use Rattle.oc_timely.proofs.Marks.{like_samples, sees_length, like_sees, sees_later, like_stored, IsQuiet, quiet_used, quiet_done, quiet_taken, sees_spot, quiet_entered, like_opened, like_closed, begun_is, ended_is}
+use Rattle.oc_timely.proofs.Marks.{like_samples, sees_length, like_sees, sees_later, like_stored, IsQuiet, quiet_used, quiet_done, quiet_taken, sees_spot, quiet_entered}
+use Rattle.oc_timely.proofs.Marks.{like_opened, like_closed, begun_is, ended_is}
 use Rattle.oc_timely.proofs.Inside.{turn_samples, samples_turn, of_left, of_right, count_open}
 use Rattle.oc_timely.proofs.Closed.{IsClosed, KOut, k_opened, k_closed, k_used, k_done, k_put, k_then, k_finished, k_leave, k_result, k_value, k_if, k_sense, k_element}
 
@@ -52,7 +56,8 @@ module _ (K : Store → Type 0) (stays : IsClosed K) where
 
   -- old : what flows into a variable of X has samples before T alone, and no statement brings it others
   module _ (m : TMarked) (guarded : ℕ → Bool) (call : Text → List Passed → Store → Outcome) (home : ℤ → ℕ) (f base : ℕ) (body : List Placed) (flows : Flows m.program m.regions call home f base body)
-      (X : VarId → Type 0) (T : ℕ) (effect : (b : Placed) → IsOf b body → IsOf (effect_of m.program b) (effects_at m.program f)) (apart : (x : VarId) → X x → Apart m.program f (λ a. IsOf a (effects_at m.program f)) x) where
+      (X : VarId → Type 0) (T : ℕ) (effect : (b : Placed) → IsOf b body → IsOf (effect_of m.program b) (effects_at m.program f))
+      (apart : (x : VarId) → X x → Apart m.program f (λ a. IsOf a (effects_at m.program f)) x) where
     abbrev p : TProgram
     p = m.program
 
@@ -119,7 +124,8 @@ module _ (K : Store → Type 0) (stays : IsClosed K) where
         right_track s (right_call c) one k σ sees t guards = calls (There s) one c (k c refl) env w σ sees t guards
 
         turns_track : (x : Text) (c d : ℤ) (b : TBlock) → In m.program m.regions call home f base body (own_placed spot id line (for_in x c d b)) → PairedBlock m.regions (suc id) b → (deep : ℕ) →
-            ((i : ℤ) (σ : Store) → deep ≤ σ.depth → Sees p f base (suc id) (in_loop spot id ((x, variables.Declared id) ∷ [])) (in_turn x i ∷ env) (with_place w id (Turn i)) σ → Track (with_place w id (Turn i)) σ → Out (block_run p.names m.regions call home (in_turn x i ∷ env) b σ)) →
+            ((i : ℤ) (σ : Store) → deep ≤ σ.depth → Sees p f base (suc id) (in_loop spot id ((x, variables.Declared id) ∷ [])) (in_turn x i ∷ env) (with_place w id (Turn i)) σ
+            → Track (with_place w id (Turn i)) σ → Out (block_run p.names m.regions call home (in_turn x i ∷ env) b σ)) →
             (t : ℕ) (i : ℤ) (σ : Store) → deep ≤ σ.depth → Sees p f base id spot env w σ → Track w σ → Out (for_turns t i (λ i. block_run p.names m.regions call home (in_turn x i ∷ env) b) σ)
         turns_track x c d b sub pair deep each zero i σ l s o = o.kept
         turns_track x c d b sub pair deep each (suc t) i σ l s o =
@@ -183,7 +189,8 @@ module _ (K : Store → Type 0) (stays : IsClosed K) where
 
       module _ (spot : Spot) (id line : ℕ) (s : TKind) (rest : TStmts) (inside : Option ℕ) (C0 C : VarId → Type 0) (env : List Binding) (w : Where) (σ : Store) (sees : Sees p f base id spot env w σ)
           (t : Track w σ) (marks : count_open inside ≤ σ.depth)
-          (sub : InBody (stmts_placed spot (more (stmt id line s) rest))) (pair : PairedKind m.regions (suc id) s) (step : IsStep inside (begun_by m.regions id) (ended_by m.regions id)) (mode : (count_open inside < σ.depth) ⊎ OkStmts m guarded f inside C0 C spot (more (stmt id line s) rest)) where
+          (sub : InBody (stmts_placed spot (more (stmt id line s) rest))) (pair : PairedKind m.regions (suc id) s)
+          (step : IsStep inside (begun_by m.regions id) (ended_by m.regions id)) (mode : (count_open inside < σ.depth) ⊎ OkStmts m guarded f inside C0 C spot (more (stmt id line s) rest)) where
         abbrev begun : Option ℕ
         begun = begun_by m.regions id
 
@@ -260,7 +267,8 @@ module _ (K : Store → Type 0) (stays : IsClosed K) where
           marks_after : count_open (next_mode inside begun ended) ≤ (after τ).depth
           marks_after = let c = step_count inside begun ended step in let d = after_depth in let k = marks in omega (arith, c, d, k)
 
-          mode_after : (count_open (next_mode inside begun ended) < (after τ).depth) ⊎ OkStmts m guarded f (next_mode inside begun ended) (OkClean m guarded f inside C0 C begun) (λ v. C v × Apart p f (Among p (own_placed spot id line s)) v) (behind spot id s) rest
+          mode_after : (count_open (next_mode inside begun ended) < (after τ).depth) ⊎ OkStmts m guarded f (next_mode inside begun ended) (OkClean m guarded f inside C0 C begun)
+              (λ v. C v × Apart p f (Among p (own_placed spot id line s)) v) (behind spot id s) rest
           mode_after = elim mode [
             | inl l ↦ let c = step_count inside begun ended step in let d = after_depth in inl (omega (arith, c, d, l))
             | inr ok ↦ inr ok.1
@@ -283,14 +291,18 @@ module _ (K : Store → Type 0) (stays : IsClosed K) where
             (env : List Binding) (w : Where) (σ : Store) → (0 < σ.depth) ⊎ Plain C spot id line s → Sees p f base id spot env w σ → Track w σ → Out (kind_run p.names m.regions call home env id s σ)
         kind_track C spot id line (if_else c a b) sub pair env w σ mode sees t =
             k_value K stays (value_of env σ c) id σ _ t.kept (λ v. k_if K stays (is_zero v.num) (else_run p.names m.regions call home env b σ) (block_run p.names m.regions call home env a σ)
-            (else_track C (in_branch spot id) (suc id) b (λ z h. sub z (inr (of_right z (block_placed (in_branch spot id) a) (else_placed (in_branch spot id) b) h))) pair.1 env w σ (elim mode [ inl d ↦ inl d | inr pl ↦ inr pl.1.1 ]) (branch_sees spot id env w σ sees) t)
-            (block_track C (in_branch spot id) (suc id) a (λ z h. sub z (inr (of_left z (block_placed (in_branch spot id) a) (else_placed (in_branch spot id) b) h))) pair.0 env w σ (elim mode [ inl d ↦ inl d | inr pl ↦ inr pl.1.0 ]) (branch_sees spot id env w σ sees) t))
+            (else_track C (in_branch spot id) (suc id) b (λ z h. sub z (inr (of_right z (block_placed (in_branch spot id) a) (else_placed (in_branch spot id) b) h))) pair.1 env w σ
+            (elim mode [ inl d ↦ inl d | inr pl ↦ inr pl.1.1 ]) (branch_sees spot id env w σ sees) t)
+            (block_track C (in_branch spot id) (suc id) a (λ z h. sub z (inr (of_left z (block_placed (in_branch spot id) a) (else_placed (in_branch spot id) b) h))) pair.0 env w σ
+            (elim mode [ inl d ↦ inl d | inr pl ↦ inr pl.1.0 ]) (branch_sees spot id env w σ sees) t))
         kind_track C spot id line (for_in x c d b) sub pair env w σ mode sees t = elim mode [
           | inl deep ↦ turns_track spot id line env w x c d b sub pair 1
-              (λ i τ l s' t'. block_track (Turned C spot id (for_in x c d b)) (in_loop spot id ((x, variables.Declared id) ∷ [])) (suc id) b (λ z h. sub z (inr h)) pair (in_turn x i ∷ env) (with_place w id (Turn i)) τ (inl (omega (arith, l))) s' t')
+              (λ i τ l s' t'. block_track (Turned C spot id (for_in x c d b)) (in_loop spot id ((x, variables.Declared id) ∷ [])) (suc id) b (λ z h. sub z (inr h)) pair
+              (in_turn x i ∷ env) (with_place w id (Turn i)) τ (inl (omega (arith, l))) s' t')
               (count_of (d -ℤ c)) c σ (omega (arith, deep)) sees t
           | inr pl ↦ turns_track spot id line env w x c d b sub pair 0
-              (λ i τ l s' t'. block_track (Turned C spot id (for_in x c d b)) (in_loop spot id ((x, variables.Declared id) ∷ [])) (suc id) b (λ z h. sub z (inr h)) pair (in_turn x i ∷ env) (with_place w id (Turn i)) τ (inr pl.1) s' t')
+              (λ i τ l s' t'. block_track (Turned C spot id (for_in x c d b)) (in_loop spot id ((x, variables.Declared id) ∷ [])) (suc id) b (λ z h. sub z (inr h)) pair
+              (in_turn x i ∷ env) (with_place w id (Turn i)) τ (inr pl.1) s' t')
               (count_of (d -ℤ c)) c σ (omega arith) sees t
         ]
         kind_track C spot id line (while_do c n b) sub pair env w σ mode sees t = elim mode [
@@ -322,7 +334,9 @@ module _ (K : Store → Type 0) (stays : IsClosed K) where
         kind_track C spot id line (fresh x) sub pair env w σ mode sees t = t.kept
         kind_track C spot id line (consistent x j) sub pair env w σ mode sees t = tags (record { id = id; line = line; kind = consistent x j; at = spot }) (sub _ (inl refl)) x j refl env w σ sees t
         kind_track C spot id line (return e) sub pair env w σ mode sees t =
-            k_value K stays (value_of env σ e) id σ _ t.kept (λ v. k_closed K stays (ended_by m.regions id) (done (is_use (is_fresh env) (return e)) id (use_samples env (return e) σ) σ) (k_done K stays (is_use (is_fresh env) (return e)) id (use_samples env (return e) σ) σ t.kept))
+            k_value K stays (value_of env σ e) id σ _ t.kept
+            (λ v. k_closed K stays (ended_by m.regions id) (done (is_use (is_fresh env) (return e)) id (use_samples env (return e) σ) σ)
+            (k_done K stays (is_use (is_fresh env) (return e)) id (use_samples env (return e) σ) σ t.kept))
 
         else_track : (C : VarId → Type 0) (spot : Spot) (n : ℕ) (b : TElse) → InBody (else_placed spot b) → PairedElse m.regions n b → (env : List Binding) (w : Where) (σ : Store) →
             (0 < σ.depth) ⊎ OkElse m guarded f C spot b → Sees p f base n spot env w σ → Track w σ → Out (else_run p.names m.regions call home env b σ)
@@ -342,12 +356,20 @@ module _ (K : Store → Type 0) (stays : IsClosed K) where
             count_open inside ≤ σ.depth → Out (stmts_run p.names m.regions call home env ss σ)
         stmts_track C0 C spot n inside no_stmts sub pair env w σ mode sees t marks = t.kept
         stmts_track C0 C spot n inside (more (stmt id line s) rest) sub pair env w σ mode sees t marks =
-            k_finished K stays (kind_run p.names m.regions call home env id s (start spot id line s rest inside C0 C env w σ s0 t marks sub pair.2 pair.1 mode)) (after spot id line s rest inside C0 C env w σ s0 t marks sub pair.2 pair.1 mode) (stmts_run p.names m.regions call home (grown s rest env σ) rest)
-            (kind_track C spot id line s (λ z h. sub z (of_left z (own_placed spot id line s) (stmts_placed (behind spot id s) rest) h)) pair.2 env w (start spot id line s rest inside C0 C env w σ s0 t marks sub pair.2 pair.1 mode)
-            (mode_start spot id line s rest inside C0 C env w σ s0 t marks sub pair.2 pair.1 mode) (sees_start spot id line s rest inside C0 C env w σ s0 t marks sub pair.2 pair.1 mode) (at_start spot id line s rest inside C0 C env w σ s0 t marks sub pair.2 pair.1 mode))
-            (λ τ e a. stmts_track (OkClean m guarded f inside C0 C (begun_by m.regions id)) (λ v. C v × Apart p f (Among p (own_placed spot id line s)) v) (behind spot id s) (suc id) (next_mode inside (begun_by m.regions id) (ended_by m.regions id)) rest
-            (λ z h. sub z (of_right z (own_placed spot id line s) (stmts_placed (behind spot id s) rest) h)) pair.3 (grown s rest env σ) (where_behind w id s σ) (after spot id line s rest inside C0 C env w σ s0 t marks sub pair.2 pair.1 mode τ)
-            (mode_after spot id line s rest inside C0 C env w σ s0 t marks sub pair.2 pair.1 mode τ e a) (sees_after spot id line s rest inside C0 C env w σ s0 t marks sub pair.2 pair.1 mode τ e a) (track_after spot id line s rest inside C0 C env w σ s0 t marks sub pair.2 pair.1 mode τ e a) (marks_after spot id line s rest inside C0 C env w σ s0 t marks sub pair.2 pair.1 mode τ e a))
+            k_finished K stays (kind_run p.names m.regions call home env id s (start spot id line s rest inside C0 C env w σ s0 t marks sub pair.2 pair.1 mode))
+            (after spot id line s rest inside C0 C env w σ s0 t marks sub pair.2 pair.1 mode) (stmts_run p.names m.regions call home (grown s rest env σ) rest)
+            (kind_track C spot id line s (λ z h. sub z (of_left z (own_placed spot id line s) (stmts_placed (behind spot id s) rest) h)) pair.2 env w
+            (start spot id line s rest inside C0 C env w σ s0 t marks sub pair.2 pair.1 mode)
+            (mode_start spot id line s rest inside C0 C env w σ s0 t marks sub pair.2 pair.1 mode)
+            (sees_start spot id line s rest inside C0 C env w σ s0 t marks sub pair.2 pair.1 mode) (at_start spot id line s rest inside C0 C env w σ s0 t marks sub pair.2 pair.1 mode))
+            (λ τ e a. stmts_track (OkClean m guarded f inside C0 C (begun_by m.regions id)) (λ v. C v × Apart p f (Among p (own_placed spot id line s)) v) (behind spot id s)
+            (suc id) (next_mode inside (begun_by m.regions id) (ended_by m.regions id)) rest
+            (λ z h. sub z (of_right z (own_placed spot id line s) (stmts_placed (behind spot id s) rest) h)) pair.3 (grown s rest env σ) (where_behind w id s σ)
+            (after spot id line s rest inside C0 C env w σ s0 t marks sub pair.2 pair.1 mode τ)
+            (mode_after spot id line s rest inside C0 C env w σ s0 t marks sub pair.2 pair.1 mode τ e a)
+            (sees_after spot id line s rest inside C0 C env w σ s0 t marks sub pair.2 pair.1 mode τ e a)
+            (track_after spot id line s rest inside C0 C env w σ s0 t marks sub pair.2 pair.1 mode τ e a)
+            (marks_after spot id line s rest inside C0 C env w σ s0 t marks sub pair.2 pair.1 mode τ e a))
           where
             s0 : Sees p f base id spot env w σ
             s0 = sees_later p f base n id spot env w σ pair.0 sees

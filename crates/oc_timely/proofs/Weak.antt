@@ -1,5 +1,6 @@
 -- What is kept of the tags of one set: behind an earlier one with samples stands no mark, or its samples were there before the region in which it is.
-use Rattle.std.proofs.Common.{◌≡◌, ◌⊎◌, inl, inr, ℕ, suc, ◌+◌, ◌<◌, ◌≤◌, Bool, true, false, List, [], ◌∷◌, ◌++◌, length, Some, refl, ap, sym, subst, ◌∙◌, arith, append_assoc, length-append, true≢false}
+use Rattle.std.proofs.Common.{◌≡◌, ◌⊎◌, inl, inr, ℕ, suc, ◌+◌, ◌<◌, ◌≤◌, Bool, true, false, List, [], ◌∷◌, ◌++◌, length, Some, refl, ap, sym, subst, ◌∙◌, arith, append_assoc}
+use Rattle.std.proofs.Common.{length-append, true≢false}
 use Rattle.std.specs.Prelude.{ℤ, slice_get}
 use Rattle.oc_tree.specs.Tree.{TFunction, TProgram}
 use Rattle.oc_tree.specs.declared.said.Said.{Said}
@@ -141,8 +142,12 @@ not_stale x j es n s q fine t =
 pub unparted : (p : TProgram) (es : List Event) → AllFine es → ((f : ℕ) (g : TFunction) (k : ℤ) → slice_get p.functions f ≡ Some g → AreWeak p f g k es) →
     ((n : ℕ) (set : ℕ × ℤ) → set_of p n ≡ Some set → (g : TFunction) × (slice_get p.functions set.0 ≡ Some g)) → AreUnparted p es
 unparted p [] fine weak stands = tt
-unparted p (e ∷ es) fine weak stands =
-    (λ x j i t q. (let g = stands t.one t.set t.first_set in by x j t q ((weak t.set.0 g.0 t.set.1 g.1).0 x j i t (record { stmt = t.one; said = t.first; set_is = t.first_set; instance_is = refl }) q)), unparted p es fine.1 (λ f g k at. (weak f g k at).1) stands)
+unparted p (e ∷ es) fine weak stands = (
+  λ x j i t q. (let g = stands t.one t.set t.first_set in
+      by x j t q ((weak t.set.0 g.0 t.set.1 g.1).0 x j i t (record { stmt = t.one; said = t.first; set_is = t.first_set; instance_is = refl }) q)),
+  unparted p es fine.1
+      (λ f g k at. (weak f g k at).1) stands,
+)
   where
     by : (x : Event) (j : ℕ) → AreTogether p x e → IsOf j x.samples → IsBehind x es ⊎ IsStale x j es → IsBehind x es
     by x j t q (inl b) = b

@@ -34,7 +34,8 @@ good_of p (e ∷ es) f g = (good_one p e.said e es f.0 g.0, good_of p es f.1 g.1
 
 pub main_fine : (m : TMarked) (groups : List Group) (checked : IsChecked m.program groups) (guarded : ℕ → Bool) (copies : CallsCopy) (callees : CalleeAt m.program) →
     ((f : ℕ) (g : TFunction) → slice_get m.program.functions f ≡ Some g → Knows m guarded f g) → (samples : List ℤ) → HasStored m.program (first_store m.program samples) →
-    ((u : ℕ) (g : TFunction) → function_place m.program.functions (codes "main") ≡ Some u → slice_get m.program.functions u ≡ Some g → MayPass m.program u g [] (first_store m.program samples) × AreFormed g.params [] × FindsOwn m guarded u g [] (first_store m.program samples)) → FineOut (main_run m.program m.regions samples)
+    ((u : ℕ) (g : TFunction) → function_place m.program.functions (codes "main") ≡ Some u → slice_get m.program.functions u ≡ Some g
+    → MayPass m.program u g [] (first_store m.program samples) × AreFormed g.params [] × FindsOwn m guarded u g [] (first_store m.program samples)) → FineOut (main_run m.program m.regions samples)
 main_fine m groups checked guarded copies callees knows samples stored starts = by (function_named m.program.functions (codes "main")) refl
   where
     σ : Store
@@ -46,6 +47,7 @@ main_fine m groups checked guarded copies callees knows samples stored starts = 
     by (Some g) e =
         let c = callees (codes "main") g e in
         let s = starts c.0 g c.1 c.2 in
-        fine_copies (length (first_store m.program samples).locals) g [] (lent_run m.program m.regions (length m.program.functions) g [] (first_store m.program samples)) (own_run m.program m.regions (length m.program.functions) g [] (first_store m.program samples))
+        fine_copies (length (first_store m.program samples).locals) g [] (lent_run m.program m.regions (length m.program.functions) g [] (first_store m.program samples))
+        (own_run m.program m.regions (length m.program.functions) g [] (first_store m.program samples))
         (copies m.program groups checked m.regions (length m.program.functions) c.0 g c.2 [] (first_store m.program samples) stored s.0)
         (runs_fine m groups checked guarded copies callees knows (length m.program.functions) c.0 g c.2 [] (first_store m.program samples) stored s.1 s.2 tt)

@@ -92,7 +92,9 @@ module _ (m : TMarked) (guarded : ℕ → Bool) (f : ℕ) where
     OkKind C spot id line (for_in x c d b) =
         OkBlock (λ v. C v × Calm m.program f id (λ a. (q : Placed) × IsOf q (kind_placed spot id (for_in x c d b)) × (a ≡ effect_of m.program q)) v)
         (in_loop spot id ((x, variables.Declared id) ∷ [])) b
-    OkKind C spot id line (while_do c n b) = ((x : VarId) → Target m.program f (Own spot id line (while_do c n b)) x → Calm m.program f id (λ a. (q : Placed) × IsOf q (kind_placed spot id (while_do c n b)) × (a ≡ effect_of m.program q)) x) × OkBlock (λ v. C v × Calm m.program f id (λ a. (q : Placed) × IsOf q (kind_placed spot id (while_do c n b)) × (a ≡ effect_of m.program q)) v) (in_loop spot id []) b
+    OkKind C spot id line (while_do c n b) = ((x : VarId) → Target m.program f (Own spot id line (while_do c n b)) x
+        → Calm m.program f id (λ a. (q : Placed) × IsOf q (kind_placed spot id (while_do c n b)) × (a ≡ effect_of m.program q)) x) × OkBlock
+        (λ v. C v × Calm m.program f id (λ a. (q : Placed) × IsOf q (kind_placed spot id (while_do c n b)) × (a ≡ effect_of m.program q)) v) (in_loop spot id []) b
     OkKind C spot id line k = Unit {0}
 
     pub OkElse : (VarId → Type 0) → Spot → TElse → Type 0
@@ -107,7 +109,8 @@ module _ (m : TMarked) (guarded : ℕ → Bool) (f : ℕ) where
     OkStmts inside C0 C spot no_stmts = Unit {0}
     OkStmts inside C0 C spot (more (stmt id line k) rest) =
         OkStep inside (begun_by m.regions id) (Fits C0 (InStmt spot id line k)) (Fits C (InStmt spot id line k)) (OkOwn C (Own spot id line k) × OkKind C spot id line k)
-        × OkStmts (next_mode inside (begun_by m.regions id) (ended_by m.regions id)) (OkClean inside C0 C (begun_by m.regions id)) (λ v. C v × Apart m.program f (InStmt spot id line k) v) (behind spot id k) rest
+        × OkStmts (next_mode inside (begun_by m.regions id) (ended_by m.regions id)) (OkClean inside C0 C (begun_by m.regions id))
+        (λ v. C v × Apart m.program f (InStmt spot id line k) v) (behind spot id k) rest
 
 -- ---- what it gives: events that are held, the newest first
 

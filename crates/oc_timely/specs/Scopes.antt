@@ -1,6 +1,5 @@
 -- The scope of the rules, told by the variables that names stand for.
-use Rattle.std.specs.Prelude.{ℕ, List, [], ◌∷◌, ◌++◌, Option, Some, None, slice_get}
-use Rattle.oc_tree.specs.Names.{Text}
+use Rattle.std.specs.Prelude.{ℕ, [], ◌∷◌, ◌++◌, Option, Some, None, slice_get}
 use Rattle.oc_tree.specs.Tree.{TKind, let_to, let_array, TProgram}
 use Rattle.oc_tree.specs.declared.tree.Param.{Param}
 use Rattle.oc_tree.specs.declared.tree.VarId.{VarId}

@@ -73,4 +73,5 @@ CameBack p f base P w w' σ (Stopped s τ) = Unit {0}
 abbrev pub WithinFlow : Type 0
 WithinFlow = (p : TProgram) (groups : List Group) → IsChecked p groups → (regions : List TRegion) (depth f : ℕ) (g : TFunction) → slice_get p.functions f ≡ Some g →
     (ps : List Passed) (σ : Store) → HasStored p σ → AreFormed g.params ps →
-    CameBack p f (length σ.locals) (AnyOf p f) (start_where p f (length σ.locals)) (start_where p f (length σ.locals)) (record σ { locals = (own_frame p g ps σ).locals }) (own_run p regions depth g ps σ)
+    CameBack p f (length σ.locals) (AnyOf p f) (start_where p f (length σ.locals)) (start_where p f (length σ.locals)) (record σ { locals = (own_frame p g ps σ).locals })
+    (own_run p regions depth g ps σ)

@@ -35,7 +35,8 @@ use Rattle.oc_top.proofs.Exactly.{done_answer}
 use Rattle.oc_top.proofs.Honesty.{honest_throughout}
 
 -- what is ready is a run of the program that the source spells
-pub ready_run : (files : Files) (plan : Plan) (machine : Running) (sensors : Told) (left : List Period) → IsReady files plan machine sensors left → IsRun files plan (runs machine.parts sensors.rows left)
+pub ready_run : (files : Files) (plan : Plan) (machine : Running) (sensors : Told) (left : List Period) → IsReady files plan machine sensors left
+    → IsRun files plan (runs machine.parts sensors.rows left)
 ready_run files plan machine sensors left r =
     let b = r.built in
     let honest = honest_throughout machine.parts b.written (history sensors.rows) left r.can_run.sound b.runs b.timely r.can_run.words in
@@ -51,8 +52,10 @@ ready_run files plan machine sensors left r =
       periods = r.periods;
       powered = r.powered;
       is_run = ap (λ (i : Parts). runs i sensors.rows left) b.is_code ∙ ap (λ (ps : List Period). runs (program_code b.written) sensors.rows ps) r.planned;
-      honest = subst (λ (ps : List Period). IsHonestThroughout b.written (history sensors.rows) (power_run (device_of (program_code b.written)) (history sensors.rows) ps).report (power_run (device_of (program_code b.written)) (history sensors.rows) ps).state.nv) r.planned
-          (subst (λ (i : Parts). IsHonestThroughout b.written (history sensors.rows) (power_run (device_of i) (history sensors.rows) left).report (power_run (device_of i) (history sensors.rows) left).state.nv) b.is_code honest);
+      honest = subst (λ (ps : List Period). IsHonestThroughout b.written (history sensors.rows) (power_run (device_of (program_code b.written)) (history sensors.rows) ps).report
+          (power_run (device_of (program_code b.written)) (history sensors.rows) ps).state.nv) r.planned
+          (subst (λ (i : Parts). IsHonestThroughout b.written (history sensors.rows) (power_run (device_of i) (history sensors.rows) left).report
+          (power_run (device_of i) (history sensors.rows) left).state.nv) b.is_code honest);
       attempts = subst (λ (ps : List Period). AttemptsClose bounds ps (program_power b.written sensors.rows ps).report) r.planned
           (subst (λ (i : Parts). AttemptsClose bounds left (power_run (device_of i) (history sensors.rows) left).report) b.is_code attempts);
       ends = subst (λ (ps : List Period). AreSafe bounds (suc bounds.total) ps → (how : Ending) × ((program_power b.written sensors.rows ps).state.phase ≡ Over how)) r.planned
@@ -78,8 +81,20 @@ whole_run c end e w = cc e
 module _ (c : Call) (task : Task) (asked : c.task ≡ Some task) where
   -- a file wasn't fetched
   pub not_fetched : (end : Answer) → NotFetched c.shelf c.words task.first (files_of task.wanted) end → c.out.took [] → Comes c end
-  not_fetched (answer.Unreadable word) n t = record { task = task; is_task = asked; place = n.place; among = n.among; is_word = n.refused.0; before = n.before; asked = n.asked; is_cause = n.refused.1; silent = t }
-  not_fetched (answer.TooLong word) n t = record { task = task; is_task = asked; place = n.place; among = n.among; is_word = n.refused.0; before = n.before; asked = n.asked; is_cause = n.refused.1; silent = t }
+  not_fetched (answer.Unreadable word) n t =
+      record { task = task; is_task = asked; place = n.place; among = n.among; is_word = n.refused.0; before = n.before; asked = n.asked; is_cause = n.refused.1; silent = t }
+  not_fetched (answer.TooLong word) n t = record {
+    task = task;
+    is_task = asked;
+    place = n.place;
+    among = n.among;
+    is_word = n.refused.0;
+    before = n.before;
+    asked =
+        n.asked;
+    is_cause = n.refused.1;
+    silent = t;
+  }
   not_fetched answer.Memory n t = record { task = task; is_task = asked; count = suc n.place; few = n.among; asked = n.asked; silent = t }
   not_fetched end n t = absurd n.refused
 
@@ -99,12 +114,14 @@ module _ (c : Call) (task : Task) (asked : c.task ≡ Some task) where
         (record { task = task; files = files; fetched = has_files; run = run; done = d; came = record { answered = e; written = t } })
     was_done run d end (in_part e p) = subst (λ (x : Answer). Comes c x) (sym e) (record { task = task; files = files; fetched = has_files; run = run; done = d; came = p })
 
-module _ (c : Call) (first : ℕ) (plan : Plan) (asked : c.task ≡ Some (record { first = first; wanted = report plan })) (files : Files) (fetched : AreFiles c.shelf.holds c.words first files) (all_asked : c.shelf.asked (names_of c.words first 3)) where
+module _ (c : Call) (first : ℕ) (plan : Plan) (asked : c.task ≡ Some (record { first = first; wanted = report plan })) (files : Files)
+    (fetched : AreFiles c.shelf.holds c.words first files) (all_asked : c.shelf.asked (names_of c.words first 3)) where
   pub turned_down : (end : Answer) → IsTurnedDown files plan end → c.out.took [] → Comes c end
   turned_down end (by_memory e) t = no_memory c _ asked files fetched all_asked end e t
   turned_down end (by_files reading reads is v) t = refused c _ asked files fetched all_asked end is (record { reading = reading; reads = reads; is_verdict = v }) t
 
-  pub was_run : (machine : Running) (sensors : Told) (left : List Period) → IsReady files plan machine sensors left → (end : Answer) → IsWritten c.out (runs machine.parts sensors.rows left) end → Comes c end
+  pub was_run : (machine : Running) (sensors : Told) (left : List Period) → IsReady files plan machine sensors left → (end : Answer)
+      → IsWritten c.out (runs machine.parts sensors.rows left) end → Comes c end
   was_run machine sensors left r end w = was_done c _ asked files fetched all_asked (runs machine.parts sensors.rows left) (ready_run files plan machine sensors left r) end w
 
 -- ---- texts of a source alone
@@ -120,7 +137,8 @@ refused_by source text (answer.Rule line rule) r = inr (refl, (breaks (record { 
 refused_by source text answer.Memory r = inl refl
 refused_by source text end r = absurd r
 
-module _ (c : Call) (first : ℕ) (source : List ℕ) (fetched : IsFile (c.shelf.holds (word_at c.words first)) (limit_at 0) source) (all_asked : c.shelf.asked (names_of c.words first 1)) (end : Answer) where
+module _ (c : Call) (first : ℕ) (source : List ℕ) (fetched : IsFile (c.shelf.holds (word_at c.words first)) (limit_at 0) source)
+    (all_asked : c.shelf.asked (names_of c.words first 1)) (end : Answer) where
   pub regions_come : c.task ≡ Some (record { first = first; wanted = regions }) → IsPrinted source regions_of c.out end → Comes c end
   regions_come asked (not_built n t) = elim (refused_by source regions_of end n) [
     | inl e ↦ no_memory c _ asked (source_alone source) fetched all_asked end e t

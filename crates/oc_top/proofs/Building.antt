@@ -21,10 +21,12 @@ is_marked source p m a e timely = record { written = p; reads = (a.spelled, a.un
 pub bounded_code : (m : TMarked) (parts : Parts) → IsMarked m → BudgetsBound → parts ≡ marked_code m → IsBounded (device_of parts) (bounds_of (budgets m))
 bounded_code m parts is law e = subst (λ (i : Parts). IsBounded (device_of i) (bounds_of (budgets m))) (sym e) (law m is)
 
-pub built : (source : List ℕ) (m : TMarked) (parts : Parts) → IsMarkedOf source m → parts ≡ marked_code m → IsRight m.program m.regions (may_write m) → IsBounded (device_of parts) (bounds_of (budgets m)) → IsBuilt source parts
+pub built : (source : List ℕ) (m : TMarked) (parts : Parts) → IsMarkedOf source m → parts ≡ marked_code m → IsRight m.program m.regions (may_write m)
+    → IsBounded (device_of parts) (bounds_of (budgets m)) → IsBuilt source parts
 built source m parts a is right bounded =
     let code : parts ≡ program_code a.written = is ∙ ap marked_code a.is_marked in
-    let whole : IsRight (program_marked a.written).program (program_marked a.written).regions (may_write (program_marked a.written)) = subst (λ (n : TMarked). IsRight n.program n.regions (may_write n)) a.is_marked right in
+    let whole : IsRight (program_marked a.written).program (program_marked a.written).regions (may_write (program_marked a.written)) =
+    subst (λ (n : TMarked). IsRight n.program n.regions (may_write n)) a.is_marked right in
     record {
       written = a.written;
       reads = a.reads;

@@ -12,7 +12,8 @@ use Rattle.oc_isa.specs.declared.phase.Phase.{Phase}
 use Rattle.oc_isa.specs.declared.phase.Phase.TheVariants.{Waking, Undoing, Restoring, Running, Entering, Over, Lost}
 use Rattle.oc_tree.specs.declared.said.Shown.{Shown}
 use Rattle.oc_isa.specs.Next.{Regs, Next, Goes, Senses, Enters, Commits, Ends, Stuck, Device}
-use Rattle.oc_isa.specs.Power.{State, Stepped, checkpoint, World, told, held, undo_phase, wake, restore, resume, enter, enters, enter_on, commits, goes, to_log, run_next, next_at, shown_of, words_of, ticked, tick_on, ticks_on, abort_of, power_fails, darkness, one_period, through, first_world, power_run, step}
+use Rattle.oc_isa.specs.Power.{State, Stepped, checkpoint, World, told, held, undo_phase, wake, restore, resume, enter, enters, enter_on, commits, goes, to_log, run_next, next_at}
+use Rattle.oc_isa.specs.Power.{shown_of, words_of, ticked, tick_on, ticks_on, abort_of, power_fails, darkness, one_period, through, first_world, power_run, step}
 use Rattle.oc_items.specs.Reports.{EndsWith}
 
 -- ---- lists of items

@@ -4,10 +4,7 @@ use Rattle.std.proofs.lemmas.Bool.{cases_order}
 use Rattle.oc_io.specs.declared.period.Period.{Period}
 use Rattle.oc_io.specs.Held.{Held, untold, nothing, content, Gives, Longer}
 use Rattle.oc_power.specs.Power.{Power, power_file}
-use Rattle.oc_power.specs.Power as power_rows
-use Rattle.oc_sensors.specs.declared.sensors.Row.{Row}
-use Rattle.oc_sensors.specs.File.{Readings, sensor_file}
-use Rattle.oc_sensors.specs.File as sensor_rows
+use Rattle.oc_sensors.specs.File.{Readings}
 use Rattle.oc_sensors.specs.History.{history}
 use Rattle.oc_tree.specs.declared.said.Said.{Said}
 use Rattle.oc_tree.specs.declared.said.Said.TheVariants.{Ended}
@@ -90,7 +87,8 @@ module _ (holds : List ℕ → Held) (words : List (List ℕ)) (first : ℕ) (fi
   same_source regions other h f = gives_same _ files.source other.source h.told f.gives
   same_source listing other h f = gives_same _ files.source other.source h.told f.gives
 
-  same_verdict : (wanted : Wanted) (other : Files) (reading : Reading) → AreHeld holds words first wanted files → AreWanted holds words first wanted other → verdict_on reading other wanted ≡ verdict_on reading files wanted
+  same_verdict : (wanted : Wanted) (other : Files) (reading : Reading) → AreHeld holds words first wanted files → AreWanted holds words first wanted other
+      → verdict_on reading other wanted ≡ verdict_on reading files wanted
   same_verdict (report plan) other reading h f = ap (λ (x : Files). verdict reading x plan) (same_files other h f)
   same_verdict regions other reading h f = refl
   same_verdict listing other reading h f = refl
@@ -108,7 +106,8 @@ module _ (holds : List ℕ → Held) (words : List (List ℕ)) (first : ℕ) (fi
   source_held h zero l = first_held h
   source_held h (suc k) l = absurd (omega arith)
 
-  held_at : (wanted : Wanted) → AreHeld holds words first wanted files → (place : ℕ) → place < files_of wanted → (bytes : List ℕ) × IsHeld (holds (word_at words (first + place))) (limit_at place) bytes
+  held_at : (wanted : Wanted) → AreHeld holds words first wanted files → (place : ℕ) → place < files_of wanted
+      → (bytes : List ℕ) × IsHeld (holds (word_at words (first + place))) (limit_at place) bytes
   held_at (report plan) h place l = all_held h place l
   held_at regions h place l = source_held h place l
   held_at listing h place l = source_held h place l
@@ -128,11 +127,13 @@ module _ (holds : List ℕ → Held) (words : List (List ℕ)) (first : ℕ) whe
   file_of_run files f (suc (suc zero)) l = (files.power, f.power)
   file_of_run files f (suc (suc (suc k))) l = absurd (omega arith)
 
-  only_file : (files : Files) → IsFile (holds (word_at words first)) (limit_at 0) files.source → (place : ℕ) → place < 1 → (bytes : List ℕ) × IsFile (holds (word_at words (first + place))) (limit_at place) bytes
+  only_file : (files : Files) → IsFile (holds (word_at words first)) (limit_at 0) files.source → (place : ℕ) → place < 1
+      → (bytes : List ℕ) × IsFile (holds (word_at words (first + place))) (limit_at place) bytes
   only_file files f zero l = first_file files f
   only_file files f (suc k) l = absurd (omega arith)
 
-  file_of : (wanted : Wanted) (files : Files) → AreWanted holds words first wanted files → (place : ℕ) → place < files_of wanted → (bytes : List ℕ) × IsFile (holds (word_at words (first + place))) (limit_at place) bytes
+  file_of : (wanted : Wanted) (files : Files) → AreWanted holds words first wanted files → (place : ℕ) → place < files_of wanted
+      → (bytes : List ℕ) × IsFile (holds (word_at words (first + place))) (limit_at place) bytes
   file_of (report plan) files f place l = file_of_run files f place l
   file_of regions files f place l = only_file files f place l
   file_of listing files f place l = only_file files f place l
@@ -157,14 +158,16 @@ module _ (c : Call) (task : Task) (asked : c.task ≡ Some task) where
   -- ---- exactly
 
   module _ (files : Files) (held : AreHeld c.shelf.holds c.words task.first task.wanted files) where
-    judged_here : (other : Files) (reading : Reading) (run : Verdict) → AreWanted c.shelf.holds c.words task.first task.wanted other → ReadsAs files.source reading → IsJudged other task.wanted run → run.answer ≡ (verdict_on reading files task.wanted).answer
+    judged_here : (other : Files) (reading : Reading) (run : Verdict) → AreWanted c.shelf.holds c.words task.first task.wanted other → ReadsAs files.source reading
+        → IsJudged other task.wanted run → run.answer ≡ (verdict_on reading files task.wanted).answer
     judged_here other reading run f reads j =
         let read = subst (λ (bytes : List ℕ). ReadsAs bytes j.reading) (same_source c.shelf.holds c.words task.first files task.wanted other held f) j.reads in
         sym (ap (λ (v : Verdict). v.answer) j.is_verdict)
         ∙ ap (λ (r : Reading). (verdict_on r other task.wanted).answer) (one_reading files.source j.reading reading read reads)
         ∙ ap (λ (v : Verdict). v.answer) (same_verdict c.shelf.holds c.words task.first files task.wanted other reading held f)
 
-    judged_same : (other : Task) (found : Files) (reading : Reading) (run : Verdict) → HasFiles c other found → ReadsAs files.source reading → IsJudged found other.wanted run → run.answer ≡ (verdict_on reading files task.wanted).answer
+    judged_same : (other : Task) (found : Files) (reading : Reading) (run : Verdict) → HasFiles c other found → ReadsAs files.source reading → IsJudged found other.wanted run
+        → run.answer ≡ (verdict_on reading files task.wanted).answer
     judged_same other found reading run f reads j =
         let same = the_task other f.is_task in
         judged_here found reading run
@@ -177,7 +180,8 @@ module _ (c : Call) (task : Task) (asked : c.task ≡ Some task) where
     by_run : (end : Answer) (reading : Reading) → ReadsAs files.source reading → WasDone c (IsWhole c end) → end ≡ (verdict_on reading files task.wanted).answer
     by_run end reading reads w = w.came.answered ∙ judged_same w.task w.files reading w.run w.fetched reads (done_judged w.files w.task.wanted w.run w.done)
 
-    held_here : (other : Task) → c.task ≡ Some other → (place : ℕ) → place < files_of other.wanted → (bytes : List ℕ) × IsHeld (c.shelf.holds (word_at c.words (other.first + place))) (limit_at place) bytes
+    held_here : (other : Task) → c.task ≡ Some other → (place : ℕ) → place < files_of other.wanted
+        → (bytes : List ℕ) × IsHeld (c.shelf.holds (word_at c.words (other.first + place))) (limit_at place) bytes
     held_here other e place l =
         let same = the_task other e in
         subst (λ (t : Task). place < files_of t.wanted → (bytes : List ℕ) × IsHeld (c.shelf.holds (word_at c.words (t.first + place))) (limit_at place) bytes) (sym same)
@@ -230,7 +234,8 @@ module _ (c : Call) (task : Task) (asked : c.task ≡ Some task) where
       missing answer.Memory w = inr (inr refl)
       missing answer.Cut w = absurd (not_gone w.task w.files w.fetched)
 
-    module _ (bytes : List ℕ) (told : c.shelf.holds (word_at c.words (task.first + place)) ≡ content bytes) (over : limit_at place < length bytes) (before : AreHeldBefore c.shelf.holds c.words task.first place) (calm : c.shelf.rose → ⊥) where
+    module _ (bytes : List ℕ) (told : c.shelf.holds (word_at c.words (task.first + place)) ≡ content bytes) (over : limit_at place < length bytes)
+        (before : AreHeldBefore c.shelf.holds c.words task.first place) (calm : c.shelf.rose → ⊥) where
       no_fit : (other : Task) (files : Files) → HasFiles c other files → ⊥
       no_fit other files f = let g = fetched_here other files f in file_fits _ _ bytes g.0 told over g.1
 

@@ -58,7 +58,8 @@ module _ (shelf : Fetches) (words : List (List ℕ)) (first : ℕ) where
     refused = more_faults _ _ _ few shelf.rose end up r;
   }
 
-  pub third_refused : (few : Type 0) (a b : List ℕ) (end : Answer) → (few → shelf.rose) → IsFile (shelf.holds (word_at words first)) (limit_at 0) a → IsFile (shelf.holds (word_at words (first + 1))) (limit_at 1) b
+  pub third_refused : (few : Type 0) (a b : List ℕ) (end : Answer) → (few → shelf.rose) → IsFile (shelf.holds (word_at words first)) (limit_at 0) a
+      → IsFile (shelf.holds (word_at words (first + 1))) (limit_at 1) b
       → shelf.asked (names_of words first 3) → IsRefused (shelf.holds (word_at words (first + 2))) (limit_at 2) (first + 2) few end → NotFetched shelf words first 3 end
   third_refused few a b end up f g asked r = record {
     place = 2;

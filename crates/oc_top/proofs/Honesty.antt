@@ -29,7 +29,8 @@ later_left a b = omega arith
 later_right : (a b : ℕ) → b ≤ max a b
 later_right a b = omega arith
 
-module _ (parts : Parts) (p : TProgram) (h : ℕ → ℕ → ℤ) (periods : List Period) (sound : IsSound (device_of parts)) (runs_as : RunsAs parts p) (timely : RunsAreTimely (program_marked p)) (words : (sensor tick : ℕ) → is_word (h sensor tick) ≡ true) where
+module _ (parts : Parts) (p : TProgram) (h : ℕ → ℕ → ℤ) (periods : List Period) (sound : IsSound (device_of parts)) (runs_as : RunsAs parts p)
+    (timely : RunsAreTimely (program_marked p)) (words : (sensor tick : ℕ) → is_word (h sensor tick) ≡ true) where
   front_honest : (front rest : List Told) → front ++ rest ≡ (power_run (device_of parts) h periods).report → IsHonest p h front
   front_honest front rest e =
       let run = runs_as (kept_samples front) in

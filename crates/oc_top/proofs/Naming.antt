@@ -25,7 +25,8 @@ module _ (s : ℕ) where
 
   mutual
     kind_agrees : (at : Place) (id : ℕ) (k : TKind) → named_among s (kind_placed at id k) ≡ kind_names s k
-    kind_agrees at id (if_else c a b) = among-append (block_placed (in_branch at id) a) (else_placed (in_branch at id) b) ∙ (λ i. option_or (block_agrees (in_branch at id) a i) (else_agrees (in_branch at id) b i))
+    kind_agrees at id (if_else c a b) = among-append (block_placed (in_branch at id) a) (else_placed (in_branch at id) b)
+        ∙ (λ i. option_or (block_agrees (in_branch at id) a i) (else_agrees (in_branch at id) b i))
     kind_agrees at id (for_in x m n b) = block_agrees (in_loop at id ((x, variables.Declared id) ∷ [])) b
     kind_agrees at id (while_do c n b) = block_agrees (in_loop at id []) b
     kind_agrees at id _ = refl
@@ -46,7 +47,8 @@ module _ (s : ℕ) where
 
   functions_agree : (fs : List TFunction) → named_among s (flat_map (λ f. block_placed (at_start f) f.body) fs) ≡ functions_names s fs
   functions_agree [] = refl
-  functions_agree (f ∷ fs) = among-append (block_placed (at_start f) f.body) (flat_map (λ g. block_placed (at_start g) g.body) fs) ∙ (λ i. option_or (block_agrees (at_start f) f.body i) (functions_agree fs i))
+  functions_agree (f ∷ fs) = among-append (block_placed (at_start f) f.body) (flat_map (λ g. block_placed (at_start g) g.body) fs)
+      ∙ (λ i. option_or (block_agrees (at_start f) f.body i) (functions_agree fs i))
 
   -- the walk sees the name of the statement that is asked for
   pub names_agree : (p : TProgram) → option_map (λ a. declared_name a.kind) (placed p s) ≡ program_names s p

@@ -41,15 +41,18 @@ module _ (files : Files) (plan : Plan) where
       by_files (program b.written) b.reads refl (is_verdict parts b ∙ ap (λ (r : Readings). with_sensors parts r (power_file files.power) plan) x)
   sensors_by sensor_error.Memory parts b x = by_memory refl
 
-  pub no_sensors : (end : Answer) (e : SensorError) (parts : Parts) → end ≡ for_sensors e → IsBuilt files.source parts → sensor_rows.Explains (sensor_file parts.names.sensors files.sensors) e → IsTurnedDown files plan end
+  pub no_sensors : (end : Answer) (e : SensorError) (parts : Parts) → end ≡ for_sensors e → IsBuilt files.source parts
+      → sensor_rows.Explains (sensor_file parts.names.sensors files.sensors) e → IsTurnedDown files plan end
   no_sensors end e parts i b x = rw i (sensors_by e parts b x)
 
-  power_by : (e : PowerError) (parts : Parts) (rows : List Row) → IsBuilt files.source parts → sensor_file parts.names.sensors files.sensors ≡ sensor_rows.readings rows → power_rows.Explains (power_file files.power) e → IsTurnedDown files plan (for_power e)
+  power_by : (e : PowerError) (parts : Parts) (rows : List Row) → IsBuilt files.source parts → sensor_file parts.names.sensors files.sensors ≡ sensor_rows.readings rows
+      → power_rows.Explains (power_file files.power) e → IsTurnedDown files plan (for_power e)
   power_by (power_error.Row row what) parts rows b s x =
       by_files (program b.written) b.reads refl (is_verdict parts b ∙ ap (λ (r : Readings). with_sensors parts r (power_file files.power) plan) s ∙ ap (λ (p : Power). with_power parts rows p plan) x)
   power_by power_error.Memory parts rows b s x = by_memory refl
 
-  pub no_power : (end : Answer) (e : PowerError) (parts : Parts) (rows : List Row) → end ≡ for_power e → IsBuilt files.source parts → sensor_file parts.names.sensors files.sensors ≡ sensor_rows.readings rows → power_rows.Explains (power_file files.power) e → IsTurnedDown files plan end
+  pub no_power : (end : Answer) (e : PowerError) (parts : Parts) (rows : List Row) → end ≡ for_power e → IsBuilt files.source parts → sensor_file parts.names.sensors files.sensors
+      ≡ sensor_rows.readings rows → power_rows.Explains (power_file files.power) e → IsTurnedDown files plan end
   no_power end e parts rows i b s x = rw i (power_by e parts rows b s x)
 
 -- a machine, sensors and periods that are ready

@@ -60,7 +60,8 @@ row_by time None value row e w = cc e
 row_by time (Some sensor) None row e w = cc e
 row_by time (Some sensor) (Some z) row e w = let i : record { time = time; sensor = sensor; value = z } ≡ row = cc in subst (λ (r : Row). IsWord r.value) i (w z refl)
 
-after_by : (b : Bool) (time : ℕ) (sensor : Option ℕ) (value : Option ℤ) (row : Row) → cond b (Err what.Order) (row_of time sensor value) ≡ Ok row → ((z : ℤ) → value ≡ Some z → IsWord z) → IsWord row.value
+after_by : (b : Bool) (time : ℕ) (sensor : Option ℕ) (value : Option ℤ) (row : Row) → cond b (Err what.Order) (row_of time sensor value) ≡ Ok row
+    → ((z : ℤ) → value ≡ Some z → IsWord z) → IsWord row.value
 after_by true time sensor value row e w = cc e
 after_by false time sensor value row e w = row_by time sensor value row e w
 
@@ -81,14 +82,16 @@ with_words row (readings rs) rows e w h = subst AreWords (same_rows (row ∷ rs)
 with_words row (bad number why) rows e w h = cc e
 
 module _ (names : List (List ℕ)) where
-  row_word_by : (b : Bool) (before : ℕ) (fields : List (List ℕ)) (row : Row) → cond b (row_after before (number_of (get_or fields 0 [])) (sensor_of names (get_or fields 1 [])) (value_of (get_or fields 2 []))) (Err what.Fields) ≡ Ok row → IsWord row.value
+  row_word_by : (b : Bool) (before : ℕ) (fields : List (List ℕ)) (row : Row)
+      → cond b (row_after before (number_of (get_or fields 0 [])) (sensor_of names (get_or fields 1 [])) (value_of (get_or fields 2 []))) (Err what.Fields) ≡ Ok row → IsWord row.value
   row_word_by true before fields row e = row_after_word before _ _ _ row e (value_word (get_or fields 2 []))
   row_word_by false before fields row e = cc e
 
   row_word : (before : ℕ) (fields : List (List ℕ)) (row : Row) → sensor_row names before fields ≡ Ok row → IsWord row.value
   row_word before fields row e = row_word_by (length fields == 3) before fields row e
 
-  then_words : (number : ℕ) (one : Result Row SensorWhat) (more : Row → Readings) (rows : List Row) → row_then number one more ≡ readings rows → ((row : Row) → one ≡ Ok row → IsWord row.value) → ((row : Row) (rs : List Row) → more row ≡ readings rs → AreWords rs) → AreWords rows
+  then_words : (number : ℕ) (one : Result Row SensorWhat) (more : Row → Readings) (rows : List Row) → row_then number one more ≡ readings rows
+      → ((row : Row) → one ≡ Ok row → IsWord row.value) → ((row : Row) (rs : List Row) → more row ≡ readings rs → AreWords rs) → AreWords rows
   then_words number (Ok row) more rows e w h = with_words row (more row) rows e (w row refl) (h row)
   then_words number (Err why) more rows e w h = cc e
 

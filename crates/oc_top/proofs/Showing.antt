@@ -20,7 +20,8 @@ use Rattle.oc_top.proofs.Naming.{seen_at}
 
 -- ---- a region's line, and those of its reasons
 
-module _ {S : Type 0} (took : S → List ℕ → S → Type 0) (m : TMarked) (r : TRegion) (name : Text) (n : Numbers) (is : name ≡ function_name m.program r.function) (reasons : List ℕ) (same : reasons ≡ r.reasons) where
+module _ {S : Type 0} (took : S → List ℕ → S → Type 0) (m : TMarked) (r : TRegion) (name : Text) (n : Numbers) (is : name ≡ function_name m.program r.function) (reasons : List ℕ)
+    (same : reasons ≡ r.reasons) where
   joined : region_fields r name n ++ reason_lines m reasons ≡ lines_with m r n
   joined = ap (λ (t : Text). region_fields r t n ++ reason_lines m reasons) is ∙ ap (λ (rs : List ℕ). region_fields r (function_name m.program r.function) n ++ reason_lines m rs) same
 
@@ -68,5 +69,6 @@ module _ (m : TMarked) (b : Budgets) (told : budgets_view b ≡ budgets m) where
   whole_text : region_lines m (budgets_view b) 0 m.regions ++ total_lines b.total b.safe ≡ regions_text m (budgets m)
   whole_text = ap (regions_text m) told
 
-  pub text_part : {S : Type 0} (took : S → List ℕ → S → Type 0) (both : Both took) (x y z : S) → took x (region_lines m (budgets_view b) 0 m.regions) y → TookPart took y (total_lines b.total b.safe) z → TookPart took x (regions_text m (budgets m)) z
+  pub text_part : {S : Type 0} (took : S → List ℕ → S → Type 0) (both : Both took) (x y z : S) → took x (region_lines m (budgets_view b) 0 m.regions) y
+      → TookPart took y (total_lines b.total b.safe) z → TookPart took x (regions_text m (budgets m)) z
   text_part took both x y z p q = ends_part took both x y z (total_lines b.total b.safe) (regions_text m (budgets m)) (after_front took x y _ _ _ whole_text p) q

@@ -1,10 +1,9 @@
 -- What the program's own supplies plan.
-use Rattle.std.proofs.Common.{ℕ, zero, suc, ◌≡◌, ◌<◌, ◌∙◌, Bool, false, ap, refl, arith, List, [], ◌∷◌, Option, Some, None, cond}
+use Rattle.std.proofs.Common.{ℕ, zero, suc, ◌≡◌, ◌<◌, ◌∙◌, Bool, false, ap, refl, arith, List, [], ◌∷◌, Option, Some, None}
 use Rattle.std.specs.Prelude.{◌==◌, option_map, if◌then◌else◌}
-use Rattle.oc_power.specs.Choice.{first_with}
 use Rattle.oc_power.specs.Cutting.{cut_rows}
 use Rattle.oc_power.specs.Looping.{looped}
-use Rattle.oc_top.specs.Commands.{Plan, Plans, Task, command_of, plans_of, task_for, task_of, with_plan}
+use Rattle.oc_top.specs.Commands.{Plan, Plans, command_of, plans_of, task_for, task_of, with_plan}
 use Rattle.oc_top.specs.declared.command.Command.{Command}
 use Rattle.oc_top.specs.declared.command.Command.TheVariants as commands
 use Rattle.oc_top.specs.Supplies.{standard_plans}

@@ -17,7 +17,8 @@ next names nvs place d rest h same =
     let here : place < length names = omega arith in
     rw (drop_more names place [] here, drop_more nvs place d h) refl
 
-module _ {S : Type 0} (took : S → List ℕ → S → Type 0) (both : Both took) (a b c : S) (names : List Text) (nvs : List ImageNv) (place size : ℕ) (d : ImageNv) (rest own others : List ℤ) (whole : List ℕ)
+module _ {S : Type 0} (took : S → List ℕ → S → Type 0) (both : Both took) (a b c : S) (names : List Text) (nvs : List ImageNv) (place size : ℕ) (d : ImageNv)
+    (rest own others : List ℤ) (whole : List ℕ)
     (h : place < length nvs) (same : length nvs ≡ length names) (is_size : size ≡ min (get_or nvs place d).words (length rest)) (is_own : own ≡ take size rest) (is_others : others ≡ drop size rest)
     (going : Going took a b (lines_from names nvs place rest) whole) where
   own_words : own ≡ take (get_or nvs place d).words rest

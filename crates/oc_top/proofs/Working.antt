@@ -1,5 +1,5 @@
 -- What a call does, from its answer and that answer's cause; and where its periods suffice a run ends by itself.
-use Rattle.std.proofs.Common.{ℕ, suc, ◌+◌, ◌≡◌, ◌⊎◌, ◌∙◌, sym, ap, refl, subst, inl, inr, ℤ, List, [], ◌∷◌, ◌++◌, Bool, true, false, Option, Some, None}
+use Rattle.std.proofs.Common.{ℕ, suc, ◌+◌, ◌≡◌, ◌⊎◌, ◌∙◌, sym, ap, refl, subst, inl, inr, ℤ, List, [], ◌∷◌, ◌++◌, Bool, true, false, Some}
 use Rattle.std.specs.Prelude.{if◌then◌else◌}
 use Rattle.oc_io.specs.declared.period.Period.{Period}
 use Rattle.oc_power.specs.Power.{Power, power_file}
@@ -10,7 +10,6 @@ use Rattle.oc_sensors.specs.File as sensor_rows
 use Rattle.oc_sensors.specs.History.{history}
 use Rattle.oc_tree.specs.Tree.{TProgram}
 use Rattle.oc_tree.specs.Said.{Told}
-use Rattle.oc_tree.specs.declared.said.Said.{Said}
 use Rattle.oc_tree.specs.declared.said.Said.TheVariants.{Ended}
 use Rattle.oc_tree.specs.declared.said.Ending.{Ending}
 use Rattle.oc_tree.specs.declared.said.Ending.TheVariants.{Halted, Trapped}
@@ -24,11 +23,11 @@ use Rattle.oc_bounds.specs.Bounds.{AreSafe}
 use Rattle.oc_top.specs.Meant.{program_code, program_bounds}
 use Rattle.oc_top.specs.Commands.{Plan, Wanted, report, Task}
 use Rattle.oc_top.specs.Files.{Files, AreFiles, AreWanted, AreHeld, AreAllHeld}
-use Rattle.oc_top.specs.Sources.{Reading, program, ReadsAs}
+use Rattle.oc_top.specs.Sources.{program, ReadsAs}
 use Rattle.oc_top.specs.Reports.{answer_by, answer_of, last_said}
-use Rattle.oc_top.specs.Verdict.{Verdict, verdict_on, is_of_run, runs, with_sensors, with_power}
+use Rattle.oc_top.specs.Verdict.{Verdict, verdict_on, is_of_run, with_sensors, with_power}
 use Rattle.oc_top.specs.Headline.{IsRun}
-use Rattle.oc_top.specs.Answers.{status_of, is_written, line_of, IsDone, Writes, TookAll, TookFront, Call, HasFiles, WasDone, IsWhole, Comes}
+use Rattle.oc_top.specs.Answers.{status_of, is_written, line_of, IsDone, Writes, TookAll, TookFront, Call, HasFiles, Comes}
 use Rattle.oc_top.specs.Works.{Works}
 use Rattle.oc_top.specs.declared.answer.Answer.{Answer}
 use Rattle.oc_top.specs.declared.answer.Answer.TheVariants as answer
@@ -46,7 +45,8 @@ not_true : (b : Bool) → (b ≡ true → ⊥) → b ≡ false
 not_true true h = absurd (h refl)
 not_true false h = refl
 
-answer_over : (parts : Parts) (h : ℕ → ℕ → ℤ) (periods : List Period) (how : Ending) → (power_run (device_of parts) h periods).state.phase ≡ Over how → answer_of parts h periods ≡ answer_by (Some (Ended how))
+answer_over : (parts : Parts) (h : ℕ → ℕ → ℤ) (periods : List Period) (how : Ending) → (power_run (device_of parts) h periods).state.phase ≡ Over how → answer_of parts h periods
+    ≡ answer_by (Some (Ended how))
 answer_over parts h periods how over =
     let d = device_of parts in
     let all : List Told = (power_run d h periods).report in
@@ -60,7 +60,8 @@ by_ending : (how : Ending) → (answer_by (Some (Ended how)) ≡ answer.End) ⊎
 by_ending Halted = inl refl
 by_ending (Trapped kind stmt) = inr refl
 
-run_ends : (files : Files) (plan : Plan) (run : Verdict) (r : IsRun files plan run) → AreSafe (program_bounds r.written) (suc (program_bounds r.written).total) (plan r.periods) → (run.answer ≡ answer.End) ⊎ (run.answer ≡ answer.Trapped)
+run_ends : (files : Files) (plan : Plan) (run : Verdict) (r : IsRun files plan run) → AreSafe (program_bounds r.written) (suc (program_bounds r.written).total) (plan r.periods)
+    → (run.answer ≡ answer.End) ⊎ (run.answer ≡ answer.Trapped)
 run_ends files plan run r safe =
     let over = r.ends safe in
     let e : run.answer ≡ answer_by (Some (Ended over.0)) = ap (λ (v : Verdict). v.answer) r.is_run ∙ answer_over (program_code r.written) (history r.rows) (plan r.periods) over.0 over.1 in

@@ -32,7 +32,8 @@ module _ {S : Type 0} (took : S → List ℕ → S → Type 0) (held : S → Lis
       record { rose = omega (arith, rose); front = text; back = []; split = sym (append-nil text); taken = took_flushed took both a b c text p q }
 
   -- after a text the sink was flushed, or that failed
-  pub flushed_or : (a b c : S) (text : List ℕ) (flushed : Result Unit SinkFault) → faults a ≤ faults b → took a text b → took b [] c → OnOk flushed (held c ≡ []) → OnErr flushed (Rose (faults b) (faults c))
+  pub flushed_or : (a b c : S) (text : List ℕ) (flushed : Result Unit SinkFault) → faults a ≤ faults b → took a text b → took b [] c → OnOk flushed (held c ≡ [])
+      → OnErr flushed (Rose (faults b) (faults c))
       → TookAll (writes took held faults a c) text ⊎ TookFront (writes took held faults a c) text
   flushed_or a b c text (Ok u) le p q ok bad = inl (flushed_all a b c text p q ok)
   flushed_or a b c text (Err e) le p q ok bad = inr (flushed_front a b c text le p q bad)

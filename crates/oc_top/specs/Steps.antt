@@ -1,7 +1,7 @@
 -- The steps before the first byte is written.
-use Rattle.std.specs.Prelude.{ℕ, ◌<◌, ◌^◌, ◌≡◌, true, false, List, length, None}
+use Rattle.std.specs.Prelude.{ℕ, ◌<◌, ◌^◌, ◌≡◌, true, List, length, None}
 use Rattle.oc_io.specs.declared.period.Period.{Period}
-use Rattle.oc_power.specs.Power.{Power, power_file}
+use Rattle.oc_power.specs.Power.{power_file}
 use Rattle.oc_power.specs.Power as power_rows
 use Rattle.oc_power.specs.Total.{total}
 use Rattle.oc_power.specs.declared.power.PowerError.{PowerError}

@@ -46,7 +46,8 @@ IsShallow a = a.at.loops < a.id
 mutual
   kind_shallow : (at : Place) (id : ℕ) (k : TKind) → at.loops < id → Above (id + 1) (kind_statements k) → All IsShallow (kind_placed at id k)
   kind_shallow at id (if_else c a b) l h =
-      All-append IsShallow (block_placed (in_branch at id) a) (else_placed (in_branch at id) b) (block_shallow (in_branch at id) (id + 1) a (omega (arith, l)) (above_first (id + 1) (block_statements a) (else_statements b) h))
+      All-append IsShallow (block_placed (in_branch at id) a) (else_placed (in_branch at id) b)
+      (block_shallow (in_branch at id) (id + 1) a (omega (arith, l)) (above_first (id + 1) (block_statements a) (else_statements b) h))
       (else_shallow (in_branch at id) (id + 1) b (omega (arith, l)) (above_second (id + 1) (block_statements a) (else_statements b) h))
   kind_shallow at id (for_in x m n b) l h = block_shallow (in_loop at id ((x, variables.Declared id) ∷ [])) (id + 1) b (omega (arith, l)) h
   kind_shallow at id (while_do c n b) l h = block_shallow (in_loop at id []) (id + 1) b (omega (arith, l)) h
@@ -69,7 +70,8 @@ mutual
 functions_shallow : (fs : List TFunction) → Above 1 (flat_map (λ f. block_statements f.body) fs) → All IsShallow (flat_map (λ f. block_placed (at_start f) f.body) fs)
 functions_shallow [] h = All-nil IsShallow
 functions_shallow (f ∷ fs) h =
-    All-append IsShallow (block_placed (at_start f) f.body) (flat_map (λ g. block_placed (at_start g) g.body) fs) (block_shallow (at_start f) 1 f.body (omega arith) (above_first 1 (block_statements f.body) (flat_map (λ g. block_statements g.body) fs) h))
+    All-append IsShallow (block_placed (at_start f) f.body) (flat_map (λ g. block_placed (at_start g) g.body) fs)
+    (block_shallow (at_start f) 1 f.body (omega arith) (above_first 1 (block_statements f.body) (flat_map (λ g. block_statements g.body) fs) h))
     (functions_shallow fs (above_second 1 (block_statements f.body) (flat_map (λ g. block_statements g.body) fs) h))
 
 program_shallow : (p : TProgram) → Numbered p → All IsShallow (program_placed p)
@@ -89,7 +91,8 @@ shallow_found s (b ∷ ps) a h e = by_test (b.id == s) refl (shallow_found s ps 
 module _ (q : Asked) (p t : TProgram) (same : p ≡ t) (r : Option Found) (is : r ≡ program_found q p) where
   counted : (o : Option Placed) → placed t q.id ≡ o → Numbered t → q.id < 2 ^ 32 → option_map (λ f. f.spot.loops) (option_map (found_of q) o) ≡ option_map (λ a. a.at.loops) o
   counted None e h fits = refl
-  counted (Some a) e h fits = let few : a.at.loops < q.id = shallow_found q.id (program_placed t) a (program_shallow t h) e in let whole : min a.at.loops (2 ^ 32 - 1) ≡ a.at.loops = grind (arith, few, fits) in ap Some whole
+  counted (Some a) e h fits = let few : a.at.loops < q.id = shallow_found q.id (program_placed t) a (program_shallow t h) e in
+      let whole : min a.at.loops (2 ^ 32 - 1) ≡ a.at.loops = grind (arith, few, fits) in ap Some whole
 
   pub loops_read : Numbered t → q.id < 2 ^ 32 → option_map (λ f. f.spot.loops) r ≡ loops_around t q.id
   loops_read h fits = ap (option_map (λ f. f.spot.loops)) (is ∙ sym (program_agrees q p) ∙ ap (λ u. option_map (found_of q) (placed u q.id)) same) ∙ counted (placed t q.id) refl h fits

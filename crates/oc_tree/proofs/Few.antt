@@ -1,5 +1,6 @@
 -- Programs that break no rule have few functions, few parameters and few nonvolatile variables.
-use Rattle.std.proofs.Common.{◌≡◌, refl, subst, ℕ, zero, suc, ◌+◌, ◌<◌, ◌≤◌, ◌^◌, arith, Bool, true, false, ◌==◌, ◌||◌, nat_le, nat_lt, List, [], ◌∷◌, ◌++◌, length, slice_get, slice_index_or, Option, Some, None, cond}
+use Rattle.std.proofs.Common.{◌≡◌, refl, subst, ℕ, zero, suc, ◌+◌, ◌<◌, ◌≤◌, ◌^◌, arith, Bool, true, false, ◌==◌, ◌||◌, nat_le, nat_lt, List, [], ◌∷◌, ◌++◌, length, slice_get}
+use Rattle.std.proofs.Common.{slice_index_or, Option, Some, None, cond}
 use Rattle.std.specs.List.{count_by}
 use Rattle.std.proofs.lemmas.Option.{slice_get-get_or}
 use Rattle.std.proofs.lemmas.Bool.{eqb-true}
@@ -13,7 +14,8 @@ use Rattle.oc_tree.specs.declared.tree.DeclKind.{DeclKind}
 use Rattle.oc_tree.specs.declared.tree.DeclKind.TheVariants as decls
 use Rattle.oc_tree.specs.declared.before.Before.{Before}
 use Rattle.oc_tree.specs.declared.broken.Broken.{Broken}
-use Rattle.oc_tree.specs.Elements.{sensor_item, port_item, nv_item, function_item, Element, declared, statement, ending, line_of, nv_element, function_elements, item_elements, after_item, order_elements, nothing_before, program_elements}
+use Rattle.oc_tree.specs.Elements.{sensor_item, port_item, nv_item, function_item, Element, declared, statement, ending, line_of, nv_element, function_elements, item_elements}
+use Rattle.oc_tree.specs.Elements.{after_item, order_elements, nothing_before, program_elements}
 use Rattle.oc_tree.specs.Limits.{Tally, nothing_counted, counted}
 use Rattle.oc_tree.specs.Broken.{Table, rules_of, lowest, or_later, first_broken, broken_element, or_size, broken}
 use Rattle.oc_tree.specs.Visible.{FewVariables}
@@ -65,7 +67,8 @@ kept p n (ending line) _ = tt
 
 each_kept : (p : TProgram) (n : Tally) (es : List Element) → first_broken p n es ≡ None → Each es
 each_kept p n [] h = tt
-each_kept p n (e ∷ es) h = let parts = later_none (line_of e) (lowest (rules_of p (counted n e) e)) (first_broken p (counted n e) es) h in (kept p (counted n e) e parts.0, each_kept p (counted n e) es parts.1)
+each_kept p n (e ∷ es) h = let parts = later_none (line_of e) (lowest (rules_of p (counted n e) e)) (first_broken p (counted n e) es) h in
+    (kept p (counted n e) e parts.0, each_kept p (counted n e) es parts.1)
 
 -- ---- declarations
 

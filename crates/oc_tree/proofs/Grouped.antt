@@ -20,7 +20,8 @@ ids ps = map (λ a. a.id) ps
 
 mutual
   kind_ids : (at : Place) (id : ℕ) (k : TKind) → ids (kind_placed at id k) ≡ kind_statements k
-  kind_ids at id (if_else c a b) = map-append (λ a. a.id) (block_placed (in_branch at id) a) (else_placed (in_branch at id) b) ∙ (λ i. block_ids (in_branch at id) a i ++ else_ids (in_branch at id) b i)
+  kind_ids at id (if_else c a b) = map-append (λ a. a.id) (block_placed (in_branch at id) a) (else_placed (in_branch at id) b)
+      ∙ (λ i. block_ids (in_branch at id) a i ++ else_ids (in_branch at id) b i)
   kind_ids at id (for_in x m n b) = block_ids (in_loop at id ((x, variables.Declared id) ∷ [])) b
   kind_ids at id (while_do c n b) = block_ids (in_loop at id []) b
   kind_ids at id _ = refl
@@ -34,7 +35,8 @@ mutual
 
   stmts_ids : (at : Place) (ss : TStmts) → ids (stmts_placed at ss) ≡ stmts_statements ss
   stmts_ids at no_stmts = refl
-  stmts_ids at (more (stmt id line k) ss) = ap (λ ns. id ∷ ns) (map-append (λ a. a.id) (kind_placed at id k) (stmts_placed (behind at id k) ss) ∙ (λ i. kind_ids at id k i ++ stmts_ids (behind at id k) ss i))
+  stmts_ids at (more (stmt id line k) ss) =
+      ap (λ ns. id ∷ ns) (map-append (λ a. a.id) (kind_placed at id k) (stmts_placed (behind at id k) ss) ∙ (λ i. kind_ids at id k i ++ stmts_ids (behind at id k) ss i))
 
 pub functions_ids : (fs : List TFunction) → ids (flat_map (λ f. block_placed (at_start f) f.body) fs) ≡ flat_map (λ f. block_statements f.body) fs
 functions_ids [] = refl
@@ -61,7 +63,8 @@ none_counted test (x ∷ xs) e = by_test (test x) refl (none_counted test xs) e
   where
     by_test : (t : Bool) → test x ≡ t → (find test xs ≡ None → count_by test xs ≡ 0) → cond t (Some x) (find test xs) ≡ None → count_by test (x ∷ xs) ≡ 0
     by_test true is on f = grind (arith, f)
-    by_test false is on f = sum_by-cons (λ y. cond (test y) 1 0) x xs ∙ (let e : ◌≡◌ {A = ℕ} (cond (test x) 1 0) 0 = ap (λ t. cond t 1 0) is in let rest : count_by test xs ≡ 0 = on f in omega (arith, e, rest))
+    by_test false is on f = sum_by-cons (λ y. cond (test y) 1 0) x xs
+        ∙ (let e : ◌≡◌ {A = ℕ} (cond (test x) 1 0) 0 = ap (λ t. cond t 1 0) is in let rest : count_by test xs ≡ 0 = on f in omega (arith, e, rest))
 
 module _ (p : TProgram) (groups : List Group) (s : ℕ) where
   pub has_group : AreGroups p groups → group_of p groups s ≡ None → placed p s ≡ None
@@ -70,7 +73,8 @@ module _ (p : TProgram) (groups : List Group) (s : ℕ) where
       by_place : (o : Option Placed) → placed p s ≡ o → o ≡ None
       by_place None is = refl
       by_place (Some a) is =
-          let one : count_by (is_in_group p s) groups ≡ 1 = found_holds (λ n. count_by (is_in_group p n) groups ≡ 1) s (program_placed p) a (subst (All (λ n. count_by (is_in_group p n) groups ≡ 1)) (sym (program_ids p)) are.one_each) is in
+          let one : count_by (is_in_group p s) groups ≡ 1 =
+          found_holds (λ n. count_by (is_in_group p n) groups ≡ 1) s (program_placed p) a (subst (All (λ n. count_by (is_in_group p n) groups ≡ 1)) (sym (program_ids p)) are.one_each) is in
           let none : count_by (is_in_group p s) groups ≡ 0 = none_counted (is_in_group p s) groups without in absurd (omega (arith, one, none))
 
 -- what stands in no block is in no group

@@ -8,7 +8,8 @@ use Rattle.oc_tree.specs.Names.{Text}
 use Rattle.oc_tree.specs.Tree.{TKind, if_else, for_in, while_do, TElse, no_else, else_do, stmt, TBlock, block, TStmts, no_stmts, more, TFunction, TProgram}
 use Rattle.oc_tree.specs.declared.tree.VarId.{VarId}
 use Rattle.oc_tree.specs.declared.tree.VarId.TheVariants as variables
-use Rattle.oc_tree.specs.Places.{Place, Placed, Variables, find_variable, let_variables, behind, in_branch, in_loop, at_start, kind_placed, else_placed, block_placed, stmts_placed, placed, or_nonvolatile, resolve}
+use Rattle.oc_tree.specs.Places.{Place, Placed, Variables, find_variable, let_variables, behind, in_branch, in_loop, at_start, kind_placed, else_placed, block_placed, stmts_placed}
+use Rattle.oc_tree.specs.Places.{placed, or_nonvolatile, resolve}
 use Rattle.oc_tree.specs.Visible.{kind_visible, else_visible, block_visible, stmts_visible, functions_visible, variable_at}
 use Rattle.oc_tree.proofs.Maps.{map_or, map_cond, map_then}
 
@@ -17,7 +18,8 @@ find_variable-append : (vs ws : Variables) (x : Text) → find_variable (vs ++ w
 find_variable-append [] ws x = refl
 find_variable-append (v ∷ vs) ws x = by_test (bytes_eq x v.0) (find_variable-append vs ws x)
   where
-    by_test : (t : Bool) → find_variable (vs ++ ws) x ≡ option_or (find_variable vs x) (find_variable ws x) → cond t (Some v.1) (find_variable (vs ++ ws) x) ≡ option_or (cond t (Some v.1) (find_variable vs x)) (find_variable ws x)
+    by_test : (t : Bool) → find_variable (vs ++ ws) x ≡ option_or (find_variable vs x) (find_variable ws x) → cond t (Some v.1) (find_variable (vs ++ ws) x)
+        ≡ option_or (cond t (Some v.1) (find_variable vs x)) (find_variable ws x)
     by_test true e = refl
     by_test false e = e
 
@@ -38,8 +40,10 @@ module _ (s : ℕ) (x : Text) where
 
   mutual
     kind_agrees : (at : Place) (id : ℕ) (k : TKind) → visible (kind_placed at id k) ≡ kind_visible s x (find_variable at.variables x) id k
-    kind_agrees at id (if_else c a b) = visible-append (block_placed (in_branch at id) a) (else_placed (in_branch at id) b) ∙ (λ i. option_or (block_agrees (in_branch at id) a i) (else_agrees (in_branch at id) b i))
-    kind_agrees at id (for_in y m n b) = block_agrees (in_loop at id ((y, variables.Declared id) ∷ [])) b ∙ ap (λ known. block_visible s x known b) (find_variable-append at.variables ((y, variables.Declared id) ∷ []) x)
+    kind_agrees at id (if_else c a b) = visible-append (block_placed (in_branch at id) a) (else_placed (in_branch at id) b)
+        ∙ (λ i. option_or (block_agrees (in_branch at id) a i) (else_agrees (in_branch at id) b i))
+    kind_agrees at id (for_in y m n b) = block_agrees (in_loop at id ((y, variables.Declared id) ∷ [])) b
+        ∙ ap (λ known. block_visible s x known b) (find_variable-append at.variables ((y, variables.Declared id) ∷ []) x)
     kind_agrees at id (while_do c n b) = block_agrees (in_loop at id []) b ∙ ap (λ vs. block_visible s x (find_variable vs x) b) (append-nil at.variables)
     kind_agrees at id _ = refl
 
@@ -60,7 +64,8 @@ module _ (s : ℕ) (x : Text) where
 
   functions_agree : (fs : List TFunction) → visible (flat_map (λ f. block_placed (at_start f) f.body) fs) ≡ functions_visible s x fs
   functions_agree [] = refl
-  functions_agree (f ∷ fs) = visible-append (block_placed (at_start f) f.body) (flat_map (λ g. block_placed (at_start g) g.body) fs) ∙ (λ i. option_or (block_agrees (at_start f) f.body i) (functions_agree fs i))
+  functions_agree (f ∷ fs) = visible-append (block_placed (at_start f) f.body) (flat_map (λ g. block_placed (at_start g) g.body) fs)
+      ∙ (λ i. option_or (block_agrees (at_start f) f.body i) (functions_agree fs i))
 
 -- the walk finds what a name stands for
 pub variable_is : (p : TProgram) (s : ℕ) (x : Text) → variable_at p s x ≡ resolve p s x

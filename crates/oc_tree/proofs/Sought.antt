@@ -9,7 +9,8 @@ use Rattle.oc_tree.specs.declared.tree.VarId.TheVariants as variables
 use Rattle.oc_tree.specs.declared.places.Asked.{Asked}
 use Rattle.oc_tree.specs.declared.places.Spot.{Spot}
 use Rattle.oc_tree.specs.declared.places.Found.{Found}
-use Rattle.oc_tree.specs.Places.{Place, Placed, Variables, declares, behind, in_branch, in_loop, at_start, kind_placed, else_placed, block_placed, stmts_placed, placed, block_of, line_of_stmt, declared_at, encloses, stands_in}
+use Rattle.oc_tree.specs.Places.{Place, Placed, Variables, declares, behind, in_branch, in_loop, at_start, kind_placed, else_placed, block_placed, stmts_placed, placed, block_of}
+use Rattle.oc_tree.specs.Places.{line_of_stmt, declared_at, encloses, stands_in}
 use Rattle.oc_tree.specs.Sought.{kind_found, else_found, block_found, stmts_found, functions_found, program_found}
 use Rattle.oc_tree.specs.Sought as walk
 use Rattle.oc_tree.proofs.Maps.{map_or, map_cond, map_map, map_then}
@@ -42,7 +43,8 @@ module _ (q : Asked) where
 
   mutual
     kind_agrees : (at : Place) (id : ℕ) (k : TKind) → answer q (kind_placed at id k) ≡ kind_found q (spot_of q at) id k
-    kind_agrees at id (if_else c a b) = answer-append (block_placed (in_branch at id) a) (else_placed (in_branch at id) b) ∙ (λ i. option_or (block_agrees (in_branch at id) a i) (else_agrees (in_branch at id) b i))
+    kind_agrees at id (if_else c a b) = answer-append (block_placed (in_branch at id) a) (else_placed (in_branch at id) b)
+        ∙ (λ i. option_or (block_agrees (in_branch at id) a i) (else_agrees (in_branch at id) b i))
     kind_agrees at id (for_in x m n b) = block_agrees (in_loop at id ((x, variables.Declared id) ∷ [])) b ∙ ap (λ s. block_found q s b) (loop_spot at id ((x, variables.Declared id) ∷ []))
     kind_agrees at id (while_do c n b) = block_agrees (in_loop at id []) b ∙ ap (λ s. block_found q s b) (loop_spot at id [])
     kind_agrees at id _ = refl
@@ -63,7 +65,8 @@ module _ (q : Asked) where
 
   functions_agree : (fs : List TFunction) → answer q (flat_map (λ f. block_placed (at_start f) f.body) fs) ≡ functions_found q fs
   functions_agree [] = refl
-  functions_agree (f ∷ fs) = answer-append (block_placed (at_start f) f.body) (flat_map (λ g. block_placed (at_start g) g.body) fs) ∙ (λ i. option_or (block_agrees (at_start f) f.body i) (functions_agree fs i))
+  functions_agree (f ∷ fs) = answer-append (block_placed (at_start f) f.body) (flat_map (λ g. block_placed (at_start g) g.body) fs)
+      ∙ (λ i. option_or (block_agrees (at_start f) f.body i) (functions_agree fs i))
 
   -- the walk sees the statement that is asked for
   pub program_agrees : (p : TProgram) → option_map (found_of q) (placed p q.id) ≡ program_found q p

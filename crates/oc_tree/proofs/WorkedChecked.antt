@@ -42,7 +42,8 @@ in_one s = count_by (is_in_group example s) example_groups ≡ 1
 
 grouped : AreGroups example example_groups
 grouped = record {
-  ranges = All-cons (λ g. is_group example g ≡ true) (1, 1) ((2, 2) ∷ (3, 3) ∷ []) refl (All-cons (λ g. is_group example g ≡ true) (2, 2) ((3, 3) ∷ []) refl (All-cons (λ g. is_group example g ≡ true) (3, 3) [] refl (All-nil (λ g. is_group example g ≡ true))));
+  ranges = All-cons (λ g. is_group example g ≡ true) (1, 1) ((2, 2) ∷ (3, 3) ∷ []) refl
+      (All-cons (λ g. is_group example g ≡ true) (2, 2) ((3, 3) ∷ []) refl (All-cons (λ g. is_group example g ≡ true) (3, 3) [] refl (All-nil (λ g. is_group example g ≡ true))));
   one_each = All-cons in_one 1 (2 ∷ 3 ∷ []) refl (All-cons in_one 2 (3 ∷ []) refl (All-cons in_one 3 [] refl (All-nil in_one)));
 }
 

@@ -10,7 +10,9 @@ use Rattle.oc_tree.specs.Elements.{Item, sensor_item, port_item, nv_item, functi
 use Rattle.oc_tree.specs.Limits.{Tally, nothing_counted, counted, item_passes, statement_passes}
 use Rattle.oc_tree.specs.Weight.{weights}
 use Rattle.oc_tree.specs.Stack.{stack_words}
-use Rattle.oc_tree.specs.Rules.{declared_before, takes_name, own_known, main_head, calls_main, main_missing, own_fits, sides_differ, condition_is_number, args_differ, result_missing, has_bad_length, let_bad_length, is_array_value, target_fixed, array_fixed, pointee_fixed, lends_fixed, lent_twice, exposes_nv, annotates_other, calls_back, return_missing, returns_elsewhere, has_many_turns, pulls_disturb}
+use Rattle.oc_tree.specs.Rules.{declared_before, takes_name, own_known, main_head, calls_main, main_missing, own_fits, sides_differ, condition_is_number, args_differ}
+use Rattle.oc_tree.specs.Rules.{result_missing, has_bad_length, let_bad_length, is_array_value, target_fixed, array_fixed, pointee_fixed, lends_fixed, lent_twice, exposes_nv}
+use Rattle.oc_tree.specs.Rules.{annotates_other, calls_back, return_missing, returns_elsewhere, has_many_turns, pulls_disturb}
 
 abbrev pub Table : Type 0
 Table = List (ℕ × Bool)

@@ -3,7 +3,9 @@ use Rattle.std.specs.Prelude.{ℕ, pos, ◌-ℤ◌, Bool, true, false, not, ◌&
 use Rattle.std.specs.Str.{bytes_eq}
 use Rattle.std.specs.List.{list_all, list_any}
 use Rattle.oc_tree.specs.Names.{Text}
-use Rattle.oc_tree.specs.Tree.{TExpr, number, truth, variable, index, deref, unary, binary, sensed, called, TArg, value, shared, mutable, TCall, call, TArgs, no_args, more_args, TRight, right_value, right_sense, right_call, TKind, let_to, let_array, assign, assign_index, assign_deref, if_else, for_in, while_do, call_only, sense_only, emit, fresh, consistent, return, TStmt, stmt, TBlock, block, TStmts, no_stmts, more, TFunction, TProgram}
+use Rattle.oc_tree.specs.Tree.{TExpr, number, truth, variable, index, deref, unary, binary, sensed, called, TArg, value, shared, mutable, TCall, call, TArgs, no_args, more_args}
+use Rattle.oc_tree.specs.Tree.{TRight, right_value, right_sense, right_call, TKind, let_to, let_array, assign, assign_index, assign_deref, if_else, for_in, while_do, call_only}
+use Rattle.oc_tree.specs.Tree.{sense_only, emit, fresh, consistent, return, TStmt, stmt, TBlock, block, TStmts, no_stmts, more, TFunction, TProgram}
 use Rattle.oc_tree.specs.declared.tree.Scalar.{Scalar}
 use Rattle.oc_tree.specs.declared.tree.ValueKind.{ValueKind}
 use Rattle.oc_tree.specs.declared.tree.ValueKind.TheVariants as kinds
@@ -36,7 +38,8 @@ stands_before (Some i) n = nat_lt i n
 
 -- a name of the top level is declared earlier there
 abbrev pub declared_before : TProgram → Before → Text → Bool
-declared_before p b x = stands_before (place p.names.sensors x) b.sensors || (stands_before (place p.names.ports x) b.ports || (stands_before (place p.names.nvs x) b.nvs || stands_before (function_place p.functions x) b.functions))
+declared_before p b x = stands_before (place p.names.sensors x) b.sensors ||
+    (stands_before (place p.names.ports x) b.ports || (stands_before (place p.names.nvs x) b.nvs || stands_before (function_place p.functions x) b.functions))
 
 -- the name that a statement declares is taken
 abbrev pub takes_name : TProgram → Scope → TKind → Bool

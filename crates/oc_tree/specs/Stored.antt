@@ -5,7 +5,9 @@ use Rattle.std.proofs.Common.{sym, ap, subst}
 use Rattle.std.proofs.Math.ListN.{get_or}
 use base.Stored.{Gv, gnil, gnum, gcons}
 use Rattle.oc_tree.specs.Names.{Text}
-use Rattle.oc_tree.specs.Tree.{TExpr, number, truth, variable, index, deref, unary, binary, sensed, called, TArg, value, shared, mutable, TCall, call, TArgs, no_args, more_args, TRight, right_value, right_sense, right_call, TKind, let_to, let_array, assign, assign_index, assign_deref, if_else, for_in, while_do, call_only, sense_only, emit, fresh, consistent, return, TElse, no_else, else_do, TStmt, stmt, TBlock, block, TStmts, no_stmts, more}
+use Rattle.oc_tree.specs.Tree.{TExpr, number, truth, variable, index, deref, unary, binary, sensed, called, TArg, value, shared, mutable, TCall, call, TArgs, no_args, more_args}
+use Rattle.oc_tree.specs.Tree.{TRight, right_value, right_sense, right_call, TKind, let_to, let_array, assign, assign_index, assign_deref, if_else, for_in, while_do, call_only}
+use Rattle.oc_tree.specs.Tree.{sense_only, emit, fresh, consistent, return, TElse, no_else, else_do, TStmt, stmt, TBlock, block, TStmts, no_stmts, more}
 use Rattle.oc_tree.specs.declared.tree.UnaryOp.{UnaryOp}
 use Rattle.oc_tree.specs.declared.tree.UnaryOp.TheVariants as unaries
 use Rattle.oc_tree.specs.declared.tree.BinaryOp.{BinaryOp}
@@ -110,7 +112,9 @@ pick l otherwise xs = get_or xs l.form otherwise
 abbrev mutual
   expr_of : Cells → TExpr
   expr_of nil = truth false
-  expr_of (cell l a b) = pick l (truth false) (number l.from ∷ truth l.truth ∷ variable l.text ∷ index l.text (expr_of a) ∷ deref l.text ∷ unary l.one (expr_of a) ∷ binary l.two (expr_of a) (expr_of b) ∷ sensed l.text ∷ called (call_of a) ∷ [])
+  expr_of (cell l a b) = pick l (truth false)
+      (number l.from ∷ truth l.truth ∷ variable l.text ∷ index l.text (expr_of a) ∷ deref l.text ∷ unary l.one (expr_of a) ∷ binary l.two (expr_of a)
+      (expr_of b) ∷ sensed l.text ∷ called (call_of a) ∷ [])
 
   arg_of : Cells → TArg
   arg_of nil = shared []
@@ -131,7 +135,9 @@ right_of (cell l a b) = pick l (right_sense []) (right_value (expr_of a) ∷ rig
 abbrev mutual
   kind_of : Cells → TKind
   kind_of nil = fresh []
-  kind_of (cell l a b) = pick l (fresh []) (let_to l.truth l.text l.kind (right_of a) ∷ let_array l.truth l.text l.kind l.from l.count ∷ assign l.text (right_of a) ∷ assign_index l.text (expr_of a) (right_of b) ∷ assign_deref l.text (right_of a) ∷ branches_of (expr_of a) b ∷ for_in l.text l.from l.to (block_of a) ∷ while_do (expr_of a) l.count (block_of b) ∷ call_only (call_of a) ∷ sense_only l.text ∷ emit l.text (expr_of a) ∷ fresh l.text ∷ consistent l.text l.from ∷ return (expr_of a) ∷ [])
+  kind_of (cell l a b) = pick l (fresh []) (let_to l.truth l.text l.kind (right_of a) ∷ let_array l.truth l.text l.kind l.from l.count ∷ assign l.text
+      (right_of a) ∷ assign_index l.text (expr_of a) (right_of b) ∷ assign_deref l.text (right_of a) ∷ branches_of (expr_of a) b ∷ for_in l.text l.from l.to (block_of a) ∷ while_do
+      (expr_of a) l.count (block_of b) ∷ call_only (call_of a) ∷ sense_only l.text ∷ emit l.text (expr_of a) ∷ fresh l.text ∷ consistent l.text l.from ∷ return (expr_of a) ∷ [])
 
   branches_of : TExpr → Cells → TKind
   branches_of c nil = fresh []

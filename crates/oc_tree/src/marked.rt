@@ -61,9 +61,19 @@ impl Model for Marked {
 
     ghost coded = { Prim.hlevel (codes, block_code (Prim.hlevel codes)) };
 
-    ghost view = { λ a. record { program = a.checked.program; groups = a.checked.groups; policies = a.policies.items; regions = map region_view a.regions.items } };
+    ghost view = { λ a. record {
+      program = a.checked.program;
+      groups = a.checked.groups;
+      policies = a.policies.items;
+      regions = map region_view a.regions.items;
+    } };
 
-    ghost invariant = { λ a. IsMarked (record { program = a.checked.program; groups = a.checked.groups; policies = a.policies.items; regions = map region_view a.regions.items }) };
+    ghost invariant = { λ a. IsMarked (record {
+      program = a.checked.program;
+      groups = a.checked.groups;
+      policies = a.policies.items;
+      regions = map region_view a.regions.items;
+    }) };
 }
 
 impl Marked {

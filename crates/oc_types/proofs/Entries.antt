@@ -1,5 +1,5 @@
 -- A map whose keys are borrowed names, as the list that contracts see.
-use Rattle.std.proofs.Common.{◌≡◌, ℕ, Bool, true, false, cond, List, [], ◌∷◌, ◌++◌, Option, Some, None, map, take, refl, ap, Bor, suc, zero}
+use Rattle.std.proofs.Common.{◌≡◌, ℕ, Bool, true, false, cond, List, [], ◌∷◌, ◌++◌, Some, None, map, take, refl, ap, Bor, suc, zero}
 use Rattle.std.specs.Str.{bytes_eq}
 use Rattle.std.specs.Map.{lookup}
 use Rattle.indexmap.specs.IndexMap.{insert_entry}
@@ -18,7 +18,9 @@ pub insert-seen : (es : List (Bor Text × Var)) (k : Bor Text) (v : Var) → var
 insert-seen [] k v h = refl
 insert-seen (e ∷ es) k v h = by (bytes_eq k.now e.0.now) h (insert-seen es k v)
   where
-    by : (b : Bool) → cond b (Some e.1) (variable_in (seen es) k.now) ≡ None → (variable_in (seen es) k.now ≡ None → seen (insert_entry (λ x y. bytes_eq x.now y.now) es k v) ≡ seen es ++ (k.now, v) ∷ []) → seen (cond b ((e.0, v) ∷ es) (e ∷ insert_entry (λ x y. bytes_eq x.now y.now) es k v)) ≡ seen (e ∷ es) ++ (k.now, v) ∷ []
+    by : (b : Bool) → cond b (Some e.1) (variable_in (seen es) k.now) ≡ None
+        → (variable_in (seen es) k.now ≡ None → seen (insert_entry (λ x y. bytes_eq x.now y.now) es k v) ≡ seen es ++ (k.now, v) ∷ [])
+        → seen (cond b ((e.0, v) ∷ es) (e ∷ insert_entry (λ x y. bytes_eq x.now y.now) es k v)) ≡ seen (e ∷ es) ++ (k.now, v) ∷ []
     by true none rest = absurd (cc)
     by false none rest = ap (λ r. (e.0.now, e.1) ∷ r) (rest none)
 

@@ -1,18 +1,22 @@
 -- The walk gives the first element of the list that breaks a rule.
-use Rattle.std.proofs.Common.{◌≡◌, ℕ, Bool, List, [], ◌∷◌, ◌++◌, Some, None, refl, ap, sym, ◌∙◌}
+use Rattle.std.proofs.Common.{◌≡◌, ℕ, List, [], ◌∷◌, ◌++◌, Some, None, refl, ap, sym, ◌∙◌}
 use Rattle.std.specs.Prelude.{Option, slice_get}
 use Rattle.oc_tree.specs.Names.{Text}
-use Rattle.oc_tree.specs.Tree.{TKind, let_to, let_array, assign, assign_index, assign_deref, if_else, for_in, while_do, call_only, sense_only, emit, fresh, consistent, return, TElse, no_else, else_do, TStmt, stmt, TBlock, block, TStmts, no_stmts, more, TFunction, TProgram}
+use Rattle.oc_tree.specs.Tree.{TKind, let_to, let_array, assign, assign_index, assign_deref, if_else, for_in, while_do, call_only, sense_only, emit, fresh, consistent, return}
+use Rattle.oc_tree.specs.Tree.{TElse, no_else, else_do, TStmt, stmt, TBlock, block, TStmts, no_stmts, more, TFunction, TProgram}
 use Rattle.oc_tree.specs.declared.tree.NvDecl.{NvDecl}
 use Rattle.oc_tree.specs.declared.tree.Decl.{Decl}
 use Rattle.oc_tree.specs.declared.tree.DeclKind.{DeclKind}
 use Rattle.oc_tree.specs.declared.tree.DeclKind.TheVariants as decls
 use Rattle.oc_tree.specs.declared.before.Before.{Before}
 use Rattle.oc_tree.specs.declared.broken.Broken.{Broken}
-use Rattle.oc_tree.specs.Elements.{Item, sensor_item, port_item, nv_item, function_item, Here, Element, line_of, after_stmt, in_turn, inside, before_stmts, in_function, after_item, nothing_before, kind_elements, else_elements, stmt_elements, block_elements, stmts_elements, named_element, nv_element, function_elements, item_elements, order_elements, program_elements}
-use Rattle.oc_tree.specs.Limits.{Tally, nothing_counted, counted, with_item, with_statement}
-use Rattle.oc_tree.specs.Broken.{item_rules, statement_rules, end_rules, rules_of, lowest, or_later, first_broken, broken_element}
-use Rattle.oc_types.specs.Walk.{Walk, stop, go, and_then, found, element, kind_walk, else_walk, stmt_walk, block_walk, stmts_walk, declaration_walk, named_walk, nv_walk, function_walk, item_walk, order_walk, program_walk, list_walk}
+use Rattle.oc_tree.specs.Elements.{Item, sensor_item, port_item, nv_item, function_item, Here, Element, line_of, after_stmt, in_turn, inside, before_stmts, in_function, after_item}
+use Rattle.oc_tree.specs.Elements.{nothing_before, kind_elements, else_elements, stmt_elements, block_elements, stmts_elements, named_element, nv_element, function_elements}
+use Rattle.oc_tree.specs.Elements.{item_elements, order_elements, program_elements}
+use Rattle.oc_tree.specs.Limits.{Tally, nothing_counted, counted, with_statement}
+use Rattle.oc_tree.specs.Broken.{statement_rules, end_rules, rules_of, lowest, or_later, first_broken, broken_element}
+use Rattle.oc_types.specs.Walk.{Walk, stop, go, and_then, found, element, kind_walk, else_walk, stmt_walk, block_walk, stmts_walk, declaration_walk, named_walk, nv_walk}
+use Rattle.oc_types.specs.Walk.{function_walk, item_walk, order_walk, program_walk, list_walk}
 
 and_then_ext : (w : Walk) (f g : Tally → Walk) → ((n : Tally) → f n ≡ g n) → and_then w f ≡ and_then w g
 and_then_ext (stop b) f g h = refl
@@ -44,7 +48,8 @@ module _ (p : TProgram) where
 
   mutual
     kind_in_order : (h : Here) (n : Tally) (k : TKind) → list_walk p n (kind_elements p h k) ≡ kind_walk p h n k
-    kind_in_order h n (if_else c a b) = in_succession n (block_elements p (inside h) a) (else_elements p (inside h) b) (block_walk p (inside h) n a) (λ m. else_walk p (inside h) m b) (block_in_order (inside h) n a) (λ m. else_in_order (inside h) m b)
+    kind_in_order h n (if_else c a b) = in_succession n (block_elements p (inside h) a) (else_elements p (inside h) b) (block_walk p (inside h) n a)
+        (λ m. else_walk p (inside h) m b) (block_in_order (inside h) n a) (λ m. else_in_order (inside h) m b)
     kind_in_order h n (for_in x from to b) = block_in_order (in_turn h x) n b
     kind_in_order h n (while_do c bound b) = block_in_order (inside h) n b
     kind_in_order h n (let_to m x k r) = refl
@@ -65,7 +70,8 @@ module _ (p : TProgram) where
 
     stmt_in_order : (h : Here) (n : Tally) (s : TStmt) → list_walk p n (stmt_elements p h s) ≡ stmt_walk p h n s
     stmt_in_order h n (stmt id line k) =
-        and_then_ext (element line (lowest (statement_rules p (with_statement n h k) h k)) (with_statement n h k)) (λ m. list_walk p m (kind_elements p h k)) (λ m. kind_walk p h m k) (λ m. kind_in_order h m k)
+        and_then_ext (element line (lowest (statement_rules p (with_statement n h k) h k)) (with_statement n h k)) (λ m. list_walk p m (kind_elements p h k))
+        (λ m. kind_walk p h m k) (λ m. kind_in_order h m k)
 
     block_in_order : (h : Here) (n : Tally) (b : TBlock) → list_walk p n (block_elements p h b) ≡ block_walk p h n b
     block_in_order h n (block id ss) = stmts_in_order (record h { block = id }) n ss
@@ -91,7 +97,8 @@ module _ (p : TProgram) where
   function_in_order : (b : Before) (n : Tally) (line : ℕ) (f : Option TFunction) → list_walk p n (function_elements p b line f) ≡ function_walk p b n line f
   function_in_order b n line None = refl
   function_in_order b n line (Some f) =
-      and_then_ext (declaration_walk p b n line (function_item f)) (λ m. list_walk p m (block_elements p (in_function f b.functions) f.body)) (λ m. block_walk p (in_function f b.functions) m f.body) (λ m. block_in_order (in_function f b.functions) m f.body)
+      and_then_ext (declaration_walk p b n line (function_item f)) (λ m. list_walk p m (block_elements p (in_function f b.functions) f.body))
+      (λ m. block_walk p (in_function f b.functions) m f.body) (λ m. block_in_order (in_function f b.functions) m f.body)
 
   item_in_order : (b : Before) (n : Tally) (line : ℕ) (k : DeclKind) → list_walk p n (item_elements p b line k) ≡ item_walk p b n line k
   item_in_order b n line decls.Sensor = named_in_order sensor_item b n line (slice_get p.names.sensors b.sensors) (λ x. and_then_go (declaration_walk p b n line (sensor_item x)))

@@ -1,6 +1,6 @@
 -- The numbers of the rules on weight and stack, where those of the code stop at a cap.
-use Rattle.std.proofs.Common.{◌≡◌, ◌≤◌, ◌<◌, ◌+◌, ℕ, zero, suc, Bool, true, false, List, [], ◌∷◌, Option, Some, None, refl, ap, sym, ◌∙◌, map, length, arith}
-use Rattle.std.specs.Prelude.{◌||◌, codes, cond, min, nat_lt}
+use Rattle.std.proofs.Common.{◌≡◌, ◌≤◌, ◌<◌, ◌+◌, ℕ, zero, suc, Bool, List, [], ◌∷◌, Option, Some, None, refl, ap, ◌∙◌, map, length, arith}
+use Rattle.std.specs.Prelude.{◌||◌, codes, cond, nat_lt}
 use Rattle.std.specs.List.{list_any}
 use Rattle.std.proofs.Math.ListN.{get_or}
 use Rattle.oc_tree.specs.Names.{Text}
@@ -63,7 +63,8 @@ module _ (p : TProgram) (fs : List TFunction) (n : ℕ) where
       ∙ ap (λ (names : List Text). nat_lt 65536 (known_of (stacks p) (place names (codes "main")))) (same_names 1 1 p.functions)
 
 -- what the two tests tell is the lowest rule
-pub lowest_size : (p : TProgram) (heavy deep : Bool) → heavy ≡ list_any (nat_lt 4294967296) (weights p) → deep ≡ nat_lt 65536 (stack_words p) → cond heavy (Some 23) (cond deep (Some 24) None) ≡ lowest (size_rules p)
+pub lowest_size : (p : TProgram) (heavy deep : Bool) → heavy ≡ list_any (nat_lt 4294967296) (weights p) → deep ≡ nat_lt 65536 (stack_words p)
+    → cond heavy (Some 23) (cond deep (Some 24) None) ≡ lowest (size_rules p)
 lowest_size p heavy deep h d =
     ap (λ (b : Bool). cond b (Some 23) (cond deep (Some 24) None)) h
     ∙ ap (λ (b : Bool). cond (list_any (nat_lt 4294967296) (weights p)) (Some 23) (cond b (Some 24) None)) d

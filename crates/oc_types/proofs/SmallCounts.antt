@@ -13,5 +13,6 @@ with_nv n x d s w = record { words = w; variables = s.variables; statements = s.
 pub begun : (n : Tally) (f : TFunction) → IsSmall n → (with_item n (function_item f)).variables ≤ 256 → IsSmall (with_item n (function_item f))
 begun n f s v = record { words = s.words; variables = v; statements = s.statements; calls = s.calls }
 
-pub stated : (n : Tally) (h : Here) (k : TKind) → IsSmall n → (with_statement n h k).variables ≤ 256 → (with_statement n h k).statements ≤ 8192 → (with_statement n h k).calls ≤ 1024 → IsSmall (with_statement n h k)
+pub stated : (n : Tally) (h : Here) (k : TKind) → IsSmall n → (with_statement n h k).variables ≤ 256 → (with_statement n h k).statements ≤ 8192
+    → (with_statement n h k).calls ≤ 1024 → IsSmall (with_statement n h k)
 stated n h k s v t c = record { words = s.words; variables = v; statements = t; calls = c }

@@ -1,5 +1,5 @@
 -- A part of a sum is no more than the whole.
-use Rattle.std.proofs.Common.{◌≡◌, ◌≤◌, ◌<◌, ◌+◌, ℕ, zero, suc, List, [], ◌∷◌, Option, Some, None, Bor, map, length, sum_by, ap, sym, arith}
+use Rattle.std.proofs.Common.{◌≡◌, ◌≤◌, ◌<◌, ◌+◌, ℕ, zero, suc, List, [], ◌∷◌, Option, Some, None, Bor, length, sum_by, ap, sym, arith}
 use Rattle.std.proofs.lemmas.List.Sums.{sum_by-cons}
 use Rattle.std.proofs.lemmas.Option.{slice_get_within}
 use Rattle.std.specs.Prelude.{slice_get, unwrap_or, option_map, IfSome}
@@ -20,7 +20,8 @@ part (g ∷ fs) (suc i) f e =
     omega (arith, s, r)
 
 -- a function's body has no more nodes than the program
-pub viewed_nodes : (p : TProgram) (i : ℕ) (o : Option (Bor Function)) → option_map (λ f. function_view f.now) o ≡ slice_get p.functions i → IfSome o (λ f. block_nodes (block_view f.now.body) ≤ program_nodes p)
+pub viewed_nodes : (p : TProgram) (i : ℕ) (o : Option (Bor Function)) → option_map (λ f. function_view f.now) o ≡ slice_get p.functions i
+    → IfSome o (λ f. block_nodes (block_view f.now.body) ≤ program_nodes p)
 viewed_nodes p i None e = tt
 viewed_nodes p i (Some f) e = part p.functions i (function_view f.now) (sym e)
 

@@ -111,7 +111,13 @@ pub struct Counts {
 impl Model for Counts {
     ghost Value = { Tally };
 
-    ghost view = { λ n. record { words = n.words; variables = n.variables; statements = n.statements; calls = n.calls; policies = n.policies.items } };
+    ghost view = { λ n. record {
+      words = n.words;
+      variables = n.variables;
+      statements = n.statements;
+      calls = n.calls;
+      policies = n.policies.items;
+    } };
 }
 
 impl Counts {

@@ -1,5 +1,6 @@
 -- The marks beside the entries.
-use Rattle.std.proofs.Common.{◌≡◌, ℕ, suc, ◌+◌, ◌<◌, ◌≤◌, List, [], ◌∷◌, ◌++◌, length, refl, sym, ap, ◌∙◌, ⊎_elim, inl, inr, arith, get_or, cond, get_or-set_same, get_or-set_other, length-append, drop, add-one, subst, take}
+use Rattle.std.proofs.Common.{◌≡◌, ℕ, suc, ◌+◌, ◌<◌, ◌≤◌, List, [], ◌∷◌, ◌++◌, length, refl, sym, ap, ◌∙◌, ⊎_elim, inl, inr, arith, get_or, cond, get_or-set_same, get_or-set_other}
+use Rattle.std.proofs.Common.{length-append, drop, add-one, subst, take}
 use Rattle.std.specs.Prelude.{slice_set, Bool, true, false, ◌==◌, if◌then◌else◌, count_by, All}
 use Rattle.std.specs.Prelude.{Result, IsOk}
 use Rattle.std.specs.Result.{is_ok}
@@ -57,12 +58,18 @@ noted es marks e m h k = record {
       (λ s. ap (λ i. get_or (slice_set marks e.addr true) i false) (sym s.1) ∙ get_or-set_same marks e.addr true false h ∙ sym (has_last es e b s.0))
       (λ s. get_or-set_other marks e.addr b true false (λ q. s.1 (sym q)) ∙ m.told b (omega (arith, length-set marks e.addr true)) ∙ sym (has_other es e b s.0))
       (eqb_tells e.addr b);
-  inside = λ i d l. omega (arith, length-set marks e.addr true, All-append (λ (x : Entry). x.addr < length marks) es (e ∷ []) m.inside (All-cons (λ (x : Entry). x.addr < length marks) e [] h (All-nil (λ (x : Entry). x.addr < length marks))) i d l);
+  inside = λ i d l. omega (
+    arith,
+    length-set marks e.addr true,
+    All-append (λ (x : Entry). x.addr < length marks) es (e ∷ []) m.inside
+        (All-cons (λ (x : Entry). x.addr < length marks) e [] h (All-nil (λ (x : Entry). x.addr < length marks))) i d l,
+  );
   count = one_more marks e.addr h (m.told e.addr h ∙ k) ∙ omega (arith, m.count, length-append es (e ∷ []));
 }
 
 -- a mark is taken away with its entry
-pub unmarked : (es : List Entry) (e : Entry) (marks : List Bool) → ((a : ℕ) → get_or marks a false ≡ true → has_entry (e ∷ es) a ≡ true) → e.addr < length marks → (a : ℕ) → get_or (slice_set marks e.addr false) a false ≡ true → has_entry es a ≡ true
+pub unmarked : (es : List Entry) (e : Entry) (marks : List Bool) → ((a : ℕ) → get_or marks a false ≡ true → has_entry (e ∷ es) a ≡ true) → e.addr < length marks → (a : ℕ)
+    → get_or (slice_set marks e.addr false) a false ≡ true → has_entry es a ≡ true
 unmarked es e marks h l a k =
     ⊎_elim
     (λ s. let n : get_or (slice_set marks e.addr false) a false ≡ false = ap (λ i. get_or (slice_set marks e.addr false) i false) (sym s.1) ∙ get_or-set_same marks e.addr false false l in absurd (cc))
@@ -90,7 +97,8 @@ drop_more : (es : List Entry) (i : ℕ) (d : Entry) → i < length es → drop i
 drop_more es i d h = rw (add-one) (drop-cons es i d h)
 
 -- the marks of the entries from the next one on are left
-pub unmark_more : (es : List Entry) (i : ℕ) (d : Entry) (marks : List Bool) → i < length es → All (λ e. e.addr < length marks) es → ((a : ℕ) → get_or marks a false ≡ true → has_entry (drop i es) a ≡ true) → (a : ℕ) → get_or (slice_set marks (get_or es i d).addr false) a false ≡ true → has_entry (drop (i + 1) es) a ≡ true
+pub unmark_more : (es : List Entry) (i : ℕ) (d : Entry) (marks : List Bool) → i < length es → All (λ e. e.addr < length marks) es
+    → ((a : ℕ) → get_or marks a false ≡ true → has_entry (drop i es) a ≡ true) → (a : ℕ) → get_or (slice_set marks (get_or es i d).addr false) a false ≡ true → has_entry (drop (i + 1) es) a ≡ true
 unmark_more es i d marks h inside left =
     unmarked (drop (i + 1) es) (get_or es i d) marks (λ a k. ap (λ l. has_entry l a) (sym (drop_more es i d h)) ∙ left a k) (inside i d h)
 

@@ -1,5 +1,6 @@
 -- Putting the log back.
-use Rattle.std.proofs.Common.{true, ◌≡◌, ℕ, zero, suc, ◌<◌, ◌≤◌, List, [], ◌∷◌, ◌++◌, length, Some, refl, sym, ap, ◌∙◌, ⊎_elim, inl, inr, arith, get_or, take, ℤ, pos, get_or-set_same, get_or-set_other}
+use Rattle.std.proofs.Common.{true, ◌≡◌, ℕ, zero, suc, ◌<◌, ◌≤◌, List, [], ◌∷◌, ◌++◌, length, Some, refl, sym, ap, ◌∙◌, ⊎_elim, inl, inr, arith, get_or, take, ℤ, pos}
+use Rattle.std.proofs.Common.{get_or-set_same, get_or-set_other}
 use Rattle.std.specs.Prelude.{slice_get, slice_set, ◌⊎◌, if◌then◌else◌}
 use Rattle.std.proofs.lemmas.List.{set-set, set_comm, set-get_or, length-set}
 use Rattle.std.proofs.Math.Seq.{take-length}
@@ -17,7 +18,8 @@ under : (es : List Entry) (nv : List ℤ) (a : ℕ) (v o : ℤ) → slice_set (u
 under [] nv a v o = set-set nv a v o
 under (e ∷ es) nv a v o =
     ⊎_elim
-    (λ h. ap (λ b. slice_set (slice_set (undo es (slice_set nv a v)) b e.old) a o) h.1 ∙ set-set _ a e.old o ∙ under es nv a v o ∙ sym (set-set (undo es nv) a e.old o) ∙ ap (λ b. slice_set (slice_set (undo es nv) b e.old) a o) (sym h.1))
+    (λ h. ap (λ b. slice_set (slice_set (undo es (slice_set nv a v)) b e.old) a o) h.1 ∙ set-set _ a e.old o ∙ under es nv a v o ∙ sym (set-set (undo es nv) a e.old o)
+    ∙ ap (λ b. slice_set (slice_set (undo es nv) b e.old) a o) (sym h.1))
     (λ h. set_comm _ e.addr a e.old o h.1 ∙ ap (λ l. slice_set l e.addr e.old) (under es nv a v o) ∙ sym (set_comm (undo es nv) e.addr a e.old o h.1))
     (eqb_tells e.addr a)
 
@@ -95,6 +97,7 @@ undo_at [] nv a h = refl
 undo_at (e ∷ es) nv a h =
     let inside : a < length (undo es nv) = omega (arith, length-undo es nv) in
     ⊎_elim
-    (λ k. ap (λ b. get_or (slice_set (undo es nv) b e.old) a (pos 0)) k.1 ∙ get_or-set_same (undo es nv) a e.old (pos 0) inside ∙ ap (λ t. if t then e.old else first_old es a (get_or nv a (pos 0))) (sym k.0))
+    (λ k. ap (λ b. get_or (slice_set (undo es nv) b e.old) a (pos 0)) k.1 ∙ get_or-set_same (undo es nv) a e.old (pos 0) inside
+    ∙ ap (λ t. if t then e.old else first_old es a (get_or nv a (pos 0))) (sym k.0))
     (λ k. get_or-set_other (undo es nv) e.addr a e.old (pos 0) (λ q. k.1 (sym q)) ∙ undo_at es nv a h ∙ ap (λ t. if t then e.old else first_old es a (get_or nv a (pos 0))) (sym k.0))
     (eqb_tells e.addr a)

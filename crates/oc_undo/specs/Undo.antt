@@ -1,5 +1,6 @@
 -- What a log of old words puts back.
-use Rattle.std.specs.Prelude.{ℕ, zero, suc, ◌+◌, ◌-◌, ◌==◌, ◌≡◌, ◌<◌, ℤ, Bool, true, false, List, [], ◌∷◌, length, Option, Some, None, slice_get, slice_set, slice_index_or, if◌then◌else◌, count_by, All}
+use Rattle.std.specs.Prelude.{ℕ, zero, suc, ◌+◌, ◌-◌, ◌==◌, ◌≡◌, ◌<◌, ℤ, Bool, true, false, List, [], ◌∷◌, length, Option, Some, None, slice_get, slice_set, slice_index_or}
+use Rattle.std.specs.Prelude.{if◌then◌else◌, count_by, All}
 use Rattle.oc_undo.specs.declared.Entry.{Entry}
 
 -- the entries, the oldest first, how many of them were put back, and of how many words the log is

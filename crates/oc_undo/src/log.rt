@@ -26,9 +26,14 @@ impl Model for UndoLog {
 
     ghost Value = { Log };
 
-    ghost view = { λ a. record { entries = a.entries.items; back = a.back; words = length a.marks.items } };
+    ghost view = { λ a. record {
+      entries = a.entries.items;
+      back = a.back;
+      words = length a.marks.items;
+    } };
 
-    ghost invariant = { λ a. IsMarked a.entries.items a.marks.items × (length a.marks.items ≤ vec_capacity a.entries) × (a.back ≤ length a.entries.items) };
+    ghost invariant = { λ a. IsMarked a.entries.items a.marks.items
+        × (length a.marks.items ≤ vec_capacity a.entries) × (a.back ≤ length a.entries.items) };
 }
 
 /// Takes away the marks of these entries, where there are no others.

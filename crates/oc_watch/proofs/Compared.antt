@@ -10,7 +10,7 @@ use Rattle.oc_tree.specs.Tree.{assign, assign_index, assign_deref, if_else, for_
 use Rattle.oc_tree.specs.Tree.{block, TStmts, no_stmts, more, TFunction, TProgram}
 use Rattle.oc_tree.specs.Calls.{function_place}
 use Rattle.oc_tree.specs.Weight as weight
-use Rattle.oc_tree.specs.Weight.{known_of, expr_cost, arg_cost, args_cost, call_cost, right_cost, kind_cost, result_at}
+use Rattle.oc_tree.specs.Weight.{known_of, expr_cost, arg_cost, args_cost, call_cost, right_cost, result_at}
 use Rattle.oc_tree.specs.Marked.{TRegion}
 use Rattle.oc_tree.specs.Stack.{kind_slots, block_slots, link_words}
 use Rattle.oc_isa.specs.declared.instr.ProbeKind.{ProbeKind}
@@ -20,7 +20,7 @@ use Rattle.oc_meaning.specs.Uses.{is_use, begins_use, ends_use}
 use Rattle.oc_meaning.specs.Exec.{begun_by, ended_by, count_of as turns_of}
 use Rattle.oc_meaning.specs.Run.{function_named}
 use Rattle.oc_code.specs.Scope.{Slot, InFrame, ByAddress, InNv, NoSlot, Named, address_slot, slot_of, passed_slot, is_fresh_in, in_scope, for_named, function_scope}
-use Rattle.oc_code.specs.Forms.{placed, enter_code, commit_code, probe_code, write_code}
+use Rattle.oc_code.specs.Forms.{enter_code, commit_code, probe_code, write_code}
 use Rattle.oc_code.specs.Forms as forms
 use Rattle.oc_code.specs.Code as code
 use Rattle.oc_code.specs.Formed.{marks, kind_formed, block_formed, stmts_formed, body_formed}

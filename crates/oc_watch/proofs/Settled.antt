@@ -3,9 +3,8 @@ use Rattle.std.proofs.Common.{◌≡◌, ◌≤◌, ◌∷◌, ◌++◌, ℕ, ze
 use Rattle.std.proofs.lemmas.List.Elements.{All-head, All-tail}
 use Rattle.oc_tree.specs.Word.{is_word}
 use Rattle.oc_tree.specs.declared.said.Said.{Said}
-use Rattle.oc_tree.specs.declared.said.Said.TheVariants.{Sensed, Entered}
-use Rattle.oc_isa.specs.Next.{Regs, Next, Goes, Senses, Enters, Commits, Ends, Stuck, Device, pushed, written}
-use Rattle.oc_isa.specs.Run.{Core, start_of, core_at, Onward, run_on, run_sense, run_commit, follow, AreWords, continuous_run}
+use Rattle.oc_isa.specs.Next.{Regs, Next, Goes, Senses, Enters, Commits, Ends, Stuck, Device}
+use Rattle.oc_isa.specs.Run.{Core, start_of, Onward, run_on, run_sense, run_commit, follow, AreWords, continuous_run}
 use Rattle.oc_bounds.specs.Bounds.{Bounds, Claim, IsBounded, Lasts, lasts_next, goes_on_commit, sampled}
 
 abbrev IsWord : ℤ → Type 0

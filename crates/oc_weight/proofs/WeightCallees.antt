@@ -1,7 +1,8 @@
 -- The weight and the stack of a function are told by what is known of its callees.
 use Rattle.std.proofs.Common.{◌≡◌, inl, inr, ℕ, suc, ◌+◌, ◌*◌, ◌++◌, false, List, [], ◌∷◌, length, map, None, refl, ap, subst}
 use Rattle.std.specs.Prelude.{max, cond, is_some}
-use Rattle.oc_tree.specs.Tree.{TCall, call, TRight, right_value, right_sense, right_call, TKind, let_to, let_array, assign, assign_index, assign_deref, if_else, for_in, while_do, call_only, sense_only, emit, fresh, consistent, return, TElse, no_else, else_do, stmt, TBlock, block, TStmts, no_stmts, more, TFunction, TProgram}
+use Rattle.oc_tree.specs.Tree.{TCall, call, TRight, right_value, right_sense, right_call, TKind, let_to, let_array, assign, assign_index, assign_deref, if_else, for_in, while_do}
+use Rattle.oc_tree.specs.Tree.{call_only, sense_only, emit, fresh, consistent, return, TElse, no_else, else_do, stmt, TBlock, block, TStmts, no_stmts, more, TFunction, TProgram}
 use Rattle.oc_tree.specs.Calls.{expr_calls, right_calls, kind_hides, kind_kinds, else_kinds, block_kinds, stmts_kinds, calls}
 use Rattle.oc_tree.specs.Members.{IsOf}
 use Rattle.oc_tree.specs.Expansion.{block_size, expand_functions, expansion}

@@ -63,7 +63,8 @@ module _ (p : TProgram) (i : ℕ) where
   nv_placed n [] y e = absurd (cc)
   nv_placed n (x ∷ xs) y e = by (bytes_eq y x) e (nv_placed (suc n) xs y)
     where
-      by : (b : Bool) → (if b then record { name = x; place = Global n; reference = false; fresh = false } else binding_of (nv_env (suc n) xs) y).place ≡ Global i → (place_of (nv_env (suc n) xs) y ≡ Global i → place_from (suc n) xs y ≡ Some i) → cond b (Some n) (place_from (n + 1) xs y) ≡ Some i
+      by : (b : Bool) → (if b then record { name = x; place = Global n; reference = false; fresh = false } else binding_of (nv_env (suc n) xs) y).place ≡ Global i
+          → (place_of (nv_env (suc n) xs) y ≡ Global i → place_from (suc n) xs y ≡ Some i) → cond b (Some n) (place_from (n + 1) xs y) ≡ Some i
       by true e rest = let same : n ≡ i = cc in ap Some same
       by false e rest = let m : n + 1 ≡ suc n = omega arith in ap (λ k. place_from k xs y) m ∙ rest e
 
@@ -85,7 +86,8 @@ module _ (p : TProgram) (i : ℕ) where
         by true e (Names.given j some lent) = let same : y ≡ z = (bytes_eq-Decides y z).0 e in absurd (none-some (variables.Param j) (sym new.unseen ∙ ap (find_variable vs) (sym same) ∙ some))
 
     -- a parameter is bound to what was passed for it
-    bound_seen : (vs : Variables) (env : List Binding) (b : Binding) (j : ℕ) → IsNew vs b.name → (b.place ≡ Global i → passed j ≡ Global i) → Seen p i passed vs env → Seen p i passed (vs ++ (b.name, variables.Param j) ∷ []) (b ∷ env)
+    bound_seen : (vs : Variables) (env : List Binding) (b : Binding) (j : ℕ) → IsNew vs b.name → (b.place ≡ Global i → passed j ≡ Global i) → Seen p i passed vs env
+        → Seen p i passed (vs ++ (b.name, variables.Param j) ∷ []) (b ∷ env)
     bound_seen vs env b j new lent seen y = by (bytes_eq y b.name) refl
       where
         by : (t : Bool) → bytes_eq y b.name ≡ t → (if t then b else binding_of env y).place ≡ Global i → Names p i passed (vs ++ (b.name, variables.Param j) ∷ []) y
@@ -117,28 +119,33 @@ module _ (p : TProgram) (i : ℕ) where
         }
 
     -- the parameters for which nothing is passed
-    rest_seen : (s : Scope) (vs : Variables) (n : ℕ) (qs : List Param) (env : List Binding) → Covered s vs → takes_param p s qs ≡ false → Seen p i passed vs env → Seen p i passed (vs ++ param_variables n qs) env
+    rest_seen : (s : Scope) (vs : Variables) (n : ℕ) (qs : List Param) (env : List Binding) → Covered s vs → takes_param p s qs ≡ false → Seen p i passed vs env
+        → Seen p i passed (vs ++ param_variables n qs) env
     rest_seen s vs n [] env all free seen = seen_same p i passed vs env seen
     rest_seen s vs n (q ∷ qs) env all free seen =
         let new = param_new s vs q all (first_fails (is_taken p s q.name) _ free) in
         let one : Seen p i passed (vs ++ (q.name, variables.Param n) ∷ []) env = λ y e. names_fresh vs y q.name (variables.Param n) new (seen y e) in
         subst (λ ws. Seen p i passed ws env) (append_assoc vs ((q.name, variables.Param n) ∷ []) (param_variables (n + 1) qs))
-        (rest_seen (with_param s q) (vs ++ (q.name, variables.Param n) ∷ []) (n + 1) qs env (covered_more s vs q.name (param_var q) (variables.Param n) all) (second_fails (is_taken p s q.name) _ free) one)
+        (rest_seen (with_param s q) (vs ++ (q.name, variables.Param n) ∷ []) (n + 1) qs env (covered_more s vs q.name (param_var q) (variables.Param n) all)
+        (second_fails (is_taken p s q.name) _ free) one)
 
-    params_seen : (s : Scope) (vs : Variables) (n : ℕ) (qs : List Param) (ps : List Passed) (fr : Frame) → Covered s vs → takes_param p s qs ≡ false → ((j : ℕ) → lent_at ps j ≡ Global i → passed (n + j) ≡ Global i) → Seen p i passed vs fr.env → Seen p i passed (vs ++ param_variables n qs) (with_params qs ps fr).env
+    params_seen : (s : Scope) (vs : Variables) (n : ℕ) (qs : List Param) (ps : List Passed) (fr : Frame) → Covered s vs → takes_param p s qs ≡ false
+        → ((j : ℕ) → lent_at ps j ≡ Global i → passed (n + j) ≡ Global i) → Seen p i passed vs fr.env → Seen p i passed (vs ++ param_variables n qs) (with_params qs ps fr).env
     params_seen s vs n [] ps fr all free lent seen = seen_same p i passed vs fr.env seen
     params_seen s vs n (q ∷ qs) [] fr all free lent seen = rest_seen s vs n (q ∷ qs) fr.env all free seen
     params_seen s vs n (q ∷ qs) (Copied w ∷ ps) fr all free lent seen =
         let new = param_new s vs q all (first_fails (is_taken p s q.name) _ free) in
         subst (λ ws. Seen p i passed ws (with_params qs ps (meaning.with_param q.name (Copied w) fr)).env) (append_assoc vs ((q.name, variables.Param n) ∷ []) (param_variables (n + 1) qs))
-        (params_seen (with_param s q) (vs ++ (q.name, variables.Param n) ∷ []) (n + 1) qs ps (meaning.with_param q.name (Copied w) fr) (covered_more s vs q.name (param_var q) (variables.Param n) all) (second_fails (is_taken p s q.name) _ free)
+        (params_seen (with_param s q) (vs ++ (q.name, variables.Param n) ∷ []) (n + 1) qs ps (meaning.with_param q.name (Copied w) fr)
+        (covered_more s vs q.name (param_var q) (variables.Param n) all) (second_fails (is_taken p s q.name) _ free)
         (λ j e. let m : n + suc j ≡ n + 1 + j = omega arith in ap passed (sym m) ∙ lent (suc j) e)
         (bound_seen vs fr.env _ n new (λ e. absurd (cc)) seen))
     params_seen s vs n (q ∷ qs) (Lent r ∷ ps) fr all free lent seen =
         let new = param_new s vs q all (first_fails (is_taken p s q.name) _ free) in
         let z : n + 0 ≡ n = omega arith in
         subst (λ ws. Seen p i passed ws (with_params qs ps (meaning.with_param q.name (Lent r) fr)).env) (append_assoc vs ((q.name, variables.Param n) ∷ []) (param_variables (n + 1) qs))
-        (params_seen (with_param s q) (vs ++ (q.name, variables.Param n) ∷ []) (n + 1) qs ps (meaning.with_param q.name (Lent r) fr) (covered_more s vs q.name (param_var q) (variables.Param n) all) (second_fails (is_taken p s q.name) _ free)
+        (params_seen (with_param s q) (vs ++ (q.name, variables.Param n) ∷ []) (n + 1) qs ps (meaning.with_param q.name (Lent r) fr)
+        (covered_more s vs q.name (param_var q) (variables.Param n) all) (second_fails (is_taken p s q.name) _ free)
         (λ j e. let m : n + suc j ≡ n + 1 + j = omega arith in ap passed (sym m) ∙ lent (suc j) e)
         (bound_seen vs fr.env _ n new (λ e. ap passed (sym z) ∙ lent 0 e) seen))
 
@@ -149,18 +156,23 @@ named_placed : (n : ℕ) (fs : List TFunction) (y : Text) (g : TFunction) → me
 named_placed n [] y g e = absurd (none-some g e)
 named_placed n (f ∷ fs) y g e = by (bytes_eq y f.name) e (named_placed (n + 1) fs y g)
   where
-    by : (b : Bool) → (if b then Some f else meaning.function_named fs y) ≡ Some g → (meaning.function_named fs y ≡ Some g → is_some (place_from (n + 1) (function_names fs) y) ≡ true) → is_some (cond b (Some n) (place_from (n + 1) (function_names fs) y)) ≡ true
+    by : (b : Bool) → (if b then Some f else meaning.function_named fs y) ≡ Some g
+        → (meaning.function_named fs y ≡ Some g → is_some (place_from (n + 1) (function_names fs) y) ≡ true) → is_some (cond b (Some n) (place_from (n + 1) (function_names fs) y)) ≡ true
     by true e rest = refl
     by false e rest = rest e
 
 module _ (p : TProgram) (groups : List Group) (checked : IsChecked p groups) (regions : List TRegion) (i : ℕ) (x : Text) (named : slice_get p.names.nvs i ≡ Some x) where
   -- a body that is spared leaves the variable alone
-  body_keeps : (call_of : Text → List Passed → Store → Outcome) → CallsKeep p i x call_of → (u : ℕ) (g : TFunction) (ps : List Passed) (σ : Store) → slice_get p.functions u ≡ Some g → reaches_assign p.functions x u ≡ false → PassedSpared p i u 0 ps → cell i (store_after (body_run p regions call_of g (with_params g.params ps (record { env = nv_env 0 p.names.nvs; locals = σ.locals })) σ)) ≡ cell i σ
+  body_keeps : (call_of : Text → List Passed → Store → Outcome) → CallsKeep p i x call_of → (u : ℕ) (g : TFunction) (ps : List Passed) (σ : Store) → slice_get p.functions u
+      ≡ Some g → reaches_assign p.functions x u ≡ false → PassedSpared p i u 0 ps
+      → cell i (store_after (body_run p regions call_of g (with_params g.params ps (record { env = nv_env 0 p.names.nvs; locals = σ.locals })) σ)) ≡ cell i σ
   body_keeps call_of calls u g ps σ stands free spared =
       let passed : ℕ → Place = lent_at ps in
       let fr = with_params g.params ps (record { env = nv_env 0 p.names.nvs; locals = σ.locals }) in
       let head = head_unbroken p u g (function_fine p checked.unbroken checked.form.declared u g stands) in
-      let seen : Seen p i passed (at_start g).variables fr.env = params_seen p i passed [] [] 0 g.params ps (record { env = nv_env 0 p.names.nvs; locals = σ.locals }) (λ y e. refl) head.free (λ j e. let z : 0 + j ≡ j = omega arith in ap passed z ∙ e) (nvs_seen p i passed) in
+      let seen : Seen p i passed (at_start g).variables fr.env =
+      params_seen p i passed [] [] 0 g.params ps (record { env = nv_env 0 p.names.nvs; locals = σ.locals }) (λ y e. refl) head.free
+      (λ j e. let z : 0 + j ≡ j = omega arith in ap passed z ∙ e) (nvs_seen p i passed) in
       let safe : (j : ℕ) → passed j ≡ Global i → IsSafe p u j = λ j e. let z : 0 + j ≡ j = omega arith in subst (IsSafe p u) z (safe_at p i u 0 ps spared j e) in
       let inner = body_spared p i x named u g stands passed groups checked free safe in
       let start : Store = record σ { locals = fr.locals } in
@@ -171,7 +183,8 @@ module _ (p : TProgram) (groups : List Group) (checked : IsChecked p groups) (re
   calls_keep zero f ps σ h = refl
   calls_keep (suc d) f ps σ h = by (meaning.function_named p.functions f) refl (calls_keep d)
     where
-      by : (o : Option TFunction) → meaning.function_named p.functions f ≡ o → CallsKeep p i x (call_to p regions d) → cell i (store_after (function_run p regions (call_to p regions d) o ps σ)) ≡ cell i σ
+      by : (o : Option TFunction) → meaning.function_named p.functions f ≡ o → CallsKeep p i x (call_to p regions d)
+          → cell i (store_after (function_run p regions (call_to p regions d) o ps σ)) ≡ cell i σ
       by None is calls = refl
       by (Some g) is calls =
           let c = name_called p f (named_placed 0 p.functions f g is) in

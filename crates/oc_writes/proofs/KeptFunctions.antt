@@ -9,7 +9,8 @@ use Rattle.std.proofs.lemmas.Bool.{eq-eqb}
 use Rattle.std.proofs.lemmas.Option.{none-some, same_Some}
 use Rattle.std.proofs.lemmas.Slice.Eq.{bytes_eq-Decides}
 use Rattle.oc_tree.specs.Names.{Text}
-use Rattle.oc_tree.specs.Tree.{TExpr, variable, TArg, value, shared, mutable, TCall, call, TArgs, no_args, more_args, TRight, right_value, right_sense, right_call, TKind, let_to, let_array, assign, assign_index, assign_deref, for_in, call_only, TFunction, TProgram}
+use Rattle.oc_tree.specs.Tree.{TExpr, variable, TArg, value, shared, mutable, TCall, call, TArgs, no_args, more_args, TRight, right_value, right_sense, right_call, TKind, let_to}
+use Rattle.oc_tree.specs.Tree.{let_array, assign, assign_index, assign_deref, for_in, call_only, TFunction, TProgram}
 use Rattle.oc_tree.specs.declared.tree.Param.{Param}
 use Rattle.oc_tree.specs.declared.tree.Passing.{Passing}
 use Rattle.oc_tree.specs.declared.tree.Passing.TheVariants as passings
@@ -20,13 +21,15 @@ use Rattle.oc_tree.specs.declared.scope.Origin.TheVariants as origins
 use Rattle.oc_tree.specs.declared.scope.Var.{Var}
 use Rattle.oc_tree.specs.Reach.{linked, is_link}
 use Rattle.oc_tree.specs.Calls.{place_from, place, function_place, callee, args_calls, call_calls, expr_calls, right_calls, own_calls, has_param}
-use Rattle.oc_tree.specs.Assigned.{is_mutable, mutable_params, param_names, first_param, takes_mutable, mutable_param, own_param, alone, link_of, arg_links, args_links, to_links, pass_call, written_through, param_assigned, assigned_number, arg_assigns, args_assign, callee_assigns, call_assigns, own_assigns, reaches_assign}
+use Rattle.oc_tree.specs.Assigned.{is_mutable, mutable_params, param_names, first_param, takes_mutable, mutable_param, own_param, alone, link_of, arg_links, args_links, to_links}
+use Rattle.oc_tree.specs.Assigned.{pass_call, written_through, param_assigned, assigned_number, arg_assigns, args_assign, callee_assigns, call_assigns, own_assigns, reaches_assign}
 use Rattle.oc_tree.specs.Places.{Variables, find_variable, at_start, block_placed}
 use Rattle.oc_tree.specs.Scope.{Scope, variable_of, is_among, is_taken, is_in_scope, is_declared, function_named, takes_param, with_param}
 use Rattle.oc_tree.specs.Types.{is_reference}
 use Rattle.oc_tree.specs.Checked.{Group, IsChecked}
 use Rattle.oc_tree.specs.Elements.{Here}
-use Rattle.oc_tree.specs.Rules.{only_reference, has_kind, origin_is, is_mutable_passing, is_mutable_param, is_writable, is_writable_array, value_meets, shared_meets, arg_meets, args_meet, args_list, params_of, call_args, arg_lends, takes_name}
+use Rattle.oc_tree.specs.Rules.{only_reference, has_kind, origin_is, is_mutable_passing, is_mutable_param, is_writable, is_writable_array, value_meets, shared_meets, arg_meets}
+use Rattle.oc_tree.specs.Rules.{args_meet, args_list, params_of, call_args, arg_lends, takes_name}
 use Rattle.oc_tree.proofs.ReachLaws.{or_left, or_right}
 use Rattle.oc_reach.proofs.Bools.{and_both}
 use Rattle.oc_reach.proofs.LinkLaws.{any_append}
@@ -50,7 +53,8 @@ pub place_there : (n : ℕ) (xs : List Text) (y : Text) (i : ℕ) → place_from
 place_there n [] y i h = absurd (none-some i h)
 place_there n (z ∷ xs) y i h = by (bytes_eq y z) refl h (place_there (n + 1) xs y i)
   where
-    by : (b : Bool) → bytes_eq y z ≡ b → cond b (Some n) (place_from (n + 1) xs y) ≡ Some i → (place_from (n + 1) xs y ≡ Some i → (k : ℕ) × (i ≡ n + 1 + k) × (slice_get xs k ≡ Some y)) → (k : ℕ) × (i ≡ n + k) × (slice_get (z ∷ xs) k ≡ Some y)
+    by : (b : Bool) → bytes_eq y z ≡ b → cond b (Some n) (place_from (n + 1) xs y) ≡ Some i
+        → (place_from (n + 1) xs y ≡ Some i → (k : ℕ) × (i ≡ n + 1 + k) × (slice_get xs k ≡ Some y)) → (k : ℕ) × (i ≡ n + k) × (slice_get (z ∷ xs) k ≡ Some y)
     by true is e rest = let same = same_Some n i e in (0, omega (arith, same), ap Some (sym ((bytes_eq-Decides y z).0 is)))
     by false is e rest = let r = rest e in (suc r.0, omega (arith, r.1), r.2)
 
@@ -184,11 +188,19 @@ module _ (p : TProgram) (i : ℕ) (x : Text) (named : slice_get p.names.nvs i �
 
     module _ (v : ℕ) where
       -- what the links of all arguments give, those of the first and of the rest do
-      first_links : (l : ℕ) (a : TArg) (rest : TArgs) → ((m : Through) → (b : ℕ) → linked (args_links p.functions first (param_names f) v l (more_args a rest)) (first + m.0) b ≡ true → param_assigned p.functions b ≡ false) → (m : Through) → (b : ℕ) → linked (arg_links p.functions first (param_names f) v l a) (first + m.0) b ≡ true → param_assigned p.functions b ≡ false
-      first_links l a rest links m b h = links m b (any_append (is_link (first + m.0) b) (arg_links p.functions first (param_names f) v l a) (args_links p.functions first (param_names f) v (l + 1) rest) ∙ or_left _ (linked (args_links p.functions first (param_names f) v (l + 1) rest) (first + m.0) b) h)
+      first_links : (l : ℕ) (a : TArg) (rest : TArgs)
+          → ((m : Through) → (b : ℕ) → linked (args_links p.functions first (param_names f) v l (more_args a rest)) (first + m.0) b ≡ true → param_assigned p.functions b ≡ false)
+          → (m : Through) → (b : ℕ) → linked (arg_links p.functions first (param_names f) v l a) (first + m.0) b ≡ true → param_assigned p.functions b ≡ false
+      first_links l a rest links m b h = links m b
+          (any_append (is_link (first + m.0) b) (arg_links p.functions first (param_names f) v l a) (args_links p.functions first (param_names f) v (l + 1) rest)
+          ∙ or_left _ (linked (args_links p.functions first (param_names f) v (l + 1) rest) (first + m.0) b) h)
 
-      rest_links : (l : ℕ) (a : TArg) (rest : TArgs) → ((m : Through) → (b : ℕ) → linked (args_links p.functions first (param_names f) v l (more_args a rest)) (first + m.0) b ≡ true → param_assigned p.functions b ≡ false) → (m : Through) → (b : ℕ) → linked (args_links p.functions first (param_names f) v (l + 1) rest) (first + m.0) b ≡ true → param_assigned p.functions b ≡ false
-      rest_links l a rest links m b h = links m b (any_append (is_link (first + m.0) b) (arg_links p.functions first (param_names f) v l a) (args_links p.functions first (param_names f) v (l + 1) rest) ∙ or_right (linked (arg_links p.functions first (param_names f) v l a) (first + m.0) b) _ h)
+      rest_links : (l : ℕ) (a : TArg) (rest : TArgs)
+          → ((m : Through) → (b : ℕ) → linked (args_links p.functions first (param_names f) v l (more_args a rest)) (first + m.0) b ≡ true → param_assigned p.functions b ≡ false)
+          → (m : Through) → (b : ℕ) → linked (args_links p.functions first (param_names f) v (l + 1) rest) (first + m.0) b ≡ true → param_assigned p.functions b ≡ false
+      rest_links l a rest links m b h = links m b
+          (any_append (is_link (first + m.0) b) (arg_links p.functions first (param_names f) v l a) (args_links p.functions first (param_names f) v (l + 1) rest)
+          ∙ or_right (linked (arg_links p.functions first (param_names f) v l a) (first + m.0) b) _ h)
 
     -- what is known of a statement
     record Known (k : TKind) : Type 0 where
@@ -202,7 +214,9 @@ module _ (p : TProgram) (i : ℕ) (x : Text) (named : slice_get p.names.nvs i �
       scope = here.scope
 
       module _ (v : ℕ) where
-        arg_spared : (l : ℕ) (q : Param) (a : TArg) → arg_meets p scope q a ≡ true → arg_lends p scope a ≡ true → arg_assigns p.functions x v l a ≡ false → ((m : Through) → (b : ℕ) → linked (arg_links p.functions first (param_names f) v l a) (first + m.0) b ≡ true → param_assigned p.functions b ≡ false) → takes_mutable p.functions v l ≡ is_mutable q.passing → ArgSpared p i x passed vs v l a
+        arg_spared : (l : ℕ) (q : Param) (a : TArg) → arg_meets p scope q a ≡ true → arg_lends p scope a ≡ true → arg_assigns p.functions x v l a ≡ false
+            → ((m : Through) → (b : ℕ) → linked (arg_links p.functions first (param_names f) v l a) (first + m.0) b ≡ true → param_assigned p.functions b ≡ false)
+            → takes_mutable p.functions v l ≡ is_mutable q.passing → ArgSpared p i x passed vs v l a
         arg_spared l q (value e) meets lends assigns links t y h n takes =
             let m : is_mutable q.passing ≡ true = sym t ∙ takes in
             let alone_e = alone_is e y h in
@@ -214,7 +228,8 @@ module _ (p : TProgram) (i : ℕ) (x : Text) (named : slice_get p.names.nvs i �
             by origin (Names.given j some lent) =
                 let q' = param_passes p f is_mutable_param scope vs same y origin j some in
                 let m = through j q'.param lent q'.stands (mutable_both q'.param.passing q'.passes) in
-                let own : own_param first (param_names f) (alone e) ≡ Some (first + j) = ap (λ a. own_param first (param_names f) (alone a)) (alone_is e y h) ∙ ap (λ o. option_map (λ k. first + k) o) q'.placed in
+                let own : own_param first (param_names f) (alone e) ≡ Some (first + j) = ap (λ a. own_param first (param_names f) (alone a)) (alone_is e y h)
+                ∙ ap (λ o. option_map (λ k. first + k) o) q'.placed in
                 let to : mutable_param p.functions v l ≡ Some (first_param p.functions v + l) = ap (λ b. cond b (Some (first_param p.functions v + l)) None) takes in
                 links m (first_param p.functions v + l) ((λ k. linked (link_of (own k) (to k)) (first + j) (first_param p.functions v + l)) ∙ linked_is (first + j) (first_param p.functions v + l))
         arg_spared l q (shared y) meets lends assigns links t z h n takes = absurd (shared_never p scope q y (sym t ∙ takes) meets)
@@ -234,40 +249,52 @@ module _ (p : TProgram) (i : ℕ) (x : Text) (named : slice_get p.names.nvs i �
                 let q' = param_passes p f is_writable scope vs same y lends j (ap (find_variable vs) same_name ∙ some) in
                 absurd (true≢false (sym q'.passes))
 
-        args_spared : (l : ℕ) (qs : List Param) (args : TArgs) → args_meet p scope qs args ≡ true → list_all (arg_lends p scope) (args_list args) ≡ true → args_assign p.functions x v l args ≡ false → ((m : Through) → (b : ℕ) → linked (args_links p.functions first (param_names f) v l args) (first + m.0) b ≡ true → param_assigned p.functions b ≡ false) → ((k : ℕ) → takes_mutable p.functions v (l + k) ≡ get_or (map (λ q. is_mutable q.passing) qs) k false) → ArgsSpared p i x passed vs v l args
+        args_spared : (l : ℕ) (qs : List Param) (args : TArgs) → args_meet p scope qs args ≡ true → list_all (arg_lends p scope) (args_list args) ≡ true
+            → args_assign p.functions x v l args ≡ false
+            → ((m : Through) → (b : ℕ) → linked (args_links p.functions first (param_names f) v l args) (first + m.0) b ≡ true → param_assigned p.functions b ≡ false)
+            → ((k : ℕ) → takes_mutable p.functions v (l + k) ≡ get_or (map (λ q. is_mutable q.passing) qs) k false) → ArgsSpared p i x passed vs v l args
         args_spared l qs no_args meets lends assigns links takes = tt
         args_spared l [] (more_args a rest) meets lends assigns links takes =
             let z : l + 0 ≡ l = omega arith in
             let none : takes_mutable p.functions v l ≡ false = sym (ap (takes_mutable p.functions v) z) ∙ takes 0 in (
               λ y h n t. absurd (true≢false (sym t ∙ none)),
-              args_spared (l + 1) [] rest (no_more p scope rest) (second_holds (arg_lends p scope a) _ lends) (second_fails (arg_assigns p.functions x v l a) _ assigns) (rest_links v l a rest links) (λ k. let e : l + 1 + k ≡ l + suc k = omega arith in ap (takes_mutable p.functions v) e ∙ takes (suc k)),
+              args_spared (l + 1) [] rest (no_more p scope rest) (second_holds (arg_lends p scope a) _ lends) (second_fails (arg_assigns p.functions x v l a) _ assigns)
+                  (rest_links v l a rest links) (λ k. let e : l + 1 + k ≡ l + suc k = omega arith in ap (takes_mutable p.functions v) e ∙ takes (suc k)),
             )
         args_spared l (q ∷ qs) (more_args a rest) meets lends assigns links takes =
             let z : l + 0 ≡ l = omega arith in
             let here : takes_mutable p.functions v l ≡ is_mutable q.passing = sym (ap (takes_mutable p.functions v) z) ∙ takes 0 in (
-              arg_spared l q a (first_holds (arg_meets p scope q a) (args_meet p scope qs rest) meets) (first_holds (arg_lends p scope a) _ lends) (first_fails (arg_assigns p.functions x v l a) _ assigns) (first_links v l a rest links) here,
-              args_spared (l + 1) qs rest (second_holds (arg_meets p scope q a) (args_meet p scope qs rest) meets) (second_holds (arg_lends p scope a) _ lends) (second_fails (arg_assigns p.functions x v l a) _ assigns) (rest_links v l a rest links) (λ k. let e : l + 1 + k ≡ l + suc k = omega arith in ap (takes_mutable p.functions v) e ∙ takes (suc k)),
+              arg_spared l q a (first_holds (arg_meets p scope q a) (args_meet p scope qs rest) meets) (first_holds (arg_lends p scope a) _ lends)
+                  (first_fails (arg_assigns p.functions x v l a) _ assigns) (first_links v l a rest links) here,
+              args_spared (l + 1) qs rest (second_holds (arg_meets p scope q a) (args_meet p scope qs rest) meets) (second_holds (arg_lends p scope a) _ lends)
+                  (second_fails (arg_assigns p.functions x v l a) _ assigns) (rest_links v l a rest links) (λ k. let e : l + 1 + k ≡ l + suc k = omega arith in
+                  ap (takes_mutable p.functions v) e ∙ takes (suc k)),
             )
 
       call_spared : (c : TCall) → CallFine p here c → call_assigns p.functions x c ≡ false → Named c → Links c → CallSpared p i x passed vs c
       call_spared (call g args) fine assigns names links = λ v at.
           let found : function_named p g ≡ slice_get p.functions v = ap (option_and_then (λ k. slice_get p.functions k)) at in
           let qs = params_of (slice_get p.functions v) in
-          let meet : args_meet p scope qs args ≡ true = subst (λ o. args_meet p scope (params_of o) args ≡ true) found (second_holds (length (params_of (function_named p g)) == length (call_args (call g args))) (args_meet p scope (params_of (function_named p g)) args) fine.meets) in
+          let meet : args_meet p scope qs args ≡ true =
+          subst (λ o. args_meet p scope (params_of o) args ≡ true) found
+          (second_holds (length (params_of (function_named p g)) == length (call_args (call g args))) (args_meet p scope (params_of (function_named p g)) args) fine.meets) in
           let own : args_assign p.functions x v 0 args ≡ false = sym (ap (callee_assigns p.functions x args) at) ∙ assigns in
           let passes : (m : Through) → (b : ℕ) → linked (args_links p.functions first (param_names f) v 0 args) (first + m.0) b ≡ true → param_assigned p.functions b ≡ false =
           λ m b l. links m b (ap (λ o. linked (to_links p.functions first (param_names f) args o) (first + m.0) b) at ∙ l) in
           (names v at, args_spared v 0 qs args meet fine.lends own passes (λ k. let z : 0 + k ≡ k = omega arith in ap (takes_mutable p.functions v) z ∙ takes_at p.functions v k))
 
       -- the call that is a whole right side, or a whole statement
-      whole_spared : (c : TCall) → EachCall (CallFine p here) (call_calls c) → list_any (call_assigns p.functions x) (call_calls c) ≡ false → EachCall Named (call_calls c) → EachCall Links (call_calls c) → CallSpared p i x passed vs c
+      whole_spared : (c : TCall) → EachCall (CallFine p here) (call_calls c) → list_any (call_assigns p.functions x) (call_calls c) ≡ false → EachCall Named (call_calls c)
+          → EachCall Links (call_calls c) → CallSpared p i x passed vs c
       whole_spared (call g args) fine assigns names links =
           let c = call g args in
           let none = second_fails (list_any (call_assigns p.functions x) (args_calls args)) _ (sym (any_append (call_assigns p.functions x) (args_calls args) (c ∷ [])) ∙ assigns) in
-          call_spared c (calls_back (CallFine p here) (args_calls args) (c ∷ []) fine).0 (first_fails (call_assigns p.functions x c) false none) (calls_back Named (args_calls args) (c ∷ []) names).0 (calls_back Links (args_calls args) (c ∷ []) links).0
+          call_spared c (calls_back (CallFine p here) (args_calls args) (c ∷ []) fine).0 (first_fails (call_assigns p.functions x c) false none)
+          (calls_back Named (args_calls args) (c ∷ []) names).0 (calls_back Links (args_calls args) (c ∷ []) links).0
 
       -- the right side of a statement
-      right_spared : (r : TRight) → EachCall (CallFine p here) (right_calls r) → list_any (call_assigns p.functions x) (right_calls r) ≡ false → EachCall Named (right_calls r) → EachCall Links (right_calls r) → RightSpared p i x passed vs r
+      right_spared : (r : TRight) → EachCall (CallFine p here) (right_calls r) → list_any (call_assigns p.functions x) (right_calls r) ≡ false → EachCall Named (right_calls r)
+          → EachCall Links (right_calls r) → RightSpared p i x passed vs r
       right_spared (right_value e) fine assigns names links = tt
       right_spared (right_sense s) fine assigns names links = tt
       right_spared (right_call c) fine assigns names links = whole_spared c fine assigns names links
@@ -275,7 +302,8 @@ module _ (p : TProgram) (i : ℕ) (x : Text) (named : slice_get p.names.nvs i �
       -- ---- statements
 
       -- what is written through is no parameter for which the variable was passed
-      unthrough : (test : Origin → Bool) → ((q : Passing) → test (origins.Param q) ≡ true → is_mutable q ≡ true) → (y : Text) → origin_is test (variable_of p scope y) ≡ true → ((m : Through) → own_param first (param_names f) (Some y) ≡ Some (first + m.0) → ⊥) → (j : ℕ) → find_variable vs y ≡ Some (variables.Param j) → passed j ≡ Global i → ⊥
+      unthrough : (test : Origin → Bool) → ((q : Passing) → test (origins.Param q) ≡ true → is_mutable q ≡ true) → (y : Text) → origin_is test (variable_of p scope y) ≡ true
+          → ((m : Through) → own_param first (param_names f) (Some y) ≡ Some (first + m.0) → ⊥) → (j : ℕ) → find_variable vs y ≡ Some (variables.Param j) → passed j ≡ Global i → ⊥
       unthrough test only y origin none j some lent =
           let q = param_passes p f test scope vs same y origin j some in
           none (through j q.param lent q.stands (only q.param.passing q.passes)) (ap (λ o. option_map (λ k. first + k) o) q.placed)
@@ -285,11 +313,13 @@ module _ (p : TProgram) (i : ℕ) (x : Text) (named : slice_get p.names.nvs i �
       assign_free y origin other (Names.own none is) = true≢false (sym (own_name y is) ∙ other)
       assign_free y origin other (Names.given j some lent) = true≢false (sym (param_passes p f is_writable scope vs same y origin j some).passes)
 
-      index_free : (y : Text) → origin_is is_writable_array (variable_of p scope y) ≡ true → bytes_eq x y ≡ false → ((m : Through) → own_param first (param_names f) (Some y) ≡ Some (first + m.0) → ⊥) → Names p i passed vs y → ⊥
+      index_free : (y : Text) → origin_is is_writable_array (variable_of p scope y) ≡ true → bytes_eq x y ≡ false
+          → ((m : Through) → own_param first (param_names f) (Some y) ≡ Some (first + m.0) → ⊥) → Names p i passed vs y → ⊥
       index_free y origin other none (Names.own missing is) = true≢false (sym (own_name y is) ∙ other)
       index_free y origin other none (Names.given j some lent) = unthrough is_writable_array array_param y origin none j some lent
 
-      deref_free : (y : Text) → origin_is is_mutable_param (variable_of p scope y) ≡ true → ((m : Through) → own_param first (param_names f) (Some y) ≡ Some (first + m.0) → ⊥) → Names p i passed vs y → ⊥
+      deref_free : (y : Text) → origin_is is_mutable_param (variable_of p scope y) ≡ true → ((m : Through) → own_param first (param_names f) (Some y) ≡ Some (first + m.0) → ⊥)
+          → Names p i passed vs y → ⊥
       deref_free y origin none (Names.own missing is) = true≢false (sym (own_passes p f is_mutable_param scope vs same y origin missing))
       deref_free y origin none (Names.given j some lent) = unthrough is_mutable_param mutable_both y origin none j some lent
 
@@ -301,7 +331,8 @@ module _ (p : TProgram) (i : ℕ) (x : Text) (named : slice_get p.names.nvs i �
           let calls = second_fails (bytes_eq x y) _ known.unassigned in
           let none = second_fails (list_any (call_assigns p.functions x) (expr_calls e)) _ (sym (any_append (call_assigns p.functions x) (expr_calls e) (right_calls r)) ∙ calls) in (
             index_free y (so _ rules.array) (first_fails (bytes_eq x y) _ known.unassigned) known.unwritten,
-            right_spared r (calls_back (CallFine p here) (expr_calls e) (right_calls r) rules.calls) none (calls_back Named (expr_calls e) (right_calls r) known.names) (calls_back Links (expr_calls e) (right_calls r) known.links),
+            right_spared r (calls_back (CallFine p here) (expr_calls e) (right_calls r) rules.calls) none (calls_back Named (expr_calls e) (right_calls r) known.names)
+                (calls_back Links (expr_calls e) (right_calls r) known.links),
           )
       kind_spared (assign_deref y r) rules known =
           (deref_free y (so _ rules.pointee) known.unwritten, right_spared r rules.calls (second_fails false _ known.unassigned) known.names known.links)
@@ -309,7 +340,8 @@ module _ (p : TProgram) (i : ℕ) (x : Text) (named : slice_get p.names.nvs i �
       kind_spared k rules known = tt
 
     -- the function spares the variable in each statement
-    pub body_spared : (groups : List Group) → IsChecked p groups → reaches_assign p.functions x u ≡ false → ((j : ℕ) → passed j ≡ Global i → IsSafe p u j) → Each (Spared p i x passed) (block_placed (at_start f) f.body)
+    pub body_spared : (groups : List Group) → IsChecked p groups → reaches_assign p.functions x u ≡ false → ((j : ℕ) → passed j ≡ Global i → IsSafe p u j)
+        → Each (Spared p i x passed) (block_placed (at_start f) f.body)
     body_spared groups checked free unlent =
         let fs = p.functions in
         let xs = block_placed (at_start f) f.body in
@@ -320,8 +352,13 @@ module _ (p : TProgram) (i : ℕ) (x : Text) (named : slice_get p.names.nvs i �
         let safe : (m : Through) → param_assigned fs (first + m.0) ≡ false = λ m. unlent m.0 m.1 m.2 in
         let one = block_each (Some x) (λ k. own_assigns fs x k ≡ false) (at_start f) f.body (none_assigns fs u f stands x free (no_param [] f.params (head_unbroken p u f fine).free)) shown in
         let two = block_each None (λ k. EachCall Named (own_calls k)) (at_start f) f.body (none_called fs u f stands x free) plain in
-        let three = each_for Through (λ m a. own_param first (param_names f) (written_through a.kind) ≡ Some (first + m.0) → ⊥) xs (λ m. block_each None (λ k. own_param first (param_names f) (written_through k) ≡ Some (first + m.0) → ⊥) (at_start f) f.body (none_writes fs u f stands m.0 m.2 (safe m)) plain) in
-        let four = each_for Through (λ m a. EachCall (λ c. (b : ℕ) → linked (pass_call fs first (param_names f) c) (first + m.0) b ≡ true → param_assigned fs b ≡ false) (own_calls a.kind)) xs (λ m. block_each None (λ k. EachCall (λ c. (b : ℕ) → linked (pass_call fs first (param_names f) c) (first + m.0) b ≡ true → param_assigned fs b ≡ false) (own_calls k)) (at_start f) f.body (none_passes fs u f stands m.0 m.2 (safe m)) plain) in
+        let three = each_for Through (λ m a. own_param first (param_names f) (written_through a.kind) ≡ Some (first + m.0) → ⊥) xs
+        (λ m. block_each None (λ k. own_param first (param_names f) (written_through k) ≡ Some (first + m.0) → ⊥) (at_start f) f.body (none_writes fs u f stands m.0 m.2 (safe m)) plain) in
+        let four = each_for Through (λ m a. EachCall (λ c. (b : ℕ) → linked (pass_call fs first (param_names f) c) (first + m.0) b ≡ true → param_assigned fs b ≡ false)
+        (own_calls a.kind)) xs (λ m. block_each None
+        (λ k. EachCall (λ c. (b : ℕ) → linked (pass_call fs first (param_names f) c) (first + m.0) b ≡ true → param_assigned fs b ≡ false) (own_calls k)) (at_start f) f.body
+        (none_passes fs u f stands m.0 m.2 (safe m)) plain) in
         each_map _ (Spared p i x passed)
-        (λ a h. kind_spared h.0.here a.at.variables h.0.same a.kind h.0.rules (record { unassigned = h.1.0; names = h.1.1.0; unwritten = h.1.1.1.0; links = calls_for Through _ (own_calls a.kind) h.1.1.1.1 }))
+        (λ a h. kind_spared h.0.here a.at.variables h.0.same a.kind h.0.rules
+        (record { unassigned = h.1.0; names = h.1.1.0; unwritten = h.1.1.1.0; links = calls_for Through _ (own_calls a.kind) h.1.1.1.1 }))
         xs (each_both _ _ xs ruled (each_both _ _ xs one (each_both _ _ xs two (each_both _ _ xs three four))))

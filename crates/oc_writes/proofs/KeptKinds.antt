@@ -37,8 +37,10 @@ module _ (of : Option Text) (K : TKind → Type 0) where
   mutual
     kind_each : (at : Spot) (id : ℕ) (k : TKind) → EachKind K (kind_kinds of k) → hidden of k ≡ false → Each Shown (kind_placed at id k) → K k × Each Holds (kind_placed at id k)
     kind_each at id (if_else c a b) h own shown =
-        let first = block_each (in_branch at id) a (kinds_front K (block_kinds of a) (else_kinds of b) h.1) (each_front Shown (block_placed (in_branch at id) a) (else_placed (in_branch at id) b) shown) in
-        let second = else_each (in_branch at id) b (kinds_back K (block_kinds of a) (else_kinds of b) h.1) (each_back Shown (block_placed (in_branch at id) a) (else_placed (in_branch at id) b) shown) in
+        let first = block_each (in_branch at id) a (kinds_front K (block_kinds of a) (else_kinds of b) h.1)
+        (each_front Shown (block_placed (in_branch at id) a) (else_placed (in_branch at id) b) shown) in
+        let second = else_each (in_branch at id) b (kinds_back K (block_kinds of a) (else_kinds of b) h.1)
+        (each_back Shown (block_placed (in_branch at id) a) (else_placed (in_branch at id) b) shown) in
         (h.0, each_join Holds (block_placed (in_branch at id) a) (else_placed (in_branch at id) b) first second)
     kind_each at id (for_in y m n b) h own shown =
         (h.0, block_each (in_loop at id ((y, variables.Declared id) ∷ [])) b (subst (λ t. EachKind K (cond t [] (block_kinds of b))) own h.1) shown)
@@ -55,7 +57,9 @@ module _ (of : Option Text) (K : TKind → Type 0) where
     stmts_each : (at : Spot) (ss : TStmts) → EachKind K (stmts_kinds of ss) → Each Shown (stmts_placed at ss) → Each Holds (stmts_placed at ss)
     stmts_each at no_stmts h shown = tt
     stmts_each at (more (stmt id line k) ss) h shown =
-        let own = kind_each at id k (kinds_front K (kind_kinds of k) (cond (kind_hides of k) [] (stmts_kinds of ss)) h) shown.0 (each_front Shown (kind_placed at id k) (stmts_placed (behind at id k) ss) shown.1) in
-        let left : EachKind K (stmts_kinds of ss) = subst (λ t. EachKind K (cond t [] (stmts_kinds of ss))) (hides_less of k shown.0) (kinds_back K (kind_kinds of k) (cond (kind_hides of k) [] (stmts_kinds of ss)) h) in
+        let own = kind_each at id k (kinds_front K (kind_kinds of k) (cond (kind_hides of k) [] (stmts_kinds of ss)) h) shown.0
+        (each_front Shown (kind_placed at id k) (stmts_placed (behind at id k) ss) shown.1) in
+        let left : EachKind K (stmts_kinds of ss) =
+        subst (λ t. EachKind K (cond t [] (stmts_kinds of ss))) (hides_less of k shown.0) (kinds_back K (kind_kinds of k) (cond (kind_hides of k) [] (stmts_kinds of ss)) h) in
         let rest = stmts_each (behind at id k) ss left (each_back Shown (kind_placed at id k) (stmts_placed (behind at id k) ss) shown.1) in
         (own.0, each_join Holds (kind_placed at id k) (stmts_placed (behind at id k) ss) own.1 rest)

@@ -33,7 +33,8 @@ made_apart (Turn z) i e h = absurd (cc)
 made_apart Nowhere i e h = h
 
 -- where names are bound to what they stand for, those that are bound to a nonvolatile variable stand for it
-sees_seen : (p : TProgram) (f : TFunction) (at : Spot) (scope : Scope) (passed : ℕ → Place) (env : List Binding) (i : ℕ) → AllSame p f scope at.variables → Sees p at passed env → Seen p i passed at.variables env
+sees_seen : (p : TProgram) (f : TFunction) (at : Spot) (scope : Scope) (passed : ℕ → Place) (env : List Binding) (i : ℕ) → AllSame p f scope at.variables → Sees p at passed env
+    → Seen p i passed at.variables env
 sees_seen p f at scope passed env i same sees y e = by (find_variable at.variables y) refl (sees y) (variable_in scope y) (same y)
   where
     by_place : find_variable at.variables y ≡ None → (o : Option ℕ) → place p.names.nvs y ≡ o → IsFound passed (option_map variables.Nv o) (place_of env y) → Names p i passed at.variables y
@@ -56,7 +57,9 @@ standing (x ∷ xs) (suc i) l = standing xs i (omega (arith, l))
 
 module _ (m : TMarked) (marked : IsMarked m) where
   -- of the targets of one region
-  region_only : (r : TRegion) (at : Spot) (ss : TStmts) → StandIn m.program r at ss → (passed : ℕ → Place) (env : List Binding) → Sees m.program at passed env → (depth : ℕ) (home : ℤ → ℕ) (σ : Store) (i : ℕ) → IsNoTarget m.program (region_targets m.program r) passed i → held_at (store_after (stmts_run m.program.names m.regions (call_to m.program m.regions depth) home env ss σ)) (Global i) ≡ held_at σ (Global i)
+  region_only : (r : TRegion) (at : Spot) (ss : TStmts) → StandIn m.program r at ss → (passed : ℕ → Place) (env : List Binding) → Sees m.program at passed env
+      → (depth : ℕ) (home : ℤ → ℕ) (σ : Store) (i : ℕ) → IsNoTarget m.program (region_targets m.program r) passed i
+      → held_at (store_after (stmts_run m.program.names m.regions (call_to m.program m.regions depth) home env ss σ)) (Global i) ≡ held_at σ (Global i)
   region_only r at no_stmts stand passed env sees depth home σ i free = refl
   region_only r at (more (stmt n line k) ss) stand passed env sees depth home σ i free =
       let p = m.program in

@@ -18,7 +18,8 @@ pub found_on : (vs ws : Variables) (y : Text) → find_variable (vs ++ ws) y ≡
 found_on [] ws y = refl
 found_on (v ∷ vs) ws y = by (bytes_eq y v.0) (found_on vs ws y)
   where
-    by : (b : Bool) → find_variable (vs ++ ws) y ≡ option_or (find_variable vs y) (find_variable ws y) → cond b (Some v.1) (find_variable (vs ++ ws) y) ≡ option_or (cond b (Some v.1) (find_variable vs y)) (find_variable ws y)
+    by : (b : Bool) → find_variable (vs ++ ws) y ≡ option_or (find_variable vs y) (find_variable ws y) → cond b (Some v.1) (find_variable (vs ++ ws) y)
+        ≡ option_or (cond b (Some v.1) (find_variable vs y)) (find_variable ws y)
     by true e = refl
     by false e = e
 

@@ -10,7 +10,8 @@ use Rattle.oc_tree.specs.Names.{Text}
 use Rattle.oc_tree.specs.Tree.{TCall, TKind, TFunction}
 use Rattle.oc_tree.specs.Reach.{Links, linked, is_link, leads, reaches, reaches_some}
 use Rattle.oc_tree.specs.Calls.{place, function_names, function_place, callee, own_calls, block_kinds, body_calls, called_places, links_from, call_links, has_param, test_at}
-use Rattle.oc_tree.specs.Assigned.{param_names, first_param, param_count, takes_mutable, own_param, written_through, pass_call, function_links, pass_links_from, pass_links, function_writes, writes_from, writes_through, param_assigned, own_assigns, function_assigns, reaches_assign}
+use Rattle.oc_tree.specs.Assigned.{param_names, first_param, param_count, takes_mutable, own_param, written_through, pass_call, function_links, pass_links_from, pass_links}
+use Rattle.oc_tree.specs.Assigned.{function_writes, writes_from, writes_through, param_assigned, own_assigns, function_assigns, reaches_assign}
 use Rattle.oc_tree.proofs.ReachLaws.{or_left, or_right, or_elim, links_lead, leads_trans}
 use Rattle.oc_reach.specs.Within.{IsWithin}
 use Rattle.oc_reach.proofs.Bools.{and_both, and_first, and_second}
@@ -28,7 +29,8 @@ self_fails links n test u below h = by (test u) refl
   where
     by : (b : Bool) → test u ≡ b → b ≡ false
     by false e = refl
-    by true e = absurd (true≢false (sym (some_at n (λ v. test v && reaches links n u v) u below (and_both (test u) (reaches links n u u) e (or_left (nat_eq u u) (leads links n u u) (eq-eqb u u refl)))) ∙ h))
+    by true e = absurd (true≢false (sym (some_at n (λ v. test v && reaches links n u v) u below
+        (and_both (test u) (reaches links n u u) e (or_left (nat_eq u u) (leads links n u u) (eq-eqb u u refl)))) ∙ h))
 
 -- and what it is linked to reaches none either
 next_fails : (links : Links) (n : ℕ) (test : ℕ → Bool) (u v : ℕ) → IsWithin links n → linked links u v ≡ true → reaches_some links n test u ≡ false → reaches_some links n test v ≡ false
@@ -89,29 +91,36 @@ at_place g (y ∷ xs) (suc u) x d h = at_place g xs u x d h
 
 -- ---- the links of one function are among those of all
 
-call_row : (names : List Text) (w : ℕ) (fs : List TFunction) (u : ℕ) (f : TFunction) (a b : ℕ) → slice_get fs u ≡ Some f → linked (map (λ v. (w + u, v)) (called_places names (body_calls f))) a b ≡ true → linked (links_from names w fs) a b ≡ true
+call_row : (names : List Text) (w : ℕ) (fs : List TFunction) (u : ℕ) (f : TFunction) (a b : ℕ) → slice_get fs u ≡ Some f
+    → linked (map (λ v. (w + u, v)) (called_places names (body_calls f))) a b ≡ true → linked (links_from names w fs) a b ≡ true
 call_row names w [] u f a b h l = absurd (none-some f h)
 call_row names w (e ∷ fs) zero f a b h l =
     let n : w + 0 ≡ w = omega arith in
-    let own : linked (map (λ v. (w, v)) (called_places names (body_calls e))) a b ≡ true = subst (λ z. linked (map (λ v. (z, v)) (called_places names (body_calls e))) a b ≡ true) n (subst (λ g. linked (map (λ v. (w + 0, v)) (called_places names (body_calls g))) a b ≡ true) (sym (same_Some e f h)) l) in
+    let own : linked (map (λ v. (w, v)) (called_places names (body_calls e))) a b ≡ true =
+    subst (λ z. linked (map (λ v. (z, v)) (called_places names (body_calls e))) a b ≡ true) n
+    (subst (λ g. linked (map (λ v. (w + 0, v)) (called_places names (body_calls g))) a b ≡ true) (sym (same_Some e f h)) l) in
     any_append (is_link a b) (map (λ v. (w, v)) (called_places names (body_calls e))) (links_from names (w + 1) fs) ∙ or_left _ (linked (links_from names (w + 1) fs) a b) own
 call_row names w (e ∷ fs) (suc u) f a b h l =
     let n : w + suc u ≡ w + 1 + u = omega arith in
     let rest = call_row names (w + 1) fs u f a b h (subst (λ z. linked (map (λ v. (z, v)) (called_places names (body_calls f))) a b ≡ true) n l) in
-    any_append (is_link a b) (map (λ v. (w, v)) (called_places names (body_calls e))) (links_from names (w + 1) fs) ∙ or_right (linked (map (λ v. (w, v)) (called_places names (body_calls e))) a b) _ rest
+    any_append (is_link a b) (map (λ v. (w, v)) (called_places names (body_calls e))) (links_from names (w + 1) fs)
+    ∙ or_right (linked (map (λ v. (w, v)) (called_places names (body_calls e))) a b) _ rest
 
-pass_row : (all : List TFunction) (w : ℕ) (fs : List TFunction) (u : ℕ) (f : TFunction) (a b : ℕ) → slice_get fs u ≡ Some f → linked (function_links all (first_param all (w + u)) f) a b ≡ true → linked (pass_links_from all w fs) a b ≡ true
+pass_row : (all : List TFunction) (w : ℕ) (fs : List TFunction) (u : ℕ) (f : TFunction) (a b : ℕ) → slice_get fs u ≡ Some f
+    → linked (function_links all (first_param all (w + u)) f) a b ≡ true → linked (pass_links_from all w fs) a b ≡ true
 pass_row all w [] u f a b h l = absurd (none-some f h)
 pass_row all w (e ∷ fs) zero f a b h l =
     let n : w + 0 ≡ w = omega arith in
-    let own : linked (function_links all (first_param all w) e) a b ≡ true = subst (λ z. linked (function_links all (first_param all z) e) a b ≡ true) n (subst (λ g. linked (function_links all (first_param all (w + 0)) g) a b ≡ true) (sym (same_Some e f h)) l) in
+    let own : linked (function_links all (first_param all w) e) a b ≡ true =
+    subst (λ z. linked (function_links all (first_param all z) e) a b ≡ true) n (subst (λ g. linked (function_links all (first_param all (w + 0)) g) a b ≡ true) (sym (same_Some e f h)) l) in
     any_append (is_link a b) (function_links all (first_param all w) e) (pass_links_from all (w + 1) fs) ∙ or_left _ (linked (pass_links_from all (w + 1) fs) a b) own
 pass_row all w (e ∷ fs) (suc u) f a b h l =
     let n : w + suc u ≡ w + 1 + u = omega arith in
     let rest = pass_row all (w + 1) fs u f a b h (subst (λ z. linked (function_links all (first_param all z) f) a b ≡ true) n l) in
     any_append (is_link a b) (function_links all (first_param all w) e) (pass_links_from all (w + 1) fs) ∙ or_right (linked (function_links all (first_param all w) e) a b) _ rest
 
-write_row : (all : List TFunction) (test : ℕ → Bool) (w : ℕ) (fs : List TFunction) (u : ℕ) (f : TFunction) → slice_get fs u ≡ Some f → list_any test (writes_from all w fs) ≡ false → list_any test (function_writes (first_param all (w + u)) f) ≡ false
+write_row : (all : List TFunction) (test : ℕ → Bool) (w : ℕ) (fs : List TFunction) (u : ℕ) (f : TFunction) → slice_get fs u ≡ Some f → list_any test (writes_from all w fs) ≡ false
+    → list_any test (function_writes (first_param all (w + u)) f) ≡ false
 write_row all test w [] u f h l = absurd (none-some f h)
 write_row all test w (e ∷ fs) zero f h l =
     let n : w ≡ w + 0 = omega arith in
@@ -126,19 +135,25 @@ write_row all test w (e ∷ fs) (suc u) f h l =
 -- ---- calls one by one
 
 -- what holds of all that a row of calls names holds of what each call names
-each_called : (names : List Text) (u : ℕ) (Q : ℕ → Type 0) (cs : List TCall) → ((v : ℕ) → linked (map (λ v. (u, v)) (called_places names cs)) u v ≡ true → Q v) → EachCall (λ c. (v : ℕ) → place names (callee c) ≡ Some v → Q v) cs
+each_called : (names : List Text) (u : ℕ) (Q : ℕ → Type 0) (cs : List TCall) → ((v : ℕ) → linked (map (λ v. (u, v)) (called_places names cs)) u v ≡ true → Q v)
+    → EachCall (λ c. (v : ℕ) → place names (callee c) ≡ Some v → Q v) cs
 each_called names u Q [] h = tt
 each_called names u Q (c ∷ cs) h =
     let here = map (λ v. (u, v)) (option_to_list (place names (callee c))) in
     let rest = map (λ v. (u, v)) (called_places names cs) in
-    let parts : (v : ℕ) → linked here u v || linked rest u v ≡ true → Q v = λ v l. h v (ap (λ ls. linked ls u v) (map-append (λ v. (u, v)) (option_to_list (place names (callee c))) (called_places names cs)) ∙ any_append (is_link u v) here rest ∙ l) in
-    (λ v e. parts v (or_left (linked here u v) (linked rest u v) (ap (λ o. linked (map (λ w. (u, w)) (option_to_list o)) u v) e ∙ own v)), each_called names u Q cs (λ v l. parts v (or_right (linked here u v) (linked rest u v) l)))
+    let parts : (v : ℕ) → linked here u v || linked rest u v ≡ true → Q v =
+    λ v l. h v (ap (λ ls. linked ls u v) (map-append (λ v. (u, v)) (option_to_list (place names (callee c))) (called_places names cs)) ∙ any_append (is_link u v) here rest ∙ l) in (
+      λ v e. parts v (or_left (linked here u v) (linked rest u v) (ap (λ o. linked (map (λ w. (u, w)) (option_to_list o)) u v) e ∙ own v)),
+      each_called names u Q cs
+          (λ v l. parts v (or_right (linked here u v) (linked rest u v) l)),
+    )
   where
     own : (v : ℕ) → linked (map (λ w. (u, w)) (option_to_list (Some v))) u v ≡ true
     own v = or_left (nat_eq u u && nat_eq v v) false (and_both (nat_eq u u) (nat_eq v v) (eq-eqb u u refl) (eq-eqb v v refl))
 
 -- and of what each call passes on
-each_passing : (all : List TFunction) (first : ℕ) (params : List Text) (n : ℕ) (Q : ℕ → Type 0) (cs : List TCall) → ((b : ℕ) → linked (flat_map (pass_call all first params) cs) n b ≡ true → Q b) → EachCall (λ c. (b : ℕ) → linked (pass_call all first params c) n b ≡ true → Q b) cs
+each_passing : (all : List TFunction) (first : ℕ) (params : List Text) (n : ℕ) (Q : ℕ → Type 0) (cs : List TCall)
+    → ((b : ℕ) → linked (flat_map (pass_call all first params) cs) n b ≡ true → Q b) → EachCall (λ c. (b : ℕ) → linked (pass_call all first params c) n b ≡ true → Q b) cs
 each_passing all first params n Q [] h = tt
 each_passing all first params n Q (c ∷ cs) h =
     let here = pass_call all first params c in
@@ -156,7 +171,8 @@ module _ (fs : List TFunction) (u : ℕ) (f : TFunction) (stands : slice_get fs 
     -- none of its statements assigns the variable, where no parameter hides it
     pub none_assigns : has_param x f.params ≡ false → EachKind (λ k. own_assigns fs x k ≡ false) (block_kinds (Some x) f.body)
     none_assigns shown =
-        let own : function_assigns fs x f ≡ false = sym (at_place (function_assigns fs x) fs u f false stands) ∙ self_fails (call_links fs) (length fs) (test_at (function_assigns fs x) fs) u below free in
+        let own : function_assigns fs x f ≡ false = sym (at_place (function_assigns fs x) fs u f false stands)
+        ∙ self_fails (call_links fs) (length fs) (test_at (function_assigns fs x) fs) u below free in
         none_pass (own_assigns fs x) (block_kinds (Some x) f.body) (by (has_param x f.params) shown own)
       where
         by : (b : Bool) → b ≡ false → not b && list_any (own_assigns fs x) (block_kinds (Some x) f.body) ≡ false → list_any (own_assigns fs x) (block_kinds (Some x) f.body) ≡ false
@@ -185,20 +201,25 @@ module _ (fs : List TFunction) (u : ℕ) (f : TFunction) (stands : slice_get fs 
         let n = first_param fs u + j in
         let z : 0 + u ≡ u = omega arith in
         let all : list_any (λ y. nat_eq y n) (writes_from fs 0 fs) ≡ false = self_fails (pass_links fs) (param_count fs) (writes_through fs) n param_below free in
-        let mine : list_any (λ y. nat_eq y n) (function_writes (first_param fs u) f) ≡ false = subst (λ w. list_any (λ y. nat_eq y n) (function_writes (first_param fs w) f) ≡ false) z (write_row fs (λ y. nat_eq y n) 0 fs u f stands all) in
+        let mine : list_any (λ y. nat_eq y n) (function_writes (first_param fs u) f) ≡ false =
+        subst (λ w. list_any (λ y. nat_eq y n) (function_writes (first_param fs w) f) ≡ false) z (write_row fs (λ y. nat_eq y n) 0 fs u f stands all) in
         on (block_kinds None f.body) (none_of_each (λ y. nat_eq y n) (λ k. option_to_list (own_param (first_param fs u) (param_names f) (written_through k))) (block_kinds None f.body) mine)
       where
-        one : (k : TKind) → list_any (λ y. nat_eq y (first_param fs u + j)) (option_to_list (own_param (first_param fs u) (param_names f) (written_through k))) ≡ false → own_param (first_param fs u) (param_names f) (written_through k) ≡ Some (first_param fs u + j) → ⊥
+        one : (k : TKind) → list_any (λ y. nat_eq y (first_param fs u + j)) (option_to_list (own_param (first_param fs u) (param_names f) (written_through k))) ≡ false
+            → own_param (first_param fs u) (param_names f) (written_through k) ≡ Some (first_param fs u + j) → ⊥
         one k h e =
-            let s : list_any (λ y. nat_eq y (first_param fs u + j)) (option_to_list (Some (first_param fs u + j))) ≡ false = ap (λ o. list_any (λ y. nat_eq y (first_param fs u + j)) (option_to_list o)) (sym e) ∙ h in
+            let s : list_any (λ y. nat_eq y (first_param fs u + j)) (option_to_list (Some (first_param fs u + j))) ≡ false =
+            ap (λ o. list_any (λ y. nat_eq y (first_param fs u + j)) (option_to_list o)) (sym e) ∙ h in
             true≢false (sym (or_left (nat_eq (first_param fs u + j) (first_param fs u + j)) false (eq-eqb (first_param fs u + j) (first_param fs u + j) refl)) ∙ s)
 
-        on : (ks : List TKind) → EachKind (λ k. list_any (λ y. nat_eq y (first_param fs u + j)) (option_to_list (own_param (first_param fs u) (param_names f) (written_through k))) ≡ false) ks → EachKind (λ k. own_param (first_param fs u) (param_names f) (written_through k) ≡ Some (first_param fs u + j) → ⊥) ks
+        on : (ks : List TKind) → EachKind (λ k. list_any (λ y. nat_eq y (first_param fs u + j)) (option_to_list (own_param (first_param fs u) (param_names f) (written_through k)))
+            ≡ false) ks → EachKind (λ k. own_param (first_param fs u) (param_names f) (written_through k) ≡ Some (first_param fs u + j) → ⊥) ks
         on [] h = tt
         on (k ∷ ks) h = (one k h.0, on ks h.1)
 
     -- and none passes it on to a parameter that is assigned through
-    pub none_passes : EachKind (λ k. EachCall (λ c. (b : ℕ) → linked (pass_call fs (first_param fs u) (param_names f) c) (first_param fs u + j) b ≡ true → param_assigned fs b ≡ false) (own_calls k)) (block_kinds None f.body)
+    pub none_passes : EachKind (λ k. EachCall
+        (λ c. (b : ℕ) → linked (pass_call fs (first_param fs u) (param_names f) c) (first_param fs u + j) b ≡ true → param_assigned fs b ≡ false) (own_calls k)) (block_kinds None f.body)
     none_passes =
         let n = first_param fs u + j in
         let z : 0 + u ≡ u = omega arith in

@@ -8,7 +8,9 @@ use Rattle.std.proofs.lemmas.Option.{none-some, same_Some}
 use Rattle.std.proofs.lemmas.List.Elements.{All-head, All-tail}
 use Rattle.std.proofs.lemmas.List.Sums.{sum_by-cons}
 use Rattle.oc_tree.specs.Names.{Text}
-use Rattle.oc_tree.specs.Tree.{TArg, value, shared, mutable, TCall, call, TArgs, no_args, more_args, TRight, right_value, right_sense, right_call, TKind, let_to, assign, assign_index, assign_deref, if_else, for_in, while_do, call_only, TElse, no_else, else_do, stmt, TBlock, block, TStmts, no_stmts, more, TFunction, TProgram}
+use Rattle.oc_tree.specs.Tree.{TArg, value, shared, mutable, TCall, call, TArgs, no_args, more_args, TRight, right_value, right_sense, right_call, TKind, let_to, assign}
+use Rattle.oc_tree.specs.Tree.{assign_index, assign_deref, if_else, for_in, while_do, call_only, TElse, no_else, else_do, stmt, TBlock, block, TStmts, no_stmts, more, TFunction}
+use Rattle.oc_tree.specs.Tree.{TProgram}
 use Rattle.oc_tree.specs.declared.said.Target.{Target}
 use Rattle.oc_tree.specs.declared.said.Target.TheVariants as targets
 use Rattle.oc_tree.specs.declared.tree.NvDecl.{NvDecl}
@@ -26,7 +28,8 @@ use Rattle.oc_tree.specs.Rules.{params_of, arg_meets, args_meet, call_args}
 use Rattle.oc_tree.proofs.ReachLaws.{or_left, or_right}
 use Rattle.oc_reach.proofs.LinkLaws.{any_append}
 use Rattle.oc_meaning.specs.Store.{Place, Global}
-use Rattle.oc_effects.specs.Effects.{TEffect, right_call_of, call_of, lent_name, variable_at, target_of, passed as passes, all_passed, params_at, called_at, called_by, effect_of, function_effects, effects_at}
+use Rattle.oc_effects.specs.Effects.{TEffect, right_call_of, call_of, lent_name, variable_at, target_of, passed as passes, all_passed, params_at, called_at, called_by, effect_of}
+use Rattle.oc_effects.specs.Effects.{function_effects, effects_at}
 use Rattle.oc_flow.specs.Variables.{same_variable, is_variable_of}
 use Rattle.oc_desugar.proofs.FineCalls.{CallFine, Each as EachCall, each_back as calls_back}
 use Rattle.oc_desugar.proofs.KeptExpressions.{first_holds, second_holds}
@@ -43,11 +46,14 @@ use Rattle.oc_writes.proofs.KeptFunctions.{alone_is, shared_never, no_more, take
 
 -- ---- what passes no filter
 
-none_filtered : (p : TProgram) (keeps test : TEffect → Bool) (xs : List Placed) → list_any test (filter keeps (map (effect_of p) xs)) ≡ false → Each (λ a. keeps (effect_of p a) ≡ true → test (effect_of p a) ≡ false) xs
+none_filtered : (p : TProgram) (keeps test : TEffect → Bool) (xs : List Placed) → list_any test (filter keeps (map (effect_of p) xs)) ≡ false
+    → Each (λ a. keeps (effect_of p a) ≡ true → test (effect_of p a) ≡ false) xs
 none_filtered p keeps test [] h = tt
 none_filtered p keeps test (a ∷ xs) h = by (keeps (effect_of p a)) refl h (none_filtered p keeps test xs)
   where
-    by : (b : Bool) → keeps (effect_of p a) ≡ b → list_any test (cond b (effect_of p a ∷ filter keeps (map (effect_of p) xs)) (filter keeps (map (effect_of p) xs))) ≡ false → (list_any test (filter keeps (map (effect_of p) xs)) ≡ false → Each (λ a. keeps (effect_of p a) ≡ true → test (effect_of p a) ≡ false) xs) → Each (λ a. keeps (effect_of p a) ≡ true → test (effect_of p a) ≡ false) (a ∷ xs)
+    by : (b : Bool) → keeps (effect_of p a) ≡ b → list_any test (cond b (effect_of p a ∷ filter keeps (map (effect_of p) xs)) (filter keeps (map (effect_of p) xs))) ≡ false
+        → (list_any test (filter keeps (map (effect_of p) xs)) ≡ false → Each (λ a. keeps (effect_of p a) ≡ true → test (effect_of p a) ≡ false) xs)
+        → Each (λ a. keeps (effect_of p a) ≡ true → test (effect_of p a) ≡ false) (a ∷ xs)
     by true is h rest = ((λ k. first_fails (test (effect_of p a)) _ h), rest (second_fails (test (effect_of p a)) _ h))
     by false is h rest = ((λ k. absurd (true≢false (sym k ∙ is))), rest h)
 
@@ -60,21 +66,24 @@ one_target false t test e h = refl
 
 module _ (p : TProgram) (r : TRegion) where
   -- a variable whose first word is that of no target isn't assigned
-  nv_unassigned : (n base : ℕ) (xs : List Text) (ds : List NvDecl) (k : ℕ) (x : Text) → length ds ≡ length xs → slice_get xs k ≡ Some x → list_any (is_stored (base + sum_by (λ d. d.words) (take k ds))) (nv_targets p r n base xs ds) ≡ false → assigns_nv p r (n + k) x ≡ false
+  nv_unassigned : (n base : ℕ) (xs : List Text) (ds : List NvDecl) (k : ℕ) (x : Text) → length ds ≡ length xs → slice_get xs k ≡ Some x
+      → list_any (is_stored (base + sum_by (λ d. d.words) (take k ds))) (nv_targets p r n base xs ds) ≡ false → assigns_nv p r (n + k) x ≡ false
   nv_unassigned n base [] ds k x long at h = absurd (none-some x at)
   nv_unassigned n base (y ∷ xs) [] k x long at h = absurd (cc)
   nv_unassigned n base (y ∷ xs) (d ∷ ds) zero x long at h =
       let z : n + 0 ≡ n = omega arith in
       let b : base ≡ base + 0 = omega arith in
       let parts = sym (any_append (is_stored (base + 0)) (cond (assigns_nv p r n y) (targets.Nv base d.words ∷ []) []) (nv_targets p r (n + 1) (base + d.words) xs ds)) ∙ h in
-      let own = one_target (assigns_nv p r n y) (targets.Nv base d.words) (is_stored (base + 0)) (eq-eqb base (base + 0) b) (first_fails _ (list_any (is_stored (base + 0)) (nv_targets p r (n + 1) (base + d.words) xs ds)) parts) in
+      let own = one_target (assigns_nv p r n y) (targets.Nv base d.words) (is_stored (base + 0)) (eq-eqb base (base + 0) b)
+      (first_fails _ (list_any (is_stored (base + 0)) (nv_targets p r (n + 1) (base + d.words) xs ds)) parts) in
       let e : x ≡ y = sym (same_Some y x at) in
       (λ j. assigns_nv p r (z j) (e j)) ∙ own
   nv_unassigned n base (y ∷ xs) (d ∷ ds) (suc k) x long at h =
       let m : n + 1 + k ≡ n + suc k = omega arith in
       let l : length ds ≡ length xs = omega (arith, long) in
       let b : base + sum_by (λ d. d.words) (d ∷ take k ds) ≡ base + d.words + sum_by (λ d. d.words) (take k ds) = omega (arith, sum_by-cons (λ d. d.words) d (take k ds)) in
-      let parts = sym (any_append (is_stored (base + sum_by (λ d. d.words) (d ∷ take k ds))) (cond (assigns_nv p r n y) (targets.Nv base d.words ∷ []) []) (nv_targets p r (n + 1) (base + d.words) xs ds)) ∙ h in
+      let parts = sym (any_append (is_stored (base + sum_by (λ d. d.words) (d ∷ take k ds))) (cond (assigns_nv p r n y) (targets.Nv base d.words ∷ []) [])
+      (nv_targets p r (n + 1) (base + d.words) xs ds)) ∙ h in
       let rest = second_fails (list_any (is_stored (base + sum_by (λ d. d.words) (d ∷ take k ds))) (cond (assigns_nv p r n y) (targets.Nv base d.words ∷ []) [])) _ parts in
       ap (λ c. assigns_nv p r c x) (sym m) ∙ nv_unassigned (n + 1) (base + d.words) xs ds k x l at (ap (λ c. list_any (is_stored c) (nv_targets p r (n + 1) (base + d.words) xs ds)) (sym b) ∙ rest)
 
@@ -84,7 +93,8 @@ module _ (p : TProgram) (r : TRegion) where
   param_unassigned n (c ∷ qs) zero q at h =
       let z : n ≡ n + 0 = omega arith in
       let parts = sym (any_append (is_lent (n + 0)) (cond (assigns_param p r n) (targets.Param n (words_of c.kind) ∷ []) []) (param_targets p r (n + 1) qs)) ∙ h in
-      ap (assigns_param p r) (sym z) ∙ one_target (assigns_param p r n) (targets.Param n (words_of c.kind)) (is_lent (n + 0)) (eq-eqb n (n + 0) z) (first_fails _ (list_any (is_lent (n + 0)) (param_targets p r (n + 1) qs)) parts)
+      ap (assigns_param p r) (sym z) ∙ one_target (assigns_param p r n) (targets.Param n (words_of c.kind)) (is_lent (n + 0)) (eq-eqb n (n + 0) z)
+      (first_fails _ (list_any (is_lent (n + 0)) (param_targets p r (n + 1) qs)) parts)
   param_unassigned n (c ∷ qs) (suc k) q at h =
       let m : n + suc k ≡ n + 1 + k = omega arith in
       let parts = sym (any_append (is_lent (n + suc k)) (cond (assigns_param p r n) (targets.Param n (words_of c.kind) ∷ []) []) (param_targets p r (n + 1) qs)) ∙ h in
@@ -181,7 +191,8 @@ module _ (p : TProgram) (i : ℕ) (x : Text) (passed : ℕ → Place) where
   abbrev LentTo : TFunction → Type 0
   LentTo f = (j : ℕ) × (q : Param) × (slice_get f.params j ≡ Some q) × (passed j ≡ Global i)
 
-  all_free : (f : TFunction) (scope : Scope) (test : VarId → Bool) (vs : Variables) → AllSame p f scope vs → test (variables.Nv i) ≡ false → ((l : LentTo f) → test (variables.Param l.0) ≡ false) → AllFree test vs
+  all_free : (f : TFunction) (scope : Scope) (test : VarId → Bool) (vs : Variables) → AllSame p f scope vs → test (variables.Nv i) ≡ false
+      → ((l : LentTo f) → test (variables.Param l.0) ≡ false) → AllFree test vs
   all_free f scope test vs same own lent y (Names.own none is) = record { var = variables.Nv i; is = ap (or_nonvolatile p y) none ∙ ap (option_map variables.Nv) is; fails = own }
   all_free f scope test vs same own lent y (Names.given j some at) =
       let q = (param_found p f scope vs same y j some).2 in
@@ -201,26 +212,32 @@ module _ (p : TProgram) (i : ℕ) (x : Text) (passed : ℕ → Place) where
 
     module _ (v : ℕ) where
       -- an argument
-      arg_spared : (l : ℕ) (q : Param) (g : TArg) → arg_meets p here.scope q g ≡ true → AllFree (λ w. is_variable_of (passes p a q g).lent w && param_assigned p.functions (first_param p.functions v + l)) vs → takes_mutable p.functions v l ≡ is_mutable q.passing → ArgSpared p i x passed vs v l g
+      arg_spared : (l : ℕ) (q : Param) (g : TArg) → arg_meets p here.scope q g ≡ true
+          → AllFree (λ w. is_variable_of (passes p a q g).lent w && param_assigned p.functions (first_param p.functions v + l)) vs → takes_mutable p.functions v l
+          ≡ is_mutable q.passing → ArgSpared p i x passed vs v l g
       arg_spared l q (value e) meets free t y h n takes =
           let m : is_mutable q.passing ≡ true = sym t ∙ takes in
           let f = free y n in
           let lent : (passes p a q (value e)).lent ≡ Some f.var = (λ k. cond (m k) (option_and_then (variable_at p a) (lent_name (value (alone_is e y h k)))) None) ∙ f.is in
-          itself_free f.var (param_assigned p.functions (first_param p.functions v + l)) (sym (ap (λ o. is_variable_of o f.var && param_assigned p.functions (first_param p.functions v + l)) lent) ∙ f.fails)
+          itself_free f.var (param_assigned p.functions (first_param p.functions v + l))
+          (sym (ap (λ o. is_variable_of o f.var && param_assigned p.functions (first_param p.functions v + l)) lent) ∙ f.fails)
       arg_spared l q (shared z) meets free t y h n takes = absurd (shared_never p here.scope q z (sym t ∙ takes) meets)
       arg_spared l q (mutable z) meets free t y h n takes =
           let m : is_mutable q.passing ≡ true = sym t ∙ takes in
           let f = free y n in
           let lent : (passes p a q (mutable z)).lent ≡ Some f.var = (λ k. cond (m k) (option_and_then (variable_at p a) (h k)) None) ∙ f.is in
-          itself_free f.var (param_assigned p.functions (first_param p.functions v + l)) (sym (ap (λ o. is_variable_of o f.var && param_assigned p.functions (first_param p.functions v + l)) lent) ∙ f.fails)
+          itself_free f.var (param_assigned p.functions (first_param p.functions v + l))
+          (sym (ap (λ o. is_variable_of o f.var && param_assigned p.functions (first_param p.functions v + l)) lent) ∙ f.fails)
 
-      args_spared : (l : ℕ) (qs : List Param) (gs : TArgs) → args_meet p here.scope qs gs ≡ true → AllFree (lends p (first_param p.functions v + l) (all_passed p a qs gs)) vs → ((k : ℕ) → takes_mutable p.functions v (l + k) ≡ get_or (map (λ q. is_mutable q.passing) qs) k false) → ArgsSpared p i x passed vs v l gs
+      args_spared : (l : ℕ) (qs : List Param) (gs : TArgs) → args_meet p here.scope qs gs ≡ true → AllFree (lends p (first_param p.functions v + l) (all_passed p a qs gs)) vs
+          → ((k : ℕ) → takes_mutable p.functions v (l + k) ≡ get_or (map (λ q. is_mutable q.passing) qs) k false) → ArgsSpared p i x passed vs v l gs
       args_spared l qs no_args meets free takes = tt
       args_spared l [] (more_args g gs) meets free takes =
           let z : l + 0 ≡ l = omega arith in
           let none : takes_mutable p.functions v l ≡ false = sym (ap (takes_mutable p.functions v) z) ∙ takes 0 in (
             λ y h n t. absurd (true≢false (sym t ∙ none)),
-            args_spared (l + 1) [] gs (no_more p here.scope gs) (λ y n. (let f = free y n in record { var = f.var; is = f.is; fails = none_passed gs f.var })) (λ k. let e : l + 1 + k ≡ l + suc k = omega arith in ap (takes_mutable p.functions v) e ∙ takes (suc k)),
+            args_spared (l + 1) [] gs (no_more p here.scope gs) (λ y n. (let f = free y n in record { var = f.var; is = f.is; fails = none_passed gs f.var }))
+                (λ k. let e : l + 1 + k ≡ l + suc k = omega arith in ap (takes_mutable p.functions v) e ∙ takes (suc k)),
           )
         where
           none_passed : (gs : TArgs) (w : VarId) → lends p (first_param p.functions v + (l + 1)) (all_passed p a [] gs) w ≡ false
@@ -230,9 +247,19 @@ module _ (p : TProgram) (i : ℕ) (x : Text) (passed : ℕ → Place) where
           let here_takes : takes_mutable p.functions v l ≡ is_mutable q.passing = sym (ap (takes_mutable p.functions v) z) ∙ takes 0 in
           let n : first_param p.functions v + l + 1 ≡ first_param p.functions v + (l + 1) = omega arith in (
             arg_spared l q g (first_holds (arg_meets p here.scope q g) (args_meet p here.scope qs gs) meets)
-                (λ y m. (let f = free y m in record { var = f.var; is = f.is; fails = first_fails (is_variable_of (passes p a q g).lent f.var && param_assigned p.functions (first_param p.functions v + l)) _ f.fails })) here_takes,
+                (λ y m. (let f = free y m in record {
+                  var = f.var;
+                  is = f.is;
+                  fails =
+                      first_fails (is_variable_of (passes p a q g).lent f.var && param_assigned p.functions (first_param p.functions v + l)) _ f.fails;
+                })) here_takes,
             args_spared (l + 1) qs gs (second_holds (arg_meets p here.scope q g) (args_meet p here.scope qs gs) meets)
-                (λ y m. (let f = free y m in record { var = f.var; is = f.is; fails = ap (λ c. lends p c (all_passed p a qs gs) f.var) (sym n) ∙ second_fails (is_variable_of (passes p a q g).lent f.var && param_assigned p.functions (first_param p.functions v + l)) _ f.fails }))
+                (λ y m. (let f = free y m in record {
+                  var = f.var;
+                  is = f.is;
+                  fails = ap (λ c. lends p c (all_passed p a qs gs) f.var) (sym n)
+                      ∙ second_fails (is_variable_of (passes p a q g).lent f.var && param_assigned p.functions (first_param p.functions v + l)) _ f.fails;
+                }))
                 (λ k. let e : l + 1 + k ≡ l + suc k = omega arith in ap (takes_mutable p.functions v) e ∙ takes (suc k)),
           )
 
@@ -242,18 +269,27 @@ module _ (p : TProgram) (i : ℕ) (x : Text) (passed : ℕ → Place) where
         let called : called_by p a (call g gs) ≡ Some (called_at p a gs v) = ap (option_map (called_at p a gs)) at in
         let found : function_named p g ≡ slice_get p.functions v = ap (option_and_then (λ k. slice_get p.functions k)) at in
         let looked : params_of (function_named p g) ≡ params_at p v = ap params_of found ∙ params_looked p.functions v in
-        let meet : args_meet p here.scope (params_at p v) gs ≡ true = subst (λ qs. args_meet p here.scope qs gs ≡ true) looked (second_holds (length (params_of (function_named p g)) == length (call_args (call g gs))) (args_meet p here.scope (params_of (function_named p g)) gs) fine.meets) in
+        let meet : args_meet p here.scope (params_at p v) gs ≡ true =
+        subst (λ qs. args_meet p here.scope qs gs ≡ true) looked
+        (second_holds (length (params_of (function_named p g)) == length (call_args (call g gs))) (args_meet p here.scope (params_of (function_named p g)) gs) fine.meets) in
         let z : first_param p.functions v ≡ first_param p.functions v + 0 = omega arith in (
           sym (ap (λ o. reaches p o x) called) ∙ none,
           args_spared v 0 (params_at p v) gs meet
-              (λ y m. (let f = free y m in record { var = f.var; is = f.is; fails = ap (λ c. lends p c (all_passed p a (params_at p v) gs) f.var) (sym z) ∙ sym (ap (λ o. call_assigns p o f.var) called) ∙ f.fails }))
-              (λ k. let n : 0 + k ≡ k = omega arith in ap (takes_mutable p.functions v) n ∙ takes_at p.functions v k ∙ ap (λ qs. get_or (map (λ q. is_mutable q.passing) qs) k false) (params_looked p.functions v)),
+              (λ y m. (let f = free y m in record {
+                var = f.var;
+                is = f.is;
+                fails = ap (λ c. lends p c (all_passed p a (params_at p v) gs) f.var) (sym z)
+                    ∙ sym (ap (λ o. call_assigns p o f.var) called) ∙ f.fails;
+              }))
+              (λ k. let n : 0 + k ≡ k = omega arith in ap (takes_mutable p.functions v) n ∙ takes_at p.functions v k
+              ∙ ap (λ qs. get_or (map (λ q. is_mutable q.passing) qs) k false) (params_looked p.functions v)),
         )
 
     whole_spared : (c : TCall) → EachCall (CallFine p here) (call_calls c) → reaches p (called_by p a c) x ≡ false → AllFree (call_assigns p (called_by p a c)) vs → CallSpared p i x passed vs c
     whole_spared (call g gs) fine none free = call_spared (call g gs) (calls_back (CallFine p here) (args_calls gs) (call g gs ∷ []) fine).0 none free
 
-    right_spared : (r : TRight) → EachCall (CallFine p here) (right_calls r) → reaches p (option_and_then (called_by p a) (right_call_of r)) x ≡ false → AllFree (call_assigns p (option_and_then (called_by p a) (right_call_of r))) vs → RightSpared p i x passed vs r
+    right_spared : (r : TRight) → EachCall (CallFine p here) (right_calls r) → reaches p (option_and_then (called_by p a) (right_call_of r)) x ≡ false
+        → AllFree (call_assigns p (option_and_then (called_by p a) (right_call_of r))) vs → RightSpared p i x passed vs r
     right_spared (right_value e) fine none free = tt
     right_spared (right_sense s) fine none free = tt
     right_spared (right_call c) fine none free = whole_spared c fine none free
@@ -262,11 +298,13 @@ module _ (p : TProgram) (i : ℕ) (x : Text) (passed : ℕ → Place) where
     targeted : (k : TKind) → AllFree (λ w. is_variable_of (target_of p a k) w || call_assigns p (option_and_then (called_by p a) (call_of k)) w) vs → AllFree (is_variable_of (target_of p a k)) vs
     targeted k free y n = let f = free y n in record { var = f.var; is = f.is; fails = first_fails (is_variable_of (target_of p a k) f.var) _ f.fails }
 
-    called : (k : TKind) → AllFree (λ w. is_variable_of (target_of p a k) w || call_assigns p (option_and_then (called_by p a) (call_of k)) w) vs → AllFree (call_assigns p (option_and_then (called_by p a) (call_of k))) vs
+    called : (k : TKind) → AllFree (λ w. is_variable_of (target_of p a k) w || call_assigns p (option_and_then (called_by p a) (call_of k)) w) vs
+        → AllFree (call_assigns p (option_and_then (called_by p a) (call_of k))) vs
     called k free y n = let f = free y n in record { var = f.var; is = f.is; fails = second_fails (is_variable_of (target_of p a k) f.var) _ f.fails }
 
     -- what a statement doesn't do to the variable, it spares
-    kind_spared : (k : TKind) → EachCall (CallFine p here) (own_calls k) → reaches p (option_and_then (called_by p a) (call_of k)) x ≡ false → AllFree (λ w. is_variable_of (target_of p a k) w || call_assigns p (option_and_then (called_by p a) (call_of k)) w) vs → KindSpared p i x passed vs k
+    kind_spared : (k : TKind) → EachCall (CallFine p here) (own_calls k) → reaches p (option_and_then (called_by p a) (call_of k)) x ≡ false
+        → AllFree (λ w. is_variable_of (target_of p a k) w || call_assigns p (option_and_then (called_by p a) (call_of k)) w) vs → KindSpared p i x passed vs k
     kind_spared (let_to m y t r) fine none free = right_spared r fine none (called (let_to m y t r) free)
     kind_spared (assign y r) fine none free = (target_free y (targeted (assign y r) free), right_spared r fine none (called (assign y r) free))
     kind_spared (assign_index y e r) fine none free =
@@ -293,7 +331,8 @@ module _ (p : TProgram) (groups : List Group) (checked : IsChecked p groups) (r 
   none_does : (test : TEffect → Bool) → list_any test (region_effects p r) ≡ false → Each (λ a. test (effect_of p a) ≡ false) (stmts_placed at ss)
   none_does test h =
       let same : effects_at p r.function ≡ map (effect_of p) body = at_place (function_effects p) p.functions r.function stand.function [] stand.there in
-      let none : list_any test (filter (stands_in p r) (map (effect_of p) body)) ≡ false = sym (ap (λ es. list_any test (filter (stands_in p r) es)) same) ∙ ap (list_any test) (standing_is p r groups checked) ∙ h in
+      let none : list_any test (filter (stands_in p r) (map (effect_of p) body)) ≡ false = sym (ap (λ es. list_any test (filter (stands_in p r) es)) same)
+      ∙ ap (list_any test) (standing_is p r groups checked) ∙ h in
       each_map _ (λ a. test (effect_of p a) ≡ false) (λ a q. q.0 q.1) (stmts_placed at ss)
       (each_both _ _ (stmts_placed at ss) (among _ (none_filtered p (stands_in p r) test body none)) (all_within (is_in_region p r) at ss stand.inside))
 

@@ -16,7 +16,8 @@ use Rattle.oc_tree.specs.declared.scope.Origin.TheVariants as origins
 use Rattle.oc_tree.specs.declared.scope.Var.{Var}
 use Rattle.oc_tree.specs.Calls.{place_from, place}
 use Rattle.oc_tree.specs.Assigned.{param_names}
-use Rattle.oc_tree.specs.Places.{Place as Spot, Placed, Variables, find_variable, let_variables, param_variables, behind, in_branch, in_loop, at_start, kind_placed, else_placed, block_placed, stmts_placed}
+use Rattle.oc_tree.specs.Places.{Place as Spot, Placed, Variables, find_variable, let_variables, param_variables, behind, in_branch, in_loop, at_start, kind_placed, else_placed}
+use Rattle.oc_tree.specs.Places.{block_placed, stmts_placed}
 use Rattle.oc_tree.specs.Scope.{Scope, variable_in, variable_of, or_nv, nv_var, param_var, with_param, with_params}
 use Rattle.oc_tree.specs.Elements.{Here, inside, in_turn, before_stmts, scope_after, after_stmt, stmt_elements, kind_elements, else_elements, block_elements, stmts_elements, in_function}
 use Rattle.oc_tree.specs.Rules.{origin_is}
@@ -31,7 +32,8 @@ pub rule_found_on : (s t : Scope) (y : Text) → variable_in (s ++ t) y ≡ opti
 rule_found_on [] t y = refl
 rule_found_on (v ∷ s) t y = by (bytes_eq y v.0) (rule_found_on s t y)
   where
-    by : (b : Bool) → variable_in (s ++ t) y ≡ option_or (variable_in s y) (variable_in t y) → cond b (Some v.1) (variable_in (s ++ t) y) ≡ option_or (cond b (Some v.1) (variable_in s y)) (variable_in t y)
+    by : (b : Bool) → variable_in (s ++ t) y ≡ option_or (variable_in s y) (variable_in t y) → cond b (Some v.1) (variable_in (s ++ t) y)
+        ≡ option_or (cond b (Some v.1) (variable_in s y)) (variable_in t y)
     by true e = refl
     by false e = e
 
@@ -58,7 +60,8 @@ module _ (p : TProgram) (f : TFunction) where
   AllSame scope vs = (y : Text) → Same y (variable_in scope y) (find_variable vs y)
 
   -- one variable more
-  same_or : (y : Text) (b : Bool) (v : Var) (s : ℕ) (o : Option Var) (w : Option VarId) → Same y o w → Same y (option_or o (cond b (Some v) None)) (option_or w (cond b (Some (variables.Declared s)) None))
+  same_or : (y : Text) (b : Bool) (v : Var) (s : ℕ) (o : Option Var) (w : Option VarId) → Same y o w
+      → Same y (option_or o (cond b (Some v) None)) (option_or w (cond b (Some (variables.Declared s)) None))
   same_or y true v s None None h = tt
   same_or y false v s None None h = tt
   same_or y b v s None (Some w) h = absurd h
@@ -103,11 +106,14 @@ module _ (p : TProgram) (f : TFunction) where
       by None false = refl
       by (Some v) b = refl
 
-  params_same : (n : ℕ) (qs : List Param) (y : Text) → ((j : ℕ) → slice_get f.params (n + j) ≡ slice_get qs j) → place (param_names f) y ≡ place_from n (map (λ q. q.name) qs) y → Same y (by_name qs y) (find_variable (param_variables n qs) y)
+  params_same : (n : ℕ) (qs : List Param) (y : Text) → ((j : ℕ) → slice_get f.params (n + j) ≡ slice_get qs j) → place (param_names f) y ≡ place_from n (map (λ q. q.name) qs) y
+      → Same y (by_name qs y) (find_variable (param_variables n qs) y)
   params_same n [] y there placed = tt
   params_same n (q ∷ qs) y there placed = by (bytes_eq y q.name) placed (params_same (n + 1) qs y (λ j. let e : n + 1 + j ≡ n + suc j = omega arith in ap (slice_get f.params) e ∙ there (suc j)))
     where
-      by : (b : Bool) → place (param_names f) y ≡ cond b (Some n) (place_from (n + 1) (map (λ q. q.name) qs) y) → (place (param_names f) y ≡ place_from (n + 1) (map (λ q. q.name) qs) y → Same y (by_name qs y) (find_variable (param_variables (n + 1) qs) y)) → Same y (cond b (Some (param_var q)) (by_name qs y)) (cond b (Some (variables.Param n)) (find_variable (param_variables (n + 1) qs) y))
+      by : (b : Bool) → place (param_names f) y ≡ cond b (Some n) (place_from (n + 1) (map (λ q. q.name) qs) y)
+          → (place (param_names f) y ≡ place_from (n + 1) (map (λ q. q.name) qs) y → Same y (by_name qs y) (find_variable (param_variables (n + 1) qs) y))
+          → Same y (cond b (Some (param_var q)) (by_name qs y)) (cond b (Some (variables.Param n)) (find_variable (param_variables (n + 1) qs) y))
       by true e rest = let first : n + 0 ≡ n = omega arith in record { param = q; stands = sym (ap (slice_get f.params) first) ∙ there 0; placed = e; origin = refl }
       by false e rest = rest e
 
@@ -147,7 +153,8 @@ module _ (p : TProgram) (f : TFunction) where
         let own = fine_front p (stmt_elements p here (stmt id line k)) (stmts_elements p (after_stmt p h (stmt id line k)) ss) fine in
         let rest = fine_back p (stmt_elements p here (stmt id line k)) (stmts_elements p (after_stmt p h (stmt id line k)) ss) fine in (
           record { here = here; rules = unbroken p own.0.0 here k own.0.1; same = s },
-          each_join Ruled (kind_placed at id k) (stmts_placed (behind at id k) ss) (kind_ruled here at id k s own.1) (stmts_ruled (after_stmt p h (stmt id line k)) (behind at id k) ss (same_behind h at.variables id k s) rest),
+          each_join Ruled (kind_placed at id k) (stmts_placed (behind at id k) ss) (kind_ruled here at id k s own.1)
+              (stmts_ruled (after_stmt p h (stmt id line k)) (behind at id k) ss (same_behind h at.variables id k s) rest),
         )
 
   -- all statements of the function, the number of which is u
@@ -157,7 +164,8 @@ module _ (p : TProgram) (f : TFunction) where
   -- ---- what the rules say of the origin of a name
 
   -- what is found as a parameter is one of the function's
-  pub param_found : (scope : Scope) (vs : Variables) → AllSame scope vs → (y : Text) (j : ℕ) → find_variable vs y ≡ Some (variables.Param j) → (v : Var) × (variable_in scope y ≡ Some v) × IsParam y v.origin j
+  pub param_found : (scope : Scope) (vs : Variables) → AllSame scope vs → (y : Text) (j : ℕ) → find_variable vs y ≡ Some (variables.Param j)
+      → (v : Var) × (variable_in scope y ≡ Some v) × IsParam y v.origin j
   param_found scope vs same y j e = by (variable_in scope y) refl (subst (Same y (variable_in scope y)) e (same y))
     where
       by : (o : Option Var) → variable_in scope y ≡ o → Same y o (Some (variables.Param j)) → (v : Var) × (variable_in scope y ≡ Some v) × IsParam y v.origin j

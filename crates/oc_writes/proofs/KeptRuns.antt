@@ -2,7 +2,9 @@
 use Rattle.std.proofs.Common.{◌≡◌, ℕ, ◌+◌, Bool, true, false, List, [], ◌∷◌, length, Option, Some, None, refl, ◌∙◌, subst}
 use Rattle.std.specs.Prelude.{ℤ, ◌-ℤ◌, if◌then◌else◌}
 use Rattle.oc_tree.specs.Names.{Text, NameLists}
-use Rattle.oc_tree.specs.Tree.{TExpr, variable, TArg, value, shared, mutable, TCall, call, TArgs, no_args, more_args, TRight, right_value, right_sense, right_call, TKind, let_to, let_array, assign, assign_index, assign_deref, if_else, for_in, while_do, call_only, sense_only, emit, fresh, consistent, return, TElse, no_else, else_do, stmt, TBlock, block, TStmts, no_stmts, more, TProgram}
+use Rattle.oc_tree.specs.Tree.{TExpr, variable, TArg, value, shared, mutable, TCall, call, TArgs, no_args, more_args, TRight, right_value, right_sense, right_call, TKind, let_to}
+use Rattle.oc_tree.specs.Tree.{let_array, assign, assign_index, assign_deref, if_else, for_in, while_do, call_only, sense_only, emit, fresh, consistent, return, TElse, no_else}
+use Rattle.oc_tree.specs.Tree.{else_do, stmt, TBlock, block, TStmts, no_stmts, more, TProgram}
 use Rattle.oc_tree.specs.declared.tree.VarId.TheVariants as variables
 use Rattle.oc_tree.specs.Calls.{function_place}
 use Rattle.oc_tree.specs.Assigned.{alone, first_param, takes_mutable, param_assigned, reaches_assign}
@@ -11,10 +13,13 @@ use Rattle.oc_tree.specs.Places.{Place as Spot, Placed, Variables, behind, in_br
 use Rattle.oc_meaning.specs.Store.{Held, Place, Global, Store, Binding, binding_of, place_of, holding, made}
 use Rattle.oc_meaning.specs.Eval.{Got, Val, Traps, is_zero, value_of}
 use Rattle.oc_meaning.specs.Uses.{is_fresh, is_use, use_samples, begins_use, ends_use}
-use Rattle.oc_meaning.specs.Exec.{Outcome, Went, Passed, Copied, Lent, Passing, Passes, Breaks, number_in, sense, used, done, opened, closed, begun_by, ended_by, finished, passed_first, copied_first, passed_on, value_first, arg_first, args_of, count_of, in_turn, grown, entered, call_run, right_run, kind_run, else_run, block_run, stmts_run}
+use Rattle.oc_meaning.specs.Exec.{Outcome, Went, Passed, Copied, Lent, Passing, Passes, Breaks, number_in, sense, used, done, opened, closed, begun_by, ended_by, finished}
+use Rattle.oc_meaning.specs.Exec.{passed_first, copied_first, passed_on, value_first, arg_first, args_of, count_of, in_turn, grown, entered, call_run, right_run, kind_run}
+use Rattle.oc_meaning.specs.Exec.{else_run, block_run, stmts_run}
 use Rattle.oc_writes.specs.Kept.{store_after}
 use Rattle.oc_writes.proofs.Standing.{Each, each_front, each_back}
-use Rattle.oc_writes.proofs.KeptStore.{cell, Keeps, put_keeps, opened_keeps, closed_keeps, used_keeps, done_keeps, value_keeps, then_keeps, result_keeps, dropped_keeps, leave_keeps, finished_keeps, sense_keeps, args_keep, element_keeps, for_keeps, while_keeps}
+use Rattle.oc_writes.proofs.KeptStore.{cell, Keeps, put_keeps, opened_keeps, closed_keeps, used_keeps, done_keeps, value_keeps, then_keeps, result_keeps, dropped_keeps}
+use Rattle.oc_writes.proofs.KeptStore.{leave_keeps, finished_keeps, sense_keeps, args_keep, element_keeps, for_keeps, while_keeps}
 use Rattle.oc_writes.proofs.KeptNames.{Names, Seen, seen_more, seen_same, seen_behind}
 
 -- the name that an argument may hand on by reference
@@ -41,7 +46,8 @@ module _ (p : TProgram) (i : ℕ) where
 
   -- a call that is spared leaves the variable alone
   abbrev pub CallsKeep : (x : Text) → (Text → List Passed → Store → Outcome) → Type 0
-  CallsKeep x call_of = (f : Text) (ps : List Passed) (σ : Store) → ((v : ℕ) → function_place p.functions f ≡ Some v → (reaches_assign p.functions x v ≡ false) × PassedSpared v 0 ps) → cell i (store_after (call_of f ps σ)) ≡ cell i σ
+  CallsKeep x call_of = (f : Text) (ps : List Passed) (σ : Store)
+      → ((v : ℕ) → function_place p.functions f ≡ Some v → (reaches_assign p.functions x v ≡ false) × PassedSpared v 0 ps) → cell i (store_after (call_of f ps σ)) ≡ cell i σ
 
 module _ (p : TProgram) (i : ℕ) (x : Text) (passed : ℕ → Place) where
   -- ---- statements
@@ -107,11 +113,14 @@ module _ (p : TProgram) (i : ℕ) (x : Text) (passed : ℕ → Place) where
   -- ---- runs
 
   module _ (names : NameLists) (regions : List TRegion) (call_of : Text → List Passed → Store → Outcome) (home : ℤ → ℕ) (calls : CallsKeep p i x call_of) (h : Held) where
-    call_keeps : (env : List Binding) (vs : Variables) (n : ℕ) (σ : Store) (c : TCall) → Seen p i passed vs env → CallSpared vs c → cell i σ ≡ h → Keeps i h (call_run names regions call_of home env n σ c)
+    call_keeps : (env : List Binding) (vs : Variables) (n : ℕ) (σ : Store) (c : TCall) → Seen p i passed vs env → CallSpared vs c → cell i σ ≡ h
+        → Keeps i h (call_run names regions call_of home env n σ c)
     call_keeps env vs n σ (call f args) seen spared e =
-        args_keep i h (args_of env σ args) n σ (λ ps. call_of f ps σ) e (λ ps is. calls f ps σ (λ v at. (let s = spared v at in (s.0, subst (PassingSpared p i v 0) is (args_spared env σ vs seen v 0 args s.1)))) ∙ e)
+        args_keep i h (args_of env σ args) n σ (λ ps. call_of f ps σ) e
+        (λ ps is. calls f ps σ (λ v at. (let s = spared v at in (s.0, subst (PassingSpared p i v 0) is (args_spared env σ vs seen v 0 args s.1)))) ∙ e)
 
-    right_keeps : (env : List Binding) (vs : Variables) (n : ℕ) (σ : Store) (r : TRight) → Seen p i passed vs env → RightSpared vs r → cell i σ ≡ h → Keeps i h (right_run names regions call_of home env n σ r)
+    right_keeps : (env : List Binding) (vs : Variables) (n : ℕ) (σ : Store) (r : TRight) → Seen p i passed vs env → RightSpared vs r → cell i σ ≡ h
+        → Keeps i h (right_run names regions call_of home env n σ r)
     right_keeps env vs n σ (right_value a) seen spared e = value_keeps i h (value_of env σ a) n σ _ e (λ v. e)
     right_keeps env vs n σ (right_sense s) seen spared e = sense_keeps i h (number_in names.sensors s) σ.left σ e
     right_keeps env vs n σ (right_call c) seen spared e = call_keeps env vs n σ c seen spared e
@@ -125,13 +134,15 @@ module _ (p : TProgram) (i : ℕ) (x : Text) (passed : ℕ → Place) where
     either true o q f g = f
     either false o q f g = g
 
-    assign_keeps : (env : List Binding) (vs : Variables) (n : ℕ) (σ : Store) (y : Text) (r : TRight) → Seen p i passed vs env → (Names p i passed vs y → ⊥) × RightSpared vs r → cell i σ ≡ h → Keeps i h (kind_run names regions call_of home env n (assign y r) σ)
+    assign_keeps : (env : List Binding) (vs : Variables) (n : ℕ) (σ : Store) (y : Text) (r : TRight) → Seen p i passed vs env → (Names p i passed vs y → ⊥) × RightSpared vs r
+        → cell i σ ≡ h → Keeps i h (kind_run names regions call_of home env n (assign y r) σ)
     assign_keeps env vs n σ y r seen spared e =
         result_keeps i h (right_run names regions call_of home env n σ r) _ (right_keeps env vs n σ r seen spared.1 e)
         (λ v τ k. put_keeps i τ (place_of env y) _ (unbound env vs y seen spared.0) ∙ k)
 
     mutual
-      kind_keeps : (env : List Binding) (at : Spot) (n : ℕ) (k : TKind) (σ : Store) → Seen p i passed at.variables env → KindSpared at.variables k → Each Spared (kind_placed at n k) → cell i σ ≡ h → Keeps i h (kind_run names regions call_of home env n k σ)
+      kind_keeps : (env : List Binding) (at : Spot) (n : ℕ) (k : TKind) (σ : Store) → Seen p i passed at.variables env → KindSpared at.variables k
+          → Each Spared (kind_placed at n k) → cell i σ ≡ h → Keeps i h (kind_run names regions call_of home env n k σ)
       kind_keeps env at n (let_to m y t r) σ seen own inner e =
           result_keeps i h (right_run names regions call_of home env n σ r) (λ v τ. Went (made (holding v) τ)) (right_keeps env at.variables n σ r seen own e) (λ v τ k. k)
       kind_keeps env at n (let_array m y t z c) σ seen own inner e = e
@@ -146,7 +157,8 @@ module _ (p : TProgram) (i : ℕ) (x : Text) (passed : ℕ → Place) where
           value_keeps i h (value_of env σ c) n σ _ e (λ v. either (is_zero v.num) (else_run names regions call_of home env b σ) (block_run names regions call_of home env a σ) second first)
       kind_keeps env at n (for_in y c d b) σ seen own inner e =
           for_keeps i h (count_of (d -ℤ c)) c (λ z. block_run names regions call_of home (in_turn y z ∷ env) b) σ
-          (λ z τ k. block_keeps (in_turn y z ∷ env) (in_loop at n ((y, variables.Declared n) ∷ [])) b τ (seen_more p i passed at.variables env (in_turn y z) (variables.Declared n) (λ q. absurd (cc)) seen) inner k) e
+          (λ z τ k. block_keeps (in_turn y z ∷ env) (in_loop at n ((y, variables.Declared n) ∷ [])) b τ
+          (seen_more p i passed at.variables env (in_turn y z) (variables.Declared n) (λ q. absurd (cc)) seen) inner k) e
       kind_keeps env at n (while_do c t b) σ seen own inner e =
           while_keeps i h t n (is_use (is_fresh env) (while_do c t b)) (use_samples env (while_do c t b)) (λ τ. value_of env τ c) (block_run names regions call_of home env b) [] σ
           (λ τ k. block_keeps env (in_loop at n []) b τ (seen_same p i passed at.variables env seen) inner k) e
@@ -157,16 +169,21 @@ module _ (p : TProgram) (i : ℕ) (x : Text) (passed : ℕ → Place) where
       kind_keeps env at n (consistent y z) σ seen own inner e = e
       kind_keeps env at n (return a) σ seen own inner e =
           value_keeps i h (value_of env σ a) n σ _ e
-          (λ v. closed_keeps i (ended_by regions n) (done (is_use (is_fresh env) (return a)) n (use_samples env (return a) σ) σ) ∙ done_keeps i (is_use (is_fresh env) (return a)) n (use_samples env (return a) σ) σ ∙ e)
+          (λ v. closed_keeps i (ended_by regions n) (done (is_use (is_fresh env) (return a)) n (use_samples env (return a) σ) σ)
+          ∙ done_keeps i (is_use (is_fresh env) (return a)) n (use_samples env (return a) σ) σ ∙ e)
 
-      else_keeps : (env : List Binding) (at : Spot) (b : TElse) (σ : Store) → Seen p i passed at.variables env → Each Spared (else_placed at b) → cell i σ ≡ h → Keeps i h (else_run names regions call_of home env b σ)
+      else_keeps : (env : List Binding) (at : Spot) (b : TElse) (σ : Store) → Seen p i passed at.variables env → Each Spared (else_placed at b) → cell i σ ≡ h
+          → Keeps i h (else_run names regions call_of home env b σ)
       else_keeps env at no_else σ seen inner e = e
       else_keeps env at (else_do b) σ seen inner e = block_keeps env at b σ seen inner e
 
-      pub block_keeps : (env : List Binding) (at : Spot) (b : TBlock) (σ : Store) → Seen p i passed at.variables env → Each Spared (block_placed at b) → cell i σ ≡ h → Keeps i h (block_run names regions call_of home env b σ)
-      block_keeps env at (block id ss) σ seen inner e = leave_keeps i h (length σ.locals) (stmts_run names regions call_of home env ss (entered id σ)) (stmts_keep env (record at { block = id }) ss (entered id σ) seen inner e)
+      pub block_keeps : (env : List Binding) (at : Spot) (b : TBlock) (σ : Store) → Seen p i passed at.variables env → Each Spared (block_placed at b) → cell i σ ≡ h
+          → Keeps i h (block_run names regions call_of home env b σ)
+      block_keeps env at (block id ss) σ seen inner e =
+          leave_keeps i h (length σ.locals) (stmts_run names regions call_of home env ss (entered id σ)) (stmts_keep env (record at { block = id }) ss (entered id σ) seen inner e)
 
-      pub stmts_keep : (env : List Binding) (at : Spot) (ss : TStmts) (σ : Store) → Seen p i passed at.variables env → Each Spared (stmts_placed at ss) → cell i σ ≡ h → Keeps i h (stmts_run names regions call_of home env ss σ)
+      pub stmts_keep : (env : List Binding) (at : Spot) (ss : TStmts) (σ : Store) → Seen p i passed at.variables env → Each Spared (stmts_placed at ss) → cell i σ ≡ h
+          → Keeps i h (stmts_run names regions call_of home env ss σ)
       stmts_keep env at no_stmts σ seen inner e = e
       stmts_keep env at (more (stmt n line k) rest) σ seen inner e =
           let ends = ends_use (is_fresh env) k in
@@ -175,7 +192,9 @@ module _ (p : TProgram) (i : ℕ) (x : Text) (passed : ℕ → Place) where
           let start = opened (begun_by regions n) σ in
           let after : Store → Store = λ τ. closed (ended_by regions n) (done ends n set τ) in
           let run = kind_run names regions call_of home env n k (used begins n set start) in
-          let first = kind_keeps env at n k (used begins n set start) seen inner.0 (each_front Spared (kind_placed at n k) (stmts_placed (behind at n k) rest) inner.1) (used_keeps i begins n set start ∙ opened_keeps i (begun_by regions n) σ ∙ e) in
+          let first = kind_keeps env at n k (used begins n set start) seen inner.0 (each_front Spared (kind_placed at n k) (stmts_placed (behind at n k) rest) inner.1)
+          (used_keeps i begins n set start ∙ opened_keeps i (begun_by regions n) σ ∙ e) in
           then_keeps i h (finished after run) (stmts_run names regions call_of home (grown k rest env σ) rest)
           (finished_keeps i h after run (λ τ. closed_keeps i (ended_by regions n) (done ends n set τ) ∙ done_keeps i ends n set τ) first)
-          (λ τ q. stmts_keep (grown k rest env σ) (behind at n k) rest τ (seen_behind p i passed at.variables env n k rest σ seen) (each_back Spared (kind_placed at n k) (stmts_placed (behind at n k) rest) inner.1) q)
+          (λ τ q. stmts_keep (grown k rest env σ) (behind at n k) rest τ (seen_behind p i passed at.variables env n k rest σ seen)
+          (each_back Spared (kind_placed at n k) (stmts_placed (behind at n k) rest) inner.1) q)

@@ -4,7 +4,8 @@ use Rattle.std.specs.Prelude.{ℤ, pos, ◌+ℤ◌, if◌then◌else◌, slice_s
 use Rattle.oc_meaning.specs.Samples.{union}
 use Rattle.oc_meaning.specs.Store.{Value, Held, Place, Local, Global, Turn, Nowhere, Store, plain, nothing, held_at, put}
 use Rattle.oc_meaning.specs.Eval.{Got, Val, Traps, is_zero}
-use Rattle.oc_meaning.specs.Exec.{Outcome, Went, Returned, Stopped, Passed, Passing, Passes, Breaks, with_value, then_do, with_result, dropped, leave, opened, closed, used, done, finished, sense, with_args, element_written, for_turns, while_turns}
+use Rattle.oc_meaning.specs.Exec.{Outcome, Went, Returned, Stopped, Passed, Passing, Passes, Breaks, with_value, then_do, with_result, dropped, leave, opened, closed, used, done}
+use Rattle.oc_meaning.specs.Exec.{finished, sense, with_args, element_written, for_turns, while_turns}
 use Rattle.oc_writes.specs.Kept.{store_after}
 
 -- another element of a list that is written at one place
@@ -97,13 +98,16 @@ module _ (i : ℕ) where
     for_keeps zero z body σ f e = e
     for_keeps (suc t) z body σ f e = then_keeps (body z σ) (for_turns t (z +ℤ pos 1) body) (f z σ e) (λ τ k. for_keeps t (z +ℤ pos 1) body τ f k)
 
-    pub while_keeps : (t n : ℕ) (is : Bool) (taken : Store → List ℕ) (test : Store → Got) (body : Store → Outcome) (before : List ℕ) (σ : Store) → ((τ : Store) → cell τ ≡ h → Keeps h (body τ)) → cell σ ≡ h → Keeps h (while_turns t n is taken test body before σ)
+    pub while_keeps : (t n : ℕ) (is : Bool) (taken : Store → List ℕ) (test : Store → Got) (body : Store → Outcome) (before : List ℕ) (σ : Store)
+        → ((τ : Store) → cell τ ≡ h → Keeps h (body τ)) → cell σ ≡ h → Keeps h (while_turns t n is taken test body before σ)
     while_keeps zero n is taken test body before σ f e = done_keeps is n before σ ∙ e
     while_keeps (suc t) n is taken test body before σ f e =
         let τ = used is n (taken σ) σ in
         let k : cell τ ≡ h = used_keeps is n (taken σ) σ ∙ e in
         value_keeps (test τ) n τ _ k (λ v. by (is_zero v.num) k (λ υ j. while_keeps t n is taken test body (union before (taken σ)) υ f j))
       where
-        by : (b : Bool) → cell (used is n (taken σ) σ) ≡ h → ((υ : Store) → cell υ ≡ h → Keeps h (while_turns t n is taken test body (union before (taken σ)) υ)) → Keeps h (if b then Went (done is n (union before (taken σ)) (used is n (taken σ) σ)) else then_do (body (used is n (taken σ) σ)) (while_turns t n is taken test body (union before (taken σ))))
+        by : (b : Bool) → cell (used is n (taken σ) σ) ≡ h → ((υ : Store) → cell υ ≡ h → Keeps h (while_turns t n is taken test body (union before (taken σ)) υ))
+            → Keeps h (if b then Went (done is n (union before (taken σ)) (used is n (taken σ) σ)) else then_do (body (used is n (taken σ) σ))
+            (while_turns t n is taken test body (union before (taken σ))))
         by true k rest = done_keeps is n (union before (taken σ)) (used is n (taken σ) σ) ∙ k
         by false k rest = then_keeps (body (used is n (taken σ) σ)) (while_turns t n is taken test body (union before (taken σ))) (f (used is n (taken σ) σ) k) rest

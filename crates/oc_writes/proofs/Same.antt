@@ -30,14 +30,17 @@ module _ (p : TProgram) (r : TRegion) where
   same_slots i [] = refl
   same_slots i (q ∷ qs) = ap (λ ts. cond (assigns_param p r i) (targets.Param i (words_of q.kind) ∷ []) [] ++ ts) (same_slots (i + 1) qs)
 
-  pub same_targets : (qs : List Param) → params_at p r.function ≡ qs → stored_targets p (region_effects p r) (stored_from p 0 0 p.names.nvs p.nv) ++ slot_targets p (region_effects p r) 0 qs ≡ region_targets p r
+  pub same_targets : (qs : List Param) → params_at p r.function ≡ qs → stored_targets p (region_effects p r) (stored_from p 0 0 p.names.nvs p.nv) ++ slot_targets p
+      (region_effects p r) 0 qs ≡ region_targets p r
   same_targets qs e =
       let a = same_stored 0 0 p.names.nvs p.nv in
       let b = same_slots 0 qs ∙ ap (param_targets p r 0) (sym e) in
       (λ i. a i ++ b i)
 
   -- of both steps
-  pub targets_made : (t : TProgram) (es fs : List TEffect) (ss : List TStored) (qs : List Param) (start middle all : List Target) → start ≡ [] → t ≡ p → es ≡ region_effects p r → fs ≡ region_effects p r → ss ≡ stored_from p 0 0 p.names.nvs p.nv → params_at p r.function ≡ qs → middle ≡ start ++ stored_targets t es ss → all ≡ middle ++ slot_targets t fs 0 qs → all ≡ region_targets p r
+  pub targets_made : (t : TProgram) (es fs : List TEffect) (ss : List TStored) (qs : List Param) (start middle all : List Target) → start ≡ [] → t ≡ p → es ≡ region_effects p r
+      → fs ≡ region_effects p r → ss ≡ stored_from p 0 0 p.names.nvs p.nv → params_at p r.function ≡ qs → middle ≡ start ++ stored_targets t es ss
+      → all ≡ middle ++ slot_targets t fs 0 qs → all ≡ region_targets p r
   targets_made t es fs ss qs start middle all none same first second stored params m a =
       let e : all ≡ stored_targets t es ss ++ slot_targets t fs 0 qs = a ∙ ap (λ x. x ++ slot_targets t fs 0 qs) (m ∙ ap (λ x. x ++ stored_targets t es ss) none) in
       let f : stored_targets t es ss ++ slot_targets t fs 0 qs ≡ stored_targets p (region_effects p r) (stored_from p 0 0 p.names.nvs p.nv) ++ slot_targets p (region_effects p r) 0 qs =
@@ -61,7 +64,8 @@ each_below p n [] a k d l = absurd (omega (arith, l))
 each_below p n (r ∷ rs) a zero d l = position_below _ p.functions r.function (a 0 (region_view r) (omega arith)).function_there
 each_below p n (r ∷ rs) a (suc k) d l = each_below p n rs (λ j e m. a (suc j) e (omega (arith, m))) k d (omega (arith, l))
 
-pub functions_below : (m : TMarked) (fs : List Function) (rs : List Region) → IsMarked m → map region_view rs ≡ m.regions → m.program.functions ≡ map function_view fs → (k : ℕ) (d : Region) → k < length rs → (get_or rs k d).function < length fs
+pub functions_below : (m : TMarked) (fs : List Function) (rs : List Region) → IsMarked m → map region_view rs ≡ m.regions → m.program.functions ≡ map function_view fs
+    → (k : ℕ) (d : Region) → k < length rs → (get_or rs k d).function < length fs
 functions_below m fs rs marked e f k d l =
     let a : All (IsRegion m.program (length m.policies)) (map region_view rs) = subst (All (IsRegion m.program (length m.policies))) (sym e) marked.regions.each in
     let b = each_below m.program (length m.policies) rs a k d l in

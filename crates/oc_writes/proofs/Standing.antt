@@ -66,8 +66,11 @@ found k (suc n) [] e = tt
 found k zero (x ∷ xs) e = cc
 found k (suc n) (x ∷ xs) e =
     let h : x.id ≡ k = cc in
-    let t : ids xs ≡ numbers_on (suc k) n = cc in
-    ((ap (λ b. cond b (Some x) (find (λ c. c.id == x.id) xs)) (eq-eqb x.id x.id refl), omega (arith, h)), each_map (Found (suc k) xs) (Found k (x ∷ xs)) (behind_first k x xs h) xs (found (suc k) n xs t))
+    let t : ids xs ≡ numbers_on (suc k) n = cc in (
+      (ap (λ b. cond b (Some x) (find (λ c. c.id == x.id) xs)) (eq-eqb x.id x.id refl), omega (arith, h)),
+      each_map (Found (suc k) xs) (Found k (x ∷ xs)) (behind_first k x xs h) xs
+          (found (suc k) n xs t),
+    )
 
 -- ---- the statements of a region
 
@@ -82,7 +85,8 @@ module _ (p : TProgram) (r : TRegion) where
       let t = same_filter xs h.1 in
       (λ i. cond (e i) (effect_of p a ∷ t i) (t i))
 
-  at_place : (fs : List TFunction) (u : ℕ) → Each IsFound (flat_map (λ f. block_placed (at_start f) f.body) fs) → filter (λ a. covers p r a.stmt) (get_or (map (function_effects p) fs) u []) ≡ filter (stands_in p r) (get_or (map (function_effects p) fs) u [])
+  at_place : (fs : List TFunction) (u : ℕ) → Each IsFound (flat_map (λ f. block_placed (at_start f) f.body) fs)
+      → filter (λ a. covers p r a.stmt) (get_or (map (function_effects p) fs) u []) ≡ filter (stands_in p r) (get_or (map (function_effects p) fs) u [])
   at_place [] u h = refl
   at_place (f ∷ fs) zero h = same_filter (block_placed (at_start f) f.body) (each_front IsFound (block_placed (at_start f) f.body) (flat_map (λ g. block_placed (at_start g) g.body) fs) h)
   at_place (f ∷ fs) (suc u) h = at_place fs u (each_back IsFound (block_placed (at_start f) f.body) (flat_map (λ g. block_placed (at_start g) g.body) fs) h)

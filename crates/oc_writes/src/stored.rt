@@ -39,9 +39,17 @@ impl<'a> Model for Stored<'a> {
 
     ghost coded = { Prim.hlevel (codes, block_code (Prim.hlevel codes)) };
 
-    ghost view = { λ s. record { program = program_view s.program.now; index = s.index; base = s.base; words = s.words; name = s.name.now } };
+    ghost view = { λ s. record {
+      program = program_view s.program.now;
+      index = s.index;
+      base = s.base;
+      words = s.words;
+      name = s.name.now;
+    } };
 
-    ghost invariant = { λ s. (s.assigning.1 ≡ length s.program.now.functions.items) × ((u : ℕ) → is_in s.assigning.0 u ≡ reaches_assign (map function_view s.program.now.functions.items) s.name.now u) };
+    ghost invariant = { λ s. (s.assigning.1 ≡ length s.program.now.functions.items)
+        × ((u : ℕ) → is_in s.assigning.0 u
+        ≡ reaches_assign (map function_view s.program.now.functions.items) s.name.now u) };
 }
 
 impl<'a> Stored<'a> {

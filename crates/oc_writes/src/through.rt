@@ -38,7 +38,10 @@ impl<'a> Model for Through<'a> {
 
     ghost view = { λ t. program_view t.program.now };
 
-    ghost invariant = { λ t. (t.params ≡ t.program.now.functions.items) × (t.marks.1 ≡ param_count (map function_view t.program.now.functions.items)) × ((n : ℕ) → is_in t.marks.0 n ≡ param_assigned (map function_view t.program.now.functions.items) n) };
+    ghost invariant = { λ t. (t.params ≡ t.program.now.functions.items)
+        × (t.marks.1 ≡ param_count (map function_view t.program.now.functions.items))
+        × ((n : ℕ) → is_in t.marks.0 n
+        ≡ param_assigned (map function_view t.program.now.functions.items) n) };
 }
 
 impl<'a> Through<'a> {

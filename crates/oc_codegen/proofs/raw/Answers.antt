@@ -11,7 +11,9 @@ pub raw_image-requires : goal.raw_image-requires
 raw_image-requires c =
     let m = c.args.marked.now in
     let ts = map (λ v. v.items) c.in_ok-targets.targets.items in
-    read_formed m (program_view c.program.result.now) (map region_view c.regions.result.now) ts (c.program.ensures.same ∙ ap (λ (k : TChecked). k.program) c.checked-checked.ensures.same) c.regions.ensures c.checked-checked.ensures.marked (enough_targets m ts (c.in_ok-targets.ensures ∙ c.requires))
+    read_formed m (program_view c.program.result.now) (map region_view c.regions.result.now) ts
+    (c.program.ensures.same ∙ ap (λ (k : TChecked). k.program) c.checked-checked.ensures.same) c.regions.ensures c.checked-checked.ensures.marked
+    (enough_targets m ts (c.in_ok-targets.ensures ∙ c.requires))
 
 pub returns : goal.returns
 returns c =

@@ -27,7 +27,9 @@ returns c =
     let words : c.in_ok-logged.logged.items ≡ map (logged m.program) m.regions = told ∙ logged_is m raw.targets.items targets in
     let regions : c.in_ok-regions.regions.items ≡ map (budget m) m.regions = c.in_ok-regions.ensures ∙ ap (λ k. map (budget k) k.regions) c.in_ok-known.ensures in
     let all : c.as_slice-4.result.now ≡ costs c.in_ok-known.known = c.as_slice-4.ensures.value ∙ c.in_ok-costs.ensures in
-    let most : c.known_of-total.result ≡ total m = c.known_of-total.ensures ∙ (ap (λ w. known_of w c.main_place.result) all ∙ (ap (known_of (costs c.in_ok-known.known)) c.main_place.ensures ∙ ap total c.in_ok-known.ensures)) in
+    let most : c.known_of-total.result ≡ total m = c.known_of-total.ensures
+    ∙ (ap (λ w. known_of w c.main_place.result) all ∙ (ap (known_of (costs c.in_ok-known.known)) c.main_place.ensures ∙ ap total c.in_ok-known.ensures)) in
     let some : c.in_ok-safe.safe ≡ safe_for raw.stack c.as_slice-5.result.now = subst (λ o. IfSome o (λ s. s ≡ safe_for raw.stack c.as_slice-5.result.now)) c.in_ok-safe.ensures c.safe_for.ensures in
-    let safe : c.in_ok-safe.safe ≡ safe_for (stack_words m.program) (map (budget m) m.regions) = some ∙ (ap (λ w. safe_for w c.as_slice-5.result.now) stack ∙ ap (safe_for (stack_words m.program)) (c.as_slice-5.ensures.value ∙ regions)) in
+    let safe : c.in_ok-safe.safe ≡ safe_for (stack_words m.program) (map (budget m) m.regions) =
+    some ∙ (ap (λ w. safe_for w c.as_slice-5.result.now) stack ∙ ap (safe_for (stack_words m.program)) (c.as_slice-5.ensures.value ∙ regions)) in
     told_is m c.in_ok-regions.regions.items c.in_ok-logged.logged.items c.known_of-total.result c.in_ok-safe.safe regions words most safe

@@ -8,4 +8,5 @@ use Rattle.oc_budget.proofs.held.+spent.Given as goal
 
 abbrev pub invariant-block_spent-loop-statement : goal.invariant-block_spent-loop-statement
 invariant-block_spent-loop-statement l =
-    l.spent + stmts_spent (is_in_region l.known.program (region_view l.region)) (held_cost l.known) (stmts_view (drop l.statement-index l.statement-items)) ≡ block_spent (is_in_region l.known.program (region_view l.region)) (held_cost l.known) (block_view l.block)
+    l.spent + stmts_spent (is_in_region l.known.program (region_view l.region)) (held_cost l.known) (stmts_view (drop l.statement-index l.statement-items))
+    ≡ block_spent (is_in_region l.known.program (region_view l.region)) (held_cost l.known) (block_view l.block)

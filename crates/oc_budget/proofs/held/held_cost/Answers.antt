@@ -15,4 +15,5 @@ returns-in_ok-inner_cost-in-None c =
     let none : returned k ≡ None = sym c.returned.ensures ∙ ap expr_seen c.in-None.is in
     let inner : c.in_ok-inner_cost-in-None.field-0 ≡ cost c.args.callees.now = c.in_ok-inner_cost-in-None.ensures in
     let around : c.probes-around.result ≡ probes (is_use m.program c.args.s) k = c.probes-around.ensures.probes ∙ ap (λ u. probes u k) c.uses.ensures in
-    some_same c.plus-in-None.result (c.in_ok-inner_cost-in-None.field-0 + c.probes-around.result) (held_cost m c.args.s k) c.plus-in-None.ensures (ap (λ x. x + c.probes-around.result) (inner ∙ ap cost c.requires) ∙ (ap (λ x. cost (costs m) + x) around ∙ sym (held_other m c.args.s k none)))
+    some_same c.plus-in-None.result (c.in_ok-inner_cost-in-None.field-0 + c.probes-around.result) (held_cost m c.args.s k) c.plus-in-None.ensures
+    (ap (λ x. x + c.probes-around.result) (inner ∙ ap cost c.requires) ∙ (ap (λ x. cost (costs m) + x) around ∙ sym (held_other m c.args.s k none)))

@@ -8,4 +8,5 @@ use Rattle.oc_budget.proofs.held.region_spent.Given as goal
 
 abbrev pub invariant-loop-function : goal.invariant-loop-function
 invariant-loop-function l =
-    l.spent + functions_spent (is_in_region l.known.program (region_view l.region)) (held_cost l.known) (map function_view (drop l.function-index l.function-items)) ≡ functions_spent (is_in_region l.known.program (region_view l.region)) (held_cost l.known) l.known.program.functions
+    l.spent + functions_spent (is_in_region l.known.program (region_view l.region)) (held_cost l.known) (map function_view (drop l.function-index l.function-items))
+    ≡ functions_spent (is_in_region l.known.program (region_view l.region)) (held_cost l.known) l.known.program.functions

@@ -6,4 +6,5 @@ use Rattle.oc_budget.proofs.levels.next_level.Given as goal
 
 abbrev pub invariant-loop-function : goal.invariant-loop-function
 invariant-loop-function l =
-    l.next.items ++ map (function_cost l.known.program.functions (is_use l.known.program) l.known.regions l.costs) (map function_view (drop l.function-index l.function-items)) ≡ map (function_cost l.known.program.functions (is_use l.known.program) l.known.regions l.costs) l.known.program.functions
+    l.next.items ++ map (function_cost l.known.program.functions (is_use l.known.program) l.known.regions l.costs) (map function_view (drop l.function-index l.function-items))
+    ≡ map (function_cost l.known.program.functions (is_use l.known.program) l.known.regions l.costs) l.known.program.functions

@@ -8,4 +8,5 @@ use Rattle.oc_budget.proofs.uses.fresh_variables.Given as goal
 
 abbrev pub invariant-loop-effect : goal.invariant-loop-effect
 invariant-loop-effect l =
-    (v : VarId) → (list_any (same_variable v) l.fresh.items || list_any (λ b. is_fresh_note v b.note) (map effect_view (drop l.effect-index l.effects))) ≡ list_any (λ b. is_fresh_note v b.note) (map effect_view l.effects)
+    (v : VarId) → (list_any (same_variable v) l.fresh.items || list_any (λ b. is_fresh_note v b.note) (map effect_view (drop l.effect-index l.effects)))
+    ≡ list_any (λ b. is_fresh_note v b.note) (map effect_view l.effects)

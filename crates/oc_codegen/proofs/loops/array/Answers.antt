@@ -12,4 +12,5 @@ returns c =
     let base = c.args.code.now in
     let opened : c.open_count.new.code ≡ base ++ placed n (Push (pos 0)) ∷ placed n (Store q) ∷ below_code n q (pos c.args.words) 0 = search rules in
     let filling : c.fill.new.code ≡ c.open_count.new.code ++ fill_code n q c.args.initial c.args.words = search rules in
-    on_ok c.close_count.result (λ h. count_filled n q (pos 0) (pos c.args.words) base (fill_code n q c.args.initial c.args.words) c.open_count.new.code c.fill.new.code c.close_count.new.code c.in_ok-start.start opened c.in_ok-start.ensures.start filling h) c.close_count.ensures
+    on_ok c.close_count.result (λ h. count_filled n q (pos 0) (pos c.args.words) base (fill_code n q c.args.initial c.args.words) c.open_count.new.code c.fill.new.code
+    c.close_count.new.code c.in_ok-start.start opened c.in_ok-start.ensures.start filling h) c.close_count.ensures

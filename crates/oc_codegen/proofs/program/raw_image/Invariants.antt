@@ -13,6 +13,8 @@ invariant-loop-next l = record {
   callees : l.setting.functions ≡ map function_view l.program.functions.items;
   regions : l.setting.regions ≡ map region_view l.regions;
   scope : l.scope ≡ nv_scope 0 l.program.names.nvs.items l.program.nv.items;
-  code : l.code ++ functions_code (program_view l.program) (map region_view l.regions) (length l.code) (map function_view (drop l.next-index l.next-items)) ≡ functions_code (program_view l.program) (map region_view l.regions) 0 (map function_view l.program.functions.items);
-  entries : l.functions.items ++ image_functions (program_view l.program) (map region_view l.regions) (length l.code) (map function_view (drop l.next-index l.next-items)) ≡ image_functions (program_view l.program) (map region_view l.regions) 0 (map function_view l.program.functions.items);
+  code : l.code ++ functions_code (program_view l.program) (map region_view l.regions) (length l.code) (map function_view (drop l.next-index l.next-items))
+      ≡ functions_code (program_view l.program) (map region_view l.regions) 0 (map function_view l.program.functions.items);
+  entries : l.functions.items ++ image_functions (program_view l.program) (map region_view l.regions) (length l.code) (map function_view (drop l.next-index l.next-items))
+      ≡ image_functions (program_view l.program) (map region_view l.regions) 0 (map function_view l.program.functions.items);
 }

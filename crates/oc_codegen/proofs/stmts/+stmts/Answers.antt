@@ -58,9 +58,11 @@ kind-returns-in-None-clause-code t c =
     let hole = c.in_ok-hole-in-If.hole in
     let view : kind_view c.args.kind.now ≡ if_else cond a no_else =
     ap kind_view c.in-If.is ∙ if_alone c.in-If.condition c.in-If.then c.in-If.otherwise c.in-None.is in
-    let l : length c2 ≡ p + length test + 1 = omega (arith, ap length c.in_ok-hole-in-If.ensures.code, ap length c.in_ok-expr-in-If.ensures, length-append base test, length-append c1 (one n (Jfalse 0))) in
+    let l : length c2 ≡ p + length test + 1 =
+    omega (arith, ap length c.in_ok-hole-in-If.ensures.code, ap length c.in_ok-expr-in-If.ensures, length-append base test, length-append c1 (one n (Jfalse 0))) in
     let set = c.set.ensures ∙ ap (λ m. slice_set c3 hole (placed n (Jfalse m))) c.address-end.ensures.address in
-    one_way_filled n base test (f γ q (length c2) a) c1 c2 c3 c.set.new.self (placed n (Jfalse 0)) hole c.in_ok-expr-in-If.ensures c.in_ok-hole-in-If.ensures.code c.in_ok-hole-in-If.ensures.address c.in_ok-next-in-If.ensures.code set
+    one_way_filled n base test (f γ q (length c2) a) c1 c2 c3 c.set.new.self (placed n (Jfalse 0)) hole c.in_ok-expr-in-If.ensures c.in_ok-hole-in-If.ensures.code
+    c.in_ok-hole-in-If.ensures.address c.in_ok-next-in-If.ensures.code set
     ∙ ap (λ m. base ++ one_way_code n p test (f γ q m a)) l
     ∙ ap (λ k. base ++ kind_code S.names S.functions S.regions S.params γ n q p k) (sym view)
 
@@ -90,12 +92,24 @@ kind-returns-in_ok-next-in-Some-clause-code t c =
     let first = f γ q (length c2) a in
     let view : kind_view c.args.kind.now ≡ if_else cond a (else_do b) =
     ap kind_view c.in-If.is ∙ if_both c.in-If.condition c.in-If.then c.in-If.otherwise c.in-Some.second c.in-Some.is in
-    let l : length c2 ≡ p + length test + 1 = omega (arith, ap length c.in_ok-hole-in-If.ensures.code, ap length c.in_ok-expr-in-If.ensures, length-append base test, length-append c1 (one n (Jfalse 0))) in
+    let l : length c2 ≡ p + length test + 1 =
+    omega (arith, ap length c.in_ok-hole-in-If.ensures.code, ap length c.in_ok-expr-in-If.ensures, length-append base test, length-append c1 (one n (Jfalse 0))) in
     let patched = slice_set c3 hole (placed n (Jfalse (length c3 + 1))) in
     let m : length c4 ≡ p + length test + 1 + length first + 1 =
-    omega (arith, l, ap length c.in_ok-jump-in-Some.ensures.code, length-append patched (one n (Jump 0)), length-set c3 hole (placed n (Jfalse (length c3 + 1))), ap length c.in_ok-next-in-If.ensures.code, length-append c2 first) in
+    omega (
+      arith,
+      l,
+      ap length c.in_ok-jump-in-Some.ensures.code,
+      length-append patched (one n (Jump 0)),
+      length-set c3 hole (placed n (Jfalse (length c3 + 1))),
+      ap length
+          c.in_ok-next-in-If.ensures.code,
+      length-append c2 first,
+    ) in
     let set = c.set-in-Some.ensures ∙ ap (λ m. slice_set c5 jump (placed n (Jump m))) c.address-end-in-Some.ensures.address in
-    two_way_filled n base test first (f g next (length c4) b) c1 c2 c3 c4 c5 c.set-in-Some.new.self (placed n (Jfalse 0)) (placed n (Jump 0)) hole jump c.in_ok-expr-in-If.ensures c.in_ok-hole-in-If.ensures.code c.in_ok-hole-in-If.ensures.address c.in_ok-next-in-If.ensures.code c.in_ok-jump-in-Some.ensures.code c.in_ok-jump-in-Some.ensures.jump c.in_ok-next-in-Some.ensures.code set
+    two_way_filled n base test first (f g next (length c4) b) c1 c2 c3 c4 c5 c.set-in-Some.new.self (placed n (Jfalse 0)) (placed n (Jump 0)) hole jump c.in_ok-expr-in-If.ensures
+    c.in_ok-hole-in-If.ensures.code c.in_ok-hole-in-If.ensures.address c.in_ok-next-in-If.ensures.code c.in_ok-jump-in-Some.ensures.code c.in_ok-jump-in-Some.ensures.jump
+    c.in_ok-next-in-Some.ensures.code set
     ∙ ap (λ g. base ++ two_way_code n p test first (f g next (length c4) b)) c.in_ok-next-in-If.ensures.scope
     ∙ ap (λ s. base ++ two_way_code n p test first (f γ s (length c4) b)) c.in_ok-next-in-If.ensures.next
     ∙ ap (λ m. base ++ two_way_code n p test first (f γ (q + block_slots a) m b)) m
@@ -129,10 +143,12 @@ kind-returns-in_ok-probe-in-While-clause-code t c =
     let is : used ≡ is_use (is_fresh_in γ) (while_do cond bound body) = c.is_use-used.ensures ∙ ap (is_use (is_fresh_in γ)) view in
     let opened : c1 ≡ base ++ head = search rules in
     let l : length c1 ≡ p + 6 = omega (arith, ap length opened, length-append base head) in
-    let m : length c3 ≡ length c1 + length test + 1 = omega (arith, ap length c.in_ok-exit-in-While.ensures.code, length-append c2 (one n (Jfalse 0)), ap length c.in_ok-test-in-While.ensures, length-append c1 test) in
+    let m : length c3 ≡ length c1 + length test + 1 =
+    omega (arith, ap length c.in_ok-exit-in-While.ensures.code, length-append c2 (one n (Jfalse 0)), ap length c.in_ok-test-in-While.ensures, length-append c1 test) in
     let slot : c.in_ok-behind-in-While.field-0 ≡ q + 1 = search rules in
     let turn : c4 ≡ c3 ++ f γ (q + 1) (length c3) body = c.in_ok-next-in-While.ensures.code ∙ ap (λ s. c3 ++ f γ s (length c3) body) slot in
-    let loop = while_filled n q bound base test (f γ (q + 1) (length c3) body) c1 c2 c3 c4 c5 (placed n (Jfalse 0)) c.in_ok-start-in-While.start c.in_ok-exit-in-While.exit opened c.in_ok-start-in-While.ensures.start c.in_ok-test-in-While.ensures c.in_ok-exit-in-While.ensures.code c.in_ok-exit-in-While.ensures.address turn c.in_ok-close_while-in-While.ensures in
+    let loop = while_filled n q bound base test (f γ (q + 1) (length c3) body) c1 c2 c3 c4 c5 (placed n (Jfalse 0)) c.in_ok-start-in-While.start c.in_ok-exit-in-While.exit opened
+    c.in_ok-start-in-While.ensures.start c.in_ok-test-in-While.ensures c.in_ok-exit-in-While.ensures.code c.in_ok-exit-in-While.ensures.address turn c.in_ok-close_while-in-While.ensures in
     c.in_ok-probe-in-While.ensures
     ∙ ap (λ l. l ++ probe_code n used Done) loop
     ∙ append_assoc base (while_code n p q bound test (f γ (q + 1) (length c3) body)) (probe_code n used Done)

@@ -20,7 +20,8 @@ expand_stmts-loop-statement-preserved t c =
     let a = c.in_ok-expand_stmt.ensures.pull in
     let b = c.in_ok-expand_stmt.ensures.stmt in
     record {
-      expanded = stmts_step c.loop-statement.out.items _ x _ _ _ _ _ i l _ v c.in_ok-expand_stmt.ensures.expanded c.in_ok-expand_stmt.ensures.pull c.in_ok-expand_stmt.ensures.stmt e c.loop-statement.invariant.expanded;
+      expanded = stmts_step c.loop-statement.out.items _ x _ _ _ _ _ i l _ v c.in_ok-expand_stmt.ensures.expanded c.in_ok-expand_stmt.ensures.pull c.in_ok-expand_stmt.ensures.stmt
+          e c.loop-statement.invariant.expanded;
       pulls = omega (arith, f, a, c.loop-statement.invariant.pulls);
       sizes = omega (arith, g, b, c.loop-statement.invariant.sizes);
       pull = omega (arith, f, a, c.loop-statement.invariant.pull);

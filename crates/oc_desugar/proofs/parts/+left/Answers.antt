@@ -10,7 +10,8 @@ left_args-loop-arg-preserved t c =
     let item = c.arg-item.is in
     let e : drop i l ≡ c.arg-item.result ∷ drop (i + 1) l = grind (arith, common_steps) in
     record {
-      left = left_args_step c.loop-arg.out.items _ c.in_ok-left.left c.arg-item.result c.loop-arg.k _ i l _ c.in_ok-push.ensures.items c.in_ok-left.ensures.left c.in_ok-left.ensures.next e c.loop-arg.invariant.left;
+      left = left_args_step c.loop-arg.out.items _ c.in_ok-left.left c.arg-item.result c.loop-arg.k _ i l _ c.in_ok-push.ensures.items c.in_ok-left.ensures.left
+          c.in_ok-left.ensures.next e c.loop-arg.invariant.left;
       pulled = grind (arith, common_steps);
       next = grind (arith, common_steps);
     }

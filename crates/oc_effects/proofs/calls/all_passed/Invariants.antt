@@ -7,4 +7,5 @@ use Rattle.oc_effects.proofs.calls.all_passed.Given as goal
 
 abbrev pub invariant-loop-i : goal.invariant-loop-i
 invariant-loop-i l =
-    map passed_view l.all.items ++ all_passed l.here.known.now (placed_view l.here) (drop l.i l.params) (args_view (drop l.i l.args)) ≡ all_passed l.here.known.now (placed_view l.here) l.params (args_view l.args)
+    map passed_view l.all.items ++ all_passed l.here.known.now (placed_view l.here) (drop l.i l.params) (args_view (drop l.i l.args))
+    ≡ all_passed l.here.known.now (placed_view l.here) l.params (args_view l.args)

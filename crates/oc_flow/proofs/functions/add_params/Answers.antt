@@ -5,4 +5,5 @@ use Rattle.oc_flow.proofs.Built.{range_more}
 use Rattle.oc_flow.proofs.functions.add_params.Goals as goal
 
 pub loop-index-preserved : goal.loop-index-preserved
-loop-index-preserved c = range_more Param c.loop-index.variables.items c.push.new.self.items (c.args.variables.now.items ++ map Param (from 0 c.args.count)) c.loop-index.index c.args.count (omega arith) c.in_ok-push.ensures.items c.loop-index.invariant
+loop-index-preserved c = range_more Param c.loop-index.variables.items c.push.new.self.items (c.args.variables.now.items ++ map Param (from 0 c.args.count)) c.loop-index.index
+    c.args.count (omega arith) c.in_ok-push.ensures.items c.loop-index.invariant

@@ -10,4 +10,5 @@ returns c =
     let rs = c.in_ok-received.received.items in
     let make : TTable → TKnown = λ t. record { table = t; outer = out; received = rs } in
     let is : c.new.result ≡ make c.in_ok-table.table = c.new.ensures ∙ ap make c.table.view_is in
-    known_by c.args.outer.nonvolatile c.args.outer.params c.args.known.now (map effect_view c.args.effects.now) c.new.result c.in_ok-table.table out c.in_ok-variables.variables.items rs is c.in_ok-outer_of.ensures c.in_ok-table.ensures.variables c.in_ok-variables.ensures c.in_ok-table.ensures.links c.in_ok-received.ensures
+    known_by c.args.outer.nonvolatile c.args.outer.params c.args.known.now (map effect_view c.args.effects.now) c.new.result c.in_ok-table.table out
+    c.in_ok-variables.variables.items rs is c.in_ok-outer_of.ensures c.in_ok-table.ensures.variables c.in_ok-variables.ensures c.in_ok-table.ensures.links c.in_ok-received.ensures

@@ -5,4 +5,5 @@ use Rattle.oc_flow.specs.Known.{brings_known}
 use Rattle.oc_flow.proofs.inputs.brought.Given as goal
 
 abbrev pub invariant-loop-v : goal.invariant-loop-v
-invariant-loop-v l = l.brought.items ++ filter (λ v. list_any (λ e. brings_known l.known e v) (map effect_view l.effects)) (drop l.v-index l.variables) ≡ filter (λ v. list_any (λ e. brings_known l.known e v) (map effect_view l.effects)) l.variables
+invariant-loop-v l = l.brought.items ++ filter (λ v. list_any (λ e. brings_known l.known e v) (map effect_view l.effects)) (drop l.v-index l.variables)
+    ≡ filter (λ v. list_any (λ e. brings_known l.known e v) (map effect_view l.effects)) l.variables

@@ -9,4 +9,5 @@ returns c =
     let t = c.args.table.now in
     c.in_ok-received.ensures
     ∙ ap (λ vs. map (λ y. list_any (λ u. table_flows t u y) c.as_slice.result.now) vs) c.variables-2.ensures
-    ∙ ap (λ fs. map (λ y. list_any (λ u. table_flows t u y) fs) t.variables) (c.as_slice.ensures.value ∙ c.in_ok-from.ensures ∙ ap (filter (some_brings c.args.known.now (map effect_view c.args.effects.now))) c.variables.ensures)
+    ∙ ap (λ fs. map (λ y. list_any (λ u. table_flows t u y) fs) t.variables)
+    (c.as_slice.ensures.value ∙ c.in_ok-from.ensures ∙ ap (filter (some_brings c.args.known.now (map effect_view c.args.effects.now))) c.variables.ensures)

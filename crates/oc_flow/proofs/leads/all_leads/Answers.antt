@@ -11,4 +11,5 @@ loop-effect-preserved c =
     let es = c.args.effects.now in
     let x = c.effect-item.result in
     let n = length-map es effect_view in
-    adds_turn (leads_known c.args.known.now) (map effect_view es) i (effect_view x) (effect_view x) c.args.table.now c.loop-effect.table c.effect_leads.new.table (omega arith) (ap effect_view c.effect-item.is ∙ sym (get_or_map effect_view es i x)) c.loop-effect.invariant c.effect_leads.ensures
+    adds_turn (leads_known c.args.known.now) (map effect_view es) i (effect_view x) (effect_view x) c.args.table.now c.loop-effect.table c.effect_leads.new.table (omega arith)
+    (ap effect_view c.effect-item.is ∙ sym (get_or_map effect_view es i x)) c.loop-effect.invariant c.effect_leads.ensures

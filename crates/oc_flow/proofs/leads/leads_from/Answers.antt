@@ -13,4 +13,5 @@ returns c =
     let d = called_view c.args.call.now in
     let x = c.args.x in
     let n = ap length c.outer-y-items.ensures in
-    adds_ends d x (λ y b. table_flows k.table x y && ends a' d y b) k.outer c.args.table.now c.loop-y.table (adds_done (λ y a b. begins d x a && (table_flows k.table x y && ends a' d y b)) k.outer c.loop-y.y-index c.args.table.now c.loop-y.table (omega arith) c.loop-y.invariant)
+    adds_ends d x (λ y b. table_flows k.table x y && ends a' d y b) k.outer c.args.table.now c.loop-y.table
+    (adds_done (λ y a b. begins d x a && (table_flows k.table x y && ends a' d y b)) k.outer c.loop-y.y-index c.args.table.now c.loop-y.table (omega arith) c.loop-y.invariant)

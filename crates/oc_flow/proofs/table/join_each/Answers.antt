@@ -26,5 +26,6 @@ loop-i-preserved c =
           (joined_row i m other old (cells_of now) w.join.new.row.items (omega arith) (omega (arith, c.requires.number)) (omega (arith, c.requires.other)) c.loop-i.invariant (read ∙ w.if-at.true)
           (subst (λ r. Joined other r w.join.new.row.items) row w.join.ensures)))
       | else-at w ↦
-          rw add-one (subst (λ (v : Vec (Vec Bool Global) Global). JoinedTo (suc i) m other old (cells_of v.items)) (sym w.rows-is) (joined_not i m other old (cells_of now) c.loop-i.invariant (read ∙ w.if-at.false)))
+          rw add-one (subst (λ (v : Vec (Vec Bool Global) Global). JoinedTo (suc i) m other old (cells_of v.items)) (sym w.rows-is)
+          (joined_not i m other old (cells_of now) c.loop-i.invariant (read ∙ w.if-at.false)))
     ]

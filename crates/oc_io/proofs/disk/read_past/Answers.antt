@@ -11,5 +11,6 @@ pub returns : goal.returns
 returns g c =
     let known = g.R.Read.remaining c.args.reader in
     let n = capped (c.args.limit + 1) in
-    let read : IfSome (option_map (take c.take.result.limit) (g.R.Read.remaining c.take.result.inner)) (λ xs. c.read_to_end.new.buf.items ≡ c.new-bytes.result.items ++ xs) = c.in_ok-read_to_end.ensures.bytes in
+    let read : IfSome (option_map (take c.take.result.limit) (g.R.Read.remaining c.take.result.inner)) (λ xs. c.read_to_end.new.buf.items ≡ c.new-bytes.result.items ++ xs) =
+    c.in_ok-read_to_end.ensures.bytes in
     known_front known n _ (rw (c.take.ensures.inner, c.take.ensures.limit, c.saturating_add.ensures, c.new-bytes.ensures.items) at read)

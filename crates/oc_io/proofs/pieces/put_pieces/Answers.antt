@@ -10,12 +10,14 @@ loop-piece-init g c = record { calm = refl; going = begin g.O.Sink.took g.met.O.
 pub loop-piece-preserved : goal.loop-piece-preserved
 loop-piece-preserved g c = record {
   calm = c.in_default.ensures.calm ∙ c.loop-piece.invariant.calm;
-  going = each_on g.O.Sink.took g.met.O.Sink.took_both _ _ _ (flat_map (λ p. p.now)) (λ p. p.now) (λ x xs. refl) c.args.pieces.now _ _ _ c.loop-piece-test.true c.loop-piece.invariant.going c.in_default.ensures.ok;
+  going = each_on g.O.Sink.took g.met.O.Sink.took_both _ _ _ (flat_map (λ p. p.now)) (λ p. p.now) (λ x xs. refl) c.args.pieces.now _ _ _ c.loop-piece-test.true
+      c.loop-piece.invariant.going c.in_default.ensures.ok;
 }
 
 pub returns-in-Err-clause-part : goal.returns-in-Err-clause-part
 returns-in-Err-clause-part g c =
-    each_stop g.O.Sink.took g.met.O.Sink.took_both _ _ _ (flat_map (λ p. p.now)) (λ p. p.now) (λ x xs. refl) c.args.pieces.now _ _ _ c.loop-piece-test.true c.loop-piece.invariant.going c.in-Err.ensures.part
+    each_stop g.O.Sink.took g.met.O.Sink.took_both _ _ _ (flat_map (λ p. p.now)) (λ p. p.now) (λ x xs. refl) c.args.pieces.now _ _ _ c.loop-piece-test.true
+    c.loop-piece.invariant.going c.in-Err.ensures.part
 
 pub returns-clause-ok : goal.returns-clause-ok
 returns-clause-ok g c = finish g.O.Sink.took _ _ _ (each_done g.O.Sink.took _ _ (flat_map (λ p. p.now)) c.args.pieces.now _ _ c.loop-piece-test.false c.loop-piece.invariant.going)

@@ -13,13 +13,15 @@ pub loop-placed-preserved : goal.loop-placed-preserved
 loop-placed-preserved g c =
     record {
       count = omega arith;
-      going = each_on g.O.Sink.took g.met.O.Sink.took_both _ _ _ (flat_map placed_bytes) placed_bytes (λ x xs. refl) c.args.code.now _ _ _ c.loop-placed-test.true c.loop-placed.invariant.going c.in_default-put_placed.ensures.ok;
+      going = each_on g.O.Sink.took g.met.O.Sink.took_both _ _ _ (flat_map placed_bytes) placed_bytes (λ x xs. refl) c.args.code.now _ _ _ c.loop-placed-test.true
+          c.loop-placed.invariant.going c.in_default-put_placed.ensures.ok;
     }
 
 pub returns-in-Err-put_placed-clause-part : goal.returns-in-Err-put_placed-clause-part
 returns-in-Err-put_placed-clause-part g c =
     behind_first g.O.Sink.took g.met.O.Sink.took_both c.in_default.ensures.ok
-    (each_stop g.O.Sink.took g.met.O.Sink.took_both _ _ _ (flat_map placed_bytes) placed_bytes (λ x xs. refl) c.args.code.now _ _ _ c.loop-placed-test.true c.loop-placed.invariant.going c.in-Err-put_placed.ensures.part)
+    (each_stop g.O.Sink.took g.met.O.Sink.took_both _ _ _ (flat_map placed_bytes) placed_bytes (λ x xs. refl) c.args.code.now _ _ _ c.loop-placed-test.true
+    c.loop-placed.invariant.going c.in-Err-put_placed.ensures.part)
 
 pub returns-clause-ok : goal.returns-clause-ok
 returns-clause-ok g c = g.met.O.Sink.took_both _ _ _ _ _ c.in_default.ensures.ok

@@ -16,14 +16,16 @@ loop-function-preserved g c =
     let put = subst (λ (f : ImageFunction). g.O.Sink.took c.loop-function.sink (function_bytes f) c.put_function.new.sink) c.function-item.is c.in_default-put_function.ensures.ok in
     record {
       count = omega arith;
-      going = each_on g.O.Sink.took g.met.O.Sink.took_both _ _ _ (flat_map function_bytes) function_bytes (λ x xs. refl) c.args.functions.now _ c.function-item.result _ c.loop-function-test.true c.loop-function.invariant.going put;
+      going = each_on g.O.Sink.took g.met.O.Sink.took_both _ _ _ (flat_map function_bytes) function_bytes (λ x xs. refl) c.args.functions.now _ c.function-item.result _
+          c.loop-function-test.true c.loop-function.invariant.going put;
     }
 
 pub returns-in-Err-put_function-clause-part : goal.returns-in-Err-put_function-clause-part
 returns-in-Err-put_function-clause-part g c =
     let put = subst (λ (f : ImageFunction). TookPart g.O.Sink.took c.loop-function.sink (function_bytes f) c.put_function.new.sink) c.function-item.is c.in-Err-put_function.ensures.part in
     behind_first g.O.Sink.took g.met.O.Sink.took_both c.in_default.ensures.ok
-    (each_stop g.O.Sink.took g.met.O.Sink.took_both _ _ _ (flat_map function_bytes) function_bytes (λ x xs. refl) c.args.functions.now _ c.function-item.result _ c.loop-function-test.true c.loop-function.invariant.going put)
+    (each_stop g.O.Sink.took g.met.O.Sink.took_both _ _ _ (flat_map function_bytes) function_bytes (λ x xs. refl) c.args.functions.now _ c.function-item.result _
+    c.loop-function-test.true c.loop-function.invariant.going put)
 
 pub returns-clause-ok : goal.returns-clause-ok
 returns-clause-ok g c = g.met.O.Sink.took_both _ _ _ _ _ c.in_default.ensures.ok

@@ -16,7 +16,8 @@ loop-name-preserved g c =
     let put = subst (λ (f : Text). g.O.Sink.took c.loop-name.sink (name_bytes f) c.put_name.new.sink) c.name-item.is c.in_default-put_name.ensures.ok in
     record {
       count = omega arith;
-      going = each_on g.O.Sink.took g.met.O.Sink.took_both _ _ _ (flat_map name_bytes) name_bytes (λ x xs. refl) c.args.names.now _ c.name-item.result _ c.loop-name-test.true c.loop-name.invariant.going put;
+      going = each_on g.O.Sink.took g.met.O.Sink.took_both _ _ _ (flat_map name_bytes) name_bytes (λ x xs. refl) c.args.names.now _ c.name-item.result _ c.loop-name-test.true
+          c.loop-name.invariant.going put;
     }
 
 pub returns-in-Err-put_name-clause-part : goal.returns-in-Err-put_name-clause-part

@@ -18,7 +18,8 @@ unfolding number_bytes none
 loop-place-preserved g c =
     let more = nvs_more c.args.names.now c.args.nvs.now c.loop-place.place c.index-names-place.result none c.loop-place-test.true c.requires.told in
     let still = subst (λ (rest : Bytes). Going g.O.Sink.took c.put_number.new.sink c.loop-place.sink rest (nvs_bytes c.args.names.now c.args.nvs.now)) more c.loop-place.invariant.going in
-    let put : g.O.Sink.took c.loop-place.sink (nv_bytes (get_or c.args.names.now c.loop-place.place c.index-names-place.result) (get_or c.args.nvs.now c.loop-place.place none)) c.put_nv.new.sink = search rules in
+    let put : g.O.Sink.took c.loop-place.sink (nv_bytes (get_or c.args.names.now c.loop-place.place c.index-names-place.result) (get_or c.args.nvs.now c.loop-place.place none))
+    c.put_nv.new.sink = search rules in
     record { count = omega arith; going = go_on g.O.Sink.took g.met.O.Sink.took_both _ _ _ _ _ _ still put }
 
 pub returns-in-Err-put_nv-clause-part : goal.returns-in-Err-put_nv-clause-part
@@ -26,7 +27,8 @@ unfolding number_bytes none
 returns-in-Err-put_nv-clause-part g c =
     let more = nvs_more c.args.names.now c.args.nvs.now c.loop-place.place c.index-names-place.result none c.loop-place-test.true c.requires.told in
     let still = subst (λ (rest : Bytes). Going g.O.Sink.took c.put_number.new.sink c.loop-place.sink rest (nvs_bytes c.args.names.now c.args.nvs.now)) more c.loop-place.invariant.going in
-    let put : TookPart g.O.Sink.took c.loop-place.sink (nv_bytes (get_or c.args.names.now c.loop-place.place c.index-names-place.result) (get_or c.args.nvs.now c.loop-place.place none)) c.put_nv.new.sink = search rules in
+    let put : TookPart g.O.Sink.took c.loop-place.sink
+    (nv_bytes (get_or c.args.names.now c.loop-place.place c.index-names-place.result) (get_or c.args.nvs.now c.loop-place.place none)) c.put_nv.new.sink = search rules in
     behind_first g.O.Sink.took g.met.O.Sink.took_both c.in_default.ensures.ok (stop g.O.Sink.took g.met.O.Sink.took_both _ _ _ _ _ _ still put)
 
 pub returns-clause-ok : goal.returns-clause-ok

@@ -13,13 +13,15 @@ pub loop-target-preserved : goal.loop-target-preserved
 loop-target-preserved g c =
     record {
       count = omega arith;
-      going = each_on g.O.Sink.took g.met.O.Sink.took_both _ _ _ (flat_map target_bytes) target_bytes (λ x xs. refl) c.args.targets.now _ _ _ c.loop-target-test.true c.loop-target.invariant.going c.in_default-put_target.ensures.ok;
+      going = each_on g.O.Sink.took g.met.O.Sink.took_both _ _ _ (flat_map target_bytes) target_bytes (λ x xs. refl) c.args.targets.now _ _ _ c.loop-target-test.true
+          c.loop-target.invariant.going c.in_default-put_target.ensures.ok;
     }
 
 pub returns-in-Err-put_target-clause-part : goal.returns-in-Err-put_target-clause-part
 returns-in-Err-put_target-clause-part g c =
     behind_first g.O.Sink.took g.met.O.Sink.took_both c.in_default.ensures.ok
-    (each_stop g.O.Sink.took g.met.O.Sink.took_both _ _ _ (flat_map target_bytes) target_bytes (λ x xs. refl) c.args.targets.now _ _ _ c.loop-target-test.true c.loop-target.invariant.going c.in-Err-put_target.ensures.part)
+    (each_stop g.O.Sink.took g.met.O.Sink.took_both _ _ _ (flat_map target_bytes) target_bytes (λ x xs. refl) c.args.targets.now _ _ _ c.loop-target-test.true
+    c.loop-target.invariant.going c.in-Err-put_target.ensures.part)
 
 pub returns-clause-ok : goal.returns-clause-ok
 returns-clause-ok g c = g.met.O.Sink.took_both _ _ _ _ _ c.in_default.ensures.ok

@@ -34,4 +34,5 @@ pub returns-clause-ok : goal.returns-clause-ok
 returns-clause-ok g c =
     let count = subst (λ (n : ℕ). g.O.Sink.took c.args.sink.now (number_bytes n) c.put_number.new.sink) (sym (length-map c.args.regions.now (λ v. v.items))) c.in_default.ensures.ok in
     g.met.O.Sink.took_both _ _ _ _ _ count
-    (finish g.O.Sink.took _ _ _ (each_done g.O.Sink.took _ _ (λ xs. flat_map (list_bytes target_bytes) (map (λ v. v.items) xs)) c.args.regions.now _ _ c.loop-targets-test.false c.loop-targets.invariant.going))
+    (finish g.O.Sink.took _ _ _ (each_done g.O.Sink.took _ _ (λ xs. flat_map (list_bytes target_bytes) (map (λ v. v.items) xs)) c.args.regions.now _ _ c.loop-targets-test.false
+    c.loop-targets.invariant.going))

@@ -7,5 +7,6 @@ use Rattle.oc_isa.proofs.bytes.put_regions.Given as goal
 abbrev pub invariant-loop-targets : goal.invariant-loop-targets
 invariant-loop-targets g l = record {
   count : g.O.Sink.faults l.initial.sink ≤ g.O.Sink.faults l.sink;
-  going : Going g.O.Sink.took l.initial.sink l.sink (flat_map (list_bytes target_bytes) (map (λ v. v.items) (drop l.targets-index l.regions))) (flat_map (list_bytes target_bytes) (map (λ v. v.items) l.regions));
+  going : Going g.O.Sink.took l.initial.sink l.sink (flat_map (list_bytes target_bytes) (map (λ v. v.items) (drop l.targets-index l.regions)))
+      (flat_map (list_bytes target_bytes) (map (λ v. v.items) l.regions));
 }

@@ -14,13 +14,15 @@ loop-function-preserved g c =
     let put = subst (λ (f : ImageFunction). g.O.Sink.took c.loop-function.sink (function_line f) c.put_function.new.sink) c.function-item.is c.in_default.ensures.ok in
     record {
       count = omega arith;
-      going = each_on g.O.Sink.took g.met.O.Sink.took_both _ _ _ function_lines function_line (λ x xs. refl) c.args.functions.now _ c.function-item.result _ c.loop-function-test.true c.loop-function.invariant.going put;
+      going = each_on g.O.Sink.took g.met.O.Sink.took_both _ _ _ function_lines function_line (λ x xs. refl) c.args.functions.now _ c.function-item.result _
+          c.loop-function-test.true c.loop-function.invariant.going put;
     }
 
 pub returns-in-Err-clause-part : goal.returns-in-Err-clause-part
 returns-in-Err-clause-part g c =
     let put = subst (λ (f : ImageFunction). TookPart g.O.Sink.took c.loop-function.sink (function_line f) c.put_function.new.sink) c.function-item.is c.in-Err.ensures.part in
-    each_stop g.O.Sink.took g.met.O.Sink.took_both _ _ _ function_lines function_line (λ x xs. refl) c.args.functions.now _ c.function-item.result _ c.loop-function-test.true c.loop-function.invariant.going put
+    each_stop g.O.Sink.took g.met.O.Sink.took_both _ _ _ function_lines function_line (λ x xs. refl) c.args.functions.now _ c.function-item.result _ c.loop-function-test.true
+    c.loop-function.invariant.going put
 
 pub returns-clause-ok : goal.returns-clause-ok
 returns-clause-ok g c = finish g.O.Sink.took _ _ _ (each_done g.O.Sink.took _ _ function_lines c.args.functions.now _ _ c.loop-function-test.false c.loop-function.invariant.going)

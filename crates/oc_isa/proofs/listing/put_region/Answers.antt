@@ -10,12 +10,14 @@ loop-target-init g c = record { count = omega arith; going = begin g.O.Sink.took
 pub loop-target-preserved : goal.loop-target-preserved
 loop-target-preserved g c = record {
   count = omega arith;
-  going = each_on g.O.Sink.took g.met.O.Sink.took_both _ _ _ (region_lines c.args.region) (target_line c.args.region) (λ x xs. refl) c.args.targets.now _ _ _ c.loop-target-test.true c.loop-target.invariant.going c.in_default.ensures.ok;
+  going = each_on g.O.Sink.took g.met.O.Sink.took_both _ _ _ (region_lines c.args.region) (target_line c.args.region) (λ x xs. refl) c.args.targets.now _ _ _
+      c.loop-target-test.true c.loop-target.invariant.going c.in_default.ensures.ok;
 }
 
 pub returns-in-Err-clause-part : goal.returns-in-Err-clause-part
 returns-in-Err-clause-part g c =
-    each_stop g.O.Sink.took g.met.O.Sink.took_both _ _ _ (region_lines c.args.region) (target_line c.args.region) (λ x xs. refl) c.args.targets.now _ _ _ c.loop-target-test.true c.loop-target.invariant.going c.in-Err.ensures.part
+    each_stop g.O.Sink.took g.met.O.Sink.took_both _ _ _ (region_lines c.args.region) (target_line c.args.region) (λ x xs. refl) c.args.targets.now _ _ _ c.loop-target-test.true
+    c.loop-target.invariant.going c.in-Err.ensures.part
 
 pub returns-clause-ok : goal.returns-clause-ok
 returns-clause-ok g c = finish g.O.Sink.took _ _ _ (each_done g.O.Sink.took _ _ (region_lines c.args.region) c.args.targets.now _ _ c.loop-target-test.false c.loop-target.invariant.going)

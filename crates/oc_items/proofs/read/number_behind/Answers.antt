@@ -6,7 +6,8 @@ use Rattle.oc_items.proofs.read.number_behind.Goals as goal
 
 pub returns-in_err-number-clause-none : goal.returns-in_err-number-clause-none
 returns-in_err-number-clause-none c =
-    if_none c.from_residual-in_err-number.result _ (none_behind c.args.key.now c.args.bytes.now c.in_ok-digits.digits.now (2 ^ 32) (omega arith) c.in_ok-digits.ensures.some c.in_err-number.ensures.none)
+    if_none c.from_residual-in_err-number.result _
+    (none_behind c.args.key.now c.args.bytes.now c.in_ok-digits.digits.now (2 ^ 32) (omega arith) c.in_ok-digits.ensures.some c.in_err-number.ensures.none)
 
 pub returns-then-number-clause-none : goal.returns-then-number-clause-none
 returns-then-number-clause-none c = λ n s.

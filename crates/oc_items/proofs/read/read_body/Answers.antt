@@ -11,4 +11,5 @@ returns-in-Some-read_mark-clause-some c = c.in-Some-read_mark.ensures.some (name
 
 pub returns-clause-none : goal.returns-clause-none
 returns-clause-none c =
-    if_none_too c.read_stop.result _ _ (no_body (names_view c.args.names.now) c.args.tick c.args.body.now c.in_default.ensures.none c.in_default-read_emit.ensures.none c.in_default-read_statement.ensures.none c.in_default-read_mark.ensures.none) c.read_stop.ensures.none
+    if_none_too c.read_stop.result _ _ (no_body (names_view c.args.names.now) c.args.tick c.args.body.now c.in_default.ensures.none c.in_default-read_emit.ensures.none
+    c.in_default-read_statement.ensures.none c.in_default-read_mark.ensures.none) c.read_stop.ensures.none

@@ -19,7 +19,8 @@ pub returns-clause-some : goal.returns-clause-some
 returns-clause-some c =
     let l : c.in_ok-tick.tick < 2 ^ 64 = search rules in
     let d : decimal c.in_ok-tick.tick ≡ c.in_ok-parts.parts.0.now = c.in_ok-tick.ensures.some in
-    if_some_too c.read_body.result _ _ (λ i t. tells_line (names_view c.args.names.now) c.args.line.now c.in_ok-parts.parts.0.now c.in_ok-parts.parts.1.now c.in_ok-tick.tick i l c.in_ok-parts.ensures.some.0 c.in_ok-parts.ensures.some.1 d t (λ n k f. decimal_injective n c.in_ok-tick.tick k l (f ∙ sym d))) c.read_body.ensures.some
+    if_some_too c.read_body.result _ _ (λ i t. tells_line (names_view c.args.names.now) c.args.line.now c.in_ok-parts.parts.0.now c.in_ok-parts.parts.1.now c.in_ok-tick.tick i l
+    c.in_ok-parts.ensures.some.0 c.in_ok-parts.ensures.some.1 d t (λ n k f. decimal_injective n c.in_ok-tick.tick k l (f ∙ sym d))) c.read_body.ensures.some
 
 pub returns-clause-none : goal.returns-clause-none
 returns-clause-none c =

@@ -7,4 +7,5 @@ returns-in_err-digits-clause-none c =
 
 pub returns-clause-none : goal.returns-clause-none
 returns-clause-none c =
-    if_none_too c.read_i32.result _ _ (no_value c.args.name.now c.args.bytes.now c.in_ok-rest.rest.now c.in_ok-digits.digits.now c.in_ok-rest.ensures.some c.in_ok-digits.ensures.some) c.read_i32.ensures.none
+    if_none_too c.read_i32.result _ _ (no_value c.args.name.now c.args.bytes.now c.in_ok-rest.rest.now c.in_ok-digits.digits.now c.in_ok-rest.ensures.some
+    c.in_ok-digits.ensures.some) c.read_i32.ensures.none

@@ -12,12 +12,14 @@ returns-in-Err-clause-part g c =
 
 pub returns-in-Err-put_word-clause-part : goal.returns-in-Err-put_word-clause-part
 returns-in-Err-put_word-clause-part g c =
-    each_stop g.O.Sink.took g.met.O.Sink.took_both _ _ _ words_fields word_field words_fields-cons c.args.words.now _ _ _ c.loop-word-test.true c.loop-word.invariant.going c.in-Err-put_word.ensures.part
+    each_stop g.O.Sink.took g.met.O.Sink.took_both _ _ _ words_fields word_field words_fields-cons c.args.words.now _ _ _ c.loop-word-test.true c.loop-word.invariant.going
+    c.in-Err-put_word.ensures.part
 
 pub loop-word-preserved : goal.loop-word-preserved
 loop-word-preserved g c = record {
   count = omega arith;
-  going = each_on g.O.Sink.took g.met.O.Sink.took_both _ _ _ words_fields word_field words_fields-cons c.args.words.now _ _ _ c.loop-word-test.true c.loop-word.invariant.going c.in_default-put_word.ensures.ok;
+  going = each_on g.O.Sink.took g.met.O.Sink.took_both _ _ _ words_fields word_field words_fields-cons c.args.words.now _ _ _ c.loop-word-test.true c.loop-word.invariant.going
+      c.in_default-put_word.ensures.ok;
 }
 
 pub returns-clause-part : goal.returns-clause-part

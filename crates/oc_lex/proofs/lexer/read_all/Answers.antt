@@ -11,6 +11,7 @@ loop-at-preserved c =
     let i = c.loop-at.invariant in
     record {
       within = within_next c.args.source.now c.loop-at.at c.in-Some.count c.in-Some.piece c.loop-at-test.true c.in-Some.ensures;
-      so_far = lexed_more c.args.source.now c.loop-at.at c.in-Some.count c.loop-at.line c.loop-at.tokens.items c.add.new.tokens.items c.in-Some.piece c.in_ok-kind.kind c.in-Some.ensures c.in_ok-kind.ensures i.lines i.so_far c.in_ok-add.ensures.added;
+      so_far = lexed_more c.args.source.now c.loop-at.at c.in-Some.count c.loop-at.line c.loop-at.tokens.items c.add.new.tokens.items c.in-Some.piece c.in_ok-kind.kind
+          c.in-Some.ensures c.in_ok-kind.ensures i.lines i.so_far c.in_ok-add.ensures.added;
       lines = line_next c.args.source.now c.loop-at.at c.in-Some.count c.loop-at.line c.line_after-line.result c.in-Some.piece c.in-Some.ensures i.lines c.line_after-line.ensures;
     }

@@ -27,7 +27,8 @@ returns-in_err-single-in-None c =
       | else-first-eq47-via-then-first-eq47+else-second-eq47 w ↦ λ e f. w.if-second-eq47.false f
       | else-first-eq47-via-else-first-eq47 w ↦ λ e f. w.if-first-eq47.false e
     ] in
-    rw c.from_residual-in_err-single-in-None.ensures (no_piece c.args.first c.args.rest.now c.requires (no_comment c.args.first c.args.rest.now n) (no_double c.args.first c.args.rest.now c.in-None.ensures) c.in_err-single-in-None.ensures)
+    rw c.from_residual-in_err-single-in-None.ensures
+    (no_piece c.args.first c.args.rest.now c.requires (no_comment c.args.first c.args.rest.now n) (no_double c.args.first c.args.rest.now c.in-None.ensures) c.in_err-single-in-None.ensures)
 
 pub returns-in_ok-single-in-None : goal.returns-in_ok-single-in-None
 returns-in_ok-single-in-None c =
@@ -36,4 +37,5 @@ returns-in_ok-single-in-None c =
       | else-first-eq47-via-then-first-eq47+else-second-eq47 w ↦ λ e f. w.if-second-eq47.false f
       | else-first-eq47-via-else-first-eq47 w ↦ λ e f. w.if-first-eq47.false e
     ] in
-    single_longest c.args.first c.args.rest.now c.in_ok-single-in-None.field-0 c.requires (no_comment c.args.first c.args.rest.now n) (no_double c.args.first c.args.rest.now c.in-None.ensures) c.in_ok-single-in-None.ensures
+    single_longest c.args.first c.args.rest.now c.in_ok-single-in-None.field-0 c.requires (no_comment c.args.first c.args.rest.now n)
+    (no_double c.args.first c.args.rest.now c.in-None.ensures) c.in_ok-single-in-None.ensures

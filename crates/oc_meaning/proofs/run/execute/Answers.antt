@@ -30,4 +30,5 @@ returns-clause-cut c =
     let none : ps ≡ [] = ap (map passed_view) c.new.ensures.items in
     let same : call_to p rs (length fs + 1) x ps σ ≡ main_from p rs σ =
     ap (λ d. call_to p rs d x ps σ) depth ∙ ap (λ n. call_to p rs (suc (length p.functions)) n ps σ) name ∙ ap (λ l. call_to p rs (suc (length p.functions)) (codes "main") l σ) none in
-    on_err_weaker c.call_to.result (λ (h : Oldest events (events_in (call_to p rs (length fs + 1) x ps σ))). along_with events (call_to p rs (length fs + 1) x ps σ) (main_from p rs σ) same h) c.call_to.ensures.cut
+    on_err_weaker c.call_to.result (λ (h : Oldest events (events_in (call_to p rs (length fs + 1) x ps σ))). along_with events (call_to p rs (length fs + 1) x ps σ)
+    (main_from p rs σ) same h) c.call_to.ensures.cut

@@ -16,7 +16,8 @@ returns-in_err-kind-clause-cut c =
     let env = c.args.scope.now in
     let n = c.args.n in
     let k = kind_view c.args.kind.now in
-    on_err _ (returns_from σ.events (value_of env σ (expr_view c.args.value.now)) n (ended_by (map region_view c.args.run.now.regions.now) n) (is_use (is_fresh env) k) (use_samples env k σ) σ (all_of_them σ.events σ.events refl))
+    on_err _ (returns_from σ.events (value_of env σ (expr_view c.args.value.now)) n (ended_by (map region_view c.args.run.now.regions.now) n) (is_use (is_fresh env) k)
+    (use_samples env k σ) σ (all_of_them σ.events σ.events refl))
 
 pub returns-in_err-uses-in-Value-clause-cut : goal.returns-in_err-uses-in-Value-clause-cut
 returns-in_err-uses-in-Value-clause-cut c =
@@ -24,7 +25,8 @@ returns-in_err-uses-in-Value-clause-cut c =
     let env = c.args.scope.now in
     let n = c.args.n in
     let k = kind_view c.args.kind.now in
-    on_err _ (returns_from σ.events (value_of env σ (expr_view c.args.value.now)) n (ended_by (map region_view c.args.run.now.regions.now) n) (is_use (is_fresh env) k) (use_samples env k σ) σ (all_of_them σ.events σ.events refl))
+    on_err _ (returns_from σ.events (value_of env σ (expr_view c.args.value.now)) n (ended_by (map region_view c.args.run.now.regions.now) n) (is_use (is_fresh env) k)
+    (use_samples env k σ) σ (all_of_them σ.events σ.events refl))
 
 pub returns-in_err-end_use-in-Value-clause-cut : goal.returns-in_err-end_use-in-Value-clause-cut
 returns-in_err-end_use-in-Value-clause-cut c =
@@ -38,7 +40,8 @@ returns-in_err-end_use-in-Value-clause-cut c =
     let g = value_of env σ (expr_view c.args.value.now) in
     let found : g ≡ Val c.in-Value.found = sym c.in_ok-kind.ensures ∙ ap got_view c.in-Value.is in
     let told : ended c.in_ok-uses-in-Value.uses n σ ≡ done b n samples σ = ap (λ u. ended u n σ) c.in_ok-uses-in-Value.ensures ∙ done_if b n samples σ in
-    on_err _ (returned_from τ.events g c.in-Value.found n (ended_by (map region_view c.args.run.now.regions.now) n) b samples σ found (in_other τ.events (ended c.in_ok-uses-in-Value.uses n σ) (done b n samples σ) told c.in_err-end_use-in-Value.ensures.cut))
+    on_err _ (returned_from τ.events g c.in-Value.found n (ended_by (map region_view c.args.run.now.regions.now) n) b samples σ found
+    (in_other τ.events (ended c.in_ok-uses-in-Value.uses n σ) (done b n samples σ) told c.in_err-end_use-in-Value.ensures.cut))
 
 pub returns-in_err-close-in-Value-clause-cut : goal.returns-in_err-close-in-Value-clause-cut
 returns-in_err-close-in-Value-clause-cut c =

@@ -26,7 +26,8 @@ use Rattle.oc_meaning.proofs.Sizes.{largest, less_deep, no_larger}
 use Rattle.oc_meaning.proofs.Turns.{count_more, for_more, for_over, one_left, while_ends, while_more, while_traps}
 use Rattle.oc_meaning.proofs.FreshNames.{begun_if, ended_if}
 use Rattle.oc_meaning.proofs.Growing.{leave_keeps}
-use Rattle.oc_meaning.proofs.Cutting.{all_of_them, along_with, as_before, begun_stmt_from, behind_kind, block_from, call_from, callee_from, closed_from, in_other, index_from, kind_from, on_err, one_more, opened_from, stmt_from, stmts_from, then_from, turn_from, turns_from, while_from}
+use Rattle.oc_meaning.proofs.Cutting.{all_of_them, along_with, as_before, begun_stmt_from, behind_kind, block_from, call_from, callee_from, closed_from, in_other, index_from}
+use Rattle.oc_meaning.proofs.Cutting.{kind_from, on_err, one_more, opened_from, stmt_from, stmts_from, then_from, turn_from, turns_from, while_from}
 use Rattle.oc_meaning.proofs.statements.+run.Goals as goal
 
 pub block-returns-clause-runs : goal.block-returns-clause-runs
@@ -170,7 +171,8 @@ kind-returns-in-For-clause-runs t c =
     let body : ℤ → Store → Outcome = λ i. block_here r (in_turn x i ∷ env) b in
     let to_is : to_z w32 (of_z w32 to) ≡ to = search rules in
     let from_is : to_z w32 (of_z w32 from) ≡ from = search rules in
-    let view : kind_view c.args.kind.now ≡ for_in x from to b = ap kind_view c.in-For.is ∙ fold-roll-StmtKind TKind TBlock TStmt kind_step block_step stmt_step (StmtKind-F.For x from to c.in-For.body) in
+    let view : kind_view c.args.kind.now ≡ for_in x from to b = ap kind_view c.in-For.is
+    ∙ fold-roll-StmtKind TKind TBlock TStmt kind_step block_step stmt_step (StmtKind-F.For x from to c.in-For.body) in
     along c.for_turns.result c.for_turns.new.store
     (for_turns (count_of (to_z w32 (of_z w32 to) -ℤ to_z w32 (of_z w32 from))) (to_z w32 (of_z w32 from)) body σ)
     (kind_here r env n (kind_view c.args.kind.now) σ)
@@ -264,7 +266,8 @@ while_turns-returns-then-is_zero-clause-runs t c =
     let counts : c.in_ok-is_use.is_use ≡ is = c.in_ok-is_use.ensures in
     let found : value_of env (used is n (taken σ) σ) cond ≡ Val c.in-Value.value =
     ap (λ s. value_of env s cond) (sym began) ∙ ap (λ g. value_of g τ cond) (sym same) ∙ sym c.in_ok-trapped.ensures ∙ ap got_view c.in-Value.is in
-    let ends = while_ends n is taken (λ s. value_of env s cond) (block_here r env (block_view c.args.body.now)) c.args.bound c.loop-turn._turn before σ c.in-Value.value c.loop-turn-test.true found (sym c.is_zero.ensures ∙ c.if-is_zero.true) in
+    let ends = while_ends n is taken (λ s. value_of env s cond) (block_here r env (block_view c.args.body.now)) c.args.bound c.loop-turn._turn before σ c.in-Value.value
+    c.loop-turn-test.true found (sym c.is_zero.ensures ∙ c.if-is_zero.true) in
     along c.end_turns.result c.end_turns.new.store
     (Went (done c.in_ok-is_use.is_use n c.in_ok-samples.samples τ))
     (while_turns c.args.bound n is taken (λ s. value_of env s cond) (block_here r env (block_view c.args.body.now)) [] c.args.store.now)
@@ -298,7 +301,8 @@ while_turns-returns-in_default t c =
     let ran : block_here r env b (used is n (taken σ) σ) ≡ completion_at o c.block.new.store =
     ap (block_here r env b) (sym began) ∙ ap (λ g. block_here r g b τ) (sym same) ∙ sym c.in_ok-other.ensures.runs in
     let go = while_turns (c.args.bound - (c.loop-turn._turn + 1)) n is taken (λ s. value_of env s cond) (block_here r env b) (union before (taken σ)) in
-    let step = while_more n is taken (λ s. value_of env s cond) (block_here r env b) c.args.bound c.loop-turn._turn before σ c.in-Value.value c.loop-turn-test.true found (sym c.is_zero.ensures ∙ c.if-is_zero.false) in
+    let step = while_more n is taken (λ s. value_of env s cond) (block_here r env b) c.args.bound c.loop-turn._turn before σ c.in-Value.value c.loop-turn-test.true found
+    (sym c.is_zero.ensures ∙ c.if-is_zero.false) in
     record {
       runs = sym (step ∙ ap (λ q. then_do q go) ran ∙ stops o c.block.new.store go c.in_default.not-Went) ∙ c.loop-turn.invariant.runs;
       scope = c.in_ok-other.ensures.scope ∙ same;
@@ -330,7 +334,8 @@ while_turns-loop-turn-preserved t c =
     ap (block_here r env b) (sym began) ∙ ap (λ g. block_here r g b τ) (sym same) ∙ sym c.in_ok-other.ensures.runs ∙ ap (λ o. completion_at o c.block.new.store) c.in-Went.is in
     let left = c.args.bound - (c.loop-turn._turn + 1) in
     let turns = while_turns left n is taken (λ s. value_of env s cond) (block_here r env b) in
-    let step = while_more n is taken (λ s. value_of env s cond) (block_here r env b) c.args.bound c.loop-turn._turn before σ c.in-Value.value c.loop-turn-test.true found (sym c.is_zero.ensures ∙ c.if-is_zero.false) in
+    let step = while_more n is taken (λ s. value_of env s cond) (block_here r env b) c.args.bound c.loop-turn._turn before σ c.in-Value.value c.loop-turn-test.true found
+    (sym c.is_zero.ensures ∙ c.if-is_zero.false) in
     record {
       runs = ap (λ s. turns s c.block.new.store) all ∙ sym (step ∙ ap (λ q. then_do q (turns (union before (taken σ)))) ran) ∙ c.loop-turn.invariant.runs;
       scope = c.in_ok-other.ensures.scope ∙ same;
@@ -444,7 +449,8 @@ kind-returns-in_err-given-in-AssignIndex-clause-cut t c =
     let x = c.in-AssignIndex.name in
     let e = expr_view c.in-AssignIndex.index in
     let s = right_view c.in-AssignIndex.side in
-    let view : kind_view c.args.kind.now ≡ assign_index x e s = ap kind_view c.in-AssignIndex.is ∙ fold-roll-StmtKind TKind TBlock TStmt kind_step block_step stmt_step (StmtKind-F.AssignIndex x c.in-AssignIndex.index c.in-AssignIndex.side) in
+    let view : kind_view c.args.kind.now ≡ assign_index x e s = ap kind_view c.in-AssignIndex.is
+    ∙ fold-roll-StmtKind TKind TBlock TStmt kind_step block_step stmt_step (StmtKind-F.AssignIndex x c.in-AssignIndex.index c.in-AssignIndex.side) in
     let events = c.right-in-AssignIndex.new.store.events in
     let cut : Oldest events (events_in (right_here r env n σ s)) = c.in_err-given-in-AssignIndex.ensures.cut in
     on_err _
@@ -468,7 +474,8 @@ statement-returns-in_default t c =
     let open_is : c.open.new.self ≡ begins = c.in_ok-open.ensures.step ∙ ap (λ o. opened o σ) c.begun_by.ensures in
     let υ = used (begins_use (is_fresh env) k) n samples begins in
     let begun_is : c.begin.new.store ≡ υ =
-    c.in_ok-begin.ensures.step ∙ ap (λ u. begun_at k u n c.open.new.self) c.in_ok-uses.ensures ∙ ap (begun_at k (if is_use (is_fresh env) k then Some samples else None) n) open_is ∙ begun_if (is_fresh env) k n samples begins in
+    c.in_ok-begin.ensures.step ∙ ap (λ u. begun_at k u n c.open.new.self) c.in_ok-uses.ensures ∙ ap (begun_at k (if is_use (is_fresh env) k then Some samples else None) n) open_is
+    ∙ begun_if (is_fresh env) k n samples begins in
     let ends : Store → Store = λ s. closed (ended_by (map region_view r.regions.now) n) (done (ends_use (is_fresh env) k) n samples s) in
     let τ = c.kind.new.store in
     record {
@@ -489,9 +496,11 @@ statement-returns-in_err-other-clause-cut t c =
     let open_is : c.open.new.self ≡ begins = c.in_ok-open.ensures.step ∙ ap (λ o. opened o σ) c.begun_by.ensures in
     let υ = used (begins_use (is_fresh env) k) n samples begins in
     let begun_is : c.begin.new.store ≡ υ =
-    c.in_ok-begin.ensures.step ∙ ap (λ u. begun_at k u n c.open.new.self) c.in_ok-uses.ensures ∙ ap (begun_at k (if is_use (is_fresh env) k then Some samples else None) n) open_is ∙ begun_if (is_fresh env) k n samples begins in
+    c.in_ok-begin.ensures.step ∙ ap (λ u. begun_at k u n c.open.new.self) c.in_ok-uses.ensures ∙ ap (begun_at k (if is_use (is_fresh env) k then Some samples else None) n) open_is
+    ∙ begun_if (is_fresh env) k n samples begins in
     let events = c.kind.new.store.events in
-    on_err _ (behind_kind events r env n k σ (kind_here r env n k υ) (along_with events (kind_here r env n k c.begin.new.store) (kind_here r env n k υ) (ap (kind_here r env n k) begun_is) c.in_err-other.ensures.cut))
+    on_err _ (behind_kind events r env n k σ (kind_here r env n k υ)
+    (along_with events (kind_here r env n k c.begin.new.store) (kind_here r env n k υ) (ap (kind_here r env n k) begun_is) c.in_err-other.ensures.cut))
 
 pub statement-returns-in_err-uses-clause-cut : goal.statement-returns-in_err-uses-clause-cut
 statement-returns-in_err-uses-clause-cut t c =
@@ -518,7 +527,8 @@ statements-returns-in_default t c =
     let opened : stmt_view s ≡ stmt s.id s.line k = search (rules, statements.the_lemmas) in
     let split : stmts_view (drop i xs) ≡ more (stmt s.id s.line k) rest = ap stmts_view (rest_at xs i s c.loop-inner-test.true c.inner-item.is) ∙ ap (λ q. more q rest) opened in
     let go = stmts_here r (grown k rest γ σ) rest in
-    let whole : then_do (stmt_here r γ s.id k σ) go ≡ stmts_here r env (stmts_in (block_view c.args.block.now)) c.args.store.now = sym (ap (λ ss. stmts_here r γ ss σ) split) ∙ c.loop-inner.invariant.runs in
+    let whole : then_do (stmt_here r γ s.id k σ) go ≡ stmts_here r env (stmts_in (block_view c.args.block.now)) c.args.store.now = sym (ap (λ ss. stmts_here r γ ss σ) split)
+    ∙ c.loop-inner.invariant.runs in
     let o = c.in_ok-other.other in
     record {
       runs = sym (ap (λ q. then_do q go) (sym c.in_ok-other.ensures.runs) ∙ stops o τ go c.in_default.not-Went) ∙ whole;
@@ -541,7 +551,8 @@ statements-returns-in_err-grow-in-Went-clause-cut t c =
     let opened : stmt_view s ≡ stmt s.id s.line k = search (rules, statements.the_lemmas) in
     let split : stmts_view (drop i xs) ≡ more (stmt s.id s.line k) rest = ap stmts_view (rest_at xs i s c.loop-inner-test.true c.inner-item.is) ∙ ap (λ q. more q rest) opened in
     let go = stmts_here r (grown k rest γ σ) rest in
-    let whole : then_do (stmt_here r γ s.id k σ) go ≡ stmts_here r env (stmts_in (block_view c.args.block.now)) c.args.store.now = sym (ap (λ ss. stmts_here r γ ss σ) split) ∙ c.loop-inner.invariant.runs in
+    let whole : then_do (stmt_here r γ s.id k σ) go ≡ stmts_here r env (stmts_in (block_view c.args.block.now)) c.args.store.now = sym (ap (λ ss. stmts_here r γ ss σ) split)
+    ∙ c.loop-inner.invariant.runs in
     let went : stmt_here r γ s.id k σ ≡ Went τ = sym c.in_ok-other.ensures.runs ∙ ap (λ o. completion_at o τ) c.in-Went.is in
     on_err _
     (along_with τ.events (go τ) (stmts_here r env (stmts_in (block_view c.args.block.now)) c.args.store.now) (sym (ap (λ q. then_do q go) went) ∙ whole)
@@ -562,7 +573,8 @@ statements-returns-in_err-other-clause-cut t c =
     let opened : stmt_view s ≡ stmt s.id s.line k = search (rules, statements.the_lemmas) in
     let split : stmts_view (drop i xs) ≡ more (stmt s.id s.line k) rest = ap stmts_view (rest_at xs i s c.loop-inner-test.true c.inner-item.is) ∙ ap (λ q. more q rest) opened in
     let go = stmts_here r (grown k rest γ σ) rest in
-    let whole : then_do (stmt_here r γ s.id k σ) go ≡ stmts_here r env (stmts_in (block_view c.args.block.now)) c.args.store.now = sym (ap (λ ss. stmts_here r γ ss σ) split) ∙ c.loop-inner.invariant.runs in
+    let whole : then_do (stmt_here r γ s.id k σ) go ≡ stmts_here r env (stmts_in (block_view c.args.block.now)) c.args.store.now = sym (ap (λ ss. stmts_here r γ ss σ) split)
+    ∙ c.loop-inner.invariant.runs in
     on_err _
     (along_with τ.events (then_do (stmt_here r γ s.id k σ) go) (stmts_here r env (stmts_in (block_view c.args.block.now)) c.args.store.now) whole
     (then_from τ.events (stmt_here r γ s.id k σ) go c.in_err-other.ensures.cut (λ υ l. stmts_from τ.events r (grown k rest γ σ) rest υ l)))
@@ -602,7 +614,8 @@ while_turns-returns-in_err-is_use-clause-cut t c =
     let k = kind_view c.args.kind.now in
     let cond = expr_view c.args.condition.now in
     let b = block_view c.args.body.now in
-    on_err _ (while_from σ.events c.args.bound c.args.n (is_use (is_fresh env) k) (use_samples env k) (λ s. value_of env s cond) (block_here r env b) [] σ (as_before σ σ refl) (λ s l. block_from σ.events r env b s l))
+    on_err _ (while_from σ.events c.args.bound c.args.n (is_use (is_fresh env) k) (use_samples env k) (λ s. value_of env s cond) (block_here r env b) [] σ (as_before σ σ refl)
+    (λ s l. block_from σ.events r env b s l))
 
 pub while_turns-returns-in_err-other-clause-cut : goal.while_turns-returns-in_err-other-clause-cut
 while_turns-returns-in_err-other-clause-cut t c =
@@ -627,12 +640,14 @@ while_turns-returns-in_err-other-clause-cut t c =
     let found : value_of env (used is n (taken σ) σ) cond ≡ Val c.in-Value.value =
     ap (λ s. value_of env s cond) (sym began) ∙ ap (λ g. value_of g τ cond) (sym same) ∙ sym c.in_ok-trapped.ensures ∙ ap got_view c.in-Value.is in
     let go = turns left (union before (taken σ)) in
-    let step = while_more n is taken (λ s. value_of env s cond) (block_here r env b) c.args.bound c.loop-turn._turn before σ c.in-Value.value c.loop-turn-test.true found (sym c.is_zero.ensures ∙ c.if-is_zero.false) in
+    let step = while_more n is taken (λ s. value_of env s cond) (block_here r env b) c.args.bound c.loop-turn._turn before σ c.in-Value.value c.loop-turn-test.true found
+    (sym c.is_zero.ensures ∙ c.if-is_zero.false) in
     let cut : Oldest events (events_in (block_here r γ b τ)) = c.in_err-other.ensures.cut in
     let ran = along_with events (block_here r γ b τ) (block_here r env b (used is n (taken σ) σ)) (ap (λ g. block_here r g b τ) same ∙ ap (block_here r env b) began) cut in
     on_err _
     (along_with events (then_do (block_here r env b (used is n (taken σ) σ)) go) (turns c.args.bound [] c.args.store.now) (sym step ∙ c.loop-turn.invariant.runs)
-    (then_from events (block_here r env b (used is n (taken σ) σ)) go ran (λ s l. while_from events left n is taken (λ s. value_of env s cond) (block_here r env b) (union before (taken σ)) s l (λ s l. block_from events r env b s l))))
+    (then_from events (block_here r env b (used is n (taken σ) σ)) go ran
+    (λ s l. while_from events left n is taken (λ s. value_of env s cond) (block_here r env b) (union before (taken σ)) s l (λ s l. block_from events r env b s l))))
 
 pub while_turns-returns-in_err-trapped-clause-cut : goal.while_turns-returns-in_err-trapped-clause-cut
 while_turns-returns-in_err-trapped-clause-cut t c =
@@ -654,7 +669,8 @@ while_turns-returns-in_err-trapped-clause-cut t c =
     let began : τ ≡ used is n (taken σ) σ = told ∙ ap (λ g. used (is_use (is_fresh g) k) n (use_samples g k σ) σ) same in
     let turns = λ (t : ℕ). while_turns t n is taken (λ s. value_of env s cond) (block_here r env b) in
     on_err _
-    (along_with τ.events (turns (suc left) before σ) (turns c.args.bound [] c.args.store.now) (ap (λ t. turns t before σ) (sym (one_left c.args.bound c.loop-turn._turn c.loop-turn-test.true)) ∙ c.loop-turn.invariant.runs)
+    (along_with τ.events (turns (suc left) before σ) (turns c.args.bound [] c.args.store.now)
+    (ap (λ t. turns t before σ) (sym (one_left c.args.bound c.loop-turn._turn c.loop-turn-test.true)) ∙ c.loop-turn.invariant.runs)
     (turn_from τ.events left n is taken (λ s. value_of env s cond) (block_here r env b) before σ (as_before τ (used is n (taken σ) σ) began) (λ s l. block_from τ.events r env b s l)))
 
 pub statement-returns-in_err-begin-clause-cut : goal.statement-returns-in_err-begin-clause-cut
@@ -685,12 +701,14 @@ statement-returns-in_err-close-in-Went-clause-cut t c =
     let open_is : c.open.new.self ≡ begins = c.in_ok-open.ensures.step ∙ ap (λ o. opened o σ) c.begun_by.ensures in
     let υ = used (begins_use (is_fresh env) k) n samples begins in
     let begun_is : c.begin.new.store ≡ υ =
-    c.in_ok-begin.ensures.step ∙ ap (λ u. begun_at k u n c.open.new.self) c.in_ok-uses.ensures ∙ ap (begun_at k (if is_use (is_fresh env) k then Some samples else None) n) open_is ∙ begun_if (is_fresh env) k n samples begins in
+    c.in_ok-begin.ensures.step ∙ ap (λ u. begun_at k u n c.open.new.self) c.in_ok-uses.ensures ∙ ap (begun_at k (if is_use (is_fresh env) k then Some samples else None) n) open_is
+    ∙ begun_if (is_fresh env) k n samples begins in
     let ends : Store → Store = λ s. closed (ended_by (map region_view r.regions.now) n) (done (ends_use (is_fresh env) k) n samples s) in
     let τ = c.kind.new.store in
     let went : kind_here r env n k υ ≡ Went τ = sym (c.in_ok-other.ensures.runs ∙ ap (kind_here r env n k) begun_is) ∙ ap (λ o. completion_at o τ) c.in-Went.is in
     let ω = c.close.new.self in
-    let end_is : c.end.new.store ≡ done (ends_use (is_fresh env) k) n samples τ = c.in_ok-end-in-Went.ensures.step ∙ ap (λ u. ended_at k u n τ) c.in_ok-uses.ensures ∙ ended_if (is_fresh env) k n samples τ in
+    let end_is : c.end.new.store ≡ done (ends_use (is_fresh env) k) n samples τ = c.in_ok-end-in-Went.ensures.step ∙ ap (λ u. ended_at k u n τ) c.in_ok-uses.ensures
+    ∙ ended_if (is_fresh env) k n samples τ in
     let close_is : closed c.ended_by.result c.end.new.store ≡ ends τ = ap (λ o. closed o c.end.new.store) c.ended_by.ensures ∙ ap (closed (ended_by (map region_view r.regions.now) n)) end_is in
     on_err _
     (along_with ω.events (Went (ends τ)) (stmt_here r env n k σ) (ap (finished ends) (sym went))
@@ -708,7 +726,8 @@ statement-returns-in_err-end-in-Went-clause-cut t c =
     let open_is : c.open.new.self ≡ begins = c.in_ok-open.ensures.step ∙ ap (λ o. opened o σ) c.begun_by.ensures in
     let υ = used (begins_use (is_fresh env) k) n samples begins in
     let begun_is : c.begin.new.store ≡ υ =
-    c.in_ok-begin.ensures.step ∙ ap (λ u. begun_at k u n c.open.new.self) c.in_ok-uses.ensures ∙ ap (begun_at k (if is_use (is_fresh env) k then Some samples else None) n) open_is ∙ begun_if (is_fresh env) k n samples begins in
+    c.in_ok-begin.ensures.step ∙ ap (λ u. begun_at k u n c.open.new.self) c.in_ok-uses.ensures ∙ ap (begun_at k (if is_use (is_fresh env) k then Some samples else None) n) open_is
+    ∙ begun_if (is_fresh env) k n samples begins in
     let ends : Store → Store = λ s. closed (ended_by (map region_view r.regions.now) n) (done (ends_use (is_fresh env) k) n samples s) in
     let τ = c.kind.new.store in
     let went : kind_here r env n k υ ≡ Went τ = sym (c.in_ok-other.ensures.runs ∙ ap (kind_here r env n k) begun_is) ∙ ap (λ o. completion_at o τ) c.in-Went.is in
@@ -749,7 +768,8 @@ while_turns-returns-in_err-samples-clause-cut t c =
     let turns = λ (t : ℕ). while_turns t n is taken (λ s. value_of env s cond) (block_here r env b) in
     let ω = c.begin_turn.new.store in
     on_err _
-    (along_with ω.events (turns (suc left) before σ) (turns c.args.bound [] c.args.store.now) (ap (λ t. turns t before σ) (sym (one_left c.args.bound c.loop-turn._turn c.loop-turn-test.true)) ∙ c.loop-turn.invariant.runs)
+    (along_with ω.events (turns (suc left) before σ) (turns c.args.bound [] c.args.store.now)
+    (ap (λ t. turns t before σ) (sym (one_left c.args.bound c.loop-turn._turn c.loop-turn-test.true)) ∙ c.loop-turn.invariant.runs)
     (turn_from ω.events left n is taken (λ s. value_of env s cond) (block_here r env b) before σ
     (in_other ω.events (used (is_use (is_fresh γ) k) n (use_samples γ k σ) σ) (used is n (taken σ) σ) begins c.in_err-samples.ensures.cut)
     (λ s l. block_from ω.events r env b s l)))
@@ -805,10 +825,12 @@ while_turns-returns-then-is_zero-clause-cut t c =
     let turns = λ (t : ℕ). while_turns t n is taken (λ s. value_of env s cond) (block_here r env b) in
     let found : value_of env (used is n (taken σ) σ) cond ≡ Val c.in-Value.value =
     ap (λ s. value_of env s cond) (sym began) ∙ ap (λ g. value_of g τ cond) (sym same) ∙ sym c.in_ok-trapped.ensures ∙ ap got_view c.in-Value.is in
-    let ends = while_ends n is taken (λ s. value_of env s cond) (block_here r env b) c.args.bound c.loop-turn._turn before σ c.in-Value.value c.loop-turn-test.true found (sym c.is_zero.ensures ∙ c.if-is_zero.true) in
+    let ends = while_ends n is taken (λ s. value_of env s cond) (block_here r env b) c.args.bound c.loop-turn._turn before σ c.in-Value.value c.loop-turn-test.true found
+    (sym c.is_zero.ensures ∙ c.if-is_zero.true) in
     let ω = c.end_turns.new.store in
     on_err_weaker c.end_turns.result
-    (λ (cut : Oldest ω.events (done c.in_ok-is_use.is_use n c.in_ok-samples.samples τ).events). along_with ω.events (Went (done c.in_ok-is_use.is_use n c.in_ok-samples.samples τ)) (turns c.args.bound [] c.args.store.now)
+    (λ (cut : Oldest ω.events (done c.in_ok-is_use.is_use n c.in_ok-samples.samples τ).events). along_with ω.events (Went (done c.in_ok-is_use.is_use n c.in_ok-samples.samples τ))
+    (turns c.args.bound [] c.args.store.now)
     (ap (λ u. Went (done u n c.in_ok-samples.samples τ)) counts
     ∙ ap (λ s. Went (done is n s τ)) all
     ∙ ap (λ s. Went (done is n (union before (taken σ)) s)) began

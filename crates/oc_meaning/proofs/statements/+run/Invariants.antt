@@ -54,7 +54,8 @@ invariant-statements-loop-inner l = record {
 
 abbrev pub invariant-for_turns-loop-turn : goal.invariant-for_turns-loop-turn
 invariant-for_turns-loop-turn l = record {
-  runs : for_turns (count_of (l.to -ℤ l.turn)) l.turn (λ i. block_here l.run (in_turn l.name i ∷ l.initial.scope) (block_view l.body)) l.store ≡ for_turns (count_of (l.to -ℤ l.from)) l.from (λ i. block_here l.run (in_turn l.name i ∷ l.initial.scope) (block_view l.body)) l.initial.store;
+  runs : for_turns (count_of (l.to -ℤ l.turn)) l.turn (λ i. block_here l.run (in_turn l.name i ∷ l.initial.scope) (block_view l.body)) l.store
+      ≡ for_turns (count_of (l.to -ℤ l.from)) l.from (λ i. block_here l.run (in_turn l.name i ∷ l.initial.scope) (block_view l.body)) l.initial.store;
   scope : l.scope ≡ l.initial.scope;
 }
 
@@ -63,6 +64,9 @@ decreases-for_turns-loop-turn l = count_of (l.to -ℤ l.turn)
 
 abbrev pub invariant-while_turns-loop-turn : goal.invariant-while_turns-loop-turn
 invariant-while_turns-loop-turn l = record {
-  runs : while_turns (l.bound - l._turn) l.n (is_use (is_fresh l.initial.scope) (kind_view l.kind)) (use_samples l.initial.scope (kind_view l.kind)) (λ τ. value_of l.initial.scope τ (expr_view l.condition)) (block_here l.run l.initial.scope (block_view l.body)) l.samples l.store ≡ while_turns l.bound l.n (is_use (is_fresh l.initial.scope) (kind_view l.kind)) (use_samples l.initial.scope (kind_view l.kind)) (λ τ. value_of l.initial.scope τ (expr_view l.condition)) (block_here l.run l.initial.scope (block_view l.body)) [] l.initial.store;
+  runs : while_turns (l.bound - l._turn) l.n (is_use (is_fresh l.initial.scope) (kind_view l.kind)) (use_samples l.initial.scope (kind_view l.kind))
+      (λ τ. value_of l.initial.scope τ (expr_view l.condition)) (block_here l.run l.initial.scope (block_view l.body)) l.samples l.store
+      ≡ while_turns l.bound l.n (is_use (is_fresh l.initial.scope) (kind_view l.kind)) (use_samples l.initial.scope (kind_view l.kind))
+      (λ τ. value_of l.initial.scope τ (expr_view l.condition)) (block_here l.run l.initial.scope (block_view l.body)) [] l.initial.store;
   scope : l.scope ≡ l.initial.scope;
 }

@@ -8,4 +8,5 @@ returns-in_ok-push-in-Source c =
 
 pub returns-in_ok-push-in-Marked : goal.returns-in_ok-push-in-Marked
 returns-in_ok-push-in-Marked c =
-    adds_mark c.args.events.now.items c.args.marks.now.items c.in-Marked.mark _ _ c.in_ok-push-in-Marked.ensures.items (c.in-Marked.ensures.0 ∙ c.len.ensures ∙ c.args.events.now.ok.0) c.in-Marked.ensures.1 c.in-Marked.ensures.2
+    adds_mark c.args.events.now.items c.args.marks.now.items c.in-Marked.mark _ _ c.in_ok-push-in-Marked.ensures.items
+    (c.in-Marked.ensures.0 ∙ c.len.ensures ∙ c.args.events.now.ok.0) c.in-Marked.ensures.1 c.in-Marked.ensures.2

@@ -13,5 +13,6 @@ returns c =
     let few : c.args.function < length (map function_view fs) = subst (λ p. c.args.function < length p.functions) (sym same) c.requires in
     let here : c.args.function < length fs = omega (arith, length-map fs function_view) in
     let count : c.len.result ≡ length x.params.items = search rules in
-    let read = get_of_map (λ g. g.params) (map function_view fs) c.args.function (function_view x) [] few (sym (get_of_map function_view fs c.args.function x (function_view x) here c.index.ensures)) in
+    let read = get_of_map (λ g. g.params) (map function_view fs) c.args.function (function_view x) [] few
+    (sym (get_of_map function_view fs c.args.function x (function_view x) here c.index.ensures)) in
     subst (λ p. c.len.result ≡ length (params_at p c.args.function)) same (count ∙ sym (ap length read))

@@ -10,7 +10,8 @@ pub loop-function-preserved : goal.loop-function-preserved
 loop-function-preserved c =
     let same = c.in_ok-body.ensures.summaries in
     let here = c.in_ok-body.ensures.function in
-    push_view_more (λ v. sites_view v.items) (looped_at c.args.summaries.now.program) c.loop-function.function c.loop-function.tables.items _ c.in_ok-rows.rows c.loop-function.invariant c.in_ok-push.ensures.items (c.in_ok-rows.ensures ∙ (λ i. looped_at (same i).program (here i)))
+    push_view_more (λ v. sites_view v.items) (looped_at c.args.summaries.now.program) c.loop-function.function c.loop-function.tables.items _ c.in_ok-rows.rows
+    c.loop-function.invariant c.in_ok-push.ensures.items (c.in_ok-rows.ensures ∙ (λ i. looped_at (same i).program (here i)))
 
 pub returns : goal.returns
 returns c =

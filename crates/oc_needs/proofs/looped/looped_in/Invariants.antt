@@ -6,4 +6,6 @@ use Rattle.oc_needs.proofs.looped.looped_in.Given as goal
 
 abbrev pub invariant-loop-x : goal.invariant-loop-x
 invariant-loop-x l =
-    sites_view l.rows.items ++ map (looped_sites l.body.summaries.now.program l.body.function (sources l.body.summaries.now.program l.body.function (effects_at l.body.summaries.now.program l.body.function))) (drop l.x-index l.x-items) ≡ map (looped_sites l.body.summaries.now.program l.body.function (sources l.body.summaries.now.program l.body.function (effects_at l.body.summaries.now.program l.body.function))) l.x-items
+    sites_view l.rows.items ++ map (looped_sites l.body.summaries.now.program l.body.function
+    (sources l.body.summaries.now.program l.body.function (effects_at l.body.summaries.now.program l.body.function))) (drop l.x-index l.x-items)
+    ≡ map (looped_sites l.body.summaries.now.program l.body.function (sources l.body.summaries.now.program l.body.function (effects_at l.body.summaries.now.program l.body.function))) l.x-items

@@ -6,4 +6,5 @@ use Rattle.oc_needs.proofs.need.add_needed_in_calls.Given as goal
 
 abbrev pub invariant-loop-effect : goal.invariant-loop-effect
 invariant-loop-effect l =
-    l.needing.items ++ needed_in_calls (rows_view l.rows) l.variables (map effect_view (drop l.effect-index l.effects)) ≡ l.initial.needing.items ++ needed_in_calls (rows_view l.rows) l.variables (map effect_view l.effects)
+    l.needing.items ++ needed_in_calls (rows_view l.rows) l.variables (map effect_view (drop l.effect-index l.effects))
+    ≡ l.initial.needing.items ++ needed_in_calls (rows_view l.rows) l.variables (map effect_view l.effects)

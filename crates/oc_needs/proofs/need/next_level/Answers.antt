@@ -13,8 +13,10 @@ loop-function-preserved c =
     let old = level_view c.args.old.now in
     let same = c.in_ok-body.ensures.summaries in
     let here = c.in_ok-body.ensures.function in (
-      push_view_more (λ v. v.items) (next_row p q old) c.loop-function.function c.loop-function.rows.items _ c.in_ok-row.row c.loop-function.invariant.0 c.in_ok-push.ensures.items (c.in_ok-row.ensures.row ∙ (λ i. next_row (same i).program q old (here i))),
-      push_from_more (is_row_changed p q old) c.loop-function.function [] c.loop-function.changed.items _ c.in_ok-row.differs c.loop-function.invariant.1 c.in_ok-push-2.ensures.items (c.in_ok-row.ensures.changed ∙ (λ i. is_row_changed (same i).program q old (here i))),
+      push_view_more (λ v. v.items) (next_row p q old) c.loop-function.function c.loop-function.rows.items _ c.in_ok-row.row c.loop-function.invariant.0 c.in_ok-push.ensures.items
+          (c.in_ok-row.ensures.row ∙ (λ i. next_row (same i).program q old (here i))),
+      push_from_more (is_row_changed p q old) c.loop-function.function [] c.loop-function.changed.items _ c.in_ok-row.differs c.loop-function.invariant.1
+          c.in_ok-push-2.ensures.items (c.in_ok-row.ensures.changed ∙ (λ i. is_row_changed (same i).program q old (here i))),
     )
 
 pub returns : goal.returns

@@ -12,8 +12,10 @@ loop-function-preserved c =
     let same = c.in_ok-body.ensures.summaries in
     let here = c.in_ok-body.ensures.function in
     let rows = rows_view c.in_ok-rows.rows.items in
-    function_more c.args.summaries.now.program c.args.policy c.args.asked.now.policy rows c.loop-function.function (map requirement_view c.args.required.now.items) (map requirement_view c.loop-function.required.items) _ c.loop-function.invariant
-    (c.in_ok-add_in_function.ensures ∙ (λ i. map requirement_view c.loop-function.required.items ++ required_here (same i).program c.args.policy c.args.asked.now.policy (rows_view (c.as_slice.ensures.value i)) (here i)))
+    function_more c.args.summaries.now.program c.args.policy c.args.asked.now.policy rows c.loop-function.function (map requirement_view c.args.required.now.items)
+    (map requirement_view c.loop-function.required.items) _ c.loop-function.invariant
+    (c.in_ok-add_in_function.ensures ∙ (λ i. map requirement_view c.loop-function.required.items ++ required_here (same i).program c.args.policy c.args.asked.now.policy
+    (rows_view (c.as_slice.ensures.value i)) (here i)))
 
 pub returns : goal.returns
 returns c =

@@ -13,4 +13,5 @@ returns-then-is_empty c =
 
 pub loop-number-preserved : goal.loop-number-preserved
 loop-number-preserved c =
-    policy_more c.args.summaries.now.program c.loop-number.number c.args.policies.now _ (map requirement_view c.loop-number.required.items) _ _ (omega arith) (search rules) c.in_ok-add_numbered.ensures c.loop-number.invariant
+    policy_more c.args.summaries.now.program c.loop-number.number c.args.policies.now _ (map requirement_view c.loop-number.required.items) _ _ (omega arith)
+    (search rules) c.in_ok-add_numbered.ensures c.loop-number.invariant

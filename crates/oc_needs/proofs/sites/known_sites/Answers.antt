@@ -12,4 +12,5 @@ returns-in-Some c =
     let place = c.in-Some.place in
     let own = c.as_slice.ensures.value ∙ c.requires.variables in
     IfSome_then c.sites_at-known.result c.sites_at-known.ensures
-    (λ s h. known_is body.summaries.now.program body.function (sites_view rows) _ place c.args.x s.now c.requires.looped own (subst (λ n. place < n) (sym (length-map rows (λ v. v.items))) h.0) c.in-Some.ensures.1 h.1)
+    (λ s h. known_is body.summaries.now.program body.function (sites_view rows) _ place c.args.x s.now c.requires.looped own
+    (subst (λ n. place < n) (sym (length-map rows (λ v. v.items))) h.0) c.in-Some.ensures.1 h.1)

@@ -64,16 +64,21 @@ returns-in-Ok-clause-form c =
     let k : length ts ≡ length tokens = length-map tokens _ in
     let few = tokens_count source tokens c.requires.tokens in
     let small = c.requires.small in
-    in_form the_depths ts (program_view c.in-Ok.program) (program_sound the_depths ts (program_view c.in-Ok.program) c.in-Ok.ensures) (lexemes_in_form false source tokens c.requires.tokens) (omega (arith, k, few, small))
+    in_form the_depths ts (program_view c.in-Ok.program) (program_sound the_depths ts (program_view c.in-Ok.program) c.in-Ok.ensures)
+    (lexemes_in_form false source tokens c.requires.tokens) (omega (arith, k, few, small))
 
 pub returns-in-Err-Syntax-clause-fault : goal.returns-in-Err-Syntax-clause-fault
 returns-in-Err-Syntax-clause-fault c = syntax_is c.args.source.now c.args.tokens.now c.in-Err-Syntax.field-0 c.in-Err-Syntax.left _ c.in-Err-Syntax.ensures c.in-Err-Syntax.field-0-is c.place.ensures
 
 pub returns-in-Err-Blocks-clause-fault : goal.returns-in-Err-Blocks-clause-fault
-returns-in-Err-Blocks-clause-fault c = blocks_are c.args.source.now c.args.tokens.now c.in-Err-Blocks.field-0 c.in-Err-Blocks.left c.place-in-Err-Blocks.result c.in-Err-Blocks.ensures c.in-Err-Blocks.field-0-is c.place-in-Err-Blocks.ensures
+returns-in-Err-Blocks-clause-fault c = blocks_are c.args.source.now c.args.tokens.now c.in-Err-Blocks.field-0 c.in-Err-Blocks.left c.place-in-Err-Blocks.result
+    c.in-Err-Blocks.ensures c.in-Err-Blocks.field-0-is c.place-in-Err-Blocks.ensures
 
 pub returns-in-Err-Brackets-clause-fault : goal.returns-in-Err-Brackets-clause-fault
-returns-in-Err-Brackets-clause-fault c = brackets_are c.args.source.now c.args.tokens.now c.in-Err-Brackets.field-0 c.in-Err-Brackets.left c.place-in-Err-Brackets.result c.in-Err-Brackets.ensures c.in-Err-Brackets.field-0-is c.place-in-Err-Brackets.ensures
+returns-in-Err-Brackets-clause-fault c = brackets_are c.args.source.now c.args.tokens.now c.in-Err-Brackets.field-0 c.in-Err-Brackets.left c.place-in-Err-Brackets.result
+    c.in-Err-Brackets.ensures c.in-Err-Brackets.field-0-is c.place-in-Err-Brackets.ensures
 
 pub returns-in-Err-Operators-clause-fault : goal.returns-in-Err-Operators-clause-fault
-returns-in-Err-Operators-clause-fault c = operators_are c.args.source.now c.args.tokens.now c.in-Err-Operators.field-0 c.in-Err-Operators.left c.place-in-Err-Operators.result c.in-Err-Operators.ensures c.in-Err-Operators.field-0-is c.place-in-Err-Operators.ensures
+returns-in-Err-Operators-clause-fault c =
+    operators_are c.args.source.now c.args.tokens.now c.in-Err-Operators.field-0 c.in-Err-Operators.left c.place-in-Err-Operators.result c.in-Err-Operators.ensures
+    c.in-Err-Operators.field-0-is c.place-in-Err-Operators.ensures

@@ -1,7 +1,7 @@
 use Rattle.std.proofs.Common.{◌≡◌, ◌<◌, [], map, ap, sym, subst, ◌∙◌, true}
 use Rattle.oc_tree.specs.View.{function_view}
 use Rattle.oc_tree.specs.Reach.{reaches_some}
-use Rattle.oc_tree.specs.Assigned.{param_count, writes_from}
+use Rattle.oc_tree.specs.Assigned.{writes_from}
 use Rattle.oc_reach.specs.Marked.{is_in}
 use Rattle.oc_reach.proofs.Lists.{in_all}
 use Rattle.oc_reach.proofs.WriteLaws.{writes_within, assigned_is}

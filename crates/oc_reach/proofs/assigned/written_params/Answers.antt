@@ -1,6 +1,6 @@
-use Rattle.std.proofs.Common.{◌≡◌, ◌<◌, [], map, ap, sym, subst, ◌∙◌, true, arith}
+use Rattle.std.proofs.Common.{◌≡◌, ◌<◌, [], map, ap, sym, subst, ◌∙◌, true}
 use Rattle.oc_tree.specs.View.{function_view}
-use Rattle.oc_tree.specs.Assigned.{param_count, writes_from}
+use Rattle.oc_tree.specs.Assigned.{param_count}
 use Rattle.oc_reach.specs.Marked.{is_in}
 use Rattle.oc_reach.proofs.WriteLaws.{writes_within}
 use Rattle.oc_reach.proofs.assigned.written_params.Goals as goal

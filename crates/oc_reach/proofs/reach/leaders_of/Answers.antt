@@ -1,4 +1,4 @@
-use Rattle.std.proofs.Common.{rules, ◌≡◌, ◌<◌, ◌+◌, ◌∷◌, ◌++◌, ℕ, [], take, length, ap, sym, refl, ◌∙◌, arith}
+use Rattle.std.proofs.Common.{◌≡◌, ◌<◌, ◌+◌, ◌∷◌, ◌++◌, ℕ, [], take, length, ap, sym, refl, ◌∙◌, arith}
 use Rattle.std.proofs.Math.ListN.{get_or}
 use Rattle.std.proofs.lemmas.List.{take_more}
 use Rattle.oc_tree.specs.Reach.{linked}
@@ -22,7 +22,8 @@ loop-link-preserved c =
     let h' : link.1 < length (rows old) = omega (arith, h, rows_length old) in
     let e : take (i + 1) links ≡ take i links ++ link ∷ [] = take_more links i (0, 0) c.loop-link-test.true in
     let grown : c.push.new.self.items ≡ c.index_mut.result.now.items ++ link.0 ∷ [] = c.in_ok-push.ensures.items in
-    let row : c.push.new.self.items ≡ get_or (rows old) link.1 [] ++ link.0 ∷ [] = grown ∙ ap (λ l. l ++ link.0 ∷ []) (row_is old link.1 c.index_mut.result.now.items c.index_mut.result.now h c.index_mut.ensures.value refl) in
+    let row : c.push.new.self.items ≡ get_or (rows old) link.1 [] ++ link.0 ∷ [] =
+    grown ∙ ap (λ l. l ++ link.0 ∷ []) (row_is old link.1 c.index_mut.result.now.items c.index_mut.result.now h c.index_mut.ensures.value refl) in
     record {
       bound = c.loop-link.invariant.bound;
       leaders = λ u v. ap (λ l. is_in (get_or l v []) u) (rows_set old link.1 c.push.new.self)

@@ -10,4 +10,5 @@ loop-ask-preserved-in_ok-insert_number c =
     let r = stretch_view c.args.r in
     let ask = c.in-Some.ask.now in
     let inside : covers p r ask.range.range.first ≡ true = sym c.if-covers.ensures in
-    reason_more p r c.loop-ask.left.now c.in-Some.rest.now ask c.loop-ask.found.items c.insert_number.new.numbers.items (ask_reasons p (map ask_view c.args.asks.now) r) c.in-Some.ensures.cases.0 inside c.in_ok-insert_number.ensures c.loop-ask.invariant
+    reason_more p r c.loop-ask.left.now c.in-Some.rest.now ask c.loop-ask.found.items c.insert_number.new.numbers.items (ask_reasons p (map ask_view c.args.asks.now) r)
+    c.in-Some.ensures.cases.0 inside c.in_ok-insert_number.ensures c.loop-ask.invariant

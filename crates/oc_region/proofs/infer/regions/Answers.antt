@@ -25,4 +25,5 @@ returns c =
     ap (λ l. numbered_for p (map ask_view l) 1 (map stretch_view c.deref-4.result.now)) c.deref-3.ensures.value
     ∙ ap (λ l. numbered_for p all 1 (map stretch_view l)) c.deref-4.ensures.value
     ∙ steps_told p groups qs all rs us ks ss c.requires a r c.in_ok-all.ensures k c.in_ok-sorted.ensures in
-    if_ok_along (λ (v : Vec Region Global). map region_view v.items ≡ numbered_for p (map ask_view c.deref-3.result.now) 1 (map stretch_view c.deref-4.result.now)) (λ (v : Vec Region Global). map region_view v.items ≡ regions p groups) (λ v h. h ∙ e) c.numbered.result c.numbered.ensures
+    if_ok_along (λ (v : Vec Region Global). map region_view v.items ≡ numbered_for p (map ask_view c.deref-3.result.now) 1 (map stretch_view c.deref-4.result.now))
+    (λ (v : Vec Region Global). map region_view v.items ≡ regions p groups) (λ v h. h ∙ e) c.numbered.result c.numbered.ensures

@@ -30,4 +30,5 @@ returns-clause-ready g c =
     let fed = c.in_ok-feed.ensures in
     let planned = rw c.deref-4.ensures.value at fed.0 in
     let sum = rw c.deref-4.ensures.value at fed.1.1.0 in
-    is_ready _ _ _ _ _ _ c.in_ok-image.image c.in_ok-machine.ensures built sensed c.in_ok-sensors.ensures.sensors c.in_ok-sensors.ensures.now powered planned (rw planned (sum c.in_ok-periods.ensures.sum))
+    is_ready _ _ _ _ _ _ c.in_ok-image.image c.in_ok-machine.ensures built sensed c.in_ok-sensors.ensures.sensors c.in_ok-sensors.ensures.now powered planned
+    (rw planned (sum c.in_ok-periods.ensures.sum))

@@ -12,7 +12,8 @@ pub loop-place-preserved : goal.loop-place-preserved
 loop-place-preserved g c =
     let m = c.args.marked.now in
     let b = budgets_view c.args.budgets.now in
-    let is_part = part_is m c.args.budgets.now c.args.details.now c.requires.details c.regions-region-items.result.now c.regions-region-items.ensures c.loop-place.place c.region-item.result c.numbers_at-numbers.result c.loop-place-test.true c.region-item.is c.numbers_at-numbers.ensures in
+    let is_part = part_is m c.args.budgets.now c.args.details.now c.requires.details c.regions-region-items.result.now c.regions-region-items.ensures c.loop-place.place
+    c.region-item.result c.numbers_at-numbers.result c.loop-place-test.true c.region-item.is c.numbers_at-numbers.ensures in
     record {
       count = omega arith;
       going = counted_on g.O.Sink.took g.met.O.Sink.took_both _ _ _ (λ n xs. region_lines m b n (map region_view xs)) (λ n x. lines_of m b n (region_view x)) (λ n x xs. refl)
@@ -23,7 +24,8 @@ pub returns-in-Err-clause-part : goal.returns-in-Err-clause-part
 returns-in-Err-clause-part g c =
     let m = c.args.marked.now in
     let b = budgets_view c.args.budgets.now in
-    let is_part = part_is m c.args.budgets.now c.args.details.now c.requires.details c.regions-region-items.result.now c.regions-region-items.ensures c.loop-place.place c.region-item.result c.numbers_at-numbers.result c.loop-place-test.true c.region-item.is c.numbers_at-numbers.ensures in
+    let is_part = part_is m c.args.budgets.now c.args.details.now c.requires.details c.regions-region-items.result.now c.regions-region-items.ensures c.loop-place.place
+    c.region-item.result c.numbers_at-numbers.result c.loop-place-test.true c.region-item.is c.numbers_at-numbers.ensures in
     subst (λ (rs : List TRegion). TookPart g.O.Sink.took c.args.sink.now (region_lines m b 0 rs) c.put_lines.new.sink) c.regions-region-items.ensures
     (counted_stop g.O.Sink.took g.met.O.Sink.took_both _ _ _ (λ n xs. region_lines m b n (map region_view xs)) (λ n x. lines_of m b n (region_view x)) (λ n x xs. refl)
     c.regions-region-items.result.now _ _ c.region-item.result _ _ c.loop-place-test.true is_part c.loop-place.invariant.going c.in-Err.ensures.part)

@@ -8,5 +8,6 @@ use Rattle.oc_top.proofs.regions.put_all.Given as goal
 abbrev pub invariant-loop-place : goal.invariant-loop-place
 invariant-loop-place g l = record {
   count : g.O.Sink.faults l.initial.sink ≤ g.O.Sink.faults l.sink;
-  going : Going g.O.Sink.took l.initial.sink l.sink (region_lines l.marked (budgets_view l.budgets) l.place (map region_view (drop l.place l.region-items))) (region_lines l.marked (budgets_view l.budgets) 0 (map region_view l.region-items));
+  going : Going g.O.Sink.took l.initial.sink l.sink (region_lines l.marked (budgets_view l.budgets) l.place (map region_view (drop l.place l.region-items)))
+      (region_lines l.marked (budgets_view l.budgets) 0 (map region_view l.region-items));
 }

@@ -10,10 +10,12 @@ returns-in-Err-clause-part g c =
 
 pub returns-clause-ok : goal.returns-clause-ok
 returns-clause-ok g c = on_ok_weaker c.put_reasons.result
-    (lines_whole g.O.Sink.took c.args.marked.now (region_view c.args.region.now) _ c.args.numbers c.function_of-function.ensures _ c.deref.ensures.value g.met.O.Sink.took_both _ _ _ c.in_default.ensures.ok)
+    (lines_whole g.O.Sink.took c.args.marked.now (region_view c.args.region.now) _ c.args.numbers c.function_of-function.ensures _ c.deref.ensures.value g.met.O.Sink.took_both _ _
+    _ c.in_default.ensures.ok)
     c.put_reasons.ensures.ok
 
 pub returns-clause-part : goal.returns-clause-part
 returns-clause-part g c = on_err_weaker c.put_reasons.result
-    (lines_part g.O.Sink.took c.args.marked.now (region_view c.args.region.now) _ c.args.numbers c.function_of-function.ensures _ c.deref.ensures.value g.met.O.Sink.took_both _ _ _ c.in_default.ensures.ok)
+    (lines_part g.O.Sink.took c.args.marked.now (region_view c.args.region.now) _ c.args.numbers c.function_of-function.ensures _ c.deref.ensures.value g.met.O.Sink.took_both _ _ _
+    c.in_default.ensures.ok)
     c.put_reasons.ensures.part

@@ -10,12 +10,14 @@ loop-reason-init g c = record { count = omega arith; going = begin g.O.Sink.took
 pub loop-reason-preserved : goal.loop-reason-preserved
 loop-reason-preserved g c = record {
   count = omega arith;
-  going = each_on g.O.Sink.took g.met.O.Sink.took_both _ _ _ (reason_lines c.args.marked.now) (reason_line c.args.marked.now) (λ x xs. refl) c.args.reasons.now _ 0 _ c.loop-reason-test.true c.loop-reason.invariant.going c.in_default.ensures.ok;
+  going = each_on g.O.Sink.took g.met.O.Sink.took_both _ _ _ (reason_lines c.args.marked.now) (reason_line c.args.marked.now) (λ x xs. refl) c.args.reasons.now _ 0 _
+      c.loop-reason-test.true c.loop-reason.invariant.going c.in_default.ensures.ok;
 }
 
 pub returns-in-Err-clause-part : goal.returns-in-Err-clause-part
 returns-in-Err-clause-part g c =
-    each_stop g.O.Sink.took g.met.O.Sink.took_both _ _ _ (reason_lines c.args.marked.now) (reason_line c.args.marked.now) (λ x xs. refl) c.args.reasons.now _ 0 _ c.loop-reason-test.true c.loop-reason.invariant.going c.in-Err.ensures.part
+    each_stop g.O.Sink.took g.met.O.Sink.took_both _ _ _ (reason_lines c.args.marked.now) (reason_line c.args.marked.now) (λ x xs. refl) c.args.reasons.now _ 0 _
+    c.loop-reason-test.true c.loop-reason.invariant.going c.in-Err.ensures.part
 
 pub returns-clause-ok : goal.returns-clause-ok
 returns-clause-ok g c = finish g.O.Sink.took _ _ _ (each_done g.O.Sink.took _ _ (reason_lines c.args.marked.now) c.args.reasons.now _ _ c.loop-reason-test.false c.loop-reason.invariant.going)

@@ -12,11 +12,13 @@ loop-place-preserved g c =
     let size = rw c.deref-nv-items.ensures.value at c.min.ensures in
     record {
       count = omega arith;
-      going = variable_on g.O.Sink.took g.met.O.Sink.took_both _ _ _ _ _ _ _ _ _ _ _ _ among c.requires.each_nv size c.split_at.ensures.front c.split_at.ensures.back c.loop-place.invariant.going c.in_default.ensures.ok;
+      going = variable_on g.O.Sink.took g.met.O.Sink.took_both _ _ _ _ _ _ _ _ _ _ _ _ among c.requires.each_nv size c.split_at.ensures.front c.split_at.ensures.back
+          c.loop-place.invariant.going c.in_default.ensures.ok;
     }
 
 pub returns-in-Err-clause-part : goal.returns-in-Err-clause-part
 returns-in-Err-clause-part g c =
     let among = rw c.deref-nv-items.ensures.value at c.loop-place-test.true in
     let size = rw c.deref-nv-items.ensures.value at c.min.ensures in
-    variable_stop g.O.Sink.took g.met.O.Sink.took_both _ _ _ _ _ _ _ _ _ _ _ _ among c.requires.each_nv size c.split_at.ensures.front c.split_at.ensures.back c.loop-place.invariant.going c.in-Err.ensures.part
+    variable_stop g.O.Sink.took g.met.O.Sink.took_both _ _ _ _ _ _ _ _ _ _ _ _ among c.requires.each_nv size c.split_at.ensures.front c.split_at.ensures.back
+    c.loop-place.invariant.going c.in-Err.ensures.part

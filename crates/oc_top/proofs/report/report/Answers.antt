@@ -6,25 +6,30 @@ pub returns-in-End : goal.returns-in-End
 returns-in-End g c =
     let machine = c.args.prepared.machine in let at = c.args.supply.now in
     let written = rw (c.in-End.ensures.answers.kept) at c.finished.ensures.written in
-    ended_written g.O.Sink.took g.O.Sink.held g.O.Sink.faults g.met.O.Sink.took_both machine.parts c.args.prepared.sensors.rows ((goal.Supply-dyn g at).left at.1) _ _ _ _ _ c.in-End.ensures.answers.how c.run.ensures.count c.in-End.ensures.answers.text written
+    ended_written g.O.Sink.took g.O.Sink.held g.O.Sink.faults g.met.O.Sink.took_both machine.parts c.args.prepared.sensors.rows ((goal.Supply-dyn g at).left at.1) _ _ _ _ _
+    c.in-End.ensures.answers.how c.run.ensures.count c.in-End.ensures.answers.text written
 
 pub returns-in-Trap : goal.returns-in-Trap
 returns-in-Trap g c =
     let machine = c.args.prepared.machine in let at = c.args.supply.now in
     let written = rw (c.in-Trap.ensures.answers.kept) at c.finished-in-Trap.ensures.written in
-    trapped_written g.O.Sink.took g.O.Sink.held g.O.Sink.faults g.met.O.Sink.took_both machine.parts c.args.prepared.sensors.rows ((goal.Supply-dyn g at).left at.1) _ _ _ _ _ _ _ c.in-Trap.ensures.answers.how c.run.ensures.count c.in-Trap.ensures.answers.text written
+    trapped_written g.O.Sink.took g.O.Sink.held g.O.Sink.faults g.met.O.Sink.took_both machine.parts c.args.prepared.sensors.rows ((goal.Supply-dyn g at).left at.1) _ _ _ _ _ _ _
+    c.in-Trap.ensures.answers.how c.run.ensures.count c.in-Trap.ensures.answers.text written
 
 pub returns-in-Dark : goal.returns-in-Dark
 returns-in-Dark g c =
     let machine = c.args.prepared.machine in let at = c.args.supply.now in
-    dark_written g.O.Sink.took g.O.Sink.held g.O.Sink.faults g.met.O.Sink.took_both machine.parts c.args.prepared.sensors.rows ((goal.Supply-dyn g at).left at.1) _ _ _ _ _ c.in-Dark.ensures.answers.how c.run.ensures.count c.in-Dark.ensures.answers.text c.flushed.ensures.nothing c.flushed.ensures.stays
+    dark_written g.O.Sink.took g.O.Sink.held g.O.Sink.faults g.met.O.Sink.took_both machine.parts c.args.prepared.sensors.rows ((goal.Supply-dyn g at).left at.1) _ _ _ _ _
+    c.in-Dark.ensures.answers.how c.run.ensures.count c.in-Dark.ensures.answers.text c.flushed.ensures.nothing c.flushed.ensures.stays
 
 pub returns-in-Cut : goal.returns-in-Cut
 returns-in-Cut g c =
     let machine = c.args.prepared.machine in let at = c.args.supply.now in
-    cut_written g.O.Sink.took g.O.Sink.held g.O.Sink.faults g.met.O.Sink.took_both machine.parts c.args.prepared.sensors.rows ((goal.Supply-dyn g at).left at.1) _ _ _ _ _ _ c.in-Cut.ensures.answers.how c.run.ensures.count c.in-Cut.ensures.answers.text c.flushed-in-Cut.ensures.nothing c.flushed-in-Cut.ensures.stays
+    cut_written g.O.Sink.took g.O.Sink.held g.O.Sink.faults g.met.O.Sink.took_both machine.parts c.args.prepared.sensors.rows ((goal.Supply-dyn g at).left at.1) _ _ _ _ _ _
+    c.in-Cut.ensures.answers.how c.run.ensures.count c.in-Cut.ensures.answers.text c.flushed-in-Cut.ensures.nothing c.flushed-in-Cut.ensures.stays
 
 pub returns : goal.returns
 returns g c =
     let machine = c.args.prepared.machine in let at = c.args.supply.now in
-    part_written g.O.Sink.took g.O.Sink.held g.O.Sink.faults g.met.O.Sink.took_both machine.parts c.args.prepared.sensors.rows ((goal.Supply-dyn g at).left at.1) _ _ _ refl c.in-WriteFault.ensures.answers.cause c.in-WriteFault.ensures.answers.part
+    part_written g.O.Sink.took g.O.Sink.held g.O.Sink.faults g.met.O.Sink.took_both machine.parts c.args.prepared.sensors.rows ((goal.Supply-dyn g at).left at.1) _ _ _ refl
+    c.in-WriteFault.ensures.answers.cause c.in-WriteFault.ensures.answers.part

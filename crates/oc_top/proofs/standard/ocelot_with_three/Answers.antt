@@ -12,5 +12,8 @@ pub returns-clause-works : goal.returns-clause-works
 returns-clause-works g c =
     let words = map string_bytes c.args.words.now in
     let is : c.push-3.new.self.items ≡ c.args.rows ∷ c.args.rounds ∷ c.args.pieces ∷ [] = search rules in
-    let task = standard_task c.push-3.new.self.items (λ b. (goal.Supply-dyn g (b.vtable, b.value)).number b.value) (λ b. (goal.Supply-dyn g (b.vtable, b.value)).plan b.value) c.args.rows c.args.rounds c.args.pieces c.requires.zero c.requires.one c.requires.two c.requires.rows c.requires.rounds c.requires.pieces words is in
-    subst (λ (t : Option Task). Works (call_of words t (fetches g.F.Shelf.holds g.F.Shelf.asked g.F.Shelf.faults c.args.shelf.now c.ocelot.new.shelf) (writes g.O.Sink.took g.O.Sink.held g.O.Sink.faults c.args.out.now c.ocelot.new.out)) (writes g.E.Sink.took g.E.Sink.held g.E.Sink.faults c.args.err.now c.ocelot.new.err) c.ocelot.result) task c.ocelot.ensures.works
+    let task = standard_task c.push-3.new.self.items (λ b. (goal.Supply-dyn g (b.vtable, b.value)).number b.value) (λ b. (goal.Supply-dyn g (b.vtable, b.value)).plan b.value)
+    c.args.rows c.args.rounds c.args.pieces c.requires.zero c.requires.one c.requires.two c.requires.rows c.requires.rounds c.requires.pieces words is in
+    subst (λ (t : Option Task). Works (call_of words t (fetches g.F.Shelf.holds g.F.Shelf.asked g.F.Shelf.faults c.args.shelf.now c.ocelot.new.shelf)
+    (writes g.O.Sink.took g.O.Sink.held g.O.Sink.faults c.args.out.now c.ocelot.new.out)) (writes g.E.Sink.took g.E.Sink.held g.E.Sink.faults c.args.err.now c.ocelot.new.err)
+    c.ocelot.result) task c.ocelot.ensures.works

@@ -8,9 +8,13 @@ use Rattle.oc_top.proofs.top.run_by.Goals as goal
 pub returns-in-Some-clause-comes : goal.returns-in-Some-clause-comes
 returns-in-Some-clause-comes g c =
     let words = map string_bytes c.args.words.now in
-    comes_for words _ _ (fetches g.F.Shelf.holds g.F.Shelf.asked g.F.Shelf.faults _ _) (writes g.O.Sink.took g.O.Sink.held g.O.Sink.faults _ _) _ (run_is c.args.supplies.items (λ b. (goal.Supply-dyn g (b.vtable, b.value)).number b.value) (λ b. (goal.Supply-dyn g (b.vtable, b.value)).plan b.value) words _ _ _ c.requires c.in-Some.ensures) c.run_with.ensures.comes
+    comes_for words _ _ (fetches g.F.Shelf.holds g.F.Shelf.asked g.F.Shelf.faults _ _) (writes g.O.Sink.took g.O.Sink.held g.O.Sink.faults _ _) _
+    (run_is c.args.supplies.items (λ b. (goal.Supply-dyn g (b.vtable, b.value)).number b.value) (λ b. (goal.Supply-dyn g (b.vtable, b.value)).plan b.value) words _ _ _
+    c.requires c.in-Some.ensures) c.run_with.ensures.comes
 
 pub returns-in-None-clause-comes : goal.returns-in-None-clause-comes
 returns-in-None-clause-comes g c =
     let words = map string_bytes c.args.words.now in
-    comes_none (call_of words _ (fetches g.F.Shelf.holds g.F.Shelf.asked g.F.Shelf.faults _ _) (writes g.O.Sink.took g.O.Sink.held g.O.Sink.faults _ _)) (sym (run_is c.args.supplies.items (λ b. (goal.Supply-dyn g (b.vtable, b.value)).number b.value) (λ b. (goal.Supply-dyn g (b.vtable, b.value)).plan b.value) words _ _ None c.requires c.in-None.ensures)) (g.met.F.Shelf.asked_nothing _) (g.met.O.Sink.took_nothing _)
+    comes_none (call_of words _ (fetches g.F.Shelf.holds g.F.Shelf.asked g.F.Shelf.faults _ _) (writes g.O.Sink.took g.O.Sink.held g.O.Sink.faults _ _))
+    (sym (run_is c.args.supplies.items (λ b. (goal.Supply-dyn g (b.vtable, b.value)).number b.value) (λ b. (goal.Supply-dyn g (b.vtable, b.value)).plan b.value) words _ _ None
+    c.requires c.in-None.ensures)) (g.met.F.Shelf.asked_nothing _) (g.met.O.Sink.took_nothing _)

@@ -10,6 +10,7 @@ param_named-known-requires c =
     let d = c.function-item.result in
     let i = c.loop-function.function-index in
     let within = subst (λ (n : ℕ). i < n) (sym (length-map c.args.functions.now function_view)) c.loop-function-test.true in
-    let few = subst (λ (f : TFunction). length f.params < 2 ^ 32) (get_or-map function_view c.args.functions.now i d (function_view d) c.loop-function-test.true) (c.requires i (function_view d) within) in
+    let few = subst (λ (f : TFunction). length f.params < 2 ^ 32) (get_or-map function_view c.args.functions.now i d (function_view d) c.loop-function-test.true)
+    (c.requires i (function_view d) within) in
     let here = subst (λ (f : Function). length f.params.items < 2 ^ 32) (sym c.function-item.is) few in
     subst (λ (n : ℕ). n < 2 ^ 32) (sym (ap length c.deref.ensures.value)) here

@@ -8,4 +8,5 @@ use Rattle.oc_types.proofs.calls.lends_fixed.Given as goal
 
 abbrev pub invariant-loop-call : goal.invariant-loop-call
 invariant-loop-call l =
-    not (list_all (λ c. list_all (arg_lends (program_view l.top) l.scope) (call_args c)) (calls_seen (drop l.call-index l.call-items))) ≡ lends_fixed (program_view l.top) l.scope (kind_view l.statement)
+    not (list_all (λ c. list_all (arg_lends (program_view l.top) l.scope) (call_args c)) (calls_seen (drop l.call-index l.call-items)))
+    ≡ lends_fixed (program_view l.top) l.scope (kind_view l.statement)

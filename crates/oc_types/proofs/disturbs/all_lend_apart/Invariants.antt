@@ -8,4 +8,5 @@ use Rattle.oc_types.proofs.disturbs.all_lend_apart.Given as goal
 
 abbrev pub invariant-loop-call : goal.invariant-loop-call
 invariant-loop-call l =
-    list_all (lends_apart (program_view l.top) (kind_view l.statement)) (calls_seen (drop l.call-index l.call-items)) ≡ list_all (lends_apart (program_view l.top) (kind_view l.statement)) (own_calls (kind_view l.statement))
+    list_all (lends_apart (program_view l.top) (kind_view l.statement)) (calls_seen (drop l.call-index l.call-items))
+    ≡ list_all (lends_apart (program_view l.top) (kind_view l.statement)) (own_calls (kind_view l.statement))

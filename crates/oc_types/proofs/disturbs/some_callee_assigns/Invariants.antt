@@ -9,4 +9,5 @@ use Rattle.oc_types.proofs.disturbs.some_callee_assigns.Given as goal
 
 abbrev pub invariant-loop-call : goal.invariant-loop-call
 invariant-loop-call l =
-    list_any (callee_is (reaches_assign (program_view l.top).functions l.name) (program_view l.top)) (calls_seen (drop l.call-index l.call-items)) ≡ list_any (callee_is (reaches_assign (program_view l.top).functions l.name) (program_view l.top)) (own_calls (kind_view l.statement))
+    list_any (callee_is (reaches_assign (program_view l.top).functions l.name) (program_view l.top)) (calls_seen (drop l.call-index l.call-items))
+    ≡ list_any (callee_is (reaches_assign (program_view l.top).functions l.name) (program_view l.top)) (own_calls (kind_view l.statement))

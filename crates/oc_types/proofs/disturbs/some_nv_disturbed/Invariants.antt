@@ -6,4 +6,5 @@ use Rattle.oc_types.proofs.disturbs.some_nv_disturbed.Given as goal
 
 abbrev pub invariant-loop-name : goal.invariant-loop-name
 invariant-loop-name l =
-    list_any (nv_disturbed (program_view l.top) (kind_view l.statement)) (drop l.name-index l.names) ≡ list_any (nv_disturbed (program_view l.top) (kind_view l.statement)) (program_view l.top).names.nvs
+    list_any (nv_disturbed (program_view l.top) (kind_view l.statement)) (drop l.name-index l.names) ≡ list_any (nv_disturbed (program_view l.top) (kind_view l.statement))
+    (program_view l.top).names.nvs

@@ -17,7 +17,8 @@ kind_cost-returns-in-For-clause-cost t c =
     let ws = c.args.weights.now in
     let y = block_cost fs ws (block_view c.in-For.body) in
     let n = turns c.in-For.from c.in-For.to in
-    let k : kind_cost fs ws (kind_view c.args.kind.now) ≡ 6 + n * (9 + y) = ap (λ d. kind_cost fs ws (kind_view d)) c.in-For.is ∙ ap (kind_cost fs ws) (fold-roll-StmtKind TKind TBlock TStmt kind_step block_step stmt_step (StmtKind-F.For c.in-For.name c.in-For.from c.in-For.to c.in-For.body)) in
+    let k : kind_cost fs ws (kind_view c.args.kind.now) ≡ 6 + n * (9 + y) = ap (λ d. kind_cost fs ws (kind_view d)) c.in-For.is
+    ∙ ap (kind_cost fs ws) (fold-roll-StmtKind TKind TBlock TStmt kind_step block_step stmt_step (StmtKind-F.For c.in-For.name c.in-For.from c.in-For.to c.in-For.body)) in
     let count : c.turns.result ≡ turns c.in-For.from c.in-For.to = search rules in
     let turn : c.plus-turn.result ≡ capped (9 + capped y) = c.plus-turn.ensures.sum ∙ ap (λ v. capped (9 + v)) c.block_cost.ensures.cost in
     let all : c.times-in-For.result ≡ capped (n * capped (9 + capped y)) =
@@ -33,6 +34,7 @@ kind_cost-returns-in-While-clause-cost t c =
     let x = expr_cost (expr_view c.in-While.condition) in
     let y = block_cost fs ws (block_view c.in-While.body) in
     let n = c.in-While.bound in
-    let k : kind_cost fs ws (kind_view c.args.kind.now) ≡ 6 + n * (10 + x + y) = ap (λ d. kind_cost fs ws (kind_view d)) c.in-While.is ∙ ap (kind_cost fs ws) (fold-roll-StmtKind TKind TBlock TStmt kind_step block_step stmt_step (StmtKind-F.While c.in-While.condition c.in-While.bound c.in-While.body)) in
+    let k : kind_cost fs ws (kind_view c.args.kind.now) ≡ 6 + n * (10 + x + y) = ap (λ d. kind_cost fs ws (kind_view d)) c.in-While.is
+    ∙ ap (kind_cost fs ws) (fold-roll-StmtKind TKind TBlock TStmt kind_step block_step stmt_step (StmtKind-F.While c.in-While.condition c.in-While.bound c.in-While.body)) in
     let a : c.plus-in-While-2.result ≡ capped (6 + capped (n * capped (capped (10 + capped x) + capped y))) = cc in
     a ∙ capped_while n x y ∙ ap capped (sym k)

@@ -16,7 +16,8 @@ returns-in-Binary-clause-depth t c =
     let op = c.in-Binary.op in
     let x = expr_depth (expr_view c.in-Binary.left.value) in
     let y = expr_depth (expr_view c.in-Binary.right.value) in
-    let k : expr_depth (expr_view c.args.expr.now) ≡ binary_depth op x y = ap (λ d. expr_depth (expr_view d)) c.in-Binary.is ∙ ap expr_depth (fold-roll-Expr TArg TExpr TCall arg_step expr_step call_step (Expr-F.Binary op c.in-Binary.left c.in-Binary.right)) in
+    let k : expr_depth (expr_view c.args.expr.now) ≡ binary_depth op x y = ap (λ d. expr_depth (expr_view d)) c.in-Binary.is
+    ∙ ap expr_depth (fold-roll-Expr TArg TExpr TCall arg_step expr_step call_step (Expr-F.Binary op c.in-Binary.left c.in-Binary.right)) in
     let p = ap (λ d. capped (expr_depth (expr_view d))) c.deref-in-Binary.ensures in
     let q = ap (λ d. capped (expr_depth (expr_view d))) c.deref-in-Binary-2.ensures in
     let e = c.expr_depth-in-Binary.ensures.depth in

@@ -7,4 +7,5 @@ use Rattle.oc_writes.proofs.inside.region_effects.Given as goal
 
 abbrev pub invariant-loop-effect : goal.invariant-loop-effect
 invariant-loop-effect l =
-    effects_seen l.inside.items ++ standing_in l.effects.program (region_view l.region) (map effect_view (drop l.effect-index l.effect-items)) ≡ standing_in l.effects.program (region_view l.region) (effects_at l.effects.program l.region.function)
+    effects_seen l.inside.items ++ standing_in l.effects.program (region_view l.region) (map effect_view (drop l.effect-index l.effect-items))
+    ≡ standing_in l.effects.program (region_view l.region) (effects_at l.effects.program l.region.function)

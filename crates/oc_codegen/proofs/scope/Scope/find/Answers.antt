@@ -24,5 +24,8 @@ returns-then-eq-clause-fresh c =
 pub loop-i-preserved : goal.loop-i-preserved
 loop-i-preserved c =
     let t : bytes_eq c.args.name.now c.index.result.now.name.now ≡ false = search rules in
-    let p : 0 < c.loop-i.i = search rules in
-    (omega (arith, c.loop-i.invariant.0), passed c.args.name.now c.loop-i.i c.self.inside.bindings.items c.index.result.now c.args.self.now p c.loop-i.invariant.0 c.index.ensures c.loop-i.invariant.1 t)
+    let p : 0 < c.loop-i.i = search rules in (
+      omega (arith, c.loop-i.invariant.0),
+      passed c.args.name.now c.loop-i.i c.self.inside.bindings.items c.index.result.now c.args.self.now p c.loop-i.invariant.0 c.index.ensures
+          c.loop-i.invariant.1 t,
+    )

@@ -16,8 +16,10 @@ loop-i-preserved c =
     let place : (count - 1) - i ≡ count - (i + 1) = omega arith in
     let next : count - i ≡ suc (count - (i + 1)) = omega arith in
     let inside : count - (i + 1) < length vs = omega arith in
-    let at : get_or c.variables.result.now ((count - 1) - i) (Nv 0) ≡ get_or vs (count - (i + 1)) (Nv 0) = ap (λ l. get_or l ((count - 1) - i) (Nv 0)) (c.variables.ensures ∙ same) ∙ ap (λ k. get_or vs k (Nv 0)) place in
+    let at : get_or c.variables.result.now ((count - 1) - i) (Nv 0) ≡ get_or vs (count - (i + 1)) (Nv 0) = ap (λ l. get_or l ((count - 1) - i) (Nv 0)) (c.variables.ensures ∙ same)
+    ∙ ap (λ k. get_or vs k (Nv 0)) place in
     record {
       same = c.in_ok-through.ensures.variables ∙ same;
-      links = closed_more (linked c.args.self.now) vs (count - (i + 1)) (count - i) (get_or c.variables.result.now ((count - 1) - i) (Nv 0)) (Nv 0) c.loop-i.self c.through.new.self same c.in_ok-through.ensures.variables inside next at c.loop-i.invariant.links c.in_ok-through.ensures.links;
+      links = closed_more (linked c.args.self.now) vs (count - (i + 1)) (count - i) (get_or c.variables.result.now ((count - 1) - i) (Nv 0)) (Nv 0) c.loop-i.self c.through.new.self
+          same c.in_ok-through.ensures.variables inside next at c.loop-i.invariant.links c.in_ok-through.ensures.links;
     }

@@ -1,4 +1,4 @@
-use Rattle.std.proofs.Common.{◌≡◌, ◌≤◌, ◌<◌, ◌^◌, ◌+◌, ℤ, List, pos, ap, sym, ◌∙◌, arith, length, replicate, rules}
+use Rattle.std.proofs.Common.{◌≡◌, ◌≤◌, ◌<◌, ◌^◌, ◌+◌, ℤ, pos, ap, ◌∙◌, arith, length, replicate, rules}
 use Rattle.std.proofs.lemmas.List.{length-replicate}
 use Rattle.oc_ckpt.specs.Saving.{Held}
 use Rattle.oc_undo.specs.Undo.{Log}

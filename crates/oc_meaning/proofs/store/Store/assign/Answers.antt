@@ -1,5 +1,5 @@
 use Rattle.std.proofs.Common.{ap, sym, ◌∙◌, refl}
-use Rattle.oc_meaning.specs.Store.{Store, held_at, put, replaced}
+use Rattle.oc_meaning.specs.Store.{held_at, put, replaced}
 use Rattle.oc_meaning.specs.Store as meant
 use Rattle.oc_meaning.specs.Seen.{place_view}
 use Rattle.oc_meaning.specs.Stores.{store_view}

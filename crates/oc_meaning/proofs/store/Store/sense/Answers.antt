@@ -15,7 +15,8 @@ returns-clause-step c =
     let e : Event = record { said = Sensed c.args.sensor z; samples = n ∷ []; instance = 0 } in
     let pushed : c.tell.new.events.items ≡ i.events.items ++ e ∷ [] = search rules in
     let value : c.new.result ≡ record { num = z; samples = n ∷ [] } = search rules in
-    sensed c.args.sensor i.samples.now z c.new.result (told c.tell.new.events.items) (store_view i) c.args.self.now refl (omega arith) refl value (ap told pushed ∙ told-push i.events.items e) c.self.view_is
+    sensed c.args.sensor i.samples.now z c.new.result (told c.tell.new.events.items) (store_view i) c.args.self.now refl (omega arith) refl value
+    (ap told pushed ∙ told-push i.events.items e) c.self.view_is
 
 pub returns-in_err-samples-clause-cut : goal.returns-in_err-samples-clause-cut
 returns-in_err-samples-clause-cut c =

@@ -1,6 +1,6 @@
 use Rattle.std.proofs.Common.{◌≡◌, rules, ap, sym, ◌∙◌, refl}
 use Rattle.std.specs.Prelude.{slice_index_or, slice_set}
-use Rattle.oc_meaning.specs.Store.{Store, held_at, nothing, put, with_element}
+use Rattle.oc_meaning.specs.Store.{held_at, nothing, put, with_element}
 use Rattle.oc_meaning.specs.Store as meant
 use Rattle.oc_meaning.specs.Seen.{place_view}
 use Rattle.oc_meaning.specs.Stores.{store_view}

@@ -16,16 +16,22 @@ level-returns-then-level-eq-UNARY-clause-exact t c = rw (level_zero c.args.level
 pub level-returns-in_err-spend-clause-exact : goal.level-returns-in_err-spend-clause-exact
 level-returns-in_err-spend-clause-exact t c =
     let p = err_from_is_err_and c.from_residual-in_err-spend.result c.from_residual-in_err-spend.ensures.1 in
-    rw (p.1, p.2) (spend_stops c.args.level (level_at the_depths (c.args.level - 1) c.args.room) (expr_view c.loop-op.left) c.loop-op.operators (left c.loop-op.self) c.in-Some.op (left c.operator.new.self) c.in_err-spend.field-0.0 (level_at the_depths c.args.level c.args.room c.args.operators.now (left c.args.self.now)) c.in-Some.ensures.exact c.in_err-spend.ensures c.loop-op.invariant.0)
+    rw (p.1, p.2) (spend_stops c.args.level (level_at the_depths (c.args.level - 1) c.args.room) (expr_view c.loop-op.left) c.loop-op.operators (left c.loop-op.self) c.in-Some.op
+    (left c.operator.new.self) c.in_err-spend.field-0.0 (level_at the_depths c.args.level c.args.room c.args.operators.now (left c.args.self.now)) c.in-Some.ensures.exact
+    c.in_err-spend.ensures c.loop-op.invariant.0)
 
 pub level-returns-in_err-right-clause-exact : goal.level-returns-in_err-right-clause-exact
 level-returns-in_err-right-clause-exact t c =
     let p = err_from_is_err_and c.from_residual-in_err-right.result c.from_residual-in_err-right.ensures.1 in
-    rw (p.1, p.2) (level_stops c.args.level (level_at the_depths (c.args.level - 1) c.args.room) (expr_view c.loop-op.left) c.loop-op.operators (left c.loop-op.self) c.in-Some.op (left c.operator.new.self) c.spend.new.operators c.in_err-right.field-0.0 (level_at the_depths c.args.level c.args.room c.args.operators.now (left c.args.self.now)) c.in-Some.ensures.exact c.in_ok-spend.ensures c.in_err-right.ensures.exact c.loop-op.invariant.0)
+    rw (p.1, p.2) (level_stops c.args.level (level_at the_depths (c.args.level - 1) c.args.room) (expr_view c.loop-op.left) c.loop-op.operators (left c.loop-op.self) c.in-Some.op
+    (left c.operator.new.self) c.spend.new.operators c.in_err-right.field-0.0 (level_at the_depths c.args.level c.args.room c.args.operators.now (left c.args.self.now))
+    c.in-Some.ensures.exact c.in_ok-spend.ensures c.in_err-right.ensures.exact c.loop-op.invariant.0)
 
 pub level-loop-op-preserved : goal.level-loop-op-preserved
 level-loop-op-preserved t c =
-    let turn = level_turn c.args.room c.args.level (expr_view c.loop-op.left) c.loop-op.operators (left c.loop-op.self) c.in-Some.op (left c.operator.new.self) c.spend.new.operators (expr_view c.in_ok-right.right) c.level-in-Some.new.operators (left c.level-in-Some.new.self) (omega arith) c.in-Some.ensures.exact c.in_ok-spend.ensures c.in_ok-right.ensures.exact in
+    let turn = level_turn c.args.room c.args.level (expr_view c.loop-op.left) c.loop-op.operators (left c.loop-op.self) c.in-Some.op
+    (left c.operator.new.self) c.spend.new.operators (expr_view c.in_ok-right.right) c.level-in-Some.new.operators (left c.level-in-Some.new.self)
+    (omega arith) c.in-Some.ensures.exact c.in_ok-spend.ensures c.in_ok-right.ensures.exact in
     let l : c.in_ok-new.field-0.value ≡ c.loop-op.left = c.in_ok-new.ensures.ok in
     let r : c.in_ok-new-2.field-0.value ≡ c.in_ok-right.right = c.in_ok-new-2.ensures.ok in
     (rw (view_binary, l, r) (sym turn ∙ c.loop-op.invariant.0), omega (arith, c.in-Some.ensures.shorter, c.in_ok-right.ensures.shorter))
@@ -33,38 +39,49 @@ level-loop-op-preserved t c =
 pub level-returns-clause-exact : goal.level-returns-clause-exact
 level-returns-clause-exact t c =
     let k : left c.operator.new.self ≡ left c.loop-op.self = c.in_default.ensures.kept in
-    rw k (sym c.loop-op.invariant.0 ∙ level_ends c.args.level (level_at the_depths (c.args.level - 1) c.args.room) (expr_view c.loop-op.left) c.loop-op.operators (left c.loop-op.self) c.in_default.ensures.exact)
+    rw k (sym c.loop-op.invariant.0 ∙ level_ends c.args.level (level_at the_depths (c.args.level - 1) c.args.room) (expr_view c.loop-op.left) c.loop-op.operators
+    (left c.loop-op.self) c.in_default.ensures.exact)
 
 pub args-returns-in_err-arg-clause-exact : goal.args-returns-in_err-arg-clause-exact
 unfolding args_at arg_at
 args-returns-in_err-arg-clause-exact t c =
     let p = err_from_is_err_and c.from_residual.result c.from_residual.ensures.1 in
-    rw (p.1, p.2) (list_stops (arg_at the_depths c.args.room) (args_shorten c.args.room) (map arg_view c.loop-args.args.items) (left c.loop-args.self) c.in_err-arg.field-0.0 (args_at the_depths c.args.room (left c.args.self.now)) c.loop-args-test.ensures.exact (rw c.loop-args-test.ensures.kept at c.in_err-arg.ensures.exact) c.loop-args.invariant.0)
+    rw (p.1, p.2) (list_stops (arg_at the_depths c.args.room) (args_shorten c.args.room) (map arg_view c.loop-args.args.items) (left c.loop-args.self) c.in_err-arg.field-0.0
+    (args_at the_depths c.args.room (left c.args.self.now)) c.loop-args-test.ensures.exact (rw c.loop-args-test.ensures.kept at c.in_err-arg.ensures.exact) c.loop-args.invariant.0)
 
 pub args-returns-in_err-expect-clause-exact : goal.args-returns-in_err-expect-clause-exact
 unfolding args_at arg_at
 args-returns-in_err-expect-clause-exact t c =
     let p = err_from_is_err_and c.from_residual-in_err-expect.result c.from_residual-in_err-expect.ensures.1 in
-    rw (p.1, p.2) (list_close_stops (arg_at the_depths c.args.room) (args_shorten c.args.room) (map arg_view c.loop-args.args.items) (left c.loop-args.self) (arg_view c.in_ok-arg.field-0) (left c.arg.new.self) c.in_err-expect.field-0.0 (args_at the_depths c.args.room (left c.args.self.now)) c.loop-args-test.ensures.exact (rw c.loop-args-test.ensures.kept at c.in_ok-arg.ensures.exact) c.if-not-take.ensures.exact (rw c.if-not-take.ensures.kept at c.in_err-expect.ensures.exact) c.loop-args.invariant.0)
+    rw (p.1, p.2) (list_close_stops (arg_at the_depths c.args.room) (args_shorten c.args.room) (map arg_view c.loop-args.args.items) (left c.loop-args.self)
+    (arg_view c.in_ok-arg.field-0) (left c.arg.new.self) c.in_err-expect.field-0.0 (args_at the_depths c.args.room (left c.args.self.now)) c.loop-args-test.ensures.exact
+    (rw c.loop-args-test.ensures.kept at c.in_ok-arg.ensures.exact) c.if-not-take.ensures.exact (rw c.if-not-take.ensures.kept at c.in_err-expect.ensures.exact) c.loop-args.invariant.0)
 
 pub args-returns-then-not-take-clause-exact : goal.args-returns-then-not-take-clause-exact
 unfolding args_at arg_at
 args-returns-then-not-take-clause-exact t c =
-    let e : map arg_view c.push.new.self.items ≡ map arg_view c.loop-args.args.items ++ arg_view c.in_ok-arg.field-0 ∷ [] = rw c.in_ok-push.ensures.items (map_push _ c.loop-args.args.items c.in_ok-arg.field-0) in
-    rw e (list_ends (arg_at the_depths c.args.room) (args_shorten c.args.room) (map arg_view c.loop-args.args.items) (left c.loop-args.self) (arg_view c.in_ok-arg.field-0) (left c.arg.new.self) (left c.expect.new.self) (args_at the_depths c.args.room (left c.args.self.now)) c.loop-args-test.ensures.exact (rw c.loop-args-test.ensures.kept at c.in_ok-arg.ensures.exact) c.if-not-take.ensures.exact (rw c.if-not-take.ensures.kept at c.in_ok-expect.ensures.exact) c.loop-args.invariant.0)
+    let e : map arg_view c.push.new.self.items ≡ map arg_view c.loop-args.args.items ++ arg_view c.in_ok-arg.field-0 ∷ [] =
+    rw c.in_ok-push.ensures.items (map_push _ c.loop-args.args.items c.in_ok-arg.field-0) in
+    rw e (list_ends (arg_at the_depths c.args.room) (args_shorten c.args.room) (map arg_view c.loop-args.args.items) (left c.loop-args.self) (arg_view c.in_ok-arg.field-0)
+    (left c.arg.new.self) (left c.expect.new.self) (args_at the_depths c.args.room (left c.args.self.now)) c.loop-args-test.ensures.exact
+    (rw c.loop-args-test.ensures.kept at c.in_ok-arg.ensures.exact) c.if-not-take.ensures.exact (rw c.if-not-take.ensures.kept at c.in_ok-expect.ensures.exact) c.loop-args.invariant.0)
 
 pub args-loop-args-preserved : goal.args-loop-args-preserved
 unfolding args_at arg_at
 args-loop-args-preserved t c =
-    let e : map arg_view c.push.new.self.items ≡ map arg_view c.loop-args.args.items ++ arg_view c.in_ok-arg.field-0 ∷ [] = rw c.in_ok-push.ensures.items (map_push _ c.loop-args.args.items c.in_ok-arg.field-0) in (
-      rw e (list_goes_on (arg_at the_depths c.args.room) (args_shorten c.args.room) (map arg_view c.loop-args.args.items) (left c.loop-args.self) (arg_view c.in_ok-arg.field-0) (left c.arg.new.self) (left c.take-in-loop-args.new.self) (args_at the_depths c.args.room (left c.args.self.now)) c.loop-args-test.ensures.exact (rw c.loop-args-test.ensures.kept at c.in_ok-arg.ensures.exact) c.if-not-take.ensures.exact c.loop-args.invariant.0),
+    let e : map arg_view c.push.new.self.items ≡ map arg_view c.loop-args.args.items ++ arg_view c.in_ok-arg.field-0 ∷ [] =
+    rw c.in_ok-push.ensures.items (map_push _ c.loop-args.args.items c.in_ok-arg.field-0) in (
+      rw e (list_goes_on (arg_at the_depths c.args.room) (args_shorten c.args.room) (map arg_view c.loop-args.args.items) (left c.loop-args.self) (arg_view c.in_ok-arg.field-0)
+          (left c.arg.new.self) (left c.take-in-loop-args.new.self) (args_at the_depths c.args.room (left c.args.self.now)) c.loop-args-test.ensures.exact
+          (rw c.loop-args-test.ensures.kept at c.in_ok-arg.ensures.exact) c.if-not-take.ensures.exact c.loop-args.invariant.0),
       omega (arith, c.loop-args-test.ensures.shorter, c.in_ok-arg.ensures.shorter, c.if-not-take.ensures.shorter),
     )
 
 pub args-returns-clause-exact : goal.args-returns-clause-exact
 unfolding args_at arg_at
 args-returns-clause-exact t c =
-    list_closes (arg_at the_depths c.args.room) (map arg_view c.loop-args.args.items) (left c.loop-args.self) (left c.take.new.self) (args_at the_depths c.args.room (left c.args.self.now)) c.loop-args-test.ensures.exact c.loop-args.invariant.0
+    list_closes (arg_at the_depths c.args.room) (map arg_view c.loop-args.args.items) (left c.loop-args.self) (left c.take.new.self)
+    (args_at the_depths c.args.room (left c.args.self.now)) c.loop-args-test.ensures.exact c.loop-args.invariant.0
 
 pub named-returns-then-take-clause-exact : goal.named-returns-then-take-clause-exact
 unfolding named_at

@@ -37,13 +37,15 @@ abbrev pub decreases-args : goal.decreases-args
 decreases-args l = 32 * l.room + 18
 
 abbrev pub invariant-args-loop-args : goal.invariant-args-loop-args
-invariant-args-loop-args l = (after (map arg_view l.args.items) (args_at the_depths l.room (left l.self)) ≡ args_at the_depths l.room (left l.fn.self)) × (length l.self.rest.now ≤ length l.fn.self.rest.now)
+invariant-args-loop-args l = (after (map arg_view l.args.items) (args_at the_depths l.room (left l.self)) ≡ args_at the_depths l.room (left l.fn.self)) ×
+    (length l.self.rest.now ≤ length l.fn.self.rest.now)
 
 abbrev pub decreases-args-loop-args : goal.decreases-args-loop-args
 decreases-args-loop-args l = length l.self.rest.now
 
 abbrev pub invariant-level-loop-op : goal.invariant-level-loop-op
-invariant-level-loop-op l = (chain l.level (level_at the_depths (l.level - 1) l.room) (length (left l.self)) (expr_view l.left) l.operators (left l.self) ≡ level_at the_depths l.level l.room l.fn.operators (left l.fn.self)) × (length l.self.rest.now < length l.fn.self.rest.now)
+invariant-level-loop-op l = (chain l.level (level_at the_depths (l.level - 1) l.room) (length (left l.self)) (expr_view l.left) l.operators (left l.self)
+    ≡ level_at the_depths l.level l.room l.fn.operators (left l.fn.self)) × (length l.self.rest.now < length l.fn.self.rest.now)
 
 abbrev pub decreases-level-loop-op : goal.decreases-level-loop-op
 decreases-level-loop-op l = length l.self.rest.now

@@ -16,44 +16,57 @@ block-returns-in_err-expect-clause-exact t c =
 
 pub block-returns-then-room-eq0-clause-exact : goal.block-returns-then-room-eq0-clause-exact
 block-returns-then-room-eq0-clause-exact t c =
-    rw c.too_many_blocks.ensures (block_too_deep c.args.room c.args.self.now.statements c.args.self.now.blocks (left c.args.self.now.reader) (left c.expect.new.self) (length c.expect.new.self.rest.now) c.if-room-eq0.true c.in_ok-expect.ensures.exact (length-map c.expect.new.self.rest.now _))
+    rw c.too_many_blocks.ensures (block_too_deep c.args.room c.args.self.now.statements c.args.self.now.blocks (left c.args.self.now.reader) (left c.expect.new.self)
+    (length c.expect.new.self.rest.now) c.if-room-eq0.true c.in_ok-expect.ensures.exact (length-map c.expect.new.self.rest.now _))
 
 pub block-returns-in_err-statements-clause-exact : goal.block-returns-in_err-statements-clause-exact
 block-returns-in_err-statements-clause-exact t c =
     let p = err_from_is_err_and c.from_residual-in_err-statements.result c.from_residual-in_err-statements.ensures.1 in
-    rw (p.1, p.2) (inside_stops c.args.room c.args.self.now.statements c.args.self.now.blocks (left c.args.self.now.reader) (left c.expect.new.self) c.in_err-statements.field-0.0 (omega arith) c.in_ok-expect.ensures.exact c.in_err-statements.ensures.exact)
+    rw (p.1, p.2) (inside_stops c.args.room c.args.self.now.statements c.args.self.now.blocks (left c.args.self.now.reader) (left c.expect.new.self) c.in_err-statements.field-0.0
+    (omega arith) c.in_ok-expect.ensures.exact c.in_err-statements.ensures.exact)
 
 pub block-returns-clause-exact : goal.block-returns-clause-exact
 block-returns-clause-exact t c =
-    rw view_block (block_is c.args.room c.args.self.now.statements c.args.self.now.blocks (left c.args.self.now.reader) (left c.expect.new.self) (map stmt_view c.in_ok-statements.statements.items) c.statements.new.self.statements c.statements.new.self.blocks (left c.statements.new.self.reader) (omega arith) c.in_ok-expect.ensures.exact c.in_ok-statements.ensures.exact)
+    rw view_block (block_is c.args.room c.args.self.now.statements c.args.self.now.blocks (left c.args.self.now.reader) (left c.expect.new.self)
+    (map stmt_view c.in_ok-statements.statements.items) c.statements.new.self.statements c.statements.new.self.blocks (left c.statements.new.self.reader)
+    (omega arith) c.in_ok-expect.ensures.exact c.in_ok-statements.ensures.exact)
 
 pub chained-returns-then-room-eq0-clause-exact : goal.chained-returns-then-room-eq0-clause-exact
 chained-returns-then-room-eq0-clause-exact t c =
-    rw c.too_many_chained.ensures (chained_too_deep c.args.room c.args.self.now.statements c.args.self.now.blocks (left c.args.self.now.reader) (length c.args.self.now.reader.rest.now) c.if-room-eq0.true (length-map c.args.self.now.reader.rest.now _))
+    rw c.too_many_chained.ensures (chained_too_deep c.args.room c.args.self.now.statements c.args.self.now.blocks (left c.args.self.now.reader)
+    (length c.args.self.now.reader.rest.now) c.if-room-eq0.true (length-map c.args.self.now.reader.rest.now _))
 
 pub chained-returns-in_err-statement-clause-exact : goal.chained-returns-in_err-statement-clause-exact
 chained-returns-in_err-statement-clause-exact t c =
     let p = err_from_is_err_and c.from_residual.result c.from_residual.ensures.1 in
-    rw (p.1, p.2) (chained_stops c.args.room c.args.self.now.statements c.args.self.now.blocks (left c.args.self.now.reader) c.in_err-statement.field-0.0 (omega arith) c.in_err-statement.ensures.exact)
+    rw (p.1, p.2) (chained_stops c.args.room c.args.self.now.statements c.args.self.now.blocks (left c.args.self.now.reader) c.in_err-statement.field-0.0
+    (omega arith) c.in_err-statement.ensures.exact)
 
 pub chained-returns-clause-exact : goal.chained-returns-clause-exact
 chained-returns-clause-exact t c =
     let e : c.push.new.self.items ≡ c.in_ok-statement.statement ∷ [] = rw (c.in_ok-push.ensures.items, c.new-statements.ensures.items) refl in
-    rw (view_block, e) (chained_is c.args.room c.args.self.now.statements c.args.self.now.blocks (left c.args.self.now.reader) (stmt_view c.in_ok-statement.statement) c.statement.new.self.statements c.statement.new.self.blocks (left c.statement.new.self.reader) (omega arith) c.in_ok-statement.ensures.exact)
+    rw (view_block, e) (chained_is c.args.room c.args.self.now.statements c.args.self.now.blocks (left c.args.self.now.reader) (stmt_view c.in_ok-statement.statement)
+    c.statement.new.self.statements c.statement.new.self.blocks (left c.statement.new.self.reader) (omega arith) c.in_ok-statement.ensures.exact)
 
 pub statements-returns-in_err-statement-clause-exact : goal.statements-returns-in_err-statement-clause-exact
 statements-returns-in_err-statement-clause-exact t c =
     let p = err_from_is_err_and c.from_residual.result c.from_residual.ensures.1 in
-    rw (p.1, p.2) (block_stops c.args.room (map stmt_view c.loop-self.statements.items) c.loop-self.self.statements c.loop-self.self.blocks (left c.loop-self.self.reader) c.in_err-statement.field-0.0 (from (stmts_at the_depths c.args.room) c.args.self.now) c.loop-self-test.ensures.exact (rw c.loop-self-test.ensures.kept at c.in_err-statement.ensures.exact) c.loop-self.invariant.0)
+    rw (p.1, p.2) (block_stops c.args.room (map stmt_view c.loop-self.statements.items) c.loop-self.self.statements c.loop-self.self.blocks
+    (left c.loop-self.self.reader) c.in_err-statement.field-0.0 (from (stmts_at the_depths c.args.room) c.args.self.now) c.loop-self-test.ensures.exact
+    (rw c.loop-self-test.ensures.kept at c.in_err-statement.ensures.exact) c.loop-self.invariant.0)
 
 pub statements-loop-self-preserved : goal.statements-loop-self-preserved
 statements-loop-self-preserved t c =
-    let e : map stmt_view c.push.new.self.items ≡ map stmt_view c.loop-self.statements.items ++ stmt_view c.in_ok-statement.statement ∷ [] = rw c.in_ok-push.ensures.items (map_push _ c.loop-self.statements.items c.in_ok-statement.statement) in (
-      rw e (block_goes_on c.args.room (map stmt_view c.loop-self.statements.items) c.loop-self.self.statements c.loop-self.self.blocks (left c.loop-self.self.reader) (stmt_view c.in_ok-statement.statement) c.statement.new.self.statements c.statement.new.self.blocks (left c.statement.new.self.reader) (from (stmts_at the_depths c.args.room) c.args.self.now) c.loop-self-test.ensures.exact (rw c.loop-self-test.ensures.kept at c.in_ok-statement.ensures.exact) c.loop-self.invariant.0),
+    let e : map stmt_view c.push.new.self.items ≡ map stmt_view c.loop-self.statements.items ++ stmt_view c.in_ok-statement.statement ∷ [] =
+    rw c.in_ok-push.ensures.items (map_push _ c.loop-self.statements.items c.in_ok-statement.statement) in (
+      rw e (block_goes_on c.args.room (map stmt_view c.loop-self.statements.items) c.loop-self.self.statements c.loop-self.self.blocks (left c.loop-self.self.reader)
+          (stmt_view c.in_ok-statement.statement) c.statement.new.self.statements c.statement.new.self.blocks (left c.statement.new.self.reader)
+          (from (stmts_at the_depths c.args.room) c.args.self.now) c.loop-self-test.ensures.exact (rw c.loop-self-test.ensures.kept at c.in_ok-statement.ensures.exact) c.loop-self.invariant.0),
       c.in_ok-statement.ensures.fits,
       omega (arith, c.loop-self-test.ensures.shorter, c.in_ok-statement.ensures.shorter),
     )
 
 pub statements-returns-clause-exact : goal.statements-returns-clause-exact
 statements-returns-clause-exact t c =
-    block_ends c.args.room (map stmt_view c.loop-self.statements.items) c.loop-self.self.statements c.loop-self.self.blocks (left c.loop-self.self.reader) (left c.take.new.self) (from (stmts_at the_depths c.args.room) c.args.self.now) c.loop-self-test.ensures.exact c.loop-self.invariant.0
+    block_ends c.args.room (map stmt_view c.loop-self.statements.items) c.loop-self.self.statements c.loop-self.self.blocks (left c.loop-self.self.reader) (left c.take.new.self)
+    (from (stmts_at the_depths c.args.room) c.args.self.now) c.loop-self-test.ensures.exact c.loop-self.invariant.0

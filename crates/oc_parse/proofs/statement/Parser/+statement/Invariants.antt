@@ -37,7 +37,8 @@ abbrev pub decreases-block : goal.decreases-block
 decreases-block l = 8 * l.room + 1
 
 abbrev pub invariant-statements-loop-self : goal.invariant-statements-loop-self
-invariant-statements-loop-self l = (afterwards (map stmt_view l.statements.items) (from (stmts_at the_depths l.room) l.self) ≡ from (stmts_at the_depths l.room) l.fn.self) × Fits l.self × (length l.self.reader.rest.now ≤ length l.fn.self.reader.rest.now)
+invariant-statements-loop-self l = (afterwards (map stmt_view l.statements.items) (from (stmts_at the_depths l.room) l.self) ≡ from (stmts_at the_depths l.room) l.fn.self) × Fits
+    l.self × (length l.self.reader.rest.now ≤ length l.fn.self.reader.rest.now)
 
 abbrev pub decreases-statements-loop-self : goal.decreases-statements-loop-self
 decreases-statements-loop-self l = length l.self.reader.rest.now

@@ -1,4 +1,4 @@
-use Rattle.std.proofs.Common.{◌≡◌, arith, ◌<◌, ◌+◌, ◌∷◌, length, ap, sym, subst, ◌∙◌, drop, true}
+use Rattle.std.proofs.Common.{◌≡◌, arith, ◌<◌, ◌+◌, ◌∷◌, ap, sym, subst, ◌∙◌, drop, true}
 use Rattle.std.proofs.Math.ListN.{get_or}
 use Rattle.std.proofs.lemmas.Grind.{common_steps}
 use Rattle.oc_tree.proofs.ReachLaws.{or_right}

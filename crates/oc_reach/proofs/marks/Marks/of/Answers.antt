@@ -1,5 +1,4 @@
-use Rattle.std.proofs.Common.{◌≡◌, ℕ, true, false, ap, sym, subst, ◌∙◌, length, arith, ◌+◌, take}
-use Rattle.std.proofs.Math.ListN.{get_or}
+use Rattle.std.proofs.Common.{◌≡◌, ℕ, true, false, ap, ◌∙◌, ◌+◌}
 use Rattle.oc_reach.specs.Marked.{is_in}
 use Rattle.oc_reach.proofs.Tests.{test_on, test_off}
 use Rattle.oc_reach.proofs.marks.Marks.of.Goals as goal

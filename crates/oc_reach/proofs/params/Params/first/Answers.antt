@@ -1,4 +1,4 @@
-use Rattle.std.proofs.Common.{◌≡◌, ◌<◌, map, length, ap, ◌∙◌, arith, vec_len}
+use Rattle.std.proofs.Common.{◌≡◌, ◌<◌, map, length, ap, ◌∙◌, arith}
 use Rattle.std.proofs.Math.ListN.{get_or}
 use Rattle.std.proofs.lemmas.List.{length-map, get_or_read}
 use Rattle.oc_tree.specs.View.{function_view}
@@ -29,6 +29,7 @@ returns-clause-room c =
     let n : length c.self.inside.firsts.items ≡ length c.args.self.now = ap length firsts ∙ firsts_length 0 fs ∙ length-map c.args.self.now function_view in
     let m : length fs ≡ length c.args.self.now = length-map c.args.self.now function_view in
     let h : c.args.function < length c.self.inside.firsts.items = omega (arith, n, c.requires) in
-    let v : c.index.result.now ≡ get_or (first_params 0 fs) c.args.function 0 = get_or_read c.self.inside.firsts.items c.args.function c.index.result.now h c.index.ensures 0 ∙ ap (λ l. get_or l c.args.function 0) firsts in
+    let v : c.index.result.now ≡ get_or (first_params 0 fs) c.args.function 0 = get_or_read c.self.inside.firsts.items c.args.function c.index.result.now h c.index.ensures 0
+    ∙ ap (λ l. get_or l c.args.function 0) firsts in
     let r = first_room 0 fs c.args.function (omega (arith, c.requires, m)) in
     omega (arith, r, count, v, c.self.invariant.2)

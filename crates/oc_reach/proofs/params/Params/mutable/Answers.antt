@@ -1,7 +1,7 @@
-use Rattle.std.proofs.Common.{rules, ◌^◌, ◌≡◌, ◌<◌, ◌+◌, ℕ, Bool, true, false, [], map, length, cond, Some, None, ap, sym, subst, ◌∙◌, arith}
+use Rattle.std.proofs.Common.{rules, ◌^◌, ◌≡◌, ◌<◌, ◌+◌, ℕ, true, false, [], map, cond, Some, None, ap, sym, ◌∙◌, arith}
 use Rattle.std.proofs.Math.ListN.{get_or}
 use Rattle.oc_tree.specs.View.{function_view}
-use Rattle.oc_tree.specs.Assigned.{is_mutable, first_param, mutable_param, takes_mutable}
+use Rattle.oc_tree.specs.Assigned.{is_mutable, first_param, takes_mutable}
 use Rattle.oc_reach.proofs.PassLaws.{mutable_at, takes_below}
 use Rattle.oc_reach.proofs.params.Params.mutable.Goals as goal
 
@@ -14,7 +14,8 @@ overflow_add-result c =
     let was : f ≡ get_or c.self.inside.functions.now u f = c.index-functions-function.is in
     let is : f ≡ get_or xs u f = was ∙ ap (λ l. get_or l u f) c.self.view_is in
     let slice = ap (λ l. get_or (map (λ p. is_mutable p.passing) l) c.args.place false) c.as_slice.ensures.value in
-    let t : takes_mutable fs u c.args.place ≡ true = ap (λ l. get_or l c.args.place false) (mutable_at xs u f c.requires is) ∙ ap (λ g. get_or (map (λ p. is_mutable p.passing) g.params.items) c.args.place false) was ∙ sym slice ∙ sym c.is_mutable_at.ensures ∙ c.if-is_mutable_at.true in
+    let t : takes_mutable fs u c.args.place ≡ true = ap (λ l. get_or l c.args.place false) (mutable_at xs u f c.requires is)
+    ∙ ap (λ g. get_or (map (λ p. is_mutable p.passing) g.params.items) c.args.place false) was ∙ sym slice ∙ sym c.is_mutable_at.ensures ∙ c.if-is_mutable_at.true in
     let b = takes_below fs u c.args.place t in
     let r = c.first-first.ensures.room in
     let n : c.first-first.result + c.args.place < 2 ^ 64 = omega (arith, b.1, r) in
@@ -29,7 +30,8 @@ returns-then-is_mutable_at c =
     let was : f ≡ get_or c.self.inside.functions.now u f = c.index-functions-function.is in
     let is : f ≡ get_or xs u f = was ∙ ap (λ l. get_or l u f) c.self.view_is in
     let slice = ap (λ l. get_or (map (λ p. is_mutable p.passing) l) c.args.place false) c.as_slice.ensures.value in
-    let t : takes_mutable fs u c.args.place ≡ true = ap (λ l. get_or l c.args.place false) (mutable_at xs u f c.requires is) ∙ ap (λ g. get_or (map (λ p. is_mutable p.passing) g.params.items) c.args.place false) was ∙ sym slice ∙ sym c.is_mutable_at.ensures ∙ c.if-is_mutable_at.true in
+    let t : takes_mutable fs u c.args.place ≡ true = ap (λ l. get_or l c.args.place false) (mutable_at xs u f c.requires is)
+    ∙ ap (λ g. get_or (map (λ p. is_mutable p.passing) g.params.items) c.args.place false) was ∙ sym slice ∙ sym c.is_mutable_at.ensures ∙ c.if-is_mutable_at.true in
     ap (λ n. Some (n + c.args.place)) c.first-first.ensures.first ∙ sym (ap (λ b. cond b (Some (first_param fs u + c.args.place)) None) t)
 
 pub returns-else-is_mutable_at : goal.returns-else-is_mutable_at
@@ -41,5 +43,6 @@ returns-else-is_mutable_at c =
     let was : f ≡ get_or c.self.inside.functions.now u f = c.index-functions-function.is in
     let is : f ≡ get_or xs u f = was ∙ ap (λ l. get_or l u f) c.self.view_is in
     let slice = ap (λ l. get_or (map (λ p. is_mutable p.passing) l) c.args.place false) c.as_slice.ensures.value in
-    let t : takes_mutable fs u c.args.place ≡ false = ap (λ l. get_or l c.args.place false) (mutable_at xs u f c.requires is) ∙ ap (λ g. get_or (map (λ p. is_mutable p.passing) g.params.items) c.args.place false) was ∙ sym slice ∙ sym c.is_mutable_at.ensures ∙ c.if-is_mutable_at.false in
+    let t : takes_mutable fs u c.args.place ≡ false = ap (λ l. get_or l c.args.place false) (mutable_at xs u f c.requires is)
+    ∙ ap (λ g. get_or (map (λ p. is_mutable p.passing) g.params.items) c.args.place false) was ∙ sym slice ∙ sym c.is_mutable_at.ensures ∙ c.if-is_mutable_at.false in
     sym (ap (λ b. cond b (Some (first_param fs u + c.args.place)) None) t)

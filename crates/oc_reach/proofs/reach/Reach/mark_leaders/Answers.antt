@@ -1,7 +1,7 @@
 use Rattle.std.proofs.Common.{◌≡◌, ◌<◌, ◌≤◌, ◌||◌, ℕ, [], length, ap, sym, subst, ◌∙◌, true, arith}
 use Rattle.std.proofs.Math.ListN.{get_or}
 use Rattle.oc_tree.specs.Reach.{linked}
-use Rattle.oc_reach.specs.Marked.{is_in, add_all, rows}
+use Rattle.oc_reach.specs.Marked.{is_in}
 use Rattle.oc_reach.proofs.Lists.{in_all, at_all, length_all}
 use Rattle.oc_reach.proofs.Rows.{row_is}
 use Rattle.oc_reach.proofs.reach.Reach.mark_leaders.Goals as goal

@@ -32,7 +32,9 @@ pushed c =
 
 pub invariant_of-self : goal.invariant_of-self
 invariant_of-self c =
-    subst (λ (l : List Entry). IsMarked l (slice_set c.self.inside.marks.items c.args.addr true) × (length (slice_set c.self.inside.marks.items c.args.addr true) ≤ vec_capacity c.push.new.self) × (c.self.inside.back ≤ length l)) (sym (pushed c)) (noted _ _ (entry c) c.self.invariant.0 (within c) (unmarked c), omega (arith, length-set c.self.inside.marks.items c.args.addr true), omega (arith, (seen c).1))
+    subst (λ (l : List Entry). IsMarked l (slice_set c.self.inside.marks.items c.args.addr true) ×
+    (length (slice_set c.self.inside.marks.items c.args.addr true) ≤ vec_capacity c.push.new.self) × (c.self.inside.back ≤ length l)) (sym (pushed c))
+    (noted _ _ (entry c) c.self.invariant.0 (within c) (unmarked c), omega (arith, length-set c.self.inside.marks.items c.args.addr true), omega (arith, (seen c).1))
 
 pub returns : goal.returns
 returns c = rw (pushed c, length-set, (seen c).0, (seen c).1, (seen c).2) refl

@@ -1,4 +1,6 @@
 pub mod Timely
 pub mod Held
+pub mod Honest
 pub mod Deciding
 pub mod Worked
+pub mod Ended

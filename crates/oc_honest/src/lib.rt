@@ -1,11 +1,12 @@
-//! What reports keep that are timely: no outage lies between an input and a use of what depends on it,
-//! and none among the inputs of a consistent set.
+//! When a report is honest, and when it is timely: no outage lies between an input and a use of what
+//! depends on it, and none among the inputs of a consistent set.
 //!
 //! Definitions over runs and reports, and laws. A law is a function that does nothing, and its
 //! contract says the law.
 #![tactic(auto)]
 
 ghost use Rattle.oc_honest.specs.Deciding.{TestsTell};
+ghost use Rattle.oc_honest.specs.Ended.{EndedWantsNone};
 ghost use Rattle.oc_honest.specs.Held.{HeldIsTimely};
 ghost use Rattle.oc_honest.specs.Timely.{LateUse, PartedSet};
 ghost use Rattle.oc_honest.specs.Worked.{WorkedReports};
@@ -35,4 +36,9 @@ pub fn tests_tell()
 /// a nonvolatile variable.
 pub fn worked_reports()
     ensures { WorkedReports }
+{}
+
+/// A run that says last that it is over wants no sample.
+pub fn ended_wants_none()
+    ensures { EndedWantsNone }
 {}

@@ -12,7 +12,7 @@ use Rattle.oc_items.specs.Erase.{erase, marked, kept_samples, without_offs, HasN
 use Rattle.oc_steps.specs.Erasing.{item, newer, last_mark, AreUnmarked, IsUnmarked}
 use Rattle.oc_items.specs.Reports.{IsPrefixOf}
 use Rattle.oc_items.specs.Reports.{EndsWith}
-use Rattle.oc_steps.specs.Honest.{IsHonestSoFar}
+use Rattle.oc_honest.specs.Honest.{IsHonestSoFar}
 use Rattle.oc_tree.specs.Members.{IsOf}
 use Rattle.oc_honest.specs.Timely.{AreTimely, lived_from}
 use Rattle.oc_steps.specs.Fold.{Way, aborted}

@@ -31,7 +31,7 @@ use Rattle.oc_steps.specs.Ages.{join_ages, aged_held, aged_outcome}
 use Rattle.oc_steps.specs.AgesTell.{Agrees, HasAge}
 use Rattle.oc_steps.specs.Follow.{with_more}
 use Rattle.oc_steps.specs.Heard.{Under, cleared, store_in, told}
-use Rattle.oc_steps.specs.Honest.{IsWhole, IsHonestSoFar}
+use Rattle.oc_honest.specs.Honest.{IsWhole, IsHonestSoFar}
 use Rattle.oc_steps.specs.Erasing.{item, last_mark}
 use Rattle.oc_steps.specs.Freshness.{AreNumbered}
 use Rattle.oc_steps.specs.Little.{IsNoInput, IsNoEnd}

@@ -17,7 +17,7 @@ use Rattle.oc_steps.specs.Ages.{join_ages, aged_held, aged_step}
 use Rattle.oc_steps.specs.Heard.{store_in}
 use Rattle.oc_steps.specs.Starting.{Starts}
 use Rattle.oc_steps.specs.Little.{Little}
-use Rattle.oc_steps.specs.Honest.{TReport, IsHonestSoFar}
+use Rattle.oc_honest.specs.Honest.{TReport, IsHonestSoFar}
 use Rattle.oc_steps.specs.Erasing.{item}
 use Rattle.oc_steps.specs.Freshness.{AreNumbered}
 use Rattle.oc_steps.specs.Fold.{Watch, start}

@@ -20,7 +20,7 @@ use Rattle.oc_items.specs.Reports.{IsPrefixOf}
 use Rattle.oc_honest.specs.Timely.{Lived, lived_from, AreTimely}
 use Rattle.oc_steps.specs.Steps.{Frame, Over, step}
 use Rattle.oc_steps.specs.Heard.{Under, told}
-use Rattle.oc_steps.specs.Honest.{IsWhole, IsHonestSoFar}
+use Rattle.oc_honest.specs.Honest.{IsWhole, IsHonestSoFar}
 use Rattle.oc_steps.specs.Erasing.{item, IsNoAbort}
 use Rattle.oc_steps.specs.Freshness.{AreNumbered}
 use Rattle.oc_steps.specs.Little.{IsNoInput}

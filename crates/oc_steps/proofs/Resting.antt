@@ -18,7 +18,7 @@ use Rattle.oc_steps.specs.Heard.{Under}
 use Rattle.oc_steps.specs.Freshness.{AreNumbered}
 use Rattle.oc_meaning.specs.Unmarked.{unmarked}
 use Rattle.oc_items.specs.Reports.{IsPrefixOf}
-use Rattle.oc_steps.specs.Honest.{IsHonestSoFar}
+use Rattle.oc_honest.specs.Honest.{IsHonestSoFar}
 use Rattle.oc_honest.specs.Timely.{lives, lived_from, AreTimely}
 use Rattle.oc_steps.specs.Fold.{Way, Watch, one_more}
 use Rattle.oc_steps.specs.Watching.{samples_in, off_more, offs_in, with_input, offs_before, is_inside, lives_of, IsSeen, IsGoing, IsWay, IsWatch, IsAnswer}

@@ -5,7 +5,7 @@ use Rattle.oc_tree.specs.Marked.{TRegion}
 use Rattle.oc_tree.specs.Said.{Told}
 use Rattle.oc_tree.specs.declared.said.Said.{Said}
 use Rattle.oc_tree.specs.declared.said.Said.TheVariants.{Aborted, Off, Dark}
-use Rattle.oc_steps.specs.Honest.{TReport, IsHonest, BreaksAt}
+use Rattle.oc_honest.specs.Honest.{TReport, IsHonest, BreaksAt}
 use Rattle.oc_steps.specs.Fold.{Watch, Rises, aborted, off, on_next, steps_on, at_first}
 use Rattle.oc_steps.specs.Watching.{AllHonest, IsMade, IsWatch, IsAnswer}
 

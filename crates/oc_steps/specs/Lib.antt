@@ -4,7 +4,6 @@ pub mod Follow
 pub mod Ages
 pub mod Heard
 pub mod Hearing
-pub mod Honest
 pub mod Fold
 pub mod Erasing
 pub mod AgesTell

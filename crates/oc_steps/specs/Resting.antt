@@ -4,7 +4,7 @@ use Rattle.oc_tree.specs.Tree.{TProgram}
 use Rattle.oc_tree.specs.Marked.{TRegion}
 use Rattle.oc_tree.specs.Said.{Told}
 use Rattle.oc_tree.specs.declared.said.Said.TheVariants.{Off, Dark}
-use Rattle.oc_steps.specs.Honest.{IsHonestSoFar}
+use Rattle.oc_honest.specs.Honest.{IsHonestSoFar}
 use Rattle.oc_steps.specs.Fold.{Watch, off}
 use Rattle.oc_steps.specs.Watching.{IsWatch, IsAnswer}
 use Rattle.oc_steps.specs.Erasing.{item}

@@ -15,7 +15,7 @@ use Rattle.oc_steps.specs.Steps.{Frame, Over, step}
 use Rattle.oc_steps.specs.Ages.{aged_frame, aged_outcome}
 use Rattle.oc_steps.specs.AgesTell.{Agrees}
 use Rattle.oc_steps.specs.Heard.{Under, told, store_in}
-use Rattle.oc_steps.specs.Honest.{IsHonestSoFar}
+use Rattle.oc_honest.specs.Honest.{IsHonestSoFar}
 use Rattle.oc_steps.specs.Fold.{Way, Watch, Next, Went_on, Instance, Rises, is_set, is_one, aborted, on_next, steps_on}
 use Rattle.oc_honest.specs.Timely.{Lived, lived_from, IsUse, set_of}
 use Rattle.oc_meaning.specs.Unmarked.{unmarked}

@@ -4,20 +4,16 @@ use Rattle.oc_tree.specs.Tree.{TProgram}
 use Rattle.oc_tree.specs.Marked.{TRegion}
 use Rattle.oc_tree.specs.Said.{Told}
 use Rattle.oc_tree.specs.declared.said.Ending.{Ending}
-use Rattle.oc_tree.specs.declared.said.Said.{Said}
 use Rattle.oc_tree.specs.declared.said.Said.TheVariants.{Ended}
 use Rattle.oc_meaning.specs.Run.{AtShort, marked_run, source_run, said_in}
 use Rattle.oc_items.specs.Erase.{erase, marked, kept_samples, HasNoOffInside}
-use Rattle.oc_items.specs.Reports.{IsPrefixOf}
+use Rattle.oc_items.specs.Reports.{IsPrefixOf, EndsWith}
 use Rattle.oc_honest.specs.Timely.{IsTimely}
 
 -- what was reported: its items, and the nonvolatile words where there are any
 pub record TReport : Type 0 where
   pub items : List Told
   pub nv : Option (List ℤ)
-
-abbrev pub EndsWith : List Told → Said → Type 0
-EndsWith report s = (before : List Told) × (tick : ℕ) × (report ≡ before ++ record { tick = tick; said = s } ∷ [])
 
 -- without its aborted attempts it is the whole marked run, which is over, and these are the words that the run leaves
 pub record IsWhole (p : TProgram) (regions : List TRegion) (q : List Told) (nv : Option (List ℤ)) : Type 0 where

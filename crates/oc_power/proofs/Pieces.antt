@@ -1,12 +1,14 @@
 -- Pieces of the rows.
-use Rattle.std.proofs.Common.{ℕ, suc, ◌+◌, ◌-◌, ◌*◌, ◌/◌, ◌<◌, ◌≤◌, ◌≡◌, ◌∙◌, List, [], ◌∷◌, ◌++◌, length, get_or, drop, arith, ap, sym, refl}
+use Rattle.std.proofs.Common.{ℕ, suc, ◌+◌, ◌-◌, ◌*◌, ◌/◌, ◌<◌, ◌≤◌, ◌≡◌, ◌∙◌, List, [], ◌∷◌, ◌++◌, Some, drop, take, arith, ap, sym, refl, subst}
 use Rattle.std.specs.Prelude.{replicate}
-use Rattle.std.proofs.lemmas.List.{drop_more}
+use Rattle.std.specs.List.{slice_get}
+use Rattle.std.proofs.lemmas.List.{drop_more, take_more}
+use Rattle.std.proofs.lemmas.Option.{get_or_from_slice_get, slice_get_within}
 use Rattle.std.proofs.lemmas.List.Sums.{sum_by-append, sum_by-cons}
 use Rattle.std.proofs.lemmas.List.Folds.{sum_by-replicate}
 use Rattle.std.proofs.Math.Nat.{add-mul-div_left, div-lt_iff_lt-mul, mul-div-le}
 use Rattle.oc_io.specs.declared.period.Period.{Period}
-use Rattle.oc_power.specs.Cutting.{cut_after, cut_row, cut_rows, whole_piece, whole_pieces}
+use Rattle.oc_power.specs.Cutting.{cut_after, cut_row, cut_rows, IsTold, whole_piece, whole_pieces}
 use Rattle.oc_power.specs.Total.{total}
 
 -- a row of more steps than a piece has begins with a whole piece
@@ -57,15 +59,31 @@ total-cut_rows len [] = refl
 total-cut_rows len (row ∷ rest) =
     sum_by-append (λ p. p.on + p.off) (cut_row len row) (cut_rows len rest) ∙ omega (arith, sum_by-cons (λ (p : Period). p.on + p.off) row rest, total-cut_row len row, total-cut_rows len rest)
 
-at_place : (rows : List Period) (place : ℕ) (row : Period) → place < length rows → row ≡ get_or rows place row → drop place rows ≡ row ∷ drop (place + 1) rows
-at_place rows place row within is = drop_more rows place row within ∙ ap (λ (first : Period). first ∷ drop (place + 1) rows) (sym is)
+pub at_place : (rows : List Period) (place : ℕ) (row : Period) → slice_get rows place ≡ Some row → drop place rows ≡ row ∷ drop (place + 1) rows
+at_place rows place row is =
+    drop_more rows place row (slice_get_within rows place row is) ∙ ap (λ (first : Period). first ∷ drop (place + 1) rows) (get_or_from_slice_get rows place row row is)
 
-pub piece_told : (rows : List Period) (len told place : ℕ) (row : Period) → place < length rows → row ≡ get_or rows place row → 1 ≤ len → len < row.on - told
+-- a row at the place has the steps that were told of it, and so many may have been told
+pub told_within : (rows : List Period) (place told : ℕ) (row : Period) → slice_get rows place ≡ Some row → IsTold told (drop place rows) → told ≤ row.on
+told_within rows place told row is h = subst (IsTold told) (at_place rows place row is) h
+
+pub may_be_told : (rows : List Period) (place told : ℕ) (row : Period) → slice_get rows place ≡ Some row → told ≤ row.on → IsTold told (drop place rows)
+may_be_told rows place told row is h = subst (IsTold told) (sym (at_place rows place row is)) h
+
+pub taken_more : (rows : List Period) (place : ℕ) (row : Period) → slice_get rows place ≡ Some row → take (place + 1) rows ≡ take place rows ++ row ∷ []
+taken_more rows place row is =
+    take_more rows place row (slice_get_within rows place row is) ∙ ap (λ (last : Period). take place rows ++ last ∷ []) (get_or_from_slice_get rows place row row is)
+
+-- the sum of a row and of those behind it
+pub row_summed : (rows : List Period) (place : ℕ) (row : Period) → slice_get rows place ≡ Some row → total (drop place rows) ≡ row.on + row.off + total (drop (place + 1) rows)
+row_summed rows place row is = ap (λ (left : List Period). total left) (at_place rows place row is) ∙ sum_by-cons (λ (p : Period). p.on + p.off) row (drop (place + 1) rows)
+
+pub piece_told : (rows : List Period) (len told place : ℕ) (row : Period) → slice_get rows place ≡ Some row → 1 ≤ len → len < row.on - told
     → cut_after len told (drop place rows) ≡ whole_piece len ∷ cut_after len (told + len) (drop place rows)
-piece_told rows len told place row within is some long =
-    rw (at_place rows place row within is) (piece_on len told row (drop (place + 1) rows) (omega arith) long)
+piece_told rows len told place row is some long =
+    rw (at_place rows place row is) (piece_on len told row (drop (place + 1) rows) (omega arith) long)
 
-pub row_told : (rows : List Period) (len told place : ℕ) (row : Period) → place < length rows → row ≡ get_or rows place row → 1 ≤ len → row.on - told ≤ len
+pub row_told : (rows : List Period) (len told place : ℕ) (row : Period) → slice_get rows place ≡ Some row → 1 ≤ len → row.on - told ≤ len
     → cut_after len told (drop place rows) ≡ record row { on = row.on - told } ∷ cut_after len 0 (drop (place + 1) rows)
-row_told rows len told place row within is some short =
-    rw (at_place rows place row within is) (row_on len told row (drop (place + 1) rows) (omega arith) short)
+row_told rows len told place row is some short =
+    rw (at_place rows place row is) (row_on len told row (drop (place + 1) rows) (omega arith) short)

@@ -1,15 +1,17 @@
 -- Rounds of the rows.
-use Rattle.std.proofs.Common.{ℕ, zero, suc, ◌+◌, ◌-◌, ◌*◌, ◌/◌, ◌^◌, ◌<◌, ◌≤◌, ◌≡◌, ◌∙◌, List, [], ◌∷◌, ◌++◌, length, get_or, drop, min, arith, ap, sym, refl, inl, inr, false}
+use Rattle.std.proofs.Common.{ℕ, zero, suc, ◌+◌, ◌-◌, ◌*◌, ◌/◌, ◌^◌, ◌<◌, ◌≤◌, ◌≡◌, ◌∙◌, List, [], ◌∷◌, ◌++◌, Some, length, drop, min, arith, ap, sym, refl, inl, inr, false}
 use Rattle.std.specs.Prelude.{nat_lt}
 use Rattle.std.proofs.lemmas.Bool.{cases_Bool}
 use Rattle.std.proofs.lemmas.Bool.Decides.{nat_tests}
 use Rattle.std.proofs.lemmas.List.Sums.{sum_by-append}
-use Rattle.std.proofs.lemmas.List.{drop_all, drop_more}
+use Rattle.std.specs.List.{slice_get}
+use Rattle.std.proofs.lemmas.List.{drop_all}
 use Rattle.std.proofs.lemmas.Nat.{le-div}
 use Rattle.std.proofs.Math.Nat.{div-lt_iff_lt-mul, mul-zero}
 use Rattle.oc_io.specs.declared.period.Period.{Period}
 use Rattle.oc_power.specs.Looping.{times, whole_rounds}
 use Rattle.oc_power.specs.Total.{total}
+use Rattle.oc_power.proofs.Pieces.{at_place}
 
 times-nothing : (n : ℕ) → times n [] ≡ []
 unfolding times
@@ -89,10 +91,9 @@ whole_rounds-capped n sum = elim (cases_Bool (nat_lt sum (2 ^ 64))) [
       whole_rounds-none n (min sum (2 ^ 64 - 1)) (omega arith) ∙ sym (whole_rounds-none n sum (omega arith))
 ]
 
-pub round_told : (rows : List Period) (place n : ℕ) (row : Period) → place < length rows → row ≡ get_or rows place row
+pub round_told : (rows : List Period) (place n : ℕ) (row : Period) → slice_get rows place ≡ Some row
     → drop place rows ++ times n rows ≡ row ∷ (drop (place + 1) rows ++ times n rows)
-round_told rows place n row within is =
-    ap (λ (left : List Period). left ++ times n rows) (drop_more rows place row within ∙ ap (λ (first : Period). first ∷ drop (place + 1) rows) (sym is))
+round_told rows place n row is = ap (λ (left : List Period). left ++ times n rows) (at_place rows place row is)
 
 -- no row, no period
 pub nothing_round : (rows : List Period) (place n : ℕ) → length rows ≡ 0 → drop place rows ++ times n rows ≡ []

@@ -1,5 +1,6 @@
 pub mod Choice
 pub mod Cutting
+pub mod Entries
 pub mod Looping
 pub mod Power
 pub mod Total

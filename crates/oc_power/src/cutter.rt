@@ -2,6 +2,7 @@
 ghost use Rattle.std.specs.Prelude.{◌≡◌, ◌≤◌, []};
 
 use crate::supply::Supply;
+use crate::trace::Trace;
 use oc_io::Memory;
 use oc_io::period::Period;
 use std::alloc::Global;
@@ -12,7 +13,7 @@ use std::marker::Model;
 #[derive(Drop)]
 pub struct Cutter {
     len: u64,
-    rows: Vec<Period>,
+    rows: Trace,
     place: usize,
     /// The steps of the row at the place that were told already.
     told: u64,
@@ -27,10 +28,10 @@ impl Model for Cutter {
 
     ghost view = { λ a. record {
       len = a.len;
-      left = cut_after a.len a.told (drop a.place a.rows.items);
+      left = cut_after a.len a.told (drop a.place a.rows);
     } };
 
-    ghost invariant = { λ a. (1 ≤ a.len) × IsTold a.told (drop a.place a.rows.items) };
+    ghost invariant = { λ a. (1 ≤ a.len) × IsTold a.told (drop a.place a.rows) };
 }
 
 impl Cutter {
@@ -41,7 +42,7 @@ impl Cutter {
     {
         Cutter {
             len,
-            rows: Vec::new(alloc),
+            rows: Trace::new(alloc),
             place: 0,
             told: 0,
             alloc,
@@ -63,9 +64,10 @@ impl Supply for Cutter {
     }
 
     fn feed(&mut self, rows: &[Period]) -> Result<(), Memory> {
-        let Ok(rows) = Vec::from_slice(self.alloc, rows) else {
-            return Err(Memory);
-        };
+        self.take(Trace::from_slice(self.alloc, rows)?)
+    }
+
+    fn take(&mut self, rows: Trace) -> Result<(), Memory> {
         self.rows = rows;
         self.place = 0;
         self.told = 0;
@@ -76,7 +78,7 @@ impl Supply for Cutter {
         if self.rows.len() <= self.place {
             return None;
         }
-        let row = self.rows[self.place];
+        let row = self.rows.period(self.place);
         let on = row.on - self.told;
         if self.len < on {
             self.told += self.len;

@@ -10,5 +10,6 @@ pub mod looped;
 pub mod power;
 pub mod recorded;
 pub mod supply;
+pub mod trace;
 
 pub use oc_io::period::Period;

@@ -4,6 +4,7 @@ ghost use Rattle.oc_power.specs.Looping.{whole_rounds};
 ghost use Rattle.oc_power.specs.Total.{total};
 
 use crate::supply::Supply;
+use crate::trace::Trace;
 use oc_io::Memory;
 use oc_io::period::Period;
 use std::alloc::Global;
@@ -14,7 +15,7 @@ use std::marker::Model;
 #[derive(Drop)]
 pub struct Looped {
     rounds: u32,
-    rows: Vec<Period>,
+    rows: Trace,
     place: usize,
     rounds_left: u32,
     alloc: Global,
@@ -28,18 +29,19 @@ impl Model for Looped {
 
     ghost view = { λ a. record {
       rounds = a.rounds;
-      left = drop a.place a.rows.items ++ times a.rounds_left a.rows.items;
+      left = drop a.place a.rows ++ times a.rounds_left a.rows;
     } };
 
-    ghost invariant = { λ a. a.place ≤ length a.rows.items };
+    ghost invariant = { λ a. a.place ≤ length a.rows };
 }
 
 /// The sum of all times, which stops at the greatest 64-bit number.
-fn capped_total(rows: &[Period]) -> u64
+fn capped_total(rows: &Trace) -> u64
     ensures { result ≡ min (total rows.now) (2 ^ 64 - 1) }
 {
     let mut sum: u64 = 0;
-    for row in rows {
+    for at in 0..rows.len() {
+        let row = rows.period(at);
         sum = sum.saturating_add(row.on).saturating_add(row.off);
     }
     sum
@@ -68,7 +70,7 @@ impl Looped {
     {
         Looped {
             rounds,
-            rows: Vec::new(alloc),
+            rows: Trace::new(alloc),
             place: 0,
             rounds_left: 0,
             alloc,
@@ -90,13 +92,13 @@ impl Supply for Looped {
     }
 
     fn feed(&mut self, rows: &[Period]) -> Result<(), Memory> {
-        let rounds_left = count_rounds(self.rounds, capped_total(rows));
-        let Ok(rows) = Vec::from_slice(self.alloc, rows) else {
-            return Err(Memory);
-        };
+        self.take(Trace::from_slice(self.alloc, rows)?)
+    }
+
+    fn take(&mut self, rows: Trace) -> Result<(), Memory> {
+        self.rounds_left = count_rounds(self.rounds, capped_total(&rows));
         self.place = rows.len();
         self.rows = rows;
-        self.rounds_left = rounds_left;
         Ok(())
     }
 
@@ -108,7 +110,7 @@ impl Supply for Looped {
             self.rounds_left -= 1;
             self.place = 0;
         }
-        let period = self.rows[self.place];
+        let period = self.rows.period(self.place);
         self.place += 1;
         Some(period)
     }

@@ -4,11 +4,12 @@ ghost use Rattle.oc_power.specs.Power.{Explains, is_header, period_row, periods,
 ghost use Rattle.oc_power.specs.Total.{total};
 ghost use Rattle.oc_power.specs.declared.power.PowerError.TheVariants as error;
 
+use crate::trace::Trace;
 use oc_io::Memory;
 use oc_io::period::Period;
 use oc_rows::number::read_number;
 use oc_rows::rows::Rows;
-use std::alloc::{AllocFailed, Global};
+use std::alloc::Global;
 use thiserror::Error;
 
 /// What is wrong with a row.
@@ -43,14 +44,6 @@ impl From<Memory> for PowerError {
     }
 }
 
-impl<T: Drop> From<AllocFailed<T>> for PowerError {
-    ghost from_gives = { λ _ e. e ≡ error.Memory };
-
-    fn from(_: AllocFailed<T>) -> PowerError {
-        PowerError::Memory
-    }
-}
-
 /// Sums of times stay below this.
 const LIMIT: u64 = 1 << 63;
 
@@ -65,7 +58,8 @@ fn has_header(rows: &Rows) -> bool
 /// The period of the row at hand, after periods of this sum.
 fn read_period(rows: &Rows, sum: u64) -> Result<Period, PowerWhat>
     requires { sum < 2 ^ 63 }
-    ensures { result ≡ period_row sum rows.now.row }
+    ensures period { result ≡ period_row sum rows.now.row }
+    ensures small { IfOk result (λ p. sum + p.on + p.off < 2 ^ 63) }
 {
     let fields = rows.field_count();
     if fields != 2 && fields != 3 {
@@ -87,14 +81,14 @@ fn read_period(rows: &Rows, sum: u64) -> Result<Period, PowerWhat>
 }
 
 /// The periods of the rows left.
-fn read_periods(alloc: Global, rows: &mut Rows) -> Result<Vec<Period>, PowerError>
+fn read_periods(alloc: Global, rows: &mut Rows) -> Result<Trace, PowerError>
     ensures ok { IfOk result
-        (λ v. power_rows (rows.old.number + 1) 0 rows.old.left ≡ periods v.items) }
-    ensures sum { IfOk result (λ v. total v.items < 2 ^ 63) }
+        (λ trace. power_rows (rows.old.number + 1) 0 rows.old.left ≡ periods trace) }
+    ensures sum { IfOk result (λ trace. total trace < 2 ^ 63) }
     ensures row { IfErr result
         (λ e. Explains (power_rows (rows.old.number + 1) 0 rows.old.left) e) }
 {
-    let mut periods = Vec::new(alloc);
+    let mut periods = Trace::new(alloc);
     let mut sum: u64 = 0;
     while rows.step_on()? {
         match read_period(rows, sum) {
@@ -113,12 +107,12 @@ fn read_periods(alloc: Global, rows: &mut Rows) -> Result<Vec<Period>, PowerErro
     Ok(periods)
 }
 
-/// The periods of a power file, in order. Its header is `on,off`; each row after it has the steps
+/// The rows of a power file as a trace. Its header is `on,off`; each row after it has the steps
 /// and the ticks of a period, below 2^63 in all, and `cut` as a third field where the checkpoint
 /// at the end of its steps doesn't complete.
-pub fn read_power(alloc: Global, bytes: &[u8]) -> Result<Vec<Period>, PowerError>
-    ensures ok { IfOk result (λ v. power_file bytes.now ≡ periods v.items) }
-    ensures sum { IfOk result (λ v. total v.items < 2 ^ 63) }
+pub fn read_trace(alloc: Global, bytes: &[u8]) -> Result<Trace, PowerError>
+    ensures ok { IfOk result (λ trace. power_file bytes.now ≡ periods trace) }
+    ensures sum { IfOk result (λ trace. total trace < 2 ^ 63) }
     ensures row { IfErr result (λ e. Explains (power_file bytes.now) e) }
 {
     let mut rows = Rows::new(alloc, bytes);
@@ -129,6 +123,17 @@ pub fn read_power(alloc: Global, bytes: &[u8]) -> Result<Vec<Period>, PowerError
         });
     }
     read_periods(alloc, &mut rows)
+}
+
+/// The periods of a power file, in order, as [`read_trace`] finds them.
+pub fn read_power(alloc: Global, bytes: &[u8]) -> Result<Vec<Period>, PowerError>
+    ensures ok { IfOk result (λ v. power_file bytes.now ≡ periods v.items) }
+    ensures sum { IfOk result (λ v. total v.items < 2 ^ 63) }
+    ensures row { IfErr result (λ e. Explains (power_file bytes.now) e) }
+{
+    let trace = read_trace(alloc, bytes)?;
+    let periods = trace.to_vec()?;
+    Ok(periods)
 }
 
 #[cfg(test)]

@@ -2,6 +2,7 @@
 ghost use Rattle.std.specs.Prelude.{◌≡◌, []};
 
 use crate::supply::Supply;
+use crate::trace::Trace;
 use oc_io::Memory;
 use oc_io::period::Period;
 use std::alloc::Global;
@@ -10,7 +11,7 @@ use std::marker::Model;
 /// Tells the rows as they are. Contracts see the periods left.
 #[derive(Drop)]
 pub struct Recorded {
-    rows: Vec<Period>,
+    rows: Trace,
     place: usize,
     alloc: Global,
 }
@@ -21,7 +22,7 @@ impl Model for Recorded {
 
     ghost Value = { List Period };
 
-    ghost view = { λ a. drop a.place a.rows.items };
+    ghost view = { λ a. drop a.place a.rows };
 }
 
 impl Recorded {
@@ -30,7 +31,7 @@ impl Recorded {
         ensures { result ≡ [] }
     {
         Recorded {
-            rows: Vec::new(alloc),
+            rows: Trace::new(alloc),
             place: 0,
             alloc,
         }
@@ -49,9 +50,10 @@ impl Supply for Recorded {
     }
 
     fn feed(&mut self, rows: &[Period]) -> Result<(), Memory> {
-        let Ok(rows) = Vec::from_slice(self.alloc, rows) else {
-            return Err(Memory);
-        };
+        self.take(Trace::from_slice(self.alloc, rows)?)
+    }
+
+    fn take(&mut self, rows: Trace) -> Result<(), Memory> {
         self.rows = rows;
         self.place = 0;
         Ok(())
@@ -61,7 +63,7 @@ impl Supply for Recorded {
         if self.rows.len() <= self.place {
             return None;
         }
-        let period = self.rows[self.place];
+        let period = self.rows.period(self.place);
         self.place += 1;
         Some(period)
     }

@@ -4,6 +4,7 @@ ghost use Rattle.oc_io.specs.declared.period.Period.{Period};
 ghost use Rattle.oc_power.specs.Choice.{first_with};
 ghost use Rattle.oc_power.specs.Total.{total};
 
+use crate::trace::Trace;
 use oc_io::Memory;
 use oc_io::period::Period;
 
@@ -27,6 +28,19 @@ pub trait Supply: Drop {
         ensures sum { total rows.now < 2 ^ 63 → total (plan self.old rows.now) < 2 ^ 63 }
         ensures number { number self.new ≡ number self.old }
         ensures plan { (given : List Period) → plan self.new given ≡ plan self.old given };
+
+    /// Begins its plan for the rows of a trace, as `feed` does. A supply that keeps the trace takes
+    /// no memory.
+    fn take(&mut self, rows: Trace) -> Result<(), Memory>
+        ensures ok { OnOk result (left self.new ≡ plan self.old rows) }
+        ensures err { OnErr result (left self.new ≡ left self.old) }
+        ensures sum { OnOk result
+            (total rows < 2 ^ 63 → total (plan self.old rows) < 2 ^ 63) }
+        ensures number { number self.new ≡ number self.old }
+        ensures plan { (given : List Period) → plan self.new given ≡ plan self.old given }
+    {
+        self.feed(rows.to_vec()?.as_slice())
+    }
 
     /// Tells the first period left, or that there is none. It takes no memory.
     fn next(&mut self) -> Option<Period>
@@ -56,6 +70,41 @@ mod tests {
     use crate::recorded::Recorded;
     use std::alloc::Global;
     use std::test::Fail;
+
+    /// Tells nothing of any rows, and takes traces as any supply may.
+    #[derive(Drop)]
+    struct Dark;
+
+    impl Supply for Dark {
+        ghost number = { λ _. 3 };
+
+        ghost plan = { λ _ _. [] };
+
+        ghost left = { λ _. [] };
+
+        fn name(&self) -> u8 {
+            3
+        }
+
+        fn feed(&mut self, _rows: &[Period]) -> Result<(), Memory> {
+            Ok(())
+        }
+
+        fn next(&mut self) -> Option<Period> {
+            None
+        }
+    }
+
+    #[test]
+    fn takes_a_trace_as_a_list(rt: HostRuntime) -> Result<(), Fail> {
+        let rows = [period(7, 4, false), period(1 << 40, 2, true)];
+        Dark.take(Trace::from_slice(rt.alloc(), &rows)?)?;
+        let mut recorded = Recorded::new(rt.alloc());
+        recorded.take(Trace::from_slice(rt.alloc(), &rows)?)?;
+        assert_eq!(rt; (recorded.next(), Dark.next()), (Some(rows[0]), None));
+        assert_eq!(rt; recorded.next(), Some(rows[1]));
+        Ok(())
+    }
 
     const fn period(on: u64, off: u64, cut: bool) -> Period {
         Period { on, off, cut }

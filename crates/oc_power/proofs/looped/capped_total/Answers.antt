@@ -1,6 +1,8 @@
 use Rattle.std.proofs.Common.{arith}
-use Rattle.std.proofs.lemmas.List.{drop_all}
+use Rattle.oc_power.proofs.Pieces.{row_summed}
 use Rattle.oc_power.proofs.looped.capped_total.Goals as goal
 
-pub returns : goal.returns
-returns c = let none = rw (drop_all c.loop-row.row-index c.args.rows.now c.loop-row-test.false) at c.loop-row.invariant.1 in omega (arith, c.loop-row.invariant.0, none)
+pub loop-at-preserved : goal.loop-at-preserved
+loop-at-preserved c =
+    let summed = row_summed c.args.rows.now c.loop-at.at c.period-row.result c.period-row.ensures in
+    omega (arith, summed, c.loop-at.invariant.0, c.loop-at.invariant.1, c.saturating_add.ensures, c.saturating_add-sum.ensures)

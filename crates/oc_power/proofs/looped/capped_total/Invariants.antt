@@ -2,5 +2,5 @@ use Rattle.std.proofs.Common.{◌≡◌, ◌+◌, ◌-◌, ◌^◌, ◌<◌, dro
 use Rattle.oc_power.specs.Total.{total}
 use Rattle.oc_power.proofs.looped.capped_total.Given as goal
 
-abbrev pub invariant-loop-row : goal.invariant-loop-row
-invariant-loop-row l = (l.sum < 2 ^ 64) × (min (l.sum + total (drop l.row-index l.rows)) (2 ^ 64 - 1) ≡ min (total l.rows) (2 ^ 64 - 1))
+abbrev pub invariant-loop-at : goal.invariant-loop-at
+invariant-loop-at l = (l.sum < 2 ^ 64) × (min (l.sum + total (drop l.at l.rows)) (2 ^ 64 - 1) ≡ min (total l.rows) (2 ^ 64 - 1))

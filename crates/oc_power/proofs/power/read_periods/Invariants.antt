@@ -7,8 +7,8 @@ use Rattle.oc_power.proofs.power.read_periods.Given as goal
 abbrev pub invariant-loop-periods : goal.invariant-loop-periods
 invariant-loop-periods l = record {
   small : l.sum < 2 ^ 63;
-  added : l.sum ≡ total l.periods.items;
-  same : all_with l.periods.items (power_rows (l.rows.number + 1) l.sum l.rows.left) ≡ power_rows (l.fn.rows.number + 1) 0 l.fn.rows.left;
+  added : l.sum ≡ total l.periods;
+  same : all_with l.periods (power_rows (l.rows.number + 1) l.sum l.rows.left) ≡ power_rows (l.fn.rows.number + 1) 0 l.fn.rows.left;
 }
 
 abbrev pub decreases-loop-periods : goal.decreases-loop-periods

@@ -1,4 +1,4 @@
-use Rattle.std.proofs.Common.{◌≡◌, ◌≢◌, ◌-◌, ◌∙◌, ap, sym, arith, vec_len}
+use Rattle.std.proofs.Common.{◌≡◌, ◌≢◌, ◌-◌, ◌∙◌, ap, sym, arith, length}
 use Rattle.std.proofs.lemmas.Bool.Decides.{nat_tests}
 use Rattle.oc_power.specs.Looping.{Looping}
 use Rattle.oc_power.proofs.Rounds.{next_round, no_round, nothing_round, round_told}
@@ -9,10 +9,10 @@ pub returns-then-self-eq0-clause-first : goal.returns-then-self-eq0-clause-first
 returns-then-self-eq0-clause-first c =
     let was = c.self.inside in
     let none = ap (λ (v : Looping). v.left) (sym c.self.view_is) ∙ elim c.then-self-eq0.branch [
-      | then-self-eq0-via-then-self-eq0 w ↦ rw w.if-self-eq0.true (no_round was.rows.items was.place (omega arith))
+      | then-self-eq0-via-then-self-eq0 w ↦ rw w.if-self-eq0.true (no_round was.rows was.place (omega arith))
       | then-self-eq0-via-else-self-eq0+then-is_empty w ↦
-          let empty : vec_len was.rows ≡ 0 = grind (arith, nat_tests) in
-          nothing_round was.rows.items was.place was.rounds_left (omega arith)
+          let empty : length was.rows ≡ 0 = grind (arith, nat_tests) in
+          nothing_round was.rows was.place was.rounds_left (omega arith)
     ] in
     (none, none)
 
@@ -21,11 +21,11 @@ returns-clause-first c =
     let was = c.self.inside in
     ap (λ (v : Looping). v.left) (sym c.self.view_is) ∙ elim c.if-self-len.branch [
       | then-self-len+else-self-eq0+else-is_empty w ↦
-          let some : vec_len was.rows ≢ 0 = grind (arith, nat_tests) in
+          let some : length was.rows ≢ 0 = grind (arith, nat_tests) in
           rw w.self-inside-is (
-          next_round was.rows.items was.place was.rounds_left (omega arith) (omega arith)
-          ∙ round_told was.rows.items 0 (was.rounds_left - 1) c.index-period.result.now (omega arith) (rw w.self-inside-is at c.index-period.ensures)
+          next_round was.rows was.place was.rounds_left (omega arith) (omega arith)
+          ∙ round_told was.rows 0 (was.rounds_left - 1) c.period-period.result (rw w.self-inside-is at c.period-period.ensures)
           )
       | else-self-len w ↦
-          rw w.self-inside-is (round_told was.rows.items was.place was.rounds_left c.index-period.result.now (omega (arith, c.self.invariant)) (rw w.self-inside-is at c.index-period.ensures))
+          rw w.self-inside-is (round_told was.rows was.place was.rounds_left c.period-period.result (rw w.self-inside-is at c.period-period.ensures))
     ]

@@ -4,3 +4,6 @@ pub mod Loops
 pub mod Spelled
 pub mod StatementLoops
 pub mod Views
+mod Worked
+pub mod Expanded
+pub mod Begun

@@ -1,10 +1,10 @@
 -- Where the tokens spell a program, reading stops for want of memory alone.
-use Rattle.std.proofs.Common.{◌≡◌, ℕ, ◌-◌, List, length, Err, refl, sym, subst, ◌∙◌, arith}
+use Rattle.std.proofs.Common.{◌≡◌, ℕ, ◌-◌, Bool, List, length, Err, refl, sym, subst, ◌∙◌, arith}
 use Rattle.std.proofs.lemmas.List.{length-map}
 use Rattle.oc_tree.specs.Tree.{TProgram}
 use Rattle.oc_lex.specs.declared.token.Token.{Token}
 use Rattle.oc_grammar.specs.Limits.{operators_depth, brackets_depth, blocks_depth, the_depths}
-use Rattle.oc_grammar.specs.Lexemes.{Lexemes, lexemes_of}
+use Rattle.oc_grammar.specs.Lexemes.{Lexemes, lexemes_in}
 use Rattle.oc_grammar.specs.Reading.{syntax_fault, depth_fault}
 use Rattle.oc_grammar.specs.Programs.{SpellsProgram}
 use Rattle.oc_grammar.specs.ReadingPrograms.{program_at}
@@ -25,35 +25,36 @@ only_memory ts p (stops.Operators n) h d = let k : done p ≡ Err (depth_fault o
 
 -- ---- the place of a fault
 
-lexemes_count : (source : List ℕ) (tokens : List Token) → length (lexemes_of source tokens) ≡ length tokens
-lexemes_count source tokens = length-map tokens _
+lexemes_count : (atomic : Bool) (source : List ℕ) (tokens : List Token) → length (lexemes_in atomic source tokens) ≡ length tokens
+lexemes_count atomic source tokens = length-map tokens _
 
-placed : (P : ℕ → Type 0) (source : List ℕ) (tokens : List Token) (left token : ℕ) → token ≡ length tokens - left → P (length (lexemes_of source tokens) - left) → P token
-placed P source tokens left token e h =
-    let k = lexemes_count source tokens in
-    let i : length (lexemes_of source tokens) - left ≡ token = omega arith in
+placed : (P : ℕ → Type 0) (atomic : Bool) (source : List ℕ) (tokens : List Token) (left token : ℕ)
+    → token ≡ length tokens - left → P (length (lexemes_in atomic source tokens) - left) → P token
+placed P atomic source tokens left token e h =
+    let k = lexemes_count atomic source tokens in
+    let i : length (lexemes_in atomic source tokens) - left ≡ token = omega arith in
     subst P i h
 
-pub syntax_is : (source : List ℕ) (tokens : List Token) (s : Stop) (left token : ℕ) → Stopped s (program_at the_depths (lexemes_of source tokens)) → s ≡ stops.Syntax left
-    → token ≡ length tokens - left → IsSyntax (lexemes_of source tokens) token
-syntax_is source tokens s left token h e k =
-    placed (IsSyntax (lexemes_of source tokens)) source tokens left token k
-    (syntax_there (lexemes_of source tokens) left (subst (λ (z : Stop). Stopped z (program_at the_depths (lexemes_of source tokens))) e h))
+pub syntax_is : (atomic : Bool) (source : List ℕ) (tokens : List Token) (s : Stop) (left token : ℕ) → Stopped s (program_at the_depths (lexemes_in atomic source tokens))
+    → s ≡ stops.Syntax left → token ≡ length tokens - left → IsSyntax (lexemes_in atomic source tokens) token
+syntax_is atomic source tokens s left token h e k =
+    placed (IsSyntax (lexemes_in atomic source tokens)) atomic source tokens left token k
+    (syntax_there (lexemes_in atomic source tokens) left (subst (λ (z : Stop). Stopped z (program_at the_depths (lexemes_in atomic source tokens))) e h))
 
-pub blocks_are : (source : List ℕ) (tokens : List Token) (s : Stop) (left token : ℕ) → Stopped s (program_at the_depths (lexemes_of source tokens)) → s ≡ stops.Blocks left
-    → token ≡ length tokens - left → IsDepth (lexemes_of source tokens) token
-blocks_are source tokens s left token h e k =
-    placed (IsDepth (lexemes_of source tokens)) source tokens left token k
-    (depth_there (lexemes_of source tokens) blocks_depth left (subst (λ (z : Stop). Stopped z (program_at the_depths (lexemes_of source tokens))) e h))
+pub blocks_are : (atomic : Bool) (source : List ℕ) (tokens : List Token) (s : Stop) (left token : ℕ) → Stopped s (program_at the_depths (lexemes_in atomic source tokens))
+    → s ≡ stops.Blocks left → token ≡ length tokens - left → IsDepth (lexemes_in atomic source tokens) token
+blocks_are atomic source tokens s left token h e k =
+    placed (IsDepth (lexemes_in atomic source tokens)) atomic source tokens left token k
+    (depth_there (lexemes_in atomic source tokens) blocks_depth left (subst (λ (z : Stop). Stopped z (program_at the_depths (lexemes_in atomic source tokens))) e h))
 
-pub brackets_are : (source : List ℕ) (tokens : List Token) (s : Stop) (left token : ℕ) → Stopped s (program_at the_depths (lexemes_of source tokens)) → s ≡ stops.Brackets left
-    → token ≡ length tokens - left → IsDepth (lexemes_of source tokens) token
-brackets_are source tokens s left token h e k =
-    placed (IsDepth (lexemes_of source tokens)) source tokens left token k
-    (depth_there (lexemes_of source tokens) brackets_depth left (subst (λ (z : Stop). Stopped z (program_at the_depths (lexemes_of source tokens))) e h))
+pub brackets_are : (atomic : Bool) (source : List ℕ) (tokens : List Token) (s : Stop) (left token : ℕ) → Stopped s (program_at the_depths (lexemes_in atomic source tokens))
+    → s ≡ stops.Brackets left → token ≡ length tokens - left → IsDepth (lexemes_in atomic source tokens) token
+brackets_are atomic source tokens s left token h e k =
+    placed (IsDepth (lexemes_in atomic source tokens)) atomic source tokens left token k
+    (depth_there (lexemes_in atomic source tokens) brackets_depth left (subst (λ (z : Stop). Stopped z (program_at the_depths (lexemes_in atomic source tokens))) e h))
 
-pub operators_are : (source : List ℕ) (tokens : List Token) (s : Stop) (left token : ℕ) → Stopped s (program_at the_depths (lexemes_of source tokens)) → s ≡ stops.Operators left
-    → token ≡ length tokens - left → IsDepth (lexemes_of source tokens) token
-operators_are source tokens s left token h e k =
-    placed (IsDepth (lexemes_of source tokens)) source tokens left token k
-    (depth_there (lexemes_of source tokens) operators_depth left (subst (λ (z : Stop). Stopped z (program_at the_depths (lexemes_of source tokens))) e h))
+pub operators_are : (atomic : Bool) (source : List ℕ) (tokens : List Token) (s : Stop) (left token : ℕ) → Stopped s (program_at the_depths (lexemes_in atomic source tokens))
+    → s ≡ stops.Operators left → token ≡ length tokens - left → IsDepth (lexemes_in atomic source tokens) token
+operators_are atomic source tokens s left token h e k =
+    placed (IsDepth (lexemes_in atomic source tokens)) atomic source tokens left token k
+    (depth_there (lexemes_in atomic source tokens) operators_depth left (subst (λ (z : Stop). Stopped z (program_at the_depths (lexemes_in atomic source tokens))) e h))

@@ -83,8 +83,11 @@ Whole (Ok p) read = read ≡ Ok (program_view p)
 Whole (Err e) read = Stopped e read
 
 -- a fault is where the tokens have it
-abbrev pub Faults : Result Program ParseError → Lexemes → Type 0
-Faults (Ok p) tokens = Unit {0}
-Faults (Err errors.Memory) tokens = Unit {0}
-Faults (Err (errors.Syntax token)) tokens = IsSyntax tokens token
-Faults (Err (errors.Depth token)) tokens = IsDepth tokens token
+abbrev pub IsFault : ParseError → Lexemes → Type 0
+IsFault errors.Memory tokens = Unit {0}
+IsFault (errors.Syntax token) tokens = IsSyntax tokens token
+IsFault (errors.Depth token) tokens = IsDepth tokens token
+
+abbrev pub Faults : {X : Type 0} → Result X ParseError → Lexemes → Type 0
+Faults (Ok x) tokens = Unit {0}
+Faults (Err e) tokens = IsFault e tokens

@@ -1,6 +1,8 @@
 //! From tokens to the tree of a program.
 #![tactic(auto)]
 
+mod atomics;
+pub mod examples;
 mod expression;
 mod item;
 mod program;
@@ -11,4 +13,4 @@ mod stop;
 #[cfg(test)]
 mod tests;
 
-pub use program::{ParseError, parse};
+pub use program::{ParseError, parse, parse_blocks};

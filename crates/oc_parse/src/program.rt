@@ -1,5 +1,5 @@
 //! Whole programs.
-ghost use Rattle.std.specs.Prelude.{◌≡◌, ◌≤◌, ◌-◌, ℕ, Bool, List, length, IfOk, MatchResult};
+ghost use Rattle.std.specs.Prelude.{◌≡◌, ◌≤◌, ◌-◌, ℕ, Bool, true, List, length, IfOk, MatchResult};
 ghost use Rattle.oc_tree.specs.Tree.{TProgram};
 ghost use Rattle.oc_tree.specs.Nodes.{program_nodes};
 ghost use Rattle.oc_tree.specs.View.{program_view};
@@ -10,14 +10,16 @@ ghost use Rattle.oc_grammar.specs.Limits.{the_depths};
 ghost use Rattle.oc_grammar.specs.Lexemes.{last_line as last_line_of, lexemes_in, lexemes_of};
 ghost use Rattle.oc_grammar.specs.Programs.{SpellsProgram, empty_program};
 ghost use Rattle.oc_grammar.specs.ReadingPrograms.{program_at};
+ghost use Rattle.oc_parse.specs.Atomics.{atomics};
 ghost use Rattle.oc_parse.specs.Steps.{Whole, Faults};
 
+use crate::atomics::atomics;
 use crate::reader::Reader;
 use crate::statement::Parser;
 use crate::stop::Stop;
 use oc_lex::Token;
 use oc_tree::name::Names;
-use oc_tree::tree::Program;
+use oc_tree::tree::{Program, StmtId};
 use std::alloc::Global;
 use thiserror::Error;
 
@@ -56,7 +58,54 @@ pub fn parse(alloc: Global, source: &[u8], tokens: &[Token]) -> Result<Program, 
     // passes a depth while a program begins up to and with it.
     ensures fault { Faults result (lexemes_of source.now tokens.now) }
 {
-    match whole(alloc, source, tokens, false) {
+    read(alloc, source, tokens, false)
+}
+
+/// The tree of the program that the tokens of a source spell in the grammar with `atomic`, where
+/// `atomic B` has the tree of `if true B`, and the numbers that the statements with `atomic` have in
+/// the expansion, which rise.
+pub fn parse_blocks(
+    alloc: Global,
+    source: &[u8],
+    tokens: &[Token],
+) -> Result<(Program, Vec<StmtId>), ParseError>
+    requires tokens { AreTokens source.now tokens.now }
+    requires small { length source.now ≤ 1048576 }
+    ensures found { IfOk result
+        (λ r. SpellsProgram the_depths (program_view r.0) (lexemes_in true source.now tokens.now)) }
+    ensures only { (p : TProgram)
+        → SpellsProgram the_depths p (lexemes_in true source.now tokens.now)
+        → MatchResult result (λ r. program_view r.0 ≡ p) (λ e. e ≡ ParseError.Memory) }
+    ensures form { IfOk result (λ r. InForm IsName (program_view r.0)) }
+    ensures nodes { IfOk result (λ r. program_nodes (program_view r.0) ≤ length tokens.now) }
+    ensures blocks { IfOk result
+        (λ r. r.1.items ≡ atomics (program_view r.0) (lexemes_in true source.now tokens.now)) }
+    ensures fault { Faults result (lexemes_in true source.now tokens.now) }
+{
+    match read(alloc, source, tokens, true) {
+        Ok(program) => match atomics(alloc, &program, tokens) {
+            Ok(blocks) => Ok((program, blocks)),
+            Err(_) => Err(ParseError::Memory),
+        },
+        Err(error) => Err(error),
+    }
+}
+
+// The tree of the program that the tokens of a source spell, in the grammar with `atomic` or in the
+// one without it.
+fn read(alloc: Global, source: &[u8], tokens: &[Token], atomic: bool) -> Result<Program, ParseError>
+    requires tokens { AreTokens source.now tokens.now }
+    requires small { length source.now ≤ 1048576 }
+    ensures found { IfOk result
+        (λ p. SpellsProgram the_depths (program_view p) (lexemes_in atomic source.now tokens.now)) }
+    ensures only { (p : TProgram)
+        → SpellsProgram the_depths p (lexemes_in atomic source.now tokens.now)
+        → MatchResult result (λ q. program_view q ≡ p) (λ e. e ≡ ParseError.Memory) }
+    ensures form { IfOk result (λ p. InForm IsName (program_view p)) }
+    ensures nodes { IfOk result (λ p. program_nodes (program_view p) ≤ length tokens.now) }
+    ensures fault { Faults result (lexemes_in atomic source.now tokens.now) }
+{
+    match whole(alloc, source, tokens, atomic) {
         Ok(program) => Ok(program),
         Err(Stop::Memory) => Err(ParseError::Memory),
         Err(Stop::Syntax { left }) => Err(ParseError::Syntax {

@@ -1,7 +1,7 @@
 //! Programs, prefixes and depths.
 ghost use Rattle.std.specs.Prelude.{◌≤◌, length};
 
-use crate::{ParseError, parse};
+use crate::{ParseError, parse, parse_blocks};
 use oc_lex::{LexError, lex};
 use std::alloc::{AllocError, Global};
 use std::test::Fail;
@@ -164,5 +164,19 @@ fn prefixes(rt: HostRuntime) -> Result<(), Fail> {
         let expected = matches!(&length, 0 | 9 | 10 | 17 | 18);
         assert_eq!(rt; accepted, expected, "{length}");
     }
+    Ok(())
+}
+
+#[test]
+fn atomic_in_a_grammar_of_its_own(rt: HostRuntime) -> Result<(), Fail> {
+    let source = b"fn main() { if true { } atomic { atomic { } } emit(p, sense(s)); atomic { } }";
+    assert_eq!(rt;
+        fault(rt.alloc(), source)?,
+        Some(ParseError::Syntax { token: 9 })
+    );
+    let tokens = lex(rt.alloc(), source)?;
+    let (_, blocks) = parse_blocks(rt.alloc(), source, tokens.as_slice())?;
+    let expected: [u32; 3] = [2, 3, 6];
+    assert_eq!(rt; blocks.as_slice(), expected.as_slice());
     Ok(())
 }

@@ -1,14 +1,14 @@
 //! What the annotations of a program require: which statements must lie in one region.
 #![tactic(auto)]
 
-mod asked;
+pub mod asked;
 pub mod laws;
-mod lists;
-mod local;
+pub mod lists;
+pub mod local;
 mod looped;
-mod need;
+pub mod need;
 mod place;
 pub mod policy;
 pub mod required;
 pub mod requirement;
-mod sites;
+pub mod sites;

@@ -1,7 +1,7 @@
 -- The test of guarded functions decides the relation.
-use Rattle.std.proofs.Common.{◌≡◌, ◌≢◌, ◌<◌, ◌≤◌, ℕ, zero, suc, ◌+◌, Bool, true, false, true≢false, List, [], ◌∷◌, ◌++◌, length, map, Option, Some, None, cond, refl, ap, sym}
+use Rattle.std.proofs.Common.{◌≡◌, ◌≢◌, ◌<◌, ◌≤◌, ℕ, zero, suc, ◌+◌, Bool, true, false, true≢false, List, [], length, map, Option, Some, None, cond, refl, ap, sym}
 use Rattle.std.proofs.Common.{subst, ◌∙◌, inl, inr, arith}
-use Rattle.std.specs.Prelude.{◌⊎◌, ◌&&◌, ◌||◌, not, flat_map, nat_eq, option_to_list}
+use Rattle.std.specs.Prelude.{◌⊎◌, not, flat_map, nat_eq, option_to_list}
 use Rattle.std.proofs.lemmas.Bool.{eqb-true, eq-eqb, and_parts, and_from, or_left, or_right}
 use Rattle.std.proofs.lemmas.Option.{same_Some, none-some}
 use Rattle.oc_tree.specs.Tree.{TProgram}
@@ -16,7 +16,9 @@ use Rattle.oc_flow.specs.Laws.{Decides}
 use Rattle.oc_flow.proofs.Fixpoint.{Ranked}
 use Rattle.oc_regcheck.specs.Enough.{is_inside, Guarded, guarded, open_call, open_calls, comes_to, is_guarded}
 use Rattle.oc_regcheck.proofs.Outer.{either}
-use Rattle.oc_regcheck.proofs.Joined.{in_join, of_join, any_of, of_any, in_from, from_below}
+use Rattle.oc_needs.proofs.Tests.{any_of, of_any}
+use Rattle.oc_needs.proofs.SitesOnce.{in_join, of_join}
+use Rattle.oc_regcheck.proofs.Members.{in_from, from_below}
 
 module _ (p : TProgram) (blocks : List ℕ) where
   -- ---- calls as links

@@ -1,4 +1,9 @@
+pub mod InputLaws
 pub mod Outer
-pub mod Joined
+pub mod Members
+pub mod Sorted
 pub mod Guards
 pub mod Marked
+pub mod Exact
+pub mod Open
+pub mod Verdicts

@@ -1,5 +1,5 @@
 -- Blocks as regions: they are regions, and where they suffice they cover what is required.
-use Rattle.std.proofs.Common.{◌≡◌, ◌<◌, ◌≤◌, ℕ, suc, ◌+◌, Bool, true, false, true≢false, List, [], ◌∷◌, length, map, Option, Some, None, cond, refl, ap, sym, subst, ◌∙◌, inl, inr, arith}
+use Rattle.std.proofs.Common.{◌≡◌, ◌<◌, ℕ, suc, ◌+◌, Bool, true, false, true≢false, List, [], ◌∷◌, length, map, Option, Some, None, cond, refl, ap, sym, subst, ◌∙◌, inl, inr, arith}
 use Rattle.std.specs.Prelude.{◌⊎◌, ◌&&◌, not, filter, is_some, nat_eq, nat_le, option_map}
 use Rattle.std.specs.List.{list_any, list_all}
 use Rattle.std.specs.Option.{unwrap_or}
@@ -20,7 +20,7 @@ use Rattle.oc_flow.proofs.Ranks.{ranked}
 use Rattle.oc_needs.specs.Need.{is_empty}
 use Rattle.oc_needs.specs.Policies.{policies}
 use Rattle.oc_needs.specs.Requirements.{TRequirement, requirements, rising}
-use Rattle.oc_needs.proofs.Tests.{any_same}
+use Rattle.oc_needs.proofs.Tests.{any_of, any_same, of_any}
 use Rattle.oc_needs.proofs.Rising.{Rises, rises_rising, of_rising, in_rising}
 use Rattle.oc_timely.specs.Covering.{IsCoveredAt, IsGuarding, IsMet, IsCovering}
 use Rattle.oc_region.proofs.Elements.{Each, Pairs, each_all, pairs_all}
@@ -29,9 +29,9 @@ use Rattle.oc_region.proofs.Required.{Own, own_effects, Asks, asked}
 use Rattle.oc_region.proofs.Chains.{Chain, line_chain}
 use Rattle.oc_regcheck.specs.Enough.{AreStatements, AreCovered, is_inside, covers_all, is_covered, Guarded, comes_to, open_calls, is_guarded}
 use Rattle.oc_regcheck.specs.BlockMarks.{outermost, block_region, block_regions, blocks_marked}
-use Rattle.oc_regcheck.specs.Outermost.{is_among, outer}
+use Rattle.oc_regcheck.specs.Code.{is_among, outer}
 use Rattle.oc_regcheck.proofs.Outer.{Line, or_else, outermost_in, among_any, over, is_one, is_alone, inside_is}
-use Rattle.oc_regcheck.proofs.Joined.{any_of, of_any, in_filter, of_filter, of_all, all_of, each_of, among_of, of_among}
+use Rattle.oc_regcheck.proofs.Members.{in_filter, of_filter, of_all, all_of, each_of, among_of, of_among}
 use Rattle.oc_regcheck.proofs.Guards.{caller_guarded, not_true, guarded_is}
 
 -- ---- lists that rise

@@ -4,7 +4,7 @@ use Rattle.std.specs.Prelude.{◌⊎◌, ◌&&◌, ◌||◌, is_some}
 use Rattle.std.specs.List.{list_any}
 use Rattle.std.proofs.lemmas.Bool.{eqb-true, eq-eqb, or_left, or_right, and_parts, and_from}
 use Rattle.std.proofs.lemmas.Option.{same_Some, none-some}
-use Rattle.oc_regcheck.specs.Outermost.{is_among, outermost_from, same_place}
+use Rattle.oc_regcheck.specs.Code.{is_among, outermost_from, same_place}
 
 pub either : (b c : Bool) → b || c ≡ true → (b ≡ true) ⊎ (c ≡ true)
 either true c e = inl refl

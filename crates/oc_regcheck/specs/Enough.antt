@@ -1,5 +1,5 @@
 -- When hand-written blocks suffice for what a program requires.
-use Rattle.std.specs.Prelude.{◌≡◌, ◌≢◌, ◌⊎◌, ℕ, Bool, true, false, not, ◌&&◌, List, [], length, map, flat_map, Option, Some, None, cond, is_some, nat_eq, option_to_list}
+use Rattle.std.specs.Prelude.{◌≡◌, ◌≢◌, ◌⊎◌, ℕ, Bool, true, false, not, ◌&&◌, ◌||◌, List, [], length, map, flat_map, find, Option, Some, None, cond, is_some, nat_eq, option_to_list}
 use Rattle.std.specs.List.{list_any, list_all}
 use Rattle.oc_tree.specs.Tree.{TProgram}
 use Rattle.oc_tree.specs.Rules.{main}
@@ -10,7 +10,11 @@ use Rattle.oc_tree.specs.Members.{IsOf}
 use Rattle.oc_tree.specs.Reach.{Links, reaches}
 use Rattle.oc_effects.specs.Effects.{TCalled, TEffect, effects_at}
 use Rattle.oc_flow.specs.Variables.{from}
+use Rattle.oc_flow.specs.Laws.{Decides}
 use Rattle.oc_needs.specs.Requirements.{TRequirement, requirements}
+use Rattle.oc_regcheck.specs.Inputs.{lowest_input}
+use Rattle.oc_regcheck.specs.declared.verdict.BlockVerdict.{BlockVerdict}
+use Rattle.oc_regcheck.specs.declared.verdict.BlockVerdict.TheVariants.{Covered, Open}
 
 -- these are statements of the program
 abbrev pub AreStatements : TProgram → List ℕ → Type 0
@@ -60,3 +64,41 @@ is_guarded p blocks f = not (comes_to (open_calls p blocks) (length p.functions)
 -- each requirement is covered by a block, or its function is guarded
 abbrev pub AreCovered : TProgram → List ℕ → Type 0
 AreCovered p blocks = (r : TRequirement) → IsOf r (requirements p) → (is_covered p blocks r ≡ true) ⊎ Guarded p blocks r.function
+
+abbrev pub is_met : TProgram → List ℕ → TRequirement → Bool
+is_met p blocks r = is_covered p blocks r || is_guarded p blocks r.function
+
+-- the first requirement that isn't
+abbrev pub first_open : TProgram → List ℕ → Option TRequirement
+first_open p blocks = find (λ r. not (is_met p blocks r)) (requirements p)
+
+-- ---- the answer
+
+-- a block has both inside
+abbrev pub has_both : TProgram → List ℕ → (s u : ℕ) → Bool
+has_both p blocks s u = list_any (λ b. encloses p b s && encloses p b u) blocks
+
+-- the lowest site that no block has inside together with the input; sites rise
+abbrev pub second_of : TProgram → List ℕ → (first : ℕ) → List ℕ → Option ℕ
+second_of p blocks first sites = find (λ u. not (has_both p blocks first u)) sites
+
+-- the first requirement that is open, its lowest input, and its lowest site that is in no block with that
+pub record IsOpen (p : TProgram) (blocks : List ℕ) (policy function first second : ℕ) : Type 0 where
+  pub requirement : TRequirement
+  pub found : first_open p blocks ≡ Some requirement
+  pub policy_is : requirement.policy ≡ policy
+  pub function_is : requirement.function ≡ function
+  pub first_is : lowest_input p requirement ≡ Some first
+  pub second_is : second_of p blocks first requirement.sites ≡ Some second
+
+abbrev pub IsVerdict : TProgram → List ℕ → BlockVerdict → Type 0
+IsVerdict p blocks Covered = first_open p blocks ≡ None
+IsVerdict p blocks (Open policy function first second) = IsOpen p blocks policy function first second
+
+abbrev pub is_covering : BlockVerdict → Bool
+is_covering Covered = true
+is_covering (Open policy function first second) = false
+
+-- `Covered` is answered exactly where the blocks suffice
+abbrev pub Tells : TProgram → List ℕ → BlockVerdict → Type 0
+Tells p blocks v = Decides (is_covering v) (AreCovered p blocks)

@@ -1,5 +1,5 @@
 -- What is so where blocks suffice.
-use Rattle.std.specs.Prelude.{◌≡◌, ℕ, List}
+use Rattle.std.specs.Prelude.{ℕ, List}
 use Rattle.oc_tree.specs.Tree.{TProgram}
 use Rattle.oc_tree.specs.Checked.{Group, TChecked, IsChecked}
 use Rattle.oc_flow.specs.Laws.{Decides}

@@ -1,4 +1,5 @@
+pub mod Inputs
 pub mod Enough
 pub mod BlockMarks
 pub mod Laws
-pub mod Outermost
+pub mod Code

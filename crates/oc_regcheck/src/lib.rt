@@ -1,5 +1,11 @@
-//! Hand-written atomic blocks: when they suffice for what a program requires, and that its runs are
+//! Hand-written atomic blocks: whether they suffice for what a program requires, and that its runs are
 //! timely then.
 #![tactic(auto)]
 
+mod blocks;
+pub mod check;
+mod guard;
+mod inputs;
+mod inside;
 pub mod laws;
+pub mod verdict;

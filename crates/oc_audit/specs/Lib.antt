@@ -1,0 +1,5 @@
+pub mod Files
+pub mod Words
+pub mod Taking
+pub mod Laws
+pub mod Errors

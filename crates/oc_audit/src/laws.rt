@@ -1,0 +1,23 @@
+//! Laws: a function does nothing, and its contract says the law.
+ghost use Rattle.oc_audit.specs.Laws.{FilesReadOneWay, LinesRead, OneReportEach, ProgramsReadBack, TextsReadBack};
+
+/// What lines of a report spell, and what they don't.
+pub fn lines_read()
+    ensures { LinesRead }
+{}
+
+/// Bytes have one bad line at most, and those of a report file have none.
+pub fn files_read_one_way()
+    ensures { FilesReadOneWay }
+{}
+
+/// The text of a report is read back as that report and no other.
+pub fn texts_read_back()
+    ensures { TextsReadBack }
+{}
+
+/// The same under the names of a checked program; so bytes spell one report of it at most.
+pub fn programs_read_back()
+    ensures back { ProgramsReadBack }
+    ensures one { OneReportEach }
+{}

@@ -1,0 +1,9 @@
+mod Visible
+mod FreshLaws
+mod Passings
+mod Puts
+mod Advancing
+mod NoteLaws
+mod Words
+mod Turning
+mod Hearing

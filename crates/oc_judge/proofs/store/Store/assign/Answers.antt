@@ -1,0 +1,17 @@
+use Rattle.std.proofs.Common.{ap, sym, ◌∙◌, refl}
+use Rattle.oc_meaning.specs.Store.{held_at, put, replaced}
+use Rattle.oc_meaning.specs.Store as meant
+use Rattle.oc_judge.specs.Scopes.{place_view}
+use Rattle.oc_judge.specs.Stores.{store_view}
+use Rattle.oc_judge.specs.Values.{value_view}
+use Rattle.oc_meaning.proofs.Levels.{put-local}
+use Rattle.oc_judge.proofs.store.Store.assign.Goals as goal
+
+pub returns-in-Local : goal.returns-in-Local
+returns-in-Local c =
+    let i = c.self.inside in
+    let n = c.in-Local.level in
+    let v = value_view c.args.value in
+    put-local (λ h. replaced h v) i.locals.items c.replace.new.variables.items n (store_view i) refl c.replace.ensures
+    ∙ ap (λ τ. put τ (meant.Local n) (replaced (held_at τ (meant.Local n)) v)) c.self.view_is
+    ∙ ap (λ p. put c.args.self.now (place_view p) (replaced (held_at c.args.self.now (place_view p)) v)) (sym c.in-Local.is)

@@ -1,0 +1,12 @@
+use Rattle.std.proofs.Common.{◌≡◌, vec_len}
+use Rattle.oc_tree.specs.Names.{names_seen}
+use Rattle.oc_judge.specs.Fresh.{with_names}
+use Rattle.oc_judge.specs.Values.{age_view}
+use Rattle.oc_judge.proofs.uses.age_of_fresh.Given as goal
+
+abbrev pub invariant-loop-name : goal.invariant-loop-name
+invariant-loop-name l =
+    with_names l.scope l.store (names_seen l.names.items) (age_view l.age) ≡ with_names l.scope l.store (names_seen l.initial.names.items) (age_view l.initial.age)
+
+abbrev pub decreases-loop-name : goal.decreases-loop-name
+decreases-loop-name l = vec_len l.names

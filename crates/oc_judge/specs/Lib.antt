@@ -1,0 +1,12 @@
+pub mod Values
+pub mod Scopes
+pub mod Stores
+pub mod Operands
+pub mod Fresh
+pub mod Passing
+pub mod Frames
+pub mod Going
+pub mod Ways
+pub mod Notes
+pub mod Watches
+pub mod Verdicts

@@ -1,0 +1,171 @@
+//! What an expression evaluates to.
+ghost use Rattle.std.specs.Prelude.{◌≡◌};
+ghost use Rattle.oc_tree.specs.Word.{unary_of};
+ghost use Rattle.oc_tree.specs.View.{expr_view};
+ghost use Rattle.oc_meaning.specs.Eval.{apply, is_zero, unary_value};
+ghost use Rattle.oc_meaning.specs.Operands.{decided, decides};
+ghost use Rattle.oc_steps.specs.Ages.{join_ages};
+ghost use Rattle.oc_steps.specs.Sets.{operated_by, value_by};
+ghost use Rattle.oc_judge.specs.Values.{got_view, value_view};
+ghost use Rattle.oc_judge.specs.Operands.{joined_by};
+
+use crate::age::{Got, Value};
+use crate::scope::Scope;
+use crate::store::Store;
+use oc_tree::said::TrapKind;
+use oc_tree::tree::{BinaryOp, Expr, UnaryOp};
+
+/// `x op y`, or nothing where a divisor is zero. `&&` and `||` aren't applied to two numbers.
+fn apply(op: BinaryOp, x: i32, y: i32) -> Option<i32>
+    ensures { result ≡ apply op x y }
+{
+    match op {
+        BinaryOp::Or | BinaryOp::And => None,
+        BinaryOp::Add => Some(x.wrapping_add(y)),
+        BinaryOp::Sub => Some(x.wrapping_sub(y)),
+        BinaryOp::Mul => Some(x.wrapping_mul(y)),
+        BinaryOp::Div => {
+            if y == 0 {
+                None
+            } else {
+                Some(x.wrapping_div(y))
+            }
+        }
+        BinaryOp::Rem => {
+            if y == 0 {
+                None
+            } else {
+                Some(x.wrapping_rem(y))
+            }
+        }
+        BinaryOp::Eq => Some((x == y) as i32),
+        BinaryOp::Ne => Some((x != y) as i32),
+        BinaryOp::Lt => Some((x < y) as i32),
+        BinaryOp::Le => Some((x <= y) as i32),
+        BinaryOp::Gt => Some((x > y) as i32),
+        BinaryOp::Ge => Some((x >= y) as i32),
+    }
+}
+
+fn apply_unary(op: UnaryOp, x: i32) -> i32
+    ensures { result ≡ unary_of op x }
+{
+    match op {
+        UnaryOp::Neg => x.wrapping_neg(),
+        UnaryOp::Not => (x == 0) as i32,
+    }
+}
+
+/// A unary operator on a value.
+fn unary(op: UnaryOp, inner: Got) -> Got
+    ensures { got_view result ≡ unary_value op (got_view inner) }
+{
+    match inner {
+        Got::Value { value } => Got::Value {
+            value: Value {
+                number: apply_unary(op, value.number),
+                age: value.age,
+            },
+        },
+        Got::Traps { kind } => Got::Traps { kind },
+    }
+}
+
+/// An operator on two values.
+fn operated(op: BinaryOp, left: Value, right: Value) -> Got
+    ensures { got_view result ≡ operated_by join_ages op (value_view left) (value_view right) }
+{
+    match apply(op, left.number, right.number) {
+        Some(number) => Got::Value {
+            value: Value {
+                number,
+                age: left.age.join(right.age),
+            },
+        },
+        None => Got::Traps {
+            kind: TrapKind::Zero,
+        },
+    }
+}
+
+/// Whether this left side decides.
+fn decides(op: BinaryOp, left: i32) -> bool
+    ensures { result ≡ decides op left }
+{
+    match op {
+        BinaryOp::And => left == 0,
+        BinaryOp::Or => left != 0,
+        _ => false,
+    }
+}
+
+/// The value of an operator whose left side decides.
+fn decided(left: Value) -> Value
+    ensures { value_view result ≡ decided (value_view left) }
+{
+    Value {
+        number: (left.number != 0) as i32,
+        age: left.age,
+    }
+}
+
+/// The value of an operator whose left side doesn't decide.
+fn joined(op: BinaryOp, left: Value, right: Got) -> Got
+    ensures { got_view result ≡ joined_by join_ages op (value_view left) (got_view right) }
+{
+    match right {
+        Got::Value { value } => match op {
+            BinaryOp::And | BinaryOp::Or => Got::Value {
+                value: Value {
+                    number: value.number,
+                    age: left.age.join(value.age),
+                },
+            },
+            _ => operated(op, left, value),
+        },
+        Got::Traps { kind } => Got::Traps { kind },
+    }
+}
+
+/// Whether a number stands for `false`.
+pub fn is_zero(number: i32) -> bool
+    ensures { result ≡ is_zero number }
+{
+    number == 0
+}
+
+/// The value of an expression.
+pub fn value_of(scope: &Scope, store: &Store, expr: &Expr) -> Got
+    ensures { got_view result ≡ value_by join_ages scope.now store.now (expr_view expr.now) }
+{
+    match expr {
+        Expr::Number { value } => Got::Value {
+            value: Value::plain(*value),
+        },
+        Expr::Truth { value } => Got::Value {
+            value: Value::plain(*value as i32),
+        },
+        Expr::Variable { name } | Expr::Deref { name } => Got::Value {
+            value: store.value(scope.place(name)),
+        },
+        Expr::Index { array, index } => match value_of(scope, store, index) {
+            Got::Value { value } => store.element(scope.place(array), value),
+            Got::Traps { kind } => Got::Traps { kind },
+        },
+        Expr::Unary { op, inner } => unary(*op, value_of(scope, store, inner)),
+        Expr::Binary { op, left, right } => match value_of(scope, store, left) {
+            Got::Value { value } => {
+                if decides(*op, value.number) {
+                    return Got::Value {
+                        value: decided(value),
+                    };
+                }
+                joined(*op, value, value_of(scope, store, right))
+            }
+            Got::Traps { kind } => Got::Traps { kind },
+        },
+        Expr::Sense { .. } | Expr::Call { .. } => Got::Value {
+            value: Value::plain(0),
+        },
+    }
+}

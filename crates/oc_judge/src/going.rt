@@ -1,0 +1,9 @@
+//! How a run goes on.
+use crate::store::Completion;
+
+/// What a step comes to: the run goes on with this, or a sample of a sensor is wanted.
+#[derive(Clone, Copy, Debug, PartialEq, Eq)]
+pub enum Going {
+    Goes { completion: Completion },
+    Asks { sensor: u8 },
+}

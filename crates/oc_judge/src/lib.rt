@@ -1,0 +1,27 @@
+//! Whether a report is honest: one pass over its items, with a run under way and the one at the
+//! last `enter`.
+#![tactic(auto)]
+
+mod age;
+mod answers;
+mod arguments;
+mod blocks;
+mod calls;
+mod eval;
+mod executed;
+mod frames;
+mod going;
+mod held;
+mod homes;
+pub mod judge;
+mod notes;
+mod place;
+mod running;
+mod scope;
+mod sets;
+mod step;
+mod store;
+mod uses;
+mod watch;
+mod way;
+mod work;

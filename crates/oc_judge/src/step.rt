@@ -1,0 +1,471 @@
+//! One step of a run.
+ghost use Rattle.std.specs.Prelude.{◌≡◌, ◌∷◌, ◌-ℤ◌, IfOk, List};
+ghost use Rattle.oc_tree.specs.Tree.{more};
+ghost use Rattle.oc_tree.specs.View.{block_view, expr_view, kind_view, stmt_view, stmts_view};
+ghost use Rattle.oc_meaning.specs.Exec.{count_of, grown};
+ghost use Rattle.oc_steps.specs.Steps.{Goes, Use};
+ghost use Rattle.oc_steps.specs.Steps as steps;
+ghost use Rattle.oc_judge.specs.Frames.{frame_view, frames_view, inside_view};
+ghost use Rattle.oc_judge.specs.Going.{IsKept, loop_here, rest_here, returned_here, step_at, step_here, stepped_at, test_here, turns_here, went_here};
+ghost use Rattle.oc_judge.specs.Scopes.{binding_view};
+ghost use Rattle.oc_judge.specs.Stores.{completion_at};
+ghost use Rattle.oc_judge.specs.Values.{age_view, value_view};
+
+use crate::age::{Age, Got, Value};
+use crate::blocks::begin;
+use crate::eval::{is_zero, value_of};
+use crate::frames::{Frame, Inside};
+use crate::going::Going;
+use crate::place::Place;
+use crate::running::Running;
+use crate::scope::{Binding, Scope};
+use crate::store::{Completion, Store};
+use crate::uses::{
+    begin_use, begins_use, end_use, ends_use, expression_age, expression_is_use, use_age,
+};
+use crate::work::{take, work};
+use oc_meaning::names::is_annotated;
+use oc_meaning::regions::{begun_by, ended_by};
+use oc_tree::name::Name;
+use oc_tree::tree::{Block, Expr, Stmt, StmtId, StmtKind};
+use std::alloc::{AllocError, Global};
+use std::rc::Rc;
+
+// These variables, and one more.
+fn with_variable<'a>(
+    alloc: Global,
+    scope: &Scope<'a>,
+    binding: Binding<'a>,
+) -> Result<Rc<Scope<'a>>, AllocError>
+    ensures { IfOk result (λ s. s.value ≡ binding_view binding.entry ∷ scope.now) }
+{
+    let mut more = scope.copy()?;
+    more.push(binding)?;
+    Ok(Rc::new(alloc, more)?)
+}
+
+// The variables that are visible behind a statement of this kind, with those that follow it.
+fn grow<'a>(
+    alloc: Global,
+    scope: &Rc<Scope<'a>>,
+    kind: &'a StmtKind,
+    rest: &[Stmt],
+    store: &Store,
+) -> Result<Rc<Scope<'a>>, AllocError>
+    ensures { IfOk result
+        (λ s. s.value
+        ≡ grown (kind_view kind.now) (stmts_view rest.now) scope.now.value store.now) }
+{
+    match kind {
+        StmtKind::Let { name, .. } => {
+            let place = Place::Local {
+                level: store.locals(),
+            };
+            let more = with_variable(
+                alloc,
+                scope,
+                Binding {
+                    name,
+                    place,
+                    reference: false,
+                    fresh: is_annotated(name, rest),
+                },
+            )?;
+            Ok(more)
+        }
+        StmtKind::LetArray { name, .. } => {
+            let place = Place::Local {
+                level: store.locals(),
+            };
+            let more = with_variable(
+                alloc,
+                scope,
+                Binding {
+                    name,
+                    place,
+                    reference: false,
+                    fresh: is_annotated(name, rest),
+                },
+            )?;
+            Ok(more)
+        }
+        _ => {
+            let same = Rc::clone(scope)?;
+            Ok(same)
+        }
+    }
+}
+
+// The next statement, with its use, its region and the statements behind it.
+fn push_statement<'a>(
+    run: &Running<'a>,
+    inside: Inside<'a>,
+    scope: Rc<Scope<'a>>,
+    statement: &'a Stmt,
+    rest: &'a [Stmt],
+    frames: &mut Vec<Frame<'a>>,
+    store: &mut Store,
+) -> Result<Completion, AllocError>
+    ensures { IfOk result
+        (λ o. Goes (frames_view frames.new.items) (completion_at o store.new)
+        ≡ rest_here run.now (inside_view inside.entry) scope.entry.value
+        (more (stmt_view statement.now) (stmts_view rest.now)) (frames_view frames.old.items)
+        store.old) }
+{
+    let kind = &statement.kind;
+    let stmt = statement.id;
+    let age = use_age(run.alloc, &scope, store, kind)?;
+    let is_use = ends_use(run.alloc, &scope, kind)?;
+    let behind = grow(run.alloc, &scope, kind, rest, store)?;
+    frames.push(Frame::Rest {
+        inside,
+        scope: behind,
+        statements: rest,
+    })?;
+    frames.push(Frame::Close {
+        region: ended_by(run.regions, stmt),
+    })?;
+    frames.push(Frame::Done { is_use, stmt, age })?;
+    frames.push(Frame::Use {
+        inside,
+        scope,
+        stmt,
+        age,
+        kind,
+    })?;
+    store.open(begun_by(run.regions, stmt))?;
+    Ok(Completion::Went)
+}
+
+// The statements that follow in a block.
+fn rest<'a>(
+    run: &Running<'a>,
+    inside: Inside<'a>,
+    scope: Rc<Scope<'a>>,
+    statements: &'a [Stmt],
+    frames: &mut Vec<Frame<'a>>,
+    store: &mut Store,
+) -> Result<Completion, AllocError>
+    ensures { IfOk result
+        (λ o. Goes (frames_view frames.new.items) (completion_at o store.new)
+        ≡ rest_here run.now (inside_view inside.entry) scope.entry.value
+        (stmts_view statements.now) (frames_view frames.old.items) store.old) }
+{
+    match statements.split_first() {
+        None => Ok(Completion::Went),
+        Some((first, others)) => {
+            push_statement(run, inside, scope, first, others, frames, store)
+        }
+    }
+}
+
+// A turn of a `for` with these numbers.
+#[tactic(auto, using(crate::proofs::Turning::turn_over, crate::proofs::Turning::turn_more))]
+fn turn<'a>(
+    run: &Running<'a>,
+    inside: Inside<'a>,
+    scope: Rc<Scope<'a>>,
+    name: &'a Name,
+    next: i32,
+    to: i32,
+    body: &'a Block,
+    frames: &mut Vec<Frame<'a>>,
+    store: &mut Store,
+) -> Result<Completion, AllocError>
+    ensures { IfOk result
+        (λ o. Goes (frames_view frames.new.items) (completion_at o store.new)
+        ≡ turns_here run.now (inside_view inside.entry) name.now (count_of (to -ℤ next)) next
+        (block_view body.now) scope.entry.value (frames_view frames.old.items) store.old) }
+{
+    if next < to {
+        let inner = with_variable(
+            run.alloc,
+            &scope,
+            Binding {
+                name,
+                place: Place::Turn { value: next },
+                reference: false,
+                fresh: false,
+            },
+        )?;
+        frames.push(Frame::Turns {
+            inside,
+            scope,
+            name,
+            next: next + 1,
+            to,
+            body,
+        })?;
+        let begun = begin(inside, &inner, body, frames, store)?;
+        return Ok(begun);
+    }
+    Ok(Completion::Went)
+}
+
+// The turns of the `while` `n`, of which so many are left.
+fn turn_while<'a>(
+    run: &Running<'a>,
+    inside: Inside<'a>,
+    scope: Rc<Scope<'a>>,
+    n: StmtId,
+    condition: &'a Expr,
+    turns: u32,
+    body: &'a Block,
+    age: Age,
+    frames: &mut Vec<Frame<'a>>,
+    store: &mut Store,
+) -> Result<Completion, AllocError>
+    ensures { IfOk result
+        (λ o. Goes (frames_view frames.new.items) (completion_at o store.new)
+        ≡ loop_here run.now (inside_view inside.entry) scope.entry.value n
+        (expr_view condition.now) turns (block_view body.now) (age_view age)
+        (frames_view frames.old.items) store.old) }
+{
+    let is = expression_is_use(run.alloc, &scope, condition)?;
+    if turns == 0 {
+        end_use(is, n, age, store)?;
+        return Ok(Completion::Went);
+    }
+    let now = expression_age(run.alloc, &scope, store, condition)?;
+    frames.push(Frame::Test {
+        inside,
+        scope,
+        stmt: n,
+        condition,
+        turns: turns - 1,
+        body,
+        age: age.join(now),
+    })?;
+    begin_use(is, n, now, store)?;
+    Ok(Completion::Went)
+}
+
+// The condition of a turn of the `while` `n`, with so many turns behind it.
+fn test<'a>(
+    run: &Running<'a>,
+    inside: Inside<'a>,
+    scope: Rc<Scope<'a>>,
+    n: StmtId,
+    condition: &'a Expr,
+    turns: u32,
+    body: &'a Block,
+    age: Age,
+    frames: &mut Vec<Frame<'a>>,
+    store: &mut Store,
+) -> Result<Completion, AllocError>
+    ensures { IfOk result
+        (λ o. Goes (frames_view frames.new.items) (completion_at o store.new)
+        ≡ test_here run.now (inside_view inside.entry) scope.entry.value n
+        (expr_view condition.now) turns (block_view body.now) (age_view age)
+        (frames_view frames.old.items) store.old) }
+{
+    match value_of(&scope, store, condition) {
+        Got::Traps { kind } => store.trap(kind, n),
+        Got::Value { value } => {
+            if is_zero(value.number) {
+                let is = expression_is_use(run.alloc, &scope, condition)?;
+                end_use(is, n, age, store)?;
+                return Ok(Completion::Went);
+            }
+            let shared = Rc::clone(&scope)?;
+            frames.push(Frame::Loop {
+                inside,
+                scope,
+                stmt: n,
+                condition,
+                turns,
+                body,
+                age,
+            })?;
+            begin(inside, &shared, body, frames, store)
+        }
+    }
+}
+
+// The use of the statement `n`, which is of this kind, begins, and then its work.
+fn use_and_work<'a>(
+    run: &Running<'a>,
+    inside: Inside<'a>,
+    scope: Rc<Scope<'a>>,
+    n: StmtId,
+    age: Age,
+    kind: &'a StmtKind,
+    frames: &mut Vec<Frame<'a>>,
+    store: &mut Store,
+) -> Result<Completion, AllocError>
+    ensures { IfOk result
+        (λ o. Goes (frames_view frames.new.items) (completion_at o store.new)
+        ≡ went_here run.now
+        (Use (inside_view inside.entry) scope.entry.value n (age_view age) (kind_view kind.now))
+        (frames_view frames.old.items) store.old) }
+{
+    let is = begins_use(run.alloc, &scope, kind)?;
+    frames.push(Frame::Work {
+        inside,
+        scope,
+        stmt: n,
+        kind,
+    })?;
+    begin_use(is, n, age, store)?;
+    Ok(Completion::Went)
+}
+
+// A frame, where what was before it went through.
+fn go_on<'a>(
+    run: &Running<'a>,
+    frame: Frame<'a>,
+    frames: &mut Vec<Frame<'a>>,
+    store: &mut Store,
+) -> Result<Going, AllocError>
+    ensures { IfOk result
+        (λ s. step_at s (frames_view frames.new.items) store.new
+        ≡ went_here run.now (frame_view frame.entry) (frames_view frames.old.items) store.old) }
+{
+    match frame {
+        Frame::Rest {
+            inside,
+            scope,
+            statements,
+        } => {
+            let completion = rest(run, inside, scope, statements, frames, store)?;
+            Ok(Going::Goes { completion })
+        }
+        Frame::Use {
+            inside,
+            scope,
+            stmt,
+            age,
+            kind,
+        } => {
+            let completion = use_and_work(run, inside, scope, stmt, age, kind, frames, store)?;
+            Ok(Going::Goes { completion })
+        }
+        Frame::Work {
+            inside,
+            scope,
+            stmt,
+            kind,
+        } => work(run, inside, &scope, stmt, kind, frames, store),
+        Frame::Done { is_use, stmt, age } => {
+            end_use(is_use, stmt, age, store)?;
+            Ok(Going::Goes {
+                completion: Completion::Went,
+            })
+        }
+        Frame::Close { region } => {
+            store.close(region)?;
+            Ok(Going::Goes {
+                completion: Completion::Went,
+            })
+        }
+        Frame::Take { scope, stmt, kind } => {
+            let completion = take(run, &scope, stmt, kind, Value::plain(0), store)?;
+            Ok(Going::Goes { completion })
+        }
+        Frame::Leave { locals } => {
+            store.leave(locals);
+            Ok(Going::Goes {
+                completion: Completion::Went,
+            })
+        }
+        Frame::Turns {
+            inside,
+            scope,
+            name,
+            next,
+            to,
+            body,
+        } => {
+            let completion = turn(run, inside, scope, name, next, to, body, frames, store)?;
+            Ok(Going::Goes { completion })
+        }
+        Frame::Loop {
+            inside,
+            scope,
+            stmt,
+            condition,
+            turns,
+            body,
+            age,
+        } => {
+            let completion = turn_while(
+                run, inside, scope, stmt, condition, turns, body, age, frames, store,
+            )?;
+            Ok(Going::Goes { completion })
+        }
+        Frame::Test {
+            inside,
+            scope,
+            stmt,
+            condition,
+            turns,
+            body,
+            age,
+        } => {
+            let completion = test(
+                run, inside, scope, stmt, condition, turns, body, age, frames, store,
+            )?;
+            Ok(Going::Goes { completion })
+        }
+        Frame::Back { value, region } => {
+            store.close(region)?;
+            Ok(Going::Goes {
+                completion: Completion::Returned { value },
+            })
+        }
+    }
+}
+
+// A frame, where a value was returned before it.
+fn go_back<'a>(
+    run: &Running<'a>,
+    frame: Frame<'a>,
+    value: Value,
+    store: &mut Store,
+) -> Result<Completion, AllocError>
+    ensures { IfOk result
+        (λ o. (fs : List steps.Frame) → Goes fs (completion_at o store.new)
+        ≡ returned_here run.now (frame_view frame.entry) (value_view value) fs store.old) }
+{
+    match frame {
+        Frame::Take { scope, stmt, kind } => take(run, &scope, stmt, kind, value, store),
+        Frame::Leave { locals } => {
+            store.leave(locals);
+            Ok(Completion::Returned { value })
+        }
+        _ => Ok(Completion::Returned { value }),
+    }
+}
+
+/// One step of a run that came to this, if one is left.
+pub fn step<'a>(
+    run: &Running<'a>,
+    completion: Completion,
+    frames: &mut Vec<Frame<'a>>,
+    store: &mut Store,
+) -> Result<Option<Going>, AllocError>
+    ensures step { IfOk result
+        (λ s. stepped_at s (frames_view frames.new.items) store.new
+        ≡ step_here run.now (frames_view frames.old.items) (completion_at completion store.old)) }
+    ensures kept { IfOk result
+        (λ s. IsKept s (frames_view frames.old.items) store.old (frames_view frames.new.items)
+        store.new) }
+{
+    match completion {
+        Completion::Trapped => Ok(None),
+        Completion::Went => match frames.pop() {
+            None => Ok(None),
+            Some(frame) => {
+                let going = go_on(run, frame, frames, store)?;
+                Ok(Some(going))
+            }
+        },
+        Completion::Returned { value } => match frames.pop() {
+            None => Ok(None),
+            Some(frame) => {
+                let completion = go_back(run, frame, value, store)?;
+                Ok(Some(Going::Goes { completion }))
+            }
+        },
+    }
+}

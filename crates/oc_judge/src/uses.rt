@@ -1,0 +1,162 @@
+//! Uses of fresh variables.
+ghost use Rattle.std.specs.Prelude.{◌≡◌, IfOk, OnOk};
+ghost use Rattle.std.specs.List.{list_any};
+ghost use Rattle.oc_tree.specs.Names.{names_seen};
+ghost use Rattle.oc_tree.specs.View.{expr_view, kind_view};
+ghost use Rattle.oc_meaning.specs.Exec.{done, used};
+ghost use Rattle.oc_meaning.specs.Uses.{begins_use, ends_use, expr_names, is_fresh, is_use, own_names};
+ghost use Rattle.oc_steps.specs.Ages.{join_ages};
+ghost use Rattle.oc_steps.specs.Sets.{fresh_by, use_by};
+ghost use Rattle.oc_judge.specs.Values.{age_view};
+ghost use Rattle.oc_judge.specs.Fresh.{with_name};
+
+use crate::age::Age;
+use crate::scope::Scope;
+use crate::store::Store;
+use oc_meaning::names::{expr_names, own_names};
+use oc_tree::name::Name;
+use oc_tree::said::{Said, Shown};
+use oc_tree::tree::{Expr, StmtId, StmtKind};
+use std::alloc::{AllocError, Global};
+
+fn names_fresh(scope: &Scope, names: &[&Name]) -> bool
+    ensures { result ≡ list_any (is_fresh scope.now) (names_seen names.now) }
+{
+    for name in names {
+        if scope.is_fresh(name) {
+            return true;
+        }
+    }
+    false
+}
+
+/// This age, joined with that of the variable of a name that is one of a fresh variable.
+fn with_name(scope: &Scope, store: &Store, name: &Name, age: Age) -> Age
+    ensures { age_view result ≡ with_name scope.now store.now name.now (age_view age) }
+{
+    if scope.is_fresh(name) {
+        store.age(scope.place(name)).join(age)
+    } else {
+        age
+    }
+}
+
+/// The age of the fresh variables among these names.
+fn age_of_fresh(scope: &Scope, store: &Store, mut names: Vec<&Name>) -> Age
+    ensures { age_view result
+        ≡ fresh_by join_ages scope.now store.now (names_seen names.entry.items) }
+{
+    let mut age = Age::Never;
+    while let Some(name) = names.pop() {
+        age = with_name(scope, store, name, age);
+    }
+    age
+}
+
+/// The names in a statement's own expressions or arguments.
+fn names_in<'a>(alloc: Global, kind: &'a StmtKind) -> Result<Vec<&'a Name>, AllocError>
+    ensures { IfOk result (λ ns. names_seen ns.items ≡ own_names (kind_view kind.now)) }
+{
+    let mut names = Vec::new(alloc);
+    own_names(kind, &mut names)?;
+    Ok(names)
+}
+
+/// The names in an expression.
+fn names_of<'a>(alloc: Global, expr: &'a Expr) -> Result<Vec<&'a Name>, AllocError>
+    ensures { IfOk result (λ ns. names_seen ns.items ≡ expr_names (expr_view expr.now)) }
+{
+    let mut names = Vec::new(alloc);
+    expr_names(expr, &mut names)?;
+    Ok(names)
+}
+
+/// Whether a statement is a use.
+pub fn is_use(alloc: Global, scope: &Scope, kind: &StmtKind) -> Result<bool, AllocError>
+    ensures { IfOk result (λ b. b ≡ is_use (is_fresh scope.now) (kind_view kind.now)) }
+{
+    let names = names_in(alloc, kind)?;
+    Ok(names_fresh(scope, &names))
+}
+
+/// The age of the fresh variables that a statement names.
+pub fn use_age(
+    alloc: Global,
+    scope: &Scope,
+    store: &Store,
+    kind: &StmtKind,
+) -> Result<Age, AllocError>
+    ensures { IfOk result
+        (λ a. age_view a ≡ use_by join_ages scope.now (kind_view kind.now) store.now) }
+{
+    let names = names_in(alloc, kind)?;
+    Ok(age_of_fresh(scope, store, names))
+}
+
+/// Whether an expression names a fresh variable.
+pub fn expression_is_use(alloc: Global, scope: &Scope, expr: &Expr) -> Result<bool, AllocError>
+    ensures { IfOk result
+        (λ b. b ≡ list_any (is_fresh scope.now) (expr_names (expr_view expr.now))) }
+{
+    let names = names_of(alloc, expr)?;
+    Ok(names_fresh(scope, &names))
+}
+
+/// The age of the fresh variables that an expression names.
+pub fn expression_age(
+    alloc: Global,
+    scope: &Scope,
+    store: &Store,
+    expr: &Expr,
+) -> Result<Age, AllocError>
+    ensures { IfOk result
+        (λ a. age_view a
+        ≡ fresh_by join_ages scope.now store.now (expr_names (expr_view expr.now))) }
+{
+    let names = names_of(alloc, expr)?;
+    Ok(age_of_fresh(scope, store, names))
+}
+
+/// Whether a statement begins a use before it runs: a `while` begins its uses itself.
+pub fn begins_use(alloc: Global, scope: &Scope, kind: &StmtKind) -> Result<bool, AllocError>
+    ensures { IfOk result (λ b. b ≡ begins_use (is_fresh scope.now) (kind_view kind.now)) }
+{
+    match kind {
+        StmtKind::While { .. } => Ok(false),
+        _ => is_use(alloc, scope, kind),
+    }
+}
+
+/// Whether a statement ends a use where it went through: a `while` and a `return` end their uses
+/// themselves.
+pub fn ends_use(alloc: Global, scope: &Scope, kind: &StmtKind) -> Result<bool, AllocError>
+    ensures { IfOk result (λ b. b ≡ ends_use (is_fresh scope.now) (kind_view kind.now)) }
+{
+    match kind {
+        StmtKind::While { .. } => Ok(false),
+        StmtKind::Return { .. } => Ok(false),
+        _ => is_use(alloc, scope, kind),
+    }
+}
+
+/// Statement `n` begins a use of this age, if it is one.
+pub fn begin_use(is: bool, n: StmtId, age: Age, store: &mut Store) -> Result<(), AllocError>
+    ensures { OnOk result (store.new ≡ used is n (age_view age) store.old) }
+{
+    if is {
+        let what = Shown::Used { stmt: n };
+        store.note(Said::Showed { what }, age)?;
+    }
+    Ok(())
+}
+
+/// Statement `n` ends a use of this age, if it is one.
+pub fn end_use(is: bool, n: StmtId, age: Age, store: &mut Store) -> Result<(), AllocError>
+    ensures { OnOk result (store.new ≡ done is n (age_view age) store.old) }
+{
+    if is {
+        let what = Shown::Finished { stmt: n };
+        store.note(Said::Showed { what }, age)?;
+    }
+    Ok(())
+}

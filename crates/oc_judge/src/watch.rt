@@ -1,0 +1,362 @@
+//! What the audit answers to an item.
+ghost use Rattle.std.specs.Prelude.{◌≡◌, ℤ, List, Option, option_map, IfOk, OnOk};
+ghost use Rattle.oc_tree.specs.declared.said.Said.TheVariants.{Committed, Ended, Entered, Sensed, Showed};
+ghost use Rattle.oc_tree.specs.Tree.{TProgram};
+ghost use Rattle.oc_items.specs.Told.{told_of};
+ghost use Rattle.oc_meaning.specs.Run.{words_of};
+ghost use Rattle.oc_steps.specs.Ages.{join_ages};
+ghost use Rattle.oc_steps.specs.Auditing.{IsHeard, first_watch};
+ghost use Rattle.oc_steps.specs.Fold.{aborted, has_words, may_show, off, with_shown};
+ghost use Rattle.oc_steps.specs.Heard.{cleared};
+ghost use Rattle.oc_steps.specs.Steps.{sensed};
+ghost use Rattle.oc_judge.specs.Going.{program_of, regions_of};
+ghost use Rattle.oc_judge.specs.Stores.{event_view};
+ghost use Rattle.oc_judge.specs.Watches.{IsTold, answered, halts, watch_view};
+ghost use Rattle.oc_judge.specs.Ways.{IsNext, KeepsRest, next_view, way_view};
+
+use crate::age::{Age, Value};
+use crate::answers::{are_words, is_new, says_committed, says_ended, says_entered, says_shown};
+use crate::notes::set_of;
+use crate::running::Running;
+use crate::sets::{falls, may_tag, tell_tag};
+use crate::store::{Completion, Event};
+use crate::way::{Next, Way, copy, first_way, go};
+use oc_items::item::Item;
+use oc_tree::said::{Ending, Shown};
+use std::alloc::{AllocError, Global};
+
+/// The run before an `enter`, and the region.
+#[derive(Drop)]
+pub struct Saved<'a> {
+    pub region: u32,
+    pub way: Way<'a>,
+}
+
+/// The run under way and, where no `commit` or `abort` came since, the one before the last `enter`.
+#[derive(Drop)]
+pub struct Watch<'a> {
+    pub now: Way<'a>,
+    pub saved: Option<Saved<'a>>,
+}
+
+/// Before the first item.
+pub fn first_watch<'a>(run: &Running<'a>) -> Result<Watch<'a>, AllocError>
+    ensures { IfOk result
+        (λ w. watch_view w ≡ first_watch (program_of run.now) (regions_of run.now)) }
+{
+    let now = first_way(run)?;
+    Ok(Watch { now, saved: None })
+}
+
+// What the run does next. No tag is of an earlier instance than the last one of its set: one that
+// were is out of memory.
+fn next<'a>(run: &Running<'a>, way: &mut Way<'a>) -> Result<Next, AllocError>
+    ensures next { IfOk result
+        (λ n. IsNext (program_of run.now) (regions_of run.now) (way_view way.old)
+        (next_view n way.new)) }
+    ensures kept { IfOk result (λ n. KeepsRest (way_view way.old) (way_view way.new)) }
+{
+    let next = go(run, way)?;
+    match next {
+        Next::Says { event } => {
+            if falls(run.program, &way.sets, event) {
+                return Err(AllocError);
+            }
+            Ok(Next::Says { event })
+        }
+        Next::Wants { sensor } => Ok(Next::Wants { sensor }),
+        Next::Stands => Ok(Next::Stands),
+    }
+}
+
+// The sample that the run wanted.
+fn give_sample<'a>(run: &Running<'a>, way: &mut Way<'a>, sensor: u8, value: i32)
+    ensures { way_view way.new
+        ≡ record (way_view way.old) {
+          out = cleared (sensed (program_of run.now) (regions_of run.now) join_ages (λ n. n)
+              sensor value way.old.store);
+        } }
+{
+    let age = Age::Once {
+        outages: way.store.outages(),
+    };
+    way.completion = Completion::Returned {
+        value: Value { number: value, age },
+    };
+    let _said = way.store.take_event();
+}
+
+// An input.
+fn hear_input<'a>(
+    run: &Running<'a>,
+    watch: &mut Watch<'a>,
+    sensor: u8,
+    value: i32,
+) -> Result<bool, AllocError>
+    ensures { IfOk result
+        (λ good. (nv : Option (List ℤ))
+        → IsTold (program_of run.now) (regions_of run.now) nv (watch_view watch.old)
+        (Sensed sensor value) (answered good watch.new)) }
+{
+    match next(run, &mut watch.now)? {
+        Next::Says { .. } => Ok(false),
+        Next::Wants { sensor: wanted } => {
+            if sensor != wanted {
+                return Ok(false);
+            }
+            give_sample(run, &mut watch.now, sensor, value);
+            Ok(true)
+        }
+        Next::Stands => Ok(false),
+    }
+}
+
+// Whether an event of the source other than an input may be told now.
+#[tactic(auto, using(crate::proofs::Hearing::store_at))]
+fn may_show(run: &Running, way: &Way, what: Shown, event: Event) -> bool
+    ensures { (nv : Option (List ℤ))
+        → result ≡ may_show (program_of run.now) nv (way_view way.now) what (event_view event) }
+{
+    match what {
+        Shown::Emitted { .. } => true,
+        Shown::Used { .. } => is_new(way.store.outages(), event.age),
+        Shown::Finished { .. } => is_new(way.store.outages(), event.age),
+        Shown::Tagged { stmt } => may_tag(set_of(run.program, stmt), event, &way.sets),
+    }
+}
+
+// An event of the source other than an input is told.
+fn show<'a>(
+    run: &Running<'a>,
+    way: &mut Way<'a>,
+    what: Shown,
+    event: Event,
+) -> Result<(), AllocError>
+    ensures { OnOk result ((nv : Option (List ℤ))
+        → way_view way.new
+        ≡ with_shown (program_of run.now) nv (way_view way.old) what (event_view event)) }
+{
+    match what {
+        Shown::Emitted { .. } => Ok(()),
+        Shown::Used { .. } => Ok(()),
+        Shown::Finished { .. } => Ok(()),
+        Shown::Tagged { stmt } => {
+            tell_tag(set_of(run.program, stmt), event, &mut way.sets)?;
+            Ok(())
+        }
+    }
+}
+
+// An output, a use or its end, or a tag.
+fn hear_shown<'a>(run: &Running<'a>, watch: &mut Watch<'a>, what: Shown) -> Result<bool, AllocError>
+    ensures { IfOk result
+        (λ good. (nv : Option (List ℤ))
+        → IsTold (program_of run.now) (regions_of run.now) nv (watch_view watch.old)
+        (Showed what) (answered good watch.new)) }
+{
+    match next(run, &mut watch.now)? {
+        Next::Says { event } => {
+            if says_shown(event.said, what) && may_show(run, &watch.now, what, event) {
+                show(run, &mut watch.now, what, event)?;
+                return Ok(true);
+            }
+            Ok(false)
+        }
+        Next::Wants { .. } => Ok(false),
+        Next::Stands => Ok(false),
+    }
+}
+
+// A region is entered: the run before it is kept.
+fn hear_enter<'a>(run: &Running<'a>, watch: &mut Watch<'a>, region: u32) -> Result<bool, AllocError>
+    ensures { IfOk result
+        (λ good. (nv : Option (List ℤ))
+        → IsTold (program_of run.now) (regions_of run.now) nv (watch_view watch.old)
+        (Entered region) (answered good watch.new)) }
+{
+    let way = copy(run.alloc, &watch.now)?;
+    match next(run, &mut watch.now)? {
+        Next::Says { event } => {
+            if !says_entered(event.said, region) {
+                return Ok(false);
+            }
+            watch.now.inside = true;
+            watch.saved = Some(Saved { region, way });
+            Ok(true)
+        }
+        Next::Wants { .. } => Ok(false),
+        Next::Stands => Ok(false),
+    }
+}
+
+// A region is committed.
+fn hear_commit<'a>(
+    run: &Running<'a>,
+    watch: &mut Watch<'a>,
+    region: u32,
+) -> Result<bool, AllocError>
+    ensures { IfOk result
+        (λ good. (nv : Option (List ℤ))
+        → IsTold (program_of run.now) (regions_of run.now) nv (watch_view watch.old)
+        (Committed region) (answered good watch.new)) }
+{
+    match next(run, &mut watch.now)? {
+        Next::Says { event } => {
+            if !says_committed(event.said, region) {
+                return Ok(false);
+            }
+            watch.now.inside = false;
+            watch.saved = None;
+            Ok(true)
+        }
+        Next::Wants { .. } => Ok(false),
+        Next::Stands => Ok(false),
+    }
+}
+
+// Whether these are the nonvolatile words now.
+fn has_words(alloc: Global, nv: Option<&[i32]>, way: &Way) -> Result<bool, AllocError>
+    ensures { IfOk result
+        (λ b. (p : TProgram) (told : Option (List ℤ))
+        → b ≡ has_words p told (option_map (λ w. w.now) nv.entry) (words_of way.now.store.nv)) }
+{
+    match nv {
+        None => Ok(false),
+        Some(words) => {
+            let own = way.store.words(alloc)?;
+            Ok(are_words(words, &own))
+        }
+    }
+}
+
+// Whether the run has come to its end, of which nothing was told yet.
+fn halts(way: &Way) -> bool
+    ensures { result ≡ halts way.now }
+{
+    match way.completion {
+        Completion::Went => !way.over,
+        Completion::Returned { .. } => !way.over,
+        Completion::Trapped => false,
+    }
+}
+
+// The end of the run.
+fn hear_end<'a>(
+    run: &Running<'a>,
+    nv: Option<&[i32]>,
+    watch: &mut Watch<'a>,
+    how: Ending,
+) -> Result<bool, AllocError>
+    ensures { IfOk result
+        (λ good. IsTold (program_of run.now) (regions_of run.now) (option_map (λ w. w.now) nv.entry)
+        (watch_view watch.old) (Ended how) (answered good watch.new)) }
+{
+    match next(run, &mut watch.now)? {
+        Next::Says { event } => {
+            if says_ended(event.said, how) && has_words(run.alloc, nv, &watch.now)? {
+                watch.now.over = true;
+                return Ok(true);
+            }
+            Ok(false)
+        }
+        Next::Wants { .. } => Ok(false),
+        Next::Stands => match how {
+            Ending::Halted => {
+                if halts(&watch.now) && has_words(run.alloc, nv, &watch.now)? {
+                    watch.now.over = true;
+                    return Ok(true);
+                }
+                Ok(false)
+            }
+            Ending::Trapped { .. } => Ok(false),
+        },
+    }
+}
+
+// An outage.
+fn hear_off(watch: &mut Watch) -> Result<bool, AllocError>
+    ensures { IfOk result
+        (λ good. (p : TProgram) (nv : Option (List ℤ))
+        → answered good watch.new ≡ off p nv (watch_view watch.old)) }
+{
+    if watch.now.inside {
+        return Ok(false);
+    }
+    watch.now.store.lose_power()?;
+    Ok(true)
+}
+
+// A region is aborted: the run is again what it was before its `enter`.
+fn hear_abort<'a>(watch: &mut Watch<'a>, region: u32) -> bool
+    ensures { (p : TProgram) (nv : Option (List ℤ))
+        → answered result watch.new ≡ aborted p nv region (watch_view watch.old).saved }
+{
+    match watch.saved.take() {
+        None => false,
+        Some(saved) => {
+            if saved.region != region {
+                return false;
+            }
+            watch.now = saved.way;
+            true
+        }
+    }
+}
+
+/// How the audit goes on after an item, or that the report breaks there.
+pub fn hear<'a>(
+    run: &Running<'a>,
+    nv: Option<&[i32]>,
+    watch: &mut Watch<'a>,
+    item: Item,
+) -> Result<bool, AllocError>
+    ensures { IfOk result
+        (λ good. IsHeard (program_of run.now) (regions_of run.now)
+        (option_map (λ w. w.now) nv.entry)
+        (watch_view watch.old) (told_of item).said (answered good watch.new)) }
+{
+    match item {
+        Item::Sense { sensor, value, .. } => {
+            let good = hear_input(run, watch, sensor, value)?;
+            Ok(good)
+        }
+        Item::Emit { port, value, .. } => {
+            let good = hear_shown(run, watch, Shown::Emitted { port, value })?;
+            Ok(good)
+        }
+        Item::Use { stmt, .. } => {
+            let good = hear_shown(run, watch, Shown::Used { stmt })?;
+            Ok(good)
+        }
+        Item::Done { stmt, .. } => {
+            let good = hear_shown(run, watch, Shown::Finished { stmt })?;
+            Ok(good)
+        }
+        Item::Tag { stmt, .. } => {
+            let good = hear_shown(run, watch, Shown::Tagged { stmt })?;
+            Ok(good)
+        }
+        Item::Enter { region, .. } => {
+            let good = hear_enter(run, watch, region)?;
+            Ok(good)
+        }
+        Item::Commit { region, .. } => {
+            let good = hear_commit(run, watch, region)?;
+            Ok(good)
+        }
+        Item::Abort { region, .. } => Ok(hear_abort(watch, region)),
+        Item::Off { .. } => {
+            let good = hear_off(watch)?;
+            Ok(good)
+        }
+        Item::Dark { .. } => Ok(true),
+        Item::Trap { kind, stmt, .. } => {
+            let good = hear_end(run, nv, watch, Ending::Trapped { kind, stmt })?;
+            Ok(good)
+        }
+        Item::End { .. } => {
+            let good = hear_end(run, nv, watch, Ending::Halted)?;
+            Ok(good)
+        }
+    }
+}

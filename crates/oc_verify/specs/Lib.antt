@@ -1,0 +1,9 @@
+pub mod Typing
+pub mod Rules
+pub mod Verified
+pub mod Work
+pub mod Stacks
+pub mod Merging
+pub mod Told
+pub mod Reading
+pub mod Reads

@@ -1,0 +1,158 @@
+//! Stacks that share what is below.
+ghost use Rattle.std.specs.Prelude.{
+  ◌≡◌,
+  ◌≤◌,
+  ◌<◌,
+  ℕ,
+  [],
+  ◌∷◌,
+  length,
+  IfOk,
+  IfSome,
+  OnErr,
+  OnOk,
+  Some,
+  slice_get,
+};
+ghost use Rattle.oc_verify.specs.Stacks.{stack, with_node, Grows};
+ghost use Rattle.oc_verify.specs.Told.{kinds, Tells, IsTop};
+ghost use Rattle.oc_verify.specs.Rules.{number, place, closing, none_open};
+
+use crate::fault::Fault;
+use indexmap::IndexSet;
+use oc_io::Memory;
+use std::alloc::Global;
+use std::marker::Model;
+
+/// Stacks of numbers below 2^33, by numbers: 0 is the empty one, and equal stacks have one number.
+#[derive(Drop)]
+pub struct Stacks {
+    nodes: IndexSet<u64>,
+}
+
+impl Model for Stacks {
+    ghost use Rattle.std.specs.Prelude.{ℕ, List};
+    ghost use Rattle.oc_verify.specs.Stacks.{AreNodes};
+
+    ghost Value = { List ℕ };
+
+    ghost view = { λ s. s.nodes.keys };
+
+    ghost invariant = { λ s. AreNodes s.nodes.keys };
+}
+
+impl Stacks {
+    /// No stack but the empty one.
+    pub fn new(alloc: Global) -> Stacks
+        ensures { result ≡ [] }
+    {
+        Stacks {
+            nodes: IndexSet::new(alloc),
+        }
+    }
+
+    /// The number of a stack with one more on top.
+    pub fn push(&mut self, below: u32, top: u64) -> Result<u32, Memory>
+        requires below { below ≤ length self.old }
+        requires top { top < 8589934592 }
+        ensures number { IfOk result (λ n. stack self.new n ≡ top ∷ stack self.old below) }
+        ensures within { IfOk result (λ n. n ≤ length self.new) }
+        ensures grows { OnOk result (Grows self.old self.new) }
+    {
+        let index = place(&mut self.nodes, below as u64 * 8589934592 + top)?;
+        Ok(index + 1)
+    }
+}
+
+/// The place of a node, which is added unless it is there.
+fn place(nodes: &mut IndexSet<u64>, node: u64) -> Result<u32, Memory>
+    ensures keys { OnOk result (nodes.new.keys ≡ with_node nodes.old.keys node) }
+    ensures found { IfOk result (λ n. slice_get nodes.new.keys n ≡ Some node) }
+    ensures few { OnOk result (length nodes.new.keys < 2147483648) }
+    ensures same { OnErr result (nodes.new.keys ≡ nodes.old.keys) }
+    ensures small { IfOk result (λ n. n < 2147483648) }
+    ensures within { IfOk result (λ n. n < length nodes.new.keys) }
+{
+    if nodes.len() >= 2147483647 {
+        return Err(Memory);
+    }
+    match nodes.insert_full(node) {
+        Ok((index, _)) => Ok(index as u32),
+        Err(_) => Err(Memory),
+    }
+}
+
+impl Stacks {
+    /// The top of a stack, and the number of what is below; none of the empty one.
+    fn top(&self, number: u32) -> Option<(u64, u32)>
+        requires { number ≤ length self.now }
+        ensures top { IsTop self.now number result }
+        ensures within { IfSome result (λ t. t.1 ≤ length self.now) }
+    {
+        if number == 0 {
+            return None;
+        }
+        let node = *self.nodes.get_index(number as usize - 1)?;
+        Some((node % 8589934592, (node / 8589934592) as u32))
+    }
+
+    /// The kinds below a number.
+    pub fn number(&self, ops: u32) -> Result<u32, Fault>
+        requires { ops ≤ length self.now }
+        ensures exact { Tells (λ n. kinds self.now n) result (number (kinds self.now ops)) }
+        ensures within { IfOk result (λ n. n ≤ length self.now) }
+    {
+        match self.top(ops) {
+            Some((0, below)) => Ok(below),
+            _ => Err(Fault::Broken { rule: 4 }),
+        }
+    }
+
+    /// The kinds below a place of at least so many words.
+    pub fn place(&self, words: u32, ops: u32) -> Result<u32, Fault>
+        requires { ops ≤ length self.now }
+        ensures exact { Tells (λ n. kinds self.now n) result (place words (kinds self.now ops)) }
+        ensures within { IfOk result (λ n. n ≤ length self.now) }
+    {
+        match self.top(ops) {
+            Some((0, _)) | None => Err(Fault::Broken { rule: 4 }),
+            Some((code, below)) => {
+                if words as u64 <= code - 1 {
+                    Ok(below)
+                } else {
+                    Err(Fault::Broken { rule: 4 })
+                }
+            }
+        }
+    }
+
+    /// The regions open outside of the last one, which is this.
+    pub fn closing(&self, region: u32, opens: u32) -> Result<u32, Fault>
+        requires { opens ≤ length self.now }
+        ensures exact { Tells (λ n. stack self.now n) result
+            (closing region (stack self.now opens)) }
+        ensures within { IfOk result (λ n. n ≤ length self.now) }
+    {
+        match self.top(opens) {
+            Some((last, below)) => {
+                if last == region as u64 {
+                    Ok(below)
+                } else {
+                    Err(Fault::Broken { rule: 9 })
+                }
+            }
+            None => Err(Fault::Broken { rule: 9 }),
+        }
+    }
+
+    /// No region may be open.
+    pub fn none_open(&self, opens: u32) -> Result<(), Fault>
+        requires { opens ≤ length self.now }
+        ensures { Tells (λ u. []) result (none_open (stack self.now opens)) }
+    {
+        match self.top(opens) {
+            Some(_) => Err(Fault::Broken { rule: 8 }),
+            None => Ok(()),
+        }
+    }
+}

@@ -1,0 +1,5 @@
+mod Half
+mod Fields
+mod Stretches
+mod Lengths
+mod ReadBack

@@ -1,0 +1,39 @@
+-- What meters are told of the bytes of a report.
+use Rattle.std.specs.Prelude.{ℕ, suc, ◌+◌, ◌==◌, ◌≡◌, true, false, List, [], ◌∷◌, ◌++◌, length, take, max}
+use Rattle.oc_tree.specs.Names.{NameLists, Text}
+use Rattle.oc_items.specs.declared.item.Item.{Item}
+use Rattle.oc_items.specs.Reading.{Tells, TellsNone}
+use Rattle.oc_meters.specs.Tally.{Reading, readings, tell_readings}
+
+-- the length of the longest of these names
+abbrev pub longest : List Text → ℕ
+longest [] = 0
+longest (name ∷ names) = max (length name) (longest names)
+
+-- no line of an item is longer, without its line feed: that of an outage has two numbers of 20 digits, and the values of
+-- inputs and outputs have 11 bytes at most
+abbrev pub longest_line : NameLists → ℕ
+longest_line names = max 45 (max (39 + longest names.sensors) (38 + longest names.ports))
+
+-- the first bytes of a line that isn't finished, and what the meters were told
+pub record Page : Type 0 where
+  pub line : List ℕ
+  pub readings : List Reading
+
+abbrev pub page : {M : Type 0} → (M → ℕ) → (M → List ℕ) → List ℕ → List M → Page
+page kind numbers line meters = record { line = line; readings = readings kind numbers meters }
+
+-- the meters were told the item of this line, or it is the line of none and they were told nothing
+pub data IsTold (names : NameLists) (line : List ℕ) (old new : List Reading) : Type 0 where
+  told : (i : Item) → Tells names line i → new ≡ tell_readings i old → IsTold names line old new
+  untold : TellsNone names line → new ≡ old → IsTold names line old new
+
+-- a line feed ends the line; of other bytes so many are kept, one more than an item's line has
+pub data TakesByte (names : NameLists) (old : Page) (byte : ℕ) (new : Page) : Type 0 where
+  ends : (byte == 10) ≡ true → IsTold names old.line old.readings new.readings → new.line ≡ [] → TakesByte names old byte new
+  goes_on : (byte == 10) ≡ false → new ≡ record { line = take (longest_line names + 1) (old.line ++ byte ∷ []); readings = old.readings } → TakesByte names old byte new
+
+-- one byte after the other
+abbrev pub TakesBytes : NameLists → Page → List ℕ → Page → Type 0
+TakesBytes names old [] new = new ≡ old
+TakesBytes names old (byte ∷ bytes) new = (between : Page) × TakesByte names old byte between × TakesBytes names between bytes new

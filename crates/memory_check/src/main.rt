@@ -222,6 +222,7 @@ fn put_called<O: Sink>(
         &mut report,
         &mut errors,
         supplies,
+        Vec::new(alloc),
     );
     let head = format!(in alloc; "{line}: status {status}\n")?;
     out.put(head.as_bytes())?;

@@ -1,8 +1,9 @@
 -- How an answer to a task comes of its steps.
-use Rattle.std.proofs.Common.{ℕ, suc, ◌≡◌, ◌⊎◌, ◌∙◌, sym, ap, refl, subst, arith, inl, inr, List, [], Option, Some, None, true}
+use Rattle.std.proofs.Common.{ℕ, suc, ◌≡◌, ◌⊎◌, ◌∙◌, sym, ap, refl, subst, arith, inl, inr, List, [], ◌∷◌, length, Bool, Option, Some, None, true, true≢false}
 use Rattle.oc_io.specs.declared.period.Period.{Period}
-use Rattle.std.specs.Prelude.{option_map}
+use Rattle.std.specs.Prelude.{codes, option_map, if◌then◌else◌}
 use Rattle.oc_power.specs.Choice.{first_with}
+use Rattle.oc_meters.specs.Tally.{Reading as Meter}
 use Rattle.oc_sensors.specs.File.{sensor_file}
 use Rattle.oc_sensors.specs.File as sensor_rows
 use Rattle.oc_sensors.specs.History.{Told, history}
@@ -18,20 +19,22 @@ use Rattle.oc_bounds.specs.Attempts.{AttemptsClose}
 use Rattle.oc_bounds.proofs.Attempting.{attempts_close}
 use Rattle.oc_bounds.proofs.Periods.{safe_ends}
 use Rattle.oc_top.specs.Meant.{program_code, program_bounds}
-use Rattle.oc_top.specs.Commands.{Plan, report, regions, listing, Task, files_of, command_of, task_of, task_for, with_plan, plans_of, word_at}
+use Rattle.oc_top.specs.Commands.{Plan, Wanted, report, regions, listing, checking, Task, limits_of, meters_of, run_limits, source_limit, command_of, task_of, task_for, with_plan, plans_of, word_at}
 use Rattle.oc_top.specs.declared.command.Command.{Command}
 use Rattle.oc_top.specs.declared.command.Command.TheVariants as commands
 use Rattle.oc_tree.specs.Tree.{TProgram}
-use Rattle.oc_top.specs.Files.{Files, AreFiles, AreWanted, Fetches, IsFile, NotFetched, limit_at, names_of}
+use Rattle.oc_top.specs.Files.{Files, AreFiles, Fetches, NotFetched, listed, names_of}
 use Rattle.oc_top.specs.Sources.{Reading, ReadsAs, faulty, breaks}
 use Rattle.oc_top.specs.Printed.{IsPrinted, not_built, put}
+use Rattle.oc_top.specs.Judged.{IsChecked, not_safe, safe}
 use Rattle.oc_top.specs.Verdict.{Verdict, runs, is_of_run, is_refusal, refuses, prints, printed, regions_of, listing_of}
 use Rattle.oc_top.specs.Headline.{IsHonestThroughout, IsRun, program_power}
 use Rattle.oc_top.specs.Steps.{IsNotBuilt, IsReady, IsTurnedDown, by_memory, by_files}
-use Rattle.oc_top.specs.Answers.{IsJudged, IsDone, Writes, IsWritten, whole, in_part, Call, call_of, HasFiles, AreRefused, WasDone, IsWhole, Comes}
+use Rattle.oc_top.specs.Answers.{IsJudged, IsDone, Writes, IsWritten, whole, in_part, Call, call_of, HasTold, IsSilent, HasFiles, AreRefused, WasDone, IsWhole, Comes}
 use Rattle.oc_top.specs.declared.answer.Answer.{Answer}
 use Rattle.oc_top.specs.declared.answer.Answer.TheVariants as answer
 use Rattle.oc_top.proofs.Exactly.{done_answer}
+use Rattle.oc_top.proofs.Checking.{check_refuses}
 use Rattle.oc_top.proofs.Honesty.{honest_throughout}
 
 -- what is ready is a run of the program that the source spells
@@ -64,25 +67,38 @@ ready_run files plan machine sensors left r =
 
 -- ---- causes
 
-refusal : (c : Call) (end : Answer) → is_refusal end ≡ true → AreRefused c end → Comes c end
-refusal c (answer.Syntax line) e r = r
-refusal c (answer.Rule line rule) e r = r
-refusal c (answer.BadSensors row) e r = r
-refusal c (answer.BadPower row) e r = r
-refusal c end e r = cc e
+refusal : (c : Call) (told : List ℕ) (end : Answer) → is_refusal end ≡ true → AreRefused c told end → Comes c told end
+refusal c told (answer.Syntax line) e r = r
+refusal c told (answer.Rule line rule) e r = r
+refusal c told (answer.BadSensors row) e r = r
+refusal c told (answer.BadPower row) e r = r
+refusal c told (answer.Uncovered gap) e r = r
+refusal c told end e r = cc e
 
-whole_run : (c : Call) (end : Answer) → is_of_run end ≡ true → WasDone c (IsWhole c end) → Comes c end
-whole_run c answer.End e w = w
-whole_run c answer.Trapped e w = w
-whole_run c answer.Dark e w = w
-whole_run c answer.Cut e w = w
-whole_run c end e w = cc e
+whole_run : (c : Call) (told : List ℕ) (end : Answer) → is_of_run end ≡ true → WasDone c (IsWhole c told end) → Comes c told end
+whole_run c told answer.End e w = w
+whole_run c told answer.Trapped e w = w
+whole_run c told answer.Dark e w = w
+whole_run c told answer.Cut e w = w
+whole_run c told end e w = cc e
+
+abbrev silence : (c : Call) → c.out.took [] → IsSilent c []
+silence c t = record { unwritten = t; untold = refl }
 
 module _ (c : Call) (task : Task) (asked : c.task ≡ Some task) where
   -- a file wasn't fetched
-  pub not_fetched : (end : Answer) → NotFetched c.shelf c.words task.first (files_of task.wanted) end → c.out.took [] → Comes c end
-  not_fetched (answer.Unreadable word) n t =
-      record { task = task; is_task = asked; place = n.place; among = n.among; is_word = n.refused.0; before = n.before; asked = n.asked; is_cause = n.refused.1; silent = t }
+  pub not_fetched : (end : Answer) → NotFetched c.shelf c.words task.first (limits_of task.wanted) end → c.out.took [] → Comes c [] end
+  not_fetched (answer.Unreadable word) n t = record {
+    task = task;
+    is_task = asked;
+    place = n.place;
+    among = n.among;
+    is_word = n.refused.0;
+    before = n.before;
+    asked = n.asked;
+    is_cause = n.refused.1;
+    silent = silence c t;
+  }
   not_fetched (answer.TooLong word) n t = record {
     task = task;
     is_task = asked;
@@ -90,44 +106,63 @@ module _ (c : Call) (task : Task) (asked : c.task ≡ Some task) where
     among = n.among;
     is_word = n.refused.0;
     before = n.before;
-    asked =
-        n.asked;
+    asked = n.asked;
     is_cause = n.refused.1;
-    silent = t;
+    silent = silence c t;
   }
-  not_fetched answer.Memory n t = record { task = task; is_task = asked; count = suc n.place; few = n.among; asked = n.asked; silent = t }
+  not_fetched answer.Memory n t = record { task = task; is_task = asked; count = suc n.place; few = n.among; asked = n.asked; silent = silence c t }
   not_fetched end n t = absurd n.refused
 
-  module _ (files : Files) (fetched : AreWanted c.shelf.holds c.words task.first task.wanted files) (all_asked : c.shelf.asked (names_of c.words task.first (files_of task.wanted))) where
+  module _ (files : List (List ℕ)) (fetched : AreFiles c.shelf.holds c.words task.first (limits_of task.wanted) files)
+      (all_asked : c.shelf.asked (names_of c.words task.first (limits_of task.wanted) (length (limits_of task.wanted)))) where
     abbrev has_files : HasFiles c task files
     has_files = record { is_task = asked; are_files = fetched; asked = all_asked }
 
-    no_memory : (end : Answer) → end ≡ answer.Memory → c.out.took [] → Comes c end
-    no_memory end e t = subst (λ (x : Answer). Comes c x) (sym e) (record { task = task; is_task = asked; count = files_of task.wanted; few = omega arith; asked = all_asked; silent = t })
+    pub no_memory : (end : Answer) → end ≡ answer.Memory → c.out.took [] → Comes c [] end
+    no_memory end e t =
+        subst (λ (x : Answer). Comes c [] x) (sym e)
+        (record { task = task; is_task = asked; count = length (limits_of task.wanted); few = omega arith; asked = all_asked; silent = silence c t })
 
-    refused : (end : Answer) → is_refusal end ≡ true → IsJudged files task.wanted (refuses end) → c.out.took [] → Comes c end
-    refused end e j t = refusal c end e (record { task = task; files = files; fetched = has_files; judged = j; silent = t })
+    pub refused : (end : Answer) → is_refusal end ≡ true → IsJudged files task.wanted (refuses end) → c.out.took [] → Comes c [] end
+    refused end e j t = refusal c [] end e (record { task = task; files = files; fetched = has_files; judged = j; silent = silence c t })
 
-    -- what is wanted was done, and written in whole or in part
-    was_done : (run : Verdict) → IsDone files task.wanted run → (end : Answer) → IsWritten c.out run end → Comes c end
-    was_done run d end (whole e t) = whole_run c end (ap is_of_run e ∙ done_answer files task.wanted run d)
-        (record { task = task; files = files; fetched = has_files; run = run; done = d; came = record { answered = e; written = t } })
-    was_done run d end (in_part e p) = subst (λ (x : Answer). Comes c x) (sym e) (record { task = task; files = files; fetched = has_files; run = run; done = d; came = p })
+    -- what is wanted was done, and written in whole or in part; where it was written in whole, this is what the meters tell
+    pub was_told : (told : List ℕ) (run : Verdict) → IsDone files task.wanted run → (end : Answer)
+        → ((end ≡ answer.WriteFault → ⊥) → (c.out.rose → ⊥) → HasTold run.names run.text (meters_of task.wanted) told)
+        → (end ≡ answer.WriteFault → told ≡ []) → IsWritten c.out run end → Comes c told end
+    was_told told run d end tells untold (whole e t) =
+        let of_run = ap is_of_run e ∙ done_answer files task.wanted run d in
+        let told_all = tells (λ fault. true≢false (sym of_run ∙ ap is_of_run fault)) in
+        whole_run c told end of_run
+        (record { task = task; files = files; fetched = has_files; run = run; done = d; came = record { answered = e; written = t; tells = told_all } })
+    was_told told run d end tells untold (in_part e p) =
+        subst (λ (x : Answer). Comes c told x) (sym e)
+        (record { task = task; files = files; fetched = has_files; run = run; done = d; came = record { written = p; untold = untold e } })
 
-module _ (c : Call) (first : ℕ) (plan : Plan) (asked : c.task ≡ Some (record { first = first; wanted = report plan })) (files : Files)
-    (fetched : AreFiles c.shelf.holds c.words first files) (all_asked : c.shelf.asked (names_of c.words first 3)) where
-  pub turned_down : (end : Answer) → IsTurnedDown files plan end → c.out.took [] → Comes c end
-  turned_down end (by_memory e) t = no_memory c _ asked files fetched all_asked end e t
-  turned_down end (by_files reading reads is v) t = refused c _ asked files fetched all_asked end is (record { reading = reading; reads = reads; is_verdict = v }) t
+    -- the same without meters
+    pub was_done : (run : Verdict) → IsDone files task.wanted run → (end : Answer) → meters_of task.wanted ≡ None → IsWritten c.out run end → Comes c [] end
+    was_done run d end none w = was_told [] run d end (λ apart calm. subst (λ (ms : Option (List Meter)). HasTold run.names run.text ms []) (sym none) refl) (λ e. refl) w
 
-  pub was_run : (machine : Running) (sensors : Told) (left : List Period) → IsReady files plan machine sensors left → (end : Answer)
-      → IsWritten c.out (runs machine.parts sensors.rows left) end → Comes c end
-  was_run machine sensors left r end w = was_done c _ asked files fetched all_asked (runs machine.parts sensors.rows left) (ready_run files plan machine sensors left r) end w
+module _ (c : Call) (first : ℕ) (plan : Plan) (meters : Option (List Meter)) (asked : c.task ≡ Some (record { first = first; wanted = report plan meters })) (files : Files)
+    (fetched : AreFiles c.shelf.holds c.words first (run_limits source_limit) (listed files)) (all_asked : c.shelf.asked (names_of c.words first (run_limits source_limit) 3)) where
+  pub turned_down : (end : Answer) → IsTurnedDown files plan end → c.out.took [] → Comes c [] end
+  turned_down end (by_memory e) t = no_memory c _ asked (listed files) fetched all_asked end e t
+  turned_down end (by_files reading reads is v) t = refused c _ asked (listed files) fetched all_asked end is (record { reading = reading; reads = reads; is_verdict = v }) t
+
+  module _ (machine : Running) (sensors : Told) (left : List Period) (ready : IsReady files plan machine sensors left) (end : Answer)
+      (written : IsWritten c.out (runs machine.parts sensors.rows left) end) where
+    -- a run was written, and this is what the meters tell of it
+    pub was_metered : (told : List ℕ) → ((end ≡ answer.WriteFault → ⊥) → (c.out.rose → ⊥) → HasTold machine.parts.names (runs machine.parts sensors.rows left).text meters told)
+        → (end ≡ answer.WriteFault → told ≡ []) → Comes c told end
+    was_metered told tells untold =
+        was_told c _ asked (listed files) fetched all_asked told (runs machine.parts sensors.rows left) (ready_run files plan machine sensors left ready) end tells untold written
+
+    -- it was written, and there are no meters
+    pub was_run : meters ≡ None → Comes c [] end
+    was_run none =
+        was_metered [] (λ apart calm. subst (λ (ms : Option (List Meter)). HasTold machine.parts.names (runs machine.parts sensors.rows left).text ms []) (sym none) refl) (λ e. refl)
 
 -- ---- texts of a source alone
-
-abbrev source_alone : List ℕ → Files
-source_alone source = record { source = source; sensors = []; power = [] }
 
 -- why a source is refused is the verdict on it
 refused_by : (source : List ℕ) (text : TProgram → List ℕ) (end : Answer) → IsNotBuilt source end
@@ -137,40 +172,53 @@ refused_by source text (answer.Rule line rule) r = inr (refl, (breaks (record { 
 refused_by source text answer.Memory r = inl refl
 refused_by source text end r = absurd r
 
-module _ (c : Call) (first : ℕ) (source : List ℕ) (fetched : IsFile (c.shelf.holds (word_at c.words first)) (limit_at 0) source)
-    (all_asked : c.shelf.asked (names_of c.words first 1)) (end : Answer) where
-  pub regions_come : c.task ≡ Some (record { first = first; wanted = regions }) → IsPrinted source regions_of c.out end → Comes c end
+module _ (c : Call) (first : ℕ) (source : List ℕ) (fetched : AreFiles c.shelf.holds c.words first (source_limit ∷ []) (source ∷ []))
+    (all_asked : c.shelf.asked (names_of c.words first (source_limit ∷ []) 1)) (end : Answer) where
+  pub regions_come : c.task ≡ Some (record { first = first; wanted = regions }) → IsPrinted source regions_of c.out end → Comes c [] end
   regions_come asked (not_built n t) = elim (refused_by source regions_of end n) [
-    | inl e ↦ no_memory c _ asked (source_alone source) fetched all_asked end e t
-    | inr f ↦ refused c _ asked (source_alone source) fetched all_asked end f.0 (record { reading = f.1.0; reads = f.1.1; is_verdict = f.1.2 }) t
+    | inl e ↦ no_memory c _ asked (source ∷ []) fetched all_asked end e t
+    | inr f ↦ refused c _ asked (source ∷ []) fetched all_asked end f.0 (record { reading = f.1.0; reads = f.1.1; is_verdict = f.1.2 }) t
   ]
-  regions_come asked (put p reads w) = was_done c _ asked (source_alone source) fetched all_asked (prints (regions_of p)) (record { written = p; spelled = reads; is_text = refl }) end w
+  regions_come asked (put p reads w) = was_done c _ asked (source ∷ []) fetched all_asked (prints (regions_of p)) (record { written = p; spelled = reads; is_text = refl }) end refl w
 
-  pub listing_comes : c.task ≡ Some (record { first = first; wanted = listing }) → IsPrinted source listing_of c.out end → Comes c end
+  pub listing_comes : c.task ≡ Some (record { first = first; wanted = listing }) → IsPrinted source listing_of c.out end → Comes c [] end
   listing_comes asked (not_built n t) = elim (refused_by source listing_of end n) [
-    | inl e ↦ no_memory c _ asked (source_alone source) fetched all_asked end e t
-    | inr f ↦ refused c _ asked (source_alone source) fetched all_asked end f.0 (record { reading = f.1.0; reads = f.1.1; is_verdict = f.1.2 }) t
+    | inl e ↦ no_memory c _ asked (source ∷ []) fetched all_asked end e t
+    | inr f ↦ refused c _ asked (source ∷ []) fetched all_asked end f.0 (record { reading = f.1.0; reads = f.1.1; is_verdict = f.1.2 }) t
   ]
-  listing_comes asked (put p reads w) = was_done c _ asked (source_alone source) fetched all_asked (prints (listing_of p)) (record { written = p; spelled = reads; is_text = refl }) end w
+  listing_comes asked (put p reads w) = was_done c _ asked (source ∷ []) fetched all_asked (prints (listing_of p)) (record { written = p; spelled = reads; is_text = refl }) end refl w
+
+-- ---- blocks
+
+module _ (c : Call) (first : ℕ) (source : List ℕ) (fetched : AreFiles c.shelf.holds c.words first (source_limit ∷ []) (source ∷ []))
+    (all_asked : c.shelf.asked (names_of c.words first (source_limit ∷ []) 1)) (end : Answer) where
+  pub checking_comes : c.task ≡ Some (record { first = first; wanted = checking }) → IsChecked source c.out end → Comes c [] end
+  checking_comes asked (not_safe (inl e) t) = no_memory c _ asked (source ∷ []) fetched all_asked end e t
+  checking_comes asked (not_safe (inr j) t) = refused c _ asked (source ∷ []) fetched all_asked end (check_refuses source end j) j t
+  checking_comes asked (safe e w) = was_done c _ asked (source ∷ []) fetched all_asked (prints (codes "safe\n")) (record { enough = e; is_run = refl }) end refl w
 
 -- ---- tasks
 
-module _ {B : Type 0} (boxes : List B) (number : B → ℕ) (plan : B → Plan) (words : List (List ℕ)) where
+module _ {B : Type 0} (boxes : List B) (number : B → ℕ) (plan : B → Plan) (meters : List Meter) (words : List (List ℕ)) where
   abbrev asked : Option Task
-  asked = task_of (plans_of number plan boxes) words
+  asked = task_of (plans_of number plan boxes) meters words
 
   -- a run is asked for with the supply that was chosen, or nothing is
-  pub run_is : (supply first : ℕ) (box : Option B) → command_of words ≡ Some (commands.Run supply first) → box ≡ first_with number supply boxes → with_plan first (option_map plan box) ≡ asked
-  run_is supply first box e p = sym (ap (λ (c : Option Command). task_for (plans_of number plan boxes) c) e ∙ ap (λ (o : Option B). with_plan first (option_map plan o)) (sym p))
+  pub run_is : (supply first : ℕ) (metered : Bool) (chosen : Option (List Meter)) (box : Option B) → command_of words ≡ Some (commands.Run supply first metered)
+      → chosen ≡ (if metered then Some meters else None) → box ≡ first_with number supply boxes → with_plan first chosen (option_map plan box) ≡ asked
+  run_is supply first metered chosen box e m p =
+      sym (ap (λ (c : Option Command). task_for (plans_of number plan boxes) meters c) e
+      ∙ ap (λ (o : Option B). with_plan first (if metered then Some meters else None) (option_map plan o)) (sym p)
+      ∙ ap (λ (ms : Option (List Meter)). with_plan first ms (option_map plan box)) (sym m))
 
-  pub task_is : (command : Command) → command_of words ≡ Some command → task_for (plans_of number plan boxes) (Some command) ≡ asked
-  task_is command e = sym (ap (λ (c : Option Command). task_for (plans_of number plan boxes) c) e)
+  pub task_is : (command : Command) → command_of words ≡ Some command → task_for (plans_of number plan boxes) meters (Some command) ≡ asked
+  task_is command e = sym (ap (λ (c : Option Command). task_for (plans_of number plan boxes) meters c) e)
 
 -- the same call for what is asked
-pub comes_for : (words : List (List ℕ)) (task other : Option Task) (shelf : Fetches) (out : Writes) (end : Answer) → task ≡ other
-    → Comes (call_of words task shelf out) end → Comes (call_of words other shelf out) end
-comes_for words task other shelf out end e h = subst (λ (t : Option Task). Comes (call_of words t shelf out) end) e h
+pub comes_for : (words : List (List ℕ)) (task other : Option Task) (shelf : Fetches) (out : Writes) (told : List ℕ) (end : Answer) → task ≡ other
+    → Comes (call_of words task shelf out) told end → Comes (call_of words other shelf out) told end
+comes_for words task other shelf out told end e h = subst (λ (t : Option Task). Comes (call_of words t shelf out) told end) e h
 
 -- where nothing is asked for, no file is, and nothing is written
-pub comes_none : (c : Call) → c.task ≡ None → c.shelf.asked [] → c.out.took [] → Comes c answer.Usage
-comes_none c none asked silent = record { none = none; asked = asked; silent = silent }
+pub comes_none : (c : Call) → c.task ≡ None → c.shelf.asked [] → c.out.took [] → Comes c [] answer.Usage
+comes_none c none asked silent = record { none = none; asked = asked; silent = silence c silent }

@@ -1,11 +1,13 @@
 -- Answers come exactly where their causes hold.
-use Rattle.std.proofs.Common.{ℕ, zero, suc, ◌+◌, ◌<◌, ◌≤◌, ◌≡◌, ◌==◌, ◌⊎◌, ◌∙◌, sym, ap, refl, subst, arith, inl, inr, ℤ, List, [], length, Bool, true, false, true≢false, cond, Option, Some, None}
+use Rattle.std.proofs.Common.{ℕ, zero, suc, ◌+◌, ◌<◌, ◌≤◌, ◌≡◌, ◌==◌, ◌⊎◌, ◌∙◌, sym, ap, refl, subst, arith, inl, inr, ℤ, List, [], ◌∷◌, length, Bool, true, false, true≢false}
+use Rattle.std.proofs.Common.{cond, Option, Some, None}
 use Rattle.std.proofs.lemmas.Bool.{cases_order}
 use Rattle.oc_io.specs.declared.period.Period.{Period}
 use Rattle.oc_io.specs.Held.{Held, untold, nothing, content, Gives, Longer}
 use Rattle.oc_power.specs.Power.{Power, power_file}
 use Rattle.oc_sensors.specs.File.{Readings}
 use Rattle.oc_sensors.specs.History.{history}
+use Rattle.oc_tree.specs.Tree.{TProgram}
 use Rattle.oc_tree.specs.declared.said.Said.{Said}
 use Rattle.oc_tree.specs.declared.said.Said.TheVariants.{Ended}
 use Rattle.oc_tree.specs.declared.said.Ending.TheVariants.{Halted, Trapped}
@@ -14,14 +16,15 @@ use Rattle.oc_isa.specs.Power.{first_world, power_run}
 use Rattle.oc_isa.specs.Table.{device_of}
 use Rattle.oc_outage.specs.Honest.{loses_checkpoint}
 use Rattle.oc_top.specs.Meant.{program_code}
-use Rattle.oc_top.specs.Commands.{Plan, Wanted, report, regions, listing, files_of, Task, word_at}
-use Rattle.oc_top.specs.Files.{Files, limit_at, IsFile, AreFiles, AreWanted, WereFetched, IsHeld, AreAllHeld, AreHeld, AreHeldBefore}
+use Rattle.oc_top.specs.Commands.{Plan, Wanted, report, drill, regions, listing, checking, limits_of, Task, word_at}
+use Rattle.oc_top.specs.Files.{Files, run_files, file_at, limit_at, IsFile, AreFiles, WereFetched, IsHeld, AreHeld, AreHeldBefore}
 use Rattle.oc_top.specs.Sources.{Reading, program, ReadsAs}
 use Rattle.oc_top.proofs.OneReading.{one_reading}
+use Rattle.oc_top.proofs.Checking.{one_check, safe_check}
 use Rattle.oc_top.specs.Reports.{answer_by, answer_of, last_said}
-use Rattle.oc_top.specs.Verdict.{Verdict, verdict, verdict_on, is_of_run, refuses, with_sensors, with_power}
+use Rattle.oc_top.specs.Verdict.{Verdict, verdict, printed, is_of_run, is_refusal, refuses, with_sensors, with_power}
 use Rattle.oc_top.specs.Headline.{IsRun}
-use Rattle.oc_top.specs.Answers.{status_of, is_written, IsJudged, IsDone, Call, IsUnfetched, HasFiles, AreRefused, WasDone, IsWhole, Comes}
+use Rattle.oc_top.specs.Answers.{status_of, is_written, IsVerdict, IsJudged, IsPrint, IsDone, Call, IsSilent, IsNoTask, IsUnfetched, HasFiles, AreRefused, WasDone, IsWhole, IsPart, HadNoMemory, Comes}
 use Rattle.oc_top.specs.declared.answer.Answer.{Answer}
 use Rattle.oc_top.specs.declared.answer.Answer.TheVariants as answer
 
@@ -49,16 +52,37 @@ module _ (files : Files) (plan : Plan) (run : Verdict) (r : IsRun files plan run
       ∙ ap (λ (p : Power). with_power (program_code r.written) r.rows p plan) r.powered
       ∙ sym r.is_run
 
--- what is done is the verdict on the program that the source spells, and its answer is no refusal
-pub done_answer : (files : Files) (wanted : Wanted) (run : Verdict) → IsDone files wanted run → is_of_run run.answer ≡ true
-done_answer files (report plan) run d = run_answer files plan run d
-done_answer files regions run d = ap (λ (v : Verdict). is_of_run v.answer) d.is_text
-done_answer files listing run d = ap (λ (v : Verdict). is_of_run v.answer) d.is_text
+-- what is done is the verdict on the files, of which there is one, and its answer is no refusal
 
-done_judged : (files : Files) (wanted : Wanted) (run : Verdict) → IsDone files wanted run → IsJudged files wanted run
-done_judged files (report plan) run d = record { reading = program d.written; reads = d.spelled; is_verdict = run_verdict files plan run d }
-done_judged files regions run d = record { reading = program d.written; reads = d.spelled; is_verdict = sym d.is_text }
-done_judged files listing run d = record { reading = program d.written; reads = d.spelled; is_verdict = sym d.is_text }
+print_answer : (source : List ℕ) (text : TProgram → List ℕ) (run : Verdict) → IsPrint source text run → is_of_run run.answer ≡ true
+print_answer source text run d = ap (λ (v : Verdict). is_of_run v.answer) d.is_text
+
+print_judged : (source : List ℕ) (text : TProgram → List ℕ) (run : Verdict) → IsPrint source text run → IsVerdict source (λ reading. printed reading text) run
+print_judged source text run d = record { reading = program d.written; reads = d.spelled; is_verdict = sym d.is_text }
+
+pub done_answer : (files : List (List ℕ)) (wanted : Wanted) (run : Verdict) → IsDone files wanted run → is_of_run run.answer ≡ true
+done_answer files (report plan meters) run d = run_answer (run_files files) plan run d
+done_answer files (drill turns plan) run d = ap (λ (v : Verdict). is_of_run v.answer) (sym d.is_verdict)
+done_answer files regions run d = print_answer _ _ run d
+done_answer files listing run d = print_answer _ _ run d
+done_answer files checking run d = ap (λ (v : Verdict). is_of_run v.answer) d.is_run
+
+done_judged : (files : List (List ℕ)) (wanted : Wanted) (run : Verdict) → IsDone files wanted run → IsJudged files wanted run
+done_judged files (report plan meters) run d = record { reading = program d.written; reads = d.spelled; is_verdict = run_verdict (run_files files) plan run d }
+done_judged files (drill turns plan) run d = d
+done_judged files regions run d = print_judged _ _ run d
+done_judged files listing run d = print_judged _ _ run d
+done_judged files checking run d = safe_check _ run d
+
+same_verdict : (source : List ℕ) (on : Reading → Verdict) (a b : Verdict) → IsVerdict source on a → IsVerdict source on b → a ≡ b
+same_verdict source on a b x y = sym x.is_verdict ∙ ap on (one_reading source x.reading y.reading x.reads y.reads) ∙ y.is_verdict
+
+one_verdict : (files : List (List ℕ)) (wanted : Wanted) (a b : Verdict) → IsJudged files wanted a → IsJudged files wanted b → a ≡ b
+one_verdict files (report plan meters) a b x y = same_verdict _ _ a b x y
+one_verdict files (drill turns plan) a b x y = same_verdict _ _ a b x y
+one_verdict files regions a b x y = same_verdict _ _ a b x y
+one_verdict files listing a b x y = same_verdict _ _ a b x y
+one_verdict files checking a b x y = one_check _ a b x y
 
 -- ---- files that are held
 
@@ -72,71 +96,27 @@ not_longer untold limit bytes e l g = cc e
 not_longer nothing limit bytes e l g = g
 not_longer (content x) limit bytes e l g = let f : x ≡ bytes = cc e in omega (arith, ap length f)
 
-module _ (holds : List ℕ → Held) (words : List (List ℕ)) (first : ℕ) (files : Files) where
-  pub same_files : (other : Files) → AreAllHeld holds words first files → AreFiles holds words first other → other ≡ files
-  same_files other h f =
-      let a = gives_same _ files.source other.source h.source.told f.source.gives in
-      let b = gives_same _ files.sensors other.sensors h.sensors.told f.sensors.gives in
-      let c = gives_same _ files.power other.power h.power.told f.power.gives in
-      let made : List ℕ → List ℕ → List ℕ → Files = λ x y z. record { source = x; sensors = y; power = z } in
-      ap (λ (x : List ℕ). made x other.sensors other.power) a ∙ ap (λ (y : List ℕ). made files.source y other.power) b ∙ ap (λ (z : List ℕ). made files.source files.sensors z) c
+-- lists that are as long and have the same at each place are the same
+same_lists : (xs ys : List (List ℕ)) → length xs ≡ length ys → ((k : ℕ) → k < length ys → file_at xs k ≡ file_at ys k) → xs ≡ ys
+same_lists [] [] n h = refl
+same_lists [] (y ∷ ys) n h = absurd (omega (arith, n))
+same_lists (x ∷ xs) [] n h = absurd (omega (arith, n))
+same_lists (x ∷ xs) (y ∷ ys) n h =
+    let front : x ≡ y = h 0 (omega arith) in
+    let back : xs ≡ ys = same_lists xs ys (omega (arith, n)) (λ k l. h (suc k) (omega (arith, l))) in
+    ap (λ (z : List ℕ). z ∷ xs) front ∙ ap (λ (zs : List (List ℕ)). y ∷ zs) back
 
-  -- files that were fetched, where these are held, have the same source, and the verdict is the same
-  same_source : (wanted : Wanted) (other : Files) → AreHeld holds words first wanted files → AreWanted holds words first wanted other → other.source ≡ files.source
-  same_source (report plan) other h f = gives_same _ files.source other.source h.source.told f.source.gives
-  same_source regions other h f = gives_same _ files.source other.source h.told f.gives
-  same_source listing other h f = gives_same _ files.source other.source h.told f.gives
-
-  same_verdict : (wanted : Wanted) (other : Files) (reading : Reading) → AreHeld holds words first wanted files → AreWanted holds words first wanted other
-      → verdict_on reading other wanted ≡ verdict_on reading files wanted
-  same_verdict (report plan) other reading h f = ap (λ (x : Files). verdict reading x plan) (same_files other h f)
-  same_verdict regions other reading h f = refl
-  same_verdict listing other reading h f = refl
-
-  first_held : IsHeld (holds (word_at words first)) (limit_at 0) files.source → (bytes : List ℕ) × IsHeld (holds (word_at words (first + 0))) (limit_at 0) bytes
-  first_held h = let e : first ≡ first + 0 = omega arith in (files.source, subst (λ (n : ℕ). IsHeld (holds (word_at words n)) (limit_at 0) files.source) e h)
-
-  all_held : AreAllHeld holds words first files → (place : ℕ) → place < 3 → (bytes : List ℕ) × IsHeld (holds (word_at words (first + place))) (limit_at place) bytes
-  all_held h zero l = first_held h.source
-  all_held h (suc zero) l = (files.sensors, h.sensors)
-  all_held h (suc (suc zero)) l = (files.power, h.power)
-  all_held h (suc (suc (suc k))) l = absurd (omega arith)
-
-  source_held : IsHeld (holds (word_at words first)) (limit_at 0) files.source → (place : ℕ) → place < 1 → (bytes : List ℕ) × IsHeld (holds (word_at words (first + place))) (limit_at place) bytes
-  source_held h zero l = first_held h
-  source_held h (suc k) l = absurd (omega arith)
-
-  held_at : (wanted : Wanted) → AreHeld holds words first wanted files → (place : ℕ) → place < files_of wanted
-      → (bytes : List ℕ) × IsHeld (holds (word_at words (first + place))) (limit_at place) bytes
-  held_at (report plan) h place l = all_held h place l
-  held_at regions h place l = source_held h place l
-  held_at listing h place l = source_held h place l
+-- files that were fetched, where these are held, are these
+pub same_files : (holds : List ℕ → Held) (words : List (List ℕ)) (first : ℕ) (limits : List ℕ) (files other : List (List ℕ)) → AreHeld holds words first limits files
+    → AreFiles holds words first limits other → other ≡ files
+same_files holds words first limits files other h f =
+    let count : length files ≡ length limits = h.count in
+    same_lists other files (f.count ∙ sym count) (λ k l. let m : k < length limits = omega (arith, l, count) in gives_same _ (file_at files k) (file_at other k) (h.each k m).told (f.each k m).gives)
 
 -- a file that is held within its limit is refused for want of memory alone
 no_cause : (held : Held) (limit : ℕ) (bytes : List ℕ) (rose : Type 0) → IsHeld held limit bytes → (rose → ⊥) → rose ⊎ (held ≡ nothing) → ⊥
 no_cause held limit bytes rose h calm (inl f) = calm f
 no_cause held limit bytes rose h calm (inr gone) = cc (sym h.told ∙ gone)
-
-module _ (holds : List ℕ → Held) (words : List (List ℕ)) (first : ℕ) where
-  first_file : (files : Files) → IsFile (holds (word_at words first)) (limit_at 0) files.source → (bytes : List ℕ) × IsFile (holds (word_at words (first + 0))) (limit_at 0) bytes
-  first_file files f = let e : first ≡ first + 0 = omega arith in (files.source, subst (λ (n : ℕ). IsFile (holds (word_at words n)) (limit_at 0) files.source) e f)
-
-  file_of_run : (files : Files) → AreFiles holds words first files → (place : ℕ) → place < 3 → (bytes : List ℕ) × IsFile (holds (word_at words (first + place))) (limit_at place) bytes
-  file_of_run files f zero l = first_file files f.source
-  file_of_run files f (suc zero) l = (files.sensors, f.sensors)
-  file_of_run files f (suc (suc zero)) l = (files.power, f.power)
-  file_of_run files f (suc (suc (suc k))) l = absurd (omega arith)
-
-  only_file : (files : Files) → IsFile (holds (word_at words first)) (limit_at 0) files.source → (place : ℕ) → place < 1
-      → (bytes : List ℕ) × IsFile (holds (word_at words (first + place))) (limit_at place) bytes
-  only_file files f zero l = first_file files f
-  only_file files f (suc k) l = absurd (omega arith)
-
-  file_of : (wanted : Wanted) (files : Files) → AreWanted holds words first wanted files → (place : ℕ) → place < files_of wanted
-      → (bytes : List ℕ) × IsFile (holds (word_at words (first + place))) (limit_at place) bytes
-  file_of (report plan) files f place l = file_of_run files f place l
-  file_of regions files f place l = only_file files f place l
-  file_of listing files f place l = only_file files f place l
 
 gives_something : (held : Held) (bytes : List ℕ) → held ≡ nothing → Gives held bytes → ⊥
 gives_something untold bytes e g = cc e
@@ -146,186 +126,212 @@ gives_something (content x) bytes e g = cc e
 file_fits : (held : Held) (limit : ℕ) (bytes x : List ℕ) → held ≡ content bytes → limit < length bytes → IsFile held limit x → ⊥
 file_fits held limit bytes x e l f = let same = gives_same held bytes x e f.gives in let within = f.within in omega (arith, ap length same)
 
+-- ---- the kinds of answers
+
+-- an answer with its cause, by its kind
+pub data Cause (c : Call) (told : List ℕ) (end : Answer) : Type 0 where
+  nothing_asked : end ≡ answer.Usage → IsNoTask c told → Cause c told end
+  unread : (word : ℕ) → end ≡ answer.Unreadable word → IsUnfetched c told word (λ held limit. c.shelf.rose ⊎ (held ≡ nothing)) → Cause c told end
+  too_long : (word : ℕ) → end ≡ answer.TooLong word → IsUnfetched c told word Longer → Cause c told end
+  refused : is_refusal end ≡ true → AreRefused c told end → Cause c told end
+  done : is_of_run end ≡ true → WasDone c (IsWhole c told end) → Cause c told end
+  in_part : end ≡ answer.WriteFault → WasDone c (IsPart c told) → Cause c told end
+  no_memory : end ≡ answer.Memory → HadNoMemory c told → Cause c told end
+
+pub cause : (c : Call) (told : List ℕ) (end : Answer) → Comes c told end → Cause c told end
+cause c told answer.Usage w = nothing_asked refl w
+cause c told (answer.Unreadable word) w = unread word refl w
+cause c told (answer.TooLong word) w = too_long word refl w
+cause c told (answer.Syntax line) w = refused refl w
+cause c told (answer.Rule line rule) w = refused refl w
+cause c told (answer.BadSensors row) w = refused refl w
+cause c told (answer.BadPower row) w = refused refl w
+cause c told answer.WriteFault w = in_part refl w
+cause c told answer.End w = done refl w
+cause c told answer.Trapped w = done refl w
+cause c told answer.Dark w = done refl w
+cause c told answer.Memory w = no_memory refl w
+cause c told answer.Cut w = done refl w
+cause c told (answer.Uncovered gap) w = refused refl w
+
+abbrev is_one : ℕ → Bool
+is_one n = n == 1
+
+other_status : (n : ℕ) → is_one n ≡ false → n ≡ 1 → ⊥
+other_status n e f = absurd (true≢false (sym (ap is_one f) ∙ e))
+
+-- neither a refusal nor a run has the status of a usage, and a run has one with a text
+refusal_apart : (end : Answer) → is_refusal end ≡ true → is_one (status_of end) ≡ false
+refusal_apart answer.Usage r = absurd (true≢false (sym r))
+refusal_apart end r = refl
+
+run_apart : (end : Answer) → is_of_run end ≡ true → is_one (status_of end) ≡ false
+run_apart answer.Usage r = absurd (true≢false (sym r))
+run_apart end r = refl
+
+run_written : (end : Answer) → is_of_run end ≡ true → is_written (status_of end) ≡ true
+run_written answer.End r = refl
+run_written answer.Trapped r = refl
+run_written answer.Dark r = refl
+run_written answer.Cut r = refl
+run_written end r = absurd (true≢false (sym r))
+
 -- ---- one call
 
 same_task : (s t : Task) → ◌≡◌ {A = Option Task} (Some s) (Some t) → s ≡ t
 same_task s t e = cc
 
-module _ (c : Call) (task : Task) (asked : c.task ≡ Some task) where
+module _ (c : Call) (told : List ℕ) (task : Task) (asked : c.task ≡ Some task) where
   pub the_task : (other : Task) → c.task ≡ Some other → other ≡ task
   the_task other e = same_task other task (sym e ∙ asked)
 
+  abbrev limits : List ℕ
+  limits = limits_of task.wanted
+
   -- ---- exactly
 
-  module _ (files : Files) (held : AreHeld c.shelf.holds c.words task.first task.wanted files) where
-    judged_here : (other : Files) (reading : Reading) (run : Verdict) → AreWanted c.shelf.holds c.words task.first task.wanted other → ReadsAs files.source reading
-        → IsJudged other task.wanted run → run.answer ≡ (verdict_on reading files task.wanted).answer
-    judged_here other reading run f reads j =
-        let read = subst (λ (bytes : List ℕ). ReadsAs bytes j.reading) (same_source c.shelf.holds c.words task.first files task.wanted other held f) j.reads in
-        sym (ap (λ (v : Verdict). v.answer) j.is_verdict)
-        ∙ ap (λ (r : Reading). (verdict_on r other task.wanted).answer) (one_reading files.source j.reading reading read reads)
-        ∙ ap (λ (v : Verdict). v.answer) (same_verdict c.shelf.holds c.words task.first files task.wanted other reading held f)
+  module _ (files : List (List ℕ)) (held : AreHeld c.shelf.holds c.words task.first limits files) where
+    judged_here : (other : List (List ℕ)) (run on : Verdict) → AreFiles c.shelf.holds c.words task.first limits other → IsJudged files task.wanted on
+        → IsJudged other task.wanted run → run.answer ≡ on.answer
+    judged_here other run on f j k =
+        let same : other ≡ files = same_files c.shelf.holds c.words task.first limits files other held f in
+        let here : IsJudged files task.wanted run = subst (λ (x : List (List ℕ)). IsJudged x task.wanted run) same k in
+        ap (λ (v : Verdict). v.answer) (one_verdict files task.wanted run on here j)
 
-    judged_same : (other : Task) (found : Files) (reading : Reading) (run : Verdict) → HasFiles c other found → ReadsAs files.source reading → IsJudged found other.wanted run
-        → run.answer ≡ (verdict_on reading files task.wanted).answer
-    judged_same other found reading run f reads j =
+    judged_same : (other : Task) (found : List (List ℕ)) (run on : Verdict) → HasFiles c other found → IsJudged files task.wanted on → IsJudged found other.wanted run
+        → run.answer ≡ on.answer
+    judged_same other found run on f j k =
         let same = the_task other f.is_task in
-        judged_here found reading run
-        (subst (λ (t : Task). AreWanted c.shelf.holds c.words t.first t.wanted found) same f.are_files) reads
-        (subst (λ (t : Task). IsJudged found t.wanted run) same j)
+        judged_here found run on
+        (subst (λ (t : Task). AreFiles c.shelf.holds c.words t.first (limits_of t.wanted) found) same f.are_files) j
+        (subst (λ (t : Task). IsJudged found t.wanted run) same k)
 
-    by_refusal : (end : Answer) (reading : Reading) → ReadsAs files.source reading → AreRefused c end → end ≡ (verdict_on reading files task.wanted).answer
-    by_refusal end reading reads r = judged_same r.task r.files reading (refuses end) r.fetched reads r.judged
-
-    by_run : (end : Answer) (reading : Reading) → ReadsAs files.source reading → WasDone c (IsWhole c end) → end ≡ (verdict_on reading files task.wanted).answer
-    by_run end reading reads w = w.came.answered ∙ judged_same w.task w.files reading w.run w.fetched reads (done_judged w.files w.task.wanted w.run w.done)
-
-    held_here : (other : Task) → c.task ≡ Some other → (place : ℕ) → place < files_of other.wanted
-        → (bytes : List ℕ) × IsHeld (c.shelf.holds (word_at c.words (other.first + place))) (limit_at place) bytes
+    held_here : (other : Task) → c.task ≡ Some other → (place : ℕ) → place < length (limits_of other.wanted)
+        → (bytes : List ℕ) × IsHeld (c.shelf.holds (word_at c.words (other.first + place))) (limit_at (limits_of other.wanted) place) bytes
     held_here other e place l =
         let same = the_task other e in
-        subst (λ (t : Task). place < files_of t.wanted → (bytes : List ℕ) × IsHeld (c.shelf.holds (word_at c.words (t.first + place))) (limit_at place) bytes) (sym same)
-        (λ m. held_at c.shelf.holds c.words task.first files task.wanted held place m) l
+        subst (λ (t : Task). place < length (limits_of t.wanted)
+        → (bytes : List ℕ) × IsHeld (c.shelf.holds (word_at c.words (t.first + place))) (limit_at (limits_of t.wanted) place) bytes) (sym same)
+        (λ m. (file_at files place, held.each place m)) l
 
-    pub exactly : (reading : Reading) → ReadsAs files.source reading → (c.shelf.rose → ⊥) → (c.out.rose → ⊥)
-        → (end : Answer) → Comes c end → (end ≡ (verdict_on reading files task.wanted).answer) ⊎ (end ≡ answer.Memory)
-    exactly reading reads calm silent answer.End w = inl (by_run answer.End reading reads w)
-    exactly reading reads calm silent answer.Usage w = cc (sym w.none ∙ asked)
-    exactly reading reads calm silent (answer.Unreadable word) w =
+    -- the answer of this verdict, or there was no memory
+    by_cause : (on : Verdict) → IsJudged files task.wanted on → (c.shelf.rose → ⊥) → (c.out.rose → ⊥) → (end : Answer) → Cause c told end
+        → (end ≡ on.answer) ⊎ (end ≡ answer.Memory)
+    by_cause on j calm silent end (nothing_asked e w) = cc (sym w.none ∙ asked)
+    by_cause on j calm silent end (unread word e w) =
         let h = held_here w.task w.is_task w.place w.among in
         absurd (no_cause _ _ h.0 c.shelf.rose h.1 calm w.is_cause)
-    exactly reading reads calm silent (answer.TooLong word) w =
+    by_cause on j calm silent end (too_long word e w) =
         let h = held_here w.task w.is_task w.place w.among in
         absurd (not_longer _ _ h.0 h.1.told h.1.within w.is_cause)
-    exactly reading reads calm silent (answer.Syntax line) w = inl (by_refusal (answer.Syntax line) reading reads w)
-    exactly reading reads calm silent (answer.Rule line rule) w = inl (by_refusal (answer.Rule line rule) reading reads w)
-    exactly reading reads calm silent (answer.BadSensors row) w = inl (by_refusal (answer.BadSensors row) reading reads w)
-    exactly reading reads calm silent (answer.BadPower row) w = inl (by_refusal (answer.BadPower row) reading reads w)
-    exactly reading reads calm silent answer.Trapped w = inl (by_run answer.Trapped reading reads w)
-    exactly reading reads calm silent answer.Dark w = inl (by_run answer.Dark reading reads w)
-    exactly reading reads calm silent answer.WriteFault w = absurd (silent w.came.rose)
-    exactly reading reads calm silent answer.Memory w = inr refl
-    exactly reading reads calm silent answer.Cut w = inl (by_run answer.Cut reading reads w)
+    by_cause on j calm silent end (refused e w) = inl (judged_same w.task w.files (refuses end) on w.fetched j w.judged)
+    by_cause on j calm silent end (done e w) = inl (w.came.answered ∙ judged_same w.task w.files w.run on w.fetched j (done_judged w.files w.task.wanted w.run w.done))
+    by_cause on j calm silent end (in_part e w) = absurd (silent w.came.written.rose)
+    by_cause on j calm silent end (no_memory e w) = inr e
+
+    pub exactly : (on : Verdict) → IsJudged files task.wanted on → (c.shelf.rose → ⊥) → (c.out.rose → ⊥) → (end : Answer) → Comes c told end
+        → (end ≡ on.answer) ⊎ (end ≡ answer.Memory)
+    exactly on j calm silent end w = by_cause on j calm silent end (cause c told end w)
 
   -- ---- files that aren't there, or are too long
 
-  module _ (place : ℕ) (among : place < files_of task.wanted) where
-    fetched_here : (other : Task) (files : Files) → HasFiles c other files → (bytes : List ℕ) × IsFile (c.shelf.holds (word_at c.words (task.first + place))) (limit_at place) bytes
+  module _ (place : ℕ) (among : place < length limits) where
+    fetched_here : (other : Task) (files : List (List ℕ)) → HasFiles c other files
+        → (bytes : List ℕ) × IsFile (c.shelf.holds (word_at c.words (task.first + place))) (limit_at limits place) bytes
     fetched_here other files f =
-        file_of c.shelf.holds c.words task.first task.wanted files
-        (subst (λ (t : Task). AreWanted c.shelf.holds c.words t.first t.wanted files) (the_task other f.is_task) f.are_files) place among
+        let are = subst (λ (t : Task). AreFiles c.shelf.holds c.words t.first (limits_of t.wanted) files) (the_task other f.is_task) f.are_files in
+        (file_at files place, are.each place among)
 
     module _ (gone : c.shelf.holds (word_at c.words (task.first + place)) ≡ nothing) where
-      not_gone : (other : Task) (files : Files) → HasFiles c other files → ⊥
+      not_gone : (other : Task) (files : List (List ℕ)) → HasFiles c other files → ⊥
       not_gone other files f = let g = fetched_here other files f in gives_something _ g.0 gone g.1.gives
 
-      pub missing : (end : Answer) → Comes c end → (status_of end ≡ 2) ⊎ ((status_of end ≡ 3) ⊎ (status_of end ≡ 11))
-      missing answer.End w = absurd (not_gone w.task w.files w.fetched)
-      missing answer.Usage w = cc (sym w.none ∙ asked)
-      missing (answer.Unreadable word) w = inl refl
-      missing (answer.TooLong word) w = inr (inl refl)
-      missing (answer.Syntax line) w = absurd (not_gone w.task w.files w.fetched)
-      missing (answer.Rule line rule) w = absurd (not_gone w.task w.files w.fetched)
-      missing (answer.BadSensors row) w = absurd (not_gone w.task w.files w.fetched)
-      missing (answer.BadPower row) w = absurd (not_gone w.task w.files w.fetched)
-      missing answer.Trapped w = absurd (not_gone w.task w.files w.fetched)
-      missing answer.Dark w = absurd (not_gone w.task w.files w.fetched)
-      missing answer.WriteFault w = absurd (not_gone w.task w.files w.fetched)
-      missing answer.Memory w = inr (inr refl)
-      missing answer.Cut w = absurd (not_gone w.task w.files w.fetched)
+      missing_by : (end : Answer) → Cause c told end → (status_of end ≡ 2) ⊎ ((status_of end ≡ 3) ⊎ (status_of end ≡ 11))
+      missing_by end (nothing_asked e w) = cc (sym w.none ∙ asked)
+      missing_by end (unread word e w) = inl (ap status_of e)
+      missing_by end (too_long word e w) = inr (inl (ap status_of e))
+      missing_by end (refused e w) = absurd (not_gone w.task w.files w.fetched)
+      missing_by end (done e w) = absurd (not_gone w.task w.files w.fetched)
+      missing_by end (in_part e w) = absurd (not_gone w.task w.files w.fetched)
+      missing_by end (no_memory e w) = inr (inr (ap status_of e))
 
-    module _ (bytes : List ℕ) (told : c.shelf.holds (word_at c.words (task.first + place)) ≡ content bytes) (over : limit_at place < length bytes)
-        (before : AreHeldBefore c.shelf.holds c.words task.first place) (calm : c.shelf.rose → ⊥) where
-      no_fit : (other : Task) (files : Files) → HasFiles c other files → ⊥
-      no_fit other files f = let g = fetched_here other files f in file_fits _ _ bytes g.0 told over g.1
+      pub missing : (end : Answer) → Comes c told end → (status_of end ≡ 2) ⊎ ((status_of end ≡ 3) ⊎ (status_of end ≡ 11))
+      missing end w = missing_by end (cause c told end w)
+
+    module _ (bytes : List ℕ) (there : c.shelf.holds (word_at c.words (task.first + place)) ≡ content bytes) (over : limit_at limits place < length bytes)
+        (before : AreHeldBefore c.shelf.holds c.words task.first limits place) (calm : c.shelf.rose → ⊥) where
+      no_fit : (other : Task) (files : List (List ℕ)) → HasFiles c other files → ⊥
+      no_fit other files f = let g = fetched_here other files f in file_fits _ _ bytes g.0 there over g.1
 
       -- where a file couldn't be read, it is none of those before this one, nor this one, nor one behind it
-      no_fault : (at : ℕ) → WereFetched c.shelf.holds c.words task.first at → c.shelf.rose ⊎ (c.shelf.holds (word_at c.words (task.first + at)) ≡ nothing)
+      no_fault : (at : ℕ) → WereFetched c.shelf.holds c.words task.first limits at → c.shelf.rose ⊎ (c.shelf.holds (word_at c.words (task.first + at)) ≡ nothing)
           → (at ≡ place) ⊎ ((at < place) ⊎ (place < at)) → ⊥
       no_fault at were (inl f) o = calm f
-      no_fault at were (inr none) (inl here) = cc (sym told ∙ ap (λ (k : ℕ). c.shelf.holds (word_at c.words (task.first + k))) (sym here) ∙ none)
+      no_fault at were (inr none) (inl here) = cc (sym there ∙ ap (λ (k : ℕ). c.shelf.holds (word_at c.words (task.first + k))) (sym here) ∙ none)
       no_fault at were (inr none) (inr (inl earlier)) = let h = before at earlier in cc (sym h.1.told ∙ none)
-      no_fault at were (inr none) (inr (inr later)) = let f = were place later in file_fits _ _ bytes f.0 told over f.1
+      no_fault at were (inr none) (inr (inr later)) = let f = were place later in file_fits _ _ bytes f.0 there over f.1
 
-      unread_here : (word : ℕ) → IsUnfetched c word (λ held limit. c.shelf.rose ⊎ (held ≡ nothing)) → ⊥
+      unread_here : (word : ℕ) → IsUnfetched c told word (λ held limit. c.shelf.rose ⊎ (held ≡ nothing)) → ⊥
       unread_here word w =
           let same = the_task w.task w.is_task in
-          no_fault w.place (subst (λ (t : Task). WereFetched c.shelf.holds c.words t.first w.place) same w.before)
+          no_fault w.place (subst (λ (t : Task). WereFetched c.shelf.holds c.words t.first (limits_of t.wanted) w.place) same w.before)
           (subst (λ (t : Task). c.shelf.rose ⊎ (c.shelf.holds (word_at c.words (t.first + w.place)) ≡ nothing)) same w.is_cause)
           (cases_order w.place place)
 
-      pub long : (end : Answer) → Comes c end → (status_of end ≡ 3) ⊎ (status_of end ≡ 11)
-      long answer.End w = absurd (no_fit w.task w.files w.fetched)
-      long answer.Usage w = cc (sym w.none ∙ asked)
-      long (answer.Unreadable word) w = absurd (unread_here word w)
-      long (answer.TooLong word) w = inl refl
-      long (answer.Syntax line) w = absurd (no_fit w.task w.files w.fetched)
-      long (answer.Rule line rule) w = absurd (no_fit w.task w.files w.fetched)
-      long (answer.BadSensors row) w = absurd (no_fit w.task w.files w.fetched)
-      long (answer.BadPower row) w = absurd (no_fit w.task w.files w.fetched)
-      long answer.Trapped w = absurd (no_fit w.task w.files w.fetched)
-      long answer.Dark w = absurd (no_fit w.task w.files w.fetched)
-      long answer.WriteFault w = absurd (no_fit w.task w.files w.fetched)
-      long answer.Memory w = inr refl
-      long answer.Cut w = absurd (no_fit w.task w.files w.fetched)
+      long_by : (end : Answer) → Cause c told end → (status_of end ≡ 3) ⊎ (status_of end ≡ 11)
+      long_by end (nothing_asked e w) = cc (sym w.none ∙ asked)
+      long_by end (unread word e w) = absurd (unread_here word w)
+      long_by end (too_long word e w) = inl (ap status_of e)
+      long_by end (refused e w) = absurd (no_fit w.task w.files w.fetched)
+      long_by end (done e w) = absurd (no_fit w.task w.files w.fetched)
+      long_by end (in_part e w) = absurd (no_fit w.task w.files w.fetched)
+      long_by end (no_memory e w) = inr (ap status_of e)
 
-module _ (c : Call) where
+      pub long : (end : Answer) → Comes c told end → (status_of end ≡ 3) ⊎ (status_of end ≡ 11)
+      long end w = long_by end (cause c told end w)
+
+module _ (c : Call) (told : List ℕ) where
   -- ---- usage
 
-  abbrev is_one : ℕ → Bool
-  is_one n = n == 1
-
-  other_status : (n : ℕ) → is_one n ≡ false → n ≡ 1 → ⊥
-  other_status n e f = absurd (true≢false (sym (ap is_one f) ∙ e))
-
   -- a usage is answered only where nothing is asked for, and there always
-  pub no_task : (end : Answer) → Comes c end → status_of end ≡ 1 → c.task ≡ None
-  no_task answer.End w s = absurd (other_status 0 refl s)
-  no_task answer.Usage w s = w.none
-  no_task (answer.Unreadable word) w s = absurd (other_status 2 refl s)
-  no_task (answer.TooLong word) w s = absurd (other_status 3 refl s)
-  no_task (answer.Syntax line) w s = absurd (other_status 4 refl s)
-  no_task (answer.Rule line rule) w s = absurd (other_status 5 refl s)
-  no_task (answer.BadSensors row) w s = absurd (other_status 6 refl s)
-  no_task (answer.BadPower row) w s = absurd (other_status 7 refl s)
-  no_task answer.Trapped w s = absurd (other_status 8 refl s)
-  no_task answer.Dark w s = absurd (other_status 9 refl s)
-  no_task answer.WriteFault w s = absurd (other_status 10 refl s)
-  no_task answer.Memory w s = absurd (other_status 11 refl s)
-  no_task answer.Cut w s = absurd (other_status 12 refl s)
+  no_task_by : (end : Answer) → Cause c told end → status_of end ≡ 1 → c.task ≡ None
+  no_task_by end (nothing_asked e w) s = w.none
+  no_task_by end (unread word e w) s = absurd (other_status 2 refl (sym (ap status_of e) ∙ s))
+  no_task_by end (too_long word e w) s = absurd (other_status 3 refl (sym (ap status_of e) ∙ s))
+  no_task_by end (refused e w) s = absurd (other_status (status_of end) (refusal_apart end e) s)
+  no_task_by end (done e w) s = absurd (other_status (status_of end) (run_apart end e) s)
+  no_task_by end (in_part e w) s = absurd (other_status 10 refl (sym (ap status_of e) ∙ s))
+  no_task_by end (no_memory e w) s = absurd (other_status 11 refl (sym (ap status_of e) ∙ s))
+
+  pub no_task : (end : Answer) → Comes c told end → status_of end ≡ 1 → c.task ≡ None
+  no_task end w s = no_task_by end (cause c told end w) s
 
   module _ (none : c.task ≡ None) where
     not_asked : (task : Task) → c.task ≡ Some task → ⊥
     not_asked task e = cc (sym none ∙ e)
 
-    pub usage : (end : Answer) → Comes c end → status_of end ≡ 1
-    usage answer.End w = absurd (not_asked w.task w.fetched.is_task)
-    usage answer.Usage w = refl
-    usage (answer.Unreadable word) w = absurd (not_asked w.task w.is_task)
-    usage (answer.TooLong word) w = absurd (not_asked w.task w.is_task)
-    usage (answer.Syntax line) w = absurd (not_asked w.task w.fetched.is_task)
-    usage (answer.Rule line rule) w = absurd (not_asked w.task w.fetched.is_task)
-    usage (answer.BadSensors row) w = absurd (not_asked w.task w.fetched.is_task)
-    usage (answer.BadPower row) w = absurd (not_asked w.task w.fetched.is_task)
-    usage answer.Trapped w = absurd (not_asked w.task w.fetched.is_task)
-    usage answer.Dark w = absurd (not_asked w.task w.fetched.is_task)
-    usage answer.WriteFault w = absurd (not_asked w.task w.fetched.is_task)
-    usage answer.Memory w = absurd (not_asked w.task w.is_task)
-    usage answer.Cut w = absurd (not_asked w.task w.fetched.is_task)
+    usage_by : (end : Answer) → Cause c told end → status_of end ≡ 1
+    usage_by end (nothing_asked e w) = ap status_of e
+    usage_by end (unread word e w) = absurd (not_asked w.task w.is_task)
+    usage_by end (too_long word e w) = absurd (not_asked w.task w.is_task)
+    usage_by end (refused e w) = absurd (not_asked w.task w.fetched.is_task)
+    usage_by end (done e w) = absurd (not_asked w.task w.fetched.is_task)
+    usage_by end (in_part e w) = absurd (not_asked w.task w.fetched.is_task)
+    usage_by end (no_memory e w) = absurd (not_asked w.task w.is_task)
+
+    pub usage : (end : Answer) → Comes c told end → status_of end ≡ 1
+    usage end w = usage_by end (cause c told end w)
 
   -- ---- what is written
 
-  pub quiet : (end : Answer) → Comes c end → is_written (status_of end) ≡ false → c.out.took []
-  quiet answer.End w e = absurd (true≢false e)
-  quiet answer.Usage w e = w.silent
-  quiet (answer.Unreadable word) w e = w.silent
-  quiet (answer.TooLong word) w e = w.silent
-  quiet (answer.Syntax line) w e = w.silent
-  quiet (answer.Rule line rule) w e = w.silent
-  quiet (answer.BadSensors row) w e = w.silent
-  quiet (answer.BadPower row) w e = w.silent
-  quiet answer.Trapped w e = absurd (true≢false e)
-  quiet answer.Dark w e = absurd (true≢false e)
-  quiet answer.WriteFault w e = absurd (true≢false e)
-  quiet answer.Memory w e = w.silent
-  quiet answer.Cut w e = absurd (true≢false e)
+  quiet_by : (end : Answer) → Cause c told end → is_written (status_of end) ≡ false → c.out.took []
+  quiet_by end (nothing_asked e w) s = w.silent.unwritten
+  quiet_by end (unread word e w) s = w.silent.unwritten
+  quiet_by end (too_long word e w) s = w.silent.unwritten
+  quiet_by end (refused e w) s = w.silent.unwritten
+  quiet_by end (done e w) s = absurd (true≢false (sym (run_written end e) ∙ s))
+  quiet_by end (in_part e w) s = absurd (true≢false (sym (ap (λ (x : Answer). is_written (status_of x)) e) ∙ s))
+  quiet_by end (no_memory e w) s = w.silent.unwritten
+
+  pub quiet : (end : Answer) → Comes c told end → is_written (status_of end) ≡ false → c.out.took []
+  quiet end w s = quiet_by end (cause c told end w) s

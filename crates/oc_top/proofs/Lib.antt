@@ -10,11 +10,15 @@ pub mod Variables
 pub mod Writing
 pub mod Stopping
 pub mod Asking
+pub mod Commanding
 pub mod Parsing
 pub mod OneReading
 pub mod Exactly
 pub mod Working
+pub mod Drilling
+pub mod Metering
 pub mod StandardPlans
 pub mod Naming
 pub mod Showing
 pub mod Printing
+pub mod Checking

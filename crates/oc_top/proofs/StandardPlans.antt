@@ -3,17 +3,18 @@ use Rattle.std.proofs.Common.{ℕ, zero, suc, ◌≡◌, ◌<◌, ◌∙◌, Boo
 use Rattle.std.specs.Prelude.{◌==◌, option_map, if◌then◌else◌}
 use Rattle.oc_power.specs.Cutting.{cut_rows}
 use Rattle.oc_power.specs.Looping.{looped}
-use Rattle.oc_top.specs.Commands.{Plan, Plans, command_of, plans_of, task_for, task_of, with_plan}
+use Rattle.oc_meters.specs.Tally.{Reading, reading, readings}
+use Rattle.oc_top.specs.Commands.{Plan, Plans, command_of, plans_of, task_for, task_of, with_drill, with_plan}
 use Rattle.oc_top.specs.declared.command.Command.{Command}
 use Rattle.oc_top.specs.declared.command.Command.TheVariants as commands
-use Rattle.oc_top.specs.Supplies.{standard_plans}
+use Rattle.oc_top.specs.Supplies.{standard_meters, standard_plans}
 
 -- plans that give the same for each number give the same task
-same_task_for : (p q : Plans) → ((k : ℕ) → p k ≡ q k) → (command : Option Command) → task_for p command ≡ task_for q command
-same_task_for p q h None = refl
-same_task_for p q h (Some (commands.Run supply first)) = ap (λ (o : Option Plan). with_plan first o) (h supply)
-same_task_for p q h (Some (commands.Regions first)) = refl
-same_task_for p q h (Some (commands.Build first)) = refl
+same_task_for : (p q : Plans) (meters : List Reading) → ((k : ℕ) → p k ≡ q k) → (command : Option Command) → task_for p meters command ≡ task_for q meters command
+same_task_for p q meters h None = refl
+same_task_for p q meters h (Some (commands.Run supply first metered)) = ap (λ (o : Option Plan). with_plan first (if metered then Some meters else None) o) (h supply)
+same_task_for p q meters h (Some (commands.Drill turns)) = ap (λ (o : Option Plan). with_drill turns o) (h 0)
+same_task_for p q meters h (Some other) = refl
 
 unlike : (n k : ℕ) → n < k → (n == k) ≡ false
 unlike n k h = grind (arith, h)
@@ -43,7 +44,19 @@ module _ {B : Type 0} (boxes : List B) (number : B → ℕ) (plan : B → Plan) 
       ap (λ (x : ℕ). chosen x (number b) (number c) k) zero_is ∙ ap (λ (y : ℕ). chosen 0 y (number c) k) one_is ∙ ap (λ (z : ℕ). chosen 0 1 z k) two_is
       ∙ chosen_is k
 
-  pub standard_task : (words : List (List ℕ)) → boxes ≡ a ∷ b ∷ c ∷ [] → task_of (plans_of number plan boxes) words ≡ task_of standard_plans words
-  standard_task words is =
-      ap (λ (bs : List B). task_of (plans_of number plan bs) words) is
-      ∙ same_task_for (plans_of number plan (a ∷ b ∷ c ∷ [])) standard_plans plans_are (command_of words)
+  pub standard_task : (meters : List Reading) (words : List (List ℕ)) → boxes ≡ a ∷ b ∷ c ∷ [] → task_of (plans_of number plan boxes) meters words ≡ task_of standard_plans meters words
+  standard_task meters words is =
+      ap (λ (bs : List B). task_of (plans_of number plan bs) meters words) is
+      ∙ same_task_for (plans_of number plan (a ∷ b ∷ c ∷ [])) standard_plans meters plans_are (command_of words)
+
+-- the program's own meters, from zero on
+module _ {M : Type 0} (kind : M → ℕ) (numbers : M → List ℕ) (a b c : M) (counts : reading kind numbers a ≡ record { kind = 0; numbers = 0 ∷ 0 ∷ 0 ∷ 0 ∷ 0 ∷ [] })
+    (offs : reading kind numbers b ≡ record { kind = 1; numbers = 0 ∷ 0 ∷ [] }) (retries : reading kind numbers c ≡ record { kind = 2; numbers = 0 ∷ 0 ∷ [] }) where
+  abbrev three : Reading → Reading → Reading → List Reading
+  three x y z = x ∷ y ∷ z ∷ []
+
+  pub own_meters : (boxes : List M) → boxes ≡ a ∷ b ∷ c ∷ [] → readings kind numbers boxes ≡ standard_meters
+  own_meters boxes is =
+      ap (readings kind numbers) is ∙ ap (λ (x : Reading). three x (reading kind numbers b) (reading kind numbers c)) counts
+      ∙ ap (λ (y : Reading). three (record { kind = 0; numbers = 0 ∷ 0 ∷ 0 ∷ 0 ∷ 0 ∷ [] }) y (reading kind numbers c)) offs
+      ∙ ap (λ (z : Reading). three (record { kind = 0; numbers = 0 ∷ 0 ∷ 0 ∷ 0 ∷ 0 ∷ [] }) (record { kind = 1; numbers = 0 ∷ 0 ∷ [] }) z) retries

@@ -23,9 +23,9 @@ use Rattle.oc_io.specs.Faults.{Rose, TookPart}
 use Rattle.oc_io.proofs.Going.{Both}
 use Rattle.oc_sensors.specs.declared.sensors.Row.{Row}
 use Rattle.oc_sensors.specs.History.{history}
-use Rattle.oc_top.specs.Verdict.{Verdict, runs}
+use Rattle.oc_top.specs.Verdict.{runs, says}
 use Rattle.oc_top.specs.Answers.{writes, IsWritten, in_part}
-use Rattle.oc_top.proofs.Writing.{Stays, flushed_written, written_after}
+use Rattle.oc_top.proofs.Writing.{Stays, flushed_written, same_written, written_after}
 use Rattle.oc_top.specs.Reports.{last_said, answer_by, answer_of, text_of}
 use Rattle.oc_top.specs.declared.answer.Answer.{Answer}
 use Rattle.oc_top.specs.declared.answer.Answer.TheVariants as answer
@@ -45,7 +45,7 @@ over_of [] t = refl
 over_of (u ∷ []) t = refl
 over_of (u ∷ v ∷ rest) t = over_of (v ∷ rest) t
 
-over_is : (report : List Told) (s : Said) (b : Bool) → EndsWith report s → ((tick : ℕ) → ends (item_of (record { tick = tick; said = s })) ≡ b) → is_over (map item_of report) ≡ b
+pub over_is : (report : List Told) (s : Said) (b : Bool) → EndsWith report s → ((tick : ℕ) → ends (item_of (record { tick = tick; said = s })) ≡ b) → is_over (map item_of report) ≡ b
 over_is report s b e h = ap (λ (r : List Told). is_over (map item_of r)) e.2 ∙ over_of e.0 _ ∙ h e.1
 
 module _ (parts : Parts) (h : ℕ → ℕ → ℤ) (periods : List Period) where
@@ -103,9 +103,6 @@ module _ (parts : Parts) (h : ℕ → ℕ → ℤ) (periods : List Period) where
 
 -- ---- what is written
 
-same_verdict : (x y : Answer) (s t : List ℕ) → x ≡ y → s ≡ t → ◌≡◌ {A = Verdict} (record { answer = x; text = s }) (record { answer = y; text = t })
-same_verdict x y s t p q = ap (λ (z : Answer). record { answer = z; text = s }) p ∙ ap (λ (z : List ℕ). record { answer = y; text = z }) q
-
 module _ {S : Type 0} (took : S → List ℕ → S → Type 0) (held : S → List ℕ) (faults : S → ℕ) (both : Both took) (parts : Parts) (rows : List Row) (periods : List Period) where
   abbrev run : World
   run = world parts (history rows) periods
@@ -130,24 +127,19 @@ module _ {S : Type 0} (took : S → List ℕ → S → Type 0) (held : S → Lis
   stopped_at : (stop : Stop) (count : ℕ) → stop ≡ stop_of count run.state.phase → stop_answer stop ≡ answer_at parts (history rows) periods run.state.phase
   stopped_at stop count e = ap stop_answer e ∙ stop_at count run.state.phase
 
-  verdict_at : (x : Answer) → x ≡ answer_at parts (history rows) periods run.state.phase
-      → ◌≡◌ {A = Verdict} (record { answer = x; text = text ++ cond (is_over_with parts (history rows) periods x) (variables parts (history rows) periods) [] }) (runs parts rows periods)
-  verdict_at x e = same_verdict x _ _ _ (e ∙ sym (answer_is parts (history rows) periods))
-      (ap (λ (z : Answer). text ++ cond (is_over_with parts (history rows) periods z) (variables parts (history rows) periods) []) e ∙ sym (text_is parts (history rows) periods))
-
   as_run : (a c : S) (x end : Answer) → x ≡ answer_at parts (history rows) periods run.state.phase
-      → IsWritten (writes took held faults a c)
-      (record { answer = x; text = text ++ cond (is_over_with parts (history rows) periods x) (variables parts (history rows) periods) [] }) end
+      → IsWritten (writes took held faults a c) (says x (text ++ cond (is_over_with parts (history rows) periods x) (variables parts (history rows) periods) [])) end
       → IsWritten (writes took held faults a c) (runs parts rows periods) end
-  as_run a c x end e w = subst (λ (v : Verdict). IsWritten (writes took held faults a c) v end) (verdict_at x e) w
+  as_run a c x end e w = same_written _ _ (runs parts rows periods) end (e ∙ sym (answer_is parts (history rows) periods))
+      (ap (λ (z : Answer). text ++ cond (is_over_with parts (history rows) periods z) (variables parts (history rows) periods) []) e ∙ sym (text_is parts (history rows) periods)) w
 
   pub ended_written : (a b c : S) (count : ℕ) (end : Answer) → stops.End ≡ stop_of count run.state.phase → faults a ≤ faults b → took a text b
-      → IsWritten (writes took held faults b c) (record { answer = answer.End; text = variables parts (history rows) periods }) end
+      → IsWritten (writes took held faults b c) (says answer.End (variables parts (history rows) periods)) end
       → IsWritten (writes took held faults a c) (runs parts rows periods) end
   ended_written a b c count end e le t w = as_run a c answer.End end (stopped_at stops.End count e) (written_after took held faults both a b c text _ end le t w)
 
   pub trapped_written : (a b c : S) (count : ℕ) (end : Answer) (kind : TrapKind) (site : ℕ) → stops.Trap kind site ≡ stop_of count run.state.phase → faults a ≤ faults b → took a text b
-      → IsWritten (writes took held faults b c) (record { answer = answer.Trapped; text = variables parts (history rows) periods }) end
+      → IsWritten (writes took held faults b c) (says answer.Trapped (variables parts (history rows) periods)) end
       → IsWritten (writes took held faults a c) (runs parts rows periods) end
   trapped_written a b c count end kind site e le t w = as_run a c answer.Trapped end (stopped_at (stops.Trap kind site) count e) (written_after took held faults both a b c text _ end le t w)
 
@@ -155,7 +147,7 @@ module _ {S : Type 0} (took : S → List ℕ → S → Type 0) (held : S → Lis
       → faults a ≤ faults b → took a text b → took b [] c → Stays x end (held c) (Rose (faults b) (faults c)) → IsWritten (writes took held faults a c) (runs parts rows periods) end
   flushed_run a b c x end e no_more le t n s =
       let whole_text : text ≡ text ++ cond (is_over_with parts (history rows) periods x) (variables parts (history rows) periods) [] = rw no_more (sym (append-nil text)) in
-      as_run a c x end e (subst (λ (u : List ℕ). IsWritten (writes took held faults a c) (record { answer = x; text = u }) end) whole_text
+      as_run a c x end e (subst (λ (u : List ℕ). IsWritten (writes took held faults a c) (says x u) end) whole_text
       (flushed_written took held faults both a b c x end text le t n s))
 
   pub dark_written : (a b c : S) (count : ℕ) (end : Answer) → stops.Dark ≡ stop_of count run.state.phase → faults a ≤ faults b → took a text b → took b [] c

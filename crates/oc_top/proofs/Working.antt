@@ -1,5 +1,5 @@
 -- What a call does, from its answer and that answer's cause; and where its periods suffice a run ends by itself.
-use Rattle.std.proofs.Common.{ℕ, suc, ◌+◌, ◌≡◌, ◌⊎◌, ◌∙◌, sym, ap, refl, subst, inl, inr, ℤ, List, [], ◌∷◌, ◌++◌, Bool, true, false, Some}
+use Rattle.std.proofs.Common.{ℕ, suc, ◌+◌, ◌≡◌, ◌⊎◌, ◌∙◌, sym, ap, refl, subst, inl, inr, ℤ, List, [], ◌∷◌, ◌++◌, Bool, true, false, Option, Some}
 use Rattle.std.specs.Prelude.{if◌then◌else◌}
 use Rattle.oc_io.specs.declared.period.Period.{Period}
 use Rattle.oc_power.specs.Power.{Power, power_file}
@@ -21,13 +21,14 @@ use Rattle.oc_outage.specs.Honest.{loses_checkpoint}
 use Rattle.oc_outage.proofs.Lasting.{lost_exactly, over_exactly}
 use Rattle.oc_bounds.specs.Bounds.{AreSafe}
 use Rattle.oc_top.specs.Meant.{program_code, program_bounds}
-use Rattle.oc_top.specs.Commands.{Plan, Wanted, report, Task}
-use Rattle.oc_top.specs.Files.{Files, AreFiles, AreWanted, AreHeld, AreAllHeld}
+use Rattle.oc_meters.specs.Tally.{Reading}
+use Rattle.oc_top.specs.Commands.{Plan, Wanted, report, limits_of, Task}
+use Rattle.oc_top.specs.Files.{Files, AreFiles, AreHeld, run_files}
 use Rattle.oc_top.specs.Sources.{program, ReadsAs}
 use Rattle.oc_top.specs.Reports.{answer_by, answer_of, last_said}
-use Rattle.oc_top.specs.Verdict.{Verdict, verdict_on, is_of_run, with_sensors, with_power}
+use Rattle.oc_top.specs.Verdict.{Verdict, verdict, is_of_run, with_sensors, with_power}
 use Rattle.oc_top.specs.Headline.{IsRun}
-use Rattle.oc_top.specs.Answers.{status_of, is_written, line_of, IsDone, Writes, TookAll, TookFront, Call, HasFiles, Comes}
+use Rattle.oc_top.specs.Answers.{status_of, is_written, line_of, IsJudged, IsDone, Writes, TookAll, TookFront, Call, HasFiles, Comes}
 use Rattle.oc_top.specs.Works.{Works}
 use Rattle.oc_top.specs.declared.answer.Answer.{Answer}
 use Rattle.oc_top.specs.declared.answer.Answer.TheVariants as answer
@@ -75,65 +76,73 @@ same_periods a b e = cc
 
 -- ---- enough
 
-module _ (c : Call) (task : Task) (asked : c.task ≡ Some task) (plan : Plan) (is_report : task.wanted ≡ report plan) (files : Files) (held : AreHeld c.shelf.holds c.words task.first task.wanted files)
-    (p : TProgram) (reads : ReadsAs files.source (program p)) (rows : List Row) (sensed : sensor_file p.names.sensors files.sensors ≡ sensor_rows.readings rows)
-    (periods : List Period) (powered : power_file files.power ≡ power_rows.periods periods) (safe : AreSafe (program_bounds p) (suc (program_bounds p).total) (plan periods)) where
-  all_held : AreAllHeld c.shelf.holds c.words task.first files
-  all_held = subst (λ (w : Wanted). AreHeld c.shelf.holds c.words task.first w files) is_report held
-
+module _ (c : Call) (told : List ℕ) (task : Task) (asked : c.task ≡ Some task) (plan : Plan) (meters : Option (List Reading)) (is_report : task.wanted ≡ report plan meters)
+    (files : List (List ℕ)) (held : AreHeld c.shelf.holds c.words task.first (limits_of task.wanted) files)
+    (p : TProgram) (reads : ReadsAs (run_files files).source (program p)) (rows : List Row) (sensed : sensor_file p.names.sensors (run_files files).sensors ≡ sensor_rows.readings rows)
+    (periods : List Period) (powered : power_file (run_files files).power ≡ power_rows.periods periods)
+    (safe : AreSafe (program_bounds p) (suc (program_bounds p).total) (plan periods)) where
   -- a run of these files ends by itself
-  ends : (found : Files) (run : Verdict) → found ≡ files → IsRun found plan run → (run.answer ≡ answer.End) ⊎ (run.answer ≡ answer.Trapped)
+  ends : (found : List (List ℕ)) (run : Verdict) → found ≡ files → IsRun (run_files found) plan run → (run.answer ≡ answer.End) ⊎ (run.answer ≡ answer.Trapped)
   ends found run there r =
-      let written = same_written r.written p (one_reading files.source (program r.written) (program p) (subst (λ (f : Files). ReadsAs f.source (program r.written)) there r.spelled) reads) in
-      let told = same_periods r.periods periods (sym r.powered ∙ ap (λ (f : Files). power_file f.power) there ∙ powered) in
-      run_ends found plan run r
+      let written = same_written r.written p
+      (one_reading (run_files files).source (program r.written) (program p) (subst (λ (f : List (List ℕ)). ReadsAs (run_files f).source (program r.written)) there r.spelled) reads) in
+      let periods_are = same_periods r.periods periods (sym r.powered ∙ ap (λ (f : List (List ℕ)). power_file (run_files f).power) there ∙ powered) in
+      run_ends (run_files found) plan run r
       (subst (λ (q : TProgram). AreSafe (program_bounds q) (suc (program_bounds q).total) (plan r.periods)) (sym written)
-      (subst (λ (ps : List Period). AreSafe (program_bounds p) (suc (program_bounds p).total) (plan ps)) (sym told) safe))
+      (subst (λ (ps : List Period). AreSafe (program_bounds p) (suc (program_bounds p).total) (plan ps)) (sym periods_are) safe))
 
-  done_ends : (other : Task) (found : Files) (run : Verdict) → HasFiles c other found → IsDone found other.wanted run → (run.answer ≡ answer.End) ⊎ (run.answer ≡ answer.Trapped)
+  done_ends : (other : Task) (found : List (List ℕ)) (run : Verdict) → HasFiles c other found → IsDone found other.wanted run → (run.answer ≡ answer.End) ⊎ (run.answer ≡ answer.Trapped)
   done_ends other found run f done =
-      let same = the_task c task asked other f.is_task in
-      let are : AreFiles c.shelf.holds c.words task.first found =
-      subst (λ (w : Wanted). AreWanted c.shelf.holds c.words task.first w found) is_report (subst (λ (t : Task). AreWanted c.shelf.holds c.words t.first t.wanted found) same f.are_files) in
-      let run_is : IsRun found plan run = subst (λ (w : Wanted). IsDone found w run) (ap (λ (t : Task). t.wanted) same ∙ is_report) done in
-      ends found run (same_files c.shelf.holds c.words task.first files found all_held are) run_is
+      let same = the_task c told task asked other f.is_task in
+      let are : AreFiles c.shelf.holds c.words task.first (limits_of task.wanted) found =
+      subst (λ (t : Task). AreFiles c.shelf.holds c.words t.first (limits_of t.wanted) found) same f.are_files in
+      let run_is : IsRun (run_files found) plan run = subst (λ (w : Wanted). IsDone found w run) (ap (λ (t : Task). t.wanted) same ∙ is_report) done in
+      ends found run (same_files c.shelf.holds c.words task.first (limits_of task.wanted) files found held are) run_is
 
-  judged : is_of_run (verdict_on (program p) files task.wanted).answer ≡ true
-  judged =
-      ap (λ (w : Wanted). is_of_run (verdict_on (program p) files w).answer) is_report
-      ∙ ap (λ (s : Readings). is_of_run (with_sensors (program_code p) s (power_file files.power) plan).answer) sensed
+  -- the verdict on these files
+  abbrev on : Verdict
+  on = verdict (program p) (run_files files) plan
+
+  judged : IsJudged files task.wanted on
+  judged = subst (λ (w : Wanted). IsJudged files w on) (sym is_report) (record { reading = program p; reads = reads; is_verdict = refl })
+
+  of_on : is_of_run on.answer ≡ true
+  of_on =
+      ap (λ (s : Readings). is_of_run (with_sensors (program_code p) s (power_file (run_files files).power) plan).answer) sensed
       ∙ ap (λ (s : Power). is_of_run (with_power (program_code p) rows s plan).answer) powered
       ∙ of_run (program_code p) (history rows) (plan periods)
 
-  by_answer : (end : Answer) → is_of_run end ≡ true → Comes c end → (status_of end ≡ 0) ⊎ ((status_of end ≡ 8) ⊎ (status_of end ≡ 11))
+  by_answer : (end : Answer) → is_of_run end ≡ true → Comes c told end → (status_of end ≡ 0) ⊎ ((status_of end ≡ 8) ⊎ (status_of end ≡ 11))
   by_answer answer.End r w = inl refl
   by_answer answer.Trapped r w = inr (inl refl)
   by_answer answer.Dark r w = elim (done_ends w.task w.files w.run w.fetched w.done) [ inl x ↦ cc (w.came.answered ∙ x) | inr x ↦ cc (w.came.answered ∙ x) ]
   by_answer answer.Cut r w = elim (done_ends w.task w.files w.run w.fetched w.done) [ inl x ↦ cc (w.came.answered ∙ x) | inr x ↦ cc (w.came.answered ∙ x) ]
   by_answer end r w = cc r
 
-  enough : (c.shelf.rose → ⊥) → (c.out.rose → ⊥) → (end : Answer) → Comes c end → (status_of end ≡ 0) ⊎ ((status_of end ≡ 8) ⊎ (status_of end ≡ 11))
+  enough : (c.shelf.rose → ⊥) → (c.out.rose → ⊥) → (end : Answer) → Comes c told end → (status_of end ≡ 0) ⊎ ((status_of end ≡ 8) ⊎ (status_of end ≡ 11))
   enough calm silent end w =
-      elim (exactly c task asked files held (program p) reads calm silent end w) [
-        | inl e ↦ by_answer end (ap is_of_run e ∙ judged) w
+      elim (exactly c told task asked files held on judged calm silent end w) [
+        | inl e ↦ by_answer end (ap is_of_run e ∙ of_on) w
         | inr e ↦ inr (inr (ap status_of e))
       ]
 
 -- ---- the whole
 
-module _ (c : Call) (err : Writes) (status : ℕ) (end : Answer) (is : status ≡ status_of end) (comes : Comes c end) where
-  pub works : TookAll err (line_of c.words end) ⊎ TookFront err (line_of c.words end) → Works c err status
+module _ (c : Call) (err : Writes) (told : List ℕ) (status : ℕ) (end : Answer) (is : status ≡ status_of end) (comes : Comes c told end) where
+  pub works : TookAll err (line_of c.words end ++ told) ⊎ TookFront err (line_of c.words end ++ told) → Works c err status
   works line = record {
     answer = end;
+    told = told;
     is_status = is;
     comes = comes;
     line = line;
-    exactly = λ task files reading asked held reads calm silent.
-        elim (exactly c task asked files held reading reads calm silent end comes) [ inl e ↦ inl (is ∙ ap status_of e) | inr e ↦ inr (is ∙ ap status_of e) ];
-    usage = (λ e. no_task c end comes (sym is ∙ e), λ none. is ∙ usage c none end comes);
-    missing = λ task place asked among gone. subst (λ (n : ℕ). (n ≡ 2) ⊎ ((n ≡ 3) ⊎ (n ≡ 11))) (sym is) (missing c task asked place among gone end comes);
-    long = λ task place bytes asked among before told over calm. subst (λ (n : ℕ). (n ≡ 3) ⊎ (n ≡ 11)) (sym is) (long c task asked place among bytes told over before calm end comes);
-    enough = λ task plan files p rows periods asked is_report held reads sensed powered safe calm silent.
-        subst (λ (n : ℕ). (n ≡ 0) ⊎ ((n ≡ 8) ⊎ (n ≡ 11))) (sym is) (enough c task asked plan is_report files held p reads rows sensed periods powered safe calm silent end comes);
-    quiet = λ e. quiet c end comes (ap is_written (sym is) ∙ e);
+    exactly = λ task files on asked held judged calm silent.
+        elim (exactly c told task asked files held on judged calm silent end comes) [ inl e ↦ inl (is ∙ ap status_of e) | inr e ↦ inr (is ∙ ap status_of e) ];
+    usage = (λ e. no_task c told end comes (sym is ∙ e), λ none. is ∙ usage c told none end comes);
+    missing = λ task place asked among gone. subst (λ (n : ℕ). (n ≡ 2) ⊎ ((n ≡ 3) ⊎ (n ≡ 11))) (sym is) (missing c told task asked place among gone end comes);
+    long = λ task place bytes asked among before there over calm. subst (λ (n : ℕ). (n ≡ 3) ⊎ (n ≡ 11)) (sym is) (long c told task asked place among bytes there over before calm end comes);
+    enough = λ task plan meters files p rows periods asked is_report held reads sensed powered safe calm silent.
+        subst (λ (n : ℕ). (n ≡ 0) ⊎ ((n ≡ 8) ⊎ (n ≡ 11))) (sym is)
+        (enough c told task asked plan meters is_report files held p reads rows sensed periods powered safe calm silent end comes);
+    quiet = λ e. quiet c told end comes (ap is_written (sym is) ∙ e);
   }

@@ -1,11 +1,11 @@
 -- Reports that were written.
-use Rattle.std.proofs.Common.{ℕ, ◌≤◌, ◌≡◌, ◌⊎◌, List, [], ◌++◌, ap, sym, ◌∙◌, append_assoc, append-nil, arith, inl, inr}
+use Rattle.std.proofs.Common.{ℕ, ◌≤◌, ◌≡◌, ◌⊎◌, List, [], ◌++◌, ap, sym, ◌∙◌, append_assoc, append-nil, arith, inl, inr, subst}
 use Rattle.std.specs.Prelude.{Result, Ok, Err, OnOk, OnErr}
 use Rattle.oc_io.specs.Faults.{Rose, TookPart}
 use Rattle.oc_io.specs.declared.sink.SinkFault.{SinkFault}
 use Rattle.oc_io.proofs.Going.{Both}
-use Rattle.oc_top.specs.Verdict.{Verdict}
-use Rattle.oc_top.specs.Answers.{writes, TookAll, TookFront, IsWritten, whole, in_part}
+use Rattle.oc_top.specs.Verdict.{Verdict, says}
+use Rattle.oc_top.specs.Answers.{Writes, writes, TookAll, TookFront, IsWritten, whole, in_part}
 use Rattle.oc_top.specs.declared.answer.Answer.{Answer}
 use Rattle.oc_top.specs.declared.answer.Answer.TheVariants as answer
 use Rattle.oc_top.proofs.Taking.{took_flushed}
@@ -39,13 +39,13 @@ module _ {S : Type 0} (took : S → List ℕ → S → Type 0) (held : S → Lis
   flushed_or a b c text (Err e) le p q ok bad = inr (flushed_front a b c text le p q bad)
 
   pub flushed_written : (a b c : S) (before after : Answer) (text : List ℕ) → faults a ≤ faults b → took a text b → took b [] c → Stays before after (held c) (Rose (faults b) (faults c))
-      → IsWritten (writes took held faults a c) (record { answer = before; text = text }) after
+      → IsWritten (writes took held faults a c) (says before text) after
   flushed_written a b c before after text le p q (inl e) = whole e.0 (flushed_all a b c text p q e.1)
   flushed_written a b c before after text le p q (inr f) = in_part f.0 (flushed_front a b c text le p q f.1)
 
   -- a text was taken, and then another, whole or in part
   pub written_after : (a b c : S) (first : List ℕ) (run : Verdict) (end : Answer) → faults a ≤ faults b → took a first b → IsWritten (writes took held faults b c) run end
-      → IsWritten (writes took held faults a c) (record { answer = run.answer; text = first ++ run.text }) end
+      → IsWritten (writes took held faults a c) (says run.answer (first ++ run.text)) end
   written_after a b c first run end le p (whole e q) = whole e (record { taken = both a b c first run.text p q.taken; written = q.written })
   written_after a b c first run end le p (in_part e part) =
       in_part e (record {
@@ -55,3 +55,8 @@ module _ {S : Type 0} (took : S → List ℕ → S → Type 0) (held : S → Lis
         split = ap (λ (t : List ℕ). first ++ t) part.split ∙ sym (append_assoc first part.front part.back);
         taken = both a b c first part.front p part.taken;
       })
+
+-- what is written goes by the answer and the text alone
+pub same_written : (sink : Writes) (a b : Verdict) (end : Answer) → a.answer ≡ b.answer → a.text ≡ b.text → IsWritten sink a end → IsWritten sink b end
+same_written sink a b end p q (whole e t) = whole (e ∙ p) (subst (TookAll sink) q t)
+same_written sink a b end p q (in_part e t) = in_part e (subst (TookFront sink) q t)

@@ -1,13 +1,22 @@
 -- What is answered, and why.
-use Rattle.std.specs.Prelude.{ℕ, suc, ◌+◌, ◌<◌, ◌≤◌, ◌≡◌, ◌⊎◌, ◌==◌, ◌||◌, ◌++◌, Bool, List, [], codes, decimal, Option, Some, None}
+use Rattle.std.specs.Prelude.{ℕ, suc, ◌+◌, ◌<◌, ◌≤◌, ◌≡◌, ◌⊎◌, ◌==◌, ◌||◌, ◌++◌, Bool, List, [], length, codes, decimal, Option, Some, None}
 use Rattle.oc_io.specs.Faults.{Rose}
 use Rattle.oc_io.specs.Held.{Held, nothing, Longer}
+use Rattle.oc_meters.specs.Tally.{Reading as Meter}
+use Rattle.oc_meters.specs.Reads.{Page, TakesBytes}
+use Rattle.oc_meters.specs.ReadBack.{begun}
+use Rattle.oc_meters.specs.Lines.{meter_lines}
+use Rattle.oc_tree.specs.Names.{NameLists}
 use Rattle.oc_tree.specs.Tree.{TProgram}
-use Rattle.oc_top.specs.Commands.{Wanted, report, regions, listing, files_of, Task, word_at}
-use Rattle.oc_top.specs.Files.{Files, Fetches, AreWanted, WereFetched, limit_at, names_of}
+use Rattle.oc_io.specs.Counts.{capped, line_feeds}
+use Rattle.oc_drill.specs.Drill.{drill_source, drill_sensors, drill_power, drill_line}
+use Rattle.oc_top.specs.Commands.{Plan, Wanted, report, drill, regions, listing, checking, limits_of, meters_of, Task, word_at}
+use Rattle.oc_top.specs.Files.{Files, Fetches, AreFiles, WereFetched, file_at, limit_at, names_of, run_files}
 use Rattle.oc_top.specs.Sources.{Reading, ReadsAs, program}
-use Rattle.oc_top.specs.Verdict.{Verdict, verdict_on, refuses, prints, regions_of, listing_of}
+use Rattle.oc_top.specs.Verdict.{Verdict, verdict, refuses, prints, printed, regions_of, listing_of}
 use Rattle.oc_top.specs.Headline.{IsRun}
+use Rattle.oc_top.specs.Gaps.{gap_line}
+use Rattle.oc_top.specs.Checked.{IsCheck, IsSafe}
 use Rattle.oc_top.specs.declared.answer.Answer.{Answer}
 use Rattle.oc_top.specs.declared.answer.Answer.TheVariants as answer
 
@@ -26,6 +35,7 @@ status_of answer.Trapped = 8
 status_of answer.Dark = 9
 status_of answer.Memory = 11
 status_of answer.Cut = 12
+status_of (answer.Uncovered gap) = 18
 
 -- with these statuses a text was written, or a part of it
 abbrev pub is_written : ℕ → Bool
@@ -46,24 +56,47 @@ line_of words answer.Trapped = []
 line_of words answer.Dark = []
 line_of words answer.Memory = codes "ocelot: out of memory\n"
 line_of words answer.Cut = codes "ocelot: checkpoint lost\n"
+line_of words (answer.Uncovered gap) = gap_line gap
+
+-- this is the verdict on a source
+pub record IsVerdict (source : List ℕ) (on : Reading → Verdict) (run : Verdict) : Type 0 where
+  pub reading : Reading
+  pub reads : ReadsAs source reading
+  pub is_verdict : on reading ≡ run
+
+-- the files of a drill
+abbrev pub drill_files : ℕ → Files
+drill_files turns = record { source = drill_source turns; sensors = drill_sensors turns; power = drill_power turns }
+
+-- its line, which tells the verdict on them
+abbrev pub verdict_line : ℕ → Verdict → List ℕ
+verdict_line turns run = drill_line turns (status_of run.answer) (capped (line_feeds run.text)) (capped (length run.text))
+
+-- this prints the line of the verdict on the files of a drill
+abbrev pub IsDrill : ℕ → Plan → Verdict → Type 0
+IsDrill turns plan run = IsVerdict (drill_source turns) (λ reading. prints (verdict_line turns (verdict reading (drill_files turns) plan))) run
 
 -- this is the verdict on files
-pub record IsJudged (files : Files) (wanted : Wanted) (run : Verdict) : Type 0 where
-  pub reading : Reading
-  pub reads : ReadsAs files.source reading
-  pub is_verdict : verdict_on reading files wanted ≡ run
+abbrev pub IsJudged : List (List ℕ) → Wanted → Verdict → Type 0
+IsJudged files (report plan meters) run = IsVerdict (file_at files 0) (λ reading. verdict reading (run_files files) plan) run
+IsJudged files (drill turns plan) run = IsDrill turns plan run
+IsJudged files regions run = IsVerdict (file_at files 0) (λ reading. printed reading regions_of) run
+IsJudged files listing run = IsVerdict (file_at files 0) (λ reading. printed reading listing_of) run
+IsJudged files checking run = IsCheck (file_at files 0) run
 
 -- this prints a text of the program that a source spells
-pub record IsPrint (files : Files) (text : TProgram → List ℕ) (run : Verdict) : Type 0 where
+pub record IsPrint (source : List ℕ) (text : TProgram → List ℕ) (run : Verdict) : Type 0 where
   pub written : TProgram
-  pub spelled : ReadsAs files.source (program written)
+  pub spelled : ReadsAs source (program written)
   pub is_text : run ≡ prints (text written)
 
--- this does what is wanted of the program that a source spells
-abbrev pub IsDone : Files → Wanted → Verdict → Type 0
-IsDone files (report plan) run = IsRun files plan run
-IsDone files regions run = IsPrint files regions_of run
-IsDone files listing run = IsPrint files listing_of run
+-- this does what is wanted
+abbrev pub IsDone : List (List ℕ) → Wanted → Verdict → Type 0
+IsDone files (report plan meters) run = IsRun (run_files files) plan run
+IsDone files (drill turns plan) run = IsDrill turns plan run
+IsDone files regions run = IsPrint (file_at files 0) regions_of run
+IsDone files listing run = IsPrint (file_at files 0) listing_of run
+IsDone files checking run = IsSafe (file_at files 0) run
 
 -- ---- what is written
 
@@ -99,6 +132,24 @@ pub data IsWritten (sink : Writes) (run : Verdict) (end : Answer) : Type 0 where
   whole : end ≡ run.answer → TookAll sink run.text → IsWritten sink run end
   in_part : end ≡ answer.WriteFault → TookFront sink run.text → IsWritten sink run end
 
+-- ---- what meters tell
+
+-- meters that began so were told the items of a text's lines, one after the other, and these are their lines
+pub record HasRead (names : NameLists) (text : List ℕ) (meters : List Meter) (told : List ℕ) : Type 0 where
+  pub page : Page
+  pub takes : TakesBytes names (begun meters) text page
+  pub lines : told ≡ meter_lines page.readings
+
+-- the same, or no lines are wanted
+abbrev pub HasTold : NameLists → List ℕ → Option (List Meter) → List ℕ → Type 0
+HasTold names text None told = told ≡ []
+HasTold names text (Some meters) told = HasRead names text meters told
+
+-- the lines that stand behind that of the answer, if any
+abbrev pub told_by : Option (List Meter) → List ℕ
+told_by None = []
+told_by (Some meters) = meter_lines meters
+
 -- ---- calls
 
 -- a call: its words, what they ask for, if anything, and what the shelf and the standard output did
@@ -111,73 +162,86 @@ pub record Call : Type 1 where
 abbrev pub call_of : List (List ℕ) → Option Task → Fetches → Writes → Call
 call_of words task shelf out = record { words = words; task = task; shelf = shelf; out = out }
 
--- no file is asked for, and nothing is written
-pub record IsNoTask (c : Call) : Type 0 where
+-- nothing is written, and meters tell nothing
+pub record IsSilent (c : Call) (told : List ℕ) : Type 0 where
+  pub unwritten : c.out.took []
+  pub untold : told ≡ []
+
+-- no file is asked for
+pub record IsNoTask (c : Call) (told : List ℕ) : Type 0 where
   pub none : c.task ≡ None
   pub asked : c.shelf.asked []
-  pub silent : c.out.took []
+  pub silent : IsSilent c told
 
 -- the files before this word were fetched, and its own wasn't, for this cause; none behind it was asked for
-pub record IsUnfetched (c : Call) (word : ℕ) (cause : Held → (limit : ℕ) → Type 0) : Type 0 where
+pub record IsUnfetched (c : Call) (told : List ℕ) (word : ℕ) (cause : Held → (limit : ℕ) → Type 0) : Type 0 where
   pub task : Task
   pub is_task : c.task ≡ Some task
   pub place : ℕ
-  pub among : place < files_of task.wanted
+  pub among : place < length (limits_of task.wanted)
   pub is_word : word ≡ task.first + place
-  pub before : WereFetched c.shelf.holds c.words task.first place
-  pub asked : c.shelf.asked (names_of c.words task.first (suc place))
-  pub is_cause : cause (c.shelf.holds (word_at c.words (task.first + place))) (limit_at place)
-  pub silent : c.out.took []
+  pub before : WereFetched c.shelf.holds c.words task.first (limits_of task.wanted) place
+  pub asked : c.shelf.asked (names_of c.words task.first (limits_of task.wanted) (suc place))
+  pub is_cause : cause (c.shelf.holds (word_at c.words (task.first + place))) (limit_at (limits_of task.wanted) place)
+  pub silent : IsSilent c told
 
 -- these are the files of what is asked for, and each was asked for once
-pub record HasFiles (c : Call) (task : Task) (files : Files) : Type 0 where
+pub record HasFiles (c : Call) (task : Task) (files : List (List ℕ)) : Type 0 where
   pub is_task : c.task ≡ Some task
-  pub are_files : AreWanted c.shelf.holds c.words task.first task.wanted files
-  pub asked : c.shelf.asked (names_of c.words task.first (files_of task.wanted))
+  pub are_files : AreFiles c.shelf.holds c.words task.first (limits_of task.wanted) files
+  pub asked : c.shelf.asked (names_of c.words task.first (limits_of task.wanted) (length (limits_of task.wanted)))
 
 -- the files were fetched, and are refused with this answer
-pub record AreRefused (c : Call) (end : Answer) : Type 0 where
+pub record AreRefused (c : Call) (told : List ℕ) (end : Answer) : Type 0 where
   pub task : Task
-  pub files : Files
+  pub files : List (List ℕ)
   pub fetched : HasFiles c task files
   pub judged : IsJudged files task.wanted (refuses end)
-  pub silent : c.out.took []
+  pub silent : IsSilent c told
 
 -- the files were fetched, and of what was done with them this came
-pub record WasDone (c : Call) (outcome : Verdict → Type 0) : Type 0 where
+pub record WasDone (c : Call) (outcome : Wanted → Verdict → Type 0) : Type 0 where
   pub task : Task
-  pub files : Files
+  pub files : List (List ℕ)
   pub fetched : HasFiles c task files
   pub run : Verdict
   pub done : IsDone files task.wanted run
-  pub came : outcome run
+  pub came : outcome task.wanted run
 
--- all that was to be written was, and this is the answer
-pub record IsWhole (c : Call) (end : Answer) (run : Verdict) : Type 0 where
+-- all that was to be written was, and this is the answer; where no fault of the output rose, the meters tell what was
+-- written
+pub record IsWhole (c : Call) (told : List ℕ) (end : Answer) (wanted : Wanted) (run : Verdict) : Type 0 where
   pub answered : end ≡ run.answer
   pub written : TookAll c.out run.text
+  pub tells : ¬ c.out.rose → HasTold run.names run.text (meters_of wanted) told
+
+-- a part of it was, and the meters tell nothing
+pub record IsPart (c : Call) (told : List ℕ) (wanted : Wanted) (run : Verdict) : Type 0 where
+  pub written : TookFront c.out run.text
+  pub untold : told ≡ []
 
 -- some of the files were asked for, and nothing is written
-pub record HadNoMemory (c : Call) : Type 0 where
+pub record HadNoMemory (c : Call) (told : List ℕ) : Type 0 where
   pub task : Task
   pub is_task : c.task ≡ Some task
   pub count : ℕ
-  pub few : count ≤ files_of task.wanted
-  pub asked : c.shelf.asked (names_of c.words task.first count)
-  pub silent : c.out.took []
+  pub few : count ≤ length (limits_of task.wanted)
+  pub asked : c.shelf.asked (names_of c.words task.first (limits_of task.wanted) count)
+  pub silent : IsSilent c told
 
--- why a call has its answer, in the order of the statuses
-abbrev pub Comes : Call → Answer → Type 0
-Comes c answer.End = WasDone c (IsWhole c answer.End)
-Comes c answer.Usage = IsNoTask c
-Comes c (answer.Unreadable word) = IsUnfetched c word (λ held limit. c.shelf.rose ⊎ (held ≡ nothing))
-Comes c (answer.TooLong word) = IsUnfetched c word Longer
-Comes c (answer.Syntax line) = AreRefused c (answer.Syntax line)
-Comes c (answer.Rule line rule) = AreRefused c (answer.Rule line rule)
-Comes c (answer.BadSensors row) = AreRefused c (answer.BadSensors row)
-Comes c (answer.BadPower row) = AreRefused c (answer.BadPower row)
-Comes c answer.Trapped = WasDone c (IsWhole c answer.Trapped)
-Comes c answer.Dark = WasDone c (IsWhole c answer.Dark)
-Comes c answer.WriteFault = WasDone c (λ run. TookFront c.out run.text)
-Comes c answer.Memory = HadNoMemory c
-Comes c answer.Cut = WasDone c (IsWhole c answer.Cut)
+-- why a call has its answer, and its meters tell this, in the order of the statuses
+abbrev pub Comes : Call → (told : List ℕ) → Answer → Type 0
+Comes c told answer.End = WasDone c (IsWhole c told answer.End)
+Comes c told answer.Usage = IsNoTask c told
+Comes c told (answer.Unreadable word) = IsUnfetched c told word (λ held limit. c.shelf.rose ⊎ (held ≡ nothing))
+Comes c told (answer.TooLong word) = IsUnfetched c told word Longer
+Comes c told (answer.Syntax line) = AreRefused c told (answer.Syntax line)
+Comes c told (answer.Rule line rule) = AreRefused c told (answer.Rule line rule)
+Comes c told (answer.BadSensors row) = AreRefused c told (answer.BadSensors row)
+Comes c told (answer.BadPower row) = AreRefused c told (answer.BadPower row)
+Comes c told answer.Trapped = WasDone c (IsWhole c told answer.Trapped)
+Comes c told answer.Dark = WasDone c (IsWhole c told answer.Dark)
+Comes c told answer.WriteFault = WasDone c (IsPart c told)
+Comes c told answer.Memory = HadNoMemory c told
+Comes c told answer.Cut = WasDone c (IsWhole c told answer.Cut)
+Comes c told (answer.Uncovered gap) = AreRefused c told (answer.Uncovered gap)

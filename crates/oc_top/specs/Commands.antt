@@ -1,9 +1,10 @@
 -- The command lines.
-use Rattle.std.specs.Prelude.{ℕ, ◌==◌, ◌&&◌, Bool, false, not, List, [], ◌∷◌, length, get_or, codes, Option, Some, None, option_and_then, option_map, nat_le, nat_lt, if◌then◌else◌}
+use Rattle.std.specs.Prelude.{ℕ, ◌==◌, ◌&&◌, Bool, true, false, not, List, [], ◌∷◌, length, get_or, codes, Option, Some, None, option_and_then, option_map, nat_le, nat_lt, if◌then◌else◌}
 use Rattle.std.specs.Str.{bytes_eq}
 use Rattle.oc_io.specs.declared.period.Period.{Period}
 use Rattle.oc_power.specs.Choice.{first_with}
 use Rattle.oc_rows.specs.Numbers.{number_of}
+use Rattle.oc_meters.specs.Tally.{Reading}
 use Rattle.oc_top.specs.declared.command.Command.{Command}
 use Rattle.oc_top.specs.declared.command.Command.TheVariants as commands
 
@@ -20,10 +21,22 @@ supply_named number = if nat_lt number 256 then Some number else None
 abbrev pub supply_of : List ℕ → Option ℕ
 supply_of word = if nat_le (length word) 3 then option_and_then supply_named (number_of word) else None
 
--- `run` with this supply, where it has one; its files' words begin at this place
-abbrev pub run_with : Option ℕ → ℕ → Option Command
-run_with None first = None
-run_with (Some supply) first = Some (commands.Run supply first)
+-- a drill's number of turns
+abbrev pub turns_named : ℕ → Option ℕ
+turns_named number = if nat_le 1 number && nat_le number 1000 then Some number else None
+
+-- the turns that a word spells: 1 to 4 digits, from 1 to 1000
+abbrev pub turns_of : List ℕ → Option ℕ
+turns_of word = if nat_le (length word) 4 then option_and_then turns_named (number_of word) else None
+
+abbrev pub drill_with : Option ℕ → Option Command
+drill_with None = None
+drill_with (Some turns) = Some (commands.Drill turns)
+
+-- a run with this supply, where it has one; its files' words begin at this place
+abbrev pub run_with : Option ℕ → (metered : Bool) → ℕ → Option Command
+run_with None metered first = None
+run_with (Some supply) metered first = Some (commands.Run supply first metered)
 
 abbrev pub are_files : List ℕ → List ℕ → List ℕ → Bool
 are_files source sensors power = is_file source && is_file sensors && is_file power
@@ -32,16 +45,32 @@ are_files source sensors power = is_file source && is_file sensors && is_file po
 abbrev pub print_with : List ℕ → Option Command
 print_with word =
     if bytes_eq word (codes "regions") then Some (commands.Regions 1)
-    else if bytes_eq word (codes "build") then Some (commands.Build 1) else None
+    else if bytes_eq word (codes "build") then Some (commands.Build 1)
+    else if bytes_eq word (codes "check") then Some (commands.Check 1) else None
+
+-- the command of one word and another
+abbrev pub with_one : List ℕ → List ℕ → Option Command
+with_one word other =
+    if bytes_eq word (codes "drill") then drill_with (turns_of other)
+    else if is_file other then print_with word else None
+
+-- the command of a word and three files
+abbrev pub with_three : List ℕ → Option Command
+with_three word = if bytes_eq word (codes "run") then run_with (Some 0) false 1 else None
 
 -- the command of a line of words
 abbrev pub command_of : List (List ℕ) → Option Command
-command_of (word ∷ source ∷ []) = if is_file source then print_with word else None
-command_of (word ∷ source ∷ sensors ∷ power ∷ []) =
-    if bytes_eq word (codes "run") && are_files source sensors power then run_with (Some 0) 1 else None
+command_of (word ∷ other ∷ []) = with_one word other
+command_of (word ∷ source ∷ sensors ∷ power ∷ []) = if are_files source sensors power then with_three word else None
+command_of (word ∷ option ∷ source ∷ sensors ∷ power ∷ []) =
+    if bytes_eq word (codes "run") && bytes_eq option (codes "--meters") && are_files source sensors power
+    then run_with (Some 0) true 2 else None
 command_of (word ∷ option ∷ number ∷ source ∷ sensors ∷ power ∷ []) =
     if bytes_eq word (codes "run") && bytes_eq option (codes "--supply") && are_files source sensors power
-    then run_with (supply_of number) 3 else None
+    then run_with (supply_of number) false 3 else None
+command_of (word ∷ option ∷ number ∷ meters ∷ source ∷ sensors ∷ power ∷ []) =
+    if bytes_eq word (codes "run") && bytes_eq option (codes "--supply") && bytes_eq meters (codes "--meters") && are_files source sensors power
+    then run_with (supply_of number) true 4 else None
 command_of other = None
 
 -- what a supply tells of the rows that it is fed
@@ -56,35 +85,64 @@ Plans = ℕ → Option Plan
 abbrev pub plans_of : {B : Type 0} → (B → ℕ) → (B → Plan) → List B → Plans
 plans_of number plan boxes = λ k. option_map plan (first_with number k boxes)
 
--- what is wanted: a run with a supply that tells this, the regions of a source, or the listing of its image
+-- what is wanted: a run with a supply that tells this, and the lines of these meters, if any; the regions of a source, the
+-- listing of its image, or a verdict on its blocks; or a drill of so many turns with a supply that tells this
 pub data Wanted : Type 0 where
-  report : Plan → Wanted
+  report : Plan → Option (List Reading) → Wanted
+  drill : ℕ → Plan → Wanted
   regions : Wanted
   listing : Wanted
+  checking : Wanted
 
 -- what is asked for, and the place of the word of its first file
 pub record Task : Type 0 where
   pub first : ℕ
   pub wanted : Wanted
 
-abbrev pub with_plan : ℕ → Option Plan → Option Task
-with_plan first None = None
-with_plan first (Some plan) = Some (record { first = first; wanted = report plan })
+abbrev pub with_plan : ℕ → Option (List Reading) → Option Plan → Option Task
+with_plan first meters None = None
+with_plan first meters (Some plan) = Some (record { first = first; wanted = report plan meters })
 
-abbrev pub task_for : Plans → Option Command → Option Task
-task_for plans None = None
-task_for plans (Some (commands.Run supply first)) = with_plan first (plans supply)
-task_for plans (Some (commands.Regions first)) = Some (record { first = first; wanted = regions })
-task_for plans (Some (commands.Build first)) = Some (record { first = first; wanted = listing })
+abbrev pub with_drill : ℕ → Option Plan → Option Task
+with_drill turns None = None
+with_drill turns (Some plan) = Some (record { first = 0; wanted = drill turns plan })
 
--- how many files it reads
-abbrev pub files_of : Wanted → ℕ
-files_of (report plan) = 3
-files_of other = 1
+-- what is asked for, with these supplies and meters
+abbrev pub task_for : Plans → List Reading → Option Command → Option Task
+task_for plans meters None = None
+task_for plans meters (Some (commands.Run supply first metered)) = with_plan first (if metered then Some meters else None) (plans supply)
+task_for plans meters (Some (commands.Drill turns)) = with_drill turns (plans 0)
+task_for plans meters (Some (commands.Regions first)) = Some (record { first = first; wanted = regions })
+task_for plans meters (Some (commands.Build first)) = Some (record { first = first; wanted = listing })
+task_for plans meters (Some (commands.Check first)) = Some (record { first = first; wanted = checking })
 
--- what a line of words asks for, with these supplies
-abbrev pub task_of : Plans → List (List ℕ) → Option Task
-task_of plans words = task_for plans (command_of words)
+-- what a line of words asks for
+abbrev pub task_of : Plans → List Reading → List (List ℕ) → Option Task
+task_of plans meters words = task_for plans meters (command_of words)
+
+-- how many bytes a source may have, and a file of rows
+abbrev pub source_limit : ℕ
+source_limit = 1048576
+
+abbrev pub rows_limit : ℕ
+rows_limit = 16777216
+
+-- the limits of a run's files, the first of which has this one
+abbrev pub run_limits : ℕ → List ℕ
+run_limits limit = limit ∷ rows_limit ∷ rows_limit ∷ []
+
+-- the limits of the files that it reads, in the order of their words
+abbrev pub limits_of : Wanted → List ℕ
+limits_of (report plan meters) = run_limits source_limit
+limits_of (drill turns plan) = []
+limits_of regions = source_limit ∷ []
+limits_of listing = source_limit ∷ []
+limits_of checking = source_limit ∷ []
+
+-- the meters whose lines are wanted, if any
+abbrev pub meters_of : Wanted → Option (List Reading)
+meters_of (report plan meters) = meters
+meters_of other = None
 
 -- the word at a place
 abbrev pub word_at : List (List ℕ) → ℕ → List ℕ

@@ -1,5 +1,5 @@
 -- What the report of a run keeps, whenever power fails.
-use Rattle.std.specs.Prelude.{ℕ, suc, ℤ, ◌≡◌, false, List, [], ◌++◌}
+use Rattle.std.specs.Prelude.{ℕ, suc, ℤ, ◌≡◌, List, [], ◌++◌, map, Some, None, if◌then◌else◌}
 use Rattle.oc_io.specs.declared.period.Period.{Period}
 use Rattle.oc_power.specs.Power.{power_file}
 use Rattle.oc_power.specs.Power as power_rows
@@ -14,42 +14,39 @@ use Rattle.oc_tree.specs.declared.said.Said.TheVariants.{Ended}
 use Rattle.oc_isa.specs.Power.{World, power_run}
 use Rattle.oc_isa.specs.Table.{device_of}
 use Rattle.oc_isa.specs.declared.phase.Phase.TheVariants.{Over}
-use Rattle.oc_items.specs.Erase.{erase, marked, kept, kept_samples, HasNoOffInside}
+use Rattle.oc_items.specs.Erase.{kept, kept_samples}
 use Rattle.oc_tree.specs.Expansion.{expansion}
 use Rattle.oc_items.specs.Reports.{IsPrefixOf, EndsWith}
-use Rattle.oc_honest.specs.Timely.{IsTimely}
+use Rattle.oc_items.specs.Text.{is_over}
+use Rattle.oc_items.specs.Told.{item_of}
+use Rattle.oc_honest.specs.Honest.{TReport, IsHonest}
 use Rattle.oc_outage.specs.Honest.{AreRead}
 use Rattle.oc_bounds.specs.Bounds.{AreSafe}
 use Rattle.oc_bounds.specs.Attempts.{AttemptsClose}
-use Rattle.oc_top.specs.Meant.{program_code, program_bounds, program_run, program_said, plain_run, plain_said}
+use Rattle.oc_top.specs.Meant.{program_marked, program_code, program_bounds, program_run, plain_run, plain_said}
 use Rattle.oc_top.specs.Commands.{Plan}
 use Rattle.oc_top.specs.Files.{Files}
 use Rattle.oc_top.specs.Sources.{ReadsAs, program}
 use Rattle.oc_top.specs.Verdict.{Verdict, runs}
 
--- Without its aborted attempts, the report says what the program says over the kept samples, with the marks of its
--- regions, or a prefix of it; so without marks it says what the program says as if it had no regions, or a prefix of it.
--- No outage lies in a region, between an input and a use of what depends on it, or among the inputs of a consistent set; and
--- each input has what its sensor had at that tick
-pub record IsHonest (p : TProgram) (h : ℕ → ℕ → ℤ) (report : List Told) : Type 0 where
-  pub said : IsPrefixOf (marked report) (program_said p (kept_samples report))
-  pub shown : IsPrefixOf (kept report) (plain_said p (kept_samples report))
-  pub outside : HasNoOffInside false (erase report)
-  pub timely : IsTimely (expansion p) report (plain_run p (kept_samples report)).events
-  pub read : AreRead h report
+-- what a run reports: its items and, where it is over, its nonvolatile words
+abbrev pub reported : List Told → List ℤ → TReport
+reported items nv = record { items = items; nv = if is_over (map item_of items) then Some nv else None }
 
--- without its aborted attempts, the report is the whole run, with its marks and without them, and these are the nonvolatile
--- words that the program leaves, with regions or without
+-- without its aborted attempts and without marks, the report is the whole run of the program as if it had no regions; and
+-- these are the nonvolatile words that the program leaves, with regions too
 pub record IsWholeRun (p : TProgram) (report : List Told) (nv : List ℤ) : Type 0 where
-  pub said : marked report ≡ program_said p (kept_samples report)
   pub shown : kept report ≡ plain_said p (kept_samples report)
   pub left : nv ≡ (program_run p (kept_samples report)).nv
   pub left_plain : nv ≡ (plain_run p (kept_samples report)).nv
 
--- every prefix of a report is honest; a prefix that ends with `end` or `trap` is all of it, the whole run, which leaves its
--- nonvolatile words
+-- The report is honest for the program with its regions. So without marks each prefix of it says what the program says as if
+-- it had no regions, or a prefix of that. Each input has what its sensor had at that tick. And a prefix that ends with `end` or
+-- `trap` is all of it, and the whole run
 pub record IsHonestThroughout (p : TProgram) (h : ℕ → ℕ → ℤ) (report : List Told) (nv : List ℤ) : Type 0 where
-  pub honest : (front rest : List Told) → front ++ rest ≡ report → IsHonest p h front
+  pub honest : IsHonest (expansion p) (program_marked p).regions (reported report nv)
+  pub shown : (front rest : List Told) → front ++ rest ≡ report → IsPrefixOf (kept front) (plain_said p (kept_samples front))
+  pub read : AreRead h report
   pub whole : (how : Ending) (front rest : List Told) → front ++ rest ≡ report → EndsWith front (Ended how) → (rest ≡ []) × IsWholeRun p front nv
 
 -- the machine with the image of a program, over what the sensors showed and these periods

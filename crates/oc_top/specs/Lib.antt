@@ -7,6 +7,8 @@ pub mod Meant
 pub mod Verdict
 pub mod Headline
 pub mod Answers
+pub mod Meters
+pub mod Drills
 pub mod Works
 pub mod Supplies
 pub mod Steps
@@ -14,3 +16,6 @@ pub mod RegionLines
 pub mod DeclaredNames
 pub mod RegionDetails
 pub mod Printed
+pub mod Gaps
+pub mod Checked
+pub mod Judged

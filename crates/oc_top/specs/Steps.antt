@@ -1,5 +1,5 @@
 -- The steps before the first byte is written.
-use Rattle.std.specs.Prelude.{ℕ, ◌<◌, ◌^◌, ◌≡◌, true, List, length, None}
+use Rattle.std.specs.Prelude.{ℕ, ◌<◌, ◌^◌, ◌≡◌, Bool, true, false, List, length, None}
 use Rattle.oc_io.specs.declared.period.Period.{Period}
 use Rattle.oc_power.specs.Power.{power_file}
 use Rattle.oc_power.specs.Power as power_rows
@@ -33,7 +33,7 @@ use Rattle.oc_top.specs.Meant.{program_marked, program_code, RunsAs, program_bou
 use Rattle.oc_top.specs.Commands.{Plan}
 use Rattle.oc_top.specs.Files.{Files}
 use Rattle.oc_top.specs.Faults.{token_line}
-use Rattle.oc_top.specs.Sources.{Reading, ReadsAs, Spells, faulty, breaks, program, line_at}
+use Rattle.oc_top.specs.Sources.{Reading, ReadsAs, ReadsIn, Spells, faulty, breaks, program, line_at}
 use Rattle.oc_top.specs.Verdict.{verdict, is_refusal, refuses}
 use Rattle.oc_top.specs.declared.answer.Answer.{Answer}
 use Rattle.oc_top.specs.declared.answer.Answer.TheVariants as answer
@@ -85,12 +85,16 @@ pub record IsBuilt (source : List ℕ) (parts : Parts) : Type 0 where
   pub bounded : IsBounded (device_of parts) (program_bounds written)
   pub timely : RunsAreTimely (program_marked written)
 
+-- why a source isn't read as a program of the grammar with `atomic`, or of the one without it, that breaks no rule
+abbrev pub IsNotRead : (atomic : Bool) → List ℕ → Answer → Type 0
+IsNotRead atomic source (answer.Syntax line) = ReadsIn atomic source (faulty line)
+IsNotRead atomic source (answer.Rule line rule) = ReadsIn atomic source (breaks (record { line = line; rule = rule }))
+IsNotRead atomic source answer.Memory = Unit {0}
+IsNotRead atomic source end = ⊥
+
 -- why there is no marked program of a source, and no image
 abbrev pub IsNotBuilt : List ℕ → Answer → Type 0
-IsNotBuilt source (answer.Syntax line) = ReadsAs source (faulty line)
-IsNotBuilt source (answer.Rule line rule) = ReadsAs source (breaks (record { line = line; rule = rule }))
-IsNotBuilt source answer.Memory = Unit {0}
-IsNotBuilt source end = ⊥
+IsNotBuilt source end = IsNotRead false source end
 
 -- a newly loaded machine with a sound image, its sensors, not read yet, which show words, and periods whose times are
 -- below 2^63 in all

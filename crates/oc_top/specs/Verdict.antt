@@ -11,11 +11,12 @@ use Rattle.oc_isa.specs.Image.{Parts}
 use Rattle.oc_isa.specs.Power.{power_run}
 use Rattle.oc_isa.specs.Table.{device_of}
 use Rattle.oc_isa.specs.Listing.{listing_text}
+use Rattle.oc_tree.specs.Names.{NameLists}
 use Rattle.oc_tree.specs.Tree.{TProgram}
 use Rattle.oc_budget.specs.Budgets.{budgets}
 use Rattle.oc_top.specs.Meant.{program_marked, program_code}
 use Rattle.oc_top.specs.RegionLines.{regions_text}
-use Rattle.oc_top.specs.Commands.{Plan, Wanted, report, regions, listing}
+use Rattle.oc_top.specs.Commands.{Plan}
 use Rattle.oc_top.specs.Files.{Files}
 use Rattle.oc_top.specs.Sources.{Reading, faulty, program}
 use Rattle.oc_top.specs.Sources as source
@@ -23,10 +24,15 @@ use Rattle.oc_top.specs.Reports.{answer_of, text_of}
 use Rattle.oc_top.specs.declared.answer.Answer.{Answer}
 use Rattle.oc_top.specs.declared.answer.Answer.TheVariants as answer
 
--- an answer, and the text on the standard output
+-- an answer, the text on the standard output, and the names under which meters read it
 pub record Verdict : Type 0 where
   pub answer : Answer
   pub text : List ℕ
+  pub names : NameLists
+
+-- an answer with a text that is no report
+abbrev pub says : Answer → List ℕ → Verdict
+says end text = record { answer = end; text = text; names = record { sensors = []; ports = []; nvs = [] } }
 
 -- the answer to a run or to a text that was written
 abbrev pub is_of_run : Answer → Bool
@@ -42,16 +48,18 @@ is_refusal (answer.Syntax line) = true
 is_refusal (answer.Rule line rule) = true
 is_refusal (answer.BadSensors row) = true
 is_refusal (answer.BadPower row) = true
+is_refusal (answer.Uncovered gap) = true
 is_refusal other = false
 
 abbrev pub refuses : Answer → Verdict
-refuses end = record { answer = end; text = [] }
+refuses end = says end []
 
 -- the run of an image over these periods
 abbrev pub runs : Parts → List Row → List Period → Verdict
 runs parts rows periods = record {
   answer = answer_of parts (history rows) periods;
   text = text_of parts (power_run (device_of parts) (history rows) periods);
+  names = parts.names;
 }
 
 abbrev pub with_power : Parts → List Row → Power → Plan → Verdict
@@ -83,16 +91,10 @@ abbrev pub listing_of : TProgram → List ℕ
 listing_of p = listing_text (program_code p)
 
 abbrev pub prints : List ℕ → Verdict
-prints text = record { answer = answer.End; text = text }
+prints text = says answer.End text
 
 -- the verdict on a source that reads so, where this text of its program is wanted
 abbrev pub printed : Reading → (TProgram → List ℕ) → Verdict
 printed (faulty line) text = refuses (answer.Syntax line)
 printed (source.breaks b) text = refuses (answer.Rule b.line b.rule)
 printed (program p) text = prints (text p)
-
--- the verdict on what is wanted
-abbrev pub verdict_on : Reading → Files → Wanted → Verdict
-verdict_on reading files (report plan) = verdict reading files plan
-verdict_on reading files regions = printed reading regions_of
-verdict_on reading files listing = printed reading listing_of

@@ -1,5 +1,5 @@
 -- What a call does.
-use Rattle.std.specs.Prelude.{ℕ, suc, ◌+◌, ◌<◌, ◌≡◌, ◌⊎◌, ◌↔◌, false, List, [], length, Some, None}
+use Rattle.std.specs.Prelude.{ℕ, suc, ◌+◌, ◌<◌, ◌≡◌, ◌⊎◌, ◌↔◌, ◌++◌, false, List, [], length, Option, Some, None}
 use Rattle.oc_io.specs.Held.{nothing, content}
 use Rattle.oc_io.specs.declared.period.Period.{Period}
 use Rattle.oc_power.specs.Power.{power_file}
@@ -7,45 +7,49 @@ use Rattle.oc_power.specs.Power as power_rows
 use Rattle.oc_sensors.specs.declared.sensors.Row.{Row}
 use Rattle.oc_sensors.specs.File.{sensor_file}
 use Rattle.oc_sensors.specs.File as sensor_rows
+use Rattle.oc_meters.specs.Tally.{Reading}
 use Rattle.oc_tree.specs.Tree.{TProgram}
 use Rattle.oc_bounds.specs.Bounds.{AreSafe}
 use Rattle.oc_top.specs.Meant.{program_bounds}
-use Rattle.oc_top.specs.Commands.{Plan, Task, report, files_of, word_at}
-use Rattle.oc_top.specs.Files.{Files, AreHeld, AreHeldBefore, limit_at}
-use Rattle.oc_top.specs.Sources.{Reading, ReadsAs, program}
-use Rattle.oc_top.specs.Verdict.{verdict_on}
-use Rattle.oc_top.specs.Answers.{Call, Comes, TookAll, TookFront, Writes, is_written, line_of, status_of}
+use Rattle.oc_top.specs.Commands.{Plan, Task, report, limits_of, word_at}
+use Rattle.oc_top.specs.Files.{AreHeld, AreHeldBefore, limit_at, run_files}
+use Rattle.oc_top.specs.Sources.{ReadsAs, program}
+use Rattle.oc_top.specs.Verdict.{Verdict}
+use Rattle.oc_top.specs.Answers.{Call, Comes, IsJudged, TookAll, TookFront, Writes, is_written, line_of, status_of}
 use Rattle.oc_top.specs.declared.answer.Answer.{Answer}
 
 -- a call over a shelf, a standard output and this error output ends with this status
 pub record Works (c : Call) (err : Writes) (status : ℕ) : Type 0 where
-  -- the status is that of an answer with its cause, and the line of the answer is on the error output
+  -- the status is that of an answer with its cause, and the line of the answer is on the error output, with what its meters tell
+  -- behind it
   pub answer : Answer
+  pub told : List ℕ
   pub is_status : status ≡ status_of answer
-  pub comes : Comes c answer
-  pub line : TookAll err (line_of c.words answer) ⊎ TookFront err (line_of c.words answer)
+  pub comes : Comes c told answer
+  pub line : TookAll err (line_of c.words answer ++ told) ⊎ TookFront err (line_of c.words answer ++ told)
   -- where the files are held and no fault rose, it is the status of the verdict on them, or there was no memory
-  pub exactly : (task : Task) (files : Files) (reading : Reading) → c.task ≡ Some task
-      → AreHeld c.shelf.holds c.words task.first task.wanted files → ReadsAs files.source reading
+  pub exactly : (task : Task) (files : List (List ℕ)) (run : Verdict) → c.task ≡ Some task
+      → AreHeld c.shelf.holds c.words task.first (limits_of task.wanted) files → IsJudged files task.wanted run
       → ¬ c.shelf.rose → ¬ c.out.rose
-      → (status ≡ status_of (verdict_on reading files task.wanted).answer) ⊎ (status ≡ 11)
+      → (status ≡ status_of run.answer) ⊎ (status ≡ 11)
   pub usage : (status ≡ 1) ↔ (c.task ≡ None)
   -- where the shelf tells that there is nothing under a file's word, the status is 2, 3 or 11
-  pub missing : (task : Task) (place : ℕ) → c.task ≡ Some task → place < files_of task.wanted
+  pub missing : (task : Task) (place : ℕ) → c.task ≡ Some task → place < length (limits_of task.wanted)
       → c.shelf.holds (word_at c.words (task.first + place)) ≡ nothing
       → (status ≡ 2) ⊎ ((status ≡ 3) ⊎ (status ≡ 11))
   -- where the files before it are held and no fault of the shelf rose, a file that is too long gives 3, or there was no memory
-  pub long : (task : Task) (place : ℕ) (bytes : List ℕ) → c.task ≡ Some task → place < files_of task.wanted
-      → AreHeldBefore c.shelf.holds c.words task.first place
-      → c.shelf.holds (word_at c.words (task.first + place)) ≡ content bytes → limit_at place < length bytes
+  pub long : (task : Task) (place : ℕ) (bytes : List ℕ) → c.task ≡ Some task → place < length (limits_of task.wanted)
+      → AreHeldBefore c.shelf.holds c.words task.first (limits_of task.wanted) place
+      → c.shelf.holds (word_at c.words (task.first + place)) ≡ content bytes → limit_at (limits_of task.wanted) place < length bytes
       → ¬ c.shelf.rose
       → (status ≡ 3) ⊎ (status ≡ 11)
   -- where one more of the first periods than the program's total are safe, and no fault rose, a run ends by itself, or there
   -- was no memory
-  pub enough : (task : Task) (plan : Plan) (files : Files) (p : TProgram) (rows : List Row) (periods : List Period)
-      → c.task ≡ Some task → task.wanted ≡ report plan
-      → AreHeld c.shelf.holds c.words task.first task.wanted files → ReadsAs files.source (program p)
-      → sensor_file p.names.sensors files.sensors ≡ sensor_rows.readings rows → power_file files.power ≡ power_rows.periods periods
+  pub enough : (task : Task) (plan : Plan) (meters : Option (List Reading)) (files : List (List ℕ)) (p : TProgram) (rows : List Row) (periods : List Period)
+      → c.task ≡ Some task → task.wanted ≡ report plan meters
+      → AreHeld c.shelf.holds c.words task.first (limits_of task.wanted) files → ReadsAs (run_files files).source (program p)
+      → sensor_file p.names.sensors (run_files files).sensors ≡ sensor_rows.readings rows
+      → power_file (run_files files).power ≡ power_rows.periods periods
       → AreSafe (program_bounds p) (suc (program_bounds p).total) (plan periods) → ¬ c.shelf.rose → ¬ c.out.rose
       → (status ≡ 0) ⊎ ((status ≡ 8) ⊎ (status ≡ 11))
   -- with a status of no text, nothing was written

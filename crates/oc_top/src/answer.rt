@@ -1,19 +1,23 @@
 //! Answers, their statuses and their lines.
-ghost use Rattle.std.specs.Prelude.{◌≡◌, ◌≤◌, ◌⊎◌, map, OnOk, OnErr};
+ghost use Rattle.std.specs.Prelude.{◌≡◌, ◌≤◌, ◌⊎◌, ◌++◌, map, OnOk, OnErr};
 ghost use Rattle.std.specs.String.{string_bytes};
 ghost use Rattle.oc_io.specs.Faults.{Rose, TookPart};
-ghost use Rattle.oc_top.specs.Answers.{TookAll, TookFront, line_of, status_of, writes};
+ghost use Rattle.oc_top.specs.Answers.{TookAll, TookFront, line_of, status_of, told_by, writes};
+ghost use Rattle.oc_top.specs.Meters.{told_of};
 ghost use Rattle.oc_top.specs.Commands.{word_at};
 ghost use Rattle.oc_top.specs.declared.answer.Answer.TheVariants as answers;
 
+use crate::gap::{Gap, put_gap};
 use itoa::Buffer;
 use oc_io::Memory;
 use oc_io::pieces::put_pieces;
 use oc_io::sink::{Sink, SinkFault};
+use oc_meters::meter::Meter;
+use oc_meters::text::put_meters;
 use std::alloc::AllocError;
 
 /// How a call ends. A file is told by the place of its word, lines and rows count from 1.
-#[derive(Clone, Copy, Debug, PartialEq, Eq)]
+#[derive(Debug, Drop)]
 pub enum Answer {
     /// The words are no command, or no supply has the number.
     Usage,
@@ -41,6 +45,8 @@ pub enum Answer {
     Memory,
     /// A checkpoint didn't complete.
     Cut,
+    /// The blocks of a source don't suffice.
+    Uncovered { gap: Gap },
 }
 
 impl From<Memory> for Answer {
@@ -60,8 +66,8 @@ impl From<AllocError> for Answer {
 }
 
 /// The status of an answer.
-pub fn status(answer: Answer) -> u8
-    ensures { result ≡ status_of answer }
+pub fn status(answer: &Answer) -> u8
+    ensures { result ≡ status_of answer.now }
 {
     match answer {
         Answer::End => 0,
@@ -77,6 +83,7 @@ pub fn status(answer: Answer) -> u8
         Answer::WriteFault => 10,
         Answer::Memory => 11,
         Answer::Cut => 12,
+        Answer::Uncovered { .. } => 18,
     }
 }
 
@@ -133,18 +140,63 @@ fn put_line_of<E: Sink>(answer: Answer, words: &[String], err: &mut E) -> Result
         Answer::WriteFault => put_pieces(err, &[b"ocelot: cannot write\n"]),
         Answer::Memory => put_pieces(err, &[b"ocelot: out of memory\n"]),
         Answer::Cut => put_pieces(err, &[b"ocelot: checkpoint lost\n"]),
+        Answer::Uncovered { gap } => put_gap(&gap, err),
         Answer::End | Answer::Trapped | Answer::Dark => Ok(()),
     }
 }
 
-/// Writes the line of an answer, and holds nothing back. At a fault a part of the line was taken.
-pub fn put_line<E: Sink>(answer: Answer, words: &[String], err: &mut E)
-    ensures { TookAll (writes E.took E.held E.faults err.old err.new)
-        (line_of (map string_bytes words.now) answer)
-        ⊎ TookFront (writes E.took E.held E.faults err.old err.new)
-        (line_of (map string_bytes words.now) answer) }
+/// Writes the lines of meters, if there are any.
+fn put_told<M: Meter, E: Sink>(meters: &Option<Vec<M>>, err: &mut E) -> Result<(), SinkFault>
+    ensures ok { OnOk result (E.took err.old (told_by (told_of M.kind_of M.numbers meters.now)) err.new) }
+    ensures part { OnErr result
+        (TookPart E.took err.old (told_by (told_of M.kind_of M.numbers meters.now)) err.new) }
+    ensures cause { OnErr result (Rose (E.faults err.old) (E.faults err.new)) }
+    ensures count { E.faults err.old ≤ E.faults err.new }
 {
-    match put_line_of(answer, words, err) {
+    match meters {
+        Some(meters) => put_meters(meters.as_slice(), err),
+        None => Ok(()),
+    }
+}
+
+/// Writes the line of an answer, and those of meters.
+fn put_all<M: Meter, E: Sink>(
+    answer: Answer,
+    words: &[String],
+    meters: &Option<Vec<M>>,
+    err: &mut E,
+) -> Result<(), SinkFault>
+    ensures ok { OnOk result
+        (E.took err.old (line_of (map string_bytes words.now) answer
+        ++ told_by (told_of M.kind_of M.numbers meters.now)) err.new) }
+    ensures part { OnErr result
+        (TookPart E.took err.old (line_of (map string_bytes words.now) answer
+        ++ told_by (told_of M.kind_of M.numbers meters.now)) err.new) }
+    ensures cause { OnErr result (Rose (E.faults err.old) (E.faults err.new)) }
+    ensures count { E.faults err.old ≤ E.faults err.new }
+{
+    if let Err(fault) = put_line_of(answer, words, err) {
+        return Err(fault);
+    }
+    put_told(meters, err)
+}
+
+/// Writes the line of an answer and those of meters, and holds nothing back. At a fault a part of
+/// the lines was taken.
+pub fn put_lines<M: Meter, E: Sink>(
+    answer: Answer,
+    words: &[String],
+    meters: &Option<Vec<M>>,
+    err: &mut E,
+)
+    ensures { TookAll (writes E.took E.held E.faults err.old err.new)
+        (line_of (map string_bytes words.now) answer
+        ++ told_by (told_of M.kind_of M.numbers meters.now))
+        ⊎ TookFront (writes E.took E.held E.faults err.old err.new)
+        (line_of (map string_bytes words.now) answer
+        ++ told_by (told_of M.kind_of M.numbers meters.now)) }
+{
+    match put_all(answer, words, meters, err) {
         Ok(()) => {
             let _ = err.flush();
         }

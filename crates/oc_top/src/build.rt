@@ -1,12 +1,12 @@
 //! From a source to its marked program, and from that to its image.
-ghost use Rattle.std.specs.Prelude.{◌≡◌, ◌≤◌, ℕ, List, length, map, IfOk, IfErr};
+ghost use Rattle.std.specs.Prelude.{◌≡◌, ◌≤◌, ℕ, Bool, true, List, length, map, IfOk, IfErr};
 ghost use Rattle.oc_tree.specs.View.{program_view};
 ghost use Rattle.oc_tree.specs.Form.{InForm};
 ghost use Rattle.oc_tree.specs.Nodes.{program_nodes};
 ghost use Rattle.oc_lex.specs.Stands.{IsName};
 ghost use Rattle.oc_lex.specs.Tokens.{AreTokens};
 ghost use Rattle.oc_io.specs.Counts.{line_feeds};
-ghost use Rattle.oc_grammar.specs.Lexemes.{lexemes_of};
+ghost use Rattle.oc_grammar.specs.Lexemes.{lexemes_in};
 ghost use Rattle.oc_needs.specs.Requirements.{requirements};
 ghost use Rattle.oc_needs.specs.View.{requirement_view};
 ghost use Rattle.oc_writes.specs.Targets.{may_write};
@@ -19,7 +19,7 @@ ghost use Rattle.oc_honest.specs.Timely.{RunsAreTimely};
 ghost use Rattle.oc_top.specs.Faults.{token_line};
 ghost use Rattle.oc_top.specs.Meant.{marked_code, program_marked};
 ghost use Rattle.oc_top.specs.Sources.{Spells, line_at};
-ghost use Rattle.oc_top.specs.Steps.{IsAccepted, IsMarkedOf, IsNotBuilt, for_rules, for_tokens, for_tree};
+ghost use Rattle.oc_top.specs.Steps.{IsAccepted, IsMarkedOf, IsNotBuilt, IsNotRead, for_rules, for_tokens, for_tree};
 
 use crate::answer::Answer;
 use oc_budget::laws::budgets_bound;
@@ -58,7 +58,8 @@ fn line_of(source: &[u8], at: usize) -> usize
 
 /// The line of the token at a place, or of the last one; 1 where there is none.
 fn token_line(tokens: &[Token], token: usize) -> usize
-    ensures { (source : List ℕ) → result ≡ token_line (lexemes_of source tokens.now) token }
+    ensures { (atomic : Bool) (source : List ℕ)
+        → result ≡ token_line (lexemes_in atomic source tokens.now) token }
 {
     match tokens.get(token.min(tokens.len().saturating_sub(1))) {
         Some(token) => token.line as usize,
@@ -78,8 +79,10 @@ fn answer_without_tokens(source: &[u8], error: LexError) -> Answer
     }
 }
 
-fn answer_without_tree(tokens: &[Token], error: ParseError) -> Answer
-    ensures { (source : List ℕ) → result ≡ for_tree (lexemes_of source tokens.now) error }
+/// The answer to tokens that spell no program.
+pub fn answer_without_tree(tokens: &[Token], error: ParseError) -> Answer
+    ensures { (atomic : Bool) (source : List ℕ)
+        → result ≡ for_tree (lexemes_in atomic source tokens.now) error }
 {
     match error {
         ParseError::Syntax { token } | ParseError::Depth { token } => Answer::Syntax {
@@ -89,7 +92,8 @@ fn answer_without_tree(tokens: &[Token], error: ParseError) -> Answer
     }
 }
 
-fn answer_without_rules(error: RuleError) -> Answer
+/// The answer to a program that breaks a rule.
+pub fn answer_without_rules(error: RuleError) -> Answer
     ensures { result ≡ for_rules error }
 {
     match error {
@@ -99,11 +103,12 @@ fn answer_without_rules(error: RuleError) -> Answer
 }
 
 /// The tokens of a source.
-fn tokens_of(alloc: Global, source: &[u8]) -> Result<Vec<Token>, Answer>
+pub fn tokens_of(alloc: Global, source: &[u8]) -> Result<Vec<Token>, Answer>
     requires { length source.now ≤ 1048576 }
     ensures tokens { IfOk result (λ ts. AreTokens source.now ts.items) }
     ensures few { IfOk result (λ ts. length ts.items ≤ length source.now) }
     ensures refused { IfErr result (λ a. IsNotBuilt source.now a) }
+    ensures refused_with_blocks { IfErr result (λ a. IsNotRead true source.now a) }
 {
     match lex(alloc, source) {
         Ok(tokens) => Ok(tokens),

@@ -1,7 +1,7 @@
 //! The command lines.
 ghost use Rattle.std.specs.Prelude.{◌≡◌, map};
 ghost use Rattle.std.specs.String.{string_bytes};
-ghost use Rattle.oc_top.specs.Commands.{are_files as files_named, command_of, is_file, print_with, supply_of};
+ghost use Rattle.oc_top.specs.Commands.{are_files as files_named, command_of, drill_with, is_file, run_with, supply_of, turns_of, with_one, with_three};
 
 use oc_rows::number::read_number;
 
@@ -9,11 +9,28 @@ use oc_rows::number::read_number;
 #[derive(Clone, Copy, Debug, PartialEq, Eq)]
 pub enum Command {
     /// To run an image with the supply of this number; its files are source, sensors and power.
-    Run { supply: u8, first: usize },
+    /// Where it is metered, the meters write their lines.
+    Run {
+        supply: u8,
+        first: usize,
+        metered: bool,
+    },
+    /// To run the files of a drill of so many turns, with the supply of the number 0.
+    Drill {
+        turns: u32,
+    },
     /// To write the regions of a source.
-    Regions { first: usize },
+    Regions {
+        first: usize,
+    },
     /// To write the listing of a source's image.
-    Build { first: usize },
+    Build {
+        first: usize,
+    },
+    /// To judge the blocks of a source.
+    Check {
+        first: usize,
+    },
 }
 
 /// Whether a word may stand for a file.
@@ -41,55 +58,72 @@ fn read_supply(word: &str) -> Option<u8>
     }
 }
 
-/// The command of one word and a source.
-fn read_print(word: &str) -> Option<Command>
-    ensures { result ≡ print_with word.now }
+/// A run with the supply that a word spells.
+fn read_run(number: &str, metered: bool, first: usize) -> Option<Command>
+    ensures { result ≡ run_with (supply_of number.now) metered first }
 {
-    if word == "regions" {
-        Some(Command::Regions { first: 1 })
-    } else if word == "build" {
-        Some(Command::Build { first: 1 })
+    let supply = read_supply(number)?;
+    Some(Command::Run {
+        supply,
+        first,
+        metered,
+    })
+}
+
+/// The number of turns that a word spells.
+fn read_turns(word: &str) -> Option<u32>
+    ensures { result ≡ turns_of word.now }
+{
+    if 4 < word.len() {
+        return None;
+    }
+    let number = read_number(word.as_bytes())?;
+    if 1 <= number && number <= 1000 {
+        Some(number as u32)
     } else {
         None
     }
 }
 
-/// The command of a line of words: `run SOURCE SENSORS POWER`,
-/// `run --supply K SOURCE SENSORS POWER`, where K has 1 to 3 digits and is at most 255,
-/// `regions SOURCE` or `build SOURCE`. A word for a file isn't empty and doesn't begin with `-`.
-pub fn read_command(words: &[String]) -> Option<Command>
-    ensures { result ≡ command_of (map string_bytes words.now) }
+/// A drill of the number of turns that a word spells.
+fn read_drill(word: &str) -> Option<Command>
+    ensures { result ≡ drill_with (turns_of word.now) }
 {
-    match words {
-        [word, source] => {
-            if names_file(source.as_str()) {
-                read_print(word.as_str())
-            } else {
-                None
-            }
-        }
-        [word, source, sensors, power] => {
-            if word.as_str() == "run" && are_files(source, sensors, power) {
-                Some(Command::Run {
-                    supply: 0,
-                    first: 1,
-                })
-            } else {
-                None
-            }
-        }
-        [word, option, number, source, sensors, power] => {
-            if word.as_str() == "run"
-                && option.as_str() == "--supply"
-                && are_files(source, sensors, power)
-            {
-                let supply = read_supply(number.as_str())?;
-                Some(Command::Run { supply, first: 3 })
-            } else {
-                None
-            }
-        }
-        _ => None,
+    let turns = read_turns(word)?;
+    Some(Command::Drill { turns })
+}
+
+/// The command of one word and another.
+fn read_one(word: &str, other: &str) -> Option<Command>
+    ensures { result ≡ with_one word.now other.now }
+{
+    if word == "drill" {
+        read_drill(other)
+    } else if !names_file(other) {
+        None
+    } else if word == "regions" {
+        Some(Command::Regions { first: 1 })
+    } else if word == "build" {
+        Some(Command::Build { first: 1 })
+    } else if word == "check" {
+        Some(Command::Check { first: 1 })
+    } else {
+        None
+    }
+}
+
+/// The command of a word and three files.
+fn read_three(word: &str) -> Option<Command>
+    ensures { result ≡ with_three word.now }
+{
+    if word == "run" {
+        Some(Command::Run {
+            supply: 0,
+            first: 1,
+            metered: false,
+        })
+    } else {
+        None
     }
 }
 
@@ -100,4 +134,59 @@ fn are_files(source: &String, sensors: &String, power: &String) -> bool
         (string_bytes power.now) }
 {
     names_file(source.as_str()) && names_file(sensors.as_str()) && names_file(power.as_str())
+}
+
+/// The command of a line of words: `run SOURCE SENSORS POWER`, behind whose `run` may stand
+/// `--supply K`, where K has 1 to 3 digits and is at most 255, and then `--meters`;
+/// `regions SOURCE`, `build SOURCE`, `check SOURCE` or `drill N`, where N has 1 to 4 digits and is from 1 to 1000.
+/// A word for a file isn't empty and doesn't begin with `-`.
+pub fn read_command(words: &[String]) -> Option<Command>
+    ensures { result ≡ command_of (map string_bytes words.now) }
+{
+    match words {
+        [word, other] => read_one(word.as_str(), other.as_str()),
+        [word, source, sensors, power] => {
+            if are_files(source, sensors, power) {
+                read_three(word.as_str())
+            } else {
+                None
+            }
+        }
+        [word, option, source, sensors, power] => {
+            if word.as_str() == "run"
+                && option.as_str() == "--meters"
+                && are_files(source, sensors, power)
+            {
+                Some(Command::Run {
+                    supply: 0,
+                    first: 2,
+                    metered: true,
+                })
+            } else {
+                None
+            }
+        }
+        [word, option, number, source, sensors, power] => {
+            if word.as_str() == "run"
+                && option.as_str() == "--supply"
+                && are_files(source, sensors, power)
+            {
+                read_run(number.as_str(), false, 3)
+            } else {
+                None
+            }
+        }
+        [word, option, number, meters, source, sensors, power] => {
+            if word.as_str() == "run"
+                && option.as_str() == "--supply"
+                && meters.as_str() == "--meters"
+                && are_files(source, sensors, power)
+            {
+                read_run(number.as_str(), true, 4)
+            } else {
+                None
+            }
+        }
+        _ => None,
+    }
 }

@@ -2,8 +2,8 @@
 ghost use Rattle.std.specs.Prelude.{◌+◌, ◌<◌, [], ◌∷◌, length, map, IfOk, IfErr, OnOk};
 ghost use Rattle.std.specs.String.{string_bytes};
 ghost use Rattle.oc_io.specs.Faults.{Rose};
-ghost use Rattle.oc_top.specs.Commands.{word_at};
-ghost use Rattle.oc_top.specs.Files.{AreFiles, IsFile, IsRefused, NotFetched, ShelfStays, bytes_of, fetches, limit_at, names_of};
+ghost use Rattle.oc_top.specs.Commands.{run_limits, source_limit, word_at};
+ghost use Rattle.oc_top.specs.Files.{AreFiles, IsFile, IsRefused, NotFetched, ShelfStays, bytes_of, fetches, listed, names_of};
 
 use crate::answer::Answer;
 use oc_io::shelf::{Shelf, ShelfError};
@@ -51,25 +51,28 @@ fn fetch_word<F: Shelf>(
     }
 }
 
-/// The three files whose words begin at a place, in the order of the words. The first that is
-/// refused decides the answer, and no later one is fetched.
+/// The three files of a run whose words begin at a place, in the order of the words, the first of
+/// them with this limit. The first that is refused decides the answer, and no later one is fetched.
 pub fn fetch_files<F: Shelf>(
     alloc: Global,
     words: &[String],
     first: usize,
+    limit: usize,
     shelf: &mut F,
 ) -> Result<Fetched, Answer>
     requires { first + 2 < length words.now }
     ensures files { IfOk result
-        (λ f. AreFiles (F.holds shelf.old) (map string_bytes words.now) first (bytes_of f)) }
+        (λ f. AreFiles (F.holds shelf.old) (map string_bytes words.now) first (run_limits limit)
+        (listed (bytes_of f))) }
     ensures refused { IfErr result
         (λ a. NotFetched (fetches F.holds F.asked F.faults shelf.old shelf.new)
-        (map string_bytes words.now) first 3 a) }
+        (map string_bytes words.now) first (run_limits limit) a) }
     ensures asked { OnOk result
-        (F.asked shelf.old (names_of (map string_bytes words.now) first 3) shelf.new) }
+        (F.asked shelf.old (names_of (map string_bytes words.now) first (run_limits limit) 3)
+        shelf.new) }
     ensures stays { ShelfStays F.holds F.faults shelf.old shelf.new }
 {
-    let source = fetch_word(alloc, words, first, SOURCE_LIMIT, shelf)?;
+    let source = fetch_word(alloc, words, first, limit, shelf)?;
     let sensors = fetch_word(alloc, words, first + 1, ROWS_LIMIT, shelf)?;
     let power = fetch_word(alloc, words, first + 2, ROWS_LIMIT, shelf)?;
     Ok(Fetched {
@@ -88,13 +91,14 @@ pub fn fetch_source<F: Shelf>(
 ) -> Result<Vec<u8>, Answer>
     requires { first < length words.now }
     ensures source { IfOk result
-        (λ v. IsFile (F.holds shelf.old (word_at (map string_bytes words.now) first)) (limit_at 0)
-        v.items) }
+        (λ v. AreFiles (F.holds shelf.old) (map string_bytes words.now) first (source_limit ∷ [])
+        (v.items ∷ [])) }
     ensures refused { IfErr result
         (λ a. NotFetched (fetches F.holds F.asked F.faults shelf.old shelf.new)
-        (map string_bytes words.now) first 1 a) }
+        (map string_bytes words.now) first (source_limit ∷ []) a) }
     ensures asked { OnOk result
-        (F.asked shelf.old (names_of (map string_bytes words.now) first 1) shelf.new) }
+        (F.asked shelf.old (names_of (map string_bytes words.now) first (source_limit ∷ []) 1)
+        shelf.new) }
     ensures stays { ShelfStays F.holds F.faults shelf.old shelf.new }
 {
     let source = fetch_word(alloc, words, first, SOURCE_LIMIT, shelf)?;

@@ -3,15 +3,21 @@
 //! [`top::ocelot`] does what a line of words asks for and answers its status, and [`standard`] calls
 //! it with the program's own supplies. [`command`] reads the
 //! words, [`files`] fetches, [`build`] goes from a source to its marked program and its image,
-//! [`prepare`] has the steps before the first byte of a report is written, and [`report`] writes it.
+//! [`prepare`] has the steps before the first byte of a report is written, and [`report`] writes it;
+//! [`metered`] tells it to meters, and [`drill`] runs files that it makes itself.
 //! [`print`] writes the other texts of a program, [`regions`] that of its regions with the help of
-//! [`names`], and [`answer`] has the answers with their lines.
+//! [`names`]. [`check`] judges hand-written blocks, and [`gap`] writes what they leave open.
+//! [`answer`] has the answers with their lines.
 #![tactic(auto)]
 
 pub mod answer;
 pub mod build;
+pub mod check;
 pub mod command;
+pub mod drill;
 pub mod files;
+pub mod gap;
+pub mod metered;
 mod names;
 pub mod prepare;
 pub mod print;

@@ -3,8 +3,10 @@ ghost use Rattle.std.specs.Prelude.{◌≡◌, [], map, get_or};
 ghost use Rattle.std.specs.Option.{option_map};
 ghost use Rattle.oc_tree.specs.View.{block_view, kind_view, program_view};
 ghost use Rattle.oc_top.specs.DeclaredNames.{block_names, kind_names, program_names};
+ghost use Rattle.oc_top.specs.RegionDetails.{policy_name};
 ghost use Rattle.oc_top.specs.RegionLines.{declared_name, function_name, nv_name, param_name, variable_name};
 
+use oc_tree::marked::{Policy, PolicyKind};
 use oc_tree::tree::{Block, Param, Program, StmtId, StmtKind, VarId};
 
 /// The name that a statement declares; empty where it declares none.
@@ -126,7 +128,7 @@ fn nv_name(program: &Program, index: u32) -> &[u8]
 }
 
 /// The name of a variable of the function at a place. It goes over the tree once at most.
-pub fn variable_name(program: &Program, function: u32, variable: VarId) -> &[u8]
+fn variable_name(program: &Program, function: u32, variable: VarId) -> &[u8]
     ensures { result.now ≡ variable_name (program_view program.now) function variable }
 {
     match variable {
@@ -137,5 +139,15 @@ pub fn variable_name(program: &Program, function: u32, variable: VarId) -> &[u8]
             None => b"",
         },
         VarId::Returned => b"",
+    }
+}
+
+/// The name of a policy's variable; empty for a consistent set.
+pub fn policy_name(program: &Program, policy: Policy) -> &[u8]
+    ensures { result.now ≡ policy_name (program_view program.now) policy }
+{
+    match policy.kind {
+        PolicyKind::Fresh { var } => variable_name(program, policy.function, var),
+        PolicyKind::Consistent { .. } => b"",
     }
 }

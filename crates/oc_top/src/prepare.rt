@@ -9,7 +9,7 @@ use crate::build::{image_of, marked_of};
 use crate::files::Fetched;
 use oc_isa::image::Image;
 use oc_machine::machine::Machine;
-use oc_power::power::{PowerError, read_power};
+use oc_power::power::{PowerError, read_trace};
 use oc_power::supply::Supply;
 use oc_sensors::file::{SensorError, read_sensors};
 use oc_sensors::sensors::Sensors;
@@ -77,8 +77,8 @@ pub fn prepare(alloc: Global, files: &Fetched, supply: &mut dyn Supply) -> Resul
 {
     let image = build(alloc, &files.source)?;
     let sensors = sensors_for(alloc, &files.sensors, &image)?;
-    let periods = read_power(alloc, &files.power)?;
-    supply.feed(&periods)?;
+    let periods = read_trace(alloc, &files.power)?;
+    supply.take(periods)?;
     let machine = Machine::load(alloc, image)?;
     Ok(Prepared { machine, sensors })
 }

@@ -7,7 +7,7 @@ ghost use Rattle.oc_budget.specs.View.{budgets_view};
 ghost use Rattle.oc_top.specs.RegionDetails.{HasDetails, consistent_line, lines_with, numbers_at, policy_fields, policy_name, range_of, region_fields};
 ghost use Rattle.oc_top.specs.RegionLines.{function_name, line_at, reason_line, reason_lines, region_lines, regions_text, total_lines};
 
-use crate::names::{function_name, variable_name};
+use crate::names::{function_name, policy_name};
 use itoa::Buffer;
 use oc_budget::told::Budgets;
 use oc_effects::effects::Effects;
@@ -42,7 +42,7 @@ pub struct Details {
 }
 
 /// The line of a statement.
-fn line_at(effects: &Effects, s: StmtId) -> u32
+pub fn line_at(effects: &Effects, s: StmtId) -> u32
     ensures { result ≡ line_at effects.now.program s }
 {
     match effects.at(s) {
@@ -80,23 +80,11 @@ fn function_of(marked: &Marked, function: u32) -> &[u8]
     function_name(marked.checked().program(), function)
 }
 
-/// The name of a policy's variable; empty for a consistent set.
-fn policy_name(marked: &Marked, policy: Policy) -> &[u8]
-    ensures { result.now ≡ policy_name marked.now.program policy }
-{
-    match policy.kind {
-        PolicyKind::Fresh { var } => {
-            variable_name(marked.checked().program(), policy.function, var)
-        }
-        PolicyKind::Consistent { .. } => b"",
-    }
-}
-
 /// The same as a name of its own.
 fn named(alloc: Global, marked: &Marked, policy: Policy) -> Result<Name, AllocError>
     ensures { IfOk result (λ n. n ≡ policy_name marked.now.program policy) }
 {
-    let bytes = Vec::from_slice(alloc, policy_name(marked, policy))?;
+    let bytes = Vec::from_slice(alloc, policy_name(marked.checked().program(), policy))?;
     Ok(Name::new(bytes))
 }
 

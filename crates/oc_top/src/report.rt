@@ -5,7 +5,7 @@ ghost use Rattle.oc_isa.specs.Image.{IsWellMade, parts_of};
 ghost use Rattle.oc_items.specs.Text.{nv_lines};
 ghost use Rattle.oc_top.specs.Answers.{IsWritten, writes};
 ghost use Rattle.oc_top.specs.Steps.{CanRun};
-ghost use Rattle.oc_top.specs.Verdict.{runs};
+ghost use Rattle.oc_top.specs.Verdict.{runs, says};
 
 use crate::answer::Answer;
 use crate::prepare::Prepared;
@@ -56,11 +56,8 @@ pub fn flushed<O: Sink>(answer: Answer, out: &mut O) -> Answer
 /// Writes the nonvolatile variables, where the run is over.
 fn finished<O: Sink>(answer: Answer, machine: &Machine, out: &mut O) -> Answer
     ensures written { IsWritten (writes O.took O.held O.faults out.old out.new)
-        (record {
-          answer = answer;
-          text = nv_lines machine.now.parts.names
-              (map (λ v. v.words) machine.now.parts.nv) machine.now.state.nv;
-        }) result }
+        (says answer (nv_lines machine.now.parts.names
+        (map (λ v. v.words) machine.now.parts.nv) machine.now.state.nv)) result }
     ensures count { O.faults out.old ≤ O.faults out.new }
 {
     match put_nvs(machine.image().raw(), machine.nv_words(), out) {

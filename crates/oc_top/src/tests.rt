@@ -1,6 +1,8 @@
 use crate::top::ocelot;
 use oc_io::memory_shelf::MemoryShelf;
 use oc_io::memory_sink::MemorySink;
+use oc_meters::kinds::{Counts, OffTime, Retries};
+use oc_meters::meter::Meter;
 use oc_power::cutter::Cutter;
 use oc_power::looped::Looped;
 use oc_power::recorded::Recorded;
@@ -215,7 +217,13 @@ fn call(
     supplies.push(Box::new(alloc, Recorded::new(alloc))?)?;
     supplies.push(Box::new(alloc, Looped::new(alloc, 64))?)?;
     supplies.push(Box::new(alloc, Cutter::new(alloc, 3))?)?;
-    let status = ocelot(alloc, &words, &mut shelf, &mut out, &mut err, supplies);
+    let mut meters: Vec<Box<dyn Meter>> = Vec::new(alloc);
+    meters.push(Box::new(alloc, Counts::new())?)?;
+    meters.push(Box::new(alloc, OffTime::new())?)?;
+    meters.push(Box::new(alloc, Retries::new())?)?;
+    let status = ocelot(
+        alloc, &words, &mut shelf, &mut out, &mut err, supplies, meters,
+    );
     let out = Vec::from_slice(alloc, out.bytes())?;
     let err = Vec::from_slice(alloc, err.bytes())?;
     Ok(Called { status, out, err })
@@ -546,6 +554,160 @@ fn prints() -> [Case; 8] {
             err: "ocelot: rule 20 broken in line 1\n",
         },
     ]
+}
+
+/// Verdicts on blocks: that they suffice, and what they leave open of a fresh variable and of a set.
+fn verdicts() -> [Case; 4] {
+    [
+        printed(
+            "check s",
+            "sensor t; port r; fn main() { atomic { let x = sense(t); Fresh(x); emit(r, x); } }",
+            "safe\n",
+        ),
+        Case {
+            words: "check s",
+            source: "sensor t; port r;\nfn main() {\nlet mut x = 0; Fresh(x);\natomic { x = sense(t); }\nemit(r, x);\n}",
+            sensors: NO_READINGS,
+            power: "on,off\n",
+            status: 18,
+            out: "",
+            err: "ocelot: not covered: fresh main x needs lines 4 and 5 in main\n",
+        },
+        Case {
+            words: "check s",
+            source: "sensor t; fn main() {\nlet x = sense(t);\nConsistent(x, 20);\n}",
+            sensors: NO_READINGS,
+            power: "on,off\n",
+            status: 18,
+            out: "",
+            err: "ocelot: not covered: consistent main 20 needs lines 2 and 2 in main\n",
+        },
+        Case {
+            words: "check s",
+            source: "fn main() { atomic { let x = 1;\nlet x = 2; } }",
+            sensors: NO_READINGS,
+            power: "on,off\n",
+            status: 5,
+            out: "",
+            err: "ocelot: rule 2 broken in line 2\n",
+        },
+    ]
+}
+
+#[test]
+fn each_verdict(rt: HostRuntime) -> Result<(), Fail> {
+    for case in &verdicts() {
+        let called = call_case(rt.alloc(), case, no_faults(rt.alloc()))?;
+        assert_eq!(rt; called.out.as_slice(), case.out.as_bytes());
+        assert_eq!(rt; called.err.as_slice(), case.err.as_bytes());
+        assert_eq!(rt; called.status, case.status);
+    }
+    Ok(())
+}
+
+/// Drills of so many turns, and what is no number of turns.
+fn drills() -> [Case; 9] {
+    let usage = "ocelot: not a command\n";
+    [
+        asked("drill 1", 0, "drill 1 status 0 lines 10 bytes 100\n", ""),
+        asked("drill 0002", 0, "drill 2 status 0 lines 19 bytes 195\n", ""),
+        asked(
+            "drill 10",
+            0,
+            "drill 10 status 0 lines 110 bytes 1276\n",
+            "",
+        ),
+        asked(
+            "drill 1000",
+            0,
+            "drill 1000 status 0 lines 10340 bytes 142792\n",
+            "",
+        ),
+        asked("drill 0", 1, "", usage),
+        asked("drill 1001", 1, "", usage),
+        asked("drill 00001", 1, "", usage),
+        asked("drill", 1, "", usage),
+        asked("drill s", 1, "", usage),
+    ]
+}
+
+#[test]
+fn each_drill(rt: HostRuntime) -> Result<(), Fail> {
+    for case in &drills() {
+        let called = call_case(rt.alloc(), case, no_faults(rt.alloc()))?;
+        assert_eq!(rt; called.out.as_slice(), case.out.as_bytes());
+        assert_eq!(rt; called.err.as_slice(), case.err.as_bytes());
+        assert_eq!(rt; called.status, case.status);
+    }
+    Ok(())
+}
+
+/// A run with the lines of meters: of a region that is aborted once, of one that just has its budget,
+/// and of one that has a step less each time.
+fn metered() -> [Case; 5] {
+    let again =
+        "5 enter 1\n6 sense t 21\n8 use 3\n9 abort 1\n9 off 10\n24 enter 1\n25 sense t 21\n27 use 3\n29 emit r 21\n30 done 3\n31 commit 1\n32 end\n";
+    let just =
+        "5 enter 1\n6 sense t 21\n8 use 3\n10 emit r 21\n11 done 3\n12 commit 1\n13 off 10\n29 end\n";
+    let less =
+        "5 enter 1\n6 sense t 21\n8 use 3\n10 emit r 21\n11 done 3\n12 abort 1\n12 off 10\n27 enter 1\n28 sense t 21\n30 use 3\n32 emit r 21\n33 done 3\n34 abort 1\n34 off 10\n44 dark\n";
+    let case = |words, power, status, out, err| Case {
+        words,
+        source: FRESH,
+        sensors: READINGS,
+        power,
+        status,
+        out,
+        err,
+    };
+    [
+        case(
+            "run --meters s h p",
+            "on,off\n9,10\n40,0\n",
+            0,
+            again,
+            "meter counts 2 1 1 1 1\nmeter off 10 10\nmeter retries 0 1\n",
+        ),
+        case(
+            "run --supply 0 --meters s h p",
+            "on,off\n13,10\n13,10\n",
+            0,
+            just,
+            "meter counts 1 1 1 0 1\nmeter off 10 10\nmeter retries 0 0\n",
+        ),
+        case(
+            "run --meters s h p",
+            "on,off\n12,10\n12,10\n",
+            9,
+            less,
+            "meter counts 2 2 0 2 2\nmeter off 20 10\nmeter retries 2 2\n",
+        ),
+        case(
+            "run --meters --supply 0 s h p",
+            "on,off\n",
+            1,
+            "",
+            "ocelot: not a command\n",
+        ),
+        case(
+            "run --meters s h p",
+            "on,off\n1\n",
+            7,
+            "",
+            "ocelot: bad row 2 in power\n",
+        ),
+    ]
+}
+
+#[test]
+fn each_metered_run(rt: HostRuntime) -> Result<(), Fail> {
+    for case in &metered() {
+        let called = call_case(rt.alloc(), case, no_faults(rt.alloc()))?;
+        assert_eq!(rt; called.out.as_slice(), case.out.as_bytes());
+        assert_eq!(rt; called.err.as_slice(), case.err.as_bytes());
+        assert_eq!(rt; called.status, case.status);
+    }
+    Ok(())
 }
 
 #[test]

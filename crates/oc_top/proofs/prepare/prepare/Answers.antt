@@ -27,8 +27,7 @@ returns-clause-ready g c =
     let built = rw c.deref.ensures.value at c.in_ok-image.ensures.built in
     let sensed = rw c.deref-2.ensures.value at c.in_ok-sensors.ensures.rows in
     let powered = rw c.deref-3.ensures.value at c.in_ok-periods.ensures.ok in
-    let fed = c.in_ok-feed.ensures in
-    let planned = rw c.deref-4.ensures.value at fed.0 in
-    let sum = rw c.deref-4.ensures.value at fed.1.1.0 in
+    let planned = c.in_ok-take.ensures.0 in
+    let sum = c.in_ok-take.ensures.1.1.0 in
     is_ready _ _ _ _ _ _ c.in_ok-image.image c.in_ok-machine.ensures built sensed c.in_ok-sensors.ensures.sensors c.in_ok-sensors.ensures.now powered planned
     (rw planned (sum c.in_ok-periods.ensures.sum))

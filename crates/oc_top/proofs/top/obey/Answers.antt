@@ -1,20 +1,55 @@
-use Rattle.std.proofs.Common.{ap, ◌∙◌, map, Some}
+use Rattle.std.proofs.Common.{arith, ap, sym, ◌∙◌, map, Some, []}
+use Rattle.std.proofs.lemmas.List.{length-map}
 use Rattle.std.specs.String.{string_bytes}
+use Rattle.oc_meters.specs.Tally.{readings}
 use Rattle.oc_top.specs.Files.{fetches}
-use Rattle.oc_top.specs.Answers.{writes}
+use Rattle.oc_top.specs.Answers.{call_of, writes}
 use Rattle.oc_top.proofs.Asking.{comes_for, task_is}
+use Rattle.oc_top.proofs.Commanding.{commands_fit}
+use Rattle.oc_top.proofs.Drilling.{drill_comes}
+use Rattle.oc_top.proofs.Metering.{comes_alone}
 use Rattle.oc_top.proofs.top.obey.Goals as goal
 
 pub returns-in-Regions-clause-comes : goal.returns-in-Regions-clause-comes
 returns-in-Regions-clause-comes g c =
     let words = map string_bytes c.args.words.now in
-    comes_for words _ _ (fetches g.F.Shelf.holds g.F.Shelf.asked g.F.Shelf.faults _ _) (writes g.O.Sink.took g.O.Sink.held g.O.Sink.faults _ _) _
-    (task_is c.args.supplies.items (λ b. (goal.Supply-dyn g (b.vtable, b.value)).number b.value) (λ b. (goal.Supply-dyn g (b.vtable, b.value)).plan b.value) words _
-    (c.requires ∙ ap Some c.in-Regions.is)) c.regions.ensures.comes
+    comes_alone _ _ _ _ c.alone-in-Regions.ensures.untold c.alone-in-Regions.ensures.answer
+    (comes_for words _ _ (fetches g.F.Shelf.holds g.F.Shelf.asked g.F.Shelf.faults _ _) (writes g.O.Sink.took g.O.Sink.held g.O.Sink.faults _ _) [] _
+    (task_is c.args.supplies.items (λ b. (goal.Supply-dyn g (b.vtable, b.value)).number b.value) (λ b. (goal.Supply-dyn g (b.vtable, b.value)).plan b.value) (readings g.M.Meter.kind_of g.M.Meter.numbers c.args.meters.items) words _
+    (c.requires ∙ ap Some c.in-Regions.is)) c.regions.ensures.comes)
 
 pub returns-in-Build-clause-comes : goal.returns-in-Build-clause-comes
 returns-in-Build-clause-comes g c =
     let words = map string_bytes c.args.words.now in
-    comes_for words _ _ (fetches g.F.Shelf.holds g.F.Shelf.asked g.F.Shelf.faults _ _) (writes g.O.Sink.took g.O.Sink.held g.O.Sink.faults _ _) _
-    (task_is c.args.supplies.items (λ b. (goal.Supply-dyn g (b.vtable, b.value)).number b.value) (λ b. (goal.Supply-dyn g (b.vtable, b.value)).plan b.value) words _
-    (c.requires ∙ ap Some c.in-Build.is)) c.build.ensures.comes
+    comes_alone _ _ _ _ c.alone-in-Build.ensures.untold c.alone-in-Build.ensures.answer
+    (comes_for words _ _ (fetches g.F.Shelf.holds g.F.Shelf.asked g.F.Shelf.faults _ _) (writes g.O.Sink.took g.O.Sink.held g.O.Sink.faults _ _) [] _
+    (task_is c.args.supplies.items (λ b. (goal.Supply-dyn g (b.vtable, b.value)).number b.value) (λ b. (goal.Supply-dyn g (b.vtable, b.value)).plan b.value) (readings g.M.Meter.kind_of g.M.Meter.numbers c.args.meters.items) words _
+    (c.requires ∙ ap Some c.in-Build.is)) c.build.ensures.comes)
+
+pub returns-in-Check-clause-comes : goal.returns-in-Check-clause-comes
+returns-in-Check-clause-comes g c =
+    let words = map string_bytes c.args.words.now in
+    comes_alone _ _ _ _ c.alone-in-Check.ensures.untold c.alone-in-Check.ensures.answer
+    (comes_for words _ _ (fetches g.F.Shelf.holds g.F.Shelf.asked g.F.Shelf.faults _ _) (writes g.O.Sink.took g.O.Sink.held g.O.Sink.faults _ _) [] _
+    (task_is c.args.supplies.items (λ b. (goal.Supply-dyn g (b.vtable, b.value)).number b.value) (λ b. (goal.Supply-dyn g (b.vtable, b.value)).plan b.value) (readings g.M.Meter.kind_of g.M.Meter.numbers c.args.meters.items) words _
+    (c.requires ∙ ap Some c.in-Check.is)) c.check.ensures.comes)
+
+pub drill_by-requires : goal.drill_by-requires
+drill_by-requires g c = commands_fit (map string_bytes c.args.words.now) _ (c.requires ∙ ap Some c.in-Drill.is)
+
+pub returns-in-Drill-clause-comes : goal.returns-in-Drill-clause-comes
+returns-in-Drill-clause-comes g c =
+    let words = map string_bytes c.args.words.now in
+    comes_alone _ _ _ _ c.alone.ensures.untold c.alone.ensures.answer
+    (drill_comes (call_of words _ (fetches g.F.Shelf.holds g.F.Shelf.asked g.F.Shelf.faults _ _) (writes g.O.Sink.took g.O.Sink.held g.O.Sink.faults _ _)) _ _
+    (sym (task_is c.args.supplies.items (λ b. (goal.Supply-dyn g (b.vtable, b.value)).number b.value) (λ b. (goal.Supply-dyn g (b.vtable, b.value)).plan b.value) (readings g.M.Meter.kind_of g.M.Meter.numbers c.args.meters.items) words _
+    (c.requires ∙ ap Some c.in-Drill.is))) (g.met.F.Shelf.asked_nothing _) _ c.drill_by.ensures)
+
+pub regions-requires : goal.regions-requires
+regions-requires g c = omega (arith, commands_fit (map string_bytes c.args.words.now) _ (c.requires ∙ ap Some c.in-Regions.is), length-map c.args.words.now string_bytes)
+
+pub build-requires : goal.build-requires
+build-requires g c = omega (arith, commands_fit (map string_bytes c.args.words.now) _ (c.requires ∙ ap Some c.in-Build.is), length-map c.args.words.now string_bytes)
+
+pub check-requires : goal.check-requires
+check-requires g c = omega (arith, commands_fit (map string_bytes c.args.words.now) _ (c.requires ∙ ap Some c.in-Check.is), length-map c.args.words.now string_bytes)

@@ -1,12 +1,15 @@
 use Rattle.std.proofs.Common.{refl}
-use Rattle.oc_top.proofs.Asking.{not_fetched, turned_down, was_run}
+use Rattle.oc_top.proofs.Asking.{not_fetched, turned_down}
+use Rattle.oc_top.proofs.Metering.{comes_alone, was_read}
 use Rattle.oc_top.proofs.top.run.Goals as goal
 
 pub returns-in-Ok-prepare-clause-comes : goal.returns-in-Ok-prepare-clause-comes
-returns-in-Ok-prepare-clause-comes g c = was_run _ _ _ refl _ c.in-Ok.ensures.files c.in-Ok.ensures.asked _ _ _ c.in-Ok-prepare.ensures.ready _ c.report.ensures
+returns-in-Ok-prepare-clause-comes g c = was_read _ _ _ _ refl _ c.in-Ok.ensures.files c.in-Ok.ensures.asked _ _ _ c.in-Ok-prepare.ensures.ready _ _ c.report_for.ensures
 
-pub returns-clause-comes : goal.returns-clause-comes
-returns-clause-comes g c = turned_down _ _ _ refl _ c.in-Ok.ensures.files c.in-Ok.ensures.asked _ c.in-Err-prepare.ensures.refused (g.met.O.Sink.took_nothing _)
+pub returns-in-Err-prepare-clause-comes : goal.returns-in-Err-prepare-clause-comes
+returns-in-Err-prepare-clause-comes g c = comes_alone _ _ _ _ c.alone-in-Err-prepare.ensures.untold c.alone-in-Err-prepare.ensures.answer
+    (turned_down _ _ _ _ refl _ c.in-Ok.ensures.files c.in-Ok.ensures.asked _ c.in-Err-prepare.ensures.refused (g.met.O.Sink.took_nothing _))
 
 pub returns-in-Err-clause-comes : goal.returns-in-Err-clause-comes
-returns-in-Err-clause-comes g c = not_fetched _ _ refl _ c.in-Err.ensures.refused (g.met.O.Sink.took_nothing _)
+returns-in-Err-clause-comes g c = comes_alone _ _ _ _ c.alone.ensures.untold c.alone.ensures.answer
+    (not_fetched _ _ refl _ c.in-Err.ensures.refused (g.met.O.Sink.took_nothing _))

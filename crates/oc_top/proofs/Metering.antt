@@ -1,0 +1,84 @@
+-- What meters were told of a report that was written through their sink.
+use Rattle.std.proofs.Common.{ℕ, ◌≡◌, ◌∙◌, sym, ap, refl, subst, List, [], Bool, true, false, Option, Some, None}
+use Rattle.oc_io.specs.Faults.{Rose}
+use Rattle.oc_tree.specs.Names.{NameLists, names_view}
+use Rattle.oc_tree.specs.declared.name.Names.{Names}
+use Rattle.oc_meters.specs.Tally.{Reading, readings}
+use Rattle.oc_meters.specs.Reads.{Page, TakesBytes, page}
+use Rattle.oc_meters.specs.ReadBack.{begun}
+use Rattle.oc_meters.specs.Taken.{Took}
+use Rattle.oc_top.specs.Verdict.{Verdict, runs}
+use Rattle.oc_top.specs.Answers.{Call, Comes, IsWritten, Writes, in_part, told_by, whole}
+use Rattle.oc_io.specs.declared.period.Period.{Period}
+use Rattle.oc_sensors.specs.History.{Told}
+use Rattle.oc_machine.specs.Kept.{Running}
+use Rattle.oc_top.specs.Commands.{Plan, report, run_limits, source_limit}
+use Rattle.oc_top.specs.Files.{AreFiles, Files, listed, names_of}
+use Rattle.oc_top.specs.Steps.{IsReady, by_memory}
+use Rattle.oc_top.specs.Meters.{IsReported, read, unread}
+use Rattle.oc_top.specs.declared.answer.Answer.{Answer}
+use Rattle.oc_top.specs.declared.answer.Answer.TheVariants as answer
+use Rattle.oc_top.proofs.Asking.{turned_down, was_metered}
+
+-- what a sink round another one took, taken apart
+module _ (same_inner same_book : Type 0) (took rest : List ℕ → Type 0) (held : List ℕ) (rose : Type 0) (run : Verdict) (end : Answer) where
+  abbrev round : Writes
+  round = record { took = λ x. same_inner × same_book × took x × rest x; held = held; rose = rose }
+
+  abbrev inner : Writes
+  inner = record { took = took; held = held; rose = rose }
+
+  pub inner_same : IsWritten round run end → same_inner
+  inner_same (whole e t) = t.taken.0
+  inner_same (in_part e p) = p.taken.0
+
+  pub book_same : IsWritten round run end → same_book
+  book_same (whole e t) = t.taken.1
+  book_same (in_part e p) = p.taken.1
+
+  pub inner_written : IsWritten round run end → IsWritten inner run end
+  inner_written (whole e t) = whole e (record { taken = t.taken.2; written = t.written })
+  inner_written (in_part e p) = in_part e (record { rose = p.rose; front = p.front; back = p.back; split = p.split; taken = p.taken.2 })
+
+  pub all_read : IsWritten round run end → (rose → ⊥) → rest run.text
+  all_read (whole e t) calm = t.taken.3
+  all_read (in_part e p) calm = absurd (calm p.rose)
+
+-- where no call had failed and no fault rose, the book took all bytes
+pub book_took : (before after : Bool) (m n : ℕ) (a b : Names) (old : Page) (text : List ℕ) (new : Page) → before ≡ false → Took before after m n a b old text new → (Rose m n → ⊥)
+    → TakesBytes (names_view a) old text new
+book_took before true m n a b old text new e t calm = absurd (calm (t.marks.rose e refl))
+book_took before false m n a b old text new e t calm = t.taken refl
+
+pub was_reported : (run : Verdict) (sink : Writes) (end : Answer) (names : NameLists) (old new : Page) (meters : List Reading) (told : Option (List Reading)) → IsWritten sink run end
+    → ((sink.rose → ⊥) → TakesBytes names old run.text new) → names ≡ run.names → old ≡ begun meters → ((end ≡ answer.WriteFault → ⊥) → told ≡ Some new.readings)
+    → (end ≡ answer.WriteFault → told ≡ None) → IsReported run (Some meters) sink (told_by told) end
+was_reported run sink end names old new meters told w takes same is_begun kept none =
+    read w (λ apart calm. record {
+      page = new;
+      takes = subst (λ (p : Page). TakesBytes run.names p run.text new) is_begun (subst (λ (n : NameLists). TakesBytes n old run.text new) same (takes calm));
+      lines = ap told_by (kept apart);
+    }) (λ e. ap told_by (none e))
+
+pub reported_as : (run : Verdict) (meters : Option (List Reading)) (sink : Writes) (told : List ℕ) (end other : Answer) → other ≡ end → IsReported run meters sink told end
+    → IsReported run meters sink told other
+reported_as run meters sink told end other e r = subst (λ (x : Answer). IsReported run meters sink told x) (sym e) r
+
+-- a book that has just been opened
+pub begun_is : {M : Type 0} (kind : M → ℕ) (numbers : M → List ℕ) (line : List ℕ) (now given : List M) → line ≡ [] → now ≡ given
+    → page kind numbers line now ≡ begun (readings kind numbers given)
+begun_is {M = M} kind numbers line now given e f = ap (λ (l : List ℕ). page kind numbers l now) e ∙ ap (λ (ms : List M). page kind numbers [] ms) f
+
+-- the same call for an answer behind which no meters write
+pub comes_alone : (c : Call) (told : List ℕ) (end other : Answer) → told ≡ [] → end ≡ other → Comes c [] other → Comes c told end
+comes_alone c told end other none same h = subst (λ (t : List ℕ). Comes c t end) (sym none) (subst (λ (x : Answer). Comes c [] x) (sym same) h)
+
+-- a run was written, and this is what its meters tell; or there was no memory to read with
+pub was_read : (c : Call) (first : ℕ) (plan : Plan) (meters : Option (List Reading)) (asked : c.task ≡ Some (record { first = first; wanted = report plan meters })) (files : Files)
+    (fetched : AreFiles c.shelf.holds c.words first (run_limits source_limit) (listed files)) (all_asked : c.shelf.asked (names_of c.words first (run_limits source_limit) 3))
+    (machine : Running) (sensors : Told) (left : List Period) (ready : IsReady files plan machine sensors left) (told : List ℕ) (end : Answer)
+    → IsReported (runs machine.parts sensors.rows left) meters c.out told end → Comes c told end
+was_read c first plan meters asked files fetched all_asked machine sensors left ready told end (unread e t u) =
+    comes_alone c told end answer.Memory u e (turned_down c first plan meters asked files fetched all_asked answer.Memory (by_memory refl) t)
+was_read c first plan meters asked files fetched all_asked machine sensors left ready told end (read w tells untold) =
+    was_metered c first plan meters asked files fetched all_asked machine sensors left ready end w told tells untold

@@ -1,0 +1,30 @@
+-- The steps to the answer of `check`.
+use Rattle.std.specs.Prelude.{ℕ, ◌≡◌, ◌⊎◌, List, [], codes}
+use Rattle.oc_tree.specs.Tree.{TProgram}
+use Rattle.oc_tree.specs.Checked.{TChecked}
+use Rattle.oc_regcheck.specs.Enough.{IsVerdict}
+use Rattle.oc_regcheck.specs.declared.verdict.BlockVerdict.{BlockVerdict}
+use Rattle.oc_top.specs.Verdict.{prints, refuses}
+use Rattle.oc_top.specs.Checked.{AcceptsBlocks, AreEnough, IsCheck, IsSaid, checked_of}
+use Rattle.oc_top.specs.Answers.{Writes, IsWritten}
+use Rattle.oc_top.specs.declared.answer.Answer.{Answer}
+use Rattle.oc_top.specs.declared.answer.Answer.TheVariants as answer
+
+-- this checked program is the expansion of the one that the source spells, in which `atomic` begins these statements
+pub record IsCheckedOf (source : List ℕ) (c : TChecked) (blocks : List ℕ) : Type 0 where
+  pub written : TProgram
+  pub accepted : AcceptsBlocks source written blocks
+  pub is_checked : c ≡ checked_of written
+
+-- the answer where the blocks don't suffice, or there was no memory
+abbrev pub IsOpenFor : TProgram → List ℕ → Answer → Type 0
+IsOpenFor p blocks end = (end ≡ answer.Memory) ⊎ ((v : BlockVerdict) × IsVerdict p blocks v × IsSaid p v (refuses end))
+
+-- the source is refused with this answer, or there was no memory
+abbrev pub IsNotSafe : List ℕ → Answer → Type 0
+IsNotSafe source end = (end ≡ answer.Memory) ⊎ IsCheck source (refuses end)
+
+-- that, and the sink takes nothing; or its blocks suffice, and the sink takes this
+pub data IsChecked (source : List ℕ) (sink : Writes) (end : Answer) : Type 0 where
+  not_safe : IsNotSafe source end → sink.took [] → IsChecked source sink end
+  safe : AreEnough source → IsWritten sink (prints (codes "safe\n")) end → IsChecked source sink end

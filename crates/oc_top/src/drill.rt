@@ -1,0 +1,127 @@
+//! The drill: a run of files that are made in memory.
+ghost use Rattle.std.specs.Prelude.{◌≤◌, ◌≡◌, length, IfOk, option_map};
+ghost use Rattle.oc_power.specs.Choice.{first_with};
+ghost use Rattle.oc_top.specs.Answers.{drill_files, writes};
+ghost use Rattle.oc_top.specs.Drills.{IsAnswered, IsDrilled, IsDrilledWith, IsMeasured};
+ghost use Rattle.oc_top.specs.Files.{bytes_of};
+
+use crate::answer::{Answer, status};
+use crate::files::Fetched;
+use crate::prepare::prepare;
+use crate::report::{flushed, report};
+use oc_drill::files::{power, sensors, source};
+use oc_drill::line::put_drill;
+use oc_io::Memory;
+use oc_io::sink::{CountSink, Sink};
+use oc_power::supply::{Supply, choose};
+use std::alloc::{AllocError, Global};
+
+/// The status of a run, and how many lines and bytes it writes.
+#[derive(Clone, Copy, Debug)]
+struct Measured {
+    status: u8,
+    lines: u64,
+    bytes: u64,
+}
+
+/// The files of a drill of so many turns.
+fn make_files(alloc: Global, turns: u32) -> Result<Fetched, AllocError>
+    requires { turns ≤ 1000 }
+    ensures files { IfOk result (λ f. bytes_of f ≡ drill_files turns) }
+    ensures within { IfOk result (λ f. length f.source.items ≤ 1048576) }
+{
+    let source = source(alloc, turns)?;
+    let sensors = sensors(alloc, turns)?;
+    let power = power(alloc, turns)?;
+    Ok(Fetched {
+        source,
+        sensors,
+        power,
+    })
+}
+
+/// Runs files, with this supply.
+fn run_files<O: Sink>(
+    alloc: Global,
+    files: &Fetched,
+    supply: &mut dyn Supply,
+    out: &mut O,
+) -> Answer
+    requires { length files.now.source.items ≤ 1048576 }
+    ensures { IsAnswered (bytes_of files.now) (plan supply.old)
+        (writes O.took O.held O.faults out.old out.new) result }
+{
+    match prepare(alloc, files, supply) {
+        Ok(prepared) => report(prepared, supply, out),
+        Err(answer) => answer,
+    }
+}
+
+/// Runs files over a sink that counts.
+fn measure(alloc: Global, files: &Fetched, supply: &mut dyn Supply) -> Result<Measured, Memory>
+    requires { length files.now.source.items ≤ 1048576 }
+    ensures { IfOk result
+        (λ m. IsMeasured (bytes_of files.now) (plan supply.old) m.status m.lines m.bytes) }
+{
+    let mut sink = CountSink::new();
+    let status = status(&run_files(alloc, files, supply, &mut sink));
+    if status == 11 {
+        return Err(Memory);
+    }
+    Ok(Measured {
+        status,
+        lines: sink.lines(),
+        bytes: sink.bytes(),
+    })
+}
+
+/// Runs the files of a drill of so many turns with this supply, and writes the line that tells its
+/// status and how many lines and bytes it would write.
+fn drill<O: Sink>(alloc: Global, turns: u32, supply: &mut dyn Supply, out: &mut O) -> Answer
+    requires { turns ≤ 1000 }
+    ensures { IsDrilled turns (plan supply.old)
+        (writes O.took O.held O.faults out.old out.new) result }
+{
+    let Ok(files) = make_files(alloc, turns) else {
+        return Answer::Memory;
+    };
+    let Ok(measured) = measure(alloc, &files, supply) else {
+        return Answer::Memory;
+    };
+    match put_drill(turns, measured.status, measured.lines, measured.bytes, out) {
+        Ok(()) => flushed(Answer::End, out),
+        Err(_) => Answer::WriteFault,
+    }
+}
+
+/// The same with a supply of its own.
+fn drill_with<O: Sink>(
+    alloc: Global,
+    turns: u32,
+    mut supply: Box<dyn Supply>,
+    out: &mut O,
+) -> Answer
+    requires { turns ≤ 1000 }
+    ensures { IsDrilled turns (plan supply) (writes O.took O.held O.faults out.old out.new)
+        result }
+{
+    drill(alloc, turns, &mut *supply, out)
+}
+
+/// A drill of so many turns with the first supply that has the number 0.
+pub fn drill_by<O: Sink>(
+    alloc: Global,
+    turns: u32,
+    supplies: Vec<Box<dyn Supply>>,
+    out: &mut O,
+) -> Answer
+    requires { turns ≤ 1000 }
+    ensures { IsDrilledWith turns
+        (option_map (λ b. plan b) (first_with (λ b. number b) 0 supplies.items))
+        (writes O.took O.held O.faults out.old out.new) result }
+{
+    match choose(supplies, 0) {
+        Some(supply) => drill_with(alloc, turns, supply, out),
+        None => Answer::Usage,
+    }
+}

@@ -1,0 +1,110 @@
+//! What hand-written blocks leave open.
+ghost use Rattle.std.specs.Prelude.{◌≡◌, ◌≤◌, IfOk, OnOk, OnErr};
+ghost use Rattle.oc_io.specs.Faults.{Rose, TookPart};
+ghost use Rattle.oc_top.specs.Gaps.{gap_line, gap_of, kind_gap_line};
+
+use crate::names::{function_name, policy_name};
+use crate::regions::line_at;
+use itoa::Buffer;
+use oc_effects::effects::Effects;
+use oc_io::pieces::put_pieces;
+use oc_io::sink::{Sink, SinkFault};
+use oc_tree::marked::{Policy, PolicyKind};
+use oc_tree::name::Name;
+use oc_tree::tree::StmtId;
+use std::alloc::{AllocError, Global};
+
+/// Two statements that a policy needs inside one block, where no block has both inside, by the names
+/// and lines of the source.
+#[derive(Debug, Drop)]
+pub struct Gap {
+    pub kind: PolicyKind,
+    /// The policy's function.
+    pub owner: Name,
+    /// The policy's variable; empty for a consistent set.
+    pub variable: Name,
+    /// The lines of the two statements.
+    pub first: u32,
+    pub second: u32,
+    /// The function in which they stand.
+    pub function: Name,
+}
+
+fn named(alloc: Global, bytes: &[u8]) -> Result<Name, AllocError>
+    ensures { IfOk result (λ n. n ≡ bytes.now) }
+{
+    Ok(Name::new(Vec::from_slice(alloc, bytes)?))
+}
+
+/// The gap of a policy between two statements of a function.
+pub fn gap_of(
+    alloc: Global,
+    effects: &Effects,
+    policy: Policy,
+    function: u32,
+    first: StmtId,
+    second: StmtId,
+) -> Result<Gap, AllocError>
+    ensures { IfOk result
+        (λ g. g ≡ gap_of effects.now.program policy function first second) }
+{
+    let program = effects.checked().program();
+    Ok(Gap {
+        kind: policy.kind,
+        owner: named(alloc, function_name(program, policy.function))?,
+        variable: named(alloc, policy_name(program, policy))?,
+        first: line_at(effects, first),
+        second: line_at(effects, second),
+        function: named(alloc, function_name(program, function))?,
+    })
+}
+
+/// Writes the line of a gap.
+pub fn put_gap<E: Sink>(gap: &Gap, sink: &mut E) -> Result<(), SinkFault>
+    ensures ok { OnOk result (E.took sink.old (gap_line gap.now) sink.new) }
+    ensures part { OnErr result (TookPart E.took sink.old (gap_line gap.now) sink.new) }
+    ensures cause { OnErr result (Rose (E.faults sink.old) (E.faults sink.new)) }
+    ensures count { E.faults sink.old ≤ E.faults sink.new }
+{
+    let mut first = Buffer::new();
+    let mut second = Buffer::new();
+    let first = first.format(gap.first).as_bytes();
+    let second = second.format(gap.second).as_bytes();
+    match gap.kind {
+        PolicyKind::Fresh { .. } => put_pieces(
+            sink,
+            &[
+                b"ocelot: not covered: fresh ",
+                gap.owner.bytes(),
+                b" ",
+                gap.variable.bytes(),
+                b" needs lines ",
+                first,
+                b" and ",
+                second,
+                b" in ",
+                gap.function.bytes(),
+                b"\n",
+            ],
+        ),
+        PolicyKind::Consistent { id } => {
+            let mut number = Buffer::new();
+            put_pieces(
+                sink,
+                &[
+                    b"ocelot: not covered: consistent ",
+                    gap.owner.bytes(),
+                    b" ",
+                    number.format(id).as_bytes(),
+                    b" needs lines ",
+                    first,
+                    b" and ",
+                    second,
+                    b" in ",
+                    gap.function.bytes(),
+                    b"\n",
+                ],
+            )
+        }
+    }
+}

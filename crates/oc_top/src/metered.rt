@@ -1,0 +1,145 @@
+//! Runs that meters are told of.
+ghost use Rattle.std.specs.Prelude.{◌≡◌, [], false, None, Some};
+ghost use Rattle.oc_io.specs.Faults.{Rose};
+ghost use Rattle.oc_tree.specs.Names.{names_view};
+ghost use Rattle.oc_meters.specs.Reads.{page};
+ghost use Rattle.oc_meters.specs.Tally.{readings};
+ghost use Rattle.oc_top.specs.Answers.{IsWritten, told_by, writes};
+ghost use Rattle.oc_top.specs.Meters.{IsRead, IsReported, told_of};
+ghost use Rattle.oc_top.specs.Steps.{CanRun};
+ghost use Rattle.oc_top.specs.Verdict.{runs};
+
+use crate::answer::Answer;
+use crate::prepare::Prepared;
+use crate::report::report;
+use oc_io::sink::Sink;
+use oc_meters::book::Book;
+use oc_meters::meter::Meter;
+use oc_meters::sink::MeterSink;
+use oc_power::supply::Supply;
+use std::alloc::Global;
+
+/// An answer, and the meters whose lines stand behind its own, if there are any.
+#[derive(Drop)]
+pub struct Outcome<M: Drop> {
+    pub answer: Answer,
+    pub meters: Option<Vec<M>>,
+}
+
+/// Runs a newly loaded machine and writes the report through a sink with a book.
+fn report_round<O: Sink, M: Meter>(
+    prepared: Prepared,
+    supply: &mut dyn Supply,
+    sink: &mut MeterSink<'_, O, M>,
+) -> Answer
+    requires can { CanRun prepared.machine prepared.sensors (left supply.old) }
+    requires fresh { sink.old.failed ≡ false }
+    ensures inner { sink.new.inner.ghost_name ≡ sink.old.inner.ghost_name }
+    ensures book { sink.new.book.ghost_name ≡ sink.old.book.ghost_name }
+    ensures written { IsWritten
+        (writes O.took O.held O.faults sink.old.inner.now sink.new.inner.now)
+        (runs prepared.machine.parts prepared.sensors.rows (left supply.old)) result }
+    ensures read { IsRead (Rose (O.faults sink.old.inner.now) (O.faults sink.new.inner.now))
+        (names_view sink.old.book.now.names)
+        (page M.kind_of M.numbers sink.old.book.now.line.bytes sink.old.book.now.meters.items)
+        (runs prepared.machine.parts prepared.sensors.rows (left supply.old)).text
+        (page M.kind_of M.numbers sink.new.book.now.line.bytes sink.new.book.now.meters.items) }
+{
+    report(prepared, supply, sink)
+}
+
+/// Runs a newly loaded machine, writes the report and keeps a book of it.
+fn report_booked<O: Sink, M: Meter>(
+    prepared: Prepared,
+    supply: &mut dyn Supply,
+    out: &mut O,
+    book: &mut Book<M>,
+) -> Answer
+    requires { CanRun prepared.machine prepared.sensors (left supply.old) }
+    ensures written { IsWritten (writes O.took O.held O.faults out.old out.new)
+        (runs prepared.machine.parts prepared.sensors.rows (left supply.old)) result }
+    ensures read { IsRead (Rose (O.faults out.old) (O.faults out.new))
+        (names_view book.old.names)
+        (page M.kind_of M.numbers book.old.line.bytes book.old.meters.items)
+        (runs prepared.machine.parts prepared.sensors.rows (left supply.old)).text
+        (page M.kind_of M.numbers book.new.line.bytes book.new.meters.items) }
+{
+    let mut sink = MeterSink::new(out, book);
+    report_round(prepared, supply, &mut sink)
+}
+
+/// The meters of a book whose lines are written behind this answer.
+fn kept_for<M: Meter>(answer: Answer, book: Book<M>) -> Outcome<M>
+    ensures answer { result.answer ≡ answer }
+    ensures kept { (answer ≡ Answer.WriteFault → ⊥)
+        → told_of M.kind_of M.numbers result.meters
+        ≡ Some (readings M.kind_of M.numbers book.meters.items) }
+    ensures none { answer ≡ Answer.WriteFault
+        → told_of M.kind_of M.numbers result.meters ≡ None }
+{
+    match answer {
+        Answer::WriteFault => Outcome {
+            answer,
+            meters: None,
+        },
+        _ => Outcome {
+            answer,
+            meters: Some(book.into_meters()),
+        },
+    }
+}
+
+/// Runs a newly loaded machine, writes the report and tells the meters its items.
+fn report_metered<O: Sink, M: Meter>(
+    alloc: Global,
+    prepared: Prepared,
+    supply: &mut dyn Supply,
+    out: &mut O,
+    meters: Vec<M>,
+) -> Outcome<M>
+    requires { CanRun prepared.machine prepared.sensors (left supply.old) }
+    ensures { IsReported
+        (runs prepared.machine.parts prepared.sensors.rows (left supply.old))
+        (Some (readings M.kind_of M.numbers meters.items))
+        (writes O.took O.held O.faults out.old out.new)
+        (told_by (told_of M.kind_of M.numbers result.meters)) result.answer }
+{
+    let Ok(names) = prepared.machine.image().raw().names.try_clone(alloc) else {
+        return Outcome {
+            answer: Answer::Memory,
+            meters: None,
+        };
+    };
+    let Ok(mut book) = Book::new(alloc, names, meters) else {
+        return Outcome {
+            answer: Answer::Memory,
+            meters: None,
+        };
+    };
+    let answer = report_booked(prepared, supply, out, &mut book);
+    kept_for(answer, book)
+}
+
+/// Runs a newly loaded machine, writes the report and tells the meters its items, if there are any.
+pub fn report_for<O: Sink, M: Meter>(
+    alloc: Global,
+    prepared: Prepared,
+    supply: &mut dyn Supply,
+    out: &mut O,
+    meters: Option<Vec<M>>,
+) -> Outcome<M>
+    requires { CanRun prepared.machine prepared.sensors (left supply.old) }
+    ensures { IsReported
+        (runs prepared.machine.parts prepared.sensors.rows (left supply.old))
+        (told_of M.kind_of M.numbers meters)
+        (writes O.took O.held O.faults out.old out.new)
+        (told_by (told_of M.kind_of M.numbers result.meters)) result.answer }
+{
+    match meters {
+        Some(meters) => report_metered(alloc, prepared, supply, out, meters),
+        None => Outcome {
+            answer: report(prepared, supply, out),
+            meters: None,
+        },
+    }
+}

@@ -5,3 +5,5 @@ pub mod Named
 pub mod Cut
 pub mod OneWay
 pub mod Apart
+pub mod Program
+pub mod OneFinding

@@ -18,3 +18,8 @@ pub mod FieldLaws
 pub mod InstrFields
 pub mod NamedFields
 pub mod WholeLaws
+pub mod SlotLaws
+pub mod TableLaws
+pub mod OrderLaws
+pub mod FactLaws
+pub mod KindLaws

@@ -1,0 +1,104 @@
+//! Which functions call which.
+ghost use Rattle.std.specs.Prelude.{◌≡◌, ◌<◌, ◌≤◌, ℕ, length, true, IfErr, IfOk, OnOk};
+ghost use Rattle.std.proofs.Math.ListN.{get_or};
+ghost use Rattle.oc_isa.specs.Image.{parts_of};
+ghost use Rattle.oc_reach.specs.Marked.{is_in};
+ghost use Rattle.oc_reach.specs.Within.{IsWithin};
+ghost use Rattle.oc_tree.specs.Reach.{count_below, linked, reaches};
+ghost use Rattle.oc_verify.specs.Blames.{Blames};
+ghost use Rattle.oc_verify.specs.Facts.{IsNamed};
+ghost use Rattle.oc_verify.specs.declared.fault.VerifyError.TheVariants as errors;
+ghost use Rattle.oc_verify.specs.Rules.{calls_of};
+
+use crate::facts::Facts;
+use crate::fault::VerifyError;
+use oc_isa::image::RawImage;
+use oc_isa::instr::Instr;
+use oc_reach::marks::Marks;
+use oc_reach::reach::Reach;
+use std::alloc::{AllocError, Global};
+
+/// The calls, each from the function in whose code it stands.
+fn links(alloc: Global, image: &RawImage) -> Result<Vec<(usize, usize)>, AllocError>
+    ensures { IfOk result (λ l. l.items ≡ calls_of (parts_of image.now)) }
+{
+    let mut links = Vec::new(alloc);
+    let mut function = 0;
+    for (at, placed) in image.code.iter().enumerate() {
+        if function + 1 < image.functions.len()
+            && image.functions[function + 1].entry as usize <= at
+        {
+            function += 1;
+        }
+        if let Instr::Call { f } = placed.instr {
+            links.push((function, f as usize))?;
+        }
+    }
+    Ok(links)
+}
+
+/// Marks a function and those that lead to it.
+fn reaching(alloc: Global, reach: &Reach, function: usize) -> Result<Marks, AllocError>
+    requires { function < reach.now.1 }
+    ensures bound { IfOk result (λ m. m.1 ≡ reach.now.1) }
+    ensures marked { IfOk result
+        (λ m. (u : ℕ) → is_in m.0 u ≡ reaches reach.now.0 reach.now.1 u function) }
+{
+    let mut marks = Marks::new(alloc, reach.bound())?;
+    marks.mark(function)?;
+    let back = reach.mark_back(marks)?;
+    Ok(back)
+}
+
+/// How many functions each one reaches, of those below `count`, with itself.
+fn ranks(alloc: Global, reach: &Reach) -> Result<Vec<usize>, AllocError>
+    ensures sized { IfOk result (λ r. length r.items ≡ reach.now.1) }
+    ensures ranks { IfOk result (λ r. (u : ℕ) → u < reach.now.1
+        → get_or r.items u 0 ≡ count_below (reaches reach.now.0 reach.now.1 u) reach.now.1) }
+{
+    let count = reach.bound();
+    let mut ranks = vec![in alloc; 0usize; count]?;
+    for function in 0..count {
+        let marks = reaching(alloc, reach, function)?;
+        for caller in 0..count {
+            if marks.has(caller) {
+                ranks[caller] += 1;
+            }
+        }
+    }
+    Ok(ranks)
+}
+
+/// Refuses links along which the number doesn't fall.
+fn check_falls(links: &[(usize, usize)], ranks: &[usize]) -> Result<(), VerifyError>
+    requires { IsWithin links.now (length ranks.now) }
+    ensures falls { OnOk result ((u v : ℕ) → linked links.now u v ≡ true
+        → get_or ranks.now v 0 < get_or ranks.now u 0) }
+    ensures fault { IfErr result (λ e. (u : ℕ) × (v : ℕ) × (linked links.now u v ≡ true)
+        × (get_or ranks.now u 0 ≤ get_or ranks.now v 0)
+        × (e ≡ errors.Refused 0 7)) }
+{
+    for link in links {
+        if ranks[link.0] <= ranks[link.1] {
+            return Err(VerifyError::Refused { at: 0, rule: 7 });
+        }
+    }
+    Ok(())
+}
+
+/// A number for each function, which falls along every call: there is no circle of calls.
+pub fn check_calls(alloc: Global, facts: &Facts) -> Result<Vec<usize>, VerifyError>
+    requires { (f : ℕ) → IsNamed facts.now f }
+    ensures sized { IfOk result (λ r. length r.items ≡ length facts.now.functions) }
+    ensures falls { IfOk result (λ r. (u v : ℕ) → linked (calls_of facts.now) u v ≡ true
+        → get_or r.items v 0 < get_or r.items u 0) }
+    ensures blames { IfErr result (Blames facts.now) }
+{
+    let image = facts.image();
+    let links = links(alloc, image)?;
+    let copy = Vec::from_slice(alloc, &links)?;
+    let reach = Reach::new(alloc, image.functions.len(), copy)?;
+    let ranks = ranks(alloc, &reach)?;
+    check_falls(&links, &ranks)?;
+    Ok(ranks)
+}

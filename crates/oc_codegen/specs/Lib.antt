@@ -1,3 +1,4 @@
 pub mod Slots
 pub mod Ops
 pub mod Around
+pub mod Room

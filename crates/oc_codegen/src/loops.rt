@@ -18,6 +18,7 @@ pub fn open_count(
     from: i32,
     to: i32,
 ) -> Result<u32, AllocError>
+    requires { length code.old + 6 < 2147483648 }
     ensures code { OnOk result (code.new
         ≡ code.old ++ placed n (Push from) ∷ placed n (Store slot) ∷ below_code n slot to 0) }
     ensures start { IfOk result (λ a. a ≡ length code.old) }
@@ -34,7 +35,8 @@ pub fn open_count(
 
 /// The end of a loop that begins at an address, behind the code of a turn.
 pub fn close_count(code: &mut Buffer, n: u32, slot: u32, start: u32) -> Result<(), AllocError>
-    requires { start + 5 < length code.old }
+    requires start { start + 5 < length code.old }
+    requires room { length code.old + 5 < 2147483648 }
     ensures { OnOk result (code.new
         ≡ slice_set code.old (start + 5) (placed n (Jfalse (length code.old + 5)))
         ++ again_code n slot (start + 2)) }
@@ -58,6 +60,7 @@ pub fn close_while(
 ) -> Result<(), AllocError>
     requires start { start + 5 < length code.old }
     requires exit { exit < length code.old }
+    requires room { length code.old + 5 < 2147483648 }
     ensures { OnOk result
         (code.new ≡ slice_set (slice_set code.old exit (placed n (Jfalse (length code.old + 5))))
         (start + 5) (placed n (Jfalse (length code.old + 5))) ++ again_code n slot (start + 2)) }
@@ -68,6 +71,7 @@ pub fn close_while(
 }
 
 fn fill(code: &mut Buffer, n: u32, slot: u32, initial: i32, words: u32) -> Result<(), AllocError>
+    requires { length code.old + 5 < 2147483648 }
     ensures { OnOk result (code.new ≡ code.old ++ fill_code n slot initial words) }
 {
     let first = behind(slot, 1)?;
@@ -86,6 +90,7 @@ pub fn array(
     initial: i32,
     words: u32,
 ) -> Result<(), AllocError>
+    requires { length code.old + 16 < 2147483648 }
     ensures { OnOk result
         (code.new ≡ code.old ++ array_code n (length code.old) slot initial words) }
 {

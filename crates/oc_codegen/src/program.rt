@@ -10,6 +10,7 @@ ghost use Rattle.oc_isa.specs.Image.{parts_of};
 ghost use Rattle.oc_code.specs.Scope.{kind_words, nv_scope, param_slot, params_scope, may_write};
 ghost use Rattle.oc_code.specs.Code.{block_code, close_code, code_of, functions_code, image_functions, image_nv};
 ghost use Rattle.oc_code.specs.Formed.{IsFormed};
+ghost use Rattle.oc_codegen.specs.Room.{HasRoom};
 ghost use Rattle.oc_codegen.specs.Slots.{slot_view};
 
 use crate::buffer::Buffer;
@@ -111,7 +112,8 @@ fn link_words(function: &Function) -> u32
 }
 
 fn close(code: &mut Buffer, function: &Function, params: u32) -> Result<(), AllocError>
-    requires { params ≡ length function.now.params.items }
+    requires params { params ≡ length function.now.params.items }
+    requires room { HasRoom code.old (close_code (function_view function.now)) }
     ensures { OnOk result (code.new ≡ code.old ++ close_code (function_view function.now)) }
 {
     if function.name.is_main() {
@@ -131,6 +133,12 @@ fn function<'a>(
     scope: &mut Scope<'a>,
     function: &'a Function,
 ) -> Result<ImageFunction, AllocError>
+    requires { HasRoom code.old (block_code setting.old.names setting.old.functions
+        setting.old.regions
+        (length function.now.params.items) (params_scope function.now.params.items 0 scope.old)
+        (length function.now.params.items + link_words (function_view function.now))
+        (length code.old) (function_view function.now).body
+        ++ close_code (function_view function.now)) }
     ensures code { OnOk result
         (code.new ≡ code.old
         ++ (block_code setting.old.names setting.old.functions setting.old.regions

@@ -9,6 +9,7 @@ ghost use Rattle.oc_meaning.specs.Uses.{begins_use, ends_use, is_use};
 ghost use Rattle.oc_code.specs.Scope.{in_scope, is_fresh_in, slot_of};
 ghost use Rattle.oc_code.specs.Forms.{placed, one, enter_code, commit_code, probe_code, write_code, expr_code};
 ghost use Rattle.oc_code.specs.Code.{called_name, has_result, call_code, right_code, element_code, return_code, test_code, before_code, after_code, last_code, first_code};
+ghost use Rattle.oc_codegen.specs.Room.{HasRoom};
 
 use crate::buffer::Buffer;
 use crate::exprs::{args, base, expr, write};
@@ -30,6 +31,8 @@ pub fn call(
     n: u32,
     call: &Call,
 ) -> Result<(), AllocError>
+    requires { HasRoom code.old (call_code setting.now.names setting.now.functions
+        setting.now.regions setting.now.params n scope.now (length code.old) (call_view call.now)) }
     ensures { OnOk result
         (code.new ≡ code.old
         ++ call_code setting.now.names setting.now.functions setting.now.regions setting.now.params
@@ -48,6 +51,8 @@ pub fn right(
     n: u32,
     right: &Right,
 ) -> Result<(), AllocError>
+    requires { HasRoom code.old (right_code setting.now.names setting.now.functions
+        setting.now.regions setting.now.params n scope.now (length code.old) (right_view right.now)) }
     ensures { OnOk result
         (code.new ≡ code.old
         ++ right_code setting.now.names setting.now.functions setting.now.regions setting.now.params
@@ -72,6 +77,9 @@ pub fn assign(
     name: &Name,
     side: &Right,
 ) -> Result<(), AllocError>
+    requires { HasRoom code.old (right_code setting.now.names setting.now.functions
+        setting.now.regions setting.now.params n scope.now (length code.old) (right_view side.now)
+        ++ write_code n (slot_of scope.now name.now)) }
     ensures { OnOk result
         (code.new ≡ code.old
         ++ (right_code setting.now.names setting.now.functions setting.now.regions
@@ -91,6 +99,9 @@ pub fn let_to(
     slot: u32,
     side: &Right,
 ) -> Result<(), AllocError>
+    requires { HasRoom code.old (right_code setting.now.names setting.now.functions
+        setting.now.regions setting.now.params n scope.now (length code.old) (right_view side.now)
+        ++ one n (Store slot)) }
     ensures { OnOk result
         (code.new ≡ code.old
         ++ (right_code setting.now.names setting.now.functions setting.now.regions
@@ -111,6 +122,10 @@ pub fn assign_index(
     index: &Expr,
     side: &Right,
 ) -> Result<(), AllocError>
+    requires { HasRoom code.old (element_code setting.now.names setting.now.functions
+        setting.now.regions setting.now.params n scope.now (length code.old) name.now (expr_view
+        index.now) (right_code setting.now.names setting.now.functions setting.now.regions
+        setting.now.params n scope.now (length code.old) (right_view side.now))) }
     ensures { OnOk result
         (code.new ≡ code.old
         ++ element_code setting.now.names setting.now.functions setting.now.regions
@@ -138,6 +153,10 @@ pub fn call_only(
     n: u32,
     inner: &Call,
 ) -> Result<(), AllocError>
+    requires { HasRoom code.old (call_code setting.now.names setting.now.functions
+        setting.now.regions setting.now.params n scope.now (length code.old) (call_view inner.now)
+        ++ (if has_result setting.now.functions (called_name (call_view inner.now)) then one n Drop
+        else [])) }
     ensures { OnOk result
         (code.new ≡ code.old
         ++ (call_code setting.now.names setting.now.functions setting.now.regions setting.now.params
@@ -160,6 +179,8 @@ pub fn sense_only(
     n: u32,
     sensor: &Name,
 ) -> Result<(), AllocError>
+    requires { HasRoom code.old (placed n (Sense (number_in setting.now.names.sensors sensor.now)) ∷
+        one n Drop) }
     ensures { OnOk result
         (code.new ≡ code.old
         ++ (placed n (Sense (number_in setting.now.names.sensors sensor.now)) ∷ one n Drop)) }
@@ -178,6 +199,8 @@ pub fn emit(
     port: &Name,
     value: &Expr,
 ) -> Result<(), AllocError>
+    requires { HasRoom code.old (expr_code n scope.now (length code.old) (expr_view value.now) ++
+        one n (Emit (number_in setting.now.names.ports port.now))) }
     ensures { OnOk result
         (code.new ≡ code.old ++ (expr_code n scope.now (length code.old) (expr_view value.now)
         ++ one n (Emit (number_in setting.now.names.ports port.now)))) }
@@ -189,6 +212,7 @@ pub fn emit(
 
 /// A probe, if there is one.
 pub fn probe(code: &mut Buffer, n: u32, is: bool, kind: ProbeKind) -> Result<(), AllocError>
+    requires { HasRoom code.old (probe_code n is kind) }
     ensures { OnOk result (code.new ≡ code.old ++ probe_code n is kind) }
 {
     if is {
@@ -199,6 +223,7 @@ pub fn probe(code: &mut Buffer, n: u32, is: bool, kind: ProbeKind) -> Result<(),
 }
 
 fn enter(code: &mut Buffer, n: u32, region: Option<u32>) -> Result<(), AllocError>
+    requires { HasRoom code.old (enter_code n region) }
     ensures { OnOk result (code.new ≡ code.old ++ enter_code n region) }
 {
     match region {
@@ -208,6 +233,7 @@ fn enter(code: &mut Buffer, n: u32, region: Option<u32>) -> Result<(), AllocErro
 }
 
 fn commit(code: &mut Buffer, n: u32, region: Option<u32>) -> Result<(), AllocError>
+    requires { HasRoom code.old (commit_code n region) }
     ensures { OnOk result (code.new ≡ code.old ++ commit_code n region) }
 {
     match region {
@@ -225,7 +251,9 @@ pub fn return_value(
     used: bool,
     value: &Expr,
 ) -> Result<(), AllocError>
-    requires { used ≡ is_use (is_fresh_in scope.now) (return (expr_view value.now)) }
+    requires used { used ≡ is_use (is_fresh_in scope.now) (return (expr_view value.now)) }
+    requires room { HasRoom code.old (return_code setting.now.names setting.now.functions
+        setting.now.regions setting.now.params n scope.now (length code.old) (expr_view value.now)) }
     ensures { OnOk result
         (code.new ≡ code.old
         ++ return_code setting.now.names setting.now.functions setting.now.regions
@@ -250,6 +278,8 @@ pub fn test(
     used: bool,
     condition: &Expr,
 ) -> Result<(), AllocError>
+    requires { HasRoom code.old (probe_code n used Use ++ expr_code n scope.now (length code.old +
+        length (probe_code n used Use)) (expr_view condition.now)) }
     ensures { OnOk result (code.new
         ≡ code.old ++ (probe_code n used Use
         ++ expr_code n scope.now (length code.old + length (probe_code n used Use))
@@ -286,6 +316,8 @@ pub fn before(
     n: u32,
     kind: &StmtKind,
 ) -> Result<(), AllocError>
+    requires { HasRoom code.old (first_code setting.now.names setting.now.functions
+        setting.now.regions setting.now.params scope.now n (kind_view kind.now)) }
     ensures { OnOk result
         (code.new ≡ code.old
         ++ first_code setting.now.names setting.now.functions setting.now.regions setting.now.params
@@ -296,6 +328,7 @@ pub fn before(
 }
 
 fn last(code: &mut Buffer, n: u32, region: Option<u32>, kind: &StmtKind) -> Result<(), AllocError>
+    requires { HasRoom code.old (last_code n region (kind_view kind.now)) }
     ensures { OnOk result (code.new ≡ code.old ++ last_code n region (kind_view kind.now)) }
 {
     match kind {
@@ -312,6 +345,8 @@ pub fn after(
     n: u32,
     kind: &StmtKind,
 ) -> Result<(), AllocError>
+    requires { HasRoom code.old (after_code n (ended_by setting.now.regions n) (ends_use
+        (is_fresh_in scope.now) (kind_view kind.now)) (kind_view kind.now)) }
     ensures { OnOk result
         (code.new ≡ code.old
         ++ after_code n (ended_by setting.now.regions n)

@@ -8,6 +8,7 @@ ghost use Rattle.oc_code.specs.Forms.{placed, one};
 ghost use Rattle.oc_code.specs.Scope.{in_scope, is_fresh_in};
 ghost use Rattle.oc_tree.specs.Stack.{block_slots, kind_slots};
 ghost use Rattle.oc_code.specs.Code.{block_code, first_code, kind_code, whole_code};
+ghost use Rattle.oc_codegen.specs.Room.{HasRoom};
 
 use crate::buffer::Buffer;
 use crate::exprs::expr;
@@ -28,7 +29,8 @@ use std::alloc::AllocError;
 // The end of the first branch of an `if` whose test is still open, where a second one follows. It
 // answers the address of the jump over that, which is still open.
 fn close_then(code: &mut Buffer, n: u32, test: u32) -> Result<u32, AllocError>
-    requires { test < length code.old }
+    requires test { test < length code.old }
+    requires room { length code.old < 2147483647 }
     ensures code { OnOk result
         (code.new ≡ slice_set code.old test (placed n (Jfalse (length code.old + 1)))
         ++ one n (Jump 0)) }
@@ -52,6 +54,9 @@ fn for_in<'a>(
     to: i32,
     body: &'a Block,
 ) -> Result<u32, AllocError>
+    requires { HasRoom code.old (kind_code setting.now.names setting.now.functions
+        setting.now.regions
+        setting.now.params scope.old n slot (length code.old) (for_in name.now from to (block_view body.now))) }
     ensures code { OnOk result
         (code.new ≡ code.old
         ++ kind_code setting.now.names setting.now.functions setting.now.regions setting.now.params
@@ -85,6 +90,9 @@ fn kind<'a>(
     slot: u32,
     kind: &'a StmtKind,
 ) -> Result<u32, AllocError>
+    requires { HasRoom code.old (kind_code setting.now.names setting.now.functions
+        setting.now.regions
+        setting.now.params scope.old n slot (length code.old) (kind_view kind.now)) }
     ensures code { OnOk result
         (code.new ≡ code.old
         ++ kind_code setting.now.names setting.now.functions setting.now.regions setting.now.params
@@ -198,6 +206,16 @@ fn statement<'a>(
     statement: &'a Stmt,
     rest: &[Stmt],
 ) -> Result<u32, AllocError>
+    requires { HasRoom code.old (whole_code setting.now.names setting.now.functions
+        setting.now.regions setting.now.params scope.old statement.now.id
+        (kind_view statement.now.kind)
+        (kind_code setting.now.names setting.now.functions setting.now.regions setting.now.params
+        scope.old statement.now.id slot
+        (length code.old
+        + length
+        (first_code setting.now.names setting.now.functions setting.now.regions setting.now.params
+        scope.old statement.now.id (kind_view statement.now.kind)))
+        (kind_view statement.now.kind))) }
     ensures code { OnOk result
         (code.new ≡ code.old
         ++ whole_code setting.now.names setting.now.functions setting.now.regions setting.now.params
@@ -231,6 +249,9 @@ pub fn block<'a>(
     slot: u32,
     block: &'a Block,
 ) -> Result<u32, AllocError>
+    requires { HasRoom code.old (block_code setting.now.names setting.now.functions
+        setting.now.regions setting.now.params scope.old slot (length code.old)
+        (block_view block.now)) }
     ensures code { OnOk result
         (code.new ≡ code.old
         ++ block_code setting.now.names setting.now.functions setting.now.regions setting.now.params

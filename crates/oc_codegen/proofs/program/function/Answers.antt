@@ -1,4 +1,4 @@
-use Rattle.std.proofs.Common.{rules, ◌≡◌, ◌+◌, ◌-◌, ◌++◌, length, drop, ap, ◌∙◌, append_assoc}
+use Rattle.std.proofs.Common.{rules, ◌≡◌, ◌+◌, ◌-◌, ◌++◌, length, drop, ap, ◌∙◌, arith, append_assoc, length-append}
 use Rattle.oc_tree.specs.Stack.{link_words}
 use Rattle.oc_tree.specs.View.{block_view, function_view}
 use Rattle.oc_code.specs.Scope.{params_scope}
@@ -37,3 +37,44 @@ returns-clause-scope c =
     ∙ ap (λ g. drop (length g - c.len-visible.result) g) scope
     ∙ ap (λ n. drop (length (params_scope ps 0 γ) - n) (params_scope ps 0 γ)) c.len-visible.ensures
     ∙ params_gone ps 0 γ
+
+pub block-requires : goal.block-requires
+block-requires c =
+    let f = c.args.function.now in
+    let base = c.args.code.now in
+    let body = block_view f.body in
+    let S = c.args.setting.now in
+    let ps = f.params.items in
+    let γ = c.args.scope.now in
+    let params : c.in_ok-params.params ≡ length ps = search rules in
+    let scope : c.declare_params.new.scope ≡ params_scope ps 0 γ = search rules in
+    let first : c.in_ok-first.first ≡ length ps + link_words (function_view f) = search rules in
+    let last = close_code (function_view f) in
+    let whole = block_code S.names S.functions S.regions (length ps) (params_scope ps 0 γ) (length ps + link_words (function_view f)) (length base) body in
+    let own : block_code c.enter.new.self.names c.enter.new.self.functions c.enter.new.self.regions c.enter.new.self.params c.declare_params.new.scope c.in_ok-first.first (length base) body ≡ whole =
+    ap (λ (T : Around). block_code T.names T.functions T.regions T.params c.declare_params.new.scope c.in_ok-first.first (length base) body) c.enter.ensures
+    ∙ ap (λ k. block_code S.names S.functions S.regions k c.declare_params.new.scope c.in_ok-first.first (length base) body) params
+    ∙ ap (λ g. block_code S.names S.functions S.regions (length ps) g c.in_ok-first.first (length base) body) scope
+    ∙ ap (λ s. block_code S.names S.functions S.regions (length ps) (params_scope ps 0 γ) s (length base) body) first in
+    omega (arith, ap length own, length-append whole last, c.requires)
+
+pub close-requires-clause-room : goal.close-requires-clause-room
+close-requires-clause-room c =
+    let f = c.args.function.now in
+    let base = c.args.code.now in
+    let body = block_view f.body in
+    let S = c.args.setting.now in
+    let ps = f.params.items in
+    let γ = c.args.scope.now in
+    let params : c.in_ok-params.params ≡ length ps = search rules in
+    let scope : c.declare_params.new.scope ≡ params_scope ps 0 γ = search rules in
+    let first : c.in_ok-first.first ≡ length ps + link_words (function_view f) = search rules in
+    let last = close_code (function_view f) in
+    let whole = block_code S.names S.functions S.regions (length ps) (params_scope ps 0 γ) (length ps + link_words (function_view f)) (length base) body in
+    let block : c.block.new.code ≡ base ++ whole =
+    c.in_ok-frame.ensures.code
+    ∙ ap (λ (T : Around). base ++ block_code T.names T.functions T.regions T.params c.declare_params.new.scope c.in_ok-first.first (length base) body) c.enter.ensures
+    ∙ ap (λ k. base ++ block_code S.names S.functions S.regions k c.declare_params.new.scope c.in_ok-first.first (length base) body) params
+    ∙ ap (λ g. base ++ block_code S.names S.functions S.regions (length ps) g c.in_ok-first.first (length base) body) scope
+    ∙ ap (λ s. base ++ block_code S.names S.functions S.regions (length ps) (params_scope ps 0 γ) s (length base) body) first in
+    omega (arith, ap length block, length-append base whole, length-append whole last, c.requires)

@@ -145,12 +145,12 @@ fn put_line_of<E: Sink>(answer: Answer, words: &[String], err: &mut E) -> Result
     }
 }
 
-/// Writes the lines of meters, if there are any.
-fn put_told<M: Meter, E: Sink>(meters: &Option<Vec<M>>, err: &mut E) -> Result<(), SinkFault>
-    ensures ok { OnOk result (E.took err.old (told_by (told_of M.kind_of M.numbers meters.now)) err.new) }
-    ensures part { OnErr result
-        (TookPart E.took err.old (told_by (told_of M.kind_of M.numbers meters.now)) err.new) }
-    ensures cause { OnErr result (Rose (E.faults err.old) (E.faults err.new)) }
+/// Writes the line of an answer, and holds nothing back. At a fault a part of the line was taken.
+pub fn put_line<E: Sink>(answer: Answer, words: &[String], err: &mut E)
+    ensures line { TookAll (writes E.took E.held E.faults err.old err.new)
+        (line_of (map string_bytes words.now) answer)
+        ⊎ TookFront (writes E.took E.held E.faults err.old err.new)
+        (line_of (map string_bytes words.now) answer) }
     ensures count { E.faults err.old ≤ E.faults err.new }
 {
     match meters {

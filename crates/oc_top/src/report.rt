@@ -69,8 +69,9 @@ fn finished<O: Sink>(answer: Answer, machine: &Machine, out: &mut O) -> Answer
 /// Runs a newly loaded machine over the periods that the supply tells, and writes the report.
 pub fn report<O: Sink>(prepared: Prepared, supply: &mut dyn Supply, out: &mut O) -> Answer
     requires { CanRun prepared.machine prepared.sensors (left supply.old) }
-    ensures { IsWritten (writes O.took O.held O.faults out.old out.new)
+    ensures written { IsWritten (writes O.took O.held O.faults out.old out.new)
         (runs prepared.machine.parts prepared.sensors.rows (left supply.old)) result }
+    ensures count { O.faults out.old ≤ O.faults out.new }
 {
     let Prepared {
         mut machine,

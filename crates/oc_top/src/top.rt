@@ -1,5 +1,5 @@
 //! The top call.
-ghost use Rattle.std.specs.Prelude.{◌≡◌, ◌+◌, ◌<◌, [], map, length, Some, if◌then◌else◌};
+ghost use Rattle.std.specs.Prelude.{◌≡◌, ◌≤◌, ◌+◌, ◌<◌, [], map, length, None, Some};
 ghost use Rattle.std.specs.String.{string_bytes};
 ghost use Rattle.oc_meters.specs.Tally.{readings};
 ghost use Rattle.oc_top.specs.Commands.{checking as to_check, command_of, listing as to_list, plans_of, regions as to_tell_regions, report as to_report, task_for, task_of};
@@ -53,6 +53,7 @@ fn run<F: Shelf, O: Sink, M: Meter>(
         (writes O.took O.held O.faults out.old out.new))
         (told_by (told_of M.kind_of M.numbers result.meters)) result.answer }
     ensures stays { ShelfStays F.holds F.faults shelf.old shelf.new }
+    ensures count { O.faults out.old ≤ O.faults out.new }
 {
     let files = match fetch_files(alloc, words, first, SOURCE_LIMIT, shelf) {
         Ok(files) => files,
@@ -83,6 +84,7 @@ fn run_with<F: Shelf, O: Sink, M: Meter>(
         (writes O.took O.held O.faults out.old out.new))
         (told_by (told_of M.kind_of M.numbers result.meters)) result.answer }
     ensures stays { ShelfStays F.holds F.faults shelf.old shelf.new }
+    ensures count { O.faults out.old ≤ O.faults out.new }
 {
     run(alloc, words, first, shelf, out, &mut *supply, meters)
 }
@@ -108,6 +110,7 @@ fn run_by<F: Shelf, O: Sink, M: Meter>(
         (writes O.took O.held O.faults out.old out.new))
         (told_by (told_of M.kind_of M.numbers result.meters)) result.answer }
     ensures stays { ShelfStays F.holds F.faults shelf.old shelf.new }
+    ensures count { O.faults out.old ≤ O.faults out.new }
 {
     let meters = wanted_meters(metered, meters);
     match choose(supplies, supply) {
@@ -138,6 +141,7 @@ fn regions<F: Shelf, O: Sink>(
         (fetches F.holds F.asked F.faults shelf.old shelf.new)
         (writes O.took O.held O.faults out.old out.new)) [] result }
     ensures stays { ShelfStays F.holds F.faults shelf.old shelf.new }
+    ensures count { O.faults out.old ≤ O.faults out.new }
 {
     match fetch_source(alloc, words, first, shelf) {
         Ok(source) => print_regions(alloc, &source, out),
@@ -159,6 +163,7 @@ fn build<F: Shelf, O: Sink>(
         (fetches F.holds F.asked F.faults shelf.old shelf.new)
         (writes O.took O.held O.faults out.old out.new)) [] result }
     ensures stays { ShelfStays F.holds F.faults shelf.old shelf.new }
+    ensures count { O.faults out.old ≤ O.faults out.new }
 {
     match fetch_source(alloc, words, first, shelf) {
         Ok(source) => print_listing(alloc, &source, out),
@@ -205,6 +210,7 @@ fn obey<F: Shelf, O: Sink, M: Meter>(
         (writes O.took O.held O.faults out.old out.new))
         (told_by (told_of M.kind_of M.numbers result.meters)) result.answer }
     ensures stays { ShelfStays F.holds F.faults shelf.old shelf.new }
+    ensures count { O.faults out.old ≤ O.faults out.new }
 {
     match command {
         Command::Run {
@@ -237,6 +243,7 @@ fn answer_words<F: Shelf, O: Sink, M: Meter>(
         (writes O.took O.held O.faults out.old out.new))
         (told_by (told_of M.kind_of M.numbers result.meters)) result.answer }
     ensures stays { ShelfStays F.holds F.faults shelf.old shelf.new }
+    ensures count { O.faults out.old ≤ O.faults out.new }
 {
     match read_command(words) {
         Some(command) => obey(alloc, words, command, shelf, out, supplies, meters),
@@ -291,6 +298,8 @@ pub fn ocelot<F: Shelf, O: Sink, E: Sink>(
         (writes O.took O.held O.faults out.old out.new))
         (writes E.took E.held E.faults err.old err.new) result }
     ensures stays { ShelfStays F.holds F.faults shelf.old shelf.new }
+    ensures out { O.faults out.old ≤ O.faults out.new }
+    ensures err { E.faults err.old ≤ E.faults err.new }
 {
     ocelot_metered(alloc, words, shelf, out, err, supplies, meters)
 }

@@ -40,10 +40,9 @@ drill_by-requires g c = commands_fit (map string_bytes c.args.words.now) _ (c.re
 pub returns-in-Drill-clause-comes : goal.returns-in-Drill-clause-comes
 returns-in-Drill-clause-comes g c =
     let words = map string_bytes c.args.words.now in
-    comes_alone _ _ _ _ c.alone.ensures.untold c.alone.ensures.answer
-    (drill_comes (call_of words _ (fetches g.F.Shelf.holds g.F.Shelf.asked g.F.Shelf.faults _ _) (writes g.O.Sink.took g.O.Sink.held g.O.Sink.faults _ _)) _ _
-    (sym (task_is c.args.supplies.items (λ b. (goal.Supply-dyn g (b.vtable, b.value)).number b.value) (λ b. (goal.Supply-dyn g (b.vtable, b.value)).plan b.value) (readings g.M.Meter.kind_of g.M.Meter.numbers c.args.meters.items) words _
-    (c.requires ∙ ap Some c.in-Drill.is))) (g.met.F.Shelf.asked_nothing _) _ c.drill_by.ensures)
+    drill_comes (call_of words _ (fetches g.F.Shelf.holds g.F.Shelf.asked g.F.Shelf.faults _ _) (writes g.O.Sink.took g.O.Sink.held g.O.Sink.faults _ _)) _ _
+    (sym (task_is c.args.supplies.items (λ b. (goal.Supply-dyn g (b.vtable, b.value)).number b.value) (λ b. (goal.Supply-dyn g (b.vtable, b.value)).plan b.value) [] words _
+    (c.requires ∙ ap Some c.in-Drill.is))) (g.met.F.Shelf.asked_nothing _) _ c.drill_by.ensures.drilled
 
 pub regions-requires : goal.regions-requires
 regions-requires g c = omega (arith, commands_fit (map string_bytes c.args.words.now) _ (c.requires ∙ ap Some c.in-Regions.is), length-map c.args.words.now string_bytes)

@@ -4,7 +4,7 @@ use Rattle.oc_top.proofs.Metering.{comes_alone, was_read}
 use Rattle.oc_top.proofs.top.run.Goals as goal
 
 pub returns-in-Ok-prepare-clause-comes : goal.returns-in-Ok-prepare-clause-comes
-returns-in-Ok-prepare-clause-comes g c = was_read _ _ _ _ refl _ c.in-Ok.ensures.files c.in-Ok.ensures.asked _ _ _ c.in-Ok-prepare.ensures.ready _ _ c.report_for.ensures
+returns-in-Ok-prepare-clause-comes g c = was_run _ _ _ _ refl _ c.in-Ok.ensures.files c.in-Ok.ensures.asked _ _ _ c.in-Ok-prepare.ensures.ready _ c.report.ensures.written refl
 
 pub returns-in-Err-prepare-clause-comes : goal.returns-in-Err-prepare-clause-comes
 returns-in-Err-prepare-clause-comes g c = comes_alone _ _ _ _ c.alone-in-Err-prepare.ensures.untold c.alone-in-Err-prepare.ensures.answer

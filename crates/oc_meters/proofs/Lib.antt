@@ -2,4 +2,5 @@ mod Half
 mod Fields
 mod Stretches
 mod Lengths
+mod Numerals
 mod ReadBack

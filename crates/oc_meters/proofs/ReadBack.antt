@@ -1,5 +1,5 @@
 -- Of a whole report meters are told the items.
-use Rattle.std.proofs.Common.{ℕ, zero, suc, ℤ, ◌+◌, ◌<◌, ◌^◌, ◌≡◌, cond, Bool, true, false, List, [], ◌∷◌, ◌++◌, map, take, drop, get_or, codes, decimal, refl, sym, ap, subst, ◌∙◌, append_assoc, arith, w32, FitsSigned}
+use Rattle.std.proofs.Common.{ℕ, zero, suc, ℤ, ◌+◌, ◌<◌, ◌^◌, ◌≡◌, cond, Bool, true, false, List, [], ◌∷◌, ◌++◌, map, take, drop, get_or, codes, decimal, refl, sym, ap, subst, ◌∙◌, append_assoc, arith}
 use Rattle.std.specs.Fmt.{signed_decimal}
 use Rattle.std.specs.List.{All}
 use Rattle.std.proofs.lemmas.List.{take_all}
@@ -11,13 +11,13 @@ use Rattle.oc_items.specs.Text.{tick_of, fields_of, item_line, report_text, word
 use Rattle.oc_items.specs.OneText.{AreApart, IsItem, is_field}
 use Rattle.oc_items.specs.Reading.{HasLine, place_of}
 use Rattle.oc_items.proofs.Back.{one_text, first_of_all, rest_of_all, line_fits}
-use Rattle.oc_items.proofs.NvBack.{front_words, back_words, line_fits as nv_fits}
 use Rattle.oc_items.proofs.Fields.{begins_with_digit}
 use Rattle.oc_meters.specs.Tally.{Reading, tell_readings}
 use Rattle.oc_meters.specs.Reads.{Page, longest_line, IsTold, told, untold, TakesBytes}
 use Rattle.oc_meters.specs.ReadBack.{begun, tell_items, ReportIsRead}
 use Rattle.oc_meters.proofs.Stretches.{line_is, most, passes}
 use Rattle.oc_meters.proofs.Lengths.{line_length}
+use Rattle.oc_meters.proofs.Numerals.{words_line_fits}
 
 module _ (names : NameLists) (s : AreApart names.sensors) (p : AreApart names.ports) where
   -- two items with one line are the same
@@ -57,26 +57,26 @@ module _ (names : NameLists) (s : AreApart names.sensors) (p : AreApart names.po
       after_items items rest (tell_readings i old) new (rest_of_all (IsItem names) i items h) (rest_of_all (λ j. place_of j < 2 ^ 8) i items l)
       (subst (λ (r : List Reading). TakesBytes names (begun r) more new) one passed.others)
 
-  after_words : (nvs : List Text) (sizes : List ℕ) (words : List ℤ) (old : List Reading) (new : Page) → All (λ n. is_field n ≡ true) nvs → All (FitsSigned w32) words
+  after_words : (nvs : List Text) (sizes : List ℕ) (words : List ℤ) (old : List Reading) (new : Page) → All (λ n. is_field n ≡ true) nvs
       → TakesBytes names (begun old) (words_lines nvs sizes words) new → new ≡ begun old
-  after_words [] sizes words old new f w t = t
-  after_words (name ∷ nvs) [] words old new f w t = t
-  after_words (name ∷ nvs) (size ∷ sizes) words old new f w t =
-      let fit = nv_fits name (take size words) (first_of_all (λ n. is_field n ≡ true) name nvs f) (front_words size words w) in
+  after_words [] sizes words old new f t = t
+  after_words (name ∷ nvs) [] words old new f t = t
+  after_words (name ∷ nvs) (size ∷ sizes) words old new f t =
+      let fit = words_line_fits name (take size words) (first_of_all (λ n. is_field n ≡ true) name nvs f) in
       let whole = line_is (codes "nv") (name ∷ map signed_decimal (take size words)) fit in
       let more = words_lines nvs sizes (drop size words) in
       let text : words_line name (take size words) ++ more ≡ whole.line ++ (10 ∷ more) = ap (λ (x : List ℕ). x ++ more) whole.is ∙ append_assoc whole.line (codes "\n") more in
       let passed = passes names whole.line more old new whole.free (subst (λ (x : List ℕ). TakesBytes names (begun old) x new) text t) in
       let none : passed.readings ≡ old = told_other (take (most names) whole.line) _ old passed.readings (take_letter (longest_line names) _) passed.told in
-      after_words nvs sizes (drop size words) old new (rest_of_all (λ n. is_field n ≡ true) name nvs f) (back_words size words w)
+      after_words nvs sizes (drop size words) old new (rest_of_all (λ n. is_field n ≡ true) name nvs f)
       (subst (λ (r : List Reading). TakesBytes names (begun r) more new) none passed.others)
 
-  after_end : (over : Bool) (sizes : List ℕ) (words : List ℤ) (old : List Reading) (new : Page) → All (λ n. is_field n ≡ true) names.nvs → All (FitsSigned w32) words
+  after_end : (over : Bool) (sizes : List ℕ) (words : List ℤ) (old : List Reading) (new : Page) → All (λ n. is_field n ≡ true) names.nvs
       → TakesBytes names (begun old) (cond over (nv_lines names sizes words) []) new → new ≡ begun old
-  after_end true sizes words old new f w t = after_words names.nvs sizes words old new f w t
-  after_end false sizes words old new f w t = t
+  after_end true sizes words old new f t = after_words names.nvs sizes words old new f t
+  after_end false sizes words old new f t = t
 
 pub report_is_read : ReportIsRead
-report_is_read names sizes items words old new s p f h l w t =
-    after_end names s p (is_over items) sizes words (tell_items items old) new f w
+report_is_read names sizes items words old new s p f h l t =
+    after_end names s p (is_over items) sizes words (tell_items items old) new f
     (after_items names s p items (cond (is_over items) (nv_lines names sizes words) []) old new h l t)

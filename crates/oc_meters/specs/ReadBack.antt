@@ -1,6 +1,5 @@
 -- What is read of a whole report.
-use Rattle.std.specs.Prelude.{ℕ, ℤ, ◌^◌, ◌<◌, ◌≡◌, true, List, [], ◌∷◌, FitsSigned}
-use Rattle.std.specs.Int.{w32}
+use Rattle.std.specs.Prelude.{ℕ, ℤ, ◌^◌, ◌<◌, ◌≡◌, true, List, [], ◌∷◌}
 use Rattle.std.specs.List.{All}
 use Rattle.oc_tree.specs.Names.{NameLists}
 use Rattle.oc_items.specs.declared.item.Item.{Item}
@@ -23,6 +22,6 @@ begun readings = record { line = []; readings = readings }
 abbrev pub ReportIsRead : Type 0
 ReportIsRead = (names : NameLists) (sizes : List ℕ) (items : List Item) (words : List ℤ) (old : List Reading) (new : Page)
     → AreApart names.sensors → AreApart names.ports → All (λ n. is_field n ≡ true) names.nvs
-    → All (IsItem names) items → All (λ i. place_of i < 2 ^ 8) items → All (FitsSigned w32) words
+    → All (IsItem names) items → All (λ i. place_of i < 2 ^ 8) items
     → TakesBytes names (begun old) (full_text names sizes items words) new
     → new ≡ begun (tell_items items old)

@@ -42,6 +42,14 @@ class Workload:
         return sum(path.stat().st_size for path in pathlib.Path(folder).iterdir())
 
 
+class Audit(Workload):
+    """The audit of a report of N bytes that checks/inputs/reports.py prints."""
+
+    def __init__(self, name, kind):
+        self.name, self.size, self.words = name, 16777216, ("audit", "source.oc", "report.txt")
+        self.files = {"source.oc": ("reports.py", kind), "report.txt": ("reports.py", kind, "N")}
+
+
 def write_printed(script, size, path):
     """Writes what a script prints, where N stands for a size. It doesn't come into memory: see measured()."""
     name, *arguments = [str(size) if word == "N" else word for word in script]
@@ -68,6 +76,8 @@ WORKLOADS = [
     Workload("references to nonvolatile variables", 63, "references"),
     Workload("names that end differently", 32, "names"),
     Workload("a thousand regions", 126, "regions"),
+    Audit("a report of the greatest size, four in five attempts aborted", "attempts"),
+    Audit("a report of the greatest size, sums of all samples so far", "sums"),
 ]
 
 

@@ -5,3 +5,6 @@ pub mod Named
 pub mod Cut
 pub mod OneWay
 pub mod Apart
+pub mod Program
+pub mod OneFinding
+pub mod HonestTexts

@@ -15,7 +15,7 @@ use Rattle.oc_audit.proofs.ReadBack.{length-both, lines-append, last_byte, last_
 
 -- ---- the first bad line
 
-longer : (xs ys : List (List ℕ)) (x : List ℕ) (r t : List (List ℕ)) → xs ++ x ∷ r ≡ ys ++ t → length xs < length ys → (more : List (List ℕ)) × (ys ≡ (xs ++ x ∷ []) ++ more)
+pub longer : {X : Type 0} (xs ys : List X) (x : X) (r t : List X) → xs ++ x ∷ r ≡ ys ++ t → length xs < length ys → (more : List X) × (ys ≡ (xs ++ x ∷ []) ++ more)
 longer [] [] x r t e l = absurd (omega (arith, l))
 longer [] (y ∷ ys) x r t e l = (ys, let same : y ≡ x = cc (e) in ap (λ z. z ∷ ys) same)
 longer (a ∷ xs) [] x r t e l = absurd (omega (arith, l))
@@ -23,6 +23,12 @@ longer (a ∷ xs) (y ∷ ys) x r t e l =
     let m = longer xs ys x r t (cc (e)) (omega (arith, l)) in
     let same : y ≡ a = cc (e) in
     (m.0, ap (λ z. z ∷ ys) same ∙ ap (λ z. a ∷ z) m.1)
+
+pub same_length : (i j : ℕ) → (i < j → ⊥) → (j < i → ⊥) → i ≡ j
+same_length zero zero h k = refl
+same_length zero (suc j) h k = absurd (h (omega arith))
+same_length (suc i) zero h k = absurd (k (omega arith))
+same_length (suc i) (suc j) h k = ap suc (same_length i j (λ l. h (omega (arith, l))) (λ l. k (omega (arith, l))))
 
 module _ (names : NameLists) (sizes : List ℕ) where
   begins_front : (ls more : List (List ℕ)) → Begins names sizes (ls ++ more) → Begins names sizes ls
@@ -55,12 +61,6 @@ module _ (names : NameLists) (sizes : List ℕ) where
         let on : length y.before < length x.before → ⊥ = no_later y.before x.before y.ends x.begun xt.0 xt.1 in
         let same : length x.before ≡ length y.before = same_length (length x.before) (length y.before) no on in
         x.number ∙ ap suc same ∙ sym y.number
-      where
-        same_length : (i j : ℕ) → (i < j → ⊥) → (j < i → ⊥) → i ≡ j
-        same_length zero zero h k = refl
-        same_length zero (suc j) h k = absurd (h (omega arith))
-        same_length (suc i) zero h k = absurd (k (omega arith))
-        same_length (suc i) (suc j) h k = ap suc (same_length i j (λ l. h (omega (arith, l))) (λ l. k (omega (arith, l))))
 
 -- ---- lines, joined
 

@@ -3,3 +3,4 @@ pub mod Words
 pub mod Taking
 pub mod Laws
 pub mod Errors
+pub mod Findings

@@ -1,4 +1,5 @@
 //! Laws: a function does nothing, and its contract says the law.
+ghost use Rattle.oc_audit.specs.Findings.{HonestTexts, OneFinding};
 ghost use Rattle.oc_audit.specs.Laws.{FilesReadOneWay, LinesRead, OneReportEach, ProgramsReadBack, TextsReadBack};
 
 /// What lines of a report spell, and what they don't.
@@ -20,4 +21,14 @@ pub fn texts_read_back()
 pub fn programs_read_back()
     ensures back { ProgramsReadBack }
     ensures one { OneReportEach }
+{}
+
+/// A file is found to be one thing.
+pub fn one_finding()
+    ensures { OneFinding }
+{}
+
+/// The text of an honest report is found to be honest and nothing else.
+pub fn honest_texts()
+    ensures { HonestTexts }
 {}

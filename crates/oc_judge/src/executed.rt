@@ -1,6 +1,7 @@
 //! The executed blocks.
 ghost use Rattle.std.specs.Prelude.{◌≡◌, ℕ, ◌<◌, ◌==◌, [], ◌∷◌, count_by, length, slice_index_or, IfOk, OnOk};
 
+use crate::pieces::Pieces;
 use oc_tree::tree::BlockId;
 use std::alloc::{AllocError, Global};
 use std::marker::Model;
@@ -9,7 +10,7 @@ use std::marker::Model;
 /// number.
 #[derive(Drop)]
 pub struct Executed {
-    blocks: Vec<BlockId>,
+    blocks: Pieces,
     counts: Vec<u32>,
 }
 
@@ -19,9 +20,9 @@ impl Model for Executed {
 
     ghost Value = { List ℕ };
 
-    ghost view = { λ e. reverse e.blocks.items };
+    ghost view = { λ e. reverse e.blocks };
 
-    ghost invariant = { λ e. IsCounted e.counts.items e.blocks.items };
+    ghost invariant = { λ e. IsCounted e.counts.items e.blocks };
 }
 
 impl Executed {
@@ -29,18 +30,18 @@ impl Executed {
         ensures { result ≡ [] }
     {
         Executed {
-            blocks: Vec::new(alloc),
+            blocks: Pieces::new(alloc),
             counts: Vec::new(alloc),
         }
     }
 
     /// The same blocks.
-    pub fn copy(&self) -> Result<Executed, AllocError>
+    pub fn copy(&self, alloc: Global) -> Result<Executed, AllocError>
         ensures { IfOk result (λ e. e ≡ self.now) }
     {
         Ok(Executed {
-            blocks: self.blocks.clone()?,
-            counts: self.counts.clone()?,
+            blocks: self.blocks.copy()?,
+            counts: Vec::from_slice(alloc, &self.counts)?,
         })
     }
 

@@ -52,11 +52,11 @@ impl Held {
     }
 
     /// The same words, of the same age.
-    pub fn copy(&self) -> Result<Held, AllocError>
+    pub fn copy(&self, alloc: Global) -> Result<Held, AllocError>
         ensures { IfOk result (λ h. h ≡ self.now) }
     {
         Ok(Held {
-            words: self.words.clone()?,
+            words: Vec::from_slice(alloc, &self.words)?,
             age: self.age,
         })
     }

@@ -15,6 +15,7 @@ mod held;
 mod homes;
 pub mod judge;
 mod notes;
+mod pieces;
 mod place;
 mod running;
 mod scope;

@@ -46,11 +46,11 @@ impl<'a> Scope<'a> {
     }
 
     /// The same variables.
-    pub fn copy(&self) -> Result<Scope<'a>, AllocError>
+    pub fn copy(&self, alloc: Global) -> Result<Scope<'a>, AllocError>
         ensures { IfOk result (λ s. s ≡ self.now) }
     {
         Ok(Scope {
-            bindings: self.bindings.clone()?,
+            bindings: Vec::from_slice(alloc, &self.bindings)?,
         })
     }
 

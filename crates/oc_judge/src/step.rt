@@ -39,7 +39,7 @@ fn with_variable<'a>(
 ) -> Result<Rc<Scope<'a>>, AllocError>
     ensures { IfOk result (λ s. s.value ≡ binding_view binding.entry ∷ scope.now) }
 {
-    let mut more = scope.copy()?;
+    let mut more = scope.copy(alloc)?;
     more.push(binding)?;
     Ok(Rc::new(alloc, more)?)
 }

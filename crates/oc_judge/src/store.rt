@@ -92,7 +92,7 @@ impl Store {
             nv: copies(alloc, &self.nv)?,
             outages: self.outages,
             depth: self.depth,
-            blocks: self.blocks.copy()?,
+            blocks: self.blocks.copy(alloc)?,
             told: self.told,
         })
     }
@@ -364,7 +364,7 @@ fn copies(alloc: Global, variables: &[Held]) -> Result<Vec<Held>, AllocError>
 {
     let mut copies = Vec::new(alloc);
     for variable in variables {
-        copies.push(variable.copy()?)?;
+        copies.push(variable.copy(alloc)?)?;
     }
     Ok(copies)
 }

@@ -1,21 +1,8 @@
-use Rattle.std.proofs.Common.{◌≡◌, ◌∙◌, map, sym, subst}
-use Rattle.oc_audit.specs.Files.{IsReportFile}
-use Rattle.oc_audit.specs.Laws.{ProgramsReadBack}
-use Rattle.oc_audit.proofs.Apart.{sensors_apart, ports_apart}
-use Rattle.oc_audit.proofs.Named.{are_names}
-use Rattle.oc_audit.proofs.OneWay.{reads_back}
+use Rattle.oc_audit.proofs.Program.{one_report, programs_back}
 use Rattle.oc_audit.proofs.laws.programs_read_back.Goals as goal
 
-back : ProgramsReadBack
-back p groups c items words are count fit =
-    let named = are_names p groups c in
-    reads_back p.names (map (λ d. d.words) p.nv) (sensors_apart p groups c) (ports_apart p groups c) named.nvs named.each items words are count fit
-
 pub returns-clause-back : goal.returns-clause-back
-returns-clause-back c = back
+returns-clause-back c = programs_back
 
 pub returns-clause-one : goal.returns-clause-one
-returns-clause-one c = λ p groups checked bytes a b u v x y.
-    let all = back p groups checked b y.words y.file.each y.file.count y.file.fit in
-    let r = all.alone a u (subst (λ l. IsReportFile p.names (map (λ d. d.words) p.nv) l a u) (sym y.file.text) x) in
-    (r.0, r.1 ∙ sym y.nv_is)
+returns-clause-one c = one_report

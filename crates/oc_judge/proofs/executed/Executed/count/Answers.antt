@@ -9,5 +9,5 @@ returns c =
     c.entry.ensures
     ∙ ap (λ l. slice_index_or l b 0) c.deref.ensures.value
     ∙ c.self.invariant b
-    ∙ sym (count_by-reverse (λ id. b == id) c.self.inside.blocks.items)
+    ∙ sym (count_by-reverse (λ id. b == id) c.self.inside.blocks)
     ∙ ap (count_by (λ id. b == id)) c.self.view_is

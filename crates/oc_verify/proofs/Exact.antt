@@ -20,7 +20,7 @@ use Rattle.oc_verify.proofs.Cells.{level_below, level_short}
 use Rattle.oc_verify.proofs.Owners.{owned}
 use Rattle.oc_verify.proofs.Calls.{call_linked}
 
-count_small : (p : ℕ → Bool) (n : ℕ) → count_below p n ≤ n
+pub count_small : (p : ℕ → Bool) (n : ℕ) → count_below p n ≤ n
 count_small p zero = omega arith
 count_small p (suc n) = let c = count_small p n in let o = one_small (p n) in omega (arith, c, o)
   where
@@ -28,28 +28,28 @@ count_small p (suc n) = let c = count_small p n in let o = one_small (p n) in om
     one_small true = omega arith
     one_small false = omega arith
 
-either : (b c : Bool) → b || c ≡ true → (b ≡ true) ⊎ (c ≡ true)
+pub either : (b c : Bool) → b || c ≡ true → (b ≡ true) ⊎ (c ≡ true)
 either true c e = inl refl
 either false c e = inr e
 
-or_second : (b c : Bool) → c ≡ true → b || c ≡ true
+pub or_second : (b c : Bool) → c ≡ true → b || c ≡ true
 or_second true c e = refl
 or_second false c e = e
 
 -- who calls what reaches a function reaches it
-reach_back : (g : Links) (n u v w : ℕ) → v < n → linked g u v ≡ true → reaches g n v w ≡ true → reaches g n u w ≡ true
+pub reach_back : (g : Links) (n u v w : ℕ) → v < n → linked g u v ≡ true → reaches g n v w ≡ true → reaches g n u w ≡ true
 reach_back g n u v w s l r = or_second (nat_eq u w) (leads g n u w) (⊎_elim
     (λ e. let q : v ≡ w = grind (arith, e) in subst (λ m. leads g n u m ≡ true) q (links_lead g n u v l))
     (λ e. leads_trans g n u v w s (links_lead g n u v l) e)
     (either (nat_eq v w) (leads g n v w) r))
 
-suits_sized : (as' bs : List Kind) → SuitAll as' bs → length as' ≡ length bs
+pub suits_sized : (as' bs : List Kind) → SuitAll as' bs → length as' ≡ length bs
 suits_sized [] [] s = refl
 suits_sized [] (b ∷ bs) s = absurd s
 suits_sized (a ∷ as') [] s = absurd s
 suits_sized (a ∷ as') (b ∷ bs) s = ap suc (suits_sized as' bs s.1)
 
-suit_at : (xs bs : List Kind) (j : ℕ) (a b : Kind) → SuitAll xs bs → level xs j ≡ Some a → level bs j ≡ Some b → Suits a b
+pub suit_at : (xs bs : List Kind) (j : ℕ) (a b : Kind) → SuitAll xs bs → level xs j ≡ Some a → level bs j ≡ Some b → Suits a b
 suit_at [] bs j a b s e f = absurd (cc)
 suit_at (x ∷ xs) [] j a b s e f = absurd s
 suit_at (x ∷ xs) (y ∷ bs) j a b s e f =
@@ -69,7 +69,7 @@ same_levels (x ∷ xs) (y ∷ ys) e h =
     let rest : xs ≡ ys = same_levels xs ys n (λ j a b p q. h j a b (level_below (x ∷ []) xs j (level_short xs j a p) ∙ p) (level_below (y ∷ []) ys j (level_short ys j b q) ∙ q)) in
     (λ j. top j ∷ rest j)
 
-level_some : {A : Type 0} (xs : List A) (j : ℕ) → j < length xs → (x : A) × (level xs j ≡ Some x)
+pub level_some : {A : Type 0} (xs : List A) (j : ℕ) → j < length xs → (x : A) × (level xs j ≡ Some x)
 level_some [] j h = absurd (omega (arith, h))
 level_some (x ∷ xs) j h = ⊎_elim
     (λ q. (x, grind (arith, q.1)))
@@ -88,7 +88,7 @@ equal_by Number (Place m) h k = absurd (k m refl)
 equal_by (Place n) Number h k = absurd (h n refl)
 equal_by (Place n) (Place m) h k = let u : m ≤ n = h n refl in let v : n ≤ m = k m refl in let e : n ≡ m = omega (arith, u, v) in ap Place e
 
-front_is : {A : Type 0} (args rest : List A) (n : ℕ) → length args ≡ n → take n (args ++ rest) ≡ args
+pub front_is : {A : Type 0} (args rest : List A) (n : ℕ) → length args ≡ n → take n (args ++ rest) ≡ args
 front_is [] rest n e = subst (λ m. take m rest ≡ []) e refl
 front_is (a ∷ args) rest zero e = absurd (omega (arith, e))
 front_is (a ∷ args) rest (suc n) e = ap (λ l. a ∷ l) (front_is args rest n (omega (arith, e)))

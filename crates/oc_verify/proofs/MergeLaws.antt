@@ -16,7 +16,7 @@ suits_then (Place n) Number c x y = absurd x
 suits_then (Place n) (Place m) Number x y = y
 suits_then (Place n) (Place m) (Place l) x y = omega (arith, x, y)
 
-all_then : (as' bs cs : List Kind) → SuitAll as' bs → SuitAll bs cs → SuitAll as' cs
+pub all_then : (as' bs cs : List Kind) → SuitAll as' bs → SuitAll bs cs → SuitAll as' cs
 all_then [] [] cs x y = y
 all_then [] (b ∷ bs) cs x y = absurd x
 all_then (a ∷ as') [] cs x y = absurd x

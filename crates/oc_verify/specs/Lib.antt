@@ -7,3 +7,9 @@ pub mod Merging
 pub mod Told
 pub mod Reading
 pub mod Reads
+pub mod Own
+pub mod Facts
+pub mod Blames
+pub mod Tables
+pub mod Walks
+pub mod Room

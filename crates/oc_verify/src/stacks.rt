@@ -1,6 +1,7 @@
 //! Stacks that share what is below.
 ghost use Rattle.std.specs.Prelude.{
   ◌≡◌,
+  ◌≢◌,
   ◌≤◌,
   ◌<◌,
   ℕ,
@@ -13,10 +14,12 @@ ghost use Rattle.std.specs.Prelude.{
   OnOk,
   Some,
   slice_get,
+  false,
+  true,
 };
 ghost use Rattle.oc_verify.specs.Stacks.{stack, with_node, Grows};
 ghost use Rattle.oc_verify.specs.Told.{kinds, Tells, IsTop};
-ghost use Rattle.oc_verify.specs.Rules.{number, place, closing, none_open};
+ghost use Rattle.oc_verify.specs.Rules.{number, place, closing, dropping, none_open};
 
 use crate::fault::Fault;
 use indexmap::IndexSet;
@@ -84,16 +87,36 @@ fn place(nodes: &mut IndexSet<u64>, node: u64) -> Result<u32, Memory>
 
 impl Stacks {
     /// The top of a stack, and the number of what is below; none of the empty one.
-    fn top(&self, number: u32) -> Option<(u64, u32)>
+    pub fn top(&self, number: u32) -> Option<(u64, u32)>
         requires { number ≤ length self.now }
         ensures top { IsTop self.now number result }
         ensures within { IfSome result (λ t. t.1 ≤ length self.now) }
+        ensures lower { IfSome result (λ t. t.1 < number) }
     {
         if number == 0 {
             return None;
         }
         let node = *self.nodes.get_index(number as usize - 1)?;
         Some((node % 8589934592, (node / 8589934592) as u32))
+    }
+
+    /// How many stacks there are but the empty one.
+    pub fn count(&self) -> u32
+        ensures count { result ≡ length self.now }
+        ensures few { result < 2147483648 }
+    {
+        self.nodes.len() as u32
+    }
+
+    /// Whether two numbers are those of one stack.
+    pub fn is_same(&self, left: u32, right: u32) -> bool
+        requires left { left ≤ length self.now }
+        requires right { right ≤ length self.now }
+        ensures same { result ≡ true → left ≡ right }
+        ensures differ { result ≡ false → stack self.now left ≢ stack self.now right }
+    {
+        let _nodes = &self.nodes;
+        left == right
     }
 
     /// The kinds below a number.
@@ -143,6 +166,23 @@ impl Stacks {
             }
             None => Err(Fault::Broken { rule: 9 }),
         }
+    }
+
+    /// The kinds below so many arguments.
+    pub fn without(&self, count: u32, ops: u32) -> Result<u32, Fault>
+        requires { ops ≤ length self.now }
+        ensures exact { Tells (λ n. kinds self.now n) result
+            (dropping count (kinds self.now ops)) }
+        ensures within { IfOk result (λ n. n ≤ length self.now) }
+    {
+        let mut rest = ops;
+        for _done in 0..count {
+            match self.top(rest) {
+                Some((_, below)) => rest = below,
+                None => return Err(Fault::Broken { rule: 5 }),
+            }
+        }
+        Ok(rest)
     }
 
     /// No region may be open.

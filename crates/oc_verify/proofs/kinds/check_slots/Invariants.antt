@@ -1,0 +1,9 @@
+use Rattle.std.proofs.Common.{◌≡◌, ◌<◌, ◌≤◌, ℕ, true, Some}
+use Rattle.std.specs.Prelude.{slice_get}
+use Rattle.oc_isa.specs.declared.instr.Placed.{Placed}
+use Rattle.oc_verify.specs.Own.{own_list}
+use Rattle.oc_verify.specs.Rules.{slot_right}
+use Rattle.oc_verify.proofs.kinds.check_slots.Given as goal
+
+abbrev pub invariant-loop-at : goal.invariant-loop-at
+invariant-loop-at l = (a : ℕ) (p : Placed) → l.entry ≤ a → a < l.at → slice_get l.facts.code a ≡ Some p → slot_right (own_list l.slots) p.instr ≡ true

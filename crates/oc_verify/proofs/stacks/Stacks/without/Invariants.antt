@@ -1,0 +1,10 @@
+use Rattle.std.proofs.Common.{◌≡◌, ◌≤◌, length, drop}
+use Rattle.oc_verify.specs.Told.{kinds}
+use Rattle.oc_verify.proofs.stacks.Stacks.without.Given as goal
+
+abbrev pub invariant-loop-done : goal.invariant-loop-done
+invariant-loop-done l = record {
+  rest : l.rest ≤ length l.self;
+  below : kinds l.self l.rest ≡ drop l._done (kinds l.self l.ops);
+  deep : l._done ≤ length (kinds l.self l.ops);
+}

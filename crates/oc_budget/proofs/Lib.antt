@@ -11,3 +11,6 @@ mod BoundWithin
 mod BoundWritten
 mod BoundTargets
 mod BoundLaw
+mod CostLaws
+mod LoggedLaws
+mod FittingLaws

@@ -1,6 +1,6 @@
 -- The costs of the statements that a test picks, over the tree and over the list of placed statements.
 use Rattle.std.proofs.Common.{rules, ◌≡◌, ◌+◌, ◌++◌, ℕ, Bool, true, false, List, [], ◌∷◌, refl, ap, ◌∙◌, arith, cond, Option, Some, None, subst}
-use Rattle.std.specs.Prelude.{sum_by, filter, flat_map, IfSome}
+use Rattle.std.specs.Prelude.{sum_by, filter, flat_map}
 use Rattle.std.proofs.lemmas.List.Sums.{sum_by-append, sum_by-cons}
 use Rattle.std.proofs.lemmas.List.Elements.{filter-append}
 use Rattle.oc_tree.specs.Tree.{TExpr, TKind, let_to, let_array, assign, assign_index, assign_deref, if_else, for_in, while_do, call_only, sense_only, emit, fresh, consistent}
@@ -11,6 +11,7 @@ use Rattle.oc_tree.specs.Marked.{TMarked, TRegion, is_in_region}
 use Rattle.oc_budget.specs.Budgets.{budget, held_cost, logged}
 use Rattle.oc_tree.specs.Weight.{expr_cost}
 use Rattle.oc_budget.specs.Costs.{costs, is_use}
+use Rattle.oc_budget.specs.Fitting.{IsFitted}
 use Rattle.oc_tree.specs.Costs.{probes, inner_cost}
 use Rattle.oc_budget.specs.Spent.{returned}
 use Rattle.oc_tree.specs.Picked.{kind_spent, else_spent, block_spent, stmts_spent, functions_spent}
@@ -79,9 +80,9 @@ budget_is m r =
     let e = spent_is (is_in_region m.program r) (held_cost m) m.program.functions in
     omega (arith, e)
 
--- what is said of a number that there may be
-pub some_same : (o : Option ℕ) (a b : ℕ) → IfSome o (λ s. s ≡ a) → a ≡ b → IfSome o (λ s. s ≡ b)
-some_same o a b h e = subst (λ z. IfSome o (λ s. s ≡ z)) e h
+-- what is said of a number that may not fit
+pub fitted_same : (o : Option ℕ) (a b : ℕ) → IsFitted o a → a ≡ b → IsFitted o b
+fitted_same o a b h e = subst (IsFitted o) e h
 
 -- ---- the cost of a statement of a region
 

@@ -1,4 +1,5 @@
 pub mod Costs
+pub mod Fitting
 pub mod Budgets
 pub mod View
 pub mod Spent

@@ -1,16 +1,19 @@
 //! The costs of regions and of runs.
-ghost use Rattle.std.specs.Prelude.{Some, ◌≡◌, ◌+◌, ◌*◌, ◌++◌, List, map, max, sum_by, IfOk, IfSome};
+ghost use Rattle.std.specs.Prelude.{◌≡◌, ◌≤◌, map, sum_by, IfErr, IfOk};
+ghost use Rattle.std.specs.List.{All};
 ghost use Rattle.oc_code.specs.Code.{code_of};
 ghost use Rattle.oc_tree.specs.Regions.{region_view};
-ghost use Rattle.oc_tree.specs.declared.said.Target.{Target};
+ghost use Rattle.oc_tree.specs.Marked.{IsMarked};
 ghost use Rattle.oc_bounds.specs.Bounds.{IsBounded};
 ghost use Rattle.oc_isa.specs.Table.{device_of};
 ghost use Rattle.oc_writes.specs.Targets.{may_write};
 ghost use Rattle.oc_budget.specs.Bounding.{bounds_of};
 ghost use Rattle.oc_budget.specs.Budgets.{budget, budgets, greatest, logged, safe_for, target_words};
-ghost use Rattle.oc_budget.specs.Costs.{costs, total};
+ghost use Rattle.oc_budget.specs.Costs.{costs};
+ghost use Rattle.oc_budget.specs.Fitting.{Explains, IsFitted};
 ghost use Rattle.oc_budget.specs.View.{budgets_view};
 
+use crate::error::BudgetError;
 use crate::held::region_spent;
 use crate::known::Known;
 use crate::levels::all_costs;
@@ -33,27 +36,25 @@ fn target_words(target: Target) -> u32
 }
 
 // The words of a region's targets.
-fn words_of(targets: &[Target]) -> Result<u32, AllocError>
-    ensures { IfOk result (λ w. w ≡ sum_by target_words targets.now) }
+fn words_of(targets: &[Target]) -> u32
+    requires { sum_by target_words targets.now ≤ 4294967295 }
+    ensures { result ≡ sum_by target_words targets.now }
 {
     let mut words: u32 = 0;
     for target in targets {
-        let more = target_words(*target);
-        if more > 4294967295 - words {
-            return Err(AllocError);
-        }
-        words = words + more;
+        words += target_words(*target);
     }
-    Ok(words)
+    words
 }
 
 // How many words each region logs at most.
 fn all_logged(alloc: Global, targets: &[Vec<Target>]) -> Result<Vec<u32>, AllocError>
+    requires { All (λ v. sum_by target_words v.items ≤ 4294967295) targets.now }
     ensures { IfOk result (λ l. l.items ≡ map (λ v. sum_by target_words v.items) targets.now) }
 {
     let mut logged = Vec::new(alloc);
     for list in targets {
-        logged.push(words_of(list.as_slice())?)?;
+        logged.push(words_of(list.as_slice()))?;
     }
     Ok(logged)
 }
@@ -63,7 +64,7 @@ fn all_logged(alloc: Global, targets: &[Vec<Target>]) -> Result<Vec<u32>, AllocE
 fn region_budget(known: &Known, callees: &[u64], region: &Region, words: u32) -> Option<u64>
     requires callees { callees.now ≡ costs known.now }
     requires words { words ≡ logged known.now.program (region_view region.now) }
-    ensures { IfSome result (λ b. b ≡ budget known.now (region_view region.now)) }
+    ensures { IsFitted result (budget known.now (region_view region.now)) }
 {
     plus(region_spent(known, callees, region)?, 1 + words as u64)
 }
@@ -74,10 +75,12 @@ fn all_budgets(
     known: &Known,
     callees: &[u64],
     words: &[u32],
-) -> Result<Vec<u64>, AllocError>
+) -> Result<Vec<u64>, BudgetError>
     requires callees { callees.now ≡ costs known.now }
     requires words { words.now ≡ map (logged known.now.program) known.now.regions }
-    ensures { IfOk result (λ b. b.items ≡ map (budget known.now) known.now.regions) }
+    ensures budgets { IfOk result (λ b. b.items ≡ map (budget known.now) known.now.regions) }
+    ensures large { IfErr result
+        (λ e. Explains e (greatest 0 (map (budget known.now) known.now.regions))) }
 {
     let mut budgets = Vec::new(alloc);
     let regions = known.regions();
@@ -100,7 +103,7 @@ fn greatest(budgets: &[u64]) -> u64
 
 // The steps of a period that suffice, with so many words of stack.
 fn safe_for(stack: u32, budgets: &[u64]) -> Option<u64>
-    ensures { IfSome result (λ s. s ≡ safe_for stack budgets.now) }
+    ensures { IsFitted result (safe_for stack budgets.now) }
 {
     let words = stack as u64;
     if budgets.is_empty() {
@@ -110,9 +113,13 @@ fn safe_for(stack: u32, budgets: &[u64]) -> Option<u64>
     }
 }
 
-fn all_told(alloc: Global, marked: &Marked, image: &Image) -> Result<Budgets, AllocError>
-    requires { image.now ≡ code_of marked.now.program marked.now.regions (may_write marked.now) }
-    ensures { IfOk result (λ b. budgets_view b ≡ budgets marked.now) }
+fn all_told(alloc: Global, marked: &Marked, image: &Image) -> Result<Budgets, BudgetError>
+    requires code { image.now
+        ≡ code_of marked.now.program marked.now.regions (may_write marked.now) }
+    requires marked { IsMarked marked.now }
+    ensures told { IfOk result (λ b. budgets_view b ≡ budgets marked.now) }
+    // It is too large where a period that suffices has no number.
+    ensures large { IfErr result (λ e. Explains e (budgets marked.now).safe) }
 {
     let known = Known::new(alloc, marked)?;
     let costs = all_costs(alloc, &known)?;
@@ -129,9 +136,9 @@ fn all_told(alloc: Global, marked: &Marked, image: &Image) -> Result<Budgets, Al
     })
 }
 
-/// The budgets of a program with regions, of which this is the image. A number that doesn't fit 64
-/// bits is answered as out of memory: a region inside a loop of no turns, whose body no rule bounds,
-/// may have one. These numbers bound every run of the image.
+/// The budgets of a program with regions, of which this is the image. Where the steps of a period
+/// that suffices don't fit 64 bits, it is answered as out of memory. These numbers bound every run
+/// of the image.
 pub fn budgets(alloc: Global, marked: &Marked, image: &Image) -> Result<Budgets, Memory>
     requires { image.now ≡ code_of marked.now.program marked.now.regions (may_write marked.now) }
     ensures told { IfOk result (λ b. budgets_view b ≡ budgets marked.now) }

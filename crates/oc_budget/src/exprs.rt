@@ -1,5 +1,5 @@
 //! The costs of expressions and of arguments.
-ghost use Rattle.std.specs.Prelude.{◌≡◌, ◌+◌, IfSome};
+ghost use Rattle.oc_budget.specs.Fitting.{IsFitted};
 ghost use Rattle.oc_tree.specs.View.{arg_view, args_view, expr_view};
 ghost use Rattle.oc_tree.specs.Weight.{arg_cost, args_cost, binary_cost, expr_cost};
 
@@ -7,7 +7,7 @@ use crate::sums::{greater, plus};
 use oc_tree::tree::{Arg, BinaryOp, Expr};
 
 fn binary_cost(op: BinaryOp, a: u64, b: u64) -> Option<u64>
-    ensures { IfSome result (λ c. c ≡ binary_cost op a b) }
+    ensures { IsFitted result (binary_cost op a b) }
 {
     match op {
         BinaryOp::And => plus(plus(a, b)?, 2),
@@ -27,7 +27,7 @@ fn binary_cost(op: BinaryOp, a: u64, b: u64) -> Option<u64>
 }
 
 pub fn expr_cost(expr: &Expr) -> Option<u64>
-    ensures { IfSome result (λ c. c ≡ expr_cost (expr_view expr.now)) }
+    ensures { IsFitted result (expr_cost (expr_view expr.now)) }
 {
     match expr {
         Expr::Number { .. } | Expr::Truth { .. } | Expr::Variable { .. } => Some(1),
@@ -40,7 +40,7 @@ pub fn expr_cost(expr: &Expr) -> Option<u64>
 }
 
 fn arg_cost(arg: &Arg) -> Option<u64>
-    ensures { IfSome result (λ c. c ≡ arg_cost (arg_view arg.now)) }
+    ensures { IsFitted result (arg_cost (arg_view arg.now)) }
 {
     match arg {
         Arg::Value { value } => expr_cost(value),
@@ -49,7 +49,7 @@ fn arg_cost(arg: &Arg) -> Option<u64>
 }
 
 pub fn args_cost(args: &[Arg]) -> Option<u64>
-    ensures { IfSome result (λ c. c ≡ args_cost (args_view args.now)) }
+    ensures { IsFitted result (args_cost (args_view args.now)) }
 {
     let mut cost = 0;
     for arg in args {

@@ -1,10 +1,11 @@
 //! The costs of the statements directly in a region.
-ghost use Rattle.std.specs.Prelude.{◌≡◌, ◌+◌, map, cond, IfSome};
+ghost use Rattle.std.specs.Prelude.{◌≡◌, cond};
 ghost use Rattle.oc_tree.specs.Marked.{is_in_region};
 ghost use Rattle.oc_tree.specs.Regions.{region_view};
 ghost use Rattle.oc_tree.specs.View.{block_view, else_view, function_view, kind_view};
 ghost use Rattle.oc_budget.specs.Budgets.{held_cost};
 ghost use Rattle.oc_budget.specs.Costs.{costs};
+ghost use Rattle.oc_budget.specs.Fitting.{IsFitted};
 ghost use Rattle.oc_budget.specs.Spent.{expr_seen, returned};
 ghost use Rattle.oc_tree.specs.Picked.{kind_spent, else_spent, block_spent, functions_spent};
 
@@ -28,7 +29,8 @@ fn returned(kind: &StmtKind) -> Option<&Expr>
 // The cost of a statement of a region.
 fn held_cost(known: &Known, callees: &[u64], s: StmtId, kind: &StmtKind) -> Option<u64>
     requires { callees.now ≡ costs known.now }
-    ensures { IfSome result (λ c. c ≡ held_cost known.now s (kind_view kind.now)) }
+    ensures { IsFitted result
+        (held_cost known.now s (kind_view kind.now)) }
 {
     let around = probes(known.uses(s), kind);
     match returned(kind) {
@@ -46,9 +48,8 @@ fn own_cost(
     kind: &StmtKind,
 ) -> Option<u64>
     requires { callees.now ≡ costs known.now }
-    ensures { IfSome result
-        (λ c. c
-        ≡ cond (is_in_region known.now.program (region_view region.now) s)
+    ensures { IsFitted result
+        (cond (is_in_region known.now.program (region_view region.now) s)
         (held_cost known.now s (kind_view kind.now)) 0) }
 {
     if known.is_in_region(region, s) {
@@ -61,9 +62,8 @@ fn own_cost(
 #[cycle(spent)]
 fn kind_spent(known: &Known, callees: &[u64], region: &Region, kind: &StmtKind) -> Option<u64>
     requires { callees.now ≡ costs known.now }
-    ensures { IfSome result
-        (λ c. c
-        ≡ kind_spent (is_in_region known.now.program (region_view region.now)) (held_cost known.now)
+    ensures { IsFitted result
+        (kind_spent (is_in_region known.now.program (region_view region.now)) (held_cost known.now)
         (kind_view kind.now)) }
 {
     match kind {
@@ -90,9 +90,8 @@ fn else_spent(
     otherwise: &Option<Block>,
 ) -> Option<u64>
     requires { callees.now ≡ costs known.now }
-    ensures { IfSome result
-        (λ c. c
-        ≡ else_spent (is_in_region known.now.program (region_view region.now)) (held_cost known.now)
+    ensures { IsFitted result
+        (else_spent (is_in_region known.now.program (region_view region.now)) (held_cost known.now)
         (else_view otherwise.now)) }
 {
     match otherwise {
@@ -104,9 +103,8 @@ fn else_spent(
 #[cycle(spent)]
 fn block_spent(known: &Known, callees: &[u64], region: &Region, block: &Block) -> Option<u64>
     requires { callees.now ≡ costs known.now }
-    ensures { IfSome result
-        (λ c. c
-        ≡ block_spent (is_in_region known.now.program (region_view region.now))
+    ensures { IsFitted result
+        (block_spent (is_in_region known.now.program (region_view region.now))
         (held_cost known.now) (block_view block.now)) }
 {
     let mut spent = 0;
@@ -121,9 +119,8 @@ fn block_spent(known: &Known, callees: &[u64], region: &Region, block: &Block) -
 /// The costs of all statements directly in a region.
 pub fn region_spent(known: &Known, callees: &[u64], region: &Region) -> Option<u64>
     requires { callees.now ≡ costs known.now }
-    ensures { IfSome result
-        (λ c. c
-        ≡ functions_spent (is_in_region known.now.program (region_view region.now))
+    ensures { IsFitted result
+        (functions_spent (is_in_region known.now.program (region_view region.now))
         (held_cost known.now) known.now.program.functions) }
 {
     let mut spent = 0;

@@ -2,6 +2,7 @@
 #![tactic(auto)]
 
 pub mod costs;
+pub mod error;
 mod exprs;
 mod held;
 mod known;

@@ -1,17 +1,18 @@
-//! Sums and products of costs. None where one doesn't fit 64 bits, which no marked program has: its
-//! weights are at most 2^32.
-ghost use Rattle.std.specs.Prelude.{◌≡◌, ◌+◌, ◌*◌, max, Some, IfSome, IfOk};
+//! Sums and products of costs. None exactly where one doesn't fit 64 bits.
+ghost use Rattle.std.specs.Prelude.{◌≡◌, ◌+◌, ◌*◌, max, None, Some, IfErr, IfOk};
+ghost use Rattle.oc_budget.specs.declared.error.BudgetError.TheVariants.{TooLarge};
+ghost use Rattle.oc_budget.specs.Fitting.{IsFitted};
 
-use std::alloc::AllocError;
+use crate::error::BudgetError;
 
 pub fn plus(a: u64, b: u64) -> Option<u64>
-    ensures { IfSome result (λ s. s ≡ a + b) }
+    ensures { IsFitted result (a + b) }
 {
     a.checked_add(b)
 }
 
 pub fn times(n: u32, a: u64) -> Option<u64>
-    ensures { IfSome result (λ p. p ≡ n * a) }
+    ensures { IsFitted result (n * a) }
 {
     (n as u64).checked_mul(a)
 }
@@ -22,12 +23,13 @@ pub fn greater(a: u64, b: u64) -> u64
     if a < b { b } else { a }
 }
 
-/// A number that fits. One that doesn't is answered as out of memory.
-pub fn fitting(number: Option<u64>) -> Result<u64, AllocError>
-    ensures { IfOk result (λ n. number ≡ Some n) }
+/// A number that fits, or that it is too large.
+pub fn fitting(number: Option<u64>) -> Result<u64, BudgetError>
+    ensures fits { IfOk result (λ n. number ≡ Some n) }
+    ensures large { IfErr result (λ e. (number ≡ None) × (e ≡ TooLarge)) }
 {
     match number {
         Some(number) => Ok(number),
-        None => Err(AllocError),
+        None => Err(BudgetError::TooLarge),
     }
 }

@@ -1,9 +1,10 @@
 //! The cost of a tree, where the costs of the functions that it calls are known.
-ghost use Rattle.std.specs.Prelude.{◌≡◌, ◌+◌, ◌*◌, map, max, cond, IfSome};
+ghost use Rattle.std.specs.Prelude.{◌≡◌};
 ghost use Rattle.oc_tree.specs.View.{block_view, call_view, else_view, expr_view, function_view, kind_view, right_view};
 ghost use Rattle.oc_tree.specs.Weight.{call_cost, known_of, right_cost, turns};
 ghost use Rattle.oc_budget.specs.Costs.{is_use};
-ghost use Rattle.oc_tree.specs.Costs.{probes, inner_cost, else_cost, block_cost, function_cost};
+ghost use Rattle.oc_budget.specs.Fitting.{IsFitted};
+ghost use Rattle.oc_tree.specs.Costs.{one, probes, inner_cost, else_cost, block_cost, function_cost};
 
 use crate::exprs::{args_cost, expr_cost};
 use crate::known::Known;
@@ -21,16 +22,16 @@ pub fn known_of(costs: &[u64], place: Option<usize>) -> u64
 }
 
 fn call_cost(known: &Known, costs: &[u64], call: &Call) -> Option<u64>
-    ensures { IfSome result
-        (λ c. c ≡ call_cost known.now.program.functions costs.now (call_view call.now)) }
+    ensures { IsFitted result
+        (call_cost known.now.program.functions costs.now (call_view call.now)) }
 {
     let arguments = plus(args_cost(call.args.as_slice())?, 1)?;
     plus(arguments, known_of(costs, known.place(&call.function)))
 }
 
 fn right_cost(known: &Known, costs: &[u64], right: &Right) -> Option<u64>
-    ensures { IfSome result
-        (λ c. c ≡ right_cost known.now.program.functions costs.now (right_view right.now)) }
+    ensures { IsFitted result
+        (right_cost known.now.program.functions costs.now (right_view right.now)) }
 {
     match right {
         Right::Value { value } => expr_cost(value),
@@ -46,6 +47,13 @@ fn turns(from: i32, to: i32) -> u32
     if turns < 0 { 0 } else { turns as u32 }
 }
 
+// One step where there is one.
+fn one(is: bool) -> u64
+    ensures { result ≡ one is }
+{
+    if is { 1 } else { 0 }
+}
+
 /// The probes around a statement, but for those of a `while`, which are a part of its cost.
 pub fn probes(uses: bool, kind: &StmtKind) -> u64
     ensures probes { result ≡ probes uses (kind_view kind.now) }
@@ -59,9 +67,8 @@ pub fn probes(uses: bool, kind: &StmtKind) -> u64
 /// The cost of a block.
 #[cycle(cost)]
 pub fn block_cost(known: &Known, costs: &[u64], block: &Block) -> Option<u64>
-    ensures { IfSome result
-        (λ c. c
-        ≡ block_cost known.now.program.functions (is_use known.now.program) known.now.regions
+    ensures { IsFitted result
+        (block_cost known.now.program.functions (is_use known.now.program) known.now.regions
         costs.now (block_view block.now)) }
 {
     let mut cost = 0;
@@ -77,9 +84,8 @@ pub fn block_cost(known: &Known, costs: &[u64], block: &Block) -> Option<u64>
 // Both branches of an `if`, the first of which has the cost `then`.
 #[cycle(cost)]
 fn else_cost(known: &Known, costs: &[u64], then: u64, otherwise: &Option<Block>) -> Option<u64>
-    ensures { IfSome result
-        (λ c. c
-        ≡ else_cost known.now.program.functions (is_use known.now.program) known.now.regions
+    ensures { IsFitted result
+        (else_cost known.now.program.functions (is_use known.now.program) known.now.regions
         costs.now then (else_view otherwise.now)) }
 {
     match otherwise {
@@ -91,9 +97,8 @@ fn else_cost(known: &Known, costs: &[u64], then: u64, otherwise: &Option<Block>)
 /// The cost of a statement, without the probes and marks around it.
 #[cycle(cost)]
 pub fn inner_cost(known: &Known, costs: &[u64], s: StmtId, kind: &StmtKind) -> Option<u64>
-    ensures { IfSome result
-        (λ c. c
-        ≡ inner_cost known.now.program.functions (is_use known.now.program) known.now.regions
+    ensures { IsFitted result
+        (inner_cost known.now.program.functions (is_use known.now.program) known.now.regions
         costs.now s (kind_view kind.now)) }
 {
     match kind {
@@ -128,7 +133,7 @@ pub fn inner_cost(known: &Known, costs: &[u64], s: StmtId, kind: &StmtKind) -> O
             bound,
             body,
         } => {
-            let probe = if known.uses(s) { 1 } else { 0 };
+            let probe = one(known.uses(s));
             if *bound == 0 {
                 return Some(6 + probe);
             }
@@ -149,9 +154,8 @@ pub fn inner_cost(known: &Known, costs: &[u64], s: StmtId, kind: &StmtKind) -> O
 
 /// The cost of a function.
 pub fn function_cost(known: &Known, costs: &[u64], function: &Function) -> Option<u64>
-    ensures { IfSome result
-        (λ c. c
-        ≡ function_cost known.now.program.functions (is_use known.now.program) known.now.regions
+    ensures { IsFitted result
+        (function_cost known.now.program.functions (is_use known.now.program) known.now.regions
         costs.now (function_view function.now)) }
 {
     let returns = if function.result.is_some() { 0 } else { 1 };

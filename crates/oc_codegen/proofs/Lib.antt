@@ -7,3 +7,5 @@ pub mod Statements
 pub mod KindViews
 pub mod Functions
 pub mod MarkedLaws
+pub mod NamePlaces
+pub mod SmallLaws

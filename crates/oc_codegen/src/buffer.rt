@@ -7,11 +7,8 @@ use oc_isa::instr::{Instr, Placed};
 use std::alloc::{AllocError, Global};
 use std::marker::Model;
 
-/// The most instructions that a buffer holds, so that each address is a `u32`.
-const ROOM: usize = 2147483647;
-
-/// Instructions, which contracts see as their list. There is room for 2,147,483,647 of them, and
-/// one more is out of memory.
+/// Instructions, which contracts see as their list. There is room for 2,147,483,647 of them, so
+/// that each address is a `u32`.
 #[derive(Drop)]
 pub struct Buffer {
     placed: Vec<Placed>,
@@ -47,11 +44,9 @@ impl Buffer {
 
     /// One more instruction of the statement `site`.
     pub fn put(&mut self, site: u32, instr: Instr) -> Result<(), AllocError>
+        requires { length self.old < 2147483647 }
         ensures { OnOk result (self.new ≡ self.old ++ one site instr) }
     {
-        if self.placed.len() >= ROOM {
-            return Err(AllocError);
-        }
         self.placed.push(Placed { instr, site })?;
         Ok(())
     }
@@ -66,6 +61,7 @@ impl Buffer {
 
     /// A jump on zero whose end isn't known yet, by its address.
     pub fn open(&mut self, site: u32) -> Result<u32, AllocError>
+        requires { length self.old < 2147483647 }
         ensures code { OnOk result (self.new ≡ self.old ++ one site (Jfalse 0)) }
         ensures address { IfOk result (λ a. a ≡ length self.old) }
     {

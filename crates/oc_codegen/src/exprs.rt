@@ -7,6 +7,7 @@ ghost use Rattle.oc_code.specs.Forms.{placed, one, read_code, write_code, base_c
 ghost use Rattle.oc_code.specs.Scope.{passed_slot};
 ghost use Rattle.oc_codegen.specs.Slots.{slot_view};
 ghost use Rattle.oc_codegen.specs.Ops.{sides_of};
+ghost use Rattle.oc_codegen.specs.Room.{HasRoom};
 
 use crate::buffer::Buffer;
 use crate::scope::{Scope, Slot};
@@ -45,6 +46,7 @@ fn sides_of(op: BinaryOp) -> Sides
 
 /// A scalar's value.
 fn read(code: &mut Buffer, n: u32, slot: Slot) -> Result<(), AllocError>
+    requires { HasRoom code.old (read_code n (slot_view slot)) }
     ensures { OnOk result (code.new ≡ code.old ++ read_code n (slot_view slot)) }
 {
     match slot {
@@ -60,6 +62,7 @@ fn read(code: &mut Buffer, n: u32, slot: Slot) -> Result<(), AllocError>
 
 /// The topmost word goes into a scalar.
 pub fn write(code: &mut Buffer, n: u32, slot: Slot) -> Result<(), AllocError>
+    requires { HasRoom code.old (write_code n (slot_view slot)) }
     ensures { OnOk result (code.new ≡ code.old ++ write_code n (slot_view slot)) }
 {
     match slot {
@@ -75,6 +78,7 @@ pub fn write(code: &mut Buffer, n: u32, slot: Slot) -> Result<(), AllocError>
 
 /// A variable's address.
 pub fn base(code: &mut Buffer, n: u32, slot: Slot) -> Result<(), AllocError>
+    requires { HasRoom code.old (base_code n (slot_view slot)) }
     ensures { OnOk result (code.new ≡ code.old ++ base_code n (slot_view slot)) }
 {
     match slot {
@@ -93,7 +97,8 @@ fn word_of(value: bool) -> i32
 
 // The end of `&&`: its left side has left the test that is still open, and its right side stands.
 fn close_and(code: &mut Buffer, n: u32, test: u32) -> Result<(), AllocError>
-    requires { test < length code.old }
+    requires test { test < length code.old }
+    requires room { length code.old < 2147483646 }
     ensures { OnOk result (code.new
         ≡ slice_set code.old test (placed n (Jfalse (length code.old + 1)))
         ++ placed n (Jump (length code.old + 2)) ∷ one n (Push (pos 0))) }
@@ -106,6 +111,7 @@ fn close_and(code: &mut Buffer, n: u32, test: u32) -> Result<(), AllocError>
 
 // What stands between the sides of `||`, and the address of its jump, which is still open.
 fn open_or(code: &mut Buffer, n: u32) -> Result<u32, AllocError>
+    requires { length code.old < 2147483645 }
     ensures code { OnOk result
         (code.new ≡ code.old ++ placed n (Jfalse (length code.old + 3)) ∷ placed n (Push (pos 1))
         ∷ one n (Jump 0)) }
@@ -120,6 +126,8 @@ fn open_or(code: &mut Buffer, n: u32) -> Result<u32, AllocError>
 
 /// The code of an expression of the statement `n`.
 pub fn expr(code: &mut Buffer, scope: &Scope, n: u32, expression: &Expr) -> Result<(), AllocError>
+    requires { HasRoom code.old
+        (expr_code n scope.now (length code.old) (expr_view expression.now)) }
     ensures { OnOk result
         (code.new ≡ code.old
         ++ expr_code n scope.now (length code.old) (expr_view expression.now)) }
@@ -187,6 +195,7 @@ fn passed_slot(scope: &Scope, expression: &Expr) -> Option<u32>
 
 // The code of an argument.
 fn arg(code: &mut Buffer, scope: &Scope, n: u32, arg: &Arg) -> Result<(), AllocError>
+    requires { HasRoom code.old (arg_code n scope.now (length code.old) (arg_view arg.now)) }
     ensures { OnOk result
         (code.new ≡ code.old ++ arg_code n scope.now (length code.old) (arg_view arg.now)) }
 {
@@ -202,6 +211,7 @@ fn arg(code: &mut Buffer, scope: &Scope, n: u32, arg: &Arg) -> Result<(), AllocE
 
 /// The code of the arguments of a call.
 pub fn args(code: &mut Buffer, scope: &Scope, n: u32, args: &[Arg]) -> Result<(), AllocError>
+    requires { HasRoom code.old (args_code n scope.now (length code.old) (args_view args.now)) }
     ensures { OnOk result
         (code.new ≡ code.old ++ args_code n scope.now (length code.old) (args_view args.now)) }
 {

@@ -14,7 +14,6 @@ mod buffer;
 mod copy;
 mod exprs;
 mod loops;
-mod numbers;
 mod program;
 mod scope;
 mod setting;
@@ -41,8 +40,8 @@ fn raw(alloc: Global, marked: &Marked, writes: &WriteSets) -> Result<RawImage, A
     Ok(raw)
 }
 
-/// The image of a marked program, with what its regions may overwrite. A program whose numbers
-/// don't fit an image would want memory too, but no marked program has such numbers.
+/// The image of a marked program, with what its regions may overwrite. Each number fits its
+/// instruction, so nothing but want of memory is in its way.
 pub fn compile(alloc: Global, marked: &Marked, writes: &WriteSets) -> Result<Image, Memory>
     requires { writes.now ≡ may_write marked.now }
     // It is the program's code.

@@ -5,7 +5,6 @@ ghost use Rattle.oc_isa.specs.declared.instr.Instr.TheVariants.{Push, Load, Stor
 ghost use Rattle.oc_code.specs.Forms.{placed, one, again_code, below_code, fill_code, array_code};
 
 use crate::buffer::Buffer;
-use crate::numbers::{behind, word};
 use oc_isa::instr::{BinOp, Instr};
 use std::alloc::AllocError;
 
@@ -18,6 +17,7 @@ pub fn open_count(
     from: i32,
     to: i32,
 ) -> Result<u32, AllocError>
+    requires { length code.old + 6 < 2147483648 }
     ensures code { OnOk result (code.new
         ≡ code.old ++ placed n (Push from) ∷ placed n (Store slot) ∷ below_code n slot to 0) }
     ensures start { IfOk result (λ a. a ≡ length code.old) }
@@ -34,7 +34,8 @@ pub fn open_count(
 
 /// The end of a loop that begins at an address, behind the code of a turn.
 pub fn close_count(code: &mut Buffer, n: u32, slot: u32, start: u32) -> Result<(), AllocError>
-    requires { start + 5 < length code.old }
+    requires start { start + 5 < length code.old }
+    requires room { length code.old + 5 < 2147483648 }
     ensures { OnOk result (code.new
         ≡ slice_set code.old (start + 5) (placed n (Jfalse (length code.old + 5)))
         ++ again_code n slot (start + 2)) }
@@ -58,6 +59,7 @@ pub fn close_while(
 ) -> Result<(), AllocError>
     requires start { start + 5 < length code.old }
     requires exit { exit < length code.old }
+    requires room { length code.old + 5 < 2147483648 }
     ensures { OnOk result
         (code.new ≡ slice_set (slice_set code.old exit (placed n (Jfalse (length code.old + 5))))
         (start + 5) (placed n (Jfalse (length code.old + 5))) ++ again_code n slot (start + 2)) }
@@ -68,11 +70,12 @@ pub fn close_while(
 }
 
 fn fill(code: &mut Buffer, n: u32, slot: u32, initial: i32, words: u32) -> Result<(), AllocError>
+    requires slots { slot + 1 + words < 2147483648 }
+    requires room { length code.old + 5 < 2147483648 }
     ensures { OnOk result (code.new ≡ code.old ++ fill_code n slot initial words) }
 {
-    let first = behind(slot, 1)?;
     code.put(n, Instr::Push { c: initial })?;
-    code.put(n, Instr::Addr { s: first })?;
+    code.put(n, Instr::Addr { s: slot + 1 })?;
     code.put(n, Instr::Load { s: slot })?;
     code.put(n, Instr::Index { n: words })?;
     code.put(n, Instr::Put)
@@ -86,10 +89,12 @@ pub fn array(
     initial: i32,
     words: u32,
 ) -> Result<(), AllocError>
+    requires slots { slot + 1 + words < 2147483648 }
+    requires room { length code.old + 16 < 2147483648 }
     ensures { OnOk result
         (code.new ≡ code.old ++ array_code n (length code.old) slot initial words) }
 {
-    let start = open_count(code, n, slot, 0, word(words)?)?;
+    let start = open_count(code, n, slot, 0, words as i32)?;
     fill(code, n, slot, initial, words)?;
     close_count(code, n, slot, start)
 }

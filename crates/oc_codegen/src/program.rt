@@ -1,5 +1,6 @@
 //! The code of a whole program.
-ghost use Rattle.std.specs.Prelude.{◌≡◌, ◌≤◌, ◌+◌, ◌++◌, ◌∷◌, [], codes, map, length, OnOk, IfOk};
+ghost use Rattle.std.specs.Prelude.{◌≡◌, ◌≤◌, ◌+◌, ◌++◌, ◌∷◌, [], codes, map, length, sum_by, OnOk, IfOk};
+ghost use Rattle.std.specs.List.{All};
 ghost use Rattle.oc_tree.specs.Calls.{function_place};
 ghost use Rattle.oc_tree.specs.Names.{names_view};
 ghost use Rattle.oc_tree.specs.Regions.{region_view};
@@ -10,10 +11,11 @@ ghost use Rattle.oc_isa.specs.Image.{parts_of};
 ghost use Rattle.oc_code.specs.Scope.{kind_words, nv_scope, param_slot, params_scope, may_write};
 ghost use Rattle.oc_code.specs.Code.{block_code, close_code, code_of, functions_code, image_functions, image_nv};
 ghost use Rattle.oc_code.specs.Formed.{IsFormed};
+ghost use Rattle.oc_codegen.specs.Room.{HasRoom};
+ghost use Rattle.oc_codegen.specs.Small.{IsSmall};
 ghost use Rattle.oc_codegen.specs.Slots.{slot_view};
 
 use crate::buffer::Buffer;
-use crate::numbers::{behind, small};
 use crate::scope::{Scope, Slot, Variable};
 use crate::setting::Setting;
 use crate::stmts::block;
@@ -35,7 +37,8 @@ fn declare_nvs<'a>(
     names: &'a [Name],
     nv: &[NvDecl],
 ) -> Result<(), AllocError>
-    requires { scope.old ≡ [] }
+    requires empty { scope.old ≡ [] }
+    requires words { word + sum_by (λ d. d.words) nv.now ≤ 65536 }
     ensures { OnOk result (scope.new ≡ nv_scope word names.now nv.now) }
 {
     match names.split_first() {
@@ -43,8 +46,7 @@ fn declare_nvs<'a>(
         Some((name, names)) => match nv.split_first() {
             None => Ok(()),
             Some((first, nv)) => {
-                let next = behind(word, first.words)?;
-                declare_nvs(scope, next, names, nv)?;
+                declare_nvs(scope, word + first.words, names, nv)?;
                 let variable = Variable {
                     slot: Slot::InNv { a: word },
                     words: first.words,
@@ -88,6 +90,7 @@ fn kind_words(kind: ValueKind) -> u32
 }
 
 fn declare_params<'a>(scope: &mut Scope<'a>, params: &'a [Param]) -> Result<(), AllocError>
+    requires { length params.now ≤ 8 }
     ensures { OnOk result (scope.new ≡ params_scope params.now 0 scope.old) }
 {
     let mut s = 0;
@@ -99,7 +102,7 @@ fn declare_params<'a>(scope: &mut Scope<'a>, params: &'a [Param]) -> Result<(), 
             fresh: false,
         };
         scope.declare(&param.name, variable)?;
-        s = behind(s, 1)?;
+        s += 1;
     }
     Ok(())
 }
@@ -111,7 +114,8 @@ fn link_words(function: &Function) -> u32
 }
 
 fn close(code: &mut Buffer, function: &Function, params: u32) -> Result<(), AllocError>
-    requires { params ≡ length function.now.params.items }
+    requires params { params ≡ length function.now.params.items }
+    requires room { HasRoom code.old (close_code (function_view function.now)) }
     ensures { OnOk result (code.new ≡ code.old ++ close_code (function_view function.now)) }
 {
     if function.name.is_main() {
@@ -131,6 +135,13 @@ fn function<'a>(
     scope: &mut Scope<'a>,
     function: &'a Function,
 ) -> Result<ImageFunction, AllocError>
+    requires small { IsSmall (function_view function.now) }
+    requires room { HasRoom code.old (block_code setting.old.names setting.old.functions
+        setting.old.regions
+        (length function.now.params.items) (params_scope function.now.params.items 0 scope.old)
+        (length function.now.params.items + link_words (function_view function.now))
+        (length code.old) (function_view function.now).body
+        ++ close_code (function_view function.now)) }
     ensures code { OnOk result
         (code.new ≡ code.old
         ++ (block_code setting.old.names setting.old.functions setting.old.regions
@@ -151,12 +162,12 @@ fn function<'a>(
     ensures regions { setting.new.regions ≡ setting.old.regions }
     ensures scope { OnOk result (scope.new ≡ scope.old) }
 {
-    let params = small(function.params.len())?;
+    let params = function.params.len() as u32;
     setting.enter(params);
     let visible = scope.len();
     declare_params(scope, function.params.as_slice())?;
     let entry = code.address();
-    let first = behind(params, link_words(function))?;
+    let first = params + link_words(function);
     let frame = block(code, setting, scope, first, &function.body)?;
     close(code, function, params)?;
     scope.truncate(visible);
@@ -202,8 +213,10 @@ pub fn raw_image(
     regions: &[Region],
     targets: Vec<Vec<Target>>,
 ) -> Result<RawImage, AllocError>
-    requires { IsFormed (program_view program.now) (map region_view regions.now)
+    requires formed { IsFormed (program_view program.now) (map region_view regions.now)
         (map (λ v. v.items) targets.items) }
+    requires few { length program.now.functions.items ≤ 128 }
+    requires small { All (λ f. IsSmall (function_view f)) program.now.functions.items }
     ensures { IfOk result
         (λ raw. parts_of raw
         ≡ code_of (program_view program.now) (map region_view regions.now)

@@ -1,12 +1,11 @@
 //! What is around the statements of a function.
-ghost use Rattle.std.specs.Prelude.{◌≡◌, ◌<◌, List, map, length, IfOk};
+ghost use Rattle.std.specs.Prelude.{◌≡◌, ◌≤◌, ◌<◌, List, map, length, IfOk};
 ghost use Rattle.oc_tree.specs.Names.{names_view};
 ghost use Rattle.oc_tree.specs.View.{function_view};
 ghost use Rattle.oc_tree.specs.Regions.{region_view};
 ghost use Rattle.oc_meaning.specs.Exec.{begun_by, ended_by, number_in};
 ghost use Rattle.oc_code.specs.Code.{function_number, has_result};
 
-use crate::numbers::small;
 use oc_meaning::names::place_in;
 use oc_meaning::regions::{begun_by, ended_by};
 use oc_reach::table::{Table, function_table};
@@ -26,7 +25,7 @@ pub struct Setting<'a> {
 }
 
 impl<'a> Model for Setting<'a> {
-    ghost use Rattle.std.specs.Prelude.{◌≡◌, map};
+    ghost use Rattle.std.specs.Prelude.{◌≡◌, ◌≤◌, map, length};
     ghost use Rattle.std.specs.Coded.{codes};
     ghost use Rattle.oc_tree.specs.Names.{names_view};
     ghost use Rattle.oc_tree.specs.Stored.{block_code};
@@ -46,8 +45,11 @@ impl<'a> Model for Setting<'a> {
       params = a.params;
     } };
 
-    ghost invariant = { λ a. a.table
-        ≡ function_names (map function_view a.program.now.functions.items) };
+    ghost invariant = { λ a. (a.table
+        ≡ function_names (map function_view a.program.now.functions.items))
+        × (length a.program.now.names.sensors.items ≤ 64)
+        × (length a.program.now.names.ports.items ≤ 64)
+        × (length a.program.now.functions.items ≤ 128) };
 }
 
 impl<'a> Setting<'a> {
@@ -56,6 +58,9 @@ impl<'a> Setting<'a> {
         program: &'a Program,
         regions: &'a [Region],
     ) -> Result<Setting<'a>, AllocError>
+        requires sensors { length program.now.names.sensors.items ≤ 64 }
+        requires ports { length program.now.names.ports.items ≤ 64 }
+        requires functions { length program.now.functions.items ≤ 128 }
         ensures { IfOk result (λ s. s
             ≡ record {
               names = names_view program.now.names;
@@ -87,24 +92,26 @@ impl<'a> Setting<'a> {
         self.params
     }
 
-    pub fn sensor(&self, name: &Name) -> Result<u32, AllocError>
-        ensures { IfOk result (λ s. s ≡ number_in self.now.names.sensors name.now) }
+    #[tactic(auto, using(crate::proofs::NamePlaces::number_within))]
+    pub fn sensor(&self, name: &Name) -> u32
+        ensures { result ≡ number_in self.now.names.sensors name.now }
     {
-        small(place_in(self.program.names.sensors.as_slice(), name))
+        place_in(self.program.names.sensors.as_slice(), name) as u32
     }
 
-    pub fn port(&self, name: &Name) -> Result<u32, AllocError>
-        ensures { IfOk result (λ p. p ≡ number_in self.now.names.ports name.now) }
+    #[tactic(auto, using(crate::proofs::NamePlaces::number_within))]
+    pub fn port(&self, name: &Name) -> u32
+        ensures { result ≡ number_in self.now.names.ports name.now }
     {
-        small(place_in(self.program.names.ports.as_slice(), name))
+        place_in(self.program.names.ports.as_slice(), name) as u32
     }
 
-    pub fn function(&self, name: &Name) -> Result<u32, AllocError>
-        ensures { IfOk result (λ f. f ≡ function_number self.now.functions name.now) }
+    pub fn function(&self, name: &Name) -> u32
+        ensures { result ≡ function_number self.now.functions name.now }
     {
         match self.table.place(name) {
-            Some(place) => small(place),
-            None => small(self.program.functions.len()),
+            Some(place) => place as u32,
+            None => self.program.functions.len() as u32,
         }
     }
 

@@ -1,6 +1,7 @@
 //! The code of statements without statements inside.
-ghost use Rattle.std.specs.Prelude.{◌≡◌, if◌then◌else◌, ◌+◌, ◌++◌, ◌∷◌, [], length, Option, OnOk, IfOk};
+ghost use Rattle.std.specs.Prelude.{◌≡◌, ◌<◌, if◌then◌else◌, ◌+◌, ◌++◌, ◌∷◌, [], length, Option, OnOk, IfOk};
 ghost use Rattle.oc_tree.specs.View.{call_view, expr_view, kind_view, right_view, stmts_view};
+ghost use Rattle.oc_tree.specs.Stack.{kind_slots};
 ghost use Rattle.oc_tree.specs.Tree.{return};
 ghost use Rattle.oc_isa.specs.declared.instr.Instr.TheVariants.{Store, Drop, Emit, Sense};
 ghost use Rattle.oc_isa.specs.declared.instr.ProbeKind.TheVariants.{Use};
@@ -9,10 +10,10 @@ ghost use Rattle.oc_meaning.specs.Uses.{begins_use, ends_use, is_use};
 ghost use Rattle.oc_code.specs.Scope.{in_scope, is_fresh_in, slot_of};
 ghost use Rattle.oc_code.specs.Forms.{placed, one, enter_code, commit_code, probe_code, write_code, expr_code};
 ghost use Rattle.oc_code.specs.Code.{called_name, has_result, call_code, right_code, element_code, return_code, test_code, before_code, after_code, last_code, first_code};
+ghost use Rattle.oc_codegen.specs.Room.{HasRoom};
 
 use crate::buffer::Buffer;
 use crate::exprs::{args, base, expr, write};
-use crate::numbers::behind;
 use crate::scope::{Scope, Slot, Variable};
 use crate::setting::Setting;
 use crate::uses::is_use;
@@ -30,13 +31,15 @@ pub fn call(
     n: u32,
     call: &Call,
 ) -> Result<(), AllocError>
+    requires { HasRoom code.old (call_code setting.now.names setting.now.functions
+        setting.now.regions setting.now.params n scope.now (length code.old) (call_view call.now)) }
     ensures { OnOk result
         (code.new ≡ code.old
         ++ call_code setting.now.names setting.now.functions setting.now.regions setting.now.params
         n scope.now (length code.old) (call_view call.now)) }
 {
     args(code, scope, n, call.args.as_slice())?;
-    let function = setting.function(&call.function)?;
+    let function = setting.function(&call.function);
     code.put(n, Instr::Call { f: function })
 }
 
@@ -48,6 +51,9 @@ pub fn right(
     n: u32,
     right: &Right,
 ) -> Result<(), AllocError>
+    requires { HasRoom code.old (right_code setting.now.names setting.now.functions
+        setting.now.regions setting.now.params n scope.now (length code.old)
+        (right_view right.now)) }
     ensures { OnOk result
         (code.new ≡ code.old
         ++ right_code setting.now.names setting.now.functions setting.now.regions setting.now.params
@@ -56,7 +62,7 @@ pub fn right(
     match right {
         Right::Value { value } => expr(code, scope, n, value),
         Right::Sense { sensor } => {
-            let sensor = setting.sensor(sensor)?;
+            let sensor = setting.sensor(sensor);
             code.put(n, Instr::Sense { s: sensor })
         }
         Right::Call { call: inner } => call(code, setting, scope, n, inner),
@@ -72,6 +78,9 @@ pub fn assign(
     name: &Name,
     side: &Right,
 ) -> Result<(), AllocError>
+    requires { HasRoom code.old (right_code setting.now.names setting.now.functions
+        setting.now.regions setting.now.params n scope.now (length code.old) (right_view side.now)
+        ++ write_code n (slot_of scope.now name.now)) }
     ensures { OnOk result
         (code.new ≡ code.old
         ++ (right_code setting.now.names setting.now.functions setting.now.regions
@@ -91,6 +100,9 @@ pub fn let_to(
     slot: u32,
     side: &Right,
 ) -> Result<(), AllocError>
+    requires { HasRoom code.old (right_code setting.now.names setting.now.functions
+        setting.now.regions setting.now.params n scope.now (length code.old) (right_view side.now)
+        ++ one n (Store slot)) }
     ensures { OnOk result
         (code.new ≡ code.old
         ++ (right_code setting.now.names setting.now.functions setting.now.regions
@@ -111,6 +123,10 @@ pub fn assign_index(
     index: &Expr,
     side: &Right,
 ) -> Result<(), AllocError>
+    requires { HasRoom code.old (element_code setting.now.names setting.now.functions
+        setting.now.regions setting.now.params n scope.now (length code.old) name.now (expr_view
+        index.now) (right_code setting.now.names setting.now.functions setting.now.regions
+        setting.now.params n scope.now (length code.old) (right_view side.now))) }
     ensures { OnOk result
         (code.new ≡ code.old
         ++ element_code setting.now.names setting.now.functions setting.now.regions
@@ -138,6 +154,10 @@ pub fn call_only(
     n: u32,
     inner: &Call,
 ) -> Result<(), AllocError>
+    requires { HasRoom code.old (call_code setting.now.names setting.now.functions
+        setting.now.regions setting.now.params n scope.now (length code.old) (call_view inner.now)
+        ++ (if has_result setting.now.functions (called_name (call_view inner.now)) then one n Drop
+        else [])) }
     ensures { OnOk result
         (code.new ≡ code.old
         ++ (call_code setting.now.names setting.now.functions setting.now.regions setting.now.params
@@ -160,11 +180,13 @@ pub fn sense_only(
     n: u32,
     sensor: &Name,
 ) -> Result<(), AllocError>
+    requires { HasRoom code.old (placed n (Sense (number_in setting.now.names.sensors sensor.now)) ∷
+        one n Drop) }
     ensures { OnOk result
         (code.new ≡ code.old
         ++ (placed n (Sense (number_in setting.now.names.sensors sensor.now)) ∷ one n Drop)) }
 {
-    let sensor = setting.sensor(sensor)?;
+    let sensor = setting.sensor(sensor);
     code.put(n, Instr::Sense { s: sensor })?;
     code.put(n, Instr::Drop)
 }
@@ -178,17 +200,20 @@ pub fn emit(
     port: &Name,
     value: &Expr,
 ) -> Result<(), AllocError>
+    requires { HasRoom code.old (expr_code n scope.now (length code.old) (expr_view value.now) ++
+        one n (Emit (number_in setting.now.names.ports port.now))) }
     ensures { OnOk result
         (code.new ≡ code.old ++ (expr_code n scope.now (length code.old) (expr_view value.now)
         ++ one n (Emit (number_in setting.now.names.ports port.now)))) }
 {
     expr(code, scope, n, value)?;
-    let port = setting.port(port)?;
+    let port = setting.port(port);
     code.put(n, Instr::Emit { p: port })
 }
 
 /// A probe, if there is one.
 pub fn probe(code: &mut Buffer, n: u32, is: bool, kind: ProbeKind) -> Result<(), AllocError>
+    requires { HasRoom code.old (probe_code n is kind) }
     ensures { OnOk result (code.new ≡ code.old ++ probe_code n is kind) }
 {
     if is {
@@ -199,6 +224,7 @@ pub fn probe(code: &mut Buffer, n: u32, is: bool, kind: ProbeKind) -> Result<(),
 }
 
 fn enter(code: &mut Buffer, n: u32, region: Option<u32>) -> Result<(), AllocError>
+    requires { HasRoom code.old (enter_code n region) }
     ensures { OnOk result (code.new ≡ code.old ++ enter_code n region) }
 {
     match region {
@@ -208,6 +234,7 @@ fn enter(code: &mut Buffer, n: u32, region: Option<u32>) -> Result<(), AllocErro
 }
 
 fn commit(code: &mut Buffer, n: u32, region: Option<u32>) -> Result<(), AllocError>
+    requires { HasRoom code.old (commit_code n region) }
     ensures { OnOk result (code.new ≡ code.old ++ commit_code n region) }
 {
     match region {
@@ -225,7 +252,10 @@ pub fn return_value(
     used: bool,
     value: &Expr,
 ) -> Result<(), AllocError>
-    requires { used ≡ is_use (is_fresh_in scope.now) (return (expr_view value.now)) }
+    requires used { used ≡ is_use (is_fresh_in scope.now) (return (expr_view value.now)) }
+    requires room { HasRoom code.old (return_code setting.now.names setting.now.functions
+        setting.now.regions setting.now.params n scope.now (length code.old)
+        (expr_view value.now)) }
     ensures { OnOk result
         (code.new ≡ code.old
         ++ return_code setting.now.names setting.now.functions setting.now.regions
@@ -250,6 +280,8 @@ pub fn test(
     used: bool,
     condition: &Expr,
 ) -> Result<(), AllocError>
+    requires { HasRoom code.old (probe_code n used Use ++ expr_code n scope.now (length code.old +
+        length (probe_code n used Use)) (expr_view condition.now)) }
     ensures { OnOk result (code.new
         ≡ code.old ++ (probe_code n used Use
         ++ expr_code n scope.now (length code.old + length (probe_code n used Use))
@@ -286,6 +318,8 @@ pub fn before(
     n: u32,
     kind: &StmtKind,
 ) -> Result<(), AllocError>
+    requires { HasRoom code.old (first_code setting.now.names setting.now.functions
+        setting.now.regions setting.now.params scope.now n (kind_view kind.now)) }
     ensures { OnOk result
         (code.new ≡ code.old
         ++ first_code setting.now.names setting.now.functions setting.now.regions setting.now.params
@@ -296,6 +330,7 @@ pub fn before(
 }
 
 fn last(code: &mut Buffer, n: u32, region: Option<u32>, kind: &StmtKind) -> Result<(), AllocError>
+    requires { HasRoom code.old (last_code n region (kind_view kind.now)) }
     ensures { OnOk result (code.new ≡ code.old ++ last_code n region (kind_view kind.now)) }
 {
     match kind {
@@ -312,6 +347,8 @@ pub fn after(
     n: u32,
     kind: &StmtKind,
 ) -> Result<(), AllocError>
+    requires { HasRoom code.old (after_code n (ended_by setting.now.regions n) (ends_use
+        (is_fresh_in scope.now) (kind_view kind.now)) (kind_view kind.now)) }
     ensures { OnOk result
         (code.new ≡ code.old
         ++ after_code n (ended_by setting.now.regions n)
@@ -328,6 +365,7 @@ pub fn declare<'a>(
     kind: &'a StmtKind,
     rest: &[Stmt],
 ) -> Result<(), AllocError>
+    requires { slot + kind_slots (kind_view kind.now) < 2147483648 }
     ensures { OnOk result
         (scope.new ≡ in_scope (kind_view kind.now) slot (stmts_view rest.now) scope.old) }
 {
@@ -342,9 +380,8 @@ pub fn declare<'a>(
             scope.declare(name, variable)
         }
         StmtKind::LetArray { name, words, .. } => {
-            let first = behind(slot, 1)?;
             let variable = Variable {
-                slot: Slot::InFrame { s: first },
+                slot: Slot::InFrame { s: slot + 1 },
                 words: *words,
                 writable: true,
                 fresh: is_annotated(name, rest),

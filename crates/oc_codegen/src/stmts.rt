@@ -8,11 +8,12 @@ ghost use Rattle.oc_code.specs.Forms.{placed, one};
 ghost use Rattle.oc_code.specs.Scope.{in_scope, is_fresh_in};
 ghost use Rattle.oc_tree.specs.Stack.{block_slots, kind_slots};
 ghost use Rattle.oc_code.specs.Code.{block_code, first_code, kind_code, whole_code};
+ghost use Rattle.oc_codegen.specs.Room.{HasRoom};
+ghost use Rattle.oc_codegen.specs.Small.{block_bounded, kind_bounded};
 
 use crate::buffer::Buffer;
 use crate::exprs::expr;
 use crate::loops::{array, close_count, close_while, open_count};
-use crate::numbers::{behind, word};
 use crate::scope::{Scope, Slot, Variable};
 use crate::setting::Setting;
 use crate::simple::{
@@ -28,7 +29,8 @@ use std::alloc::AllocError;
 // The end of the first branch of an `if` whose test is still open, where a second one follows. It
 // answers the address of the jump over that, which is still open.
 fn close_then(code: &mut Buffer, n: u32, test: u32) -> Result<u32, AllocError>
-    requires { test < length code.old }
+    requires test { test < length code.old }
+    requires room { length code.old < 2147483647 }
     ensures code { OnOk result
         (code.new ≡ slice_set code.old test (placed n (Jfalse (length code.old + 1)))
         ++ one n (Jump 0)) }
@@ -52,6 +54,12 @@ fn for_in<'a>(
     to: i32,
     body: &'a Block,
 ) -> Result<u32, AllocError>
+    requires room { HasRoom code.old (kind_code setting.now.names setting.now.functions
+        setting.now.regions setting.now.params scope.old n slot (length code.old)
+        (for_in name.now from to (block_view body.now))) }
+    requires slots { slot + kind_slots (for_in name.now from to (block_view body.now))
+        < 2147483648 }
+    requires bounded { block_bounded (block_view body.now) }
     ensures code { OnOk result
         (code.new ≡ code.old
         ++ kind_code setting.now.names setting.now.functions setting.now.regions setting.now.params
@@ -69,7 +77,7 @@ fn for_in<'a>(
         fresh: false,
     };
     scope.declare(name, variable)?;
-    let next = block(code, setting, scope, behind(slot, 1)?, body)?;
+    let next = block(code, setting, scope, slot + 1, body)?;
     close_count(code, n, slot, start)?;
     scope.truncate(visible);
     Ok(next)
@@ -85,6 +93,11 @@ fn kind<'a>(
     slot: u32,
     kind: &'a StmtKind,
 ) -> Result<u32, AllocError>
+    requires room { HasRoom code.old (kind_code setting.now.names setting.now.functions
+        setting.now.regions setting.now.params scope.old n slot (length code.old)
+        (kind_view kind.now)) }
+    requires slots { slot + kind_slots (kind_view kind.now) < 2147483648 }
+    requires bounded { kind_bounded (kind_view kind.now) }
     ensures code { OnOk result
         (code.new ≡ code.old
         ++ kind_code setting.now.names setting.now.functions setting.now.regions setting.now.params
@@ -95,12 +108,11 @@ fn kind<'a>(
     match kind {
         StmtKind::Let { right, .. } => {
             let_to(code, setting, scope, n, slot, right)?;
-            behind(slot, 1)
+            Ok(slot + 1)
         }
         StmtKind::LetArray { initial, words, .. } => {
             array(code, n, slot, *initial, *words)?;
-            let last = behind(slot, *words)?;
-            behind(last, 1)
+            Ok(slot + 1 + *words)
         }
         StmtKind::Assign { name, right } => {
             assign(code, setting, scope, n, name, right)?;
@@ -149,10 +161,10 @@ fn kind<'a>(
             body,
         } => {
             let used = is_use(scope, kind);
-            let start = open_count(code, n, slot, 0, word(*bound)?)?;
+            let start = open_count(code, n, slot, 0, *bound as i32)?;
             test(code, scope, n, used, condition)?;
             let exit = code.open(n)?;
-            let next = block(code, setting, scope, behind(slot, 1)?, body)?;
+            let next = block(code, setting, scope, slot + 1, body)?;
             close_while(code, n, slot, start, exit)?;
             probe(code, n, used, ProbeKind::Done)?;
             Ok(next)
@@ -198,6 +210,18 @@ fn statement<'a>(
     statement: &'a Stmt,
     rest: &[Stmt],
 ) -> Result<u32, AllocError>
+    requires room { HasRoom code.old (whole_code setting.now.names setting.now.functions
+        setting.now.regions setting.now.params scope.old statement.now.id
+        (kind_view statement.now.kind)
+        (kind_code setting.now.names setting.now.functions setting.now.regions setting.now.params
+        scope.old statement.now.id slot
+        (length code.old
+        + length
+        (first_code setting.now.names setting.now.functions setting.now.regions setting.now.params
+        scope.old statement.now.id (kind_view statement.now.kind)))
+        (kind_view statement.now.kind))) }
+    requires slots { slot + kind_slots (kind_view statement.now.kind) < 2147483648 }
+    requires bounded { kind_bounded (kind_view statement.now.kind) }
     ensures code { OnOk result
         (code.new ≡ code.old
         ++ whole_code setting.now.names setting.now.functions setting.now.regions setting.now.params
@@ -231,6 +255,11 @@ pub fn block<'a>(
     slot: u32,
     block: &'a Block,
 ) -> Result<u32, AllocError>
+    requires room { HasRoom code.old (block_code setting.now.names setting.now.functions
+        setting.now.regions setting.now.params scope.old slot (length code.old)
+        (block_view block.now)) }
+    requires slots { slot + block_slots (block_view block.now) < 2147483648 }
+    requires bounded { block_bounded (block_view block.now) }
     ensures code { OnOk result
         (code.new ≡ code.old
         ++ block_code setting.now.names setting.now.functions setting.now.regions setting.now.params

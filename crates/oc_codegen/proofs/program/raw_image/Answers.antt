@@ -1,4 +1,4 @@
-use Rattle.std.proofs.Common.{◌≡◌, ◌≤◌, ◌+◌, ◌++◌, ◌∷◌, [], List, length, drop, map, ap, sym, ◌∙◌, arith, append-nil}
+use Rattle.std.proofs.Common.{◌≡◌, ◌≤◌, ◌+◌, ◌++◌, ◌∷◌, [], List, length, drop, map, ap, sym, ◌∙◌, arith, append-nil, length-append}
 use Rattle.std.specs.Prelude.{codes}
 use Rattle.std.proofs.lemmas.Grind.{common_steps}
 use Rattle.std.proofs.lemmas.List.{drop_all, length-map}
@@ -52,6 +52,35 @@ loop-next-preserved c =
       entries = images_step p rs code c.function.new.code c.loop-next.functions.items c.push.new.self.items (image_functions p rs 0 p.functions) f i fs e inv.entries own entry;
     }
 
+pub function-requires-clause-room : goal.function-requires-clause-room
+function-requires-clause-room c =
+    let d = c.args.program.now in
+    let p = program_view d in
+    let rs = map region_view c.args.regions.now in
+    let i = c.loop-next.next-index in
+    let fs = c.deref-next-items.result.now in
+    let f = c.next-item.result in
+    let inv = c.loop-next.invariant in
+    let S = c.loop-next.setting in
+    let γ = c.loop-next.scope in
+    let code = c.loop-next.code in
+    let ps = f.params.items in
+    let s = length ps + link_words (function_view f) in
+    let body = block_view f.body in
+    let last = close_code (function_view f) in
+    let item = c.next-item.is in
+    let e : drop i fs ≡ f ∷ drop (i + 1) fs = grind (arith, common_steps) in
+    let one = function_code p rs (length code) (function_view f) in
+    let own : block_code S.names S.functions S.regions (length ps) (params_scope ps 0 γ) s (length code) body ++ last ≡ one =
+    ap (λ (n : NameLists). block_code n S.functions S.regions (length ps) (params_scope ps 0 γ) s (length code) body ++ last) inv.names
+    ∙ ap (λ (gs : List TFunction). block_code p.names gs S.regions (length ps) (params_scope ps 0 γ) s (length code) body ++ last) inv.callees
+    ∙ ap (λ (r : List TRegion). block_code p.names p.functions r (length ps) (params_scope ps 0 γ) s (length code) body ++ last) inv.regions
+    ∙ ap (λ (g : List Named). block_code p.names p.functions rs (length ps) (params_scope ps 0 g) s (length code) body ++ last) inv.scope in
+    let left = functions_code p rs (length code + length one) (map function_view (drop (i + 1) fs)) in
+    let split : code ++ (one ++ left) ≡ functions_code p rs 0 p.functions =
+    ap (λ (gs : List Function). code ++ functions_code p rs (length code) (map function_view gs)) (sym e) ∙ inv.code in
+    omega (arith, ap length own, ap length split, length-append code (one ++ left), length-append one left, c.requires.formed.code_short)
+
 pub returns : goal.returns
 returns c =
     let d = c.args.program.now in
@@ -76,7 +105,7 @@ returns c =
     c.in_ok-main_stack.ensures
     ∙ ap (λ (ys : List Function). known_of (stacks_to (map function_view ys) (length ys)) (function_place (map function_view ys) (codes "main"))) c.as_slice-4.ensures.value
     ∙ ap (λ n. known_of (stacks_to p.functions n) main) (sym (length-map d.functions.items function_view))
-    ∙ ap (λ (q : TProgram). known_of (stacks_to q.functions (length p.functions)) main) (sym c.requires.expanded) in
+    ∙ ap (λ (q : TProgram). known_of (stacks_to q.functions (length p.functions)) main) (sym c.requires.formed.expanded) in
     λ j. record {
       names = names j;
       functions = entries j;

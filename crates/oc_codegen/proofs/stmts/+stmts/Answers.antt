@@ -1,22 +1,27 @@
-use Rattle.std.proofs.Common.{rules, ◌≡◌, ℕ, Bool, List, ◌+◌, ◌∷◌, ◌++◌, length, ap, sym, ◌∙◌, arith, append_assoc, length-append}
+use Rattle.std.proofs.Common.{rules, ◌≡◌, ℕ, Bool, List, ◌+◌, ◌-◌, ◌<◌, ◌∷◌, ◌++◌, length, take, take_all, drop, ap, sym, subst, ◌∙◌, arith, append_assoc, length-append, length-drop}
+use Rattle.std.proofs.lemmas.Grind.{common_steps}
 use Rattle.std.specs.Prelude.{pos, slice_set}
 use Rattle.std.proofs.lemmas.List.{length-set}
-use Rattle.oc_tree.specs.Tree.{TKind, TBlock, TStmt, if_else, no_else, else_do, while_do}
-use Rattle.oc_tree.specs.View.{block_view, expr_view, kind_view, kind_step, block_step, stmt_step}
+use Rattle.oc_tree.specs.Tree.{TKind, TBlock, TStmt, TStmts, if_else, no_else, else_do, while_do}
+use Rattle.oc_tree.specs.View.{block_view, expr_view, kind_view, stmts_view, kind_step, block_step, stmt_step}
 use Rattle.oc_tree.specs.declared.tree.StmtKind.{fold-roll-StmtKind}
 use Rattle.oc_tree.specs.declared.tree.StmtKind.TheOpen.{StmtKind-F}
 use Rattle.oc_tree.specs.declared.tree.StmtKind as X
+use Rattle.oc_tree.specs.declared.tree.Block as blocks
+use Rattle.oc_tree.specs.declared.tree.Stmt as statements
 use denote.Hole.Carrier
 use Rattle.oc_isa.specs.declared.instr.Placed.{Placed}
 use Rattle.oc_isa.specs.declared.instr.ProbeKind.TheVariants.{Done}
 use Rattle.oc_isa.specs.declared.instr.Instr.TheVariants.{Push, Store, Jump, Jfalse}
 use Rattle.oc_meaning.specs.Uses.{is_use}
 use Rattle.oc_code.specs.Forms.{placed, one, below_code, count_code, expr_code, one_way_code, probe_code, two_way_code, while_code}
-use Rattle.oc_code.specs.Scope.{for_named, is_fresh_in}
-use Rattle.oc_tree.specs.Stack.{block_slots}
-use Rattle.oc_code.specs.Code.{block_code, kind_code, test_code}
+use Rattle.oc_code.specs.Scope.{for_named, in_scope, is_fresh_in}
+use Rattle.oc_tree.specs.Stack.{block_slots, kind_slots}
+use Rattle.oc_code.specs.Code.{block_code, kind_code, stmts_code, test_code}
+use Rattle.oc_codegen.specs.Small.{kind_bounded, stmts_bounded}
 use Rattle.oc_codegen.proofs.KindViews.{if_alone, if_both}
 use Rattle.oc_codegen.proofs.LoopPatches.{count_filled, while_filled, one_way_filled, two_way_filled}
+use Rattle.oc_codegen.proofs.Statements.{left_are, one_stmt, code_step, slots_step, scope_step}
 use Rattle.oc_codegen.proofs.stmts.+stmts.Goals as goal
 
 pub for_in-returns-clause-code : goal.for_in-returns-clause-code
@@ -33,9 +38,8 @@ for_in-returns-clause-code t c =
     let a = f (for_named c.args.name.now q ∷ γ) (q + 1) (length c1) body in
     let opened : c1 ≡ base ++ placed n (Push c.args.from) ∷ placed n (Store q) ∷ below_code n q c.args.to 0 = search rules in
     let l : length c1 ≡ p + 6 = omega (arith, ap length opened, length-append base (placed n (Push c.args.from) ∷ placed n (Store q) ∷ below_code n q c.args.to 0)) in
-    let slot : c.in_ok-behind.field-0 ≡ q + 1 = search rules in
     let scope : c.declare.new.self ≡ for_named c.args.name.now q ∷ γ = search rules in
-    let turn : c.block.new.code ≡ c1 ++ a = c.in_ok-next.ensures.code ∙ ap (λ s. c1 ++ f c.declare.new.self s (length c1) body) slot ∙ ap (λ g. c1 ++ f g (q + 1) (length c1) body) scope in
+    let turn : c.block.new.code ≡ c1 ++ a = c.in_ok-next.ensures.code ∙ ap (λ g. c1 ++ f g (q + 1) (length c1) body) scope in
     count_filled n q c.args.from c.args.to base a c1 c.block.new.code c.close_count.new.code c.in_ok-start.start opened c.in_ok-start.ensures.start turn c.in_ok-close_count.ensures
     ∙ ap (λ m. base ++ count_code n p q c.args.from c.args.to (f (for_named c.args.name.now q ∷ γ) (q + 1) m body)) l
 
@@ -145,8 +149,7 @@ kind-returns-in_ok-probe-in-While-clause-code t c =
     let l : length c1 ≡ p + 6 = omega (arith, ap length opened, length-append base head) in
     let m : length c3 ≡ length c1 + length test + 1 =
     omega (arith, ap length c.in_ok-exit-in-While.ensures.code, length-append c2 (one n (Jfalse 0)), ap length c.in_ok-test-in-While.ensures, length-append c1 test) in
-    let slot : c.in_ok-behind-in-While.field-0 ≡ q + 1 = search rules in
-    let turn : c4 ≡ c3 ++ f γ (q + 1) (length c3) body = c.in_ok-next-in-While.ensures.code ∙ ap (λ s. c3 ++ f γ s (length c3) body) slot in
+    let turn : c4 ≡ c3 ++ f γ (q + 1) (length c3) body = c.in_ok-next-in-While.ensures.code in
     let loop = while_filled n q bound base test (f γ (q + 1) (length c3) body) c1 c2 c3 c4 c5 (placed n (Jfalse 0)) c.in_ok-start-in-While.start c.in_ok-exit-in-While.exit opened
     c.in_ok-start-in-While.ensures.start c.in_ok-test-in-While.ensures c.in_ok-exit-in-While.ensures.code c.in_ok-exit-in-While.ensures.address turn c.in_ok-close_while-in-While.ensures in
     c.in_ok-probe-in-While.ensures
@@ -156,3 +159,54 @@ kind-returns-in_ok-probe-in-While-clause-code t c =
     ∙ ap (λ m. base ++ (while_code n p q bound (tests m used) (f γ (q + 1) (m + length (tests m used) + 1) body) ++ probe_code n used Done)) l
     ∙ ap (λ u. base ++ (while_code n p q bound (tests (p + 6) u) (f γ (q + 1) (p + 6 + length (tests (p + 6) u) + 1) body) ++ probe_code n u Done)) is
     ∙ ap (λ k. base ++ kind_code S.names S.functions S.regions S.params γ n q p k) (sym view)
+
+pub block-statement-requires : goal.block-statement-requires
+block-statement-requires t c =
+    let S = c.args.setting.now in
+    let xs = c.as_slice-statements.result.now in
+    let i = c.loop-inner.inner-index in
+    let x = c.inner-item.result in
+    let code = c.loop-inner.code in
+    let γ = c.loop-inner.scope in
+    let s = c.loop-inner.next in
+    let e : drop i xs ≡ x ∷ drop (i + 1) xs = grind (arith, common_steps) in
+    let kind = kind_view x.kind in
+    let rest = stmts_view (drop (i + 1) xs) in
+    let own = one_stmt S.names S.functions S.regions S.params γ x.id s (length code) kind in
+    let f = stmts_code S.names S.functions S.regions S.params in
+    let left = f (in_scope kind s rest γ) (s + kind_slots kind) (length code + length own) rest in
+    let whole = block_code S.names S.functions S.regions S.params c.args.scope.now c.args.slot (length c.args.code.now) (block_view c.args.block.now) in
+    let split : code ++ (own ++ left) ≡ c.args.code.now ++ whole = ap (λ (l : TStmts). code ++ f γ s (length code) l) (sym (left_are x i xs e)) ∙ c.loop-inner.invariant.code in
+    let inv = c.loop-inner.invariant in
+    let room : length code + length own < 2147483648 = omega (arith, ap length split, length-append code (own ++ left), length-append own left, length-append c.args.code.now whole, c.requires.room) in
+    let slots : s + kind_slots kind < 2147483648 = omega (arith, slots_step x i xs e, inv.next, c.requires.slots) in
+    let bounded : kind_bounded kind = (subst (λ (l : TStmts). stmts_bounded l) (left_are x i xs e) inv.bounded).0 in
+    (search (rules, blocks.the_lemmas, statements.the_lemmas), (room, (slots, bounded)))
+
+pub block-loop-inner-preserved : goal.block-loop-inner-preserved
+block-loop-inner-preserved t c =
+    let S = c.args.setting.now in
+    let xs = c.as_slice-statements.result.now in
+    let i = c.loop-inner.inner-index in
+    let x = c.inner-item.result in
+    let inv = c.loop-inner.invariant in
+    let code = c.loop-inner.code in
+    let γ = c.loop-inner.scope in
+    let s = c.loop-inner.next in
+    let e : drop i xs ≡ x ∷ drop (i + 1) xs = grind (arith, common_steps) in
+    let kind = kind_view x.kind in
+    let rest = stmts_view (drop (i + 1) xs) in
+    let all = c.args.code.now ++ block_code S.names S.functions S.regions S.params c.args.scope.now c.args.slot (length c.args.code.now) (block_view c.args.block.now) in
+    let n = c.loop-inner.done + 1 in
+    let behind : take (length xs - n) (drop n xs) ≡ drop (i + 1) xs = take_all (length xs - n) (drop n xs) (omega (arith, length-drop n xs)) ∙ ap (λ d. drop (d + 1) xs) inv.done in
+    let now : c.statement.new.scope ≡ in_scope kind s rest γ = c.in_ok-next.ensures.scope ∙ ap (λ l. in_scope kind s (stmts_view l) γ) behind in
+    let seen = scope_step kind s c.len-visible.result rest γ c.statement.new.scope c.args.scope.now now inv.seen inv.scope in
+    let next = c.in_ok-next in
+    record {
+      code = code_step S.names S.functions S.regions S.params γ c.statement.new.scope s next.next code c.statement.new.code all x i xs e inv.code next.ensures.code now next.ensures.next;
+      next = omega (arith, slots_step x i xs e, inv.next, c.in_ok-next.ensures.next);
+      seen = seen.0;
+      scope = seen.1;
+      done = omega (arith, inv.done);
+      bounded = (subst (λ (l : TStmts). stmts_bounded l) (left_are x i xs e) inv.bounded).1;
+    }

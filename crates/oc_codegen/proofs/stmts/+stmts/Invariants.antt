@@ -2,6 +2,7 @@ use Rattle.std.proofs.Common.{◌≡◌, ◌≤◌, ◌+◌, ◌-◌, ◌++◌, 
 use Rattle.oc_tree.specs.View.{block_view, stmts_view}
 use Rattle.oc_tree.specs.Stack.{block_slots, stmts_slots}
 use Rattle.oc_code.specs.Code.{block_code, stmts_code}
+use Rattle.oc_codegen.specs.Small.{stmts_bounded}
 use Rattle.oc_codegen.proofs.stmts.+stmts.Given as goal
 
 -- What is written, with the code of the statements that are left, is the whole; and the variables that were
@@ -14,4 +15,5 @@ invariant-block-loop-inner l = record {
   seen : l.visible ≤ length l.scope;
   scope : drop (length l.scope - l.visible) l.scope ≡ l.initial.scope;
   done : l.done ≡ l.inner-index;
+  bounded : stmts_bounded (stmts_view (drop l.inner-index l.statements));
 }

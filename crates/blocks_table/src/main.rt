@@ -7,35 +7,19 @@ mod blocks;
 mod sources;
 
 use blocks::statements;
-use oc_desugar::expand;
 use oc_flow::flow::summaries;
 use oc_io::Memory;
 use oc_io::sink::Sink;
 use oc_io::stream::StreamSink;
-use oc_lex::lex;
 use oc_needs::required::requirements;
-use oc_parse::parse;
 use oc_regcheck::check::check_blocks;
 use oc_regcheck::verdict::BlockVerdict;
 use oc_tree::checked::Checked;
 use oc_tree::tree::StmtId;
-use oc_types::check;
+use oc_worked::checked;
 use sources::sources;
 use std::alloc::Global;
 use std::io;
-
-/// The checked program of a source.
-fn checked(alloc: Global, source: &[u8]) -> anyhow::Result<Checked>
-    requires { length source.now ≤ 1048576 }
-{
-    let tokens = lex(alloc, source)?;
-    let program = parse(alloc, source, tokens.as_slice())?;
-    let written = check(alloc, program)?;
-    match expand(alloc, written) {
-        Ok(checked) => Ok(checked),
-        Err((_, memory)) => Err(memory.into()),
-    }
-}
 
 /// Writes what is said of blocks.
 fn put_verdict<O: Sink>(alloc: Global, verdict: BlockVerdict, out: &mut O) -> anyhow::Result<()> {

@@ -5,33 +5,17 @@ ghost use Rattle.std.specs.Prelude.{◌≤◌, length};
 
 mod sources;
 
-use oc_desugar::expand;
 use oc_io::sink::Sink;
 use oc_io::stream::StreamSink;
-use oc_lex::lex;
 use oc_meaning::run::run_source;
 use oc_meaning::trace::{Outcome, SourceTrace};
-use oc_parse::parse;
 use oc_tree::checked::Checked;
 use oc_tree::name::{Name, Names};
 use oc_tree::said::{SourceEvent, TrapKind, Visible};
-use oc_types::check;
+use oc_worked::checked;
 use sources::{Worked, cases};
 use std::alloc::Global;
 use std::io;
-
-/// The checked program of a source.
-fn checked(alloc: Global, source: &[u8]) -> anyhow::Result<Checked>
-    requires { length source.now ≤ 1048576 }
-{
-    let tokens = lex(alloc, source)?;
-    let program = parse(alloc, source, tokens.as_slice())?;
-    let written = check(alloc, program)?;
-    match expand(alloc, written) {
-        Ok(checked) => Ok(checked),
-        Err((_, memory)) => Err(memory.into()),
-    }
-}
 
 /// Writes a word, the name of a sensor or a port, and a value.
 fn put_named<O: Sink>(

@@ -5,33 +5,17 @@ ghost use Rattle.std.specs.Prelude.{◌≤◌, length};
 
 mod sources;
 
-use oc_desugar::expand;
 use oc_flow::flow::summaries;
 use oc_io::Memory;
 use oc_io::sink::Sink;
 use oc_io::stream::StreamSink;
-use oc_lex::lex;
 use oc_needs::required::requirements;
 use oc_needs::requirement::Requirement;
-use oc_parse::parse;
 use oc_tree::checked::Checked;
-use oc_types::check;
+use oc_worked::checked;
 use sources::sources;
 use std::alloc::Global;
 use std::io;
-
-/// The checked program of a source.
-fn checked(alloc: Global, source: &[u8]) -> anyhow::Result<Checked>
-    requires { length source.now ≤ 1048576 }
-{
-    let tokens = lex(alloc, source)?;
-    let program = parse(alloc, source, tokens.as_slice())?;
-    let written = check(alloc, program)?;
-    match expand(alloc, written) {
-        Ok(checked) => Ok(checked),
-        Err((_, memory)) => Err(memory.into()),
-    }
-}
 
 /// Writes a requirement's policy, function and sites.
 fn put_requirement<O: Sink>(

@@ -56,6 +56,9 @@ const SENSORS: &[u8] = b"time,sensor,value\n0,t,21\n";
 
 const POWER: &[u8] = b"on,off\n7,4\n3,1\n0,2\n";
 
+/// A report of the first program.
+const REPORT: &[u8] = b"1 sense t 21\n4 emit r 21\n5 end\n";
+
 /// Writes that a call gave its result.
 fn fine<O: Sink>(call: &str, out: &mut O) -> anyhow::Result<()> {
     out.put(b"ok ")?;
@@ -180,9 +183,9 @@ fn power<O: Sink>(alloc: Global, out: &mut O) -> anyhow::Result<()> {
     put_told(alloc, &mut Cutter::new(alloc, 3), &periods, out)
 }
 
-/// A shelf in memory that holds the files of a run.
+/// A shelf in memory that holds the files of a run, and a report.
 fn shelf(alloc: Global) -> Result<MemoryShelf, AllocError> {
-    let files = [("s", SOURCE), ("h", SENSORS), ("p", POWER)];
+    let files = [("s", SOURCE), ("h", SENSORS), ("p", POWER), ("r", REPORT)];
     let mut held = Vec::new(alloc);
     for (name, bytes) in files {
         held.push((
@@ -231,22 +234,30 @@ fn put_called<O: Sink>(
     Ok(())
 }
 
-/// The top call with each supply, and with none.
+/// Writes what the top call answers and writes for a line of words, with a supply of each kind.
+fn put_supplied<O: Sink>(alloc: Global, line: &str, out: &mut O) -> anyhow::Result<()> {
+    let mut supplies: Vec<Box<dyn Supply>> = Vec::new(alloc);
+    supplies.push(Box::new(alloc, Recorded::new(alloc))?)?;
+    supplies.push(Box::new(alloc, Looped::new(alloc, 64))?)?;
+    supplies.push(Box::new(alloc, Cutter::new(alloc, 3))?)?;
+    put_called(alloc, line, supplies, out)
+}
+
+/// The top call with each supply, with words of other commands, and with no supply.
 fn top<O: Sink>(alloc: Global, out: &mut O) -> anyhow::Result<()> {
-    let lines = [
+    let runs = [
         "run s h p",
         "run --supply 0 s h p",
         "run --supply 1 s h p",
         "run --supply 2 s h p",
     ];
-    for line in lines {
-        let mut supplies: Vec<Box<dyn Supply>> = Vec::new(alloc);
-        supplies.push(Box::new(alloc, Recorded::new(alloc))?)?;
-        supplies.push(Box::new(alloc, Looped::new(alloc, 64))?)?;
-        supplies.push(Box::new(alloc, Cutter::new(alloc, 3))?)?;
-        put_called(alloc, line, supplies, out)?;
+    for line in runs {
+        put_supplied(alloc, line, out)?;
     }
-    for line in lines {
+    for line in ["drill 2", "check s", "audit s r"] {
+        put_supplied(alloc, line, out)?;
+    }
+    for line in runs {
         put_called(alloc, line, Vec::new(alloc), out)?;
     }
     Ok(())

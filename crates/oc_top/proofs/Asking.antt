@@ -19,22 +19,28 @@ use Rattle.oc_bounds.specs.Attempts.{AttemptsClose}
 use Rattle.oc_bounds.proofs.Attempting.{attempts_close}
 use Rattle.oc_bounds.proofs.Periods.{safe_ends}
 use Rattle.oc_top.specs.Meant.{program_code, program_bounds}
-use Rattle.oc_top.specs.Commands.{Plan, Wanted, report, regions, listing, checking, Task, limits_of, meters_of, run_limits, source_limit, command_of, task_of, task_for, with_plan, plans_of, word_at}
+use Rattle.oc_top.specs.Commands.{Plan, report, regions, listing, imaging, checking, auditing, executing, Task}
+use Rattle.oc_top.specs.Commands.{limits_of, meters_of, audit_limits, image_limit, run_limits, source_limit, command_of, task_of, task_for, with_image, with_plan, plans_of}
 use Rattle.oc_top.specs.declared.command.Command.{Command}
 use Rattle.oc_top.specs.declared.command.Command.TheVariants as commands
 use Rattle.oc_tree.specs.Tree.{TProgram}
 use Rattle.oc_top.specs.Files.{Files, AreFiles, Fetches, NotFetched, listed, names_of}
 use Rattle.oc_top.specs.Sources.{Reading, ReadsAs, faulty, breaks}
 use Rattle.oc_top.specs.Printed.{IsPrinted, not_built, put}
-use Rattle.oc_top.specs.Judged.{IsChecked, not_safe, safe}
-use Rattle.oc_top.specs.Verdict.{Verdict, runs, is_of_run, is_refusal, refuses, prints, printed, regions_of, listing_of}
+use Rattle.oc_top.specs.Judged.{IsAudited, IsChecked, honest, not_audited, not_safe, safe}
+use Rattle.oc_top.specs.Judged as judged
+use Rattle.oc_top.specs.Verdict.{Verdict, runs, is_of_run, is_refusal, refuses, prints, printed, regions_of, listing_of, image_of}
 use Rattle.oc_top.specs.Headline.{IsHonestThroughout, IsRun, program_power}
-use Rattle.oc_top.specs.Steps.{IsNotBuilt, IsReady, IsTurnedDown, by_memory, by_files}
-use Rattle.oc_top.specs.Answers.{IsJudged, IsDone, Writes, IsWritten, whole, in_part, Call, call_of, HasTold, IsSilent, HasFiles, AreRefused, WasDone, IsWhole, Comes}
+use Rattle.oc_top.specs.Steps.{IsNotBuilt, IsReady, IsReadyFor, IsTurnedDown, by_memory, by_files}
+use Rattle.oc_top.specs.Answers.{IsVerdict, IsPrint, IsJudged, IsDone, Writes, IsWritten, whole, in_part, Call, call_of, HasTold, IsSilent, HasFiles, AreRefused, WasDone, IsWhole, Comes}
 use Rattle.oc_top.specs.declared.answer.Answer.{Answer}
 use Rattle.oc_top.specs.declared.answer.Answer.TheVariants as answer
 use Rattle.oc_top.proofs.Exactly.{done_answer}
+use Rattle.oc_top.specs.Audited.{audited}
+use Rattle.oc_top.proofs.Auditing.{audit_refuses, said_refuses, without_program}
+use Rattle.oc_top.specs.Images.{IsAdmitted, IsNotRun}
 use Rattle.oc_top.proofs.Checking.{check_refuses}
+use Rattle.oc_top.proofs.Executing.{is_executed}
 use Rattle.oc_top.proofs.Honesty.{honest_throughout}
 
 -- what is ready is a run of the program that the source spells
@@ -72,6 +78,10 @@ refusal c told (answer.Syntax line) e r = r
 refusal c told (answer.Rule line rule) e r = r
 refusal c told (answer.BadSensors row) e r = r
 refusal c told (answer.BadPower row) e r = r
+refusal c told (answer.BadImage at) e r = r
+refusal c told answer.Refused e r = r
+refusal c told (answer.Dishonest item) e r = r
+refusal c told (answer.BadReport line) e r = r
 refusal c told (answer.Uncovered gap) e r = r
 refusal c told end e r = cc e
 
@@ -128,7 +138,7 @@ module _ (c : Call) (task : Task) (asked : c.task ≡ Some task) where
 
     -- what is wanted was done, and written in whole or in part; where it was written in whole, this is what the meters tell
     pub was_told : (told : List ℕ) (run : Verdict) → IsDone files task.wanted run → (end : Answer)
-        → ((end ≡ answer.WriteFault → ⊥) → (c.out.rose → ⊥) → HasTold run.names run.text (meters_of task.wanted) told)
+        → ((end ≡ answer.WriteFault → ⊥) → (c.out.rose → ⊥) → HasTold run.items (meters_of task.wanted) told)
         → (end ≡ answer.WriteFault → told ≡ []) → IsWritten c.out run end → Comes c told end
     was_told told run d end tells untold (whole e t) =
         let of_run = ap is_of_run e ∙ done_answer files task.wanted run d in
@@ -141,7 +151,7 @@ module _ (c : Call) (task : Task) (asked : c.task ≡ Some task) where
 
     -- the same without meters
     pub was_done : (run : Verdict) → IsDone files task.wanted run → (end : Answer) → meters_of task.wanted ≡ None → IsWritten c.out run end → Comes c [] end
-    was_done run d end none w = was_told [] run d end (λ apart calm. subst (λ (ms : Option (List Meter)). HasTold run.names run.text ms []) (sym none) refl) (λ e. refl) w
+    was_done run d end none w = was_told [] run d end (λ apart calm. subst (λ (ms : Option (List Meter)). HasTold run.items ms []) (sym none) refl) (λ e. refl) w
 
 module _ (c : Call) (first : ℕ) (plan : Plan) (meters : Option (List Meter)) (asked : c.task ≡ Some (record { first = first; wanted = report plan meters })) (files : Files)
     (fetched : AreFiles c.shelf.holds c.words first (run_limits source_limit) (listed files)) (all_asked : c.shelf.asked (names_of c.words first (run_limits source_limit) 3)) where
@@ -152,7 +162,7 @@ module _ (c : Call) (first : ℕ) (plan : Plan) (meters : Option (List Meter)) (
   module _ (machine : Running) (sensors : Told) (left : List Period) (ready : IsReady files plan machine sensors left) (end : Answer)
       (written : IsWritten c.out (runs machine.parts sensors.rows left) end) where
     -- a run was written, and this is what the meters tell of it
-    pub was_metered : (told : List ℕ) → ((end ≡ answer.WriteFault → ⊥) → (c.out.rose → ⊥) → HasTold machine.parts.names (runs machine.parts sensors.rows left).text meters told)
+    pub was_metered : (told : List ℕ) → ((end ≡ answer.WriteFault → ⊥) → (c.out.rose → ⊥) → HasTold (runs machine.parts sensors.rows left).items meters told)
         → (end ≡ answer.WriteFault → told ≡ []) → Comes c told end
     was_metered told tells untold =
         was_told c _ asked (listed files) fetched all_asked told (runs machine.parts sensors.rows left) (ready_run files plan machine sensors left ready) end tells untold written
@@ -160,7 +170,7 @@ module _ (c : Call) (first : ℕ) (plan : Plan) (meters : Option (List Meter)) (
     -- it was written, and there are no meters
     pub was_run : meters ≡ None → Comes c [] end
     was_run none =
-        was_metered [] (λ apart calm. subst (λ (ms : Option (List Meter)). HasTold machine.parts.names (runs machine.parts sensors.rows left).text ms []) (sym none) refl) (λ e. refl)
+        was_metered [] (λ apart calm. subst (λ (ms : Option (List Meter)). HasTold (runs machine.parts sensors.rows left).items ms []) (sym none) refl) (λ e. refl)
 
 -- ---- texts of a source alone
 
@@ -172,21 +182,28 @@ refused_by source text (answer.Rule line rule) r = inr (refl, (breaks (record { 
 refused_by source text answer.Memory r = inl refl
 refused_by source text end r = absurd r
 
+module _ (c : Call) (task : Task) (asked : c.task ≡ Some task) (source : List ℕ) (fetched : AreFiles c.shelf.holds c.words task.first (limits_of task.wanted) (source ∷ []))
+    (all_asked : c.shelf.asked (names_of c.words task.first (limits_of task.wanted) (length (limits_of task.wanted)))) (text : TProgram → List ℕ)
+    (is_judged : (run : Verdict) → IsVerdict source (λ reading. printed reading text) run → IsJudged (source ∷ []) task.wanted run)
+    (is_done : (run : Verdict) → IsPrint source text run → IsDone (source ∷ []) task.wanted run) (none : meters_of task.wanted ≡ None) (end : Answer) where
+  -- a text of the program was printed, or the source is refused
+  text_comes : IsPrinted source text c.out end → Comes c [] end
+  text_comes (not_built n t) = elim (refused_by source text end n) [
+    | inl e ↦ no_memory c task asked (source ∷ []) fetched all_asked end e t
+    | inr f ↦ refused c task asked (source ∷ []) fetched all_asked end f.0 (is_judged _ (record { reading = f.1.0; reads = f.1.1; is_verdict = f.1.2 })) t
+  ]
+  text_comes (put p reads w) = was_done c task asked (source ∷ []) fetched all_asked (prints (text p)) (is_done _ (record { written = p; spelled = reads; is_text = refl })) end none w
+
 module _ (c : Call) (first : ℕ) (source : List ℕ) (fetched : AreFiles c.shelf.holds c.words first (source_limit ∷ []) (source ∷ []))
     (all_asked : c.shelf.asked (names_of c.words first (source_limit ∷ []) 1)) (end : Answer) where
   pub regions_come : c.task ≡ Some (record { first = first; wanted = regions }) → IsPrinted source regions_of c.out end → Comes c [] end
-  regions_come asked (not_built n t) = elim (refused_by source regions_of end n) [
-    | inl e ↦ no_memory c _ asked (source ∷ []) fetched all_asked end e t
-    | inr f ↦ refused c _ asked (source ∷ []) fetched all_asked end f.0 (record { reading = f.1.0; reads = f.1.1; is_verdict = f.1.2 }) t
-  ]
-  regions_come asked (put p reads w) = was_done c _ asked (source ∷ []) fetched all_asked (prints (regions_of p)) (record { written = p; spelled = reads; is_text = refl }) end refl w
+  regions_come asked w = text_comes c _ asked source fetched all_asked regions_of (λ run j. j) (λ run d. d) refl end w
 
   pub listing_comes : c.task ≡ Some (record { first = first; wanted = listing }) → IsPrinted source listing_of c.out end → Comes c [] end
-  listing_comes asked (not_built n t) = elim (refused_by source listing_of end n) [
-    | inl e ↦ no_memory c _ asked (source ∷ []) fetched all_asked end e t
-    | inr f ↦ refused c _ asked (source ∷ []) fetched all_asked end f.0 (record { reading = f.1.0; reads = f.1.1; is_verdict = f.1.2 }) t
-  ]
-  listing_comes asked (put p reads w) = was_done c _ asked (source ∷ []) fetched all_asked (prints (listing_of p)) (record { written = p; spelled = reads; is_text = refl }) end refl w
+  listing_comes asked w = text_comes c _ asked source fetched all_asked listing_of (λ run j. j) (λ run d. d) refl end w
+
+  pub image_comes : c.task ≡ Some (record { first = first; wanted = imaging }) → IsPrinted source image_of c.out end → Comes c [] end
+  image_comes asked w = text_comes c _ asked source fetched all_asked image_of (λ run j. j) (λ run d. d) refl end w
 
 -- ---- blocks
 
@@ -196,6 +213,33 @@ module _ (c : Call) (first : ℕ) (source : List ℕ) (fetched : AreFiles c.shel
   checking_comes asked (not_safe (inl e) t) = no_memory c _ asked (source ∷ []) fetched all_asked end e t
   checking_comes asked (not_safe (inr j) t) = refused c _ asked (source ∷ []) fetched all_asked end (check_refuses source end j) j t
   checking_comes asked (safe e w) = was_done c _ asked (source ∷ []) fetched all_asked (prints (codes "safe\n")) (record { enough = e; is_run = refl }) end refl w
+
+-- ---- audits
+
+module _ (c : Call) (first : ℕ) (source report : List ℕ) (fetched : AreFiles c.shelf.holds c.words first audit_limits (source ∷ report ∷ []))
+    (all_asked : c.shelf.asked (names_of c.words first audit_limits 2)) (end : Answer) where
+  pub auditing_comes : c.task ≡ Some (record { first = first; wanted = auditing }) → IsAudited source report c.out end → Comes c [] end
+  auditing_comes asked (not_audited n t) = elim (without_program source report end n) [
+    | inl e ↦ no_memory c _ asked (source ∷ report ∷ []) fetched all_asked end e t
+    | inr j ↦ refused c _ asked (source ∷ report ∷ []) fetched all_asked end (audit_refuses source report end j) j t
+  ]
+  auditing_comes asked (judged.refused f found e t) =
+      refused c _ asked (source ∷ report ∷ []) fetched all_asked end (said_refuses f end e) (audited f found (sym e)) t
+  auditing_comes asked (honest f w) = was_done c _ asked (source ∷ report ∷ []) fetched all_asked (prints (codes "honest\n")) (record { honest = f; is_run = refl }) end refl w
+
+-- ---- images
+
+module _ (c : Call) (first : ℕ) (plan : Plan) (asked : c.task ≡ Some (record { first = first; wanted = executing plan })) (files : Files)
+    (fetched : AreFiles c.shelf.holds c.words first (run_limits image_limit) (listed files)) (all_asked : c.shelf.asked (names_of c.words first (run_limits image_limit) 3))
+    (end : Answer) where
+  pub not_executed : IsNotRun files plan end → c.out.took [] → Comes c [] end
+  not_executed (inl e) t = no_memory c _ asked (listed files) fetched all_asked end e t
+  not_executed (inr r) t = refused c _ asked (listed files) fetched all_asked end r.0 r.1 t
+
+  pub was_executed : (machine : Running) (sensors : Told) (left : List Period) → IsReadyFor (IsAdmitted files.source) files plan machine sensors left
+      → IsWritten c.out (runs machine.parts sensors.rows left) end → Comes c [] end
+  was_executed machine sensors left ready w =
+      was_done c _ asked (listed files) fetched all_asked (runs machine.parts sensors.rows left) (is_executed files plan machine sensors left ready) end refl w
 
 -- ---- tasks
 
@@ -210,6 +254,11 @@ module _ {B : Type 0} (boxes : List B) (number : B → ℕ) (plan : B → Plan) 
       sym (ap (λ (c : Option Command). task_for (plans_of number plan boxes) meters c) e
       ∙ ap (λ (o : Option B). with_plan first (if metered then Some meters else None) (option_map plan o)) (sym p)
       ∙ ap (λ (ms : Option (List Meter)). with_plan first ms (option_map plan box)) (sym m))
+
+  -- the same of an image
+  pub image_is : (first : ℕ) (box : Option B) → command_of words ≡ Some (commands.Exec first) → box ≡ first_with number 0 boxes → with_image first (option_map plan box) ≡ asked
+  image_is first box e p =
+      sym (ap (λ (c : Option Command). task_for (plans_of number plan boxes) meters c) e ∙ ap (λ (o : Option B). with_image first (option_map plan o)) (sym p))
 
   pub task_is : (command : Command) → command_of words ≡ Some command → task_for (plans_of number plan boxes) meters (Some command) ≡ asked
   task_is command e = sym (ap (λ (c : Option Command). task_for (plans_of number plan boxes) meters c) e)

@@ -1,5 +1,5 @@
 -- How the blocks of a source are judged.
-use Rattle.std.proofs.Common.{ℕ, ◌<◌, ◌≡◌, ◌⊎◌, ◌∙◌, sym, ap, refl, subst, inl, inr, List, [], length, true, not, Option, Some}
+use Rattle.std.proofs.Common.{ℕ, ◌<◌, ◌≡◌, ◌∙◌, sym, ap, refl, subst, inl, inr, List, [], length, true, not, Option, Some}
 use Rattle.std.specs.Prelude.{codes, Result, Ok, Err, IfErr}
 use Rattle.oc_tree.specs.Tree.{TProgram}
 use Rattle.oc_tree.specs.Checked.{TChecked}
@@ -25,7 +25,7 @@ use Rattle.oc_top.specs.Verdict.{Verdict, is_refusal, refuses}
 use Rattle.oc_top.specs.Gaps.{gap_of}
 use Rattle.oc_top.specs.Checked.{AcceptsBlocks, AreEnough, IsCheck, IsEnough, IsSafe, IsSaid, no_program, broken_rule, judged}
 use Rattle.oc_top.specs.Judged.{IsCheckedOf, IsNotSafe, IsOpenFor}
-use Rattle.oc_top.proofs.OneReading.{one_reading_in}
+use Rattle.oc_top.proofs.OneReading.{one_reading_in, same_line, same_rule, same_tree}
 use Rattle.oc_top.specs.declared.answer.Answer.{Answer}
 use Rattle.oc_top.specs.declared.answer.Answer.TheVariants as answer
 
@@ -110,26 +110,17 @@ module _ (source : List ℕ) where
   one : (r s : Reading) → ReadsIn true source r → ReadsIn true source s → r ≡ s
   one r s a b = one_reading_in true source r s a b
 
-  faulty_same : (m n : ℕ) → ◌≡◌ {A = Reading} (faulty m) (faulty n) → m ≡ n
-  faulty_same m n e = cc
-
-  breaks_same : (m n : Broken) → ◌≡◌ {A = Reading} (breaks m) (breaks n) → m ≡ n
-  breaks_same m n e = cc
-
-  program_same : (p q : TProgram) → ◌≡◌ {A = Reading} (program p) (program q) → p ≡ q
-  program_same p q e = cc
-
   pub one_check : (run other : Verdict) → IsCheck source run → IsCheck source other → run ≡ other
-  one_check run other (no_program m a e) (no_program n b f) = e ∙ ap (λ (k : ℕ). refuses (answer.Syntax k)) (faulty_same m n (one (faulty m) (faulty n) a b)) ∙ sym f
+  one_check run other (no_program m a e) (no_program n b f) = e ∙ ap (λ (k : ℕ). refuses (answer.Syntax k)) (same_line m n (one (faulty m) (faulty n) a b)) ∙ sym f
   one_check run other (no_program m a e) (broken_rule c b f) = let h = one (faulty m) (breaks c) a b in cc h
   one_check run other (no_program m a e) (judged q others b w js t) = let h = one (faulty m) (program q) a (plain source q others b) in cc h
   one_check run other (broken_rule c a e) (no_program n b f) = let h = one (breaks c) (faulty n) a b in cc h
-  one_check run other (broken_rule c a e) (broken_rule d b f) = e ∙ ap (λ (k : Broken). refuses (answer.Rule k.line k.rule)) (breaks_same c d (one (breaks c) (breaks d) a b)) ∙ sym f
+  one_check run other (broken_rule c a e) (broken_rule d b f) = e ∙ ap (λ (k : Broken). refuses (answer.Rule k.line k.rule)) (same_rule c d (one (breaks c) (breaks d) a b)) ∙ sym f
   one_check run other (broken_rule c a e) (judged q others b w js t) = let h = one (breaks c) (program q) a (plain source q others b) in cc h
   one_check run other (judged p blocks a v is s) (no_program n b f) = let h = one (program p) (faulty n) (plain source p blocks a) b in cc h
   one_check run other (judged p blocks a v is s) (broken_rule d b f) = let h = one (program p) (breaks d) (plain source p blocks a) b in cc h
   one_check run other (judged p blocks a v is s) (judged q others b w js t) =
-      same_judged p q blocks others v w run other (program_same p q (one (program p) (program q) (plain source p blocks a) (plain source q others b))) a b is js s t
+      same_judged p q blocks others v w run other (same_tree p q (one (program p) (program q) (plain source p blocks a) (plain source q others b))) a b is js s t
 
 -- ---- what the answers are
 

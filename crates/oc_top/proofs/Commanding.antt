@@ -9,14 +9,6 @@ use Rattle.oc_top.specs.Commands.{are_files, is_file, run_with, supply_of, print
 use Rattle.oc_top.specs.declared.command.Command.{Command}
 use Rattle.oc_top.specs.declared.command.Command.TheVariants as commands
 
--- three words are none
-pub none_of_three : (words : List (List ℕ)) → 3 ≤ length words → length words < 4 → command_of words ≡ None
-none_of_three [] l m = absurd (omega (arith, l))
-none_of_three (a ∷ []) l m = absurd (omega (arith, l))
-none_of_three (a ∷ b ∷ []) l m = absurd (omega (arith, l))
-none_of_three (a ∷ b ∷ c ∷ []) l m = refl
-none_of_three (a ∷ b ∷ c ∷ d ∷ rest) l m = absurd (omega (arith, m))
-
 -- ---- what holds of a command that is asked for
 
 -- its files' words are among so many, and a drill has at most 1000 turns
@@ -25,7 +17,10 @@ Holds n (commands.Run supply first metered) = first + 2 < n
 Holds n (commands.Drill turns) = turns ≤ 1000
 Holds n (commands.Regions first) = first < n
 Holds n (commands.Build first) = first < n
+Holds n (commands.Image first) = first < n
 Holds n (commands.Check first) = first < n
+Holds n (commands.Audit first) = first + 1 < n
+Holds n (commands.Exec first) = first + 2 < n
 
 abbrev pub Fits : ℕ → Option Command → Type 0
 Fits n o = (command : Command) → o ≡ Some command → Holds n command
@@ -79,9 +74,14 @@ commands_fit (word ∷ other ∷ []) command e =
     either 2 (bytes_eq word (codes "drill")) (drill_with (turns_of other)) (cond (is_file other) (print_with word) None)
     (drill_in 2 (turns_of other) (λ k f. turns_by (nat_le (length other) 4) (number_of other) k f))
     (either 2 (is_file other) (print_with word) None (print_in 2 word (omega arith)) (not_none 2)) command e
+commands_fit (word ∷ second ∷ third ∷ []) command e =
+    let image = cond (bytes_eq word (codes "build") && bytes_eq second (codes "--image") && is_file third) (Some (commands.Image 2)) None in
+    either 3 (bytes_eq word (codes "audit") && is_file second && is_file third) (Some (commands.Audit 1)) image (this_one 3 (commands.Audit 1) (omega arith))
+    (either 3 (bytes_eq word (codes "build") && bytes_eq second (codes "--image") && is_file third) (Some (commands.Image 2)) None (this_one 3 (commands.Image 2) (omega arith)) (not_none 3)) command e
 commands_fit (word ∷ source ∷ sensors ∷ power ∷ []) command e =
     either 4 (are_files source sensors power) (with_three word) None
-    (either 4 (bytes_eq word (codes "run")) (run_with (Some 0) false 1) None (run_in 4 (Some 0) false 1 (omega arith)) (not_none 4)) (not_none 4) command e
+    (either 4 (bytes_eq word (codes "run")) (run_with (Some 0) false 1) (cond (bytes_eq word (codes "exec")) (Some (commands.Exec 1)) None) (run_in 4 (Some 0) false 1 (omega arith))
+    (either 4 (bytes_eq word (codes "exec")) (Some (commands.Exec 1)) None (this_one 4 (commands.Exec 1) (omega arith)) (not_none 4))) (not_none 4) command e
 commands_fit (word ∷ option ∷ source ∷ sensors ∷ power ∷ []) command e =
     either 5 (bytes_eq word (codes "run") && bytes_eq option (codes "--meters") && are_files source sensors power) (run_with (Some 0) true 2) None
     (run_in 5 (Some 0) true 2 (omega arith)) (not_none 5) command e

@@ -1,5 +1,5 @@
 -- Answers come exactly where their causes hold.
-use Rattle.std.proofs.Common.{ℕ, zero, suc, ◌+◌, ◌<◌, ◌≤◌, ◌≡◌, ◌==◌, ◌⊎◌, ◌∙◌, sym, ap, refl, subst, arith, inl, inr, ℤ, List, [], ◌∷◌, length, Bool, true, false, true≢false}
+use Rattle.std.proofs.Common.{ℕ, suc, ◌+◌, ◌<◌, ◌≤◌, ◌≡◌, ◌==◌, ◌⊎◌, ◌∙◌, sym, ap, refl, subst, arith, inl, inr, ℤ, List, [], ◌∷◌, length, Bool, true, false, true≢false}
 use Rattle.std.proofs.Common.{cond, Option, Some, None}
 use Rattle.std.proofs.lemmas.Bool.{cases_order}
 use Rattle.oc_io.specs.declared.period.Period.{Period}
@@ -16,15 +16,17 @@ use Rattle.oc_isa.specs.Power.{first_world, power_run}
 use Rattle.oc_isa.specs.Table.{device_of}
 use Rattle.oc_outage.specs.Honest.{loses_checkpoint}
 use Rattle.oc_top.specs.Meant.{program_code}
-use Rattle.oc_top.specs.Commands.{Plan, Wanted, report, drill, regions, listing, checking, limits_of, Task, word_at}
+use Rattle.oc_top.specs.Commands.{Plan, Wanted, report, drill, regions, listing, imaging, checking, auditing, executing, limits_of, Task, word_at}
 use Rattle.oc_top.specs.Files.{Files, run_files, file_at, limit_at, IsFile, AreFiles, WereFetched, IsHeld, AreHeld, AreHeldBefore}
-use Rattle.oc_top.specs.Sources.{Reading, program, ReadsAs}
+use Rattle.oc_top.specs.Sources.{Reading, program}
 use Rattle.oc_top.proofs.OneReading.{one_reading}
+use Rattle.oc_top.proofs.Auditing.{one_audit, vouched_audit}
 use Rattle.oc_top.proofs.Checking.{one_check, safe_check}
+use Rattle.oc_top.proofs.Executing.{executed_judged, one_execution}
 use Rattle.oc_top.specs.Reports.{answer_by, answer_of, last_said}
 use Rattle.oc_top.specs.Verdict.{Verdict, verdict, printed, is_of_run, is_refusal, refuses, with_sensors, with_power}
 use Rattle.oc_top.specs.Headline.{IsRun}
-use Rattle.oc_top.specs.Answers.{status_of, is_written, IsVerdict, IsJudged, IsPrint, IsDone, Call, IsSilent, IsNoTask, IsUnfetched, HasFiles, AreRefused, WasDone, IsWhole, IsPart, HadNoMemory, Comes}
+use Rattle.oc_top.specs.Answers.{status_of, is_written, IsVerdict, IsJudged, IsPrint, IsDone, Call, IsNoTask, IsUnfetched, HasFiles, AreRefused, WasDone, IsWhole, IsPart, HadNoMemory, Comes}
 use Rattle.oc_top.specs.declared.answer.Answer.{Answer}
 use Rattle.oc_top.specs.declared.answer.Answer.TheVariants as answer
 
@@ -65,24 +67,37 @@ done_answer files (report plan meters) run d = run_answer (run_files files) plan
 done_answer files (drill turns plan) run d = ap (λ (v : Verdict). is_of_run v.answer) (sym d.is_verdict)
 done_answer files regions run d = print_answer _ _ run d
 done_answer files listing run d = print_answer _ _ run d
+done_answer files imaging run d = print_answer _ _ run d
 done_answer files checking run d = ap (λ (v : Verdict). is_of_run v.answer) d.is_run
+done_answer files auditing run d = ap (λ (v : Verdict). is_of_run v.answer) d.is_run
+done_answer files (executing plan) run d = ap (λ (v : Verdict). is_of_run v.answer) d.is_run ∙ of_run d.image (history d.rows) (plan d.periods)
 
 done_judged : (files : List (List ℕ)) (wanted : Wanted) (run : Verdict) → IsDone files wanted run → IsJudged files wanted run
 done_judged files (report plan meters) run d = record { reading = program d.written; reads = d.spelled; is_verdict = run_verdict (run_files files) plan run d }
 done_judged files (drill turns plan) run d = d
 done_judged files regions run d = print_judged _ _ run d
 done_judged files listing run d = print_judged _ _ run d
+done_judged files imaging run d = print_judged _ _ run d
 done_judged files checking run d = safe_check _ run d
+done_judged files auditing run d = vouched_audit _ _ run d
+done_judged files (executing plan) run d = executed_judged _ _ run d
 
 same_verdict : (source : List ℕ) (on : Reading → Verdict) (a b : Verdict) → IsVerdict source on a → IsVerdict source on b → a ≡ b
 same_verdict source on a b x y = sym x.is_verdict ∙ ap on (one_reading source x.reading y.reading x.reads y.reads) ∙ y.is_verdict
 
-one_verdict : (files : List (List ℕ)) (wanted : Wanted) (a b : Verdict) → IsJudged files wanted a → IsJudged files wanted b → a ≡ b
-one_verdict files (report plan meters) a b x y = same_verdict _ _ a b x y
-one_verdict files (drill turns plan) a b x y = same_verdict _ _ a b x y
-one_verdict files regions a b x y = same_verdict _ _ a b x y
-one_verdict files listing a b x y = same_verdict _ _ a b x y
-one_verdict files checking a b x y = one_check _ a b x y
+-- each file is no longer than its limit
+abbrev AreWithin : List (List ℕ) → List ℕ → Type 0
+AreWithin files limits = (k : ℕ) → k < length limits → length (file_at files k) ≤ limit_at limits k
+
+one_verdict : (files : List (List ℕ)) (wanted : Wanted) → AreWithin files (limits_of wanted) → (a b : Verdict) → IsJudged files wanted a → IsJudged files wanted b → a ≡ b
+one_verdict files (report plan meters) within a b x y = same_verdict _ _ a b x y
+one_verdict files (drill turns plan) within a b x y = same_verdict _ _ a b x y
+one_verdict files regions within a b x y = same_verdict _ _ a b x y
+one_verdict files listing within a b x y = same_verdict _ _ a b x y
+one_verdict files imaging within a b x y = same_verdict _ _ a b x y
+one_verdict files checking within a b x y = one_check _ a b x y
+one_verdict files auditing within a b x y = one_audit _ _ (within 0 (omega arith)) a b x y
+one_verdict files (executing plan) within a b x y = one_execution _ _ a b x y
 
 -- ---- files that are held
 
@@ -152,6 +167,10 @@ cause c told answer.Trapped w = done refl w
 cause c told answer.Dark w = done refl w
 cause c told answer.Memory w = no_memory refl w
 cause c told answer.Cut w = done refl w
+cause c told (answer.BadImage at) w = refused refl w
+cause c told answer.Refused w = refused refl w
+cause c told (answer.Dishonest item) w = refused refl w
+cause c told (answer.BadReport line) w = refused refl w
 cause c told (answer.Uncovered gap) w = refused refl w
 
 abbrev is_one : ℕ → Bool
@@ -196,7 +215,7 @@ module _ (c : Call) (told : List ℕ) (task : Task) (asked : c.task ≡ Some tas
     judged_here other run on f j k =
         let same : other ≡ files = same_files c.shelf.holds c.words task.first limits files other held f in
         let here : IsJudged files task.wanted run = subst (λ (x : List (List ℕ)). IsJudged x task.wanted run) same k in
-        ap (λ (v : Verdict). v.answer) (one_verdict files task.wanted run on here j)
+        ap (λ (v : Verdict). v.answer) (one_verdict files task.wanted (λ n l. (held.each n l).within) run on here j)
 
     judged_same : (other : Task) (found : List (List ℕ)) (run on : Verdict) → HasFiles c other found → IsJudged files task.wanted on → IsJudged found other.wanted run
         → run.answer ≡ on.answer

@@ -1,7 +1,7 @@
 -- Why a file wasn't fetched, and for which files a shelf was asked.
 use Rattle.std.proofs.Common.{ℕ, zero, suc, ◌+◌, ◌<◌, ◌≡◌, List, [], ◌∷◌, ◌++◌, length, subst, arith, inl, inr, refl}
 use Rattle.oc_io.specs.Held.{Held}
-use Rattle.oc_top.specs.Commands.{run_limits, rows_limit, word_at}
+use Rattle.oc_top.specs.Commands.{audit_limits, run_limits, rows_limit, source_limit, word_at}
 use Rattle.oc_top.specs.Files.{AreFiles, Fetches, IsFile, IsRefused, NotFetched, WereFetched, file_at, limit_at, names_of}
 use Rattle.oc_top.specs.declared.answer.Answer.{Answer}
 use Rattle.oc_top.specs.declared.answer.Answer.TheVariants as answer
@@ -32,6 +32,16 @@ module _ (holds : List ℕ → Held) (words : List (List ℕ)) (first : ℕ) whe
 
   pub one_file : (limit : ℕ) (bytes : List ℕ) → IsFile (holds (word_at words first)) limit bytes → AreFiles holds words first (limit ∷ []) (bytes ∷ [])
   one_file limit bytes f = record { count = refl; each = only_at limit bytes f }
+
+  of_two : (a b : List ℕ) → IsFile (holds (word_at words first)) source_limit a → IsFile (holds (word_at words (first + 1))) rows_limit b
+      → (k : ℕ) → k < 2 → IsFile (holds (word_at words (first + k))) (limit_at audit_limits k) (file_at (a ∷ b ∷ []) k)
+  of_two a b f g zero l = first_file source_limit a f
+  of_two a b f g (suc zero) l = g
+  of_two a b f g (suc (suc k)) l = absurd (omega arith)
+
+  pub two_files : (a b : List ℕ) → IsFile (holds (word_at words first)) source_limit a → IsFile (holds (word_at words (first + 1))) rows_limit b
+      → AreFiles holds words first audit_limits (a ∷ b ∷ [])
+  two_files a b f g = record { count = refl; each = of_two a b f g }
 
   of_three : (limit : ℕ) (a b c : List ℕ) → IsFile (holds (word_at words first)) limit a → IsFile (holds (word_at words (first + 1))) rows_limit b
       → IsFile (holds (word_at words (first + 2))) rows_limit c → (k : ℕ) → k < 3

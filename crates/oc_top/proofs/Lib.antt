@@ -21,4 +21,10 @@ pub mod StandardPlans
 pub mod Naming
 pub mod Showing
 pub mod Printing
+pub mod Imaging
+pub mod Accepted
+pub mod Auditing
 pub mod Checking
+pub mod Executing
+pub mod Lengths
+pub mod Vouching

@@ -1,21 +1,27 @@
 -- What meters were told of a report that was written through their sink.
-use Rattle.std.proofs.Common.{ℕ, ◌≡◌, ◌∙◌, sym, ap, refl, subst, List, [], Bool, true, false, Option, Some, None}
+use Rattle.std.proofs.Common.{ℕ, ◌≡◌, ◌∙◌, sym, ap, refl, subst, List, [], map, Bool, true, false, Option, Some, None}
 use Rattle.oc_io.specs.Faults.{Rose}
 use Rattle.oc_tree.specs.Names.{NameLists, names_view}
 use Rattle.oc_tree.specs.declared.name.Names.{Names}
 use Rattle.oc_meters.specs.Tally.{Reading, readings}
 use Rattle.oc_meters.specs.Reads.{Page, TakesBytes, page}
-use Rattle.oc_meters.specs.ReadBack.{begun}
+use Rattle.oc_meters.specs.ReadBack.{ReportIsRead, begun, tell_items}
+use Rattle.oc_meters.specs.Lines.{meter_lines}
+use Rattle.oc_apart.specs.Apart.{HasNamesApart}
 use Rattle.oc_meters.specs.Taken.{Took}
 use Rattle.oc_top.specs.Verdict.{Verdict, runs}
 use Rattle.oc_top.specs.Answers.{Call, Comes, IsWritten, Writes, in_part, told_by, whole}
 use Rattle.oc_io.specs.declared.period.Period.{Period}
-use Rattle.oc_sensors.specs.History.{Told}
+use Rattle.oc_sensors.specs.History.{Told, history}
+use Rattle.oc_sensors.specs.declared.sensors.Row.{Row}
+use Rattle.oc_isa.specs.Image.{Parts}
+use Rattle.oc_isa.specs.Power.{power_run}
+use Rattle.oc_isa.specs.Table.{device_of}
 use Rattle.oc_machine.specs.Kept.{Running}
 use Rattle.oc_top.specs.Commands.{Plan, report, run_limits, source_limit}
 use Rattle.oc_top.specs.Files.{AreFiles, Files, listed, names_of}
 use Rattle.oc_top.specs.Steps.{IsReady, by_memory}
-use Rattle.oc_top.specs.Meters.{IsReported, read, unread}
+use Rattle.oc_top.specs.Meters.{AreItems, IsReported, read, unread}
 use Rattle.oc_top.specs.declared.answer.Answer.{Answer}
 use Rattle.oc_top.specs.declared.answer.Answer.TheVariants as answer
 use Rattle.oc_top.proofs.Asking.{turned_down, was_metered}
@@ -50,15 +56,24 @@ pub book_took : (before after : Bool) (m n : ℕ) (a b : Names) (old : Page) (te
 book_took before true m n a b old text new e t calm = absurd (calm (t.marks.rose e refl))
 book_took before false m n a b old text new e t calm = t.taken refl
 
-pub was_reported : (run : Verdict) (sink : Writes) (end : Answer) (names : NameLists) (old new : Page) (meters : List Reading) (told : Option (List Reading)) → IsWritten sink run end
-    → ((sink.rose → ⊥) → TakesBytes names old run.text new) → names ≡ run.names → old ≡ begun meters → ((end ≡ answer.WriteFault → ⊥) → told ≡ Some new.readings)
-    → (end ≡ answer.WriteFault → told ≡ None) → IsReported run (Some meters) sink (told_by told) end
-was_reported run sink end names old new meters told w takes same is_begun kept none =
-    read w (λ apart calm. record {
-      page = new;
-      takes = subst (λ (p : Page). TakesBytes run.names p run.text new) is_begun (subst (λ (n : NameLists). TakesBytes n old run.text new) same (takes calm));
-      lines = ap told_by (kept apart);
-    }) (λ e. ap told_by (none e))
+-- what meters that read the text of a run tell is what they tell of its items
+module _ (report_is_read : ReportIsRead) (parts : Parts) (rows : List Row) (periods : List Period) (apart : HasNamesApart parts.names) where
+  abbrev reported : Verdict
+  reported = runs parts rows periods
+
+  told_items : (names : NameLists) (old new : Page) (meters : List Reading) → AreItems parts.names reported.items → TakesBytes names old reported.text new → names ≡ parts.names
+      → old ≡ begun meters → new.readings ≡ tell_items reported.items meters
+  told_items names old new meters items takes same is_begun =
+      let here = subst (λ (p : Page). TakesBytes parts.names p reported.text new) is_begun (subst (λ (n : NameLists). TakesBytes n old reported.text new) same takes) in
+      ap (λ (p : Page). p.readings)
+      (report_is_read parts.names (map (λ v. v.words) parts.nv) reported.items (power_run (device_of parts) (history rows) periods).state.nv meters new
+      apart.sensors apart.ports apart.nvs items.each items.places here)
+
+  pub was_reported : (sink : Writes) (end : Answer) (names : NameLists) (old new : Page) (meters : List Reading) (told : Option (List Reading)) → IsWritten sink reported end
+      → ((end ≡ answer.WriteFault → ⊥) → AreItems parts.names reported.items) → ((sink.rose → ⊥) → TakesBytes names old reported.text new) → names ≡ parts.names → old ≡ begun meters
+      → ((end ≡ answer.WriteFault → ⊥) → told ≡ Some new.readings) → (end ≡ answer.WriteFault → told ≡ None) → IsReported reported (Some meters) sink (told_by told) end
+  was_reported sink end names old new meters told w items takes same is_begun kept none =
+      read w (λ whole calm. ap told_by (kept whole) ∙ ap meter_lines (told_items names old new meters (items whole) (takes calm) same is_begun)) (λ e. ap told_by (none e))
 
 pub reported_as : (run : Verdict) (meters : Option (List Reading)) (sink : Writes) (told : List ℕ) (end other : Answer) → other ≡ end → IsReported run meters sink told end
     → IsReported run meters sink told other

@@ -62,5 +62,14 @@ module _ (atomic : Bool) (text : List ℕ) where
   one_reading_in (program p) (breaks n) a b = let e = sym b.2 ∙ same_broken b.0 p b.1 a.0 ∙ a.1 in cc e
   one_reading_in (program p) (program q) a b = ap program (same_program p q a.0 b.0)
 
+pub same_line : (m n : ℕ) → ◌≡◌ {A = Reading} (faulty m) (faulty n) → m ≡ n
+same_line m n e = cc
+
+pub same_rule : (m n : Broken) → ◌≡◌ {A = Reading} (breaks m) (breaks n) → m ≡ n
+same_rule m n e = cc
+
+pub same_tree : (p q : TProgram) → ◌≡◌ {A = Reading} (program p) (program q) → p ≡ q
+same_tree p q e = cc
+
 pub one_reading : (text : List ℕ) (r s : Reading) → ReadsAs text r → ReadsAs text s → r ≡ s
 one_reading text r s a b = one_reading_in false text r s a b

@@ -2,10 +2,10 @@
 use Rattle.std.proofs.Common.{ℕ, List, subst}
 use Rattle.oc_tree.specs.Marked.{TMarked}
 use Rattle.oc_isa.specs.Image.{Parts}
-use Rattle.oc_isa.specs.Listing.{listing_text}
 use Rattle.oc_budget.specs.Budgets.{budgets}
+use Rattle.oc_top.specs.Meant.{program_code}
 use Rattle.oc_top.specs.RegionLines.{regions_text}
-use Rattle.oc_top.specs.Verdict.{prints, regions_of, listing_of}
+use Rattle.oc_top.specs.Verdict.{prints, regions_of}
 use Rattle.oc_top.specs.Steps.{IsBuilt}
 use Rattle.oc_top.specs.Answers.{Writes, IsWritten}
 use Rattle.oc_top.specs.Printed.{Tells, IsPrinted, put}
@@ -18,5 +18,6 @@ module _ (sink : Writes) (end : Answer) (source : List ℕ) where
       put told.marked.written told.marked.reads
       (subst (λ (m : TMarked). IsWritten sink (prints (regions_text m (budgets m))) end) told.marked.is_marked w)
 
-  pub listing_printed : (parts : Parts) → IsBuilt source parts → IsWritten sink (prints (listing_text parts)) end → IsPrinted source listing_of sink end
-  listing_printed parts b w = put b.written b.reads (subst (λ (i : Parts). IsWritten sink (prints (listing_text i)) end) b.is_code w)
+  pub code_printed : (text : Parts → List ℕ) (parts : Parts) → IsBuilt source parts → IsWritten sink (prints (text parts)) end
+      → IsPrinted source (λ p. text (program_code p)) sink end
+  code_printed text parts b w = put b.written b.reads (subst (λ (i : Parts). IsWritten sink (prints (text i)) end) b.is_code w)

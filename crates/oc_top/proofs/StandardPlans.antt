@@ -4,7 +4,7 @@ use Rattle.std.specs.Prelude.{◌==◌, option_map, if◌then◌else◌}
 use Rattle.oc_power.specs.Cutting.{cut_rows}
 use Rattle.oc_power.specs.Looping.{looped}
 use Rattle.oc_meters.specs.Tally.{Reading, reading, readings}
-use Rattle.oc_top.specs.Commands.{Plan, Plans, command_of, plans_of, task_for, task_of, with_drill, with_plan}
+use Rattle.oc_top.specs.Commands.{Plan, Plans, command_of, plans_of, task_for, task_of, with_drill, with_image, with_plan}
 use Rattle.oc_top.specs.declared.command.Command.{Command}
 use Rattle.oc_top.specs.declared.command.Command.TheVariants as commands
 use Rattle.oc_top.specs.Supplies.{standard_meters, standard_plans}
@@ -14,6 +14,7 @@ same_task_for : (p q : Plans) (meters : List Reading) → ((k : ℕ) → p k ≡
 same_task_for p q meters h None = refl
 same_task_for p q meters h (Some (commands.Run supply first metered)) = ap (λ (o : Option Plan). with_plan first (if metered then Some meters else None) o) (h supply)
 same_task_for p q meters h (Some (commands.Drill turns)) = ap (λ (o : Option Plan). with_drill turns o) (h 0)
+same_task_for p q meters h (Some (commands.Exec first)) = ap (λ (o : Option Plan). with_image first o) (h 0)
 same_task_for p q meters h (Some other) = refl
 
 unlike : (n k : ℕ) → n < k → (n == k) ≡ false

@@ -32,7 +32,7 @@ use Rattle.oc_top.specs.Answers.{status_of, is_written, line_of, IsJudged, IsDon
 use Rattle.oc_top.specs.Works.{Works}
 use Rattle.oc_top.specs.declared.answer.Answer.{Answer}
 use Rattle.oc_top.specs.declared.answer.Answer.TheVariants as answer
-use Rattle.oc_top.proofs.OneReading.{one_reading}
+use Rattle.oc_top.proofs.OneReading.{one_reading, same_tree}
 use Rattle.oc_top.proofs.Exactly.{of_run, same_files, the_task, exactly, missing, long, no_task, usage, quiet}
 
 -- ---- the answer to a run that ends by itself
@@ -68,9 +68,6 @@ run_ends files plan run r safe =
     let e : run.answer ≡ answer_by (Some (Ended over.0)) = ap (λ (v : Verdict). v.answer) r.is_run ∙ answer_over (program_code r.written) (history r.rows) (plan r.periods) over.0 over.1 in
     elim (by_ending over.0) [ inl x ↦ inl (e ∙ x) | inr x ↦ inr (e ∙ x) ]
 
-same_written : (p q : TProgram) → program p ≡ program q → p ≡ q
-same_written p q e = cc
-
 same_periods : (a b : List Period) → power_rows.periods a ≡ power_rows.periods b → a ≡ b
 same_periods a b e = cc
 
@@ -84,7 +81,7 @@ module _ (c : Call) (told : List ℕ) (task : Task) (asked : c.task ≡ Some tas
   -- a run of these files ends by itself
   ends : (found : List (List ℕ)) (run : Verdict) → found ≡ files → IsRun (run_files found) plan run → (run.answer ≡ answer.End) ⊎ (run.answer ≡ answer.Trapped)
   ends found run there r =
-      let written = same_written r.written p
+      let written = same_tree r.written p
       (one_reading (run_files files).source (program r.written) (program p) (subst (λ (f : List (List ℕ)). ReadsAs (run_files f).source (program r.written)) there r.spelled) reads) in
       let periods_are = same_periods r.periods periods (sym r.powered ∙ ap (λ (f : List (List ℕ)). power_file (run_files f).power) there ∙ powered) in
       run_ends (run_files found) plan run r

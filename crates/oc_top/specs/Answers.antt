@@ -3,20 +3,21 @@ use Rattle.std.specs.Prelude.{ℕ, suc, ◌+◌, ◌<◌, ◌≤◌, ◌≡◌, 
 use Rattle.oc_io.specs.Faults.{Rose}
 use Rattle.oc_io.specs.Held.{Held, nothing, Longer}
 use Rattle.oc_meters.specs.Tally.{Reading as Meter}
-use Rattle.oc_meters.specs.Reads.{Page, TakesBytes}
-use Rattle.oc_meters.specs.ReadBack.{begun}
+use Rattle.oc_meters.specs.ReadBack.{tell_items}
 use Rattle.oc_meters.specs.Lines.{meter_lines}
-use Rattle.oc_tree.specs.Names.{NameLists}
+use Rattle.oc_items.specs.declared.item.Item.{Item}
 use Rattle.oc_tree.specs.Tree.{TProgram}
 use Rattle.oc_io.specs.Counts.{capped, line_feeds}
 use Rattle.oc_drill.specs.Drill.{drill_source, drill_sensors, drill_power, drill_line}
-use Rattle.oc_top.specs.Commands.{Plan, Wanted, report, drill, regions, listing, checking, limits_of, meters_of, Task, word_at}
+use Rattle.oc_top.specs.Commands.{Plan, Wanted, report, drill, regions, listing, imaging, checking, auditing, executing, limits_of, meters_of, Task, word_at}
 use Rattle.oc_top.specs.Files.{Files, Fetches, AreFiles, WereFetched, file_at, limit_at, names_of, run_files}
 use Rattle.oc_top.specs.Sources.{Reading, ReadsAs, program}
-use Rattle.oc_top.specs.Verdict.{Verdict, verdict, refuses, prints, printed, regions_of, listing_of}
+use Rattle.oc_top.specs.Verdict.{Verdict, verdict, refuses, prints, printed, regions_of, listing_of, image_of}
 use Rattle.oc_top.specs.Headline.{IsRun}
 use Rattle.oc_top.specs.Gaps.{gap_line}
 use Rattle.oc_top.specs.Checked.{IsCheck, IsSafe}
+use Rattle.oc_top.specs.Audited.{IsAudit, IsVouched}
+use Rattle.oc_top.specs.Images.{IsExecuted, IsExecution}
 use Rattle.oc_top.specs.declared.answer.Answer.{Answer}
 use Rattle.oc_top.specs.declared.answer.Answer.TheVariants as answer
 
@@ -35,6 +36,10 @@ status_of answer.Trapped = 8
 status_of answer.Dark = 9
 status_of answer.Memory = 11
 status_of answer.Cut = 12
+status_of (answer.Dishonest item) = 14
+status_of (answer.BadReport line) = 15
+status_of (answer.BadImage at) = 16
+status_of answer.Refused = 17
 status_of (answer.Uncovered gap) = 18
 
 -- with these statuses a text was written, or a part of it
@@ -56,6 +61,10 @@ line_of words answer.Trapped = []
 line_of words answer.Dark = []
 line_of words answer.Memory = codes "ocelot: out of memory\n"
 line_of words answer.Cut = codes "ocelot: checkpoint lost\n"
+line_of words (answer.Dishonest item) = codes "ocelot: report breaks at item " ++ (decimal item ++ codes "\n")
+line_of words (answer.BadReport line) = codes "ocelot: bad report line " ++ (decimal line ++ codes "\n")
+line_of words (answer.BadImage at) = codes "ocelot: bad image at byte " ++ (decimal at ++ codes "\n")
+line_of words answer.Refused = codes "ocelot: image refused\n"
 line_of words (answer.Uncovered gap) = gap_line gap
 
 -- this is the verdict on a source
@@ -82,7 +91,10 @@ IsJudged files (report plan meters) run = IsVerdict (file_at files 0) (λ readin
 IsJudged files (drill turns plan) run = IsDrill turns plan run
 IsJudged files regions run = IsVerdict (file_at files 0) (λ reading. printed reading regions_of) run
 IsJudged files listing run = IsVerdict (file_at files 0) (λ reading. printed reading listing_of) run
+IsJudged files imaging run = IsVerdict (file_at files 0) (λ reading. printed reading image_of) run
 IsJudged files checking run = IsCheck (file_at files 0) run
+IsJudged files auditing run = IsAudit (file_at files 0) (file_at files 1) run
+IsJudged files (executing plan) run = IsExecution (run_files files) plan run
 
 -- this prints a text of the program that a source spells
 pub record IsPrint (source : List ℕ) (text : TProgram → List ℕ) (run : Verdict) : Type 0 where
@@ -96,7 +108,10 @@ IsDone files (report plan meters) run = IsRun (run_files files) plan run
 IsDone files (drill turns plan) run = IsDrill turns plan run
 IsDone files regions run = IsPrint (file_at files 0) regions_of run
 IsDone files listing run = IsPrint (file_at files 0) listing_of run
+IsDone files imaging run = IsPrint (file_at files 0) image_of run
 IsDone files checking run = IsSafe (file_at files 0) run
+IsDone files auditing run = IsVouched (file_at files 0) (file_at files 1) run
+IsDone files (executing plan) run = IsExecuted (run_files files) plan run
 
 -- ---- what is written
 
@@ -134,16 +149,10 @@ pub data IsWritten (sink : Writes) (run : Verdict) (end : Answer) : Type 0 where
 
 -- ---- what meters tell
 
--- meters that began so were told the items of a text's lines, one after the other, and these are their lines
-pub record HasRead (names : NameLists) (text : List ℕ) (meters : List Meter) (told : List ℕ) : Type 0 where
-  pub page : Page
-  pub takes : TakesBytes names (begun meters) text page
-  pub lines : told ≡ meter_lines page.readings
-
--- the same, or no lines are wanted
-abbrev pub HasTold : NameLists → List ℕ → Option (List Meter) → List ℕ → Type 0
-HasTold names text None told = told ≡ []
-HasTold names text (Some meters) told = HasRead names text meters told
+-- these are the lines of meters that began so and were told these items, one after the other; or no lines are wanted
+abbrev pub HasTold : List Item → Option (List Meter) → List ℕ → Type 0
+HasTold items None told = told ≡ []
+HasTold items (Some meters) told = told ≡ meter_lines (tell_items items meters)
 
 -- the lines that stand behind that of the answer, if any
 abbrev pub told_by : Option (List Meter) → List ℕ
@@ -208,12 +217,12 @@ pub record WasDone (c : Call) (outcome : Wanted → Verdict → Type 0) : Type 0
   pub done : IsDone files task.wanted run
   pub came : outcome task.wanted run
 
--- all that was to be written was, and this is the answer; where no fault of the output rose, the meters tell what was
--- written
+-- all that was to be written was, and this is the answer; where no fault of the output rose, the meters were told the items
+-- of the run
 pub record IsWhole (c : Call) (told : List ℕ) (end : Answer) (wanted : Wanted) (run : Verdict) : Type 0 where
   pub answered : end ≡ run.answer
   pub written : TookAll c.out run.text
-  pub tells : ¬ c.out.rose → HasTold run.names run.text (meters_of wanted) told
+  pub tells : ¬ c.out.rose → HasTold run.items (meters_of wanted) told
 
 -- a part of it was, and the meters tell nothing
 pub record IsPart (c : Call) (told : List ℕ) (wanted : Wanted) (run : Verdict) : Type 0 where
@@ -244,4 +253,8 @@ Comes c told answer.Dark = WasDone c (IsWhole c told answer.Dark)
 Comes c told answer.WriteFault = WasDone c (IsPart c told)
 Comes c told answer.Memory = HadNoMemory c told
 Comes c told answer.Cut = WasDone c (IsWhole c told answer.Cut)
+Comes c told (answer.Dishonest item) = AreRefused c told (answer.Dishonest item)
+Comes c told (answer.BadReport line) = AreRefused c told (answer.BadReport line)
+Comes c told (answer.BadImage at) = AreRefused c told (answer.BadImage at)
+Comes c told answer.Refused = AreRefused c told answer.Refused
 Comes c told (answer.Uncovered gap) = AreRefused c told (answer.Uncovered gap)

@@ -54,13 +54,22 @@ with_one word other =
     if bytes_eq word (codes "drill") then drill_with (turns_of other)
     else if is_file other then print_with word else None
 
+-- the command of one word and two others
+abbrev pub with_two : List ℕ → List ℕ → List ℕ → Option Command
+with_two word second third =
+    if bytes_eq word (codes "audit") && is_file second && is_file third then Some (commands.Audit 1)
+    else if bytes_eq word (codes "build") && bytes_eq second (codes "--image") && is_file third then Some (commands.Image 2) else None
+
 -- the command of a word and three files
 abbrev pub with_three : List ℕ → Option Command
-with_three word = if bytes_eq word (codes "run") then run_with (Some 0) false 1 else None
+with_three word =
+    if bytes_eq word (codes "run") then run_with (Some 0) false 1
+    else if bytes_eq word (codes "exec") then Some (commands.Exec 1) else None
 
 -- the command of a line of words
 abbrev pub command_of : List (List ℕ) → Option Command
 command_of (word ∷ other ∷ []) = with_one word other
+command_of (word ∷ second ∷ third ∷ []) = with_two word second third
 command_of (word ∷ source ∷ sensors ∷ power ∷ []) = if are_files source sensors power then with_three word else None
 command_of (word ∷ option ∷ source ∷ sensors ∷ power ∷ []) =
     if bytes_eq word (codes "run") && bytes_eq option (codes "--meters") && are_files source sensors power
@@ -86,13 +95,17 @@ abbrev pub plans_of : {B : Type 0} → (B → ℕ) → (B → Plan) → List B �
 plans_of number plan boxes = λ k. option_map plan (first_with number k boxes)
 
 -- what is wanted: a run with a supply that tells this, and the lines of these meters, if any; the regions of a source, the
--- listing of its image, or a verdict on its blocks; or a drill of so many turns with a supply that tells this
+-- listing of its image, the bytes of that, a verdict on its blocks, or one on a report; a drill of so many turns, or a run of
+-- an image, with a supply that tells this
 pub data Wanted : Type 0 where
   report : Plan → Option (List Reading) → Wanted
   drill : ℕ → Plan → Wanted
   regions : Wanted
   listing : Wanted
+  imaging : Wanted
   checking : Wanted
+  auditing : Wanted
+  executing : Plan → Wanted
 
 -- what is asked for, and the place of the word of its first file
 pub record Task : Type 0 where
@@ -107,6 +120,10 @@ abbrev pub with_drill : ℕ → Option Plan → Option Task
 with_drill turns None = None
 with_drill turns (Some plan) = Some (record { first = 0; wanted = drill turns plan })
 
+abbrev pub with_image : ℕ → Option Plan → Option Task
+with_image first None = None
+with_image first (Some plan) = Some (record { first = first; wanted = executing plan })
+
 -- what is asked for, with these supplies and meters
 abbrev pub task_for : Plans → List Reading → Option Command → Option Task
 task_for plans meters None = None
@@ -114,22 +131,32 @@ task_for plans meters (Some (commands.Run supply first metered)) = with_plan fir
 task_for plans meters (Some (commands.Drill turns)) = with_drill turns (plans 0)
 task_for plans meters (Some (commands.Regions first)) = Some (record { first = first; wanted = regions })
 task_for plans meters (Some (commands.Build first)) = Some (record { first = first; wanted = listing })
+task_for plans meters (Some (commands.Image first)) = Some (record { first = first; wanted = imaging })
 task_for plans meters (Some (commands.Check first)) = Some (record { first = first; wanted = checking })
+task_for plans meters (Some (commands.Audit first)) = Some (record { first = first; wanted = auditing })
+task_for plans meters (Some (commands.Exec first)) = with_image first (plans 0)
 
 -- what a line of words asks for
 abbrev pub task_of : Plans → List Reading → List (List ℕ) → Option Task
 task_of plans meters words = task_for plans meters (command_of words)
 
--- how many bytes a source may have, and a file of rows
+-- how many bytes a source may have, a file of rows or a report, and an image
 abbrev pub source_limit : ℕ
 source_limit = 1048576
 
 abbrev pub rows_limit : ℕ
 rows_limit = 16777216
 
+abbrev pub image_limit : ℕ
+image_limit = 67108864
+
 -- the limits of a run's files, the first of which has this one
 abbrev pub run_limits : ℕ → List ℕ
 run_limits limit = limit ∷ rows_limit ∷ rows_limit ∷ []
+
+-- those of an audit's files
+abbrev pub audit_limits : List ℕ
+audit_limits = source_limit ∷ rows_limit ∷ []
 
 -- the limits of the files that it reads, in the order of their words
 abbrev pub limits_of : Wanted → List ℕ
@@ -137,7 +164,10 @@ limits_of (report plan meters) = run_limits source_limit
 limits_of (drill turns plan) = []
 limits_of regions = source_limit ∷ []
 limits_of listing = source_limit ∷ []
+limits_of imaging = source_limit ∷ []
 limits_of checking = source_limit ∷ []
+limits_of auditing = audit_limits
+limits_of (executing plan) = run_limits image_limit
 
 -- the meters whose lines are wanted, if any
 abbrev pub meters_of : Wanted → Option (List Reading)

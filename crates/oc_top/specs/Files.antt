@@ -15,7 +15,7 @@ file_at files place = get_or files place []
 abbrev pub limit_at : List ℕ → ℕ → ℕ
 limit_at limits place = get_or limits place 0
 
--- the files of a run
+-- the files of a run; an image may stand in the place of the source
 pub record Files : Type 0 where
   pub source : List ℕ
   pub sensors : List ℕ

@@ -1,11 +1,15 @@
--- The steps to the answer of `check`.
+-- The steps to the answers of `check` and `audit`.
 use Rattle.std.specs.Prelude.{ℕ, ◌≡◌, ◌⊎◌, List, [], codes}
 use Rattle.oc_tree.specs.Tree.{TProgram}
 use Rattle.oc_tree.specs.Checked.{TChecked}
 use Rattle.oc_regcheck.specs.Enough.{IsVerdict}
 use Rattle.oc_regcheck.specs.declared.verdict.BlockVerdict.{BlockVerdict}
 use Rattle.oc_top.specs.Verdict.{prints, refuses}
+use Rattle.oc_audit.specs.declared.audit.Finding.{Finding}
+use Rattle.oc_audit.specs.declared.audit.Finding.TheVariants.{Honest}
 use Rattle.oc_top.specs.Checked.{AcceptsBlocks, AreEnough, IsCheck, IsSaid, checked_of}
+use Rattle.oc_top.specs.Audited.{IsFound, said_of}
+use Rattle.oc_top.specs.Steps.{IsNotBuilt}
 use Rattle.oc_top.specs.Answers.{Writes, IsWritten}
 use Rattle.oc_top.specs.declared.answer.Answer.{Answer}
 use Rattle.oc_top.specs.declared.answer.Answer.TheVariants as answer
@@ -28,3 +32,9 @@ IsNotSafe source end = (end ≡ answer.Memory) ⊎ IsCheck source (refuses end)
 pub data IsChecked (source : List ℕ) (sink : Writes) (end : Answer) : Type 0 where
   not_safe : IsNotSafe source end → sink.took [] → IsChecked source sink end
   safe : AreEnough source → IsWritten sink (prints (codes "safe\n")) end → IsChecked source sink end
+
+-- there is no program to audit for, or no memory; or the report is refused, or it is honest and the sink takes this
+pub data IsAudited (source report : List ℕ) (sink : Writes) (end : Answer) : Type 0 where
+  not_audited : IsNotBuilt source end → sink.took [] → IsAudited source report sink end
+  refused : (f : Finding) → IsFound source report f → said_of f ≡ refuses end → sink.took [] → IsAudited source report sink end
+  honest : IsFound source report Honest → IsWritten sink (prints (codes "honest\n")) end → IsAudited source report sink end

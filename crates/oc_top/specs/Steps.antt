@@ -1,5 +1,5 @@
 -- The steps before the first byte is written.
-use Rattle.std.specs.Prelude.{ℕ, ◌<◌, ◌^◌, ◌≡◌, Bool, true, false, List, length, None}
+use Rattle.std.specs.Prelude.{ℕ, ◌<◌, ◌^◌, ◌≡◌, ◌⊎◌, Bool, true, false, List, length, None}
 use Rattle.oc_io.specs.declared.period.Period.{Period}
 use Rattle.oc_power.specs.Power.{power_file}
 use Rattle.oc_power.specs.Power as power_rows
@@ -34,7 +34,7 @@ use Rattle.oc_top.specs.Commands.{Plan}
 use Rattle.oc_top.specs.Files.{Files}
 use Rattle.oc_top.specs.Faults.{token_line}
 use Rattle.oc_top.specs.Sources.{Reading, ReadsAs, ReadsIn, Spells, faulty, breaks, program, line_at}
-use Rattle.oc_top.specs.Verdict.{verdict, is_refusal, refuses}
+use Rattle.oc_top.specs.Verdict.{verdict, is_refusal, refuses, with_parts}
 use Rattle.oc_top.specs.declared.answer.Answer.{Answer}
 use Rattle.oc_top.specs.declared.answer.Answer.TheVariants as answer
 
@@ -106,15 +106,23 @@ pub record CanRun (machine : Running) (sensors : Told) (left : List Period) : Ty
   pub words : (sensor tick : ℕ) → is_word (history sensors.rows sensor tick) ≡ true
   pub sum : total left < 2 ^ 63
 
--- such a machine with the source's image, where the sensors show the rows of the sensor file, and the periods are those
--- that the supply tells of the rows of the power file
-pub record IsReady (files : Files) (plan : Plan) (machine : Running) (sensors : Told) (left : List Period) : Type 0 where
+-- such a machine with an image that is this one, where the sensors show the rows of the sensor file, and the periods are
+-- those that the supply tells of the rows of the power file
+pub record IsReadyFor (IsIt : Parts → Type 0) (files : Files) (plan : Plan) (machine : Running) (sensors : Told) (left : List Period) : Type 0 where
   pub can_run : CanRun machine sensors left
-  pub built : IsBuilt files.source machine.parts
+  pub built : IsIt machine.parts
   pub sensed : sensor_file machine.parts.names.sensors files.sensors ≡ sensor_rows.readings sensors.rows
   pub periods : List Period
   pub powered : power_file files.power ≡ power_rows.periods periods
   pub planned : left ≡ plan periods
+
+-- the same with the source's image
+abbrev pub IsReady : Files → Plan → Running → Told → List Period → Type 0
+IsReady files plan machine sensors left = IsReadyFor (IsBuilt files.source) files plan machine sensors left
+
+-- the files of an image's run are refused with this answer, or there was no memory
+abbrev pub IsNotReady : Parts → Files → Plan → Answer → Type 0
+IsNotReady parts files plan end = (end ≡ answer.Memory) ⊎ ((is_refusal end ≡ true) × (with_parts parts files plan ≡ refuses end))
 
 -- the files are refused with this answer, or there was no memory
 pub data IsTurnedDown (files : Files) (plan : Plan) (end : Answer) : Type 0 where

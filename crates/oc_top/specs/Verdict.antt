@@ -1,5 +1,5 @@
 -- What commands answer and write, by what their files say.
-use Rattle.std.specs.Prelude.{ℕ, Bool, true, false, List, []}
+use Rattle.std.specs.Prelude.{ℕ, Bool, true, false, List, [], map}
 use Rattle.oc_io.specs.declared.period.Period.{Period}
 use Rattle.oc_power.specs.Power.{Power, power_file}
 use Rattle.oc_power.specs.Power as power_rows
@@ -11,8 +11,10 @@ use Rattle.oc_isa.specs.Image.{Parts}
 use Rattle.oc_isa.specs.Power.{power_run}
 use Rattle.oc_isa.specs.Table.{device_of}
 use Rattle.oc_isa.specs.Listing.{listing_text}
-use Rattle.oc_tree.specs.Names.{NameLists}
+use Rattle.oc_isa.specs.Bytes.{image_bytes}
 use Rattle.oc_tree.specs.Tree.{TProgram}
+use Rattle.oc_items.specs.Told.{item_of}
+use Rattle.oc_items.specs.declared.item.Item.{Item}
 use Rattle.oc_budget.specs.Budgets.{budgets}
 use Rattle.oc_top.specs.Meant.{program_marked, program_code}
 use Rattle.oc_top.specs.RegionLines.{regions_text}
@@ -24,15 +26,15 @@ use Rattle.oc_top.specs.Reports.{answer_of, text_of}
 use Rattle.oc_top.specs.declared.answer.Answer.{Answer}
 use Rattle.oc_top.specs.declared.answer.Answer.TheVariants as answer
 
--- an answer, the text on the standard output, and the names under which meters read it
+-- an answer, the text on the standard output, and the items of a report, which meters are told
 pub record Verdict : Type 0 where
   pub answer : Answer
   pub text : List ℕ
-  pub names : NameLists
+  pub items : List Item
 
 -- an answer with a text that is no report
 abbrev pub says : Answer → List ℕ → Verdict
-says end text = record { answer = end; text = text; names = record { sensors = []; ports = []; nvs = [] } }
+says end text = record { answer = end; text = text; items = [] }
 
 -- the answer to a run or to a text that was written
 abbrev pub is_of_run : Answer → Bool
@@ -48,6 +50,10 @@ is_refusal (answer.Syntax line) = true
 is_refusal (answer.Rule line rule) = true
 is_refusal (answer.BadSensors row) = true
 is_refusal (answer.BadPower row) = true
+is_refusal (answer.BadImage at) = true
+is_refusal answer.Refused = true
+is_refusal (answer.Dishonest item) = true
+is_refusal (answer.BadReport line) = true
 is_refusal (answer.Uncovered gap) = true
 is_refusal other = false
 
@@ -59,7 +65,7 @@ abbrev pub runs : Parts → List Row → List Period → Verdict
 runs parts rows periods = record {
   answer = answer_of parts (history rows) periods;
   text = text_of parts (power_run (device_of parts) (history rows) periods);
-  names = parts.names;
+  items = map item_of (power_run (device_of parts) (history rows) periods).report;
 }
 
 abbrev pub with_power : Parts → List Row → Power → Plan → Verdict
@@ -89,6 +95,10 @@ regions_of p = regions_text (program_marked p) (budgets (program_marked p))
 -- the listing of its image
 abbrev pub listing_of : TProgram → List ℕ
 listing_of p = listing_text (program_code p)
+
+-- the bytes of its image
+abbrev pub image_of : TProgram → List ℕ
+image_of p = image_bytes (program_code p)
 
 abbrev pub prints : List ℕ → Verdict
 prints text = says answer.End text

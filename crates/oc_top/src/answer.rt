@@ -45,6 +45,14 @@ pub enum Answer {
     Memory,
     /// A checkpoint didn't complete.
     Cut,
+    /// The last item, from 1, of the shortest front part of a report that isn't honest.
+    Dishonest { item: u64 },
+    /// The first line with which a file stops to be a report.
+    BadReport { line: u64 },
+    /// The first byte of the first bad field of what is no image's file.
+    BadImage { at: usize },
+    /// The image breaks a rule.
+    Refused,
     /// The blocks of a source don't suffice.
     Uncovered { gap: Gap },
 }
@@ -83,6 +91,10 @@ pub fn status(answer: &Answer) -> u8
         Answer::WriteFault => 10,
         Answer::Memory => 11,
         Answer::Cut => 12,
+        Answer::Dishonest { .. } => 14,
+        Answer::BadReport { .. } => 15,
+        Answer::BadImage { .. } => 16,
+        Answer::Refused => 17,
         Answer::Uncovered { .. } => 18,
     }
 }
@@ -140,6 +152,19 @@ fn put_line_of<E: Sink>(answer: Answer, words: &[String], err: &mut E) -> Result
         Answer::WriteFault => put_pieces(err, &[b"ocelot: cannot write\n"]),
         Answer::Memory => put_pieces(err, &[b"ocelot: out of memory\n"]),
         Answer::Cut => put_pieces(err, &[b"ocelot: checkpoint lost\n"]),
+        Answer::Dishonest { item } => {
+            let item = number.format(item).as_bytes();
+            put_pieces(err, &[b"ocelot: report breaks at item ", item, b"\n"])
+        }
+        Answer::BadReport { line } => {
+            let line = number.format(line).as_bytes();
+            put_pieces(err, &[b"ocelot: bad report line ", line, b"\n"])
+        }
+        Answer::BadImage { at } => {
+            let at = number.format(at).as_bytes();
+            put_pieces(err, &[b"ocelot: bad image at byte ", at, b"\n"])
+        }
+        Answer::Refused => put_pieces(err, &[b"ocelot: image refused\n"]),
         Answer::Uncovered { gap } => put_gap(&gap, err),
         Answer::End | Answer::Trapped | Answer::Dark => Ok(()),
     }
@@ -147,7 +172,8 @@ fn put_line_of<E: Sink>(answer: Answer, words: &[String], err: &mut E) -> Result
 
 /// Writes the lines of meters, if there are any.
 fn put_told<M: Meter, E: Sink>(meters: &Option<Vec<M>>, err: &mut E) -> Result<(), SinkFault>
-    ensures ok { OnOk result (E.took err.old (told_by (told_of M.kind_of M.numbers meters.now)) err.new) }
+    ensures ok { OnOk result
+        (E.took err.old (told_by (told_of M.kind_of M.numbers meters.now)) err.new) }
     ensures part { OnErr result
         (TookPart E.took err.old (told_by (told_of M.kind_of M.numbers meters.now)) err.new) }
     ensures cause { OnErr result (Rose (E.faults err.old) (E.faults err.new)) }
@@ -189,12 +215,13 @@ pub fn put_lines<M: Meter, E: Sink>(
     meters: &Option<Vec<M>>,
     err: &mut E,
 )
-    ensures { TookAll (writes E.took E.held E.faults err.old err.new)
+    ensures line { TookAll (writes E.took E.held E.faults err.old err.new)
         (line_of (map string_bytes words.now) answer
         ++ told_by (told_of M.kind_of M.numbers meters.now))
         ⊎ TookFront (writes E.took E.held E.faults err.old err.new)
         (line_of (map string_bytes words.now) answer
         ++ told_by (told_of M.kind_of M.numbers meters.now)) }
+    ensures count { E.faults err.old ≤ E.faults err.new }
 {
     match put_all(answer, words, meters, err) {
         Ok(()) => {

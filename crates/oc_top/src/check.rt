@@ -1,5 +1,5 @@
 //! Whether the blocks that `atomic` begins suffice for what a source's annotations require.
-ghost use Rattle.std.specs.Prelude.{◌≡◌, ◌≤◌, ◌<◌, true, codes, length, IfOk, IfErr};
+ghost use Rattle.std.specs.Prelude.{◌≡◌, ◌≤◌, ◌<◌, true, length, IfOk, IfErr};
 ghost use Rattle.oc_tree.specs.View.{program_view};
 ghost use Rattle.oc_tree.specs.Form.{InForm};
 ghost use Rattle.oc_tree.specs.Nodes.{program_nodes};
@@ -7,16 +7,16 @@ ghost use Rattle.oc_lex.specs.Stands.{IsName};
 ghost use Rattle.oc_needs.specs.Policies.{policies};
 ghost use Rattle.oc_regcheck.specs.Enough.{AreStatements};
 ghost use Rattle.oc_regcheck.specs.declared.verdict.BlockVerdict.TheVariants as verdicts;
-ghost use Rattle.oc_top.specs.Answers.{IsWritten, writes};
+ghost use Rattle.oc_top.specs.Answers.{writes};
 ghost use Rattle.oc_top.specs.Checked.{AreEnough, IsEnough, IsSaid, SpellsBlocks};
 ghost use Rattle.oc_top.specs.Judged.{IsChecked, IsCheckedOf, IsNotSafe, IsOpenFor};
 ghost use Rattle.oc_top.specs.Steps.{IsNotRead};
-ghost use Rattle.oc_top.specs.Verdict.{prints, refuses};
+ghost use Rattle.oc_top.specs.Verdict.{refuses};
 
 use crate::answer::Answer;
 use crate::build::{answer_without_rules, answer_without_tree, tokens_of};
 use crate::gap::gap_of;
-use crate::report::flushed;
+use crate::print::put_text;
 use oc_desugar::expand;
 use oc_effects::effects::Effects;
 use oc_flow::flow::summaries;
@@ -117,24 +117,14 @@ fn try_blocks(alloc: Global, source: &[u8]) -> Result<(), Answer>
     }
 }
 
-/// Writes `safe`.
-fn put_safe<O: Sink>(out: &mut O) -> Answer
-    ensures { IsWritten (writes O.took O.held O.faults out.old out.new)
-        (prints (codes "safe\n")) result }
-{
-    match out.put(b"safe\n") {
-        Ok(()) => flushed(Answer::End, out),
-        Err(_) => Answer::WriteFault,
-    }
-}
-
 /// Writes `safe` where the blocks of a source suffice, or answers why they don't.
 pub fn check_source<O: Sink>(alloc: Global, source: &[u8], out: &mut O) -> Answer
     requires { length source.now ≤ 1048576 }
-    ensures { IsChecked source.now (writes O.took O.held O.faults out.old out.new) result }
+    ensures checked { IsChecked source.now (writes O.took O.held O.faults out.old out.new) result }
+    ensures count { O.faults out.old ≤ O.faults out.new }
 {
     match try_blocks(alloc, source) {
-        Ok(()) => put_safe(out),
+        Ok(()) => put_text(b"safe\n", out),
         Err(answer) => answer,
     }
 }

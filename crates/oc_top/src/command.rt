@@ -1,7 +1,7 @@
 //! The command lines.
 ghost use Rattle.std.specs.Prelude.{◌≡◌, map};
 ghost use Rattle.std.specs.String.{string_bytes};
-ghost use Rattle.oc_top.specs.Commands.{are_files as files_named, command_of, drill_with, is_file, run_with, supply_of, turns_of, with_one, with_three};
+ghost use Rattle.oc_top.specs.Commands.{are_files as files_named, command_of, drill_with, is_file, run_with, supply_of, turns_of, with_one, with_three, with_two};
 
 use oc_rows::number::read_number;
 
@@ -27,8 +27,20 @@ pub enum Command {
     Build {
         first: usize,
     },
+    /// To write the bytes of a source's image.
+    Image {
+        first: usize,
+    },
     /// To judge the blocks of a source.
     Check {
+        first: usize,
+    },
+    /// To run an image with the supply of the number 0; its files are image, sensors and power.
+    Exec {
+        first: usize,
+    },
+    /// To audit a report for a source; its files are source and report.
+    Audit {
         first: usize,
     },
 }
@@ -112,6 +124,19 @@ fn read_one(word: &str, other: &str) -> Option<Command>
     }
 }
 
+/// The command of one word and two others.
+fn read_two(word: &str, second: &str, third: &str) -> Option<Command>
+    ensures { result ≡ with_two word.now second.now third.now }
+{
+    if word == "audit" && names_file(second) && names_file(third) {
+        Some(Command::Audit { first: 1 })
+    } else if word == "build" && second == "--image" && names_file(third) {
+        Some(Command::Image { first: 2 })
+    } else {
+        None
+    }
+}
+
 /// The command of a word and three files.
 fn read_three(word: &str) -> Option<Command>
     ensures { result ≡ with_three word.now }
@@ -122,6 +147,8 @@ fn read_three(word: &str) -> Option<Command>
             first: 1,
             metered: false,
         })
+    } else if word == "exec" {
+        Some(Command::Exec { first: 1 })
     } else {
         None
     }
@@ -138,13 +165,15 @@ fn are_files(source: &String, sensors: &String, power: &String) -> bool
 
 /// The command of a line of words: `run SOURCE SENSORS POWER`, behind whose `run` may stand
 /// `--supply K`, where K has 1 to 3 digits and is at most 255, and then `--meters`;
-/// `regions SOURCE`, `build SOURCE`, `check SOURCE` or `drill N`, where N has 1 to 4 digits and is from 1 to 1000.
-/// A word for a file isn't empty and doesn't begin with `-`.
+/// `regions SOURCE`, `build SOURCE`, `build --image SOURCE`, `exec IMAGE SENSORS POWER`,
+/// `check SOURCE`, `audit SOURCE REPORT`, or `drill N`, where N has 1 to 4 digits and is from 1 to
+/// 1000. A word for a file isn't empty and doesn't begin with `-`.
 pub fn read_command(words: &[String]) -> Option<Command>
     ensures { result ≡ command_of (map string_bytes words.now) }
 {
     match words {
         [word, other] => read_one(word.as_str(), other.as_str()),
+        [word, second, third] => read_two(word.as_str(), second.as_str(), third.as_str()),
         [word, source, sensors, power] => {
             if are_files(source, sensors, power) {
                 read_three(word.as_str())

@@ -79,8 +79,9 @@ fn measure(alloc: Global, files: &Fetched, supply: &mut dyn Supply) -> Result<Me
 /// status and how many lines and bytes it would write.
 fn drill<O: Sink>(alloc: Global, turns: u32, supply: &mut dyn Supply, out: &mut O) -> Answer
     requires { turns ≤ 1000 }
-    ensures { IsDrilled turns (plan supply.old)
+    ensures drilled { IsDrilled turns (plan supply.old)
         (writes O.took O.held O.faults out.old out.new) result }
+    ensures count { O.faults out.old ≤ O.faults out.new }
 {
     let Ok(files) = make_files(alloc, turns) else {
         return Answer::Memory;
@@ -102,8 +103,9 @@ fn drill_with<O: Sink>(
     out: &mut O,
 ) -> Answer
     requires { turns ≤ 1000 }
-    ensures { IsDrilled turns (plan supply) (writes O.took O.held O.faults out.old out.new)
+    ensures drilled { IsDrilled turns (plan supply) (writes O.took O.held O.faults out.old out.new)
         result }
+    ensures count { O.faults out.old ≤ O.faults out.new }
 {
     drill(alloc, turns, &mut *supply, out)
 }
@@ -116,9 +118,10 @@ pub fn drill_by<O: Sink>(
     out: &mut O,
 ) -> Answer
     requires { turns ≤ 1000 }
-    ensures { IsDrilledWith turns
+    ensures drilled { IsDrilledWith turns
         (option_map (λ b. plan b) (first_with (λ b. number b) 0 supplies.items))
         (writes O.took O.held O.faults out.old out.new) result }
+    ensures count { O.faults out.old ≤ O.faults out.new }
 {
     match choose(supplies, 0) {
         Some(supply) => drill_with(alloc, turns, supply, out),

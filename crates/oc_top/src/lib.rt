@@ -1,22 +1,27 @@
 //! The program, over a shelf, two sinks and supplies of power.
 //!
 //! [`top::ocelot`] does what a line of words asks for and answers its status, and [`standard`] calls
-//! it with the program's own supplies. [`command`] reads the
-//! words, [`files`] fetches, [`build`] goes from a source to its marked program and its image,
-//! [`prepare`] has the steps before the first byte of a report is written, and [`report`] writes it;
-//! [`metered`] tells it to meters, and [`drill`] runs files that it makes itself.
-//! [`print`] writes the other texts of a program, [`regions`] that of its regions with the help of
-//! [`names`]. [`check`] judges hand-written blocks, and [`gap`] writes what they leave open.
-//! [`answer`] has the answers with their lines.
+//! it with the program's own supplies. [`command`] reads the words, [`files`] fetches, [`build`] goes
+//! from a source to its marked program and its image, [`prepare`] has the steps before the first
+//! byte of a report is written, and [`report`] writes it; [`metered`] tells it to meters, [`drill`]
+//! runs files that it makes itself, and [`exec`] images.
+//! [`print`] writes the other texts of a program, [`image`] the bytes of its image, and [`regions`]
+//! the text of its regions with the help of [`names`]. [`check`] judges hand-written blocks, and
+//! [`gap`] writes what they leave open; [`audit`] says whether a report is honest, and [`laws`] that
+//! those of runs are. [`answer`] has the answers with their lines.
 #![tactic(auto)]
 
 pub mod answer;
+pub mod audit;
 pub mod build;
 pub mod check;
 pub mod command;
 pub mod drill;
+pub mod exec;
 pub mod files;
 pub mod gap;
+pub mod image;
+pub mod laws;
 pub mod metered;
 mod names;
 pub mod prepare;

@@ -1,11 +1,12 @@
 //! Runs that meters are told of.
-ghost use Rattle.std.specs.Prelude.{◌≡◌, [], false, None, Some};
+ghost use Rattle.std.specs.Prelude.{◌≡◌, ◌≤◌, [], false, None, Some};
 ghost use Rattle.oc_io.specs.Faults.{Rose};
 ghost use Rattle.oc_tree.specs.Names.{names_view};
+ghost use Rattle.oc_apart.specs.Apart.{HasNamesApart};
 ghost use Rattle.oc_meters.specs.Reads.{page};
 ghost use Rattle.oc_meters.specs.Tally.{readings};
 ghost use Rattle.oc_top.specs.Answers.{IsWritten, told_by, writes};
-ghost use Rattle.oc_top.specs.Meters.{IsRead, IsReported, told_of};
+ghost use Rattle.oc_top.specs.Meters.{AreItems, IsRead, IsReported, told_of};
 ghost use Rattle.oc_top.specs.Steps.{CanRun};
 ghost use Rattle.oc_top.specs.Verdict.{runs};
 
@@ -14,6 +15,7 @@ use crate::prepare::Prepared;
 use crate::report::report;
 use oc_io::sink::Sink;
 use oc_meters::book::Book;
+use oc_meters::laws::report_is_read;
 use oc_meters::meter::Meter;
 use oc_meters::sink::MeterSink;
 use oc_power::supply::Supply;
@@ -44,6 +46,9 @@ fn report_round<O: Sink, M: Meter>(
         (page M.kind_of M.numbers sink.old.book.now.line.bytes sink.old.book.now.meters.items)
         (runs prepared.machine.parts prepared.sensors.rows (left supply.old)).text
         (page M.kind_of M.numbers sink.new.book.now.line.bytes sink.new.book.now.meters.items) }
+    ensures items { (result ≡ Answer.WriteFault → ⊥) → AreItems prepared.machine.parts.names
+        (runs prepared.machine.parts prepared.sensors.rows (left supply.old)).items }
+    ensures count { O.faults sink.old.inner.now ≤ O.faults sink.new.inner.now }
 {
     report(prepared, supply, sink)
 }
@@ -63,6 +68,9 @@ fn report_booked<O: Sink, M: Meter>(
         (page M.kind_of M.numbers book.old.line.bytes book.old.meters.items)
         (runs prepared.machine.parts prepared.sensors.rows (left supply.old)).text
         (page M.kind_of M.numbers book.new.line.bytes book.new.meters.items) }
+    ensures items { (result ≡ Answer.WriteFault → ⊥) → AreItems prepared.machine.parts.names
+        (runs prepared.machine.parts prepared.sensors.rows (left supply.old)).items }
+    ensures count { O.faults out.old ≤ O.faults out.new }
 {
     let mut sink = MeterSink::new(out, book);
     report_round(prepared, supply, &mut sink)
@@ -97,12 +105,14 @@ fn report_metered<O: Sink, M: Meter>(
     out: &mut O,
     meters: Vec<M>,
 ) -> Outcome<M>
-    requires { CanRun prepared.machine prepared.sensors (left supply.old) }
-    ensures { IsReported
+    requires can { CanRun prepared.machine prepared.sensors (left supply.old) }
+    requires names { HasNamesApart prepared.machine.parts.names }
+    ensures reported { IsReported
         (runs prepared.machine.parts prepared.sensors.rows (left supply.old))
         (Some (readings M.kind_of M.numbers meters.items))
         (writes O.took O.held O.faults out.old out.new)
         (told_by (told_of M.kind_of M.numbers result.meters)) result.answer }
+    ensures count { O.faults out.old ≤ O.faults out.new }
 {
     let Ok(names) = prepared.machine.image().raw().names.try_clone(alloc) else {
         return Outcome {
@@ -116,6 +126,7 @@ fn report_metered<O: Sink, M: Meter>(
             meters: None,
         };
     };
+    report_is_read();
     let answer = report_booked(prepared, supply, out, &mut book);
     kept_for(answer, book)
 }
@@ -128,12 +139,14 @@ pub fn report_for<O: Sink, M: Meter>(
     out: &mut O,
     meters: Option<Vec<M>>,
 ) -> Outcome<M>
-    requires { CanRun prepared.machine prepared.sensors (left supply.old) }
-    ensures { IsReported
+    requires can { CanRun prepared.machine prepared.sensors (left supply.old) }
+    requires names { HasNamesApart prepared.machine.parts.names }
+    ensures reported { IsReported
         (runs prepared.machine.parts prepared.sensors.rows (left supply.old))
         (told_of M.kind_of M.numbers meters)
         (writes O.took O.held O.faults out.old out.new)
         (told_by (told_of M.kind_of M.numbers result.meters)) result.answer }
+    ensures count { O.faults out.old ≤ O.faults out.new }
 {
     match meters {
         Some(meters) => report_metered(alloc, prepared, supply, out, meters),

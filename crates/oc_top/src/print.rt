@@ -52,8 +52,9 @@ fn tell(alloc: Global, source: &[u8]) -> Result<Told, Answer>
 fn put_told<O: Sink>(told: &Told, out: &mut O) -> Answer
     requires budgets { budgets_view told.now.budgets ≡ budgets_of told.now.marked }
     requires details { HasDetails told.now.marked told.now.details }
-    ensures { IsWritten (writes O.took O.held O.faults out.old out.new)
+    ensures written { IsWritten (writes O.took O.held O.faults out.old out.new)
         (prints (regions_text told.now.marked (budgets_of told.now.marked))) result }
+    ensures count { O.faults out.old ≤ O.faults out.new }
 {
     match put_regions(&told.marked, &told.budgets, &told.details, out) {
         Ok(()) => flushed(Answer::End, out),
@@ -61,10 +62,23 @@ fn put_told<O: Sink>(told: &Told, out: &mut O) -> Answer
     }
 }
 
+/// Writes a text.
+pub fn put_text<O: Sink>(text: &[u8], out: &mut O) -> Answer
+    ensures written { IsWritten (writes O.took O.held O.faults out.old out.new) (prints text.now)
+        result }
+    ensures count { O.faults out.old ≤ O.faults out.new }
+{
+    match out.put(text) {
+        Ok(()) => flushed(Answer::End, out),
+        Err(_) => Answer::WriteFault,
+    }
+}
+
 /// Writes the listing of an image.
 fn put_listing<O: Sink>(image: &Image, out: &mut O) -> Answer
-    ensures { IsWritten (writes O.took O.held O.faults out.old out.new)
+    ensures written { IsWritten (writes O.took O.held O.faults out.old out.new)
         (prints (listing_text image.now)) result }
+    ensures count { O.faults out.old ≤ O.faults out.new }
 {
     match listing(image, out) {
         Ok(()) => flushed(Answer::End, out),
@@ -75,8 +89,9 @@ fn put_listing<O: Sink>(image: &Image, out: &mut O) -> Answer
 /// Writes the regions of the program that a source spells, or answers why there is none.
 pub fn print_regions<O: Sink>(alloc: Global, source: &[u8], out: &mut O) -> Answer
     requires { length source.now ≤ 1048576 }
-    ensures { IsPrinted source.now regions_of (writes O.took O.held O.faults out.old out.new)
-        result }
+    ensures printed { IsPrinted source.now regions_of
+        (writes O.took O.held O.faults out.old out.new) result }
+    ensures count { O.faults out.old ≤ O.faults out.new }
 {
     match tell(alloc, source) {
         Ok(told) => put_told(&told, out),
@@ -88,8 +103,9 @@ pub fn print_regions<O: Sink>(alloc: Global, source: &[u8], out: &mut O) -> Answ
 /// none.
 pub fn print_listing<O: Sink>(alloc: Global, source: &[u8], out: &mut O) -> Answer
     requires { length source.now ≤ 1048576 }
-    ensures { IsPrinted source.now listing_of (writes O.took O.held O.faults out.old out.new)
-        result }
+    ensures printed { IsPrinted source.now listing_of
+        (writes O.took O.held O.faults out.old out.new) result }
+    ensures count { O.faults out.old ≤ O.faults out.new }
 {
     match build(alloc, source) {
         Ok(image) => put_listing(&image, out),

@@ -4,6 +4,7 @@ ghost use Rattle.oc_io.specs.Faults.{Rose, TookPart};
 ghost use Rattle.oc_isa.specs.Image.{IsWellMade, parts_of};
 ghost use Rattle.oc_items.specs.Text.{nv_lines};
 ghost use Rattle.oc_top.specs.Answers.{IsWritten, writes};
+ghost use Rattle.oc_top.specs.Meters.{AreItems};
 ghost use Rattle.oc_top.specs.Steps.{CanRun};
 ghost use Rattle.oc_top.specs.Verdict.{runs, says};
 
@@ -69,8 +70,11 @@ fn finished<O: Sink>(answer: Answer, machine: &Machine, out: &mut O) -> Answer
 /// Runs a newly loaded machine over the periods that the supply tells, and writes the report.
 pub fn report<O: Sink>(prepared: Prepared, supply: &mut dyn Supply, out: &mut O) -> Answer
     requires { CanRun prepared.machine prepared.sensors (left supply.old) }
-    ensures { IsWritten (writes O.took O.held O.faults out.old out.new)
+    ensures written { IsWritten (writes O.took O.held O.faults out.old out.new)
         (runs prepared.machine.parts prepared.sensors.rows (left supply.old)) result }
+    ensures items { (result ≡ Answer.WriteFault → ⊥) → AreItems prepared.machine.parts.names
+        (runs prepared.machine.parts prepared.sensors.rows (left supply.old)).items }
+    ensures count { O.faults out.old ≤ O.faults out.new }
 {
     let Prepared {
         mut machine,

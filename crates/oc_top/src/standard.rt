@@ -1,5 +1,5 @@
 //! The program's own supplies and meters.
-ghost use Rattle.std.specs.Prelude.{◌≡◌, [], ◌∷◌, map, IfOk, OnErr};
+ghost use Rattle.std.specs.Prelude.{◌≡◌, ◌≤◌, [], ◌∷◌, map, IfOk, OnErr};
 ghost use Rattle.std.specs.String.{string_bytes};
 ghost use Rattle.oc_power.specs.Cutting.{cut_rows};
 ghost use Rattle.oc_power.specs.Looping.{looped};
@@ -61,6 +61,8 @@ fn ocelot_with_boxes<F: Shelf, O: Sink, E: Sink>(
         (writes O.took O.held O.faults out.old out.new))
         (writes E.took E.held E.faults err.old err.new) status) }
     ensures stays { ShelfStays F.holds F.faults shelf.old shelf.new }
+    ensures out { O.faults out.old ≤ O.faults out.new }
+    ensures err { E.faults err.old ≤ E.faults err.new }
     ensures nothing { OnErr result
         ((shelf.new ≡ shelf.old) × (out.new ≡ out.old) × (err.new ≡ err.old)) }
 {
@@ -92,6 +94,8 @@ pub fn ocelot_with_standard<F: Shelf, O: Sink, E: Sink>(
         (writes O.took O.held O.faults out.old out.new))
         (writes E.took E.held E.faults err.old err.new) status) }
     ensures stays { ShelfStays F.holds F.faults shelf.old shelf.new }
+    ensures out { O.faults out.old ≤ O.faults out.new }
+    ensures err { E.faults err.old ≤ E.faults err.new }
     ensures nothing { OnErr result
         ((shelf.new ≡ shelf.old) × (out.new ≡ out.old) × (err.new ≡ err.old)) }
 {

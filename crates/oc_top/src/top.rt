@@ -1,8 +1,8 @@
 //! The top call.
-ghost use Rattle.std.specs.Prelude.{◌≡◌, ◌+◌, ◌<◌, [], map, length, Some, if◌then◌else◌};
+ghost use Rattle.std.specs.Prelude.{◌≡◌, ◌≤◌, ◌+◌, ◌<◌, [], map, length, Some, if◌then◌else◌};
 ghost use Rattle.std.specs.String.{string_bytes};
 ghost use Rattle.oc_meters.specs.Tally.{readings};
-ghost use Rattle.oc_top.specs.Commands.{checking as to_check, command_of, listing as to_list, plans_of, regions as to_tell_regions, report as to_report, task_for, task_of};
+ghost use Rattle.oc_top.specs.Commands.{auditing as to_audit, checking as to_check, command_of, imaging as to_image, listing as to_list, plans_of, regions as to_tell_regions, report as to_report, task_for, task_of};
 ghost use Rattle.oc_top.specs.declared.command.Command.TheVariants as commands;
 ghost use Rattle.oc_top.specs.Files.{ShelfStays, fetches};
 ghost use Rattle.oc_top.specs.Answers.{Comes, call_of, told_by, writes};
@@ -10,13 +10,17 @@ ghost use Rattle.oc_top.specs.Meters.{told_of};
 ghost use Rattle.oc_top.specs.Works.{Works};
 
 use crate::answer::{Answer, put_lines, status};
+use crate::audit::audit_report;
 use crate::check::check_source;
 use crate::command::{Command, read_command};
 use crate::drill::drill_by;
-use crate::files::{SOURCE_LIMIT, fetch_files, fetch_source};
+use crate::exec::exec_by;
+use crate::files::{SOURCE_LIMIT, fetch_audited, fetch_files, fetch_source};
+use crate::image::print_image;
 use crate::metered::{Outcome, report_for};
 use crate::prepare::prepare;
 use crate::print::{print_listing, print_regions};
+use oc_apart::laws::names_are_apart;
 use oc_io::shelf::Shelf;
 use oc_io::sink::Sink;
 use oc_meters::meter::Meter;
@@ -53,11 +57,13 @@ fn run<F: Shelf, O: Sink, M: Meter>(
         (writes O.took O.held O.faults out.old out.new))
         (told_by (told_of M.kind_of M.numbers result.meters)) result.answer }
     ensures stays { ShelfStays F.holds F.faults shelf.old shelf.new }
+    ensures count { O.faults out.old ≤ O.faults out.new }
 {
     let files = match fetch_files(alloc, words, first, SOURCE_LIMIT, shelf) {
         Ok(files) => files,
         Err(answer) => return alone(answer),
     };
+    names_are_apart();
     match prepare(alloc, &files, supply) {
         Ok(prepared) => report_for(alloc, prepared, supply, out, meters),
         Err(answer) => alone(answer),
@@ -83,6 +89,7 @@ fn run_with<F: Shelf, O: Sink, M: Meter>(
         (writes O.took O.held O.faults out.old out.new))
         (told_by (told_of M.kind_of M.numbers result.meters)) result.answer }
     ensures stays { ShelfStays F.holds F.faults shelf.old shelf.new }
+    ensures count { O.faults out.old ≤ O.faults out.new }
 {
     run(alloc, words, first, shelf, out, &mut *supply, meters)
 }
@@ -108,6 +115,7 @@ fn run_by<F: Shelf, O: Sink, M: Meter>(
         (writes O.took O.held O.faults out.old out.new))
         (told_by (told_of M.kind_of M.numbers result.meters)) result.answer }
     ensures stays { ShelfStays F.holds F.faults shelf.old shelf.new }
+    ensures count { O.faults out.old ≤ O.faults out.new }
 {
     let meters = wanted_meters(metered, meters);
     match choose(supplies, supply) {
@@ -138,6 +146,7 @@ fn regions<F: Shelf, O: Sink>(
         (fetches F.holds F.asked F.faults shelf.old shelf.new)
         (writes O.took O.held O.faults out.old out.new)) [] result }
     ensures stays { ShelfStays F.holds F.faults shelf.old shelf.new }
+    ensures count { O.faults out.old ≤ O.faults out.new }
 {
     match fetch_source(alloc, words, first, shelf) {
         Ok(source) => print_regions(alloc, &source, out),
@@ -159,9 +168,32 @@ fn build<F: Shelf, O: Sink>(
         (fetches F.holds F.asked F.faults shelf.old shelf.new)
         (writes O.took O.held O.faults out.old out.new)) [] result }
     ensures stays { ShelfStays F.holds F.faults shelf.old shelf.new }
+    ensures count { O.faults out.old ≤ O.faults out.new }
 {
     match fetch_source(alloc, words, first, shelf) {
         Ok(source) => print_listing(alloc, &source, out),
+        Err(answer) => answer,
+    }
+}
+
+/// Writes the bytes of the image of the source under the word at a place.
+fn image<F: Shelf, O: Sink>(
+    alloc: Global,
+    words: &[String],
+    first: usize,
+    shelf: &mut F,
+    out: &mut O,
+) -> Answer
+    requires { first < length words.now }
+    ensures comes { Comes (call_of (map string_bytes words.now)
+        (Some (record { first = first; wanted = to_image }))
+        (fetches F.holds F.asked F.faults shelf.old shelf.new)
+        (writes O.took O.held O.faults out.old out.new)) [] result }
+    ensures stays { ShelfStays F.holds F.faults shelf.old shelf.new }
+    ensures count { O.faults out.old ≤ O.faults out.new }
+{
+    match fetch_source(alloc, words, first, shelf) {
+        Ok(source) => print_image(alloc, &source, out),
         Err(answer) => answer,
     }
 }
@@ -180,6 +212,7 @@ fn check<F: Shelf, O: Sink>(
         (fetches F.holds F.asked F.faults shelf.old shelf.new)
         (writes O.took O.held O.faults out.old out.new)) [] result }
     ensures stays { ShelfStays F.holds F.faults shelf.old shelf.new }
+    ensures count { O.faults out.old ≤ O.faults out.new }
 {
     match fetch_source(alloc, words, first, shelf) {
         Ok(source) => check_source(alloc, &source, out),
@@ -187,7 +220,30 @@ fn check<F: Shelf, O: Sink>(
     }
 }
 
-/// Obeys a command. A run takes the first supply that has its number.
+/// Audits the report under the second word from a place, for the source under the first.
+fn audit<F: Shelf, O: Sink>(
+    alloc: Global,
+    words: &[String],
+    first: usize,
+    shelf: &mut F,
+    out: &mut O,
+) -> Answer
+    requires { first + 1 < length words.now }
+    ensures comes { Comes (call_of (map string_bytes words.now)
+        (Some (record { first = first; wanted = to_audit }))
+        (fetches F.holds F.asked F.faults shelf.old shelf.new)
+        (writes O.took O.held O.faults out.old out.new)) [] result }
+    ensures stays { ShelfStays F.holds F.faults shelf.old shelf.new }
+    ensures count { O.faults out.old ≤ O.faults out.new }
+{
+    match fetch_audited(alloc, words, first, shelf) {
+        Ok(files) => audit_report(alloc, &files.source, &files.report, out),
+        Err(answer) => answer,
+    }
+}
+
+/// Obeys a command. A run takes the first supply that has its number, and that of an image the first
+/// that has the number 0.
 fn obey<F: Shelf, O: Sink, M: Meter>(
     alloc: Global,
     words: &[String],
@@ -205,6 +261,7 @@ fn obey<F: Shelf, O: Sink, M: Meter>(
         (writes O.took O.held O.faults out.old out.new))
         (told_by (told_of M.kind_of M.numbers result.meters)) result.answer }
     ensures stays { ShelfStays F.holds F.faults shelf.old shelf.new }
+    ensures count { O.faults out.old ≤ O.faults out.new }
 {
     match command {
         Command::Run {
@@ -217,7 +274,10 @@ fn obey<F: Shelf, O: Sink, M: Meter>(
         Command::Drill { turns } => alone(drill_by(alloc, turns, supplies, out)),
         Command::Regions { first } => alone(regions(alloc, words, first, shelf, out)),
         Command::Build { first } => alone(build(alloc, words, first, shelf, out)),
+        Command::Image { first } => alone(image(alloc, words, first, shelf, out)),
         Command::Check { first } => alone(check(alloc, words, first, shelf, out)),
+        Command::Audit { first } => alone(audit(alloc, words, first, shelf, out)),
+        Command::Exec { first } => alone(exec_by(alloc, words, first, shelf, out, supplies)),
     }
 }
 
@@ -237,6 +297,7 @@ fn answer_words<F: Shelf, O: Sink, M: Meter>(
         (writes O.took O.held O.faults out.old out.new))
         (told_by (told_of M.kind_of M.numbers result.meters)) result.answer }
     ensures stays { ShelfStays F.holds F.faults shelf.old shelf.new }
+    ensures count { O.faults out.old ≤ O.faults out.new }
 {
     match read_command(words) {
         Some(command) => obey(alloc, words, command, shelf, out, supplies, meters),
@@ -261,6 +322,8 @@ fn ocelot_metered<F: Shelf, O: Sink, E: Sink, M: Meter>(
         (writes O.took O.held O.faults out.old out.new))
         (writes E.took E.held E.faults err.old err.new) result }
     ensures stays { ShelfStays F.holds F.faults shelf.old shelf.new }
+    ensures out { O.faults out.old ≤ O.faults out.new }
+    ensures err { E.faults err.old ≤ E.faults err.new }
 {
     let outcome = answer_words(alloc, words, shelf, out, supplies, meters);
     let status = status(&outcome.answer);
@@ -270,11 +333,11 @@ fn ocelot_metered<F: Shelf, O: Sink, E: Sink, M: Meter>(
 
 /// Does what a line of words asks for, and answers its status.
 ///
-/// It reads from the shelf, writes a report, the line of a drill, the regions of a program or a
-/// listing on `out` and a line on `err`. A run draws the periods of power from the first of the
-/// supplies that has the number asked for; where it is metered and its report is written whole,
-/// the meters are told the items of the report and write their lines on `err`. Files are fetched
-/// in the order of their words, and the first that is refused decides the status.
+/// It reads from the shelf, writes a report, the line of a drill, the regions of a program, a
+/// listing, an image or a verdict on `out` and a line on `err`. A run draws the periods of power
+/// from the first of the supplies that has the number asked for; where it is metered and its report
+/// is written whole, the meters are told the items of the report and write their lines on `err`.
+/// Files are fetched in the order of their words, and the first that is refused decides the status.
 pub fn ocelot<F: Shelf, O: Sink, E: Sink>(
     alloc: Global,
     words: &[String],
@@ -291,6 +354,8 @@ pub fn ocelot<F: Shelf, O: Sink, E: Sink>(
         (writes O.took O.held O.faults out.old out.new))
         (writes E.took E.held E.faults err.old err.new) result }
     ensures stays { ShelfStays F.holds F.faults shelf.old shelf.new }
+    ensures out { O.faults out.old ≤ O.faults out.new }
+    ensures err { E.faults err.old ≤ E.faults err.new }
 {
     ocelot_metered(alloc, words, shelf, out, err, supplies, meters)
 }

@@ -2,5 +2,5 @@ use Rattle.std.proofs.Common.{refl}
 use Rattle.oc_top.specs.Meters.{read}
 use Rattle.oc_top.proofs.metered.report_for.Goals as goal
 
-pub returns-in-None : goal.returns-in-None
-returns-in-None g c = rw c.in-None.is (read c.report.ensures (λ apart calm. refl) (λ e. refl))
+pub returns-in-None-clause-reported : goal.returns-in-None-clause-reported
+returns-in-None-clause-reported g c = rw c.in-None.is (read c.report.ensures.written (λ apart calm. refl) (λ e. refl))

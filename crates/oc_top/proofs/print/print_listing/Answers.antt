@@ -1,6 +1,7 @@
+use Rattle.oc_isa.specs.Listing.{listing_text}
 use Rattle.oc_top.specs.Answers.{writes}
-use Rattle.oc_top.proofs.Printing.{listing_printed}
+use Rattle.oc_top.proofs.Printing.{code_printed}
 use Rattle.oc_top.proofs.print.print_listing.Goals as goal
 
-pub returns-in-Ok : goal.returns-in-Ok
-returns-in-Ok g c = listing_printed (writes g.O.Sink.took g.O.Sink.held g.O.Sink.faults _ _) _ _ c.in-Ok.image c.in-Ok.ensures.built c.put_listing.ensures
+pub returns-in-Ok-clause-printed : goal.returns-in-Ok-clause-printed
+returns-in-Ok-clause-printed g c = code_printed (writes g.O.Sink.took g.O.Sink.held g.O.Sink.faults _ _) _ _ listing_text c.in-Ok.image c.in-Ok.ensures.built c.put_listing.ensures.written

@@ -2,34 +2,49 @@ use Rattle.std.proofs.Common.{refl}
 use Rattle.oc_top.proofs.Stopping.{ended_written, trapped_written, dark_written, cut_written, part_written}
 use Rattle.oc_top.proofs.report.report.Goals as goal
 
-pub returns-in-End : goal.returns-in-End
-returns-in-End g c =
+pub returns-in-End-clause-written : goal.returns-in-End-clause-written
+returns-in-End-clause-written g c =
     let machine = c.args.prepared.machine in let at = c.args.supply.now in
     let written = rw (c.in-End.ensures.answers.kept) at c.finished.ensures.written in
     ended_written g.O.Sink.took g.O.Sink.held g.O.Sink.faults g.met.O.Sink.took_both machine.parts c.args.prepared.sensors.rows ((goal.Supply-dyn g at).left at.1) _ _ _ _ _
     c.in-End.ensures.answers.how c.run.ensures.count c.in-End.ensures.answers.text written
 
-pub returns-in-Trap : goal.returns-in-Trap
-returns-in-Trap g c =
+pub returns-in-Trap-clause-written : goal.returns-in-Trap-clause-written
+returns-in-Trap-clause-written g c =
     let machine = c.args.prepared.machine in let at = c.args.supply.now in
     let written = rw (c.in-Trap.ensures.answers.kept) at c.finished-in-Trap.ensures.written in
     trapped_written g.O.Sink.took g.O.Sink.held g.O.Sink.faults g.met.O.Sink.took_both machine.parts c.args.prepared.sensors.rows ((goal.Supply-dyn g at).left at.1) _ _ _ _ _ _ _
     c.in-Trap.ensures.answers.how c.run.ensures.count c.in-Trap.ensures.answers.text written
 
-pub returns-in-Dark : goal.returns-in-Dark
-returns-in-Dark g c =
+pub returns-in-Dark-clause-written : goal.returns-in-Dark-clause-written
+returns-in-Dark-clause-written g c =
     let machine = c.args.prepared.machine in let at = c.args.supply.now in
     dark_written g.O.Sink.took g.O.Sink.held g.O.Sink.faults g.met.O.Sink.took_both machine.parts c.args.prepared.sensors.rows ((goal.Supply-dyn g at).left at.1) _ _ _ _ _
     c.in-Dark.ensures.answers.how c.run.ensures.count c.in-Dark.ensures.answers.text c.flushed.ensures.nothing c.flushed.ensures.stays
 
-pub returns-in-Cut : goal.returns-in-Cut
-returns-in-Cut g c =
+pub returns-in-Cut-clause-written : goal.returns-in-Cut-clause-written
+returns-in-Cut-clause-written g c =
     let machine = c.args.prepared.machine in let at = c.args.supply.now in
     cut_written g.O.Sink.took g.O.Sink.held g.O.Sink.faults g.met.O.Sink.took_both machine.parts c.args.prepared.sensors.rows ((goal.Supply-dyn g at).left at.1) _ _ _ _ _ _
     c.in-Cut.ensures.answers.how c.run.ensures.count c.in-Cut.ensures.answers.text c.flushed-in-Cut.ensures.nothing c.flushed-in-Cut.ensures.stays
 
-pub returns : goal.returns
-returns g c =
+pub returns-clause-written : goal.returns-clause-written
+returns-clause-written g c =
     let machine = c.args.prepared.machine in let at = c.args.supply.now in
     part_written g.O.Sink.took g.O.Sink.held g.O.Sink.faults g.met.O.Sink.took_both machine.parts c.args.prepared.sensors.rows ((goal.Supply-dyn g at).left at.1) _ _ _ refl
     c.in-WriteFault.ensures.answers.cause c.in-WriteFault.ensures.answers.part
+
+pub returns-in-End-clause-items : goal.returns-in-End-clause-items
+returns-in-End-clause-items g c = λ whole. record { each = c.in-End.ensures.answers.items; places = c.in-End.ensures.answers.places }
+
+pub returns-in-Trap-clause-items : goal.returns-in-Trap-clause-items
+returns-in-Trap-clause-items g c = λ whole. record { each = c.in-Trap.ensures.answers.items; places = c.in-Trap.ensures.answers.places }
+
+pub returns-in-Dark-clause-items : goal.returns-in-Dark-clause-items
+returns-in-Dark-clause-items g c = λ whole. record { each = c.in-Dark.ensures.answers.items; places = c.in-Dark.ensures.answers.places }
+
+pub returns-in-Cut-clause-items : goal.returns-in-Cut-clause-items
+returns-in-Cut-clause-items g c = λ whole. record { each = c.in-Cut.ensures.answers.items; places = c.in-Cut.ensures.answers.places }
+
+pub returns-clause-items : goal.returns-clause-items
+returns-clause-items g c = λ whole. absurd (whole refl)

@@ -26,6 +26,14 @@ returns-in-Build-clause-comes g c =
     (task_is c.args.supplies.items (λ b. (goal.Supply-dyn g (b.vtable, b.value)).number b.value) (λ b. (goal.Supply-dyn g (b.vtable, b.value)).plan b.value) (readings g.M.Meter.kind_of g.M.Meter.numbers c.args.meters.items) words _
     (c.requires ∙ ap Some c.in-Build.is)) c.build.ensures.comes)
 
+pub returns-in-Image-clause-comes : goal.returns-in-Image-clause-comes
+returns-in-Image-clause-comes g c =
+    let words = map string_bytes c.args.words.now in
+    comes_alone _ _ _ _ c.alone-in-Image.ensures.untold c.alone-in-Image.ensures.answer
+    (comes_for words _ _ (fetches g.F.Shelf.holds g.F.Shelf.asked g.F.Shelf.faults _ _) (writes g.O.Sink.took g.O.Sink.held g.O.Sink.faults _ _) [] _
+    (task_is c.args.supplies.items (λ b. (goal.Supply-dyn g (b.vtable, b.value)).number b.value) (λ b. (goal.Supply-dyn g (b.vtable, b.value)).plan b.value) (readings g.M.Meter.kind_of g.M.Meter.numbers c.args.meters.items) words _
+    (c.requires ∙ ap Some c.in-Image.is)) c.image.ensures.comes)
+
 pub returns-in-Check-clause-comes : goal.returns-in-Check-clause-comes
 returns-in-Check-clause-comes g c =
     let words = map string_bytes c.args.words.now in
@@ -33,6 +41,14 @@ returns-in-Check-clause-comes g c =
     (comes_for words _ _ (fetches g.F.Shelf.holds g.F.Shelf.asked g.F.Shelf.faults _ _) (writes g.O.Sink.took g.O.Sink.held g.O.Sink.faults _ _) [] _
     (task_is c.args.supplies.items (λ b. (goal.Supply-dyn g (b.vtable, b.value)).number b.value) (λ b. (goal.Supply-dyn g (b.vtable, b.value)).plan b.value) (readings g.M.Meter.kind_of g.M.Meter.numbers c.args.meters.items) words _
     (c.requires ∙ ap Some c.in-Check.is)) c.check.ensures.comes)
+
+pub returns-in-Audit-clause-comes : goal.returns-in-Audit-clause-comes
+returns-in-Audit-clause-comes g c =
+    let words = map string_bytes c.args.words.now in
+    comes_alone _ _ _ _ c.alone-in-Audit.ensures.untold c.alone-in-Audit.ensures.answer
+    (comes_for words _ _ (fetches g.F.Shelf.holds g.F.Shelf.asked g.F.Shelf.faults _ _) (writes g.O.Sink.took g.O.Sink.held g.O.Sink.faults _ _) [] _
+    (task_is c.args.supplies.items (λ b. (goal.Supply-dyn g (b.vtable, b.value)).number b.value) (λ b. (goal.Supply-dyn g (b.vtable, b.value)).plan b.value) (readings g.M.Meter.kind_of g.M.Meter.numbers c.args.meters.items) words _
+    (c.requires ∙ ap Some c.in-Audit.is)) c.audit.ensures.comes)
 
 pub drill_by-requires : goal.drill_by-requires
 drill_by-requires g c = commands_fit (map string_bytes c.args.words.now) _ (c.requires ∙ ap Some c.in-Drill.is)
@@ -43,7 +59,7 @@ returns-in-Drill-clause-comes g c =
     comes_alone _ _ _ _ c.alone.ensures.untold c.alone.ensures.answer
     (drill_comes (call_of words _ (fetches g.F.Shelf.holds g.F.Shelf.asked g.F.Shelf.faults _ _) (writes g.O.Sink.took g.O.Sink.held g.O.Sink.faults _ _)) _ _
     (sym (task_is c.args.supplies.items (λ b. (goal.Supply-dyn g (b.vtable, b.value)).number b.value) (λ b. (goal.Supply-dyn g (b.vtable, b.value)).plan b.value) (readings g.M.Meter.kind_of g.M.Meter.numbers c.args.meters.items) words _
-    (c.requires ∙ ap Some c.in-Drill.is))) (g.met.F.Shelf.asked_nothing _) _ c.drill_by.ensures)
+    (c.requires ∙ ap Some c.in-Drill.is))) (g.met.F.Shelf.asked_nothing _) _ c.drill_by.ensures.drilled)
 
 pub regions-requires : goal.regions-requires
 regions-requires g c = omega (arith, commands_fit (map string_bytes c.args.words.now) _ (c.requires ∙ ap Some c.in-Regions.is), length-map c.args.words.now string_bytes)
@@ -51,5 +67,15 @@ regions-requires g c = omega (arith, commands_fit (map string_bytes c.args.words
 pub build-requires : goal.build-requires
 build-requires g c = omega (arith, commands_fit (map string_bytes c.args.words.now) _ (c.requires ∙ ap Some c.in-Build.is), length-map c.args.words.now string_bytes)
 
+pub image-requires : goal.image-requires
+image-requires g c = omega (arith, commands_fit (map string_bytes c.args.words.now) _ (c.requires ∙ ap Some c.in-Image.is), length-map c.args.words.now string_bytes)
+
 pub check-requires : goal.check-requires
 check-requires g c = omega (arith, commands_fit (map string_bytes c.args.words.now) _ (c.requires ∙ ap Some c.in-Check.is), length-map c.args.words.now string_bytes)
+
+pub audit-requires : goal.audit-requires
+audit-requires g c = omega (arith, commands_fit (map string_bytes c.args.words.now) _ (c.requires ∙ ap Some c.in-Audit.is), length-map c.args.words.now string_bytes)
+
+pub returns-in-Exec-clause-comes : goal.returns-in-Exec-clause-comes
+returns-in-Exec-clause-comes g c = comes_alone _ _ _ _ c.alone-in-Exec.ensures.untold c.alone-in-Exec.ensures.answer
+    (c.exec_by.ensures.comes (readings g.M.Meter.kind_of g.M.Meter.numbers c.args.meters.items))

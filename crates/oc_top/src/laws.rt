@@ -1,0 +1,11 @@
+//! Laws: a function does nothing, and its contract says the law.
+ghost use Rattle.oc_top.specs.Vouched.{RunsAreFoundHonest};
+
+use oc_audit::laws::honest_texts;
+
+/// Of the text of a run, an audit for its source finds that it is honest and nothing else.
+pub fn runs_are_found_honest()
+    ensures { RunsAreFoundHonest }
+{
+    honest_texts();
+}

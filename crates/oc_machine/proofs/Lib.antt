@@ -6,3 +6,4 @@ mod Quieting
 pub mod Reaching
 mod Rowing
 pub mod UnderWay
+mod Words

@@ -1,5 +1,6 @@
 //! The machine, and what it lends.
-ghost use Rattle.std.specs.Prelude.{◌≡◌, ◌≤◌, ◌<◌, ◌+◌, ◌^◌, ◌++◌, ℤ, replicate, vec_len, sum_by, IfOk, OnOk};
+ghost use Rattle.std.specs.Prelude.{◌≡◌, ◌≤◌, ◌<◌, ◌+◌, ◌^◌, ◌++◌, ℤ, All, replicate, vec_len, sum_by, IfOk, OnOk, FitsSigned};
+ghost use Rattle.std.specs.Int.{w32};
 ghost use Rattle.oc_isa.specs.Image as images;
 ghost use Rattle.oc_isa.specs.Image.{main_of, entry_of, frame_of};
 ghost use Rattle.oc_isa.specs.Table.{device_of};
@@ -80,7 +81,8 @@ fn find_main(functions: &[ImageFunction]) -> Start
 /// The values of the nonvolatile words at first.
 fn initial_words(alloc: Global, nv: &[ImageNv]) -> Result<Vec<i32>, Memory>
     requires { sum_by (λ v. v.words) nv.now ≤ 65536 }
-    ensures { IfOk result (λ words. words.items ≡ images.initial_words nv.now) }
+    ensures words { IfOk result (λ words. words.items ≡ images.initial_words nv.now) }
+    ensures fit { IfOk result (λ words. All (FitsSigned w32) words.items) }
 {
     let mut words = Vec::new(alloc);
     for variable in nv {
@@ -91,7 +93,9 @@ fn initial_words(alloc: Global, nv: &[ImageNv]) -> Result<Vec<i32>, Memory>
 
 fn append(words: &mut Vec<i32>, count: usize, word: i32) -> Result<(), Memory>
     requires { vec_len words.old + count < 2 ^ 62 }
-    ensures { OnOk result (words.new.items ≡ words.old.items ++ replicate count word) }
+    ensures words { OnOk result (words.new.items ≡ words.old.items ++ replicate count word) }
+    ensures fit { OnOk result
+        (All (FitsSigned w32) words.old.items → All (FitsSigned w32) words.new.items) }
 {
     match words.resize(words.len() + count, word) {
         Ok(()) => Ok(()),
@@ -148,7 +152,8 @@ impl Machine {
 
     /// The nonvolatile words.
     pub fn nv_words(&self) -> &[i32]
-        ensures { result.now ≡ self.now.state.nv }
+        ensures words { result.now ≡ self.now.state.nv }
+        ensures fit { All (FitsSigned w32) self.now.state.nv }
     {
         self.nvm.words()
     }

@@ -1,4 +1,4 @@
-use Rattle.std.proofs.Common.{◌≡◌, ◌≤◌, ◌<◌, ◌^◌, ◌+◌, ℤ, pos, ap, ◌∙◌, arith, length, replicate, rules}
+use Rattle.std.proofs.Common.{◌≡◌, ◌+◌, pos, ap, ◌∙◌, arith, length, replicate, rules}
 use Rattle.std.proofs.lemmas.List.{length-replicate}
 use Rattle.oc_ckpt.specs.Saving.{Held}
 use Rattle.oc_undo.specs.Undo.{Log}
@@ -26,6 +26,8 @@ invariant_of-result c =
       fp_low = search rules;
       room = search rules;
       nv_few = omega (arith, ap length words, count, made.few_words);
+      nv_fit = search rules;
+      old_fit = search rules;
       noted = log ∙ search rules;
       size = omega (arith, ap length area, length-replicate (3 + c.raw-raw.result.now.stack) (pos 0), stack);
       agrees = tt;

@@ -67,7 +67,8 @@ before_here test end a ps p e l t =
     let q : nat_lt a end ≡ true = grind (arith, l) in
     ap (some_before test end a) (dropped ps a p e) ∙ ap (λ b. b && (test p.instr || some_before test end (suc a) (drop (suc a) ps))) q ∙ ap (λ b. b || some_before test end (suc a) (drop (suc a) ps)) t
 
-pub before_next : (test : Instr → Bool) (end a : ℕ) (ps : List Placed) (p : Placed) → slice_get ps a ≡ Some p → a < end → test p.instr ≡ false → some_before test end a (drop a ps) ≡ some_before test end (suc a) (drop (suc a) ps)
+pub before_next : (test : Instr → Bool) (end a : ℕ) (ps : List Placed) (p : Placed) → slice_get ps a ≡ Some p → a < end → test p.instr ≡ false
+    → some_before test end a (drop a ps) ≡ some_before test end (suc a) (drop (suc a) ps)
 before_next test end a ps p e l t =
     let q : nat_lt a end ≡ true = grind (arith, l) in
     ap (some_before test end a) (dropped ps a p e) ∙ ap (λ b. b && (test p.instr || some_before test end (suc a) (drop (suc a) ps))) q ∙ ap (λ b. b || some_before test end (suc a) (drop (suc a) ps)) t
@@ -99,7 +100,8 @@ needs_tell params (t ∷ ts) = (λ j. need_one params t j && needs_tell params t
 end_small : (fs : List ImageFunction) (size f : ℕ) → list_all (λ g. nat_lt g.entry size) fs ≡ true → end_at fs size f ≤ size
 end_small [] size f h = omega arith
 end_small (g ∷ []) size zero h = omega arith
-end_small (g ∷ (k ∷ fs)) size zero h = (let t : nat_lt k.entry size ≡ true = both_left _ _ (both_right (nat_lt g.entry size) (list_all (λ g. nat_lt g.entry size) (k ∷ fs)) h) in let l : k.entry < size = grind (arith, t) in omega (arith, l))
+end_small (g ∷ (k ∷ fs)) size zero h = (let t : nat_lt k.entry size ≡ true = both_left _ _ (both_right (nat_lt g.entry size) (list_all (λ g. nat_lt g.entry size) (k ∷ fs)) h) in
+    let l : k.entry < size = grind (arith, t) in omega (arith, l))
 end_small (g ∷ fs) size (suc f) h = end_small fs size f (both_right (nat_lt g.entry size) (list_all (λ g. nat_lt g.entry size) fs) h)
 
 pub end_inside : (i : Parts) → laid_out i ≡ true → (f : ℕ) → end_at i.functions (length i.code) f ≤ length i.code
@@ -122,7 +124,8 @@ all_results i xs n e l h f = by (nat_lt f n) refl
     by true t = h f (grind (arith, t))
     by false t =
         let u : n ≤ f = grind (arith, t) in
-        no_result xs f (omega (arith, u, l)) ∙ sym (ap (on_function false (λ g. some_before is_retv (end_at i.functions (length i.code) f) g.entry (drop g.entry i.code))) (no_function i.functions f (omega (arith, u, e))))
+        no_result xs f (omega (arith, u, l)) ∙ sym (ap (on_function false (λ g. some_before is_retv (end_at i.functions (length i.code) f) g.entry (drop g.entry i.code)))
+        (no_function i.functions f (omega (arith, u, e))))
 
 -- a region, by what it needs
 

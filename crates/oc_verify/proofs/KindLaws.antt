@@ -1,5 +1,6 @@
 -- The kinds of parameters are right where all callers are done.
-use Rattle.std.proofs.Common.{◌≡◌, ℕ, zero, suc, ◌+◌, ◌<◌, ◌≤◌, List, [], ◌∷◌, length, take, drop, get_or, map, Option, Some, None, Ok, Err, refl, sym, ap, ◌∙◌, subst, ⊎_elim, inl, inr, arith, Bool, true, false, nat_eq, nat_le}
+use Rattle.std.proofs.Common.{◌≡◌, ℕ, zero, suc, ◌+◌, ◌<◌, ◌≤◌, List, [], ◌∷◌, length, take, drop, get_or, map, Option, Some, None, Ok, Err, refl, sym, ap, ◌∙◌, subst}
+use Rattle.std.proofs.Common.{⊎_elim, inl, inr, arith, Bool, true, false, nat_eq, nat_le}
 use Rattle.std.specs.Prelude.{◌⊎◌, ◌==◌, if◌then◌else◌, slice_get, replicate}
 use Rattle.std.proofs.lemmas.List.{take-append-drop, length-take-le}
 use Rattle.oc_tree.specs.Reach.{linked, leads}
@@ -55,10 +56,12 @@ call_deep i f ks tab W g a p s =
     let k = W.each a p (own_put i f tab a p s.placed s.found s.pair) in
     let z : Some k.placed ≡ Some s.placed = sym k.found ∙ s.found in
     let q : k.placed ≡ s.placed = (cc) in
-    let r : judge i (own_slots i f ks) (Call g) p.ops p.opens ≡ Ok k.after = ap (λ (x : Instr). judge i (own_slots i f ks) x p.ops p.opens) (sym (ap (λ (y : Placed). y.instr) q ∙ s.calls)) ∙ k.right in
+    let r : judge i (own_slots i f ks) (Call g) p.ops p.opens ≡ Ok k.after = ap (λ (x : Instr). judge i (own_slots i f ks) x p.ops p.opens) (sym (ap (λ (y : Placed). y.instr) q ∙ s.calls))
+    ∙ k.right in
     by_deep (nat_le (params_of i g) (length p.ops)) refl k.after r
   where
-    by_deep : (b : Bool) → nat_le (params_of i g) (length p.ops) ≡ b → (q : Pair) → ((if b then Ok (drop (params_of i g) p.ops) else Err 5) >>= λ rest. Ok (pair (result (gives i g) rest) p.opens)) ≡ Ok q → params_of i g ≤ length p.ops
+    by_deep : (b : Bool) → nat_le (params_of i g) (length p.ops) ≡ b → (q : Pair)
+        → ((if b then Ok (drop (params_of i g) p.ops) else Err 5) >>= λ rest. Ok (pair (result (gives i g) rest) p.opens)) ≡ Ok q → params_of i g ≤ length p.ops
     by_deep true e q f = grind (arith, e)
     by_deep false e q f = absurd (cc)
 
@@ -135,7 +138,8 @@ module _ (i : Parts) (laid : laid_out i ≡ true) (ranks : List ℕ) (R : IsRank
   pub is_called : (g : ℕ) → is_walked i ps g ≡ true → IsCalled i t g
   is_called g w = walked_called (suc (length i.functions)) g (omega arith) w
 
-  pub by_passed : (g : ℕ) (o : Option (Option (List ℕ))) → slice_get ps g ≡ o → (was_passed o ≡ false → codes_of i ps g ≡ replicate (params_of i g) 0) × ((cs : List ℕ) → o ≡ Some (Some cs) → codes_of i ps g ≡ cs)
+  pub by_passed : (g : ℕ) (o : Option (Option (List ℕ))) → slice_get ps g ≡ o
+      → (was_passed o ≡ false → codes_of i ps g ≡ replicate (params_of i g) 0) × ((cs : List ℕ) → o ≡ Some (Some cs) → codes_of i ps g ≡ cs)
   by_passed g None e = (λ w. ap (codes_by (params_of i g)) e, λ cs q. absurd (cc))
   by_passed g (Some None) e = (λ w. ap (codes_by (params_of i g)) e, λ cs q. absurd (cc))
   by_passed g (Some (Some ds)) e = (λ w. absurd (cc), λ cs q. ap (codes_by (params_of i g)) e ∙ (let z : ds ≡ cs = (cc) in z))

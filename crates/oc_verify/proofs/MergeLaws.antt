@@ -103,6 +103,18 @@ itself [] = tt
 itself (Number ∷ ks) = (tt, itself ks)
 itself (Place n ∷ ks) = (omega arith, itself ks)
 
+-- what suits a kind leaves it the least
+one_stays : (a k : Kind) → Suits a k → least k a ≡ Some k
+one_stays Number Number s = refl
+one_stays Number (Place m) s = absurd s
+one_stays (Place n) Number s = absurd s
+one_stays (Place n) (Place m) s = let e : min m n ≡ m = omega (arith, s) in ap (λ l. Some (Place l)) e
+
+pub all_stay : (args ks : List Kind) → SuitAll args ks → leasts ks args ≡ Some ks
+all_stay args [] s = refl
+all_stay [] (k ∷ ks) s = absurd s
+all_stay (a ∷ args) (k ∷ ks) s = (λ i. joined (one_stays a k s.0 i) (all_stay args ks s.1 i))
+
 pub next_call : (passed : List (List Kind)) (old new ks : List Kind) → length old ≡ length new → leasts old new ≡ Some ks → AreLeast passed old → AreLeast (new ∷ passed) ks
 next_call passed old new ks h e a =
     let s = suit_both old new ks h e in

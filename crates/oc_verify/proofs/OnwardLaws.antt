@@ -56,7 +56,11 @@ module _ (i : Parts) (ranks : List ℕ) (R : IsRanked i ranks) where
         grind (arith, low),
         ⊎_elim
             (λ e. inl (grind (arith, e)))
-            (λ e. inr (let x : nat_lt h f ≡ true = both_left (nat_lt h f) (get_or ranks h 0 + k == n) e in grind (arith, x), let y : (get_or ranks h 0 + k == n) ≡ true = both_right (nat_lt h f) (get_or ranks h 0 + k == n) e in grind (arith, y)))
+            (λ e. inr (
+              let x : nat_lt h f ≡ true = both_left (nat_lt h f) (get_or ranks h 0 + k == n) e in
+                  grind (arith, x),
+              let y : (get_or ranks h 0 + k == n) ≡ true = both_right (nat_lt h f) (get_or ranks h 0 + k == n) e in grind (arith, y),
+            ))
             (either (nat_lt n (get_or ranks h 0 + k)) (nat_lt h f && (get_or ranks h 0 + k == n)) (both_right (nat_lt h n) _ d)),
       )
 

@@ -1,5 +1,6 @@
 -- Numbers that fall along every call show that there is no circle; where they don't fall, there is one.
-use Rattle.std.proofs.Common.{◌≡◌, ℕ, zero, suc, ◌+◌, ◌<◌, ◌≤◌, List, [], ◌∷◌, ◌++◌, Option, Some, None, length, drop, get_or, append_assoc, nat_le, nat_lt, refl, sym, ap, ◌∙◌, subst, ⊎_elim, inl, inr, arith, Bool, true, false, nat_eq}
+use Rattle.std.proofs.Common.{◌≡◌, ℕ, zero, suc, ◌+◌, ◌<◌, ◌≤◌, List, [], ◌∷◌, ◌++◌, Option, Some, None, length, drop, get_or, append_assoc, nat_le, nat_lt, refl, sym}
+use Rattle.std.proofs.Common.{ap, ◌∙◌, subst, ⊎_elim, inl, inr, arith, Bool, true, false, nat_eq}
 use Rattle.std.specs.Prelude.{◌⊎◌, ◌&&◌, ◌||◌, if◌then◌else◌, slice_get}
 use Rattle.oc_tree.specs.Reach.{Links, linked, is_link, leads, reaches, count_below}
 use Rattle.oc_tree.proofs.ReachLaws.{links_lead, leads_trans, least, count_less}
@@ -50,7 +51,11 @@ pub link_of : (g : Links) (l : ℕ × ℕ) (u v : ℕ) → linked (g ++ l ∷ []
 link_of [] l u v e = inr (pair_of (either (is_link u v l) false e))
   where
     pair_of : (is_link u v l ≡ true) ⊎ (false ≡ true) → (l.0 ≡ u) × (l.1 ≡ v)
-    pair_of (inl x) = (let a : nat_eq l.0 u ≡ true = both_left (nat_eq l.0 u) (nat_eq l.1 v) x in grind (arith, a), let b : nat_eq l.1 v ≡ true = both_right (nat_eq l.0 u) (nat_eq l.1 v) x in grind (arith, b))
+    pair_of (inl x) = (
+      let a : nat_eq l.0 u ≡ true = both_left (nat_eq l.0 u) (nat_eq l.1 v) x in grind (arith, a),
+      let b : nat_eq l.1 v ≡ true = both_right (nat_eq l.0 u) (nat_eq l.1 v) x in
+          grind (arith, b),
+    )
     pair_of (inr x) = absurd (cc)
 link_of (k ∷ g) l u v e = ⊎_elim
     (λ q. inl (ap (λ b. b || linked g u v) q))
@@ -98,7 +103,8 @@ links_step f a fs (g ∷ gs) p ps e = by (nat_le g.entry a)
 
     by : (b : Bool) → (if b then link_from (suc f) p.instr ++ links_on (suc f) (suc a) gs ps else link_from f p.instr ++ links_on f (suc a) (g ∷ gs) ps)
         ≡ link_from (if b then suc f else f) p.instr ++ links_on (if b then suc f else f) (a + 1) (drop ((if b then suc f else f) + 1) fs) ps
-    by true = (let m : suc f + 1 ≡ (f + 1) + 1 = omega arith in let r : gs ≡ drop (suc f + 1) fs = sym (ap (λ k. drop k fs) m ∙ dropped fs gs (f + 1) g e) in (λ j. link_from (suc f) p.instr ++ links_on (suc f) (n j) (r j) ps))
+    by true = (let m : suc f + 1 ≡ (f + 1) + 1 = omega arith in let r : gs ≡ drop (suc f + 1) fs = sym (ap (λ k. drop k fs) m ∙ dropped fs gs (f + 1) g e) in
+        (λ j. link_from (suc f) p.instr ++ links_on (suc f) (n j) (r j) ps))
     by false = (λ j. link_from f p.instr ++ links_on f (n j) (sym e j) ps)
 
 links_end : (f a : ℕ) (gs : List ImageFunction) → links_on f a gs [] ≡ []
@@ -169,7 +175,8 @@ link_in f a (g ∷ gs) (p ∷ ps) u v e = by (nat_le g.entry a) e (λ h. link_in
 
 -- each address of the code is in the code of a function
 
-home_in : (fs : List ImageFunction) (size a : ℕ) (g : ImageFunction) → g.entry ≤ a → a < size → (f : ℕ) × (h : ImageFunction) × (slice_get (g ∷ fs) f ≡ Some h) × (h.entry ≤ a) × (a < end_at (g ∷ fs) size f)
+home_in : (fs : List ImageFunction) (size a : ℕ) (g : ImageFunction) → g.entry ≤ a → a < size
+    → (f : ℕ) × (h : ImageFunction) × (slice_get (g ∷ fs) f ≡ Some h) × (h.entry ≤ a) × (a < end_at (g ∷ fs) size f)
 home_in [] size a g l u = (0, g, refl, l, u)
 home_in (k ∷ fs) size a g l u = by (nat_le k.entry a) refl (λ h. home_in fs size a k h u)
   where
@@ -209,7 +216,8 @@ links_within i l named u v e =
     long (f ∷ fs) gs g e = omega arith
 
 -- where the number doesn't fall along a link, there is a circle
-pub blame_circle : (i : Parts) → laid_out i ≡ true → ((f : ℕ) → IsNamed i f) → (rs : List ℕ) → ((u : ℕ) → u < length i.functions → get_or rs u 0 ≡ count_below (reaches (calls_of i) (length i.functions) u) (length i.functions))
+pub blame_circle : (i : Parts) → laid_out i ≡ true → ((f : ℕ) → IsNamed i f) → (rs : List ℕ)
+    → ((u : ℕ) → u < length i.functions → get_or rs u 0 ≡ count_below (reaches (calls_of i) (length i.functions) u) (length i.functions))
     → (u v : ℕ) → linked (calls_of i) u v ≡ true → get_or rs u 0 ≤ get_or rs v 0 → Broken i 0 7
 blame_circle i l named rs is u v e le =
     let w = links_within i l named u v e in
@@ -239,7 +247,8 @@ blame_falls i l named ls q rs is e x =
     x.0 x.1 (ap (λ g. linked g x.0 x.1) (sym q) ∙ x.2) x.3 in
     subst (Blames i) (sym x.4) c
 
-pub ranked_by : (i : Parts) (ls : Links) → ls ≡ calls_of i → (rs : List ℕ) → length rs ≡ length i.functions → ((u : ℕ) → u < length i.functions → get_or rs u 0 ≡ count_below (reaches ls (length i.functions) u) (length i.functions))
+pub ranked_by : (i : Parts) (ls : Links) → ls ≡ calls_of i → (rs : List ℕ) → length rs ≡ length i.functions
+    → ((u : ℕ) → u < length i.functions → get_or rs u 0 ≡ count_below (reaches ls (length i.functions) u) (length i.functions))
     → ((u v : ℕ) → linked ls u v ≡ true → get_or rs v 0 < get_or rs u 0) → IsRanked i rs
 ranked_by i ls q rs n is falls = record {
   sized = n;

@@ -39,6 +39,11 @@ put_long [] k x = refl
 put_long (y ∷ xs) zero x = refl
 put_long (y ∷ xs) (suc k) x = ap suc (put_long xs k x)
 
+pub put_itself : {A : Type 0} (xs : List A) (k : ℕ) (x : A) → slice_get xs k ≡ Some x → xs ≡ slice_set xs k x
+put_itself [] k x e = refl
+put_itself (y ∷ xs) zero x e = let q : y ≡ x = (cc) in ap (λ z. z ∷ xs) q
+put_itself (y ∷ xs) (suc k) x e = ap (λ l. y ∷ l) (put_itself xs k x e)
+
 -- calls that were looked at, said in another way
 pub passed_as : (i : Parts) (s1 s2 : Calls) (tab1 tab2 : Marks) (ps : Passed)
     → ((h g a : ℕ) (p : Pair) → s2 h a ≡ true → SeenCall i tab2 h g a p → (s1 h a ≡ true) × SeenCall i tab1 h g a p)
@@ -82,7 +87,8 @@ module _ (i : Parts) (tab : Marks) (f : ℕ) (ps : Passed) where
       P
 
   -- there is no call between
-  pub pass_on : (seen : Calls) (to up : ℕ) → to ≤ up → ((g a : ℕ) (p : Pair) → SeenCall i tab f g a p → a < up → a < to) → IsPassed i (with_calls seen f to) tab ps → IsPassed i (with_calls seen f up) tab ps
+  pub pass_on : (seen : Calls) (to up : ℕ) → to ≤ up → ((g a : ℕ) (p : Pair) → SeenCall i tab f g a p → a < up → a < to) → IsPassed i (with_calls seen f to) tab ps
+      → IsPassed i (with_calls seen f up) tab ps
   pass_on seen to up l none P = passed_as i (with_calls seen f to) (with_calls seen f up) tab tab ps
       (λ h g a p d s. (⊎_elim (λ q. calls_old seen f to h a q) (λ q. calls_new seen f to h a q.0 (none g a p (call_of h g a p q.0 s) q.1)) (calls_parts seen f up h a d), s))
       (λ h g a p d s. (⊎_elim (λ q. calls_old seen f up h a q) (λ q. calls_new seen f up h a q.0 (let u = q.1 in omega (arith, l, u))) (calls_parts seen f to h a d), s))
@@ -95,7 +101,8 @@ record Joined (ps : Passed) (g : ℕ) (args ks : List Kind) : Type 0 where
   pub from : (j : ℕ) (k : Kind) → level ks j ≡ Some k → (level args j ≡ Some k) ⊎ ((cs : List ℕ) × (slice_get ps g ≡ Some (Some cs)) × (level (map kind_of cs) j ≡ Some k))
   pub there : (o : Option (List ℕ)) × (slice_get ps g ≡ Some o)
 
-joined_by : (ps : Passed) (g : ℕ) (args ks : List Kind) (o : Option (Option (List ℕ))) → slice_get ps g ≡ o → ((cs : List ℕ) → slice_get ps g ≡ Some (Some cs) → length (map kind_of cs) ≡ length args) → JoinsBy o args ks → Joined ps g args ks
+joined_by : (ps : Passed) (g : ℕ) (args ks : List Kind) (o : Option (Option (List ℕ))) → slice_get ps g ≡ o
+    → ((cs : List ℕ) → slice_get ps g ≡ Some (Some cs) → length (map kind_of cs) ≡ length args) → JoinsBy o args ks → Joined ps g args ks
 joined_by ps g args ks None e n j = absurd j
 joined_by ps g args ks (Some None) e n j = record {
   suit = subst (λ l. SuitAll args l) (sym j) (itself args);
@@ -174,7 +181,8 @@ module _ (i : Parts) (tab : Marks) (f place g : ℕ) (p : Pair) (ps ps' : Passed
       (λ e. subst (λ x. SuitAt x q) (sym e.1) (
         J.codes,
         here,
-        all_then (take (params_of i g) q.ops) (map kind_of m.0) ks (subst (λ x. SuitAll (take (params_of i x) q.ops) (map kind_of m.0)) e.1 m.2) (told.suit_old m.0 (ap (slice_get ps) (sym e.1) ∙ m.1)),
+        all_then (take (params_of i g) q.ops) (map kind_of m.0) ks (subst (λ x. SuitAll (take (params_of i x) q.ops) (map kind_of m.0)) e.1 m.2)
+            (told.suit_old m.0 (ap (slice_get ps) (sym e.1) ∙ m.1)),
       ))
       (λ e. (m.0, elsewhere k e.1 ∙ m.1, m.2))
       (eqb_tells k g)

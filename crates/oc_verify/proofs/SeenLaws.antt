@@ -1,10 +1,11 @@
 -- The kinds that were passed, as the code keeps them.
-use Rattle.std.proofs.Common.{◌≡◌, ℕ, zero, suc, ◌+◌, ◌<◌, ◌≤◌, ◌≢◌, List, [], ◌∷◌, ◌++◌, length, take, map, ⊎_elim, Option, Some, None, refl, sym, ap, ◌∙◌, subst, arith, Vec, Global, Bool, true, false}
+use Rattle.std.proofs.Common.{◌≡◌, ℕ, zero, suc, ◌+◌, ◌<◌, ◌≤◌, ◌≢◌, List, [], ◌∷◌, ◌++◌, length, take, map, ⊎_elim, Option, Some, None, refl, sym, ap, ◌∙◌, subst, arith}
+use Rattle.std.proofs.Common.{Vec, Global, Bool, true, false, nat_eq}
 use Rattle.std.specs.Prelude.{◌==◌, option_map, slice_get, slice_set, replicate}
 use Rattle.std.proofs.lemmas.Bool.Decides.{eqb_tells}
 use Rattle.oc_tree.specs.Reach.{linked}
 use Rattle.oc_isa.specs.declared.image.ImageFunction.{ImageFunction}
-use Rattle.std.specs.List.{All}
+use Rattle.std.specs.List.{All, list_any}
 use Rattle.std.proofs.lemmas.List.{length-take-le}
 use Rattle.std.proofs.lemmas.List.Elements.{All-nil, All-cons, All-take}
 use Rattle.oc_isa.specs.declared.instr.Placed.{Placed}
@@ -16,16 +17,18 @@ use Rattle.oc_verify.specs.declared.fault.VerifyError.{VerifyError}
 use Rattle.oc_verify.specs.declared.fault.VerifyError.TheVariants as errors
 use Rattle.oc_verify.specs.Merging.{leasts}
 use Rattle.oc_verify.specs.Own.{own_list}
-use Rattle.oc_verify.specs.Typing.{Pair, slots, slots_by}
+use Rattle.oc_verify.specs.Typing.{Pair, SuitAll, slots, slots_by}
 use Rattle.oc_verify.specs.Rules.{calls_of, code_at, laid_out, main_number, on_function, own_slots, params_of}
 use Rattle.oc_verify.specs.Work.{Marks}
-use Rattle.oc_verify.specs.Stacks.{Nodes, stack}
+use Rattle.oc_verify.specs.Stacks.{Nodes, stack, with_node}
 use Rattle.oc_verify.specs.Told.{kind_of, kinds, pair_of}
 use Rattle.oc_verify.specs.Walks.{table_marks}
-use Rattle.oc_verify.specs.Tables.{Calls, IsPassed, with_calls, codes_by, codes_of, Passed, passed_seen, pair_in, Joins, JoinsBy, Mixes, MixesWith, SeenCall, was_passed}
+use Rattle.oc_verify.specs.Tables.{Calls, IsPassed, with_calls, codes_by, codes_of, Passed, passed_seen, pair_in, Joins, JoinsBy, Mixes, MixesWith, SeenCall, call_number, number_callee, number_stack, was_passed}
 use Rattle.oc_verify.proofs.Calls.{call_linked}
 use Rattle.oc_verify.proofs.KindLaws.{kinds_long}
-use Rattle.oc_verify.proofs.PassLaws.{put_other, pass_on, joins_them}
+use Rattle.oc_verify.proofs.MergeLaws.{all_stay}
+use Rattle.oc_verify.proofs.PassLaws.{calls_new, put_itself, put_other, pass_on, joins_them}
+use Rattle.oc_verify.proofs.StackLaws.{one_of_nodes}
 use Rattle.oc_verify.proofs.TopLaws.{all_small, leasts_take}
 
 abbrev Kept : Type 0
@@ -90,7 +93,8 @@ kinds_take (suc n) [] = refl
 kinds_take (suc n) (c ∷ cs) = ap (λ l. kind_of c ∷ l) (kinds_take n cs)
 
 -- the first call
-pub joins_none : (params : ℕ) (ps : Passed) (g : ℕ) (ks : Nodes) (n : ℕ) (new : List ℕ) → slice_get ps g ≡ Some None → new ≡ take params (stack ks n) → params ≤ length (stack ks n) → Joins params ps g (kinds ks n) (slice_set ps g (Some new))
+pub joins_none : (params : ℕ) (ps : Passed) (g : ℕ) (ks : Nodes) (n : ℕ) (new : List ℕ) → slice_get ps g ≡ Some None → new ≡ take params (stack ks n) → params ≤ length (stack ks n)
+    → Joins params ps g (kinds ks n) (slice_set ps g (Some new))
 joins_none params ps g ks n new e t l = record {
   codes = new;
   is = refl;
@@ -103,7 +107,8 @@ mixes_take : (params : ℕ) (ops : List Kind) (cs : List ℕ) (e : VerifyError) 
 mixes_take params ops cs (errors.Refused place rule) n m = (m.0, m.1, sym (leasts_take (map kind_of cs) ops params (kinds_long cs ∙ n)) ∙ m.2)
 mixes_take params ops cs errors.Memory n m = tt
 
-pub mixes_some : (params : ℕ) (ps : Passed) (g : ℕ) (ops : List Kind) (cs : List ℕ) (e : VerifyError) → slice_get ps g ≡ Some (Some cs) → length cs ≡ params → Mixes (map kind_of cs) ops e → MixesWith (slice_get ps g) (take params ops) e
+pub mixes_some : (params : ℕ) (ps : Passed) (g : ℕ) (ops : List Kind) (cs : List ℕ) (e : VerifyError) → slice_get ps g ≡ Some (Some cs) → length cs ≡ params → Mixes (map kind_of cs) ops e
+    → MixesWith (slice_get ps g) (take params ops) e
 mixes_some params ps g ops cs e is n m = subst (λ o. MixesWith o (take params ops) e) (sym is) (mixes_take params ops cs e n m)
 
 pub mixes_none : (params : ℕ) (ps : Passed) (g : ℕ) (ops : List Kind) (e : VerifyError) → slice_get ps g ≡ Some None → e ≡ errors.Memory → MixesWith (slice_get ps g) (take params ops) e
@@ -116,7 +121,8 @@ cell_mark t a n e = ap (pair_in t.tops t.regions) e
 pub cell_blank : (t : Table) (a : ℕ) → slice_get t.cells.items a ≡ Some None → table_marks t a ≡ None
 cell_blank t a e = ap (pair_in t.tops t.regions) e
 
-pub cell_call : (i : Parts) (t : Table) (f g a : ℕ) (x : Placed) (n : ℕ × ℕ) → code_at i f a ≡ Some x → x.instr ≡ Call g → slice_get t.cells.items a ≡ Some (Some n) → SeenCall i (table_marks t) f g a (pair_of t.tops t.regions n)
+pub cell_call : (i : Parts) (t : Table) (f g a : ℕ) (x : Placed) (n : ℕ × ℕ) → code_at i f a ≡ Some x → x.instr ≡ Call g → slice_get t.cells.items a ≡ Some (Some n)
+    → SeenCall i (table_marks t) f g a (pair_of t.tops t.regions n)
 cell_call i t f g a x n c e s = record { placed = x; found = c; calls = e; pair = cell_mark t a n s }
 
 pub kinds_high : (ks : Nodes) (n : ℕ) → length (kinds ks n) ≡ length (stack ks n)
@@ -138,17 +144,20 @@ pub zeros_small : (n : ℕ) → All (λ c. c < 8589934592) (replicate n 0)
 zeros_small zero = All-nil (λ c. c < 8589934592)
 zeros_small (suc n) = All-cons (λ c. c < 8589934592) 0 (replicate n 0) (omega arith) (zeros_small n)
 
-pub own_slots_are : (i : Parts) (f : ℕ) (g : ImageFunction) (cs : List ℕ) (m : Bool) → m ≡ (f == main_number i) → slice_get i.functions f ≡ Some g → own_list (record { main = m; function = g; codes = cs }) ≡ own_slots i f (map kind_of cs)
+pub own_slots_are : (i : Parts) (f : ℕ) (g : ImageFunction) (cs : List ℕ) (m : Bool) → m ≡ (f == main_number i) → slice_get i.functions f ≡ Some g
+    → own_list (record { main = m; function = g; codes = cs }) ≡ own_slots i f (map kind_of cs)
 own_slots_are i f g cs m e s = ap (λ b. slots_by b g (map kind_of cs)) e ∙ sym (ap (on_function [] (λ h. slots (main_number i) f h (map kind_of cs))) s)
 
 -- the calls in the code of a function, up to an address
 
 module _ (i : Parts) (t : Table) (f place : ℕ) (first old : Passed) (P : (seen : Calls) → IsPassed i seen (table_marks t) first → IsPassed i (with_calls seen f place) (table_marks t) old) where
-  pub call_passed : (g : ℕ) (x : Placed) (n : ℕ × ℕ) (new : Passed) → code_at i f place ≡ Some x → x.instr ≡ Call g → slice_get t.cells.items place ≡ Some (Some n) → Joins (params_of i g) old g (kinds t.tops n.0) new
+  pub call_passed : (g : ℕ) (x : Placed) (n : ℕ × ℕ) (new : Passed) → code_at i f place ≡ Some x → x.instr ≡ Call g → slice_get t.cells.items place ≡ Some (Some n)
+      → Joins (params_of i g) old g (kinds t.tops n.0) new
       → params_of i g ≤ length (kinds t.tops n.0) → (seen : Calls) → IsPassed i seen (table_marks t) first → IsPassed i (with_calls seen f (place + 1)) (table_marks t) new
   call_passed g x n new c e s J deep seen Q = joins_them i (table_marks t) f place g (pair_of t.tops t.regions n) old new (cell_call i t f g place x n c e s) J deep seen (P seen Q)
 
-  pub none_passed : ((g : ℕ) (p : Pair) → SeenCall i (table_marks t) f g place p → ⊥) → (seen : Calls) → IsPassed i seen (table_marks t) first → IsPassed i (with_calls seen f (place + 1)) (table_marks t) old
+  pub none_passed : ((g : ℕ) (p : Pair) → SeenCall i (table_marks t) f g place p → ⊥) → (seen : Calls) → IsPassed i seen (table_marks t) first
+      → IsPassed i (with_calls seen f (place + 1)) (table_marks t) old
   none_passed none seen Q = pass_on i (table_marks t) f old seen place (place + 1) (omega arith) (λ g a p s l. ⊎_elim
       (λ e. absurd (none g p (subst (λ k. SeenCall i (table_marks t) f g k p) e.1 s)))
       (λ e. less a place (omega (arith, l)) e.1)
@@ -159,6 +168,54 @@ module _ (i : Parts) (t : Table) (f place : ℕ) (first old : Passed) (P : (seen
       less zero (suc m) l d = omega arith
       less (suc i) zero l d = absurd (omega (arith, l))
       less (suc i) (suc m) l d = let r = less i m (omega (arith, l)) (λ e. d (ap suc e)) in omega (arith, r)
+
+-- the kinds of this function suit what stands on top of these
+abbrev pub SuitedBy : Parts → Passed → ℕ → List Kind → Type 0
+SuitedBy i ps g ops = (cs : List ℕ) × (slice_get ps g ≡ Some (Some cs)) × SuitAll (take (params_of i g) ops) (map kind_of cs)
+
+-- so one call more with these changes nothing
+pub joins_again : (i : Parts) (seen : Calls) (tab : Marks) (ps : Passed) (g : ℕ) (ops : List Kind) → IsPassed i seen tab ps → SuitedBy i ps g ops → Joins (params_of i g) ps g ops ps
+joins_again i seen tab ps g ops P s = record {
+  codes = s.0;
+  is = put_itself ps g (Some s.0) s.1;
+  sized = P.sized g s.0 s.1;
+  small = P.small g s.0 s.1;
+  joins = subst (λ o. JoinsBy o (take (params_of i g) ops) (map kind_of s.0)) (sym s.1) (all_stay (take (params_of i g) ops) (map kind_of s.0) s.2);
+}
+
+-- function f calls g below an address with this stack
+abbrev pub CallsWith : Parts → Table → (f to g n : ℕ) → Type 0
+CallsWith i t f to g n = (a : ℕ) × (p : Pair) × (a < to) × SeenCall i (table_marks t) f g a p × (p.ops ≡ kinds t.tops n)
+
+pub call_suits : (i : Parts) (t : Table) (f to g n : ℕ) (ps : Passed) (seen : Calls) → CallsWith i t f to g n → IsPassed i (with_calls seen f to) (table_marks t) ps → SuitedBy i ps g (kinds t.tops n)
+call_suits i t f to g n ps seen C P = subst (λ ops. SuitedBy i ps g ops) C.4 (P.suits f g C.0 C.1 (calls_new seen f to f C.0 refl C.2) C.3)
+
+-- it does so with each of these, by their numbers
+abbrev pub CallsEach : Parts → Table → (f to : ℕ) → Nodes → Type 0
+CallsEach i t f to ks = (k : ℕ) → list_any (nat_eq k) ks ≡ true → CallsWith i t f to (number_callee k) (number_stack k)
+
+number_parts : (g n : ℕ) → n < 4294967296 → (number_callee (call_number g n) ≡ g) × (number_stack (call_number g n) ≡ n)
+number_parts g n l = (omega (arith, l), omega (arith, l))
+
+pub calls_on : (i : Parts) (t : Table) (f to : ℕ) (ks : Nodes) → CallsEach i t f to ks → CallsEach i t f (to + 1) ks
+calls_on i t f to ks E k m = let C = E k m in (C.0, C.1, (let l = C.2 in omega (arith, l)), C.3, C.4)
+
+pub calls_one : (i : Parts) (t : Table) (f to g n : ℕ) (ks : Nodes) → CallsEach i t f to ks → n < 4294967296 → list_any (nat_eq (call_number g n)) ks ≡ true → CallsWith i t f to g n
+calls_one i t f to g n ks E l m =
+    let e = number_parts g n l in
+    subst (λ b. CallsWith i t f to b n) e.0 (subst (λ b. CallsWith i t f to (number_callee (call_number g n)) b) e.1 (E (call_number g n) m))
+
+pub calls_more : (i : Parts) (t : Table) (f a g : ℕ) (x : Placed) (n : ℕ × ℕ) (ks : Nodes) → code_at i f a ≡ Some x → x.instr ≡ Call g → slice_get t.cells.items a ≡ Some (Some n)
+    → n.0 < 4294967296 → CallsEach i t f a ks → CallsEach i t f (a + 1) (with_node ks (call_number g n.0))
+calls_more i t f a g x n ks c e s l E k m =
+    let q = number_parts g n.0 l in
+    let here : CallsWith i t f (a + 1) g n.0 = (a, pair_of t.tops t.regions n, omega arith, cell_call i t f g a x n c e s, refl) in
+    let there : CallsWith i t f (a + 1) (number_callee (call_number g n.0)) (number_stack (call_number g n.0)) =
+    subst (λ b. CallsWith i t f (a + 1) (number_callee (call_number g n.0)) b) (sym q.1) (subst (λ b. CallsWith i t f (a + 1) b n.0) (sym q.0) here) in
+    ⊎_elim
+    (λ o. calls_on i t f a ks E k o)
+    (λ o. subst (λ b. CallsWith i t f (a + 1) (number_callee b) (number_stack b)) (sym o) there)
+    (one_of_nodes k (call_number g n.0) ks m)
 
 -- an address that wasn't looked at has no call, nor has another instruction
 pub no_call_blank : (i : Parts) (t : Table) (f a : ℕ) → slice_get t.cells.items a ≡ Some None → (g : ℕ) (p : Pair) → SeenCall i (table_marks t) f g a p → ⊥

@@ -1,5 +1,6 @@
 -- Slots, by the numbers of their kinds.
-use Rattle.std.proofs.Common.{◌≡◌, ℕ, zero, suc, ◌+◌, ◌-◌, ◌<◌, ◌≤◌, ◌≢◌, List, [], ◌∷◌, ◌++◌, length, length-append, get_or, Option, Some, None, refl, sym, ap, ◌∙◌, ⊎_elim, arith, Bool, true, false, nat_lt}
+use Rattle.std.proofs.Common.{◌≡◌, ℕ, zero, suc, ◌+◌, ◌-◌, ◌<◌, ◌≤◌, ◌≢◌, List, [], ◌∷◌, ◌++◌, length, length-append, get_or, Option, Some, None, refl, sym, ap, ◌∙◌}
+use Rattle.std.proofs.Common.{⊎_elim, arith, Bool, true, false, nat_lt}
 use Rattle.std.specs.Prelude.{◌==◌, if◌then◌else◌, map, replicate, option_map}
 use Rattle.std.proofs.lemmas.Bool.Decides.{eqb_tells}
 use Rattle.oc_isa.specs.declared.image.ImageFunction.{ImageFunction}
@@ -25,7 +26,8 @@ all_numbers : (n s : ℕ) → s < n → level (replicate n (Some Number)) s ≡ 
 all_numbers zero s h = absurd (omega (arith, h))
 all_numbers (suc n) s h = ⊎_elim
     (λ q. let e : s ≡ length (replicate n (Some Number)) = q.1 in grind (arith, q.0))
-    (λ q. let d : s ≢ n = (λ e. q.1 (e ∙ sym (filled n))) in (let f : (s == length (replicate n (Some Number))) ≡ false = q.0 in ap (λ b. if b then Some (Some Number) else level (replicate n (Some Number)) s) f ∙ all_numbers n s (less s n h d)))
+    (λ q. let d : s ≢ n = (λ e. q.1 (e ∙ sym (filled n))) in (let f : (s == length (replicate n (Some Number))) ≡ false = q.0 in
+    ap (λ b. if b then Some (Some Number) else level (replicate n (Some Number)) s) f ∙ all_numbers n s (less s n h d)))
     (eqb_tells s (length (replicate n (Some Number))))
   where
     less : (s n : ℕ) → s < suc n → s ≢ n → s < n
@@ -43,7 +45,8 @@ seen_of (k ∷ ks) = ap suc (seen_of ks)
 param_level : (ks : List Kind) (s : ℕ) → s < length ks → level (map Some ks) s ≡ Some (Some (get_or ks (length ks - 1 - s) Number))
 param_level [] s h = absurd (omega (arith, h))
 param_level (k ∷ ks) s h = ⊎_elim
-    (λ q. let e : s ≡ length ks = q.1 ∙ seen_of ks in let n : suc (length ks) - 1 - s ≡ 0 = omega (arith, e) in ap (λ b. if b then Some (Some k) else level (map Some ks) s) q.0 ∙ ap (λ m. Some (Some (get_or (k ∷ ks) m Number))) (sym n))
+    (λ q. let e : s ≡ length ks = q.1 ∙ seen_of ks in let n : suc (length ks) - 1 - s ≡ 0 = omega (arith, e) in
+    ap (λ b. if b then Some (Some k) else level (map Some ks) s) q.0 ∙ ap (λ m. Some (Some (get_or (k ∷ ks) m Number))) (sym n))
     (λ q. let d : s ≢ length ks = (λ e. q.1 (e ∙ sym (seen_of ks))) in
     let l : s < length ks = less s (length ks) h d in
     let n : suc (length ks) - 1 - s ≡ suc (length ks - 1 - s) = omega (arith, l) in
@@ -206,7 +209,8 @@ module _ (o : Own) (s : ℕ) where
     where
       by : (b : Bool) → nat_lt s o.function.frame ≡ b → s < o.function.frame
       by true t = grind (arith, t)
-      by false t = (let l : o.function.frame ≤ s = grind (arith, t) in let z : Some (Some Number) ≡ None = sym e ∙ ap (λ b. level (slots_by b o.function (map kind_of o.codes)) s) m ∙ main_past o.function (map kind_of o.codes) s l in absurd (cc))
+      by false t = (let l : o.function.frame ≤ s = grind (arith, t) in let z : Some (Some Number) ≡ None = sym e ∙ ap (λ b. level (slots_by b o.function (map kind_of o.codes)) s) m
+          ∙ main_past o.function (map kind_of o.codes) s l in absurd (cc))
 
   pub own_run_main : o.main ≡ true → level (own_list o) s ≡ Some (Some Number) → o.function.frame - s ≡ run (own_list o) s 0
   own_run_main m e = sym (ap (λ b. run (slots_by b o.function (map kind_of o.codes)) s 0) m ∙ main_run o.function (map kind_of o.codes) s (main_low m e))
@@ -249,7 +253,8 @@ module _ (o : Own) (s : ℕ) where
           where
             in_it : (b : Bool) → nat_lt s g.frame ≡ b → length o.codes + 2 ≤ s → s < g.frame
             in_it true t u = grind (arith, t)
-            in_it false t u = (let v : g.frame ≤ s = grind (arith, t) in let q : Some (Some Number) ≡ None = sym e ∙ ap (λ ss. level ss s) as_other ∙ slot_past g ks long s (omega (arith, u, z)) v in absurd (cc))
+            in_it false t u = (let v : g.frame ≤ s = grind (arith, t) in
+                let q : Some (Some Number) ≡ None = sym e ∙ ap (λ ss. level ss s) as_other ∙ slot_past g ks long s (omega (arith, u, z)) v in absurd (cc))
 
     pub own_run_above : length o.codes ≤ s → level (own_list o) s ≡ Some (Some Number) → g.frame - s ≡ run (own_list o) s 0
     own_run_above l e = let r = above_low l e in sym (ap (λ ss. run ss s 0) as_other ∙ run_above g ks long s r.0 r.1)

@@ -18,7 +18,8 @@ use Rattle.oc_verify.specs.Rules.{laid_out, code_at, params_of, calls_of, main_n
 use Rattle.oc_verify.specs.Facts.{IsRanked}
 use Rattle.oc_verify.specs.Told.{kind_of}
 use Rattle.oc_verify.specs.Work.{IsWork, Marks}
-use Rattle.oc_verify.specs.Tables.{Passed, codes_by, kinds_of, was_passed, is_walked, own_by, own_marks, KeepsOthers, SeenCall, IsPassed, IsDone, IsNext, with_done, with_calls, MixesAt, MixesWith, BlamesMixed, BlamesSlot}
+use Rattle.oc_verify.specs.Tables.{Passed, codes_by, kinds_of, was_passed, is_walked, own_by, own_marks, KeepsOthers, SeenCall, IsPassed, IsDone, IsNext, with_done}
+use Rattle.oc_verify.specs.Tables.{with_calls, MixesAt, MixesWith, BlamesMixed, BlamesSlot}
 use Rattle.oc_verify.proofs.Owners.{owned, stands}
 use Rattle.oc_verify.proofs.Exact.{suits_sized, suit_at, level_some}
 use Rattle.oc_verify.proofs.Cells.{level_short}
@@ -166,7 +167,8 @@ module _ (i : Parts) (laid : laid_out i ≡ true) (ranks : List ℕ) (R : IsRank
       whose : (h a : ℕ) → with_calls (λ h a. done h) f at' h a ≡ true → (h ≡ f) ⊎ (done h ≡ true)
       whose h a d = ⊎_elim (λ q. inr q) (λ q. inl q.0) (calls_parts (λ h a. done h) f at' h a d)
 
-      number_at : (j : ℕ) → level (map kind_of cs) j ≡ Some Number → (h : ℕ) × (a : ℕ) × (q : Pair) × ((h ≡ f) ⊎ (done h ≡ true)) × SeenCall i tab' h g a q × (level (take (params_of i g) q.ops) j ≡ Some Number)
+      number_at : (j : ℕ) → level (map kind_of cs) j ≡ Some Number → (h : ℕ) × (a : ℕ) × (q : Pair) × ((h ≡ f) ⊎ (done h ≡ true)) × SeenCall i tab' h g a
+          q × (level (take (params_of i g) q.ops) j ≡ Some Number)
       number_at j l =
           let m = P.passes g cs is in
           let u = P.suits m.0 g m.1 m.2 m.3 m.4 in
@@ -231,7 +233,11 @@ module _ (i : Parts) (laid : laid_out i ≡ true) (ranks : List ℕ) (R : IsRank
       pub walked_on : Slots ps → IsDone i (with_done done f) tab' qs
       walked_on ok = record {
         calls = passed_as i (with_calls (λ h a. done h) f (length i.code)) (λ h a. with_done done f h) tab' tab' qs
-            (λ h g a p d s. (⊎_elim (λ e. calls_new (λ h a. done h) f (length i.code) h a e (own_address h a s.placed s.found)) (λ o. calls_old (λ h a. done h) f (length i.code) h a o) (done_parts done f h d), s))
+            (λ h g a p d s. (
+              ⊎_elim (λ e. calls_new (λ h a. done h) f (length i.code) h a e (own_address h a s.placed s.found)) (λ o. calls_old (λ h a. done h) f (length i.code) h a o)
+                  (done_parts done f h d),
+              s,
+            ))
             (λ h g a p d s. (⊎_elim (λ o. done_old done f h o) (λ q. done_here done f h q.0) (calls_parts (λ h a. done h) f (length i.code) h a d), s))
             P;
         works = λ h d w. ⊎_elim
@@ -246,6 +252,7 @@ module _ (i : Parts) (laid : laid_out i ≡ true) (ranks : List ℕ) (R : IsRank
             (done_parts done f h d);
       }
         where
-          home : (a : ℕ) (p : Pair) → tab' a ≡ Some p → (o : Option Placed) → code_at i f a ≡ o → (h : ℕ) × (x : Placed) × (code_at i h a ≡ Some x) × (with_done done f h ≡ true) × (is_walked i qs h ≡ true)
+          home : (a : ℕ) (p : Pair) → tab' a ≡ Some p → (o : Option Placed) → code_at i f a ≡ o
+              → (h : ℕ) × (x : Placed) × (code_at i h a ≡ Some x) × (with_done done f h ≡ true) × (is_walked i qs h ≡ true)
           home a p e (Some x) c = (f, x, c, done_here done f f refl, walked_same f (inl refl) ∙ walked)
           home a p e None c = let o = D.homes a p (sym (others a c) ∙ e) in (o.0, o.1, o.2, done_old done f o.0 o.3, walked_same o.0 (inr o.3) ∙ o.4)

@@ -93,7 +93,8 @@ snoc_reverse es e = reverse-append es (e ∷ [])
 
 reverse_all : (P : Step → Type 0) (es : List Step) → All P es → All P (reverse es)
 reverse_all P [] h = All-nil P
-reverse_all P (e ∷ es) h = subst (All P) (sym (reverse-append (e ∷ []) es)) (All-append P (reverse es) (e ∷ []) (reverse_all P es (All-tail P e es h)) (All-cons P e [] (All-head P e es h) (All-nil P)))
+reverse_all P (e ∷ es) h = subst (All P) (sym (reverse-append (e ∷ []) es))
+    (All-append P (reverse es) (e ∷ []) (reverse_all P es (All-tail P e es h)) (All-cons P e [] (All-head P e es h) (All-nil P)))
 
 all_front : (P : Step → Type 0) (es ds : List Step) → All P (es ++ ds) → All P es
 all_front P [] ds h = All-nil P
@@ -138,14 +139,17 @@ module _ (i : Parts) (f : ℕ) (kinds' : List Kind) (ks rs : Nodes) (cs : Cells)
       let old = all_front (λ e. AreIn ks rs e.1) todo ((a, n) ∷ []) w.todo in
       let worked : IsWork i f kinds' (mark tab a (pair_of ks rs n)) (map (todo_at q) (successors x.instr a) ++ left) = looks i f kinds' tab now left x q blank e right next_work in
       let cells' : AreCells ks' rs' cs' = λ b m z. ⊎_elim
-      (λ y. let v : Some (Some n) ≡ Some (Some m) = sym (set_same cs a None (Some n) s) ∙ ap (slice_get cs') (sym y.1) ∙ z in let v' : n ≡ m = (cc) in subst (AreIn ks' rs') v' (still_in ks ks' rs rs' g h n here))
+      (λ y. let v : Some (Some n) ≡ Some (Some m) = sym (set_same cs a None (Some n) s) ∙ ap (slice_get cs') (sym y.1) ∙ z in let v' : n ≡ m = (cc) in
+      subst (AreIn ks' rs') v' (still_in ks ks' rs rs' g h n here))
       (λ y. still_in ks ks' rs rs' g h m (w.cells b m (sym (set_other cs a b (Some n) y.1) ∙ z)))
       (eqb_tells b a) in
       let told : (b : ℕ) → marks ks' rs' cs' b ≡ mark (marks ks rs cs) a (pair_of ks rs n) b = λ b. ⊎_elim
-      (λ y. ap (pair_in ks' rs') (ap (slice_get cs') y.1 ∙ set_same cs a None (Some n) s) ∙ ap Some (same_pair ks ks' rs rs' g h n here) ∙ sym (ap (λ c. if c then Some (pair_of ks rs n) else marks ks rs cs b) y.0))
+      (λ y. ap (pair_in ks' rs') (ap (slice_get cs') y.1 ∙ set_same cs a None (Some n) s) ∙ ap Some (same_pair ks ks' rs rs' g h n here)
+      ∙ sym (ap (λ c. if c then Some (pair_of ks rs n) else marks ks rs cs b) y.0))
       (λ y. ap (pair_in ks' rs') (set_other cs a b (Some n) y.1) ∙ same_marks ks ks' rs rs' g h cs w.cells b ∙ sym (ap (λ c. if c then Some (pair_of ks rs n) else marks ks rs cs b) y.0))
       (eqb_tells b a) in
-      let table : mark tab a (pair_of ks rs n) ≡ own_marks i f (marks ks' rs' cs') = (λ j b. (own_mark i f (marks ks rs cs) a (pair_of ks rs n) x e b ∙ ap (own_by (code_at i f b)) (sym (told b))) j) in
+      let table : mark tab a (pair_of ks rs n) ≡ own_marks i f (marks ks' rs' cs') =
+      (λ j b. (own_mark i f (marks ks rs cs) a (pair_of ks rs n) x e b ∙ ap (own_by (code_at i f b)) (sym (told b))) j) in
       let order : map (todo_at q) (successors x.instr a) ++ left ≡ map (todo_of ks' rs') (reverse (todo ++ reverse steps)) =
       (λ j. step_map (successors x.instr a) j ++ sym (same_todo ks ks' rs rs' g h (reverse todo) (reverse_all (λ e. AreIn ks rs e.1) todo old)) j)
       ∙ sym (map-append (todo_of ks' rs') steps (reverse todo))

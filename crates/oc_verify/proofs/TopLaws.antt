@@ -97,18 +97,22 @@ kinds_more [] c = refl
 kinds_more (d ∷ cs) c = ap (λ l. kind_of d ∷ l) (kinds_more cs c)
 
 -- these are the codes of a list and the kinds of a stack; of both the next ones are taken
-pub least_next : (ks : Nodes) (codes both rest : List ℕ) (n m code top one : ℕ) (whole : Option (List Kind)) → codes ≡ code ∷ rest → stack ks n ≡ top ∷ stack ks m → Some (kind_of one) ≡ least (kind_of code) (kind_of top)
+pub least_next : (ks : Nodes) (codes both rest : List ℕ) (n m code top one : ℕ) (whole : Option (List Kind)) → codes ≡ code ∷ rest → stack ks n ≡ top ∷ stack ks m
+    → Some (kind_of one) ≡ least (kind_of code) (kind_of top)
     → whole ≡ onto (map kind_of both) (leasts (map kind_of codes) (kinds ks n)) → whole ≡ onto (map kind_of (both ++ one ∷ [])) (leasts (map kind_of rest) (kinds ks m))
 least_next ks codes both rest n m code top one whole c s l w =
     w ∙ (λ j. onto (map kind_of both) (leasts (map kind_of (c j)) (map kind_of (s j)))) ∙ ap (λ o. onto (map kind_of both) (joined o (leasts (map kind_of rest) (kinds ks m)))) (sym l)
     ∙ onto_one (map kind_of both) (kind_of one) (leasts (map kind_of rest) (kinds ks m)) ∙ ap (λ x. onto x (leasts (map kind_of rest) (kinds ks m))) (sym (kinds_more both one))
 
-pub least_stops : (ks : Nodes) (codes both rest : List ℕ) (n m code top : ℕ) (whole : Option (List Kind)) → codes ≡ code ∷ rest → stack ks n ≡ top ∷ stack ks m → least (kind_of code) (kind_of top) ≡ None
+pub least_stops : (ks : Nodes) (codes both rest : List ℕ) (n m code top : ℕ) (whole : Option (List Kind)) → codes ≡ code ∷ rest → stack ks n ≡ top ∷ stack ks m
+    → least (kind_of code) (kind_of top) ≡ None
     → whole ≡ onto (map kind_of both) (leasts (map kind_of codes) (kinds ks n)) → whole ≡ None
 least_stops ks codes both rest n m code top whole c s l w =
-    w ∙ (λ j. onto (map kind_of both) (leasts (map kind_of (c j)) (map kind_of (s j)))) ∙ ap (λ o. onto (map kind_of both) (joined o (leasts (map kind_of rest) (kinds ks m)))) l ∙ onto_none (map kind_of both) (leasts (map kind_of rest) (kinds ks m))
+    w ∙ (λ j. onto (map kind_of both) (leasts (map kind_of (c j)) (map kind_of (s j)))) ∙ ap (λ o. onto (map kind_of both) (joined o (leasts (map kind_of rest) (kinds ks m)))) l
+    ∙ onto_none (map kind_of both) (leasts (map kind_of rest) (kinds ks m))
 
-pub least_done : (ks : Nodes) (codes both : List ℕ) (n : ℕ) (whole : Option (List Kind)) → codes ≡ [] → whole ≡ onto (map kind_of both) (leasts (map kind_of codes) (kinds ks n)) → whole ≡ Some (map kind_of both)
+pub least_done : (ks : Nodes) (codes both : List ℕ) (n : ℕ) (whole : Option (List Kind)) → codes ≡ [] → whole ≡ onto (map kind_of both) (leasts (map kind_of codes) (kinds ks n))
+    → whole ≡ Some (map kind_of both)
 least_done ks codes both n whole c w = w ∙ ap (λ l. onto (map kind_of both) (leasts (map kind_of l) (kinds ks n))) c ∙ ap Some (append_none (map kind_of both))
   where
     append_none : (xs : List Kind) → xs ++ [] ≡ xs

@@ -1,5 +1,6 @@
 -- What the passes leave shows that an image breaks no rule.
-use Rattle.std.proofs.Common.{◌≡◌, ℕ, zero, suc, ◌+◌, ◌<◌, ◌≤◌, List, [], ◌∷◌, length, take, map, get_or, Option, Some, None, refl, sym, ap, ◌∙◌, subst, ⊎_elim, inr, arith, Bool, true, false, nat_lt, nat_eq, cond}
+use Rattle.std.proofs.Common.{◌≡◌, ℕ, zero, suc, ◌+◌, ◌<◌, ◌≤◌, List, [], ◌∷◌, length, take, map, get_or, Option, Some, None, refl, sym, ap, ◌∙◌, subst, ⊎_elim, inr}
+use Rattle.std.proofs.Common.{arith, Bool, true, false, nat_lt, nat_eq, cond}
 use Rattle.std.specs.Prelude.{◌&&◌, if◌then◌else◌, slice_get, count_by}
 use Rattle.std.specs.List.{list_all}
 use Rattle.std.proofs.lemmas.List.Sums.{sum_by-cons}
@@ -35,7 +36,8 @@ main_there (g ∷ fs) h = by (is_main g) refl (λ k. main_there fs k)
     one : Bool → ℕ
     one b = cond b 1 0
 
-    by : (b : Bool) → is_main g ≡ b → (1 ≤ count_by is_main fs → (k : ImageFunction) × (slice_get fs (main_from 0 fs) ≡ Some k)) → (k : ImageFunction) × (slice_get (g ∷ fs) (if b then 0 else main_from 1 fs) ≡ Some k)
+    by : (b : Bool) → is_main g ≡ b → (1 ≤ count_by is_main fs → (k : ImageFunction) × (slice_get fs (main_from 0 fs) ≡ Some k))
+        → (k : ImageFunction) × (slice_get (g ∷ fs) (if b then 0 else main_from 1 fs) ≡ Some k)
     by true e ih = (g, refl)
     by false e ih =
         let n : count_by is_main (g ∷ fs) ≡ one (is_main g) + count_by is_main fs = sum_by-cons (λ x. cond (is_main x) 1 0) g fs in
@@ -50,7 +52,8 @@ fourth a b c d e h = both_left d e (both_right c (d && e) (both_right b (c && (d
 one_main : (i : Parts) → laid_out i ≡ true → 1 ≤ count_by is_main i.functions
 one_main i l =
     let e : nat_eq (count_by is_main i.functions) 1 ≡ true =
-    fourth (nat_lt (length i.code) 2147483648) (rises i.functions) (list_all (λ g. nat_lt g.entry (length i.code)) i.functions) (nat_eq (count_by is_main i.functions) 1) (list_all has_frame i.functions) l in
+    fourth (nat_lt (length i.code) 2147483648) (rises i.functions) (list_all (λ g. nat_lt g.entry (length i.code)) i.functions) (nat_eq (count_by is_main i.functions) 1)
+    (list_all has_frame i.functions) l in
     let n : count_by is_main i.functions ≡ 1 = grind (arith, e) in omega (arith, n)
 
 pub function_there : (fs : List ImageFunction) (f : ℕ) → f < length fs → (g : ImageFunction) × (slice_get fs f ≡ Some g)
@@ -103,7 +106,8 @@ module _ (i : Parts) (L : IsLaid i) (ranks : List ℕ) (R : IsRanked i ranks) (t
   walked_here h a x p c e = (known.seen_walked i L.laid ranks R done closed tab ps D h a p x c e).1
 
   -- a function that is executed is entered
-  pub entered : (h : ℕ) (g : ImageFunction) → done h ≡ true → is_walked i ps h ≡ true → slice_get i.functions h ≡ Some g → (tab g.entry ≡ Some (pair [] [])) × (x : Placed) × (code_at i h g.entry ≡ Some x)
+  pub entered : (h : ℕ) (g : ImageFunction) → done h ≡ true → is_walked i ps h ≡ true → slice_get i.functions h ≡ Some g
+      → (tab g.entry ≡ Some (pair [] [])) × (x : Placed) × (code_at i h g.entry ≡ Some x)
   entered h g d w e =
       let W = D.works h d w in
       let s : own_marks i h tab g.entry ≡ Some (pair [] []) = ⊎_elim (λ q. q) (λ q. absurd q) (W.start g e) in
@@ -178,5 +182,6 @@ module _ (i : Parts) (L : IsLaid i) (ranks : List ℕ) (R : IsRanked i ranks) (t
     }
 
 -- so there is a table of kinds with which it is verified
-pub verified_of : (i : Parts) → IsLaid i → ((f : ℕ) → IsNamed i f) → (ranks : List ℕ) → IsRanked i ranks → (tab : Marks) → IsExamined i tab → (bound : ℕ → ℕ) → HasRoom i tab bound → (t : Typing) × IsVerified i t
+pub verified_of : (i : Parts) → IsLaid i → ((f : ℕ) → IsNamed i f) → (ranks : List ℕ) → IsRanked i ranks → (tab : Marks) → IsExamined i tab → (bound : ℕ → ℕ) → HasRoom i tab bound
+    → (t : Typing) × IsVerified i t
 verified_of i L named ranks R tab E bound H = (all i L ranks R tab E.0 E.1 named bound H, verified i L ranks R tab E.0 E.1 named bound H)

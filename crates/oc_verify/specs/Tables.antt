@@ -1,5 +1,6 @@
 -- What the verifier keeps of the addresses that it has looked at.
-use Rattle.std.specs.Prelude.{◌≡◌, ◌<◌, ℕ, ◌+◌, List, [], ◌∷◌, length, map, reverse, replicate, take, Option, Some, None, Bool, true, false, ◌&&◌, ◌||◌, nat_eq, nat_lt, slice_get, slice_set, if◌then◌else◌, ◌==◌, count_by}
+use Rattle.std.specs.Prelude.{◌≡◌, ◌<◌, ℕ, ◌+◌, ◌*◌, ◌/◌, ◌%◌, List, [], ◌∷◌, length, map, reverse, replicate, take, Option, Some, None, Bool, true, false, ◌&&◌, ◌||◌, nat_eq, nat_lt}
+use Rattle.std.specs.Prelude.{slice_get, slice_set, if◌then◌else◌, ◌==◌, count_by}
 use Rattle.std.proofs.Math.ListN.{get_or}
 use Rattle.std.specs.List.{All}
 use Rattle.std.proofs.Common.{Vec, Global}
@@ -110,6 +111,16 @@ pub record SeenCall (i : Parts) (tab : Marks) (h g a : ℕ) (p : Pair) : Type 0 
 -- which calls were looked at, by the function and the address
 abbrev pub Calls : Type 0
 Calls = ℕ → ℕ → Bool
+
+-- a call of a function with the stack of this number, as one number
+abbrev pub call_number : (g n : ℕ) → ℕ
+call_number g n = g * 4294967296 + n
+
+abbrev pub number_callee : ℕ → ℕ
+number_callee k = k / 4294967296
+
+abbrev pub number_stack : ℕ → ℕ
+number_stack k = k % 4294967296
 
 -- these are the least kinds over the calls that were looked at, and functions without kinds are called at none of them
 pub record IsPassed (i : Parts) (seen : Calls) (tab : Marks) (ps : Passed) : Type 0 where

@@ -14,6 +14,8 @@ ghost use Rattle.std.specs.Prelude.{
   false,
   length,
   map,
+  nat_eq,
+  not,
   option_map,
   replicate,
   slice_get,
@@ -24,7 +26,7 @@ ghost use Rattle.std.specs.Prelude.{
   IfSome,
   OnOk,
 };
-ghost use Rattle.std.specs.List.{All};
+ghost use Rattle.std.specs.List.{All, list_any};
 ghost use Rattle.oc_isa.specs.declared.instr.Placed.{Placed};
 ghost use Rattle.oc_tree.specs.Reach.{linked};
 ghost use Rattle.oc_verify.specs.declared.fault.VerifyError.TheVariants as errors;
@@ -40,7 +42,7 @@ ghost use Rattle.oc_verify.specs.Rules.{
   params_of,
   slot_right,
 };
-ghost use Rattle.oc_verify.specs.Stacks.{stack};
+ghost use Rattle.oc_verify.specs.Stacks.{stack, with_node};
 ghost use Rattle.oc_verify.specs.Tables.{
   BlamesMixed,
   BlamesSlot,
@@ -54,6 +56,7 @@ ghost use Rattle.oc_verify.specs.Tables.{
   Mixes,
   MixesWith,
   SeenCall,
+  call_number,
   codes_of,
   is_walked,
   own_marks,
@@ -72,6 +75,7 @@ use crate::fault::VerifyError;
 use crate::slots::{Slots, is_plain_right};
 use crate::stacks::Stacks;
 use crate::walk::{Table, Walk};
+use indexmap::IndexSet;
 use oc_isa::instr::Instr;
 use std::alloc::{AllocError, Global};
 
@@ -203,6 +207,21 @@ fn pass(
     Ok(())
 }
 
+/// Whether no call of this function with this stack was kept, which then is.
+fn is_new(calls: &mut IndexSet<u64>, callee: u32, ops: u32) -> Result<bool, VerifyError>
+    ensures kept { OnOk result
+        (calls.new.keys ≡ with_node calls.old.keys (call_number callee ops)) }
+    ensures new { IfOk result
+        (λ b. b ≡ not (list_any (nat_eq (call_number callee ops)) calls.old.keys)) }
+    ensures small { ops < 4294967296 }
+    ensures fault { IfErr result (λ e. e ≡ errors.Memory) }
+{
+    match calls.insert_full(callee as u64 * 4294967296 + ops as u64) {
+        Ok((_, is_new)) => Ok(is_new),
+        Err(_) => Err(VerifyError::Memory),
+    }
+}
+
 /// The kinds at all calls in the code of a function that was walked through.
 fn pass_all(
     alloc: Global,
@@ -231,10 +250,13 @@ fn pass_all(
 {
     let image = facts.image();
     let (entry, end) = facts.stretch(function);
+    let mut calls = IndexSet::new(alloc);
     for at in entry..end {
         if let Some((ops, _)) = table.cells[at] {
             if let Instr::Call { f } = image.code[at].instr {
-                pass(alloc, facts, &table.tops, passed, f as usize, ops)?;
+                if is_new(&mut calls, f, ops)? {
+                    pass(alloc, facts, &table.tops, passed, f as usize, ops)?;
+                }
             }
         }
     }

@@ -116,7 +116,8 @@ fn targets_fit(words: u64, targets: &[Target]) -> bool
 }
 
 fn regions_fit(words: u64, regions: &[Vec<Target>]) -> bool
-    ensures { result ≡ list_all (λ ts. list_all (fits_in words) ts) (map (λ r. r.items) regions.now) }
+    ensures { result
+        ≡ list_all (λ ts. list_all (fits_in words) ts) (map (λ r. r.items) regions.now) }
 {
     for targets in regions {
         if !targets_fit(words, targets) {

@@ -31,17 +31,20 @@ use std::marker::Model;
 #[derive(Drop)]
 pub struct Stacks {
     nodes: IndexSet<u64>,
+    /// The last answer of `without`: so many words off this stack leave that one.
+    last: (u32, u32, u32),
 }
 
 impl Model for Stacks {
     ghost use Rattle.std.specs.Prelude.{ℕ, List};
     ghost use Rattle.oc_verify.specs.Stacks.{AreNodes};
+    ghost use Rattle.oc_verify.specs.Told.{Leaves};
 
     ghost Value = { List ℕ };
 
     ghost view = { λ s. s.nodes.keys };
 
-    ghost invariant = { λ s. AreNodes s.nodes.keys };
+    ghost invariant = { λ s. AreNodes s.nodes.keys × Leaves s.nodes.keys s.last };
 }
 
 impl Stacks {
@@ -51,6 +54,7 @@ impl Stacks {
     {
         Stacks {
             nodes: IndexSet::new(alloc),
+            last: (0, 0, 0),
         }
     }
 
@@ -169,7 +173,24 @@ impl Stacks {
     }
 
     /// The kinds below so many arguments.
-    pub fn without(&self, count: u32, ops: u32) -> Result<u32, Fault>
+    pub fn without(&mut self, count: u32, ops: u32) -> Result<u32, Fault>
+        requires { ops ≤ length self.old }
+        ensures exact { Tells (λ n. kinds self.old n) result
+            (dropping count (kinds self.old ops)) }
+        ensures within { IfOk result (λ n. n ≤ length self.old) }
+        ensures same { self.new ≡ self.old }
+    {
+        let (last_count, last_ops, last_rest) = self.last;
+        if count == last_count && ops == last_ops {
+            return Ok(last_rest);
+        }
+        let rest = self.below(count, ops)?;
+        self.last = (count, ops, rest);
+        Ok(rest)
+    }
+
+    /// The kinds below so many arguments, one by one.
+    fn below(&self, count: u32, ops: u32) -> Result<u32, Fault>
         requires { ops ≤ length self.now }
         ensures exact { Tells (λ n. kinds self.now n) result
             (dropping count (kinds self.now ops)) }

@@ -127,7 +127,11 @@ impl<'a, 'i, 's> Model for Walk<'a, 'i, 's> {
 
     ghost Value = { Scene };
 
-    ghost view = { λ w. record { image = w.facts.now; function = w.function; codes = w.slots.now.codes } };
+    ghost view = { λ w. record {
+      image = w.facts.now;
+      function = w.function;
+      codes = w.slots.now.codes;
+    } };
 
     ghost invariant = { λ w. (w.function < length w.facts.now.functions)
         × (own_list w.slots.now
@@ -142,7 +146,8 @@ impl<'a, 'i, 's> Walk<'a, 'i, 's> {
         requires slots { own_list slots.now ≡ own_slots facts.now function
             (map kind_of slots.now.codes) }
         requires named { IsNamed facts.now function }
-        ensures { result ≡ record { image = facts.now; function = function; codes = slots.now.codes } }
+        ensures { result
+            ≡ record { image = facts.now; function = function; codes = slots.now.codes } }
     {
         Walk {
             facts,

@@ -17,7 +17,8 @@ pub returns-then-is_retv : goal.returns-then-is_retv
 returns-then-is_retv c =
     let code = c.args.image.now.code.items in
     let s = end_inside (parts_of c.args.image.now) c.requires.laid.laid c.args.function in
-    let l : c.loop-at.at < length code = (let q : c.code_end-at-end.result ≡ end_at c.args.image.now.functions.items (length code) c.args.function = search rules in let t = c.loop-at-test.true in omega (arith, q, s, t)) in
+    let l : c.loop-at.at < length code = (let q : c.code_end-at-end.result ≡ end_at c.args.image.now.functions.items (length code) c.args.function = search rules in let t = c.loop-at-test.true in
+    omega (arith, q, s, t)) in
     let e = slice_get_read code (length code) c.loop-at.at c.index-in-loop-at.result.now refl l c.index-in-loop-at.ensures in
     let t : is_retv c.index-in-loop-at.result.now.instr ≡ true = search rules in
     sym (c.loop-at.invariant ∙ before_here is_retv c.code_end-at-end.result c.loop-at.at c.args.image.now.code.items c.index-in-loop-at.result.now e c.loop-at-test.true t)
@@ -26,7 +27,8 @@ pub loop-at-preserved : goal.loop-at-preserved
 loop-at-preserved c =
     let code = c.args.image.now.code.items in
     let s = end_inside (parts_of c.args.image.now) c.requires.laid.laid c.args.function in
-    let l : c.loop-at.at < length code = (let q : c.code_end-at-end.result ≡ end_at c.args.image.now.functions.items (length code) c.args.function = search rules in let t = c.loop-at-test.true in omega (arith, q, s, t)) in
+    let l : c.loop-at.at < length code = (let q : c.code_end-at-end.result ≡ end_at c.args.image.now.functions.items (length code) c.args.function = search rules in let t = c.loop-at-test.true in
+    omega (arith, q, s, t)) in
     let e = slice_get_read code (length code) c.loop-at.at c.index-in-loop-at.result.now refl l c.index-in-loop-at.ensures in
     let t : is_retv c.index-in-loop-at.result.now.instr ≡ false = search rules in
     let n : suc c.loop-at.at ≡ c.loop-at.at + 1 = omega arith in

@@ -11,13 +11,15 @@ use Rattle.oc_verify.proofs.kinds.check_slots.Goals as goal
 
 pub returns-then-not-is_right-clause-fault : goal.returns-then-not-is_right-clause-fault
 returns-then-not-is_right-clause-fault c =
-    let e = here (parts_of c.image-image.result.now) c.args.facts.now c.image-image.ensures.image c.args.function c.stretch-entry.result c.stretch-entry.ensures c.loop-at.at c.loop-at.auto.at c.loop-at-test.true c.index.result.now c.index.ensures in
+    let e = here (parts_of c.image-image.result.now) c.args.facts.now c.image-image.ensures.image c.args.function c.stretch-entry.result c.stretch-entry.ensures c.loop-at.at c.loop-at.auto.at
+    c.loop-at-test.true c.index.result.now c.index.ensures in
     let h : slot_right (own_list c.args.slots.now) c.index.result.now.instr ≡ false = search rules in
     (refl, c.index.result.now, e.1, h)
 
 pub loop-at-preserved : goal.loop-at-preserved
 loop-at-preserved c = λ a p l u e.
-    let s = here (parts_of c.image-image.result.now) c.args.facts.now c.image-image.ensures.image c.args.function c.stretch-entry.result c.stretch-entry.ensures c.loop-at.at c.loop-at.auto.at c.loop-at-test.true c.index.result.now c.index.ensures in
+    let s = here (parts_of c.image-image.result.now) c.args.facts.now c.image-image.ensures.image c.args.function c.stretch-entry.result c.stretch-entry.ensures c.loop-at.at c.loop-at.auto.at
+    c.loop-at-test.true c.index.result.now c.index.ensures in
     let h : slot_right (own_list c.args.slots.now) c.index.result.now.instr ≡ true = search rules in
     ⊎_elim
     (λ q. let z : Some c.index.result.now ≡ Some p = sym s.0 ∙ ap (slice_get c.args.facts.now.code) (sym q.1) ∙ e in

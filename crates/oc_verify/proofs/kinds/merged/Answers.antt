@@ -27,11 +27,13 @@ loop-code-preserved c =
       sized = search rules;
       small = subst (All (λ x. x < 8589934592)) (sym pushed) (All-push (λ x. x < 8589934592) both one c.loop-code.invariant.small c.in-Some-least.ensures.small);
       whole = subst (λ xs. W ≡ onto (map kind_of xs) (leasts (map kind_of (drop (i + 1) codes)) (kinds ks c.in-Some.below))) (sym pushed)
-          (least_next ks (drop i codes) both (drop (i + 1) codes) c.loop-code.rest c.in-Some.below (get_or codes i 0) c.in-Some.other one W next s c.in-Some-least.ensures.least c.loop-code.invariant.whole);
+          (least_next ks (drop i codes) both (drop (i + 1) codes) c.loop-code.rest c.in-Some.below (get_or codes i 0) c.in-Some.other one W next s c.in-Some-least.ensures.least
+          c.loop-code.invariant.whole);
     }
 
 pub returns-clause-least : goal.returns-clause-least
 returns-clause-least c =
     let codes = c.args.codes.now in
     let past : length codes ≤ c.loop-code.code-index = search rules in
-    least_done c.args.tops.now (drop c.loop-code.code-index codes) c.loop-code.both.items c.loop-code.rest (leasts (map kind_of codes) (kinds c.args.tops.now c.args.ops)) (drop_past codes c.loop-code.code-index past) c.loop-code.invariant.whole
+    least_done c.args.tops.now (drop c.loop-code.code-index codes) c.loop-code.both.items c.loop-code.rest (leasts (map kind_of codes) (kinds c.args.tops.now c.args.ops))
+    (drop_past codes c.loop-code.code-index past) c.loop-code.invariant.whole

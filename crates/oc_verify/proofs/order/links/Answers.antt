@@ -21,7 +21,9 @@ loop-at-preserved c =
     let x = placed_there code a low in
     let g : n ≡ goes_on c.loop-at.function a (slice_get fs (c.loop-at.function + 1)) = search rules in
     let e : drop a code ≡ x.0 ∷ drop (a + 1) code = drop_more code a x.0 low ∙ ap (λ y. y ∷ drop (a + 1) code) (get_or_from_slice_get code a x.0 x.0 x.1) in
-    let added : c.add_link.new.links.items ≡ c.loop-at.links.items ++ link_from n x.0.instr = c.in_ok-add_link.ensures ∙ ap (λ (y : Placed). c.loop-at.links.items ++ link_from n y.instr) (ap (λ (ys : List Placed). get_or ys a nothing) c.deref-placed-items.ensures.value ∙ get_or_from_slice_get code a x.0 nothing x.1) in
+    let added : c.add_link.new.links.items ≡ c.loop-at.links.items ++ link_from n x.0.instr = c.in_ok-add_link.ensures
+    ∙ ap (λ (y : Placed). c.loop-at.links.items ++ link_from n y.instr)
+    (ap (λ (ys : List Placed). get_or ys a nothing) c.deref-placed-items.ensures.value ∙ get_or_from_slice_get code a x.0 nothing x.1) in
     record {
       low = subst (λ m. m ≤ a + 1) (sym g) (going_low c.loop-at.function a (slice_get fs (c.loop-at.function + 1)) c.loop-at.invariant.low);
       whole = ap (λ ls. ls ++ links_on n (a + 1) (drop (n + 1) fs) (drop (a + 1) code)) added
@@ -33,4 +35,5 @@ returns c =
     let code = c.args.image.now.code.items in
     let fs = c.args.image.now.functions.items in
     let past : length code ≤ c.loop-at.at = search rules in
-    all_links c.loop-at.links.items c.loop-at.function c.loop-at.at (drop (c.loop-at.function + 1) fs) (drop c.loop-at.at code) (calls_of (parts_of c.args.image.now)) (drop_past code c.loop-at.at past) c.loop-at.invariant.whole
+    all_links c.loop-at.links.items c.loop-at.function c.loop-at.at (drop (c.loop-at.function + 1) fs) (drop c.loop-at.at code) (calls_of (parts_of c.args.image.now))
+    (drop_past code c.loop-at.at past) c.loop-at.invariant.whole

@@ -10,19 +10,22 @@ use Rattle.oc_verify.proofs.facts.Facts.check_names.Goals as goal
 
 pub returns-then-not-names_exist-clause-blames : goal.returns-then-not-names_exist-clause-blames
 returns-then-not-names_exist-clause-blames c =
-    let e = here (parts_of c.self.inside.image.now) c.args.self.now c.self.view_is c.args.function c.stretch-entry.result c.stretch-entry.ensures c.loop-at.at c.loop-at.auto.at c.loop-at-test.true c.index.result.now c.index.ensures in
+    let e = here (parts_of c.self.inside.image.now) c.args.self.now c.self.view_is c.args.function c.stretch-entry.result c.stretch-entry.ensures c.loop-at.at c.loop-at.auto.at
+    c.loop-at-test.true c.index.result.now c.index.ensures in
     let h : names_exist c.args.self.now c.args.function c.index.result.now.instr ≡ false = search rules in
     names c.args.function c.loop-at.at c.index.result.now e.1 h
 
 pub returns-then-not-returns_right-clause-blames : goal.returns-then-not-returns_right-clause-blames
 returns-then-not-returns_right-clause-blames c =
-    let e = here (parts_of c.self.inside.image.now) c.args.self.now c.self.view_is c.args.function c.stretch-entry.result c.stretch-entry.ensures c.loop-at.at c.loop-at.auto.at c.loop-at-test.true c.index.result.now c.index.ensures in
+    let e = here (parts_of c.self.inside.image.now) c.args.self.now c.self.view_is c.args.function c.stretch-entry.result c.stretch-entry.ensures c.loop-at.at c.loop-at.auto.at
+    c.loop-at-test.true c.index.result.now c.index.ensures in
     let h : returns_right c.args.self.now c.args.function c.index.result.now.instr ≡ false = search rules in
     wrong_return c.args.function c.loop-at.at c.index.result.now e.1 h
 
 pub loop-at-preserved : goal.loop-at-preserved
 loop-at-preserved c = λ a p l u e.
-    let s = here (parts_of c.self.inside.image.now) c.args.self.now c.self.view_is c.args.function c.stretch-entry.result c.stretch-entry.ensures c.loop-at.at c.loop-at.auto.at c.loop-at-test.true c.index.result.now c.index.ensures in
+    let s = here (parts_of c.self.inside.image.now) c.args.self.now c.self.view_is c.args.function c.stretch-entry.result c.stretch-entry.ensures c.loop-at.at c.loop-at.auto.at
+    c.loop-at-test.true c.index.result.now c.index.ensures in
     let h : names_exist c.args.self.now c.args.function c.index.result.now.instr ≡ true = search rules in
     let k : returns_right c.args.self.now c.args.function c.index.result.now.instr ≡ true = search rules in
     ⊎_elim

@@ -45,4 +45,5 @@ pub returns : goal.returns
 returns c =
     let o : Own = record { main = c.self.inside.main; function = c.self.inside.function.now; codes = c.self.inside.codes.now } in
     let u : length c.self.inside.codes.now ≤ c.args.slot = c.if-place-params.false in
-    own_run_above o c.args.slot c.if-self.false (c.self.invariant.1 c.if-self.false) u (ap (λ w. level (own_list w) c.args.slot) c.self.view_is ∙ c.requires) ∙ ap (λ w. run (own_list w) c.args.slot 0) c.self.view_is
+    own_run_above o c.args.slot c.if-self.false (c.self.invariant.1 c.if-self.false) u (ap (λ w. level (own_list w) c.args.slot) c.self.view_is ∙ c.requires)
+    ∙ ap (λ w. run (own_list w) c.args.slot 0) c.self.view_is

@@ -6,7 +6,7 @@ use Rattle.oc_verify.proofs.stacks.Stacks.is_same.Goals as goal
 
 pub returns-clause-differ : goal.returns-clause-differ
 returns-clause-differ c = λ e d.
-    let a : AreNodes c.args.self.now = subst AreNodes (search rules) c.self.invariant in
+    let a : AreNodes c.args.self.now = subst AreNodes (search rules) c.self.invariant.0 in
     let s : c.args.left ≡ c.args.right = same_number c.args.self.now a c.args.left c.args.right c.requires.left c.requires.right d in
     let t : (c.args.left == c.args.right) ≡ true = grind (arith, s) in
     let z : true ≡ false = sym t ∙ e in

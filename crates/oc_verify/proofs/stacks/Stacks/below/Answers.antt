@@ -1,7 +1,7 @@
 use Rattle.std.proofs.Common.{◌≡◌, ◌+◌, suc, drop, map, ap, sym, ◌∙◌, arith}
 use Rattle.oc_verify.specs.Told.{kind_of, kinds}
 use Rattle.oc_verify.proofs.DropLaws.{drop_next, dropped_out}
-use Rattle.oc_verify.proofs.stacks.Stacks.without.Goals as goal
+use Rattle.oc_verify.proofs.stacks.Stacks.below.Goals as goal
 
 pub returns-in-None-clause-exact : goal.returns-in-None-clause-exact
 returns-in-None-clause-exact c =

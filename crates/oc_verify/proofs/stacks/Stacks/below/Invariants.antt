@@ -1,6 +1,6 @@
 use Rattle.std.proofs.Common.{◌≡◌, ◌≤◌, length, drop}
 use Rattle.oc_verify.specs.Told.{kinds}
-use Rattle.oc_verify.proofs.stacks.Stacks.without.Given as goal
+use Rattle.oc_verify.proofs.stacks.Stacks.below.Given as goal
 
 abbrev pub invariant-loop-done : goal.invariant-loop-done
 invariant-loop-done l = record {

@@ -1,5 +1,6 @@
 -- Of a whole report meters are told the items.
-use Rattle.std.proofs.Common.{ℕ, zero, suc, ℤ, ◌+◌, ◌<◌, ◌^◌, ◌≡◌, cond, Bool, true, false, List, [], ◌∷◌, ◌++◌, map, take, drop, get_or, codes, decimal, refl, sym, ap, subst, ◌∙◌, append_assoc, arith}
+use Rattle.std.proofs.Common.{ℕ, zero, suc, ℤ, ◌+◌, ◌<◌, ◌^◌, ◌≡◌, cond, Bool, true, false, List, [], ◌∷◌, ◌++◌, map, take, drop, get_or, codes, decimal, refl, sym, ap}
+use Rattle.std.proofs.Common.{subst, ◌∙◌, append_assoc, arith}
 use Rattle.std.specs.Fmt.{signed_decimal}
 use Rattle.std.specs.List.{All}
 use Rattle.std.proofs.lemmas.List.{take_all}
@@ -23,7 +24,8 @@ module _ (names : NameLists) (s : AreApart names.sensors) (p : AreApart names.po
   -- two items with one line are the same
   one_item : (i j : Item) → IsItem names i → IsItem names j → item_line names i ≡ item_line names j → i ≡ j
   one_item i j h k e =
-      let both : (i ∷ []) ≡ (j ∷ []) = one_text names (i ∷ []) (j ∷ []) s p (All-cons (IsItem names) i [] h (All-nil (IsItem names))) (All-cons (IsItem names) j [] k (All-nil (IsItem names))) (ap (λ (l : List ℕ). l ++ []) e) in
+      let both : (i ∷ []) ≡ (j ∷ []) = one_text names (i ∷ []) (j ∷ []) s p (All-cons (IsItem names) i [] h (All-nil (IsItem names))) (All-cons (IsItem names) j [] k (All-nil (IsItem names)))
+      (ap (λ (l : List ℕ). l ++ []) e) in
       cc both
 
   told_item : (i : Item) (line : List ℕ) (old new : List Reading) → IsItem names i → place_of i < 2 ^ 8 → item_line names i ≡ line ++ codes "\n" → IsTold names line old new → new ≡ tell_readings i old
@@ -53,7 +55,8 @@ module _ (names : NameLists) (s : AreApart names.sensors) (p : AreApart names.po
       append_assoc (item_line names i) (report_text names items) rest ∙ ap (λ (x : List ℕ). x ++ more) whole.is ∙ append_assoc whole.line (codes "\n") more in
       let passed = passes names whole.line more old new whole.free (subst (λ (x : List ℕ). TakesBytes names (begun old) x new) text t) in
       let short : take (most names) whole.line ≡ whole.line = take_all (most names) whole.line (omega (arith, line_length names i whole.line here whole.is)) in
-      let one : passed.readings ≡ tell_readings i old = told_item i whole.line old passed.readings here (first_of_all (λ j. place_of j < 2 ^ 8) i items l) whole.is (subst (λ (x : List ℕ). IsTold names x old passed.readings) short passed.told) in
+      let one : passed.readings ≡ tell_readings i old = told_item i whole.line old passed.readings here (first_of_all (λ j. place_of j < 2 ^ 8) i items l) whole.is
+      (subst (λ (x : List ℕ). IsTold names x old passed.readings) short passed.told) in
       after_items items rest (tell_readings i old) new (rest_of_all (IsItem names) i items h) (rest_of_all (λ j. place_of j < 2 ^ 8) i items l)
       (subst (λ (r : List Reading). TakesBytes names (begun r) more new) one passed.others)
 

@@ -36,8 +36,11 @@ impl<O: Sink, M: Meter> Sink for MeterSink<'_, O, M> {
     ghost use Rattle.oc_meters.specs.Reads.{page};
     ghost use Rattle.oc_meters.specs.Taken.{Took, took_nothing, took_both};
 
-    ghost took = { λ a x b. (b.inner.ghost_name ≡ a.inner.ghost_name) × (b.book.ghost_name ≡ a.book.ghost_name)
-        × O.took a.inner.now x b.inner.now × Took a.failed b.failed (O.faults a.inner.now) (O.faults b.inner.now) a.book.now.names b.book.now.names
+    ghost took = { λ a x b. (b.inner.ghost_name ≡ a.inner.ghost_name)
+        × (b.book.ghost_name ≡ a.book.ghost_name)
+        × O.took a.inner.now x b.inner.now
+        × Took a.failed b.failed (O.faults a.inner.now) (O.faults b.inner.now)
+        a.book.now.names b.book.now.names
         (page M.kind_of M.numbers a.book.now.line.bytes a.book.now.meters.items) x
         (page M.kind_of M.numbers b.book.now.line.bytes b.book.now.meters.items) };
 
@@ -70,12 +73,19 @@ impl<O: Sink, M: Meter> Sink for MeterSink<'_, O, M> {
         }
     }
 
-    ghost took_nothing = { λ s. (refl, refl, O.took_nothing s.inner.now, took_nothing s.failed (O.faults s.inner.now) s.book.now.names _) };
+    ghost took_nothing = { λ s. (
+      refl,
+      refl,
+      O.took_nothing s.inner.now,
+      took_nothing s.failed (O.faults s.inner.now) s.book.now.names _,
+    ) };
 
     ghost took_both = { λ a b c x y p q. (
       q.0 ∙ p.0,
       q.1 ∙ p.1,
       O.took_both a.inner.now b.inner.now c.inner.now x y p.2 q.2,
-      took_both a.failed b.failed c.failed (O.faults a.inner.now) (O.faults b.inner.now) (O.faults c.inner.now) a.book.now.names b.book.now.names c.book.now.names _ x _ y _ p.3 q.3,
+      took_both a.failed b.failed c.failed
+          (O.faults a.inner.now) (O.faults b.inner.now) (O.faults c.inner.now)
+          a.book.now.names b.book.now.names c.book.now.names _ x _ y _ p.3 q.3,
     ) };
 }

@@ -5,5 +5,6 @@ use Rattle.oc_meters.proofs.meter.tell_all.Goals as goal
 
 pub loop-meter-preserved : goal.loop-meter-preserved
 loop-meter-preserved g c =
-    let told = subst (λ m. reading g.M.Meter.kind_of g.M.Meter.numbers c.tell.new.self ≡ tell_reading c.args.item.now (reading g.M.Meter.kind_of g.M.Meter.numbers m)) (sym c.meter-item.is) (rw (c.tell.ensures.kind, c.tell.ensures.numbers) refl) in
+    let told = subst (λ m. reading g.M.Meter.kind_of g.M.Meter.numbers c.tell.new.self ≡ tell_reading c.args.item.now (reading g.M.Meter.kind_of g.M.Meter.numbers m)) (sym c.meter-item.is)
+    (rw (c.tell.ensures.kind, c.tell.ensures.numbers) refl) in
     half_on (reading g.M.Meter.kind_of g.M.Meter.numbers) (tell_reading c.args.item.now) _ _ _ _ _ c.loop-meter.invariant (omega arith) c.meter-item.is told

@@ -15,7 +15,8 @@ pub returns-in-Err-put_number-clause-part : goal.returns-in-Err-put_number-claus
 returns-in-Err-put_number-clause-part g c =
     let count = rw c.kind-kind.ensures.kind at c.width-place-end.ensures in
     let among : c.loop-place.place < length (g.M.Meter.numbers c.args.meter.now) = omega (arith, c.loop-place-test.true, count, c.kind-kind.ensures.width) in
-    each_stop g.E.Sink.took g.met.E.Sink.took_both _ _ _ number_fields number_field number_fields-cons (g.M.Meter.numbers c.args.meter.now) _ 0 _ among c.loop-place.invariant.going (rw c.number.ensures at c.in-Err-put_number.ensures.part)
+    each_stop g.E.Sink.took g.met.E.Sink.took_both _ _ _ number_fields number_field number_fields-cons (g.M.Meter.numbers c.args.meter.now) _ 0 _ among c.loop-place.invariant.going
+    (rw c.number.ensures at c.in-Err-put_number.ensures.part)
 
 pub loop-place-preserved : goal.loop-place-preserved
 loop-place-preserved g c =
@@ -23,7 +24,8 @@ loop-place-preserved g c =
     let among : c.loop-place.place < length (g.M.Meter.numbers c.args.meter.now) = omega (arith, c.loop-place-test.true, count, c.kind-kind.ensures.width) in
     record {
       count = omega arith;
-      going = each_on g.E.Sink.took g.met.E.Sink.took_both _ _ _ number_fields number_field number_fields-cons (g.M.Meter.numbers c.args.meter.now) _ 0 _ among c.loop-place.invariant.going (rw c.number.ensures at c.in_default-put_number.ensures.ok);
+      going = each_on g.E.Sink.took g.met.E.Sink.took_both _ _ _ number_fields number_field number_fields-cons (g.M.Meter.numbers c.args.meter.now) _ 0 _ among c.loop-place.invariant.going
+          (rw c.number.ensures at c.in_default-put_number.ensures.ok);
     }
 
 pub returns-clause-part : goal.returns-clause-part

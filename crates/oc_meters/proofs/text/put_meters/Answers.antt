@@ -8,15 +8,19 @@ use Rattle.oc_meters.proofs.text.put_meters.Goals as goal
 
 pub returns-in-Err-clause-part : goal.returns-in-Err-clause-part
 returns-in-Err-clause-part g c =
-    let part : TookPart g.E.Sink.took c.loop-meter.err (meter_line (reading g.M.Meter.kind_of g.M.Meter.numbers (get_or c.args.meters.now c.loop-meter.meter-index c.meter-item.result))) c.put_meter.new.err = search rules in
-    each_stop g.E.Sink.took g.met.E.Sink.took_both _ _ _ (lines_of g.M.Meter.kind_of g.M.Meter.numbers) (λ m. meter_line (reading g.M.Meter.kind_of g.M.Meter.numbers m)) (lines_of-cons g.M.Meter.kind_of g.M.Meter.numbers)
+    let part : TookPart g.E.Sink.took c.loop-meter.err (meter_line (reading g.M.Meter.kind_of g.M.Meter.numbers (get_or c.args.meters.now c.loop-meter.meter-index c.meter-item.result)))
+    c.put_meter.new.err = search rules in
+    each_stop g.E.Sink.took g.met.E.Sink.took_both _ _ _ (lines_of g.M.Meter.kind_of g.M.Meter.numbers) (λ m. meter_line (reading g.M.Meter.kind_of g.M.Meter.numbers m))
+    (lines_of-cons g.M.Meter.kind_of g.M.Meter.numbers)
     c.args.meters.now _ c.meter-item.result _ c.loop-meter-test.true c.loop-meter.invariant.going part
 
 pub loop-meter-preserved : goal.loop-meter-preserved
 loop-meter-preserved g c =
-    let ok : g.E.Sink.took c.loop-meter.err (meter_line (reading g.M.Meter.kind_of g.M.Meter.numbers (get_or c.args.meters.now c.loop-meter.meter-index c.meter-item.result))) c.put_meter.new.err = search rules in
+    let ok : g.E.Sink.took c.loop-meter.err (meter_line (reading g.M.Meter.kind_of g.M.Meter.numbers (get_or c.args.meters.now c.loop-meter.meter-index c.meter-item.result)))
+    c.put_meter.new.err = search rules in
     record {
       count = omega arith;
-      going = each_on g.E.Sink.took g.met.E.Sink.took_both _ _ _ (lines_of g.M.Meter.kind_of g.M.Meter.numbers) (λ m. meter_line (reading g.M.Meter.kind_of g.M.Meter.numbers m)) (lines_of-cons g.M.Meter.kind_of g.M.Meter.numbers)
+      going = each_on g.E.Sink.took g.met.E.Sink.took_both _ _ _ (lines_of g.M.Meter.kind_of g.M.Meter.numbers) (λ m. meter_line (reading g.M.Meter.kind_of g.M.Meter.numbers m))
+          (lines_of-cons g.M.Meter.kind_of g.M.Meter.numbers)
           c.args.meters.now _ c.meter-item.result _ c.loop-meter-test.true c.loop-meter.invariant.going ok;
     }

@@ -21,7 +21,7 @@ use Rattle.oc_top.specs.Steps.{IsBuilt}
 
 module _ (source : List ℕ) (small : length source ≤ 1048576) where
   module _ (p : TProgram) (reads : ReadsAs source (program p)) where
-    is_written : IsWritten p
+    pub is_written : IsWritten p
     is_written =
         let s = reads.0 in
         let ts = lexemes_in false source s.tokens in

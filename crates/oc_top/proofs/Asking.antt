@@ -1,5 +1,5 @@
 -- How an answer to a task comes of its steps.
-use Rattle.std.proofs.Common.{ℕ, suc, ◌≡◌, ◌⊎◌, ◌∙◌, sym, ap, refl, subst, arith, inl, inr, List, [], ◌∷◌, length, Bool, Option, Some, None, true, true≢false}
+use Rattle.std.proofs.Common.{ℕ, suc, ◌≡◌, ◌≤◌, ◌⊎◌, ◌∙◌, sym, ap, refl, subst, arith, inl, inr, List, [], ◌∷◌, length, Bool, Option, Some, None, true, true≢false}
 use Rattle.oc_io.specs.declared.period.Period.{Period}
 use Rattle.std.specs.Prelude.{codes, option_map, if◌then◌else◌}
 use Rattle.oc_power.specs.Choice.{first_with}
@@ -29,13 +29,13 @@ use Rattle.oc_top.specs.Sources.{Reading, ReadsAs, faulty, breaks}
 use Rattle.oc_top.specs.Printed.{IsPrinted, not_built, put}
 use Rattle.oc_top.specs.Judged.{IsAudited, IsChecked, honest, not_audited, not_safe, safe}
 use Rattle.oc_top.specs.Judged as judged
-use Rattle.oc_top.specs.Verdict.{Verdict, runs, is_of_run, is_refusal, refuses, prints, printed, regions_of, listing_of, image_of}
-use Rattle.oc_top.specs.Headline.{IsHonestThroughout, IsRun, program_power}
+use Rattle.oc_top.specs.Verdict.{RunFits, Verdict, runs, is_of_run, is_refusal, refuses, prints, printed, regions_of, listing_of, image_of}
+use Rattle.oc_top.specs.Headline.{IsHonestThroughout, IsReportedRun, IsRun, program_power}
 use Rattle.oc_top.specs.Steps.{IsNotBuilt, IsReady, IsReadyFor, IsTurnedDown, by_memory, by_files}
-use Rattle.oc_top.specs.Answers.{IsVerdict, IsPrint, IsJudged, IsDone, Writes, IsWritten, whole, in_part, Call, call_of, HasTold, IsSilent, HasFiles, AreRefused, WasDone, IsWhole, Comes}
+use Rattle.oc_top.specs.Answers.{IsVerdict, IsPrint, IsJudged, IsDone, IsDoneWhole, Writes, IsWritten, whole, in_part, Call, call_of, HasTold, IsSilent, HasFiles, AreRefused, WasDone, IsWhole, Comes}
 use Rattle.oc_top.specs.declared.answer.Answer.{Answer}
 use Rattle.oc_top.specs.declared.answer.Answer.TheVariants as answer
-use Rattle.oc_top.proofs.Exactly.{done_answer}
+use Rattle.oc_top.proofs.Exactly.{done_answer, whole_done}
 use Rattle.oc_top.specs.Audited.{audited}
 use Rattle.oc_top.proofs.Auditing.{audit_refuses, said_refuses, without_program}
 use Rattle.oc_top.specs.Images.{IsAdmitted, IsNotRun}
@@ -44,7 +44,7 @@ use Rattle.oc_top.proofs.Executing.{is_executed}
 use Rattle.oc_top.proofs.Honesty.{honest_throughout}
 
 -- what is ready is a run of the program that the source spells
-pub ready_run : (files : Files) (plan : Plan) (machine : Running) (sensors : Told) (left : List Period) → IsReady files plan machine sensors left
+unfoldable pub ready_run : (files : Files) (plan : Plan) (machine : Running) (sensors : Told) (left : List Period) → IsReady files plan machine sensors left
     → IsRun files plan (runs machine.parts sensors.rows left)
 ready_run files plan machine sensors left r =
     let b = r.built in
@@ -71,6 +71,17 @@ ready_run files plan machine sensors left r =
           (subst (λ (i : Parts). AreSafe bounds (suc bounds.total) left → (how : Ending) × ((power_run (device_of i) (history sensors.rows) left).state.phase ≡ Over how)) b.is_code ends);
     }
 
+-- where it fits its types and is written whole, it is the run of a report
+pub reported_run : (files : Files) (plan : Plan) (machine : Running) (sensors : Told) (left : List Period) → IsReady files plan machine sensors left → length files.source ≤ source_limit
+    → RunFits machine.parts sensors.rows left → IsReportedRun files plan (runs machine.parts sensors.rows left)
+unfolding ready_run
+reported_run files plan machine sensors left r short fits = record {
+  is = ready_run files plan machine sensors left r;
+  short = short;
+  fits = subst (λ (ps : List Period). RunFits (program_code r.built.written) sensors.rows ps) r.planned
+      (subst (λ (i : Parts). RunFits i sensors.rows left) r.built.is_code fits);
+}
+
 -- ---- causes
 
 refusal : (c : Call) (told : List ℕ) (end : Answer) → is_refusal end ≡ true → AreRefused c told end → Comes c told end
@@ -85,7 +96,7 @@ refusal c told (answer.BadReport line) e r = r
 refusal c told (answer.Uncovered gap) e r = r
 refusal c told end e r = cc e
 
-whole_run : (c : Call) (told : List ℕ) (end : Answer) → is_of_run end ≡ true → WasDone c (IsWhole c told end) → Comes c told end
+whole_run : (c : Call) (told : List ℕ) (end : Answer) → is_of_run end ≡ true → WasDone c IsDoneWhole (IsWhole c told end) → Comes c told end
 whole_run c told answer.End e w = w
 whole_run c told answer.Trapped e w = w
 whole_run c told answer.Dark e w = w
@@ -137,21 +148,22 @@ module _ (c : Call) (task : Task) (asked : c.task ≡ Some task) where
     refused end e j t = refusal c [] end e (record { task = task; files = files; fetched = has_files; judged = j; silent = silence c t })
 
     -- what is wanted was done, and written in whole or in part; where it was written in whole, this is what the meters tell
-    pub was_told : (told : List ℕ) (run : Verdict) → IsDone files task.wanted run → (end : Answer)
+    pub was_told : (told : List ℕ) (run : Verdict) → IsDone files task.wanted run → (end : Answer) → ((end ≡ answer.WriteFault → ⊥) → IsDoneWhole files task.wanted run)
         → ((end ≡ answer.WriteFault → ⊥) → (c.out.rose → ⊥) → HasTold run.items (meters_of task.wanted) told)
         → (end ≡ answer.WriteFault → told ≡ []) → IsWritten c.out run end → Comes c told end
-    was_told told run d end tells untold (whole e t) =
+    was_told told run d end all tells untold (whole e t) =
         let of_run = ap is_of_run e ∙ done_answer files task.wanted run d in
-        let told_all = tells (λ fault. true≢false (sym of_run ∙ ap is_of_run fault)) in
+        let apart : end ≡ answer.WriteFault → ⊥ = λ fault. true≢false (sym of_run ∙ ap is_of_run fault) in
         whole_run c told end of_run
-        (record { task = task; files = files; fetched = has_files; run = run; done = d; came = record { answered = e; written = t; tells = told_all } })
-    was_told told run d end tells untold (in_part e p) =
+        (record { task = task; files = files; fetched = has_files; run = run; done = all apart; came = record { answered = e; written = t; tells = tells apart } })
+    was_told told run d end all tells untold (in_part e p) =
         subst (λ (x : Answer). Comes c told x) (sym e)
         (record { task = task; files = files; fetched = has_files; run = run; done = d; came = record { written = p; untold = untold e } })
 
     -- the same without meters
-    pub was_done : (run : Verdict) → IsDone files task.wanted run → (end : Answer) → meters_of task.wanted ≡ None → IsWritten c.out run end → Comes c [] end
-    was_done run d end none w = was_told [] run d end (λ apart calm. subst (λ (ms : Option (List Meter)). HasTold run.items ms []) (sym none) refl) (λ e. refl) w
+    pub was_done : (run : Verdict) → IsDoneWhole files task.wanted run → (end : Answer) → meters_of task.wanted ≡ None → IsWritten c.out run end → Comes c [] end
+    was_done run d end none w =
+        was_told [] run (whole_done files task.wanted run d) end (λ apart. d) (λ apart calm. subst (λ (ms : Option (List Meter)). HasTold run.items ms []) (sym none) refl) (λ e. refl) w
 
 module _ (c : Call) (first : ℕ) (plan : Plan) (meters : Option (List Meter)) (asked : c.task ≡ Some (record { first = first; wanted = report plan meters })) (files : Files)
     (fetched : AreFiles c.shelf.holds c.words first (run_limits source_limit) (listed files)) (all_asked : c.shelf.asked (names_of c.words first (run_limits source_limit) 3)) where
@@ -162,15 +174,13 @@ module _ (c : Call) (first : ℕ) (plan : Plan) (meters : Option (List Meter)) (
   module _ (machine : Running) (sensors : Told) (left : List Period) (ready : IsReady files plan machine sensors left) (end : Answer)
       (written : IsWritten c.out (runs machine.parts sensors.rows left) end) where
     -- a run was written, and this is what the meters tell of it
-    pub was_metered : (told : List ℕ) → ((end ≡ answer.WriteFault → ⊥) → (c.out.rose → ⊥) → HasTold (runs machine.parts sensors.rows left).items meters told)
+    pub was_metered : (told : List ℕ) → ((end ≡ answer.WriteFault → ⊥) → RunFits machine.parts sensors.rows left)
+        → ((end ≡ answer.WriteFault → ⊥) → (c.out.rose → ⊥) → HasTold (runs machine.parts sensors.rows left).items meters told)
         → (end ≡ answer.WriteFault → told ≡ []) → Comes c told end
-    was_metered told tells untold =
-        was_told c _ asked (listed files) fetched all_asked told (runs machine.parts sensors.rows left) (ready_run files plan machine sensors left ready) end tells untold written
-
-    -- it was written, and there are no meters
-    pub was_run : meters ≡ None → Comes c [] end
-    was_run none =
-        was_metered [] (λ apart calm. subst (λ (ms : Option (List Meter)). HasTold (runs machine.parts sensors.rows left).items ms []) (sym none) refl) (λ e. refl)
+    was_metered told fits tells untold =
+        let short : length files.source ≤ source_limit = (fetched.each 0 (omega arith)).within in
+        was_told c _ asked (listed files) fetched all_asked told (runs machine.parts sensors.rows left) (ready_run files plan machine sensors left ready) end
+        (λ apart. reported_run files plan machine sensors left ready short (fits apart)) tells untold written
 
 -- ---- texts of a source alone
 
@@ -185,7 +195,7 @@ refused_by source text end r = absurd r
 module _ (c : Call) (task : Task) (asked : c.task ≡ Some task) (source : List ℕ) (fetched : AreFiles c.shelf.holds c.words task.first (limits_of task.wanted) (source ∷ []))
     (all_asked : c.shelf.asked (names_of c.words task.first (limits_of task.wanted) (length (limits_of task.wanted)))) (text : TProgram → List ℕ)
     (is_judged : (run : Verdict) → IsVerdict source (λ reading. printed reading text) run → IsJudged (source ∷ []) task.wanted run)
-    (is_done : (run : Verdict) → IsPrint source text run → IsDone (source ∷ []) task.wanted run) (none : meters_of task.wanted ≡ None) (end : Answer) where
+    (is_done : (run : Verdict) → IsPrint source text run → IsDoneWhole (source ∷ []) task.wanted run) (none : meters_of task.wanted ≡ None) (end : Answer) where
   -- a text of the program was printed, or the source is refused
   text_comes : IsPrinted source text c.out end → Comes c [] end
   text_comes (not_built n t) = elim (refused_by source text end n) [

@@ -26,7 +26,8 @@ use Rattle.oc_top.proofs.Executing.{executed_judged, one_execution}
 use Rattle.oc_top.specs.Reports.{answer_by, answer_of, last_said}
 use Rattle.oc_top.specs.Verdict.{Verdict, verdict, printed, is_of_run, is_refusal, refuses, with_sensors, with_power}
 use Rattle.oc_top.specs.Headline.{IsRun}
-use Rattle.oc_top.specs.Answers.{status_of, is_written, IsVerdict, IsJudged, IsPrint, IsDone, Call, IsNoTask, IsUnfetched, HasFiles, AreRefused, WasDone, IsWhole, IsPart, HadNoMemory, Comes}
+use Rattle.oc_top.specs.Answers.{status_of, is_written, IsVerdict, IsJudged, IsPrint, IsDone, IsDoneWhole, Call, IsNoTask, IsUnfetched, HasFiles, AreRefused, WasDone}
+use Rattle.oc_top.specs.Answers.{IsWhole, IsPart, HadNoMemory, Comes}
 use Rattle.oc_top.specs.declared.answer.Answer.{Answer}
 use Rattle.oc_top.specs.declared.answer.Answer.TheVariants as answer
 
@@ -71,6 +72,11 @@ done_answer files imaging run d = print_answer _ _ run d
 done_answer files checking run d = ap (λ (v : Verdict). is_of_run v.answer) d.is_run
 done_answer files auditing run d = ap (λ (v : Verdict). is_of_run v.answer) d.is_run
 done_answer files (executing plan) run d = ap (λ (v : Verdict). is_of_run v.answer) d.is_run ∙ of_run d.image (history d.rows) (plan d.periods)
+
+-- what was written whole was done
+pub whole_done : (files : List (List ℕ)) (wanted : Wanted) (run : Verdict) → IsDoneWhole files wanted run → IsDone files wanted run
+whole_done files (report plan meters) run d = d.is
+whole_done files wanted run d = d
 
 done_judged : (files : List (List ℕ)) (wanted : Wanted) (run : Verdict) → IsDone files wanted run → IsJudged files wanted run
 done_judged files (report plan meters) run d = record { reading = program d.written; reads = d.spelled; is_verdict = run_verdict (run_files files) plan run d }
@@ -149,8 +155,8 @@ pub data Cause (c : Call) (told : List ℕ) (end : Answer) : Type 0 where
   unread : (word : ℕ) → end ≡ answer.Unreadable word → IsUnfetched c told word (λ held limit. c.shelf.rose ⊎ (held ≡ nothing)) → Cause c told end
   too_long : (word : ℕ) → end ≡ answer.TooLong word → IsUnfetched c told word Longer → Cause c told end
   refused : is_refusal end ≡ true → AreRefused c told end → Cause c told end
-  done : is_of_run end ≡ true → WasDone c (IsWhole c told end) → Cause c told end
-  in_part : end ≡ answer.WriteFault → WasDone c (IsPart c told) → Cause c told end
+  done : is_of_run end ≡ true → WasDone c IsDoneWhole (IsWhole c told end) → Cause c told end
+  in_part : end ≡ answer.WriteFault → WasDone c IsDone (IsPart c told) → Cause c told end
   no_memory : end ≡ answer.Memory → HadNoMemory c told → Cause c told end
 
 pub cause : (c : Call) (told : List ℕ) (end : Answer) → Comes c told end → Cause c told end
@@ -244,7 +250,8 @@ module _ (c : Call) (told : List ℕ) (task : Task) (asked : c.task ≡ Some tas
         let h = held_here w.task w.is_task w.place w.among in
         absurd (not_longer _ _ h.0 h.1.told h.1.within w.is_cause)
     by_cause on j calm silent end (refused e w) = inl (judged_same w.task w.files (refuses end) on w.fetched j w.judged)
-    by_cause on j calm silent end (done e w) = inl (w.came.answered ∙ judged_same w.task w.files w.run on w.fetched j (done_judged w.files w.task.wanted w.run w.done))
+    by_cause on j calm silent end (done e w) = inl (w.came.answered ∙ judged_same w.task w.files w.run on w.fetched j
+        (done_judged w.files w.task.wanted w.run (whole_done w.files w.task.wanted w.run w.done)))
     by_cause on j calm silent end (in_part e w) = absurd (silent w.came.written.rose)
     by_cause on j calm silent end (no_memory e w) = inr e
 

@@ -62,7 +62,8 @@ module _ (parts : Parts) (p : TProgram) (h : ℕ → ℕ → ℤ) (periods : Lis
 
   front_shown : (front rest : List Told) → front ++ rest ≡ report → IsPrefixOf (kept front) (plain_said p (kept_samples front))
   front_shown front rest e =
-      subst (λ (all : List Said). IsPrefixOf (kept front) all) (sym (plain_is p (kept_samples front))) (prefix_unmarked (marked front) (program_said p (kept_samples front)) (front_said front rest e).0)
+      subst (λ (all : List Said). IsPrefixOf (kept front) all) (sym (plain_is p (kept_samples front)))
+      (prefix_unmarked (marked front) (program_said p (kept_samples front)) (front_said front rest e).0)
 
   whole : (how : Ending) → EndsWith report (Ended how) → (marked report ≡ program_said p (kept_samples report)) × (words_left ≡ (plain_run p (kept_samples report)).nv)
   whole how e =

@@ -21,8 +21,10 @@ pub mod StandardPlans
 pub mod Naming
 pub mod Showing
 pub mod Printing
-pub mod Imaging
 pub mod Accepted
+pub mod ShortNames
+pub mod FewTargets
+pub mod Imaging
 pub mod Auditing
 pub mod Checking
 pub mod Executing

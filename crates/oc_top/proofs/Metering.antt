@@ -9,7 +9,7 @@ use Rattle.oc_meters.specs.ReadBack.{ReportIsRead, begun, tell_items}
 use Rattle.oc_meters.specs.Lines.{meter_lines}
 use Rattle.oc_apart.specs.Apart.{HasNamesApart}
 use Rattle.oc_meters.specs.Taken.{Took}
-use Rattle.oc_top.specs.Verdict.{Verdict, runs}
+use Rattle.oc_top.specs.Verdict.{RunFits, Verdict, runs}
 use Rattle.oc_top.specs.Answers.{Call, Comes, IsWritten, Writes, in_part, told_by, whole}
 use Rattle.oc_io.specs.declared.period.Period.{Period}
 use Rattle.oc_sensors.specs.History.{Told, history}
@@ -21,7 +21,7 @@ use Rattle.oc_machine.specs.Kept.{Running}
 use Rattle.oc_top.specs.Commands.{Plan, report, run_limits, source_limit}
 use Rattle.oc_top.specs.Files.{AreFiles, Files, listed, names_of}
 use Rattle.oc_top.specs.Steps.{IsReady, by_memory}
-use Rattle.oc_top.specs.Meters.{AreItems, IsReported, read, unread}
+use Rattle.oc_top.specs.Meters.{IsReported, read, unread}
 use Rattle.oc_top.specs.declared.answer.Answer.{Answer}
 use Rattle.oc_top.specs.declared.answer.Answer.TheVariants as answer
 use Rattle.oc_top.proofs.Asking.{turned_down, was_metered}
@@ -61,23 +61,23 @@ module _ (report_is_read : ReportIsRead) (parts : Parts) (rows : List Row) (peri
   abbrev reported : Verdict
   reported = runs parts rows periods
 
-  told_items : (names : NameLists) (old new : Page) (meters : List Reading) → AreItems parts.names reported.items → TakesBytes names old reported.text new → names ≡ parts.names
+  told_items : (names : NameLists) (old new : Page) (meters : List Reading) → RunFits parts rows periods → TakesBytes names old reported.text new → names ≡ parts.names
       → old ≡ begun meters → new.readings ≡ tell_items reported.items meters
-  told_items names old new meters items takes same is_begun =
+  told_items names old new meters fits takes same is_begun =
       let here = subst (λ (p : Page). TakesBytes parts.names p reported.text new) is_begun (subst (λ (n : NameLists). TakesBytes n old reported.text new) same takes) in
       ap (λ (p : Page). p.readings)
       (report_is_read parts.names (map (λ v. v.words) parts.nv) reported.items (power_run (device_of parts) (history rows) periods).state.nv meters new
-      apart.sensors apart.ports apart.nvs items.each items.places here)
+      apart.sensors apart.ports apart.nvs fits.each fits.places here)
 
   pub was_reported : (sink : Writes) (end : Answer) (names : NameLists) (old new : Page) (meters : List Reading) (told : Option (List Reading)) → IsWritten sink reported end
-      → ((end ≡ answer.WriteFault → ⊥) → AreItems parts.names reported.items) → ((sink.rose → ⊥) → TakesBytes names old reported.text new) → names ≡ parts.names → old ≡ begun meters
-      → ((end ≡ answer.WriteFault → ⊥) → told ≡ Some new.readings) → (end ≡ answer.WriteFault → told ≡ None) → IsReported reported (Some meters) sink (told_by told) end
-  was_reported sink end names old new meters told w items takes same is_begun kept none =
-      read w (λ whole calm. ap told_by (kept whole) ∙ ap meter_lines (told_items names old new meters (items whole) (takes calm) same is_begun)) (λ e. ap told_by (none e))
+      → ((end ≡ answer.WriteFault → ⊥) → RunFits parts rows periods) → ((sink.rose → ⊥) → TakesBytes names old reported.text new) → names ≡ parts.names → old ≡ begun meters
+      → ((end ≡ answer.WriteFault → ⊥) → told ≡ Some new.readings) → (end ≡ answer.WriteFault → told ≡ None) → IsReported parts rows periods (Some meters) sink (told_by told) end
+  was_reported sink end names old new meters told w fits takes same is_begun kept none =
+      read w fits (λ whole calm. ap told_by (kept whole) ∙ ap meter_lines (told_items names old new meters (fits whole) (takes calm) same is_begun)) (λ e. ap told_by (none e))
 
-pub reported_as : (run : Verdict) (meters : Option (List Reading)) (sink : Writes) (told : List ℕ) (end other : Answer) → other ≡ end → IsReported run meters sink told end
-    → IsReported run meters sink told other
-reported_as run meters sink told end other e r = subst (λ (x : Answer). IsReported run meters sink told x) (sym e) r
+pub reported_as : (parts : Parts) (rows : List Row) (periods : List Period) (meters : Option (List Reading)) (sink : Writes) (told : List ℕ) (end other : Answer) → other ≡ end
+    → IsReported parts rows periods meters sink told end → IsReported parts rows periods meters sink told other
+reported_as parts rows periods meters sink told end other e r = subst (λ (x : Answer). IsReported parts rows periods meters sink told x) (sym e) r
 
 -- a book that has just been opened
 pub begun_is : {M : Type 0} (kind : M → ℕ) (numbers : M → List ℕ) (line : List ℕ) (now given : List M) → line ≡ [] → now ≡ given
@@ -92,8 +92,8 @@ comes_alone c told end other none same h = subst (λ (t : List ℕ). Comes c t e
 pub was_read : (c : Call) (first : ℕ) (plan : Plan) (meters : Option (List Reading)) (asked : c.task ≡ Some (record { first = first; wanted = report plan meters })) (files : Files)
     (fetched : AreFiles c.shelf.holds c.words first (run_limits source_limit) (listed files)) (all_asked : c.shelf.asked (names_of c.words first (run_limits source_limit) 3))
     (machine : Running) (sensors : Told) (left : List Period) (ready : IsReady files plan machine sensors left) (told : List ℕ) (end : Answer)
-    → IsReported (runs machine.parts sensors.rows left) meters c.out told end → Comes c told end
+    → IsReported machine.parts sensors.rows left meters c.out told end → Comes c told end
 was_read c first plan meters asked files fetched all_asked machine sensors left ready told end (unread e t u) =
     comes_alone c told end answer.Memory u e (turned_down c first plan meters asked files fetched all_asked answer.Memory (by_memory refl) t)
-was_read c first plan meters asked files fetched all_asked machine sensors left ready told end (read w tells untold) =
-    was_metered c first plan meters asked files fetched all_asked machine sensors left ready end w told tells untold
+was_read c first plan meters asked files fetched all_asked machine sensors left ready told end (read w fits tells untold) =
+    was_metered c first plan meters asked files fetched all_asked machine sensors left ready end w told fits tells untold

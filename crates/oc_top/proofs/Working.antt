@@ -33,7 +33,7 @@ use Rattle.oc_top.specs.Works.{Works}
 use Rattle.oc_top.specs.declared.answer.Answer.{Answer}
 use Rattle.oc_top.specs.declared.answer.Answer.TheVariants as answer
 use Rattle.oc_top.proofs.OneReading.{one_reading, same_tree}
-use Rattle.oc_top.proofs.Exactly.{of_run, same_files, the_task, exactly, missing, long, no_task, usage, quiet}
+use Rattle.oc_top.proofs.Exactly.{of_run, same_files, the_task, exactly, missing, long, no_task, usage, quiet, whole_done}
 
 -- ---- the answer to a run that ends by itself
 
@@ -112,8 +112,8 @@ module _ (c : Call) (told : List ℕ) (task : Task) (asked : c.task ≡ Some tas
   by_answer : (end : Answer) → is_of_run end ≡ true → Comes c told end → (status_of end ≡ 0) ⊎ ((status_of end ≡ 8) ⊎ (status_of end ≡ 11))
   by_answer answer.End r w = inl refl
   by_answer answer.Trapped r w = inr (inl refl)
-  by_answer answer.Dark r w = elim (done_ends w.task w.files w.run w.fetched w.done) [ inl x ↦ cc (w.came.answered ∙ x) | inr x ↦ cc (w.came.answered ∙ x) ]
-  by_answer answer.Cut r w = elim (done_ends w.task w.files w.run w.fetched w.done) [ inl x ↦ cc (w.came.answered ∙ x) | inr x ↦ cc (w.came.answered ∙ x) ]
+  by_answer answer.Dark r w = elim (done_ends w.task w.files w.run w.fetched (whole_done w.files w.task.wanted w.run w.done)) [ inl x ↦ cc (w.came.answered ∙ x) | inr x ↦ cc (w.came.answered ∙ x) ]
+  by_answer answer.Cut r w = elim (done_ends w.task w.files w.run w.fetched (whole_done w.files w.task.wanted w.run w.done)) [ inl x ↦ cc (w.came.answered ∙ x) | inr x ↦ cc (w.came.answered ∙ x) ]
   by_answer end r w = cc r
 
   enough : (c.shelf.rose → ⊥) → (c.out.rose → ⊥) → (end : Answer) → Comes c told end → (status_of end ≡ 0) ⊎ ((status_of end ≡ 8) ⊎ (status_of end ≡ 11))

@@ -13,7 +13,7 @@ use Rattle.oc_top.specs.Commands.{Plan, Wanted, report, drill, regions, listing,
 use Rattle.oc_top.specs.Files.{Files, Fetches, AreFiles, WereFetched, file_at, limit_at, names_of, run_files}
 use Rattle.oc_top.specs.Sources.{Reading, ReadsAs, program}
 use Rattle.oc_top.specs.Verdict.{Verdict, verdict, refuses, prints, printed, regions_of, listing_of, image_of}
-use Rattle.oc_top.specs.Headline.{IsRun}
+use Rattle.oc_top.specs.Headline.{IsReportedRun, IsRun}
 use Rattle.oc_top.specs.Gaps.{gap_line}
 use Rattle.oc_top.specs.Checked.{IsCheck, IsSafe}
 use Rattle.oc_top.specs.Audited.{IsAudit, IsVouched}
@@ -113,6 +113,11 @@ IsDone files checking run = IsSafe (file_at files 0) run
 IsDone files auditing run = IsVouched (file_at files 0) (file_at files 1) run
 IsDone files (executing plan) run = IsExecuted (run_files files) plan run
 
+-- this does it, and all of it was written
+abbrev pub IsDoneWhole : List (List ℕ) → Wanted → Verdict → Type 0
+IsDoneWhole files (report plan meters) run = IsReportedRun (run_files files) plan run
+IsDoneWhole files wanted run = IsDone files wanted run
+
 -- ---- what is written
 
 -- what a sink did in a call: which bytes it took, which of them it still holds back, and whether its faults rose
@@ -208,13 +213,13 @@ pub record AreRefused (c : Call) (told : List ℕ) (end : Answer) : Type 0 where
   pub judged : IsJudged files task.wanted (refuses end)
   pub silent : IsSilent c told
 
--- the files were fetched, and of what was done with them this came
-pub record WasDone (c : Call) (outcome : Wanted → Verdict → Type 0) : Type 0 where
+-- the files were fetched, this was done with them, and this came of it
+pub record WasDone (c : Call) (does : List (List ℕ) → Wanted → Verdict → Type 0) (outcome : Wanted → Verdict → Type 0) : Type 0 where
   pub task : Task
   pub files : List (List ℕ)
   pub fetched : HasFiles c task files
   pub run : Verdict
-  pub done : IsDone files task.wanted run
+  pub done : does files task.wanted run
   pub came : outcome task.wanted run
 
 -- all that was to be written was, and this is the answer; where no fault of the output rose, the meters were told the items
@@ -240,7 +245,7 @@ pub record HadNoMemory (c : Call) (told : List ℕ) : Type 0 where
 
 -- why a call has its answer, and its meters tell this, in the order of the statuses
 abbrev pub Comes : Call → (told : List ℕ) → Answer → Type 0
-Comes c told answer.End = WasDone c (IsWhole c told answer.End)
+Comes c told answer.End = WasDone c IsDoneWhole (IsWhole c told answer.End)
 Comes c told answer.Usage = IsNoTask c told
 Comes c told (answer.Unreadable word) = IsUnfetched c told word (λ held limit. c.shelf.rose ⊎ (held ≡ nothing))
 Comes c told (answer.TooLong word) = IsUnfetched c told word Longer
@@ -248,11 +253,11 @@ Comes c told (answer.Syntax line) = AreRefused c told (answer.Syntax line)
 Comes c told (answer.Rule line rule) = AreRefused c told (answer.Rule line rule)
 Comes c told (answer.BadSensors row) = AreRefused c told (answer.BadSensors row)
 Comes c told (answer.BadPower row) = AreRefused c told (answer.BadPower row)
-Comes c told answer.Trapped = WasDone c (IsWhole c told answer.Trapped)
-Comes c told answer.Dark = WasDone c (IsWhole c told answer.Dark)
-Comes c told answer.WriteFault = WasDone c (IsPart c told)
+Comes c told answer.Trapped = WasDone c IsDoneWhole (IsWhole c told answer.Trapped)
+Comes c told answer.Dark = WasDone c IsDoneWhole (IsWhole c told answer.Dark)
+Comes c told answer.WriteFault = WasDone c IsDone (IsPart c told)
 Comes c told answer.Memory = HadNoMemory c told
-Comes c told answer.Cut = WasDone c (IsWhole c told answer.Cut)
+Comes c told answer.Cut = WasDone c IsDoneWhole (IsWhole c told answer.Cut)
 Comes c told (answer.Dishonest item) = AreRefused c told (answer.Dishonest item)
 Comes c told (answer.BadReport line) = AreRefused c told (answer.BadReport line)
 Comes c told (answer.BadImage at) = AreRefused c told (answer.BadImage at)

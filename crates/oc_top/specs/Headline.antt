@@ -1,5 +1,5 @@
 -- What the report of a run keeps, whenever power fails.
-use Rattle.std.specs.Prelude.{ℕ, suc, ℤ, ◌≡◌, List, [], ◌++◌, map, Some, None, if◌then◌else◌}
+use Rattle.std.specs.Prelude.{ℕ, suc, ℤ, ◌≡◌, ◌≤◌, List, [], ◌++◌, length, map, Some, None, if◌then◌else◌}
 use Rattle.oc_io.specs.declared.period.Period.{Period}
 use Rattle.oc_power.specs.Power.{power_file}
 use Rattle.oc_power.specs.Power as power_rows
@@ -24,10 +24,10 @@ use Rattle.oc_outage.specs.Honest.{AreRead}
 use Rattle.oc_bounds.specs.Bounds.{AreSafe}
 use Rattle.oc_bounds.specs.Attempts.{AttemptsClose}
 use Rattle.oc_top.specs.Meant.{program_marked, program_code, program_bounds, program_run, plain_run, plain_said}
-use Rattle.oc_top.specs.Commands.{Plan}
+use Rattle.oc_top.specs.Commands.{Plan, source_limit}
 use Rattle.oc_top.specs.Files.{Files}
 use Rattle.oc_top.specs.Sources.{ReadsAs, program}
-use Rattle.oc_top.specs.Verdict.{Verdict, runs}
+use Rattle.oc_top.specs.Verdict.{RunFits, Verdict, runs}
 
 -- what a run reports: its items and, where it is over, its nonvolatile words
 abbrev pub reported : List Told → List ℤ → TReport
@@ -68,3 +68,10 @@ pub record IsRun (files : Files) (plan : Plan) (run : Verdict) : Type 0 where
   pub honest : IsHonestThroughout written (history rows) (program_power written rows (plan periods)).report (program_power written rows (plan periods)).state.nv
   pub attempts : AttemptsClose (program_bounds written) (plan periods) (program_power written rows (plan periods)).report
   pub ends : AreSafe (program_bounds written) (suc (program_bounds written).total) (plan periods) → (how : Ending) × ((program_power written rows (plan periods)).state.phase ≡ Over how)
+
+-- such a run whose report was written whole: its source isn't longer than one that is read, and its items and the nonvolatile
+-- words that it leaves fit their types
+pub record IsReportedRun (files : Files) (plan : Plan) (run : Verdict) : Type 0 where
+  pub is : IsRun files plan run
+  pub short : length files.source ≤ source_limit
+  pub fits : RunFits (program_code is.written) is.rows (plan is.periods)

@@ -13,7 +13,7 @@ pub mod Drills
 pub mod Works
 pub mod Supplies
 pub mod Steps
-pub mod Sizes
+pub mod SmallImages
 pub mod RegionLines
 pub mod DeclaredNames
 pub mod RegionDetails

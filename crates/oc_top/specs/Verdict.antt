@@ -1,5 +1,6 @@
 -- What commands answer and write, by what their files say.
-use Rattle.std.specs.Prelude.{ℕ, Bool, true, false, List, [], map}
+use Rattle.std.specs.Prelude.{ℕ, ◌<◌, ◌^◌, Bool, true, false, List, All, [], map, FitsSigned}
+use Rattle.std.specs.Int.{w32}
 use Rattle.oc_io.specs.declared.period.Period.{Period}
 use Rattle.oc_power.specs.Power.{Power, power_file}
 use Rattle.oc_power.specs.Power as power_rows
@@ -13,6 +14,8 @@ use Rattle.oc_isa.specs.Table.{device_of}
 use Rattle.oc_isa.specs.Listing.{listing_text}
 use Rattle.oc_isa.specs.Bytes.{image_bytes}
 use Rattle.oc_tree.specs.Tree.{TProgram}
+use Rattle.oc_items.specs.OneText.{IsItem}
+use Rattle.oc_items.specs.Reading.{place_of}
 use Rattle.oc_items.specs.Told.{item_of}
 use Rattle.oc_items.specs.declared.item.Item.{Item}
 use Rattle.oc_budget.specs.Budgets.{budgets}
@@ -67,6 +70,13 @@ runs parts rows periods = record {
   text = text_of parts (power_run (device_of parts) (history rows) periods);
   items = map item_of (power_run (device_of parts) (history rows) periods).report;
 }
+
+-- its items are items of a report under the names of the image, the numbers of their sensors and ports fit their types, and
+-- each nonvolatile word that it leaves fits 32 bits
+pub record RunFits (parts : Parts) (rows : List Row) (periods : List Period) : Type 0 where
+  pub each : All (IsItem parts.names) (runs parts rows periods).items
+  pub places : All (λ i. place_of i < 2 ^ 8) (runs parts rows periods).items
+  pub words : All (FitsSigned w32) (power_run (device_of parts) (history rows) periods).state.nv
 
 abbrev pub with_power : Parts → List Row → Power → Plan → Verdict
 with_power parts rows (power_rows.bad row what) plan = refuses (answer.BadPower row)

@@ -7,8 +7,9 @@
 //! runs files that it makes itself, and [`exec`] images.
 //! [`print`] writes the other texts of a program, [`image`] the bytes of its image, and [`regions`]
 //! the text of its regions with the help of [`names`]. [`check`] judges hand-written blocks, and
-//! [`gap`] writes what they leave open; [`audit`] says whether a report is honest, and [`laws`] that
-//! those of runs are. [`answer`] has the answers with their lines.
+//! [`gap`] writes what they leave open; [`audit`] says whether a report is honest. [`laws`] say that
+//! those of runs are, and that images are small enough for a file. [`answer`] has the answers with
+//! their lines.
 #![tactic(auto)]
 
 pub mod answer;

@@ -6,9 +6,9 @@ ghost use Rattle.oc_apart.specs.Apart.{HasNamesApart};
 ghost use Rattle.oc_meters.specs.Reads.{page};
 ghost use Rattle.oc_meters.specs.Tally.{readings};
 ghost use Rattle.oc_top.specs.Answers.{IsWritten, told_by, writes};
-ghost use Rattle.oc_top.specs.Meters.{AreItems, IsRead, IsReported, told_of};
+ghost use Rattle.oc_top.specs.Meters.{IsRead, IsReported, told_of};
 ghost use Rattle.oc_top.specs.Steps.{CanRun};
-ghost use Rattle.oc_top.specs.Verdict.{runs};
+ghost use Rattle.oc_top.specs.Verdict.{RunFits, runs};
 
 use crate::answer::Answer;
 use crate::prepare::Prepared;
@@ -46,8 +46,8 @@ fn report_round<O: Sink, M: Meter>(
         (page M.kind_of M.numbers sink.old.book.now.line.bytes sink.old.book.now.meters.items)
         (runs prepared.machine.parts prepared.sensors.rows (left supply.old)).text
         (page M.kind_of M.numbers sink.new.book.now.line.bytes sink.new.book.now.meters.items) }
-    ensures items { (result ≡ Answer.WriteFault → ⊥) → AreItems prepared.machine.parts.names
-        (runs prepared.machine.parts prepared.sensors.rows (left supply.old)).items }
+    ensures fits { (result ≡ Answer.WriteFault → ⊥)
+        → RunFits prepared.machine.parts prepared.sensors.rows (left supply.old) }
     ensures count { O.faults sink.old.inner.now ≤ O.faults sink.new.inner.now }
 {
     report(prepared, supply, sink)
@@ -68,8 +68,8 @@ fn report_booked<O: Sink, M: Meter>(
         (page M.kind_of M.numbers book.old.line.bytes book.old.meters.items)
         (runs prepared.machine.parts prepared.sensors.rows (left supply.old)).text
         (page M.kind_of M.numbers book.new.line.bytes book.new.meters.items) }
-    ensures items { (result ≡ Answer.WriteFault → ⊥) → AreItems prepared.machine.parts.names
-        (runs prepared.machine.parts prepared.sensors.rows (left supply.old)).items }
+    ensures fits { (result ≡ Answer.WriteFault → ⊥)
+        → RunFits prepared.machine.parts prepared.sensors.rows (left supply.old) }
     ensures count { O.faults out.old ≤ O.faults out.new }
 {
     let mut sink = MeterSink::new(out, book);
@@ -107,8 +107,7 @@ fn report_metered<O: Sink, M: Meter>(
 ) -> Outcome<M>
     requires can { CanRun prepared.machine prepared.sensors (left supply.old) }
     requires names { HasNamesApart prepared.machine.parts.names }
-    ensures reported { IsReported
-        (runs prepared.machine.parts prepared.sensors.rows (left supply.old))
+    ensures reported { IsReported prepared.machine.parts prepared.sensors.rows (left supply.old)
         (Some (readings M.kind_of M.numbers meters.items))
         (writes O.took O.held O.faults out.old out.new)
         (told_by (told_of M.kind_of M.numbers result.meters)) result.answer }
@@ -141,8 +140,7 @@ pub fn report_for<O: Sink, M: Meter>(
 ) -> Outcome<M>
     requires can { CanRun prepared.machine prepared.sensors (left supply.old) }
     requires names { HasNamesApart prepared.machine.parts.names }
-    ensures reported { IsReported
-        (runs prepared.machine.parts prepared.sensors.rows (left supply.old))
+    ensures reported { IsReported prepared.machine.parts prepared.sensors.rows (left supply.old)
         (told_of M.kind_of M.numbers meters)
         (writes O.took O.held O.faults out.old out.new)
         (told_by (told_of M.kind_of M.numbers result.meters)) result.answer }

@@ -4,9 +4,8 @@ ghost use Rattle.oc_io.specs.Faults.{Rose, TookPart};
 ghost use Rattle.oc_isa.specs.Image.{IsWellMade, parts_of};
 ghost use Rattle.oc_items.specs.Text.{nv_lines};
 ghost use Rattle.oc_top.specs.Answers.{IsWritten, writes};
-ghost use Rattle.oc_top.specs.Meters.{AreItems};
 ghost use Rattle.oc_top.specs.Steps.{CanRun};
-ghost use Rattle.oc_top.specs.Verdict.{runs, says};
+ghost use Rattle.oc_top.specs.Verdict.{RunFits, runs, says};
 
 use crate::answer::Answer;
 use crate::prepare::Prepared;
@@ -72,8 +71,8 @@ pub fn report<O: Sink>(prepared: Prepared, supply: &mut dyn Supply, out: &mut O)
     requires { CanRun prepared.machine prepared.sensors (left supply.old) }
     ensures written { IsWritten (writes O.took O.held O.faults out.old out.new)
         (runs prepared.machine.parts prepared.sensors.rows (left supply.old)) result }
-    ensures items { (result ≡ Answer.WriteFault → ⊥) → AreItems prepared.machine.parts.names
-        (runs prepared.machine.parts prepared.sensors.rows (left supply.old)).items }
+    ensures fits { (result ≡ Answer.WriteFault → ⊥)
+        → RunFits prepared.machine.parts prepared.sensors.rows (left supply.old) }
     ensures count { O.faults out.old ≤ O.faults out.new }
 {
     let Prepared {

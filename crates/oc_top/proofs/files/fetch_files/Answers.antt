@@ -16,7 +16,8 @@ pub returns-in_err-sensors-clause-refused : goal.returns-in_err-sensors-clause-r
 returns-in_err-sensors-clause-refused g c =
     let p = err_from_is_err_and c.from_residual-in_err-sensors.result c.from_residual-in_err-sensors.ensures.1 in
     let refused = rw (c.fetch_word.ensures.stays.held _) at c.in_err-sensors.ensures.refused in
-    let asked = two_asked g.F.Shelf.asked (map string_bytes c.args.words.now) c.args.first (run_limits c.args.limit) g.met.F.Shelf.asked_both _ _ _ c.fetch_word.ensures.once c.fetch_word-2.ensures.once in
+    let asked = two_asked g.F.Shelf.asked (map string_bytes c.args.words.now) c.args.first (run_limits c.args.limit) g.met.F.Shelf.asked_both _ _ _ c.fetch_word.ensures.once
+    c.fetch_word-2.ensures.once in
     let count = c.fetch_word.ensures.stays.count in
     rw (p.1, p.2) (second_refused (fetches g.F.Shelf.holds g.F.Shelf.asked g.F.Shelf.faults _ _) (map string_bytes c.args.words.now) c.args.first (run_limits c.args.limit) _ _ _ (omega arith)
     (λ f. omega (arith, f, count)) c.in_ok-source.ensures.file asked refused)
@@ -26,7 +27,8 @@ returns-in_err-power-clause-refused g c =
     let p = err_from_is_err_and c.from_residual-in_err-power.result c.from_residual-in_err-power.ensures.1 in
     let sensors = rw (c.fetch_word.ensures.stays.held _) at c.in_ok-sensors.ensures.file in
     let refused = rw (c.fetch_word-2.ensures.stays.held _, c.fetch_word.ensures.stays.held _) at c.in_err-power.ensures.refused in
-    let asked = three_asked g.F.Shelf.asked (map string_bytes c.args.words.now) c.args.first (run_limits c.args.limit) g.met.F.Shelf.asked_both _ _ _ _ c.fetch_word.ensures.once c.fetch_word-2.ensures.once
+    let asked = three_asked g.F.Shelf.asked (map string_bytes c.args.words.now) c.args.first (run_limits c.args.limit) g.met.F.Shelf.asked_both _ _ _ _ c.fetch_word.ensures.once
+    c.fetch_word-2.ensures.once
     c.fetch_word-3.ensures.once in
     let first_count = c.fetch_word.ensures.stays.count in
     let second_count = c.fetch_word-2.ensures.stays.count in

@@ -34,17 +34,17 @@ returns-clause-written g c =
     part_written g.O.Sink.took g.O.Sink.held g.O.Sink.faults g.met.O.Sink.took_both machine.parts c.args.prepared.sensors.rows ((goal.Supply-dyn g at).left at.1) _ _ _ refl
     c.in-WriteFault.ensures.answers.cause c.in-WriteFault.ensures.answers.part
 
-pub returns-in-End-clause-items : goal.returns-in-End-clause-items
-returns-in-End-clause-items g c = λ whole. record { each = c.in-End.ensures.answers.items; places = c.in-End.ensures.answers.places }
+pub returns-in-End-clause-fits : goal.returns-in-End-clause-fits
+returns-in-End-clause-fits g c = λ whole. record { each = c.in-End.ensures.answers.items; places = c.in-End.ensures.answers.places; words = c.in-End.ensures.answers.words }
 
-pub returns-in-Trap-clause-items : goal.returns-in-Trap-clause-items
-returns-in-Trap-clause-items g c = λ whole. record { each = c.in-Trap.ensures.answers.items; places = c.in-Trap.ensures.answers.places }
+pub returns-in-Trap-clause-fits : goal.returns-in-Trap-clause-fits
+returns-in-Trap-clause-fits g c = λ whole. record { each = c.in-Trap.ensures.answers.items; places = c.in-Trap.ensures.answers.places; words = c.in-Trap.ensures.answers.words }
 
-pub returns-in-Dark-clause-items : goal.returns-in-Dark-clause-items
-returns-in-Dark-clause-items g c = λ whole. record { each = c.in-Dark.ensures.answers.items; places = c.in-Dark.ensures.answers.places }
+pub returns-in-Dark-clause-fits : goal.returns-in-Dark-clause-fits
+returns-in-Dark-clause-fits g c = λ whole. record { each = c.in-Dark.ensures.answers.items; places = c.in-Dark.ensures.answers.places; words = c.in-Dark.ensures.answers.words }
 
-pub returns-in-Cut-clause-items : goal.returns-in-Cut-clause-items
-returns-in-Cut-clause-items g c = λ whole. record { each = c.in-Cut.ensures.answers.items; places = c.in-Cut.ensures.answers.places }
+pub returns-in-Cut-clause-fits : goal.returns-in-Cut-clause-fits
+returns-in-Cut-clause-fits g c = λ whole. record { each = c.in-Cut.ensures.answers.items; places = c.in-Cut.ensures.answers.places; words = c.in-Cut.ensures.answers.words }
 
-pub returns-clause-items : goal.returns-clause-items
-returns-clause-items g c = λ whole. absurd (whole refl)
+pub returns-clause-fits : goal.returns-clause-fits
+returns-clause-fits g c = λ whole. absurd (whole refl)

@@ -15,7 +15,8 @@ returns-in-Regions-clause-comes g c =
     let words = map string_bytes c.args.words.now in
     comes_alone _ _ _ _ c.alone-in-Regions.ensures.untold c.alone-in-Regions.ensures.answer
     (comes_for words _ _ (fetches g.F.Shelf.holds g.F.Shelf.asked g.F.Shelf.faults _ _) (writes g.O.Sink.took g.O.Sink.held g.O.Sink.faults _ _) [] _
-    (task_is c.args.supplies.items (λ b. (goal.Supply-dyn g (b.vtable, b.value)).number b.value) (λ b. (goal.Supply-dyn g (b.vtable, b.value)).plan b.value) (readings g.M.Meter.kind_of g.M.Meter.numbers c.args.meters.items) words _
+    (task_is c.args.supplies.items (λ b. (goal.Supply-dyn g (b.vtable, b.value)).number b.value) (λ b. (goal.Supply-dyn g (b.vtable, b.value)).plan b.value)
+    (readings g.M.Meter.kind_of g.M.Meter.numbers c.args.meters.items) words _
     (c.requires ∙ ap Some c.in-Regions.is)) c.regions.ensures.comes)
 
 pub returns-in-Build-clause-comes : goal.returns-in-Build-clause-comes
@@ -23,7 +24,8 @@ returns-in-Build-clause-comes g c =
     let words = map string_bytes c.args.words.now in
     comes_alone _ _ _ _ c.alone-in-Build.ensures.untold c.alone-in-Build.ensures.answer
     (comes_for words _ _ (fetches g.F.Shelf.holds g.F.Shelf.asked g.F.Shelf.faults _ _) (writes g.O.Sink.took g.O.Sink.held g.O.Sink.faults _ _) [] _
-    (task_is c.args.supplies.items (λ b. (goal.Supply-dyn g (b.vtable, b.value)).number b.value) (λ b. (goal.Supply-dyn g (b.vtable, b.value)).plan b.value) (readings g.M.Meter.kind_of g.M.Meter.numbers c.args.meters.items) words _
+    (task_is c.args.supplies.items (λ b. (goal.Supply-dyn g (b.vtable, b.value)).number b.value) (λ b. (goal.Supply-dyn g (b.vtable, b.value)).plan b.value)
+    (readings g.M.Meter.kind_of g.M.Meter.numbers c.args.meters.items) words _
     (c.requires ∙ ap Some c.in-Build.is)) c.build.ensures.comes)
 
 pub returns-in-Image-clause-comes : goal.returns-in-Image-clause-comes
@@ -31,7 +33,8 @@ returns-in-Image-clause-comes g c =
     let words = map string_bytes c.args.words.now in
     comes_alone _ _ _ _ c.alone-in-Image.ensures.untold c.alone-in-Image.ensures.answer
     (comes_for words _ _ (fetches g.F.Shelf.holds g.F.Shelf.asked g.F.Shelf.faults _ _) (writes g.O.Sink.took g.O.Sink.held g.O.Sink.faults _ _) [] _
-    (task_is c.args.supplies.items (λ b. (goal.Supply-dyn g (b.vtable, b.value)).number b.value) (λ b. (goal.Supply-dyn g (b.vtable, b.value)).plan b.value) (readings g.M.Meter.kind_of g.M.Meter.numbers c.args.meters.items) words _
+    (task_is c.args.supplies.items (λ b. (goal.Supply-dyn g (b.vtable, b.value)).number b.value) (λ b. (goal.Supply-dyn g (b.vtable, b.value)).plan b.value)
+    (readings g.M.Meter.kind_of g.M.Meter.numbers c.args.meters.items) words _
     (c.requires ∙ ap Some c.in-Image.is)) c.image.ensures.comes)
 
 pub returns-in-Check-clause-comes : goal.returns-in-Check-clause-comes
@@ -39,7 +42,8 @@ returns-in-Check-clause-comes g c =
     let words = map string_bytes c.args.words.now in
     comes_alone _ _ _ _ c.alone-in-Check.ensures.untold c.alone-in-Check.ensures.answer
     (comes_for words _ _ (fetches g.F.Shelf.holds g.F.Shelf.asked g.F.Shelf.faults _ _) (writes g.O.Sink.took g.O.Sink.held g.O.Sink.faults _ _) [] _
-    (task_is c.args.supplies.items (λ b. (goal.Supply-dyn g (b.vtable, b.value)).number b.value) (λ b. (goal.Supply-dyn g (b.vtable, b.value)).plan b.value) (readings g.M.Meter.kind_of g.M.Meter.numbers c.args.meters.items) words _
+    (task_is c.args.supplies.items (λ b. (goal.Supply-dyn g (b.vtable, b.value)).number b.value) (λ b. (goal.Supply-dyn g (b.vtable, b.value)).plan b.value)
+    (readings g.M.Meter.kind_of g.M.Meter.numbers c.args.meters.items) words _
     (c.requires ∙ ap Some c.in-Check.is)) c.check.ensures.comes)
 
 pub returns-in-Audit-clause-comes : goal.returns-in-Audit-clause-comes
@@ -47,7 +51,8 @@ returns-in-Audit-clause-comes g c =
     let words = map string_bytes c.args.words.now in
     comes_alone _ _ _ _ c.alone-in-Audit.ensures.untold c.alone-in-Audit.ensures.answer
     (comes_for words _ _ (fetches g.F.Shelf.holds g.F.Shelf.asked g.F.Shelf.faults _ _) (writes g.O.Sink.took g.O.Sink.held g.O.Sink.faults _ _) [] _
-    (task_is c.args.supplies.items (λ b. (goal.Supply-dyn g (b.vtable, b.value)).number b.value) (λ b. (goal.Supply-dyn g (b.vtable, b.value)).plan b.value) (readings g.M.Meter.kind_of g.M.Meter.numbers c.args.meters.items) words _
+    (task_is c.args.supplies.items (λ b. (goal.Supply-dyn g (b.vtable, b.value)).number b.value) (λ b. (goal.Supply-dyn g (b.vtable, b.value)).plan b.value)
+    (readings g.M.Meter.kind_of g.M.Meter.numbers c.args.meters.items) words _
     (c.requires ∙ ap Some c.in-Audit.is)) c.audit.ensures.comes)
 
 pub drill_by-requires : goal.drill_by-requires
@@ -58,7 +63,8 @@ returns-in-Drill-clause-comes g c =
     let words = map string_bytes c.args.words.now in
     comes_alone _ _ _ _ c.alone.ensures.untold c.alone.ensures.answer
     (drill_comes (call_of words _ (fetches g.F.Shelf.holds g.F.Shelf.asked g.F.Shelf.faults _ _) (writes g.O.Sink.took g.O.Sink.held g.O.Sink.faults _ _)) _ _
-    (sym (task_is c.args.supplies.items (λ b. (goal.Supply-dyn g (b.vtable, b.value)).number b.value) (λ b. (goal.Supply-dyn g (b.vtable, b.value)).plan b.value) (readings g.M.Meter.kind_of g.M.Meter.numbers c.args.meters.items) words _
+    (sym (task_is c.args.supplies.items (λ b. (goal.Supply-dyn g (b.vtable, b.value)).number b.value) (λ b. (goal.Supply-dyn g (b.vtable, b.value)).plan b.value)
+    (readings g.M.Meter.kind_of g.M.Meter.numbers c.args.meters.items) words _
     (c.requires ∙ ap Some c.in-Drill.is))) (g.met.F.Shelf.asked_nothing _) _ c.drill_by.ensures.drilled)
 
 pub regions-requires : goal.regions-requires

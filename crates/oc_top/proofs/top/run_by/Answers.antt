@@ -13,7 +13,8 @@ pub returns-in-Some-clause-comes : goal.returns-in-Some-clause-comes
 returns-in-Some-clause-comes g c =
     let words = map string_bytes c.args.words.now in
     comes_for words _ _ (fetches g.F.Shelf.holds g.F.Shelf.asked g.F.Shelf.faults _ _) (writes g.O.Sink.took g.O.Sink.held g.O.Sink.faults _ _) _ _
-    (run_is c.args.supplies.items (λ b. (goal.Supply-dyn g (b.vtable, b.value)).number b.value) (λ b. (goal.Supply-dyn g (b.vtable, b.value)).plan b.value) (readings g.M.Meter.kind_of g.M.Meter.numbers c.args.meters.items) words _ _ _ _ _
+    (run_is c.args.supplies.items (λ b. (goal.Supply-dyn g (b.vtable, b.value)).number b.value) (λ b. (goal.Supply-dyn g (b.vtable, b.value)).plan b.value)
+    (readings g.M.Meter.kind_of g.M.Meter.numbers c.args.meters.items) words _ _ _ _ _
     c.requires c.wanted_meters-meters.ensures c.in-Some.ensures) c.run_with.ensures.comes
 
 pub returns-in-None-clause-comes : goal.returns-in-None-clause-comes
@@ -21,7 +22,8 @@ returns-in-None-clause-comes g c =
     let words = map string_bytes c.args.words.now in
     comes_alone _ _ _ _ c.alone.ensures.untold c.alone.ensures.answer
     (comes_none (call_of words _ (fetches g.F.Shelf.holds g.F.Shelf.asked g.F.Shelf.faults _ _) (writes g.O.Sink.took g.O.Sink.held g.O.Sink.faults _ _))
-    (sym (run_is c.args.supplies.items (λ b. (goal.Supply-dyn g (b.vtable, b.value)).number b.value) (λ b. (goal.Supply-dyn g (b.vtable, b.value)).plan b.value) (readings g.M.Meter.kind_of g.M.Meter.numbers c.args.meters.items) words _ _ _ _ None
+    (sym (run_is c.args.supplies.items (λ b. (goal.Supply-dyn g (b.vtable, b.value)).number b.value) (λ b. (goal.Supply-dyn g (b.vtable, b.value)).plan b.value)
+    (readings g.M.Meter.kind_of g.M.Meter.numbers c.args.meters.items) words _ _ _ _ None
     c.requires c.wanted_meters-meters.ensures c.in-None.ensures)) (g.met.F.Shelf.asked_nothing _) (g.met.O.Sink.took_nothing _))
 
 pub run_with-requires : goal.run_with-requires

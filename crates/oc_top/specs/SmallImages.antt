@@ -1,0 +1,10 @@
+-- Images are small enough for a file.
+use Rattle.std.specs.Prelude.{ℕ, ◌≤◌, List, length}
+use Rattle.oc_tree.specs.Tree.{TProgram}
+use Rattle.oc_isa.specs.Bytes.{IsSmall}
+use Rattle.oc_top.specs.Meant.{program_code}
+use Rattle.oc_top.specs.Sources.{ReadsAs, program}
+
+-- the image of each program that a source of at most 1 MiB spells is
+abbrev pub ImagesAreSmall : Type 0
+ImagesAreSmall = (source : List ℕ) (p : TProgram) → length source ≤ 1048576 → ReadsAs source (program p) → IsSmall (program_code p)

@@ -22,7 +22,10 @@ ONE_PERIOD = "on,off\n9000000000,0\n"
 
 
 class Workload:
-    """What is measured: its name, its size N, and what each file holds, a text or what a script of checks/inputs prints."""
+    """What is measured: its name, its size N, what each file holds, a text or what a script of checks/inputs prints, and
+    the statuses that a call may end with."""
+
+    statuses = (0, 5, 9)
 
     def __init__(self, name, size, kind, sensors=None, power=None):
         script = "workload.py" if sensors or power else "worst.py"
@@ -48,6 +51,14 @@ class Audit(Workload):
     def __init__(self, name, kind):
         self.name, self.size, self.words = name, 16777216, ("audit", "source.oc", "report.txt")
         self.files = {"source.oc": ("reports.py", kind), "report.txt": ("reports.py", kind, "N")}
+
+
+class Execution(Workload):
+    """A run of an image of N bytes that checks/inputs/images.py prints, which ends with this status."""
+
+    def __init__(self, name, kind, status=0):
+        self.name, self.size, self.words, self.statuses = name, 67108864, ("exec", "image", "sensors.csv", "power.csv"), (status,)
+        self.files = {"image": ("images.py", kind, "N"), "sensors.csv": "time,sensor,value\n", "power.csv": ONE_PERIOD}
 
 
 def write_printed(script, size, path):
@@ -78,10 +89,29 @@ WORKLOADS = [
     Workload("a thousand regions", 126, "regions"),
     Audit("a report of the greatest size, four in five attempts aborted", "attempts"),
     Audit("a report of the greatest size, sums of all samples so far", "sums"),
+    Execution("an image with the greatest code", "straight"),
+    Execution("an image with stacks as deep as the machine's", "deep"),
+    Execution("an image with a stack as deep as its code is long, refused", "deepest", 17),
+    Execution("an image with the most names", "names"),
+    Execution("an image with the longest names", "longest"),
+    Execution("an image with the most functions, each called by the one before", "functions"),
+    Execution("an image with the most calls of functions that call each other", "ranks"),
+    Execution("an image with the most calls of 127 functions with 64 parameters", "calls"),
+    Execution("an image with the most calls with 65,000 parameters", "wide"),
+    Execution("an image with 127 functions with as many parameters as its code is long, refused", "product", 17),
+    Execution("an image with the most regions", "regions"),
+    Execution("an image with the most regions with a target", "targets"),
+    Execution("an image with a region with the most targets", "region"),
+    Execution("an image with the most regions in one another", "nested"),
+    Execution("an image with the most jumps, each far away", "jumps"),
+    Execution("an image with the most jumps that meet, above a deep stack", "joins"),
+    Execution("an image with the most nonvolatile words", "words"),
+    Execution("an image with a byte too many, bad", "byte", 16),
+    Execution("an image that breaks the last rule at its last address, refused", "rule", 17),
 ]
 
 
-def measured(program, words, folder, seconds):
+def measured(program, words, folder, seconds, statuses):
     """Returns the processor time and the memory in KiB of one call, or None where it was stopped.
 
     The system counts the memory of this process, from which the call was started, as the least that the call took.
@@ -93,7 +123,7 @@ def measured(program, words, folder, seconds):
     _, status, used = os.wait4(call.pid, 0)
     signal.alarm(0)
     call.returncode = status
-    if not os.WIFSIGNALED(status) and os.WEXITSTATUS(status) not in (0, 5, 9):
+    if not os.WIFSIGNALED(status) and os.WEXITSTATUS(status) not in statuses:
         sys.exit(f"bench: {' '.join(words)} ended with status {os.WEXITSTATUS(status)}")
     return None if os.WIFSIGNALED(status) else (used.ru_utime + used.ru_stime, used.ru_maxrss)
 
@@ -104,7 +134,7 @@ def row(workload, program, seconds):
     for size in (workload.size // 4, workload.size):
         with tempfile.TemporaryDirectory() as folder:
             made = workload.make(folder, size)
-            times.append(measured(program, workload.words, folder, seconds))
+            times.append(measured(program, workload.words, folder, seconds, workload.statuses))
     quarter, whole = times
     if whole is None:
         return f"| {workload.name} | {workload.size:,} | {made:,} | more than {seconds} s | | |"

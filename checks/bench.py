@@ -1,9 +1,12 @@
 #!/usr/bin/env python3
-"""Measures the program on workloads: bench.py [--program PROGRAM] [--seconds N] [WORD..]
+"""Measures the program on workloads: bench.py [--program PROGRAM] [--before PROGRAM] [--seconds N] [WORD..]
 
 For each workload it prints, as a row of a table, the size of what is read, the processor time (user and system) and
 the greatest memory of one call, and by how much the time grew from a quarter of the size. With words only the
 workloads run whose names have one of them. A call that takes more than N seconds (60) is stopped.
+
+With --before the same files are given to an older program too, and the table has its time and memory in place of the
+growth; a workload whose command it doesn't have is left out.
 """
 import argparse
 import os
@@ -111,6 +114,10 @@ WORKLOADS = [
 ]
 
 
+class WrongStatus(Exception):
+    """A call ended with a status that its workload doesn't allow."""
+
+
 def measured(program, words, folder, seconds, statuses):
     """Returns the processor time and the memory in KiB of one call, or None where it was stopped.
 
@@ -124,8 +131,13 @@ def measured(program, words, folder, seconds, statuses):
     signal.alarm(0)
     call.returncode = status
     if not os.WIFSIGNALED(status) and os.WEXITSTATUS(status) not in statuses:
-        sys.exit(f"bench: {' '.join(words)} ended with status {os.WEXITSTATUS(status)}")
+        raise WrongStatus(f"bench: {' '.join(words)} ended with status {os.WEXITSTATUS(status)}")
     return None if os.WIFSIGNALED(status) else (used.ru_utime + used.ru_stime, used.ru_maxrss)
+
+
+def shown(call, seconds):
+    """Returns the cells for the time and the memory of a call."""
+    return f"{call[0]:.2f} s | {call[1] // 1024} MiB" if call else f"more than {seconds} s | "
 
 
 def row(workload, program, seconds):
@@ -136,26 +148,45 @@ def row(workload, program, seconds):
             made = workload.make(folder, size)
             times.append(measured(program, workload.words, folder, seconds, workload.statuses))
     quarter, whole = times
-    if whole is None:
-        return f"| {workload.name} | {workload.size:,} | {made:,} | more than {seconds} s | | |"
-    growth = f"{whole[0] / max(quarter[0], 0.005):.1f}"
-    return f"| {workload.name} | {workload.size:,} | {made:,} | {whole[0]:.2f} s | {whole[1] // 1024} MiB | {growth} |"
+    growth = f"{whole[0] / max(quarter[0], 0.005):.1f}" if whole else ""
+    return f"| {workload.name} | {workload.size:,} | {made:,} | {shown(whole, seconds)} | {growth} |"
+
+
+def pair(workload, before, program, seconds):
+    """Returns the row of a workload with what an older program takes, or None where that lacks the command."""
+    with tempfile.TemporaryDirectory() as folder:
+        workload.make(folder, workload.size)
+        try:
+            old = measured(before, workload.words, folder, seconds, workload.statuses)
+        except WrongStatus:
+            return None
+        new = measured(program, workload.words, folder, seconds, workload.statuses)
+    return f"| {workload.name} | {workload.size:,} | {shown(old, seconds)} | {shown(new, seconds)} |"
 
 
 def main():
     parser = argparse.ArgumentParser(description="Measures the program on workloads.")
     parser.add_argument("--program", type=os.path.abspath)
+    parser.add_argument("--before", type=os.path.abspath)
     parser.add_argument("--seconds", default=60, type=int)
     parser.add_argument("words", nargs="*", metavar="WORD")
     asked = parser.parse_args()
     # The launcher builds the program where that is needed; it is measured without the launcher.
     subprocess.run([asked.program or TOP / "ocelot", "regions", TOP / "examples/first/first.oc"], check=True, stdout=subprocess.DEVNULL)
-    print("| what | N | bytes read | processor time | greatest memory | growth from N / 4 |")
-    print("|---|---|---|---|---|---|")
+    program = asked.program or PROGRAM
+    heads = ["what", "N", "bytes read", "processor time", "greatest memory", "growth from N / 4"]
+    if asked.before:
+        heads = ["what", "N", "time before", "memory before", "time", "memory"]
+    print(f"| {' | '.join(heads)} |", "|---" * len(heads) + "|", sep="\n")
     for workload in WORKLOADS:
         if not asked.words or any(word in workload.name for word in asked.words):
-            print(row(workload, asked.program or PROGRAM, asked.seconds), flush=True)
+            line = pair(workload, asked.before, program, asked.seconds) if asked.before else row(workload, program, asked.seconds)
+            if line:
+                print(line, flush=True)
 
 
 if __name__ == "__main__":
-    sys.exit(main())
+    try:
+        sys.exit(main())
+    except WrongStatus as wrong:
+        sys.exit(str(wrong))

@@ -2,9 +2,9 @@
 use Rattle.std.specs.Prelude.{◌≡◌, ◌⊎◌, ◌<◌, ◌≤◌, ◌^◌, ◌+◌, ◌==◌, not, ℕ, suc, ℤ, Bool, true, false, List, [], ◌∷◌, ◌++◌, length, get_or, take, sum, FitsSigned}
 use Rattle.std.specs.Int.{w32}
 use Rattle.std.specs.List.{All, list_all, flat_map}
-use Rattle.oc_tree.specs.Names.{NameLists}
+use Rattle.oc_tree.specs.Names.{NameLists, name_at}
 use Rattle.oc_items.specs.declared.item.Item.{Item}
-use Rattle.oc_items.specs.Text.{name_at, is_over, report_text, words_lines}
+use Rattle.oc_items.specs.Text.{is_over, report_text, words_lines}
 use Rattle.oc_items.specs.OneText.{is_field, IsItem}
 use Rattle.oc_items.specs.Reading.{HasLine, TellsNone}
 use Rattle.oc_audit.specs.Files.{lines, ended}

@@ -37,7 +37,7 @@ use Rattle.oc_formed.proofs.ScopesStart.{start_found}
 use Rattle.oc_bounds.specs.Bounds.{Bounds, IsBounded}
 use Rattle.oc_writes.specs.Targets.{may_write, region_targets}
 use Rattle.oc_writes.proofs.Standing.{Each, each_map, each_front, each_back, each_both, each_for, Found, found}
-use Rattle.oc_writes.proofs.KeptReach.{at_place}
+use Rattle.oc_reach.proofs.Lists.{at_place}
 use Rattle.oc_watch.proofs.Bounded.{Tables}
 use Rattle.oc_watch.proofs.Words.{covers}
 use Rattle.oc_watch.proofs.Compared.{block_counted}

@@ -34,7 +34,7 @@ use Rattle.oc_writes.specs.Targets as region
 use Rattle.oc_writes.specs.Targets.{region_effects, assigns_nv, assigns_param, words_of, nv_targets, param_targets, region_targets}
 use Rattle.oc_writes.specs.Seen.{stands_in}
 use Rattle.oc_writes.proofs.Standing.{Each, each_map, each_both, standing_is}
-use Rattle.oc_writes.proofs.KeptReach.{at_place}
+use Rattle.oc_reach.proofs.Lists.{at_place}
 use Rattle.oc_writes.proofs.KeptRules.{Ruled, body_ruled}
 use Rattle.oc_formed.proofs.BodiesFormed.{head_unbroken}
 use Rattle.oc_formed.proofs.BodiesPass.{function_fine}

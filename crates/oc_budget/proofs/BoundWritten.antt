@@ -39,7 +39,8 @@ use Rattle.oc_formed.proofs.BodiesCalls.{last_call}
 use Rattle.oc_formed.proofs.BodiesFormed.{head_unbroken}
 use Rattle.oc_formed.proofs.BodiesPass.{first_fails, second_fails, function_fine}
 use Rattle.oc_writes.proofs.Standing.{Each, each_map, each_both, each_for, each_all}
-use Rattle.oc_writes.proofs.KeptReach.{at_place, none_assigns, none_called, none_writes, none_passes}
+use Rattle.oc_reach.proofs.Lists.{at_place}
+use Rattle.oc_writes.proofs.KeptReach.{none_assigns, none_called, none_writes, none_passes}
 use Rattle.oc_writes.proofs.KeptRules.{Ruled, body_ruled, param_passes, own_passes}
 use Rattle.oc_writes.proofs.KeptKinds.{hidden, none_hidden, block_each}
 use Rattle.oc_writes.proofs.KeptFunctions.{place_there, stands_among, so, mutable_both, array_param, value_mutable, calls_for, linked_is, no_param, not_hidden, shared_never, takes_at}

@@ -10,7 +10,7 @@ ghost use Rattle.oc_budget.specs.Costs.{is_fresh_note, is_use, uses_in};
 use crate::tables::mark;
 use oc_effects::effect::{Effect, Note};
 use oc_effects::effects::Effects;
-use oc_flow::numbering::is_same;
+use oc_flow::numbering::is_among;
 use oc_tree::tree::VarId;
 use std::alloc::{AllocError, Global};
 
@@ -29,22 +29,11 @@ fn fresh_variables(alloc: Global, effects: &[Effect]) -> Result<Vec<VarId>, Allo
     Ok(fresh)
 }
 
-fn is_among(fresh: &[VarId], var: VarId) -> bool
-    ensures { result ≡ list_any (same_variable var) fresh.now }
-{
-    for other in fresh {
-        if is_same(var, *other) {
-            return true;
-        }
-    }
-    false
-}
-
 fn names_fresh(fresh: &[VarId], named: &[VarId]) -> bool
     ensures { result ≡ list_any (λ v. list_any (same_variable v) fresh.now) named.now }
 {
     for var in named {
-        if is_among(fresh, *var) {
+        if is_among(*var, fresh) {
             return true;
         }
     }

@@ -35,7 +35,8 @@ use Rattle.oc_formed.proofs.BodiesPass.{first_fails, second_fails, AllFine, fine
 use Rattle.oc_formed.proofs.CallLinks.{none_hides}
 use Rattle.oc_copies.proofs.Twins.{Flags, flag_of, is_shared, flags_behind, Shown, IsLawfulCall, IsLawfulRight, IsLawful, IsLawfulElse, IsLawfulBlock, AreLawfulAll}
 use Rattle.oc_copies.proofs.TwinCalls.{start_flags}
-use Rattle.oc_copies.proofs.Reached.{EachKind, kinds_front, kinds_back, none_names, none_called}
+use Rattle.oc_copies.proofs.LeadToNone.{EachKind, kinds_front, kinds_back}
+use Rattle.oc_copies.proofs.Reached.{none_names, none_called}
 use Rattle.oc_copies.proofs.LawfulArgs.{ForHidden, unhidden, shown_join, shown_expr, shown_call, AllFlags, unflagged, all_lawful}
 
 -- ---- a function by its name

@@ -8,6 +8,7 @@ pub mod Start
 pub mod StartMatch
 pub mod Behind
 pub mod Back
+pub mod LeadToNone
 pub mod Reached
 pub mod LawfulArgs
 pub mod Lawful

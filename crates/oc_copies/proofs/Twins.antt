@@ -14,13 +14,14 @@ use Rattle.oc_tree.specs.declared.said.Said.TheVariants.{Sensed, Showed}
 use Rattle.oc_tree.specs.declared.said.Shown.TheVariants.{Emitted}
 use Rattle.oc_tree.specs.declared.said.TrapKind.{TrapKind}
 use Rattle.oc_tree.specs.Marked.{TRegion}
+use Rattle.oc_tree.specs.Weight.{count_of}
 use Rattle.oc_meaning.specs.Samples.{union}
 use Rattle.oc_meaning.specs.Store.{Value, Held, Place, Local, Store, Binding, holding, value_in, replaced, with_element, held_at, put, noted, binding_of, place_of}
 use Rattle.oc_meaning.specs.Eval.{Got, Val, Traps, is_zero, element_of, read_element, unary_value, combined, and_got, value_of}
 use Rattle.oc_meaning.specs.Uses.{expr_names, arg_names, own_names, is_fresh, is_use, samples_of_fresh, use_samples, begins_use, ends_use}
 use Rattle.oc_meaning.specs.Exec.{Outcome, Went, Returned, Stopped, Passed, Copied, Lent, Passing as Given, Passes, Breaks, with_value, then_do, with_result, leave, opened, closed}
 use Rattle.oc_meaning.specs.Exec.{used, done, finished, sense, passed_first, copied_first, passed_on, value_first, arg_first, args_of, with_args, element_written, for_turns}
-use Rattle.oc_meaning.specs.Exec.{while_turns, count_of, bound_to, in_turn, grown, entered, tagged, array_of, begun_by, ended_by, number_in, trapped, call_run, right_run, kind_run}
+use Rattle.oc_meaning.specs.Exec.{while_turns, bound_to, in_turn, grown, entered, tagged, array_of, begun_by, ended_by, number_in, trapped, call_run, right_run, kind_run}
 use Rattle.oc_meaning.specs.Exec.{else_run, block_run, stmts_run}
 use Rattle.oc_copies.proofs.Matching.{Renaming, IsRenaming, Match, put_match, made_match, left_match, IsBeside, beside_match, opened_beside, closed_beside, used_beside, done_beside, noted_beside}
 

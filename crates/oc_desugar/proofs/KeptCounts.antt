@@ -12,8 +12,8 @@ use Rattle.oc_lex.specs.Stands.{IsName}
 use Rattle.oc_tree.specs.Tree.{TRight, TKind, let_to, let_array, assign, assign_index, assign_deref, if_else, for_in, while_do, call_only, sense_only, emit, fresh, consistent, return}
 use Rattle.oc_tree.specs.declared.scope.Origin.{Origin}
 use Rattle.oc_tree.specs.declared.scope.Origin.TheVariants as origins
-use Rattle.oc_tree.specs.declared.scope.Policy.{Policy}
-use Rattle.oc_tree.specs.declared.scope.Policy.TheVariants as policies
+use Rattle.oc_tree.specs.declared.scope.Annotated.{Annotated}
+use Rattle.oc_tree.specs.declared.scope.Annotated.TheVariants as policies
 use Rattle.oc_tree.specs.declared.scope.Var.{Var}
 use Rattle.oc_tree.specs.Pulls.{right_pulls, own_pulls}
 use Rattle.oc_tree.specs.Calls.{callee, right_calls, own_calls}
@@ -29,7 +29,7 @@ use Rattle.oc_desugar.proofs.KeptCallees.{rights_call, rights_join, with_own}
 
 -- ---- policies
 
-abbrev pub new_policy : (ℕ → ℕ) → Policy → Policy
+abbrev pub new_policy : (ℕ → ℕ) → Annotated → Annotated
 new_policy f (policies.Fresh n) = policies.Fresh (f n)
 new_policy f (policies.Consistent g n) = policies.Consistent g n
 
@@ -50,45 +50,45 @@ same_eq f h m n =
     ]
 
 -- policies are compared as the written ones
-same_policies : (f : ℕ → ℕ) → Apart f → (a b : Policy) → same_policy (new_policy f a) (new_policy f b) ≡ same_policy a b
+same_policies : (f : ℕ → ℕ) → Apart f → (a b : Annotated) → same_policy (new_policy f a) (new_policy f b) ≡ same_policy a b
 same_policies f h (policies.Fresh m) (policies.Fresh n) = same_eq f h m n
 same_policies f h (policies.Fresh m) (policies.Consistent g n) = refl
 same_policies f h (policies.Consistent g m) (policies.Fresh n) = refl
 same_policies f h (policies.Consistent g m) (policies.Consistent k n) = refl
 
 -- a policy is there where the written one is
-policy_there : (f : ℕ → ℕ) → Apart f → (ps : List Policy) (q : Policy) → list_any (same_policy (new_policy f q)) (map (new_policy f) ps) ≡ list_any (same_policy q) ps
+policy_there : (f : ℕ → ℕ) → Apart f → (ps : List Annotated) (q : Annotated) → list_any (same_policy (new_policy f q)) (map (new_policy f) ps) ≡ list_any (same_policy q) ps
 policy_there f h [] q = refl
 policy_there f h (r ∷ ps) q =
     ap (λ b. b || list_any (same_policy (new_policy f q)) (map (new_policy f) ps)) (same_policies f h q r)
     ∙ ap (λ b. same_policy q r || b) (policy_there f h ps q)
 
 -- of one of two lists
-map_cond : (f : ℕ → ℕ) (b : Bool) (ps qs : List Policy) → cond b (map (new_policy f) ps) (map (new_policy f) qs) ≡ map (new_policy f) (cond b ps qs)
+map_cond : (f : ℕ → ℕ) (b : Bool) (ps qs : List Annotated) → cond b (map (new_policy f) ps) (map (new_policy f) qs) ≡ map (new_policy f) (cond b ps qs)
 map_cond f true ps qs = refl
 map_cond f false ps qs = refl
 
 -- one policy more
-with_new_policy : (f : ℕ → ℕ) → Apart f → (ps : List Policy) (q : Policy) → with_policy (map (new_policy f) ps) (new_policy f q) ≡ map (new_policy f) (with_policy ps q)
+with_new_policy : (f : ℕ → ℕ) → Apart f → (ps : List Annotated) (q : Annotated) → with_policy (map (new_policy f) ps) (new_policy f q) ≡ map (new_policy f) (with_policy ps q)
 with_new_policy f h ps q =
     ap (λ b. cond b (map (new_policy f) ps) (map (new_policy f) ps ++ new_policy f q ∷ [])) (policy_there f h ps q)
     ∙ ap (λ l. cond (list_any (same_policy q) ps) (map (new_policy f) ps) l) (sym (map-append (new_policy f) ps (q ∷ [])))
     ∙ map_cond f (list_any (same_policy q) ps) ps (ps ++ q ∷ [])
 
 -- that of a variable's `let`
-with_new_let : (f : ℕ → ℕ) → Apart f → (ps : List Policy) (o : Origin) → with_let (map (new_policy f) ps) (new_origin f o) ≡ map (new_policy f) (with_let ps o)
+with_new_let : (f : ℕ → ℕ) → Apart f → (ps : List Annotated) (o : Origin) → with_let (map (new_policy f) ps) (new_origin f o) ≡ map (new_policy f) (with_let ps o)
 with_new_let f h ps (origins.Let m id b) = with_new_policy f h ps (policies.Fresh id)
 with_new_let f h ps origins.For = refl
 with_new_let f h ps (origins.Param q) = refl
 with_new_let f h ps origins.Nv = refl
 
 -- that of a variable, if any
-with_new_fresh : (f : ℕ → ℕ) → Apart f → (ps : List Policy) (v : Option Var) → with_fresh (map (new_policy f) ps) (option_map (new_var f) v) ≡ map (new_policy f) (with_fresh ps v)
+with_new_fresh : (f : ℕ → ℕ) → Apart f → (ps : List Annotated) (v : Option Var) → with_fresh (map (new_policy f) ps) (option_map (new_var f) v) ≡ map (new_policy f) (with_fresh ps v)
 with_new_fresh f h ps None = refl
 with_new_fresh f h ps (Some v) = with_new_let f h ps v.origin
 
 -- those of a statement
-new_policies : (f : ℕ → ℕ) → Apart f → (ps : List Policy) (h g : Here) (k i : ℕ) (s : TKind) → SameHere f h g → KindInForm IsName s
+new_policies : (f : ℕ → ℕ) → Apart f → (ps : List Annotated) (h g : Here) (k i : ℕ) (s : TKind) → SameHere f h g → KindInForm IsName s
     → policies_after (map (new_policy f) ps) g (expand_kind k i s) ≡ map (new_policy f) (policies_after ps h s)
 new_policies f a ps h g k i (let_to m x t r) e n = refl
 new_policies f a ps h g k i (let_array m x t z c) e n = refl
@@ -106,24 +106,24 @@ new_policies f a ps h g k i (consistent x m) e n = ap (λ u. with_policy (map (n
 new_policies f a ps h g k i (return c) e n = refl
 
 -- policies are never taken away
-more_policy : (ps : List Policy) (q : Policy) → length ps ≤ length (with_policy ps q)
+more_policy : (ps : List Annotated) (q : Annotated) → length ps ≤ length (with_policy ps q)
 more_policy ps q = by (list_any (same_policy q) ps)
   where
     by : (b : Bool) → length ps ≤ length (cond b ps (ps ++ q ∷ []))
     by true = omega arith
     by false = omega (arith, length-append ps (q ∷ []))
 
-more_let : (ps : List Policy) (o : Origin) → length ps ≤ length (with_let ps o)
+more_let : (ps : List Annotated) (o : Origin) → length ps ≤ length (with_let ps o)
 more_let ps (origins.Let m id b) = more_policy ps (policies.Fresh id)
 more_let ps origins.For = omega arith
 more_let ps (origins.Param q) = omega arith
 more_let ps origins.Nv = omega arith
 
-more_fresh : (ps : List Policy) (v : Option Var) → length ps ≤ length (with_fresh ps v)
+more_fresh : (ps : List Annotated) (v : Option Var) → length ps ≤ length (with_fresh ps v)
 more_fresh ps None = omega arith
 more_fresh ps (Some v) = more_let ps v.origin
 
-more_policies : (ps : List Policy) (h : Here) (s : TKind) → length ps ≤ length (policies_after ps h s)
+more_policies : (ps : List Annotated) (h : Here) (s : TKind) → length ps ≤ length (policies_after ps h s)
 more_policies ps h (let_to m x t r) = omega arith
 more_policies ps h (let_array m x t z c) = omega arith
 more_policies ps h (assign x r) = omega arith

@@ -146,6 +146,31 @@ fn a_loop(rt: HostRuntime) -> Result<(), Fail> {
     Ok(())
 }
 
+#[test]
+fn readers_of_a_loop(rt: HostRuntime) -> Result<(), Fail> {
+    let alloc = rt.alloc();
+    let checked = checked(alloc)?;
+    let turn = name(alloc, "i")?;
+    let one = name(alloc, "a")?;
+    for (s, line, block, loops) in [(1, 1, 1, 0), (2, 2, 2, 1), (3, 3, 1, 0)] {
+        assert_eq!(rt; checked.line_of(s), Some(line));
+        assert_eq!(rt; checked.block_of(s), Some(block));
+        assert_eq!(rt; checked.loops_around(s), Some(loops));
+        assert_eq!(rt; checked.group_of(s), Some((s, s)));
+        assert_eq!(rt; checked.declared(s), Some(VarId::Declared { stmt: s }));
+        assert_eq!(rt; checked.encloses(1, s), s == 2);
+        assert_eq!(rt; checked.resolve(s, &one), None);
+    }
+    assert_eq!(rt;
+        checked.resolve(2, &turn),
+        Some(VarId::Declared { stmt: 1 })
+    );
+    assert_eq!(rt; checked.resolve(3, &turn), None);
+    assert_eq!(rt; checked.block_of(4), None);
+    assert_eq!(rt; checked.group_of(4), None);
+    Ok(())
+}
+
 fn variable(alloc: Global, text: &str) -> Result<Expr, AllocError> {
     Ok(Expr::Variable {
         name: name(alloc, text)?,

@@ -1,6 +1,6 @@
 //! The variables of a function by numbers.
 ghost use Rattle.std.specs.Prelude.{◌≡◌, ◌<◌, ℕ, [], length, Option, Some, None, cond, nat_eq, OnOk, IfOk, IfSome};
-ghost use Rattle.oc_flow.specs.Variables.{same_variable};
+ghost use Rattle.oc_flow.specs.Variables.{is_among, same_variable};
 ghost use Rattle.oc_flow.specs.Known.{Entries, entry_of, number_in, or_else, slot};
 
 use oc_tree::tree::VarId;
@@ -12,6 +12,13 @@ pub fn is_same(a: VarId, b: VarId) -> bool
     ensures { result ≡ same_variable a b }
 {
     a == b
+}
+
+/// Whether a variable is one of these.
+pub fn is_among(v: VarId, variables: &[VarId]) -> bool
+    ensures { result ≡ is_among v variables.now }
+{
+    variables.iter().any(|w| is_same(v, *w))
 }
 
 // Different variables have different slots.

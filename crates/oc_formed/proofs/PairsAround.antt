@@ -26,6 +26,14 @@ smaller : (j d j' d' b : ℕ) → j ≤ j' → d' ≤ d → Outside j d b → Ou
 smaller j d j' d' b l m (inl h) = inl (omega (arith, h, l))
 smaller j d j' d' b l m (inr h) = inr (omega (arith, h, m))
 
+-- what is in a range is behind what ends where it begins
+pub later_part : (a z c d j : ℕ) (xs : List Pair) → EachPair (Ranged a z c d) xs → EachPair (Later a j c) xs
+later_part a z c d j xs h = pairs_map (Ranged a z c d) (Later a j c) (λ x r. (r.0.0, inr r.1.0)) xs h
+
+-- and before what begins where it ends
+pub earlier_part : (a z c d e : ℕ) (xs : List Pair) → EachPair (Ranged a z c d) xs → EachPair (Earlier z d e) xs
+earlier_part a z c d e xs h = pairs_map (Ranged a z c d) (Earlier z d e) (λ x r. (r.0.1, inl r.1.1)) xs h
+
 -- what is found beside a number stands in the list
 found : (P : Pair → Type 0) (xs : List Pair) → EachPair P xs → (s b : ℕ) → block_beside xs s ≡ Some b → P (s, b)
 found P [] h s b e = absurd (none-some b e)
@@ -76,7 +84,7 @@ module _ (p : TProgram) where
   }
 
   -- what holds of each statement and its block
-  told : (P : Pair → Type 0) (i z j d : ℕ) (part : List Pair) (a : Around i z j d part) → EachPair P a.front → EachPair P part → EachPair P a.back → (s b : ℕ) → block_of p s ≡ Some b → P (s, b)
+  pub told : (P : Pair → Type 0) (i z j d : ℕ) (part : List Pair) (a : Around i z j d part) → EachPair P a.front → EachPair P part → EachPair P a.back → (s b : ℕ) → block_of p s ≡ Some b → P (s, b)
   told P i z j d part a f g h s b e =
       let all = subst (EachPair P) (sym a.is) (pairs_join P a.front (part ++ a.back) f (pairs_join P part a.back g h)) in
       found P (program_pairs p) all s b (sym (block_is_beside p s) ∙ e)

@@ -15,15 +15,7 @@ use Rattle.oc_desugar.proofs.BlockPairs.{Pair, kind_pairs, else_pairs, block_pai
 use Rattle.oc_formed.proofs.BodiesMarked.{KindMarked, ElseMarked, BlockMarked, StmtsMarked}
 use Rattle.oc_formed.proofs.BlockRanges.{EachPair, pairs_map, From, Ranged, RangedIn, kind_ranged, else_ranged, block_ranged, stmts_ranged, functions_ranged}
 use Rattle.oc_formed.proofs.RegionCounts.{EachRegion, Differ, begins, ends, open_at, begun_counted, ended_counted, InBlock, all_across, none_before, none_behind}
-use Rattle.oc_formed.proofs.PairsAround.{Outside, Earlier, Later, Around, around_first, around_second, around_less, in_block_range, in_block_gap}
-
--- what is in a range is behind what ends where it begins
-later_part : (a z c d j : ℕ) (xs : List Pair) → EachPair (Ranged a z c d) xs → EachPair (Later a j c) xs
-later_part a z c d j xs h = pairs_map (Ranged a z c d) (Later a j c) (λ x r. (r.0.0, inr r.1.0)) xs h
-
--- and before what begins where it ends
-earlier_part : (a z c d e : ℕ) (xs : List Pair) → EachPair (Ranged a z c d) xs → EachPair (Earlier z d e) xs
-earlier_part a z c d e xs h = pairs_map (Ranged a z c d) (Earlier z d e) (λ x r. (r.0.1, inl r.1.1)) xs h
+use Rattle.oc_formed.proofs.PairsAround.{Outside, Earlier, Later, later_part, earlier_part, Around, around_first, around_second, around_less, in_block_range, in_block_gap}
 
 module _ (p : TProgram) (numbered : Numbered p) (regions : List TRegion) (within : EachRegion (InBlock (block_of p)) regions) (firsts : Differ (λ r. r.first) regions)
     (lasts : Differ (λ r. r.last) regions) where

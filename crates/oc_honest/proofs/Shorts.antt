@@ -8,12 +8,13 @@ use Rattle.oc_tree.specs.Marked.{TRegion}
 use Rattle.oc_tree.specs.declared.said.Said.{Said}
 use Rattle.oc_tree.specs.declared.said.Said.TheVariants.{Entered, Committed, Ended}
 use Rattle.oc_tree.specs.declared.said.Ending.{Ending}
+use Rattle.oc_tree.specs.Weight.{count_of}
 use Rattle.oc_meaning.specs.Samples.{union}
 use Rattle.oc_meaning.specs.Store.{Value, Held, Place, Local, Global, Turn, Nowhere, Event, Store, Binding, held_at, put, replaced, place_of}
 use Rattle.oc_meaning.specs.Eval.{Got, Val, Traps, is_zero, element_of, value_of}
 use Rattle.oc_meaning.specs.Uses.{is_fresh, is_use, use_samples, begins_use, ends_use}
 use Rattle.oc_meaning.specs.Exec.{Trap, Short, begun_by, ended_by, Outcome, Went, Returned, Stopped, Passed, Passing, Passes, Breaks, number_in, with_value, then_do, with_result, dropped}
-use Rattle.oc_meaning.specs.Exec.{leave, told_if, opened, closed, used, done, finished, sense, args_of, with_args, element_written, for_turns, while_turns, count_of, in_turn}
+use Rattle.oc_meaning.specs.Exec.{leave, told_if, opened, closed, used, done, finished, sense, args_of, with_args, element_written, for_turns, while_turns, in_turn}
 use Rattle.oc_meaning.specs.Exec.{grown, entered, call_run, right_run, kind_run, else_run, block_run, stmts_run}
 use Rattle.oc_meaning.specs.Run.{AtShort, with_params, function_named, nv_env, function_run, call_to, main_run, first_store, in_order, trace_of, marked_run, said_in}
 use Rattle.oc_meaning.specs.Blocks.{set_home}

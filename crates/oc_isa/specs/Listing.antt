@@ -1,9 +1,9 @@
 -- The listing of an image.
-use Rattle.std.specs.Prelude.{ℕ, ◌+◌, ◌++◌, List, [], ◌∷◌, map, codes, decimal, get_or}
+use Rattle.std.specs.Prelude.{ℕ, ◌+◌, ◌++◌, List, [], ◌∷◌, map, codes, decimal}
 use Rattle.std.specs.List.{flat_map}
 use Rattle.std.specs.Fmt.{signed_decimal}
 use Rattle.oc_io.specs.Lines.{line_of}
-use Rattle.oc_tree.specs.Names.{Text}
+use Rattle.oc_tree.specs.Names.{Text, name_at}
 use Rattle.oc_tree.specs.declared.said.Target.{Target}
 use Rattle.oc_tree.specs.declared.said.Target.TheVariants.{Nv, Param}
 use Rattle.oc_tree.specs.declared.tree.UnaryOp.{UnaryOp}
@@ -45,10 +45,6 @@ abbrev pub probe_word : ProbeKind → Text
 probe_word Use = codes "use"
 probe_word Done = codes "done"
 probe_word Tag = codes "tag"
-
--- the name with this number
-abbrev pub name_at : List Text → ℕ → Text
-name_at names n = get_or names n []
 
 -- the names of these functions
 abbrev pub names_of : List ImageFunction → List Text

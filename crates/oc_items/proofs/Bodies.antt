@@ -2,11 +2,11 @@
 use Rattle.std.proofs.Common.{ℕ, zero, suc, ℤ, ◌<◌, ◌≤◌, ◌≡◌, ◌^◌, ◌==◌, ◌&&◌, ◌||◌, not, Bool, true, false, List, [], ◌∷◌, ◌++◌, codes, decimal, refl, sym, ap, subst, ◌∙◌, append_assoc, arith}
 use Rattle.std.proofs.lemmas.List.{append_cancel_left, append_cancel_right}
 use Rattle.std.specs.Fmt.{signed_decimal}
-use Rattle.oc_tree.specs.Names.{NameLists, Text}
+use Rattle.oc_tree.specs.Names.{NameLists, Text, name_at}
 use Rattle.oc_tree.specs.declared.said.TrapKind.TheVariants as trap
 use Rattle.oc_items.specs.declared.item.Item.{Item}
 use Rattle.oc_items.specs.declared.item.Item.TheVariants as item
-use Rattle.oc_items.specs.Text.{name_at, tick_of, item_line}
+use Rattle.oc_items.specs.Text.{tick_of, item_line}
 use Rattle.oc_items.specs.OneText.{is_field, IsItem}
 use Rattle.oc_items.specs.Reading.{place_of, HasLine, Tells, body_of, has_no_space, StandsBehind, IsValue, NoneBefore, Named, HasBody, TellsBody, NoSense, NoEmit, NoStatement, NoMark, NoStop}
 use Rattle.oc_items.proofs.Fields.{decimal_field}

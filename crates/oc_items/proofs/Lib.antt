@@ -10,3 +10,4 @@ pub mod ErasedLaws
 pub mod Bodies
 pub mod Stripped
 pub mod Numerals
+pub mod Joined

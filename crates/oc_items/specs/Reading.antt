@@ -3,10 +3,10 @@ use Rattle.std.specs.Prelude.{ℕ, ℤ, ◌^◌, ◌<◌, ◌≤◌, ◌≡◌, 
 use Rattle.std.specs.Int.{w32}
 use Rattle.std.specs.Fmt.{signed_decimal}
 use Rattle.std.specs.List.{list_all}
-use Rattle.oc_tree.specs.Names.{NameLists, Text}
+use Rattle.oc_tree.specs.Names.{NameLists, Text, name_at}
 use Rattle.oc_items.specs.declared.item.Item.{Item}
 use Rattle.oc_items.specs.declared.item.Item.TheVariants as item
-use Rattle.oc_items.specs.Text.{name_at, trap_word, tick_of, item_line}
+use Rattle.oc_items.specs.Text.{trap_word, tick_of, item_line}
 use Rattle.oc_items.specs.OneText.{IsItem}
 
 -- the number of an item's sensor or port

@@ -1,17 +1,13 @@
 -- The lines of a report.
-use Rattle.std.specs.Prelude.{ℕ, ℤ, ◌<◌, ◌++◌, ⊤, Bool, true, false, List, [], ◌∷◌, length, map, take, drop, codes, decimal, get_or, if◌then◌else◌}
+use Rattle.std.specs.Prelude.{ℕ, ℤ, ◌<◌, ◌++◌, ⊤, Bool, true, false, List, [], ◌∷◌, length, map, take, drop, codes, decimal, if◌then◌else◌}
 use Rattle.std.specs.List.{flat_map}
 use Rattle.std.specs.Fmt.{signed_decimal}
 use Rattle.oc_io.specs.Lines.{line_of}
-use Rattle.oc_tree.specs.Names.{NameLists, Text}
+use Rattle.oc_tree.specs.Names.{NameLists, Text, name_at}
 use Rattle.oc_tree.specs.declared.said.TrapKind.{TrapKind}
 use Rattle.oc_tree.specs.declared.said.TrapKind.TheVariants as trap
 use Rattle.oc_items.specs.declared.item.Item.{Item}
 use Rattle.oc_items.specs.declared.item.Item.TheVariants as item
-
--- the name with this number
-abbrev pub name_at : List Text → ℕ → Text
-name_at names n = get_or names n []
 
 -- why a run was trapped
 abbrev pub trap_word : TrapKind → List ℕ

@@ -2,8 +2,7 @@
 ghost use Rattle.std.specs.Prelude.{◌≡◌, ◌^◌, ◌<◌, ◌++◌, ℕ, ℤ, List, true, length, codes, decimal, IfSome, IfNone, FitsSigned};
 ghost use Rattle.std.specs.Int.{w32};
 ghost use Rattle.std.specs.Fmt.{signed_decimal};
-ghost use Rattle.oc_tree.specs.Names.{NameLists, names_view};
-ghost use Rattle.oc_items.specs.Text.{name_at};
+ghost use Rattle.oc_tree.specs.Names.{NameLists, names_view, name_at};
 ghost use Rattle.oc_items.specs.Reading.{Tells, TellsNone, TellsBody, HasBody, has_no_space, place_of, StandsBehind, Spelled, SpelledNone, IsValue, Named, NoSense, NoEmit, NoStatement, NoMark, NoStop};
 
 use crate::item::Item;

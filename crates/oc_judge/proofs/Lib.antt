@@ -1,4 +1,3 @@
-mod Visible
 mod FreshLaws
 mod Passings
 mod Puts

@@ -5,8 +5,9 @@ use Rattle.std.proofs.lemmas.Int.{ints}
 use Rattle.oc_tree.specs.Names.{Text}
 use Rattle.oc_tree.specs.Tree.{TBlock, TProgram}
 use Rattle.oc_tree.specs.Marked.{TRegion}
+use Rattle.oc_tree.specs.Weight.{count_of}
 use Rattle.oc_meaning.specs.Store.{Binding, Store}
-use Rattle.oc_meaning.specs.Exec.{Went, count_of, in_turn}
+use Rattle.oc_meaning.specs.Exec.{Went, in_turn}
 use Rattle.oc_meaning.proofs.Turns.{count_more}
 use Rattle.oc_steps.specs.Ages.{join_ages}
 use Rattle.oc_steps.specs.Steps.{Frame, Goes, Inside, Turns, begin, step_turns}

@@ -1,7 +1,7 @@
 -- What frames and steps are in the terms of the definition.
 use Rattle.std.specs.Prelude.{◌-ℤ◌, List, map, reverse}
 use Rattle.oc_tree.specs.View.{block_view, expr_view, stmts_view, kind_view}
-use Rattle.oc_meaning.specs.Exec.{count_of}
+use Rattle.oc_tree.specs.Weight.{count_of}
 use Rattle.oc_steps.specs.Steps as steps
 use Rattle.oc_judge.specs.Values.{age_view, value_view}
 use Rattle.oc_judge.specs.declared.frames.Inside.{Inside}

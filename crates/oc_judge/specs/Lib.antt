@@ -1,5 +1,4 @@
 pub mod Values
-pub mod Scopes
 pub mod Stores
 pub mod Operands
 pub mod Fresh

@@ -8,11 +8,12 @@ ghost use Rattle.oc_judge.specs.Passing.{passed_view};
 ghost use Rattle.oc_judge.specs.Stores.{completion_at};
 
 use crate::arguments::{Passed, Passing, args};
-use crate::calls::{frame, function_named};
+use crate::calls::frame;
 use crate::frames::{Frame, Inside};
 use crate::running::Running;
-use crate::scope::Scope;
 use crate::store::{Completion, Store};
+use oc_meaning::names::function_named;
+use oc_meaning::scope::Scope;
 use oc_tree::name::Name;
 use oc_tree::tree::{Block, Call, Function, StmtId};
 use std::alloc::AllocError;

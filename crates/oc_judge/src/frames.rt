@@ -3,7 +3,7 @@ ghost use Rattle.std.specs.Prelude.{◌≡◌, IfOk};
 ghost use Rattle.oc_judge.specs.Frames.{frame_view, frames_view};
 
 use crate::age::{Age, Value};
-use crate::scope::Scope;
+use oc_meaning::scope::Scope;
 use oc_tree::name::Name;
 use oc_tree::tree::{Block, Expr, Stmt, StmtId, StmtKind};
 use std::alloc::{AllocError, Global};

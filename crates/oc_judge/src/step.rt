@@ -2,12 +2,13 @@
 ghost use Rattle.std.specs.Prelude.{◌≡◌, ◌∷◌, ◌-ℤ◌, IfOk, List};
 ghost use Rattle.oc_tree.specs.Tree.{more};
 ghost use Rattle.oc_tree.specs.View.{block_view, expr_view, kind_view, stmt_view, stmts_view};
-ghost use Rattle.oc_meaning.specs.Exec.{count_of, grown};
+ghost use Rattle.oc_tree.specs.Weight.{count_of};
+ghost use Rattle.oc_meaning.specs.Exec.{grown};
+ghost use Rattle.oc_meaning.specs.Scopes.{binding_view};
 ghost use Rattle.oc_steps.specs.Steps.{Goes, Use};
 ghost use Rattle.oc_steps.specs.Steps as steps;
 ghost use Rattle.oc_judge.specs.Frames.{frame_view, frames_view, inside_view};
 ghost use Rattle.oc_judge.specs.Going.{IsKept, loop_here, rest_here, returned_here, step_at, step_here, stepped_at, test_here, turns_here, went_here};
-ghost use Rattle.oc_judge.specs.Scopes.{binding_view};
 ghost use Rattle.oc_judge.specs.Stores.{completion_at};
 ghost use Rattle.oc_judge.specs.Values.{age_view, value_view};
 
@@ -16,16 +17,16 @@ use crate::blocks::begin;
 use crate::eval::{is_zero, value_of};
 use crate::frames::{Frame, Inside};
 use crate::going::Going;
-use crate::place::Place;
 use crate::running::Running;
-use crate::scope::{Binding, Scope};
 use crate::store::{Completion, Store};
 use crate::uses::{
     begin_use, begins_use, end_use, ends_use, expression_age, expression_is_use, use_age,
 };
 use crate::work::{take, work};
 use oc_meaning::names::is_annotated;
+use oc_meaning::place::Place;
 use oc_meaning::regions::{begun_by, ended_by};
+use oc_meaning::scope::{Binding, Scope};
 use oc_tree::name::Name;
 use oc_tree::tree::{Block, Expr, Stmt, StmtId, StmtKind};
 use std::alloc::{AllocError, Global};

@@ -11,9 +11,9 @@ ghost use Rattle.oc_judge.specs.Values.{age_view};
 ghost use Rattle.oc_judge.specs.Fresh.{with_name};
 
 use crate::age::Age;
-use crate::scope::Scope;
 use crate::store::Store;
 use oc_meaning::names::{expr_names, own_names};
+use oc_meaning::scope::Scope;
 use oc_tree::name::Name;
 use oc_tree::said::{Said, Shown};
 use oc_tree::tree::{Expr, StmtId, StmtKind};

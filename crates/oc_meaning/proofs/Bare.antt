@@ -13,9 +13,10 @@ use Rattle.oc_meaning.specs.Store.{Value, Held, Place, Local, Global, Turn, Nowh
 use Rattle.oc_meaning.specs.Eval.{Got, Val, Traps, is_zero, element_of, read_element, unary_value, combined, and_got, value_of}
 use Rattle.oc_meaning.specs.Uses.{is_fresh, is_use, samples_of_fresh, use_samples, begins_use, ends_use}
 use Rattle.oc_tree.specs.Marked.{TRegion}
+use Rattle.oc_tree.specs.Weight.{count_of}
 use Rattle.oc_meaning.specs.Exec.{begun_by, ended_by, Trap, Short, Outcome, Went, Returned, Stopped, Passed, Passing, Passes, Breaks, number_in, with_value, then_do, with_result}
 use Rattle.oc_meaning.specs.Exec.{dropped, leave, told_if, opened, closed, used, done, finished, sense, passed_on, value_first, arg_first, args_of, with_args, element_written}
-use Rattle.oc_meaning.specs.Exec.{for_turns, while_turns, count_of, in_turn, grown, entered, tagged, call_run, right_run, kind_run, else_run, block_run, stmts_run}
+use Rattle.oc_meaning.specs.Exec.{for_turns, while_turns, in_turn, grown, entered, tagged, call_run, right_run, kind_run, else_run, block_run, stmts_run}
 use Rattle.oc_meaning.specs.Run.{AtEnd, AtTrap, AtShort, in_order, words_of, trace_of, with_params, function_named, nv_env, function_run, call_to, main_run, first_store}
 use Rattle.oc_meaning.specs.Blocks.{set_home}
 use Rattle.oc_meaning.specs.Unmarked.{is_mark, unmarked, without_marks, MarksOnlyTell}

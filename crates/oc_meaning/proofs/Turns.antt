@@ -5,8 +5,9 @@ use Rattle.std.proofs.lemmas.Int.{ints}
 use Rattle.oc_meaning.specs.Samples.{union}
 use Rattle.oc_meaning.specs.Store.{Value, Store}
 use Rattle.oc_tree.specs.declared.said.TrapKind.{TrapKind}
+use Rattle.oc_tree.specs.Weight.{count_of}
 use Rattle.oc_meaning.specs.Eval.{Got, Val, Traps, is_zero}
-use Rattle.oc_meaning.specs.Exec.{Outcome, Went, count_of, done, for_turns, then_do, trapped, used, while_turns, with_value}
+use Rattle.oc_meaning.specs.Exec.{Outcome, Went, done, for_turns, then_do, trapped, used, while_turns, with_value}
 
 count_up : (d e : ℤ) → pos 0 ≤ℤ e → d ≡ e +ℤ pos 1 → count_of d ≡ suc (count_of e)
 count_up d (pos n) h e =

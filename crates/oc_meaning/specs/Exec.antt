@@ -1,11 +1,12 @@
 -- What a statement does.
-use Rattle.std.specs.Prelude.{ℕ, zero, suc, ◌-◌, ℤ, pos, negsuc, ◌+ℤ◌, ◌-ℤ◌, Bool, false, List, [], ◌∷◌, length, replicate, Option, Some, None, if◌then◌else◌, ◌==◌, count_by}
+use Rattle.std.specs.Prelude.{ℕ, zero, suc, ◌-◌, ℤ, pos, ◌+ℤ◌, ◌-ℤ◌, Bool, false, List, [], ◌∷◌, length, replicate, Option, Some, None, if◌then◌else◌, ◌==◌, count_by}
 use Rattle.std.specs.Str.{bytes_eq}
 use Rattle.oc_tree.specs.Names.{Text, NameLists}
 use Rattle.oc_tree.specs.Marked.{TRegion}
 use Rattle.oc_tree.specs.Tree.{TExpr, variable, TArg, value, shared, mutable, TCall, call, TArgs, no_args, more_args, TRight, right_value, right_sense, right_call, TKind, let_to}
 use Rattle.oc_tree.specs.Tree.{let_array, assign, assign_index, assign_deref, if_else, for_in, while_do, call_only, sense_only, emit, fresh, consistent, return, TElse, no_else}
 use Rattle.oc_tree.specs.Tree.{else_do, stmt, TBlock, block, TStmts, no_stmts, more}
+use Rattle.oc_tree.specs.Weight.{count_of}
 use Rattle.oc_tree.specs.declared.said.TrapKind.{TrapKind}
 use Rattle.oc_tree.specs.declared.said.TrapKind.TheVariants as traps
 use Rattle.oc_tree.specs.declared.said.Said.{Said}
@@ -153,11 +154,6 @@ element_written p None i v n σ = trapped traps.Index n σ
 element_written p (Some e) i v n σ = Went (put σ p (with_element (held_at σ p) e v.num (union i.samples v.samples)))
 
 -- Loops
-
--- how many turns a `for` has
-abbrev pub count_of : ℤ → ℕ
-count_of (pos n) = n
-count_of (negsuc n) = 0
 
 -- so many turns from i on
 abbrev pub for_turns : ℕ → ℤ → (ℤ → Store → Outcome) → Store → Outcome

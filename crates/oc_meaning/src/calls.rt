@@ -1,50 +1,16 @@
 //! What a function sees of its call.
-ghost use Rattle.std.specs.Prelude.{◌≡◌, map, option_map, Contains, IfSome, IfOk, OnErr, OnOk};
-ghost use Rattle.oc_tree.specs.View.{function_view};
-ghost use Rattle.oc_meaning.specs.Run.{function_named, nv_env, with_param, with_params};
+ghost use Rattle.std.specs.Prelude.{◌≡◌, map, IfOk, OnErr, OnOk};
+ghost use Rattle.oc_meaning.specs.Run.{nv_env, with_param, with_params};
 ghost use Rattle.oc_meaning.specs.Seen.{passed_view};
 
 use crate::completion::Passed;
 use crate::held::Held;
 use crate::place::Place;
-use crate::scope::{Binding, Scope};
+use crate::scope::{Binding, Scope, nonvolatile};
 use crate::store::Store;
-use oc_tree::name::Name;
 use oc_tree::tree::{Function, Param, Program};
 use std::alloc::{AllocError, Global};
 use std::collections::VecDeque;
-
-/// The function of a name.
-pub fn function_named<'a>(functions: &'a [Function], name: &Name) -> Option<&'a Function>
-    ensures named { option_map (λ f. function_view f.now) result
-        ≡ function_named (map function_view functions.now) name.now }
-    ensures among { IfSome result (λ f. Contains functions.now f.now) }
-{
-    for function in functions {
-        if name.is(&function.name) {
-            return Some(function);
-        }
-    }
-    None
-}
-
-// The nonvolatile variables, of which the first is found first.
-fn nonvolatile<'a>(alloc: Global, names: &'a [Name]) -> Result<Scope<'a>, AllocError>
-    ensures { IfOk result (λ s. s ≡ nv_env 0 names.now) }
-{
-    let mut scope = Scope::new(alloc);
-    let mut index = names.len();
-    while index > 0 {
-        index -= 1;
-        scope.push(Binding {
-            name: &names[index],
-            place: Place::Global { index },
-            reference: false,
-            fresh: false,
-        })?;
-    }
-    Ok(scope)
-}
 
 // What is passed for a parameter: a value makes a variable of the function's own.
 fn bind<'a>(

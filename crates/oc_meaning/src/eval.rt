@@ -1,58 +1,17 @@
 //! What an expression evaluates to.
 ghost use Rattle.std.specs.Prelude.{◌≡◌, IfOk};
-ghost use Rattle.oc_tree.specs.Word.{unary_of};
 ghost use Rattle.oc_tree.specs.View.{expr_view};
-ghost use Rattle.oc_meaning.specs.Eval.{apply, operated, unary_value, value_of};
+ghost use Rattle.oc_meaning.specs.Eval.{operated, unary_value, value_of};
 ghost use Rattle.oc_meaning.specs.Operands.{decided, decides, joined};
 ghost use Rattle.oc_meaning.specs.Seen.{got_view};
 
+use crate::operators::{apply, apply_unary};
 use crate::scope::Scope;
 use crate::store::Store;
 use crate::value::{Got, Value};
 use oc_tree::said::TrapKind;
 use oc_tree::tree::{BinaryOp, Expr, UnaryOp};
 use std::alloc::{AllocError, Global};
-
-/// `x op y`, or nothing where a divisor is zero. `&&` and `||` aren't applied to two numbers.
-fn apply(op: BinaryOp, x: i32, y: i32) -> Option<i32>
-    ensures { result ≡ apply op x y }
-{
-    match op {
-        BinaryOp::Or | BinaryOp::And => None,
-        BinaryOp::Add => Some(x.wrapping_add(y)),
-        BinaryOp::Sub => Some(x.wrapping_sub(y)),
-        BinaryOp::Mul => Some(x.wrapping_mul(y)),
-        BinaryOp::Div => {
-            if y == 0 {
-                None
-            } else {
-                Some(x.wrapping_div(y))
-            }
-        }
-        BinaryOp::Rem => {
-            if y == 0 {
-                None
-            } else {
-                Some(x.wrapping_rem(y))
-            }
-        }
-        BinaryOp::Eq => Some((x == y) as i32),
-        BinaryOp::Ne => Some((x != y) as i32),
-        BinaryOp::Lt => Some((x < y) as i32),
-        BinaryOp::Le => Some((x <= y) as i32),
-        BinaryOp::Gt => Some((x > y) as i32),
-        BinaryOp::Ge => Some((x >= y) as i32),
-    }
-}
-
-fn apply_unary(op: UnaryOp, x: i32) -> i32
-    ensures { result ≡ unary_of op x }
-{
-    match op {
-        UnaryOp::Neg => x.wrapping_neg(),
-        UnaryOp::Not => (x == 0) as i32,
-    }
-}
 
 /// A unary operator on a value.
 fn unary(op: UnaryOp, inner: Got) -> Got

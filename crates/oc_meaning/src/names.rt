@@ -1,12 +1,13 @@
 //! Names: their places in lists, and where statements name variables.
-ghost use Rattle.std.specs.Prelude.{◌≡◌, ◌++◌, OnOk};
-ghost use Rattle.oc_tree.specs.View.{arg_view, call_view, expr_view, kind_view, right_view, stmts_view};
+ghost use Rattle.std.specs.Prelude.{◌≡◌, ◌++◌, map, option_map, Contains, IfOk, IfSome, OnOk};
+ghost use Rattle.oc_tree.specs.View.{arg_view, call_view, expr_view, function_view, kind_view, right_view, stmts_view};
 ghost use Rattle.oc_meaning.specs.Exec.{number_in};
+ghost use Rattle.oc_meaning.specs.Run.{function_named};
 ghost use Rattle.oc_meaning.specs.Uses.{arg_names, call_names, expr_names, is_annotated, is_fresh_note, own_names, right_names};
 ghost use Rattle.oc_tree.specs.Names.{names_seen};
 
 use oc_tree::name::Name;
-use oc_tree::tree::{Arg, Call, Expr, Right, Stmt, StmtKind};
+use oc_tree::tree::{Arg, Call, Expr, Function, Right, Stmt, StmtKind};
 use std::alloc::AllocError;
 
 /// The place of a name in a list, or past its end.
@@ -21,6 +22,32 @@ pub fn place_in(names: &[Name], name: &Name) -> usize
         number += 1;
     }
     number
+}
+
+/// The number of a sensor or a port, by its place among the names. One that doesn't fit is out of
+/// memory: no checked program has so many.
+pub fn number_in(names: &[Name], name: &Name) -> Result<u8, AllocError>
+    ensures { IfOk result (λ n. n ≡ number_in names.now name.now) }
+{
+    let place = place_in(names, name);
+    if place > 255 {
+        return Err(AllocError);
+    }
+    Ok(place as u8)
+}
+
+/// The function of a name.
+pub fn function_named<'a>(functions: &'a [Function], name: &Name) -> Option<&'a Function>
+    ensures named { option_map (λ f. function_view f.now) result
+        ≡ function_named (map function_view functions.now) name.now }
+    ensures among { IfSome result (λ f. Contains functions.now f.now) }
+{
+    for function in functions {
+        if name.is(&function.name) {
+            return Some(function);
+        }
+    }
+    None
 }
 
 /// Adds the variables that an expression names.

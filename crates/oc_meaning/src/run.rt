@@ -8,9 +8,9 @@ ghost use Rattle.oc_meaning.specs.Cuts.{Begins, Oldest, events_in};
 ghost use Rattle.oc_meaning.specs.Runs.{main_from};
 ghost use Rattle.oc_meaning.specs.Traces.{Rises, ending_of, parts, trace_view};
 
-use crate::calls::function_named;
 use crate::completion::{Completion, Stop};
 use crate::interrupted::Interrupted;
+use crate::names::function_named;
 use crate::running::Running;
 use crate::samples::Samples;
 use crate::statements::call_to;

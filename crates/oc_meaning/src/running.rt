@@ -1,14 +1,11 @@
 //! What runs.
-ghost use Rattle.std.specs.Prelude.{◌≡◌, IfOk};
+ghost use Rattle.std.specs.Prelude.{◌≡◌};
 ghost use Rattle.oc_meaning.specs.Eval.{is_zero};
-ghost use Rattle.oc_meaning.specs.Exec.{number_in};
 
-use crate::names::place_in;
 use crate::value::Value;
 use oc_tree::marked::Region;
-use oc_tree::name::Name;
 use oc_tree::tree::{Block, Program};
-use std::alloc::{AllocError, Global};
+use std::alloc::Global;
 
 /// The program with its regions, how deep calls may go from here, and the body of the function that
 /// runs.
@@ -19,18 +16,6 @@ pub struct Running<'a> {
     pub regions: &'a [Region],
     pub depth: usize,
     pub body: &'a Block,
-}
-
-/// The number of a sensor or a port, by its place among the names. One that doesn't fit is out of
-/// memory: no checked program has so many.
-pub fn number_in(names: &[Name], name: &Name) -> Result<u8, AllocError>
-    ensures { IfOk result (λ n. n ≡ number_in names.now name.now) }
-{
-    let place = place_in(names, name);
-    if place > 255 {
-        return Err(AllocError);
-    }
-    Ok(place as u8)
 }
 
 pub fn is_zero(value: &Value) -> bool

@@ -1,6 +1,7 @@
 //! The visible variables.
-ghost use Rattle.std.specs.Prelude.{◌≡◌, ◌-◌, [], ◌∷◌, drop, find, length, option_map, reverse, OnOk};
+ghost use Rattle.std.specs.Prelude.{◌≡◌, ◌-◌, [], ◌∷◌, drop, find, length, option_map, reverse, IfOk, OnOk};
 ghost use Rattle.std.specs.Str.{bytes_eq};
+ghost use Rattle.oc_meaning.specs.Run.{nv_env};
 ghost use Rattle.oc_meaning.specs.Store.{binding_of, place_of};
 ghost use Rattle.oc_meaning.specs.Uses.{is_fresh};
 ghost use Rattle.oc_meaning.specs.Seen.{place_view};
@@ -44,6 +45,15 @@ impl<'a> Scope<'a> {
         Scope {
             bindings: Vec::new(alloc),
         }
+    }
+
+    /// The same variables.
+    pub fn copy(&self, alloc: Global) -> Result<Scope<'a>, AllocError>
+        ensures { IfOk result (λ s. s ≡ self.now) }
+    {
+        Ok(Scope {
+            bindings: Vec::from_slice(alloc, &self.bindings)?,
+        })
     }
 
     /// How many variables are visible, with those that others hide.
@@ -119,4 +129,22 @@ fn newest<'a, 'b>(bindings: &'b [Binding<'a>], name: &Name) -> Option<&'b Bindin
         ≡ find (λ b. bytes_eq name.now b.name.now) (reverse bindings.now) }
 {
     bindings.iter().rev().find(|binding| name.is(binding.name))
+}
+
+/// The nonvolatile variables, of which the first is found first.
+pub fn nonvolatile<'a>(alloc: Global, names: &'a [Name]) -> Result<Scope<'a>, AllocError>
+    ensures { IfOk result (λ s. s ≡ nv_env 0 names.now) }
+{
+    let mut scope = Scope::new(alloc);
+    let mut index = names.len();
+    while index > 0 {
+        index -= 1;
+        scope.push(Binding {
+            name: &names[index],
+            place: Place::Global { index },
+            reference: false,
+            fresh: false,
+        })?;
+    }
+    Ok(scope)
 }

@@ -1,21 +1,22 @@
 //! Statements, executed.
 ghost use Rattle.std.specs.Prelude.{◌≡◌, ◌∷◌, ◌-◌, [], ◌-ℤ◌, drop, length, map, IfOk, OnErr, OnOk};
 ghost use Rattle.oc_tree.specs.View.{block_view, call_view, expr_view, kind_view, right_view, stmts_view};
+ghost use Rattle.oc_tree.specs.Weight.{count_of};
 ghost use Rattle.oc_meaning.specs.Store as meant;
 ghost use Rattle.oc_meaning.specs.Eval.{value_of};
 ghost use Rattle.oc_meaning.specs.Uses.{is_fresh, is_use, use_samples};
-ghost use Rattle.oc_meaning.specs.Exec.{count_of, for_turns, grown, in_turn, while_turns};
+ghost use Rattle.oc_meaning.specs.Exec.{for_turns, grown, in_turn, while_turns};
 ghost use Rattle.oc_meaning.specs.Seen.{completion_at, passed_view};
 ghost use Rattle.oc_meaning.specs.Cuts.{Oldest, events_in};
 ghost use Rattle.oc_meaning.specs.Runs.{block_here, call_here, callee, kind_here, right_here, stmt_here, stmts_here, stmts_in};
 
 use crate::arguments::{Passing, args};
-use crate::calls::{frame, function_named};
+use crate::calls::frame;
 use crate::completion::{Completion, Passed};
 use crate::eval::value_of;
 use crate::interrupted::Interrupted;
 use crate::marks::{begin, begin_turn, end, end_turns, is_use};
-use crate::names::is_annotated;
+use crate::names::{function_named, is_annotated};
 use crate::place::Place;
 use crate::regions::{begun_by, ended_by};
 use crate::running::{Running, is_zero};

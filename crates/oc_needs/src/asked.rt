@@ -6,11 +6,11 @@ ghost use Rattle.oc_needs.specs.Policies.{is_held, is_note_of, note_variable};
 ghost use Rattle.oc_needs.specs.Code.{annotated_by, held_by};
 ghost use Rattle.oc_needs.specs.CodeView.{IsAsked};
 
-use crate::need::is_among;
 use crate::place::function_count;
 use crate::policy::{is_same_kind, kind_of};
 use oc_effects::effect::{Effect, Note};
 use oc_effects::effects::Effects;
+use oc_flow::numbering::is_among;
 use oc_tree::marked::{Policy, PolicyKind};
 use oc_tree::tree::{StmtId, VarId};
 use std::alloc::{AllocError, Global};

@@ -13,20 +13,13 @@ ghost use Rattle.oc_needs.specs.CodeView.{level_view, local_view, rows_view, IsA
 
 use crate::asked::Asked;
 use crate::local::{Body, Local, body_at};
-use crate::policy::is_same_variable;
 use crate::sites::flows;
 use oc_effects::effect::{Called, Effect};
+use oc_flow::numbering::{is_among, is_same};
 use oc_flow::summary::Summaries;
 use oc_tree::marked::Policy;
 use oc_tree::tree::VarId;
 use std::alloc::{AllocError, Global};
-
-/// Whether a variable is one of these.
-pub fn is_among(v: VarId, variables: &[VarId]) -> bool
-    ensures { result ≡ is_among v variables.now }
-{
-    variables.iter().any(|w| is_same_variable(v, *w))
-}
 
 fn is_given(v: VarId) -> bool
     ensures { result ≡ is_given v }
@@ -53,7 +46,7 @@ fn begins(call: &Called, x: VarId, u: VarId) -> bool
     ensures { result ≡ begins (called_view call.now) x u }
 {
     match x {
-        VarId::Nv { index: _ } => is_same_variable(x, u),
+        VarId::Nv { index: _ } => is_same(x, u),
         VarId::Param { index } => is_passed(call, index as usize, u),
         _ => false,
     }
@@ -256,7 +249,7 @@ fn is_same_row(left: &[VarId], right: &[VarId]) -> bool
         if i >= right.len() {
             return false;
         }
-        if !is_same_variable(left[i], right[i]) {
+        if !is_same(left[i], right[i]) {
             return false;
         }
     }

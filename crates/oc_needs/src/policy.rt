@@ -3,36 +3,22 @@ ghost use Rattle.std.specs.Prelude.{◌≡◌, ◌<◌, [], ◌∷◌, map, leng
 ghost use Rattle.std.specs.List.{list_any};
 ghost use Rattle.oc_effects.specs.Effects.{effects_at};
 ghost use Rattle.oc_effects.specs.View.{effect_view};
-ghost use Rattle.oc_flow.specs.Variables.{same_variable};
 ghost use Rattle.oc_needs.specs.Code.{asked_by};
 ghost use Rattle.oc_needs.specs.Policies.{each_once, kind_of_note, policies, same_kind, same_policy};
 
 use crate::place::{function_count, number_of};
 use oc_effects::effect::{Effect, Note};
 use oc_effects::effects::Effects;
+use oc_flow::numbering::is_same;
 use oc_tree::marked::{Policy, PolicyKind};
-use oc_tree::tree::VarId;
 use std::alloc::{AllocError, Global};
-
-/// Whether these are the same variable of a function.
-pub fn is_same_variable(v: VarId, w: VarId) -> bool
-    ensures { result ≡ same_variable v w }
-{
-    match (v, w) {
-        (VarId::Nv { index: i }, VarId::Nv { index: j }) => i == j,
-        (VarId::Param { index: i }, VarId::Param { index: j }) => i == j,
-        (VarId::Declared { stmt: s }, VarId::Declared { stmt: t }) => s == t,
-        (VarId::Returned, VarId::Returned) => true,
-        _ => false,
-    }
-}
 
 /// Whether two policies of one function ask for the same.
 pub fn is_same_kind(a: PolicyKind, b: PolicyKind) -> bool
     ensures { result ≡ same_kind a b }
 {
     match (a, b) {
-        (PolicyKind::Fresh { var: v }, PolicyKind::Fresh { var: w }) => is_same_variable(v, w),
+        (PolicyKind::Fresh { var: v }, PolicyKind::Fresh { var: w }) => is_same(v, w),
         (PolicyKind::Consistent { id: k }, PolicyKind::Consistent { id: j }) => k == j,
         _ => false,
     }

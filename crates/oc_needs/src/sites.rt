@@ -10,7 +10,7 @@ ghost use Rattle.oc_needs.specs.CodeView.{sites_view, source_view, IsBody};
 
 use crate::lists::sort_once;
 use crate::local::{Body, Source};
-use crate::policy::is_same_variable;
+use oc_flow::numbering::is_same;
 use oc_tree::tree::{StmtId, VarId};
 use std::alloc::{AllocError, Global};
 
@@ -235,7 +235,7 @@ fn place_of(variables: &[VarId], x: VarId) -> Option<usize>
     ensures { IfSome result (λ i. (i < length variables.now) × (get_or variables.now i x ≡ x)) }
 {
     for i in 0..variables.len() {
-        if is_same_variable(variables[i], x) {
+        if is_same(variables[i], x) {
             return Some(i);
         }
     }

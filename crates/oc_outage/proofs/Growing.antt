@@ -8,7 +8,8 @@ use Rattle.oc_tree.specs.declared.said.Said.TheVariants.{Sensed, Showed, Entered
 use Rattle.oc_items.specs.Erase.{mark_or, erase, without_off, without_offs, marked, without_mark, without_marks, kept, sampled, samples_of, kept_samples, inside_after, HasNoOffInside}
 use Rattle.oc_outage.specs.Honest.{IsRead, AreRead}
 use Rattle.oc_items.specs.Reports.{EndsWith}
-use Rattle.oc_outage.proofs.Erasing.{item, IsNoAbort, erase-append}
+use Rattle.oc_outage.proofs.Erasing.{item}
+use Rattle.oc_items.proofs.Joined.{NoAbort, erase-append}
 
 without_off-append : (s : Said) (xs ys : List Said) → without_off s (xs ++ ys) ≡ without_off s xs ++ ys
 without_off-append (Sensed a b) xs ys = refl
@@ -73,7 +74,7 @@ pub read_more : (h : ℕ → ℕ → ℤ) (xs : List Told) (t : ℕ) (s : Said) 
 read_more h xs t s a b = read-append h xs (item t s ∷ []) a (b, tt)
 
 -- an item that is no `abort` is simply added
-module _ (xs : List Told) (t : ℕ) (s : Said) (n : IsNoAbort (mark_or s None)) where
+module _ (xs : List Told) (t : ℕ) (s : Said) (n : NoAbort (mark_or s None)) where
   pub marked_more : marked (xs ++ item t s ∷ []) ≡ marked xs ++ marked (item t s ∷ [])
   marked_more = ap without_offs (erase-append xs (item t s ∷ []) n) ∙ without_offs-append (erase xs) (erase (item t s ∷ []))
 

@@ -10,7 +10,8 @@ use Rattle.oc_isa.specs.Run.{Core, Ran, core_at, stops, continuous_run}
 use Rattle.oc_items.specs.Erase.{mark_or, erase, marked, kept_samples, HasNoOffInside, IsOutside}
 use Rattle.oc_outage.specs.Honest.{IsRead, IsHonest, IsWhole}
 use Rattle.oc_items.specs.Reports.{IsPrefixOf}
-use Rattle.oc_outage.proofs.Erasing.{item, IsNoAbort}
+use Rattle.oc_outage.proofs.Erasing.{item}
+use Rattle.oc_items.proofs.Joined.{NoAbort}
 use Rattle.oc_outage.proofs.Growing.{inside, marked_more, samples_more, inside_more, outside_more, read_more, prefix_last}
 use Rattle.oc_outage.proofs.Continues.{IsAt, said_by, ends}
 use Rattle.oc_outage.proofs.Facts.{IsSettled, IsEntry, AreHonest}
@@ -44,7 +45,7 @@ module _ (d : Device) (h : ℕ → ℕ → ℤ) (report : List Told) (made : ℕ
         (prefix_last q rest report (item t s) e);
   }
 
-module _ (d : Device) (report : List Told) (t : ℕ) (s : Said) (unaborted : IsNoAbort (mark_or s None)) where
+module _ (d : Device) (report : List Told) (t : ℕ) (s : Said) (unaborted : NoAbort (mark_or s None)) where
   -- what the report leads to, where it got one more item
   pub at_more : (samples : List ℤ) (out : List Said) (m : ℕ) (c : Core) → samples ≡ kept_samples report ++ kept_samples (item t s ∷ [])
       → out ≡ marked report ++ marked (item t s ∷ []) → IsAt d samples out m c → IsAt d (kept_samples (report ++ item t s ∷ [])) (marked (report ++ item t s ∷ [])) m c
@@ -94,7 +95,7 @@ module _ (d : Device) (report : List Told) (made t m : ℕ) (c : Core) (how : En
 
 -- an `off` or `dark` changes nothing of what is kept
 module _ (d : Device) (h : ℕ → ℕ → ℤ) (report : List Told) (made t : ℕ) where
-  outage_honest : (s : Said) → IsNoAbort (mark_or s None) → marked (item t s ∷ []) ≡ [] → kept_samples (item t s ∷ []) ≡ []
+  outage_honest : (s : Said) → NoAbort (mark_or s None) → marked (item t s ∷ []) ≡ [] → kept_samples (item t s ∷ []) ≡ []
       → HasNoOffInside (inside false (erase report)) (erase (item t s ∷ [])) → IsRead h t s → AreHonest d h made report → AreHonest d h made (report ++ item t s ∷ [])
   outage_honest s unaborted em es o rd a =
       let kept : kept_samples report ≡ kept_samples (report ++ item t s ∷ []) = sym (append-nil _) ∙ ap (λ l. kept_samples report ++ l) (sym es) ∙ sym (samples_more report t s unaborted) in

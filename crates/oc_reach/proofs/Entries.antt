@@ -1,29 +1,35 @@
 -- A table whose keys are borrowed names, as the list that contracts see.
-use Rattle.std.proofs.Common.{◌≡◌, ◌<◌, ◌+◌, ℕ, Bool, true, false, cond, List, [], ◌∷◌, ◌++◌, Option, Some, None, IfSome, map, refl, ap, sym, ◌∙◌, Bor, length, rules, arith}
+use Rattle.std.proofs.Common.{◌≡◌, ◌<◌, ◌+◌, ℕ, zero, suc, Bool, true, false, cond, List, [], ◌∷◌, ◌++◌, Option, Some, None, IfSome, map, take, refl, ap, sym, ◌∙◌, Bor, length, rules, arith}
 use Rattle.std.specs.Str.{bytes_eq}
 use Rattle.std.specs.Map.{lookup}
 use Rattle.indexmap.specs.IndexMap.{insert_entry}
 use Rattle.std.proofs.lemmas.Slice.Eq.{bytes_eq-Decides}
-use Rattle.oc_tree.specs.Names.{Text}
+use Rattle.oc_tree.specs.Names.{Text, named_in}
 use Rattle.oc_tree.specs.Calls.{place_from}
 use Rattle.oc_reach.specs.Entries.{Entries, number_in, or_else}
 
-abbrev pub seen : List (Bor Text × ℕ) → Entries
+-- the names and what stands beside them
+abbrev pub seen : {A : Type 0} → List (Bor Text × A) → List (Text × A)
 seen es = map (λ e. (e.0.now, e.1)) es
 
-pub lookup-seen : (x : Text) (es : List (Bor Text × ℕ)) → lookup (λ y. bytes_eq x y.now) es ≡ number_in (seen es) x
+pub lookup-seen : {A : Type 0} (x : Text) (es : List (Bor Text × A)) → lookup (λ y. bytes_eq x y.now) es ≡ named_in (seen es) x
 lookup-seen x [] = refl
 lookup-seen x (e ∷ es) = ap (cond (bytes_eq x e.0.now) (Some e.1)) (lookup-seen x es)
 
-pub insert-seen : (es : List (Bor Text × ℕ)) (k : Bor Text) (v : ℕ) → number_in (seen es) k.now ≡ None → seen (insert_entry (λ x y. bytes_eq x.now y.now) es k v) ≡ seen es ++ (k.now, v) ∷ []
+pub insert-seen : {A : Type 0} (es : List (Bor Text × A)) (k : Bor Text) (v : A) → named_in (seen es) k.now ≡ None → seen (insert_entry (λ x y. bytes_eq x.now y.now) es k v) ≡ seen es ++ (k.now, v) ∷ []
 insert-seen [] k v h = refl
 insert-seen (e ∷ es) k v h = by (bytes_eq k.now e.0.now) h (insert-seen es k v)
   where
-    by : (b : Bool) → cond b (Some e.1) (number_in (seen es) k.now) ≡ None
-        → (number_in (seen es) k.now ≡ None → seen (insert_entry (λ x y. bytes_eq x.now y.now) es k v) ≡ seen es ++ (k.now, v) ∷ [])
+    by : (b : Bool) → cond b (Some e.1) (named_in (seen es) k.now) ≡ None
+        → (named_in (seen es) k.now ≡ None → seen (insert_entry (λ x y. bytes_eq x.now y.now) es k v) ≡ seen es ++ (k.now, v) ∷ [])
         → seen (cond b ((e.0, v) ∷ es) (e ∷ insert_entry (λ x y. bytes_eq x.now y.now) es k v)) ≡ seen (e ∷ es) ++ (k.now, v) ∷ []
     by true none rest = absurd (cc)
     by false none rest = ap (λ r. (e.0.now, e.1) ∷ r) (rest none)
+
+pub take-seen : {A : Type 0} (n : ℕ) (es : List (Bor Text × A)) → seen (take n es) ≡ take n (seen es)
+take-seen zero es = refl
+take-seen (suc n) [] = refl
+take-seen (suc n) (e ∷ es) = ap (λ r. (e.0.now, e.1) ∷ r) (take-seen n es)
 
 pub found_push : (m : Entries) (n x : Text) (i : ℕ) → number_in (m ++ (n, i) ∷ []) x ≡ or_else (number_in m x) (cond (bytes_eq x n) (Some i) None)
 found_push [] n x i = refl

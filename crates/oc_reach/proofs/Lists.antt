@@ -1,11 +1,12 @@
--- Lists of numbers in which each stands once.
-use Rattle.std.proofs.Common.{◌≡◌, ◌≢◌, ◌<◌, ◌≤◌, ◌+◌, ◌++◌, ℕ, zero, suc, Bool, true, false, List, [], ◌∷◌, nat_eq, length, refl, sym, ap, ◌∙◌, true≢false, arith, subst, drop}
+-- Lists of numbers in which each stands once, and places of lists.
+use Rattle.std.proofs.Common.{◌≡◌, ◌≢◌, ◌<◌, ◌≤◌, ◌+◌, ◌++◌, ℕ, zero, suc, Bool, true, false, List, [], ◌∷◌, Some, map, nat_eq, length, refl, sym, ap, ◌∙◌, true≢false, arith, subst, drop}
 use Rattle.std.proofs.Math.Seq.{drop-cons}
-use Rattle.std.specs.Prelude.{◌||◌, if◌then◌else◌}
+use Rattle.std.specs.Prelude.{◌||◌, if◌then◌else◌, slice_get}
 use Rattle.std.proofs.Math.ListN.{get_or, set, get_or-append}
 use Rattle.std.proofs.lemmas.List.{get_or-set_same, get_or-set_other, length-append}
 use Rattle.std.proofs.lemmas.Bool.{eqb-true, eq-eqb}
 use Rattle.std.proofs.lemmas.Bool.Decides.{eqb_tells, nat_tests}
+use Rattle.std.proofs.lemmas.Option.{none-some, same_Some}
 use mathlib.Core.Logic.{inl, inr}
 use Rattle.oc_tree.proofs.ReachLaws.{or_left, or_right, or_elim}
 use Rattle.oc_reach.specs.Marked.{is_in, add, add_all}
@@ -91,3 +92,9 @@ in_at (x ∷ xs) (suc j) h = or_right (nat_eq x (get_or xs j 0)) _ (in_at xs j (
 pub in_drop : (i : ℕ) (xs : List ℕ) → i < length xs → is_in (drop i xs) (get_or xs i 0) ≡ true
 in_drop i xs h = subst (λ l. is_in l (get_or xs i 0) ≡ true) (sym (drop-cons xs i 0 h))
     (or_left (nat_eq (get_or xs i 0) (get_or xs i 0)) (is_in (drop (suc i) xs) (get_or xs i 0)) (eq-eqb (get_or xs i 0) (get_or xs i 0) refl))
+
+-- what stands at a place of a list
+pub at_place : {A B : Type 0} (g : A → B) (xs : List A) (u : ℕ) (x : A) (d : B) → slice_get xs u ≡ Some x → get_or (map g xs) u d ≡ g x
+at_place g [] u x d h = absurd (none-some x h)
+at_place g (y ∷ xs) zero x d h = ap g (same_Some y x h)
+at_place g (y ∷ xs) (suc u) x d h = at_place g xs u x d h

@@ -7,11 +7,12 @@ use Rattle.oc_tree.specs.Tree.{while_do, call_only, sense_only, emit, fresh, con
 use Rattle.oc_tree.specs.Tree.{TProgram}
 use Rattle.oc_tree.specs.declared.said.Said.TheVariants.{Sensed, Showed}
 use Rattle.oc_tree.specs.declared.said.Shown.TheVariants.{Emitted}
+use Rattle.oc_tree.specs.Weight.{count_of}
 use Rattle.oc_meaning.specs.Store.{Value, Store, Binding, plain, holding, replaced, held_at, put, made, left_at, noted, place_of}
 use Rattle.oc_meaning.specs.Eval.{Got, Val, Traps, is_zero, element_of}
 use Rattle.oc_meaning.specs.Uses.{is_fresh, is_use, begins_use, ends_use}
 use Rattle.oc_meaning.specs.Blocks.{set_home}
-use Rattle.oc_meaning.specs.Exec.{begun_by, ended_by, Outcome, Went, Returned, Stopped, Passed, Passing, Passes, Breaks, number_in, trapped, opened, closed, used, done, count_of}
+use Rattle.oc_meaning.specs.Exec.{begun_by, ended_by, Outcome, Went, Returned, Stopped, Passed, Passing, Passes, Breaks, number_in, trapped, opened, closed, used, done}
 use Rattle.oc_meaning.specs.Exec.{in_turn, grown, array_of, entered, tagged}
 use Rattle.oc_meaning.specs.Run.{with_params, nv_env, function_named}
 use Rattle.oc_steps.specs.Sets.{value_by, use_by, args_by, element_written_by}

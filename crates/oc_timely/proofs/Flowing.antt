@@ -10,7 +10,8 @@ use Rattle.oc_meaning.specs.Samples.{union}
 use Rattle.oc_meaning.specs.Uses.{is_fresh, is_use, use_samples, begins_use, ends_use}
 use Rattle.oc_meaning.specs.Store.{Held, Turn, Nowhere, Store, Binding}
 use Rattle.oc_meaning.specs.Eval.{Got, is_zero, value_of}
-use Rattle.oc_meaning.specs.Exec.{Outcome, Went, Returned, Stopped, Passed, begun_by, ended_by, opened, closed, used, done, finished, then_do, count_of, for_turns, while_turns}
+use Rattle.oc_meaning.specs.Exec.{Outcome, Went, Returned, Stopped, Passed, begun_by, ended_by, opened, closed, used, done, finished, then_do, for_turns, while_turns}
+use Rattle.oc_tree.specs.Weight.{count_of}
 use Rattle.oc_meaning.specs.Exec.{in_turn, grown, entered, kind_run, else_run, block_run, stmts_run}
 use Rattle.oc_tree.specs.Members.{IsOf}
 use Rattle.oc_copies.specs.Copies.{HasStored}

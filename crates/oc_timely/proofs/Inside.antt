@@ -11,7 +11,8 @@ use Rattle.oc_meaning.specs.Samples.{union}
 use Rattle.oc_meaning.specs.Uses.{is_fresh, is_use, use_samples, begins_use, ends_use}
 use Rattle.oc_meaning.specs.Store.{Held, Turn, Nowhere, Store, Binding, held_at}
 use Rattle.oc_meaning.specs.Eval.{is_zero, value_of}
-use Rattle.oc_meaning.specs.Exec.{Outcome, Went, Returned, Stopped, Passed, then_do, finished, leave, used, done, closed, opened, begun_by, ended_by, count_of, for_turns}
+use Rattle.oc_meaning.specs.Exec.{Outcome, Went, Returned, Stopped, Passed, then_do, finished, leave, used, done, closed, opened, begun_by, ended_by, for_turns}
+use Rattle.oc_tree.specs.Weight.{count_of}
 use Rattle.oc_meaning.specs.Exec.{while_turns, in_turn, grown, entered, kind_run, else_run, block_run, stmts_run}
 use Rattle.oc_effects.specs.Effects.{TEffect, effect_of}
 use Rattle.oc_flow.specs.Variables.{same_variable}

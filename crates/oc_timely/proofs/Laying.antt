@@ -12,25 +12,8 @@ use Rattle.oc_tree.specs.Places.{block_of}
 use Rattle.oc_desugar.proofs.NumberLists.{Follow, first_of, parts}
 use Rattle.oc_desugar.proofs.BlockPairs.{Pair, kind_pairs, else_pairs, block_pairs, stmts_pairs, program_pairs, block_beside, block_is_beside}
 use Rattle.oc_formed.proofs.BlockRanges.{EachPair, pairs_join, pairs_map, From, Ranged, RangedIn, kind_ranged, else_ranged, block_ranged, stmts_ranged, functions_ranged}
-use Rattle.oc_formed.proofs.PairsAround.{Outside, Earlier, Later, Around, around_first, around_second, around_less}
+use Rattle.oc_formed.proofs.PairsAround.{Outside, Earlier, Later, later_part, earlier_part, Around, around_first, around_second, around_less, told}
 use Rattle.oc_timely.specs.Laid.{IsClosed, LaidKind, LaidElse, LaidBlock, LaidStmts}
-
--- what is in a range is behind what ends where it begins
-later_part : (a z c d j : ℕ) (xs : List Pair) → EachPair (Ranged a z c d) xs → EachPair (Later a j c) xs
-later_part a z c d j xs h = pairs_map (Ranged a z c d) (Later a j c) (λ x r. (r.0.0, inr r.1.0)) xs h
-
--- and before what begins where it ends
-earlier_part : (a z c d e : ℕ) (xs : List Pair) → EachPair (Ranged a z c d) xs → EachPair (Earlier z d e) xs
-earlier_part a z c d e xs h = pairs_map (Ranged a z c d) (Earlier z d e) (λ x r. (r.0.1, inl r.1.1)) xs h
-
--- what is found beside a number stands in the list
-found : (P : Pair → Type 0) (xs : List Pair) → EachPair P xs → (s b : ℕ) → block_beside xs s ≡ Some b → P (s, b)
-found P [] h s b e = absurd (none-some b e)
-found P (x ∷ xs) h s b e = go (x.0 == s) refl e (found P xs h.1 s b)
-  where
-    go : (c : Bool) → (x.0 == s) ≡ c → cond c (Some x.1) (block_beside xs s) ≡ Some b → (block_beside xs s ≡ Some b → P (s, b)) → P (s, b)
-    go true is e rest = subst (λ m. P (s, m)) (same_Some x.1 b e) (subst (λ m. P (m, x.1)) (eqb-true x.0 s is) h.0)
-    go false is e rest = rest e
 
 module _ (p : TProgram) where
   -- the statements and blocks of a part, with what is around it
@@ -107,24 +90,18 @@ module _ (p : TProgram) where
         (stmts_pairs b rest) (omega arith) (omega arith) (omega arith)
         (earlier_part (suc i) next j after (after + length (stmts_blocks rest)) (kind_pairs k) h.inside) (behind_own h)
 
-  -- what holds of each statement and its block
-  told : (P : Pair → Type 0) (i z j d : ℕ) (part : List Pair) (a : Around p i z j d part) → EachPair P a.front → EachPair P part → EachPair P a.back → (s b : ℕ) → block_of p s ≡ Some b → P (s, b)
-  told P i z j d part a f g h s b e =
-      let all = subst (EachPair P) (sym a.is) (pairs_join P a.front (part ++ a.back) f (pairs_join P part a.back g h)) in
-      found P (program_pairs p) all s b (sym (block_is_beside p s) ∙ e)
-
   outside_not : (j d c : ℕ) → Outside j d c → From j d c → ⊥
   outside_not j d c (inl o) r = omega (arith, o, r.0)
   outside_not j d c (inr o) r = omega (arith, o, r.1)
 
   closed : (i z j d : ℕ) (xs : List Pair) → EachPair (Ranged i z j d) xs → Around p i z j d xs → IsClosed p i z
   closed i z j d xs r a s t b low high e h =
-      let block : From j d b = told P i z j d xs a
+      let block : From j d b = told p P i z j d xs a
       (pairs_map (Earlier i j d) P (λ x o l k. absurd (let q = o.0 in omega (arith, q, l))) a.front a.before)
       (pairs_map (Ranged i z j d) P (λ x o l k. o.1) xs r)
       (pairs_map (Later z j d) P (λ x o l k. absurd (let q = o.0 in omega (arith, q, k))) a.back a.behind)
       s b e low high in
-      told Q i z j d xs a
+      told p Q i z j d xs a
       (pairs_map (Earlier i j d) Q (λ x o f. absurd (outside_not j d x.1 o.1 f)) a.front a.before)
       (pairs_map (Ranged i z j d) Q (λ x o f. o.0) xs r)
       (pairs_map (Later z j d) Q (λ x o f. absurd (outside_not j d x.1 o.1 f)) a.back a.behind)

@@ -52,6 +52,7 @@ pub mod AllFlow
 pub mod Ending
 pub mod Closed
 pub mod Tagged
+pub mod Positions
 pub mod Owned
 pub mod Away
 pub mod Weak

@@ -13,7 +13,8 @@ use Rattle.oc_meaning.specs.Blocks.{kind_notes, else_notes, block_notes, stmts_n
 use Rattle.oc_meaning.specs.Store.{Event, Store, Binding}
 use Rattle.oc_meaning.specs.Eval.{Got, Val, Traps, is_zero, value_of}
 use Rattle.oc_meaning.specs.Uses.{is_fresh, is_use, use_samples, begins_use, ends_use}
-use Rattle.oc_meaning.specs.Exec.{begun_by, ended_by, Passed, Outcome, Went, Returned, Stopped, with_value, then_do, opened, closed, used, done, finished, count_of, in_turn, grown}
+use Rattle.oc_meaning.specs.Exec.{begun_by, ended_by, Passed, Outcome, Went, Returned, Stopped, with_value, then_do, opened, closed, used, done, finished, in_turn, grown}
+use Rattle.oc_tree.specs.Weight.{count_of}
 use Rattle.oc_meaning.specs.Exec.{entered, kind_run, else_run, block_run, stmts_run}
 use Rattle.oc_tree.specs.Members.{IsOf}
 use Rattle.oc_flow.proofs.Fixpoint.{Ranked}

@@ -9,13 +9,14 @@ use Rattle.oc_tree.specs.Marked.{TRegion}
 use Rattle.oc_tree.specs.declared.said.TrapKind.{TrapKind}
 use Rattle.oc_tree.specs.declared.said.TrapKind.TheVariants as traps
 use Rattle.oc_tree.specs.declared.said.Said.TheVariants.{Entered, Committed}
+use Rattle.oc_tree.specs.Weight.{count_of}
 use Rattle.oc_meaning.specs.Samples.{union}
 use Rattle.oc_meaning.specs.Blocks.{set_home}
 use Rattle.oc_meaning.specs.Store.{Value, Held, Place, Local, Global, Turn, Nowhere, Event, Store, Binding, held_at, put, place_of, happened}
 use Rattle.oc_meaning.specs.Eval.{Got, Val, Traps, is_zero, element_of, value_of}
 use Rattle.oc_meaning.specs.Uses.{is_fresh, is_use, use_samples, begins_use, ends_use}
 use Rattle.oc_meaning.specs.Exec.{begun_by, ended_by, Outcome, Went, Returned, Stopped, Passed, Passing as Given, Passes, Breaks, number_in, trapped, with_value, then_do}
-use Rattle.oc_meaning.specs.Exec.{with_result, leave, told_if, opened, closed, used, done, finished, sense, args_of, with_args, element_written, count_of, for_turns, while_turns}
+use Rattle.oc_meaning.specs.Exec.{with_result, leave, told_if, opened, closed, used, done, finished, sense, args_of, with_args, element_written, for_turns, while_turns}
 use Rattle.oc_meaning.specs.Exec.{in_turn, grown, entered, call_run, right_run, kind_run, else_run, block_run, stmts_run}
 use Rattle.oc_meaning.specs.Cuts.{events_in}
 use Rattle.oc_meaning.specs.Run.{Frame, with_params, function_named, nv_env, function_run, call_to}

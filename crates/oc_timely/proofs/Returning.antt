@@ -14,9 +14,10 @@ use Rattle.oc_meaning.specs.Uses.{is_fresh, is_use, use_samples, begins_use, end
 use Rattle.oc_meaning.specs.Store.{Value, Place, Store, Binding, plain, holding, replaced, held_at, put, made, noted, place_of}
 use Rattle.oc_tree.specs.declared.said.Said.TheVariants.{Showed}
 use Rattle.oc_tree.specs.declared.said.Shown.TheVariants.{Emitted}
+use Rattle.oc_tree.specs.Weight.{count_of}
 use Rattle.oc_meaning.specs.Eval.{Got, Val, Traps, is_zero, element_of, value_of}
 use Rattle.oc_meaning.specs.Exec.{Outcome, Went, Returned, Stopped, Passed, begun_by, ended_by, opened, closed, used, done, finished, then_do, with_value, with_result, number_in}
-use Rattle.oc_meaning.specs.Exec.{sense, element_written, leave, count_of, for_turns, while_turns, in_turn as turn_of, grown, entered, call_run, right_run, kind_run, else_run}
+use Rattle.oc_meaning.specs.Exec.{sense, element_written, leave, for_turns, while_turns, in_turn as turn_of, grown, entered, call_run, right_run, kind_run, else_run}
 use Rattle.oc_meaning.specs.Exec.{block_run, stmts_run}
 use Rattle.oc_desugar.proofs.KeptExpressions.{first_holds, second_holds}
 use Rattle.oc_desugar.proofs.Unbroken.{unbroken}

@@ -12,7 +12,8 @@ use Rattle.oc_meaning.specs.Blocks.{set_home}
 use Rattle.oc_meaning.specs.Store.{Event, Store, Binding, held_at, place_of, happened}
 use Rattle.oc_meaning.specs.Eval.{is_zero, element_of, value_of}
 use Rattle.oc_meaning.specs.Uses.{is_fresh, is_use, use_samples, begins_use, ends_use}
-use Rattle.oc_meaning.specs.Exec.{begun_by, ended_by, Outcome, Went, Returned, Stopped, Passed, number_in, opened, closed, used, done, sense, args_of, count_of, in_turn, grown}
+use Rattle.oc_meaning.specs.Exec.{begun_by, ended_by, Outcome, Went, Returned, Stopped, Passed, number_in, opened, closed, used, done, sense, args_of, in_turn, grown}
+use Rattle.oc_tree.specs.Weight.{count_of}
 use Rattle.oc_meaning.specs.Exec.{entered, tagged, call_run, right_run, kind_run, else_run, block_run, stmts_run}
 use Rattle.oc_effects.specs.Effects.{call_of, right_call_of}
 use Rattle.oc_tree.specs.Members.{IsOf}

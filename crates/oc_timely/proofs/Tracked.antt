@@ -13,7 +13,8 @@ use Rattle.oc_meaning.specs.Samples.{union}
 use Rattle.oc_meaning.specs.Uses.{is_fresh, is_use, use_samples, begins_use, ends_use}
 use Rattle.oc_meaning.specs.Store.{Held, Turn, Nowhere, Store, Binding, held_at, place_of}
 use Rattle.oc_meaning.specs.Eval.{is_zero, value_of}
-use Rattle.oc_meaning.specs.Exec.{Outcome, Went, Returned, Passed, number_in, used, done, closed, opened, begun_by, ended_by, count_of, for_turns, while_turns, in_turn, grown}
+use Rattle.oc_meaning.specs.Exec.{Outcome, Went, Returned, Passed, number_in, used, done, closed, opened, begun_by, ended_by, for_turns, while_turns, in_turn, grown}
+use Rattle.oc_tree.specs.Weight.{count_of}
 use Rattle.oc_meaning.specs.Exec.{entered, tagged, call_run, right_run, kind_run, else_run, block_run, stmts_run}
 use Rattle.oc_effects.specs.Effects.{TCalled, TEffect, right_call_of, call_of, effect_of, effects_at}
 use Rattle.oc_tree.specs.Members.{IsOf}

@@ -6,8 +6,8 @@ use Rattle.oc_tree.specs.Tree.{TKind, let_to, let_array, for_in, fresh, consiste
 use Rattle.oc_tree.specs.declared.before.Before.{Before}
 use Rattle.oc_tree.specs.declared.scope.Origin.{Origin}
 use Rattle.oc_tree.specs.declared.scope.Origin.TheVariants as origins
-use Rattle.oc_tree.specs.declared.scope.Policy.{Policy}
-use Rattle.oc_tree.specs.declared.scope.Policy.TheVariants as policies
+use Rattle.oc_tree.specs.declared.scope.Annotated.{Annotated}
+use Rattle.oc_tree.specs.declared.scope.Annotated.TheVariants as policies
 use Rattle.oc_tree.specs.declared.scope.Var.{Var}
 use Rattle.oc_tree.specs.Pulls.{own_pulls}
 use Rattle.oc_tree.specs.Calls.{own_calls}
@@ -21,7 +21,7 @@ pub record Tally : Type 0 where
   pub variables : ℕ
   pub statements : ℕ
   pub calls : ℕ
-  pub policies : List Policy
+  pub policies : List Annotated
 
 abbrev pub nothing_counted : Tally
 nothing_counted = record { words = 0; variables = 0; statements = 0; calls = 0; policies = [] }
@@ -32,25 +32,25 @@ own_declares (let_array m x k i n) = 1
 own_declares (for_in x m n b) = 1
 own_declares _ = 0
 
-abbrev pub same_policy : Policy → Policy → Bool
+abbrev pub same_policy : Annotated → Annotated → Bool
 same_policy (policies.Fresh m) (policies.Fresh n) = m == n
 same_policy (policies.Consistent f m) (policies.Consistent g n) = (f == g) && int_eq m n
 same_policy _ _ = false
 
 -- one policy more, unless it is there
-abbrev pub with_policy : List Policy → Policy → List Policy
+abbrev pub with_policy : List Annotated → Annotated → List Annotated
 with_policy ps q = cond (list_any (same_policy q) ps) ps (ps ++ q ∷ [])
 
-abbrev pub with_let : List Policy → Origin → List Policy
+abbrev pub with_let : List Annotated → Origin → List Annotated
 with_let ps (origins.Let mut id _) = with_policy ps (policies.Fresh id)
 with_let ps _ = ps
 
-abbrev pub with_fresh : List Policy → Option Var → List Policy
+abbrev pub with_fresh : List Annotated → Option Var → List Annotated
 with_fresh ps None = ps
 with_fresh ps (Some v) = with_let ps v.origin
 
 -- the policies with those of a statement
-abbrev pub policies_after : List Policy → Here → TKind → List Policy
+abbrev pub policies_after : List Annotated → Here → TKind → List Annotated
 policies_after ps h (fresh x) = with_fresh ps (variable_in h.scope x)
 policies_after ps h (consistent x n) = with_policy ps (policies.Consistent h.number n)
 policies_after ps h _ = ps

@@ -1,5 +1,6 @@
 -- Names, as contracts see them.
-use Rattle.std.specs.Prelude.{ℕ, List, map}
+use Rattle.std.specs.Prelude.{ℕ, List, [], ◌∷◌, Option, Some, None, cond, map, get_or}
+use Rattle.std.specs.Str.{bytes_eq}
 use Rattle.std.proofs.Common.{Bor}
 use Rattle.oc_tree.specs.declared.name.Names.{Names}
 
@@ -14,6 +15,15 @@ pub record NameLists : Type 0 where
 
 abbrev pub names_view : Names → NameLists
 names_view n = record { sensors = n.sensors.items; ports = n.ports.items; nvs = n.nvs.items }
+
+-- the name with this number among these
+abbrev pub name_at : List Text → ℕ → Text
+name_at names n = get_or names n []
+
+-- what stands beside the first of these that has this name
+abbrev pub named_in : {A : Type 0} → List (Text × A) → Text → Option A
+named_in [] x = None
+named_in (n ∷ ns) x = cond (bytes_eq x n.0) (Some n.1) (named_in ns x)
 
 abbrev pub names_seen : List (Bor Text) → List Text
 names_seen ns = map (λ n. n.now) ns

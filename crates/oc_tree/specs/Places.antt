@@ -1,8 +1,7 @@
 -- Where statements stand, and which variables are visible there.
 use Rattle.std.specs.Prelude.{ℕ, ◌+◌, Bool, true, false, ◌==◌, List, [], ◌∷◌, ◌++◌, flat_map, find, Option, Some, None, cond, option_map, option_and_then}
-use Rattle.std.specs.Str.{bytes_eq}
 use Rattle.std.specs.List.{list_any}
-use Rattle.oc_tree.specs.Names.{Text}
+use Rattle.oc_tree.specs.Names.{Text, named_in}
 use Rattle.oc_tree.specs.Tree.{TKind, let_to, let_array, if_else, for_in, while_do, TElse, no_else, else_do, stmt, TBlock, block, TStmts, no_stmts, more, TFunction, TProgram}
 use Rattle.oc_tree.specs.declared.tree.Param.{Param}
 use Rattle.oc_tree.specs.declared.tree.VarId.{VarId}
@@ -15,8 +14,7 @@ Variables = List (Text × VarId)
 
 -- the variable of that name among these
 abbrev pub find_variable : Variables → Text → Option VarId
-find_variable [] x = None
-find_variable (v ∷ vs) x = cond (bytes_eq x v.0) (Some v.1) (find_variable vs x)
+find_variable vs x = named_in vs x
 
 -- A place: directly in which block, in how many loops, in which statements, and which variables are visible there
 -- besides the nonvolatile ones.

@@ -1,7 +1,6 @@
 -- The variables in scope, and what names stand for.
 use Rattle.std.specs.Prelude.{Bool, false, ◌||◌, List, [], ◌∷◌, ◌++◌, Option, Some, None, cond, is_some, slice_get, option_map, option_and_then}
-use Rattle.std.specs.Str.{bytes_eq}
-use Rattle.oc_tree.specs.Names.{Text}
+use Rattle.oc_tree.specs.Names.{Text, named_in}
 use Rattle.oc_tree.specs.Tree.{TFunction, TProgram}
 use Rattle.oc_tree.specs.declared.tree.NvDecl.{NvDecl}
 use Rattle.oc_tree.specs.declared.tree.Param.{Param}
@@ -17,8 +16,7 @@ Scope = List (Text × Var)
 
 -- the variable of that name among these
 abbrev pub variable_in : Scope → Text → Option Var
-variable_in [] x = None
-variable_in (v ∷ vs) x = cond (bytes_eq x v.0) (Some v.1) (variable_in vs x)
+variable_in scope x = named_in scope x
 
 abbrev pub is_in_scope : Scope → Text → Bool
 is_in_scope scope x = is_some (variable_in scope x)

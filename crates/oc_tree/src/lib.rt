@@ -12,8 +12,6 @@ pub mod nodes;
 mod places;
 pub mod said;
 pub mod scope;
-#[cfg(test)]
-mod tests;
 pub mod tree;
 mod visible;
 pub mod written;

@@ -24,10 +24,10 @@ pub struct Var {
     pub kind: ValueKind,
 }
 
-/// A policy: that the variable of this `let` is fresh, or that the inputs of this function's
-/// annotations with this number are consistent.
+/// What an annotation asks for, as the limits count it: that the variable of this `let` is fresh, or
+/// that the inputs of this function's annotations with this number are consistent.
 #[derive(Clone, Copy, Debug, PartialEq, Eq)]
-pub enum Policy {
+pub enum Annotated {
     Fresh { stmt: StmtId },
     Consistent { function: usize, id: i32 },
 }

@@ -1,4 +1,3 @@
-pub mod Entries
 pub mod Args
 pub mod Counted
 pub mod InOrder

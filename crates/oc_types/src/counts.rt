@@ -14,30 +14,30 @@ use crate::statement::Statement;
 use oc_desugar::pulls::own_pulls;
 use oc_tree::before::Before;
 use oc_tree::name::Name;
-use oc_tree::scope::{Origin, Policy};
+use oc_tree::scope::{Annotated, Origin};
 use oc_tree::tree::{Function, NvDecl, StmtKind};
 use std::alloc::{AllocError, Global};
 use std::marker::Model;
 
-fn same_policy(left: Policy, right: Policy) -> bool
+fn same_policy(left: Annotated, right: Annotated) -> bool
     ensures { result ≡ same_policy left right }
 {
     match left {
-        Policy::Fresh { stmt } => match right {
-            Policy::Fresh { stmt: other } => stmt == other,
-            Policy::Consistent { .. } => false,
+        Annotated::Fresh { stmt } => match right {
+            Annotated::Fresh { stmt: other } => stmt == other,
+            Annotated::Consistent { .. } => false,
         },
-        Policy::Consistent { function, id } => match right {
-            Policy::Consistent {
+        Annotated::Consistent { function, id } => match right {
+            Annotated::Consistent {
                 function: other,
                 id: number,
             } => function == other && id == number,
-            Policy::Fresh { .. } => false,
+            Annotated::Fresh { .. } => false,
         },
     }
 }
 
-fn is_noted(policies: &[Policy], policy: Policy) -> bool
+fn is_noted(policies: &[Annotated], policy: Annotated) -> bool
     ensures { result ≡ list_any (same_policy policy) policies.now }
 {
     for noted in policies {
@@ -49,7 +49,7 @@ fn is_noted(policies: &[Policy], policy: Policy) -> bool
 }
 
 /// Notes a policy, unless it is there.
-fn note(policies: &mut Vec<Policy>, policy: Policy) -> Result<(), AllocError>
+fn note(policies: &mut Vec<Annotated>, policy: Annotated) -> Result<(), AllocError>
     ensures { OnOk result (policies.new.items ≡ with_policy policies.old.items policy) }
 {
     if is_noted(policies.as_slice(), policy) {
@@ -60,7 +60,7 @@ fn note(policies: &mut Vec<Policy>, policy: Policy) -> Result<(), AllocError>
 }
 
 fn note_policy<'a>(
-    policies: &mut Vec<Policy>,
+    policies: &mut Vec<Annotated>,
     place: Place<'a>,
     scope: &Scope<'a>,
     kind: &StmtKind,
@@ -72,14 +72,14 @@ fn note_policy<'a>(
     match kind {
         StmtKind::Fresh { name } => match scope.get(name) {
             Some(variable) => match variable.origin {
-                Origin::Let { stmt, .. } => note(policies, Policy::Fresh { stmt }),
+                Origin::Let { stmt, .. } => note(policies, Annotated::Fresh { stmt }),
                 _ => Ok(()),
             },
             None => Ok(()),
         },
         StmtKind::Consistent { id, .. } => note(
             policies,
-            Policy::Consistent {
+            Annotated::Consistent {
                 function: place.number,
                 id: *id,
             },
@@ -105,7 +105,7 @@ pub struct Counts {
     variables: u64,
     statements: u64,
     calls: u64,
-    policies: Vec<Policy>,
+    policies: Vec<Annotated>,
 }
 
 impl Model for Counts {

@@ -1,6 +1,6 @@
 -- What the code takes is at most what the tree costs, by the trees alone.
 use Rattle.std.proofs.Common.{◌≡◌, ◌≤◌, ◌+◌, ◌-◌, ◌*◌, ℕ, zero, suc, Bool, true, false, List, [], ◌∷◌, length, map, cond, get_or, Option, Some, None, refl, sym, ap, ◌∙◌, subst, arith}
-use Rattle.std.specs.Prelude.{ℤ, pos, negsuc, ◌==◌, ◌||◌, is_some, slice_get, nat_eq, if◌then◌else◌, ◌-ℤ◌}
+use Rattle.std.specs.Prelude.{ℤ, ◌==◌, ◌||◌, is_some, slice_get, nat_eq, if◌then◌else◌, ◌-ℤ◌}
 use Rattle.std.specs.List.{list_any}
 use Rattle.std.proofs.Math.Nat.{mul-le-mul_left}
 use Rattle.std.proofs.lemmas.Option.{none-some, same_Some}
@@ -17,7 +17,7 @@ use Rattle.oc_isa.specs.declared.instr.ProbeKind.{ProbeKind}
 use Rattle.oc_isa.specs.declared.instr.ProbeKind.TheVariants.{Use, Done}
 use Rattle.oc_isa.specs.declared.instr.Instr.TheVariants.{Drop}
 use Rattle.oc_meaning.specs.Uses.{is_use, begins_use, ends_use}
-use Rattle.oc_meaning.specs.Exec.{begun_by, ended_by, count_of as turns_of}
+use Rattle.oc_meaning.specs.Exec.{begun_by, ended_by}
 use Rattle.oc_meaning.specs.Run.{function_named}
 use Rattle.oc_code.specs.Scope.{Slot, InFrame, ByAddress, InNv, NoSlot, Named, address_slot, slot_of, passed_slot, is_fresh_in, in_scope, for_named, function_scope}
 use Rattle.oc_code.specs.Forms.{enter_code, commit_code, probe_code, write_code}
@@ -215,15 +215,10 @@ module _ (names : NameLists) (fs : List TFunction) (regions : List TRegion) (ran
   while_less : (u : Bool) (n t bc bb cc cb : ℕ) → length (probe_code n u Use) + bc ≤ cc → bb ≤ cb → t * (10 + (length (probe_code n u Use) + bc) + bb) ≤ t * (10 + cc + cb)
   while_less u n t bc bb cc cb h1 h2 = mul-le-mul_left t (omega (arith, h1, h2))
 
-  count_same : (w : ℤ) → turns_of w ≡ weight.count_of w
-  count_same (pos n) = refl
-  count_same (negsuc n) = refl
-
-  for_less : (i d : ℤ) (bb cb : ℕ) → bb ≤ cb → 6 + turns_of (d -ℤ i) * (9 + bb) ≤ 6 + weight.turns i d * (9 + cb)
+  for_less : (i d : ℤ) (bb cb : ℕ) → bb ≤ cb → 6 + weight.count_of (d -ℤ i) * (9 + bb) ≤ 6 + weight.turns i d * (9 + cb)
   for_less i d bb cb r =
-      let q : turns_of (d -ℤ i) * (9 + bb) ≤ turns_of (d -ℤ i) * (9 + cb) = mul-le-mul_left (turns_of (d -ℤ i)) (omega (arith, r)) in
-      let e : turns_of (d -ℤ i) * (9 + cb) ≡ weight.turns i d * (9 + cb) = ap (λ n. n * (9 + cb)) (count_same (d -ℤ i)) in
-      omega (arith, q, e)
+      let q : weight.count_of (d -ℤ i) * (9 + bb) ≤ weight.count_of (d -ℤ i) * (9 + cb) = mul-le-mul_left (weight.count_of (d -ℤ i)) (omega (arith, r)) in
+      omega (arith, q)
 
   row_less : (gives : Bool) (n : ℕ) (kind : TKind) (b e : Option ℕ) (F : Text → Bool) (bk br ck cr : ℕ) → (is_use F kind ≡ true → uses n ≡ true) → b ≡ begun_by regions n
       → e ≡ ended_by regions n → bk ≤ ck → br + one gives ≤ cr → row_spent n b e (begins_use F kind) (ends_use F kind) bk br + one gives ≤ marks_at regions n + (ck + probes (uses n) kind) + cr

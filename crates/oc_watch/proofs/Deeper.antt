@@ -7,9 +7,9 @@ use Rattle.oc_tree.specs.Tree.{TCall, call, TRight, right_value, right_sense, ri
 use Rattle.oc_tree.specs.Tree.{sense_only, emit, fresh, consistent, return, no_else, else_do, stmt, TBlock, block, TStmts, no_stmts, more, TFunction, TProgram}
 use Rattle.oc_tree.specs.Marked.{TRegion}
 use Rattle.oc_tree.specs.Stack.{kind_slots, block_slots, link_words}
+use Rattle.oc_tree.specs.Weight.{count_of}
 use Rattle.oc_isa.specs.declared.instr.ProbeKind.TheVariants.{Use}
 use Rattle.oc_meaning.specs.Uses.{is_use}
-use Rattle.oc_meaning.specs.Exec.{count_of}
 use Rattle.oc_meaning.specs.Run.{function_named}
 use Rattle.oc_code.specs.Scope.{Named, is_fresh_in, in_scope, for_named, function_scope}
 use Rattle.oc_code.specs.Forms.{probe_code}

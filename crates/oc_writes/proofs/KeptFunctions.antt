@@ -42,7 +42,8 @@ use Rattle.oc_formed.proofs.BodiesPass.{first_fails, second_fails, function_fine
 use Rattle.oc_writes.proofs.Standing.{Each, each_map, each_all, each_both, each_for}
 use Rattle.oc_writes.proofs.KeptNames.{Names}
 use Rattle.oc_writes.proofs.KeptRuns.{IsSafe, ArgSpared, ArgsSpared, CallSpared, RightSpared, KindSpared, Spared}
-use Rattle.oc_writes.proofs.KeptReach.{at_place, none_assigns, none_called, none_writes, none_passes}
+use Rattle.oc_reach.proofs.Lists.{at_place}
+use Rattle.oc_writes.proofs.KeptReach.{none_assigns, none_called, none_writes, none_passes}
 use Rattle.oc_writes.proofs.KeptRules.{AllSame, Ruled, param_passes, own_passes, body_ruled}
 use Rattle.oc_writes.proofs.KeptKinds.{hidden, none_hidden, block_each}
 

@@ -6,7 +6,7 @@ use Rattle.oc_tree.specs.declared.tree.VarId.TheVariants as variables
 use Rattle.oc_tree.specs.Calls.{hides, kind_hides, kind_kinds, else_kinds, block_kinds, stmts_kinds}
 use Rattle.oc_tree.specs.Places.{Place as Spot, Placed, behind, in_branch, in_loop, kind_placed, else_placed, block_placed, stmts_placed}
 use Rattle.oc_writes.proofs.Standing.{Each, each_front, each_back, each_join}
-use Rattle.oc_writes.proofs.KeptReach.{EachKind, kinds_front, kinds_back}
+use Rattle.oc_copies.proofs.LeadToNone.{EachKind, kinds_front, kinds_back}
 
 -- a statement declares a variable that hides the one that is asked for
 abbrev pub hidden : Option Text → TKind → Bool

@@ -20,7 +20,7 @@ use Rattle.oc_writes.specs.Kept.{StandIn, IsMade, IsFound, Sees, IsNoTarget, sto
 use Rattle.oc_writes.proofs.KeptStore.{cell}
 use Rattle.oc_writes.proofs.KeptNames.{Names, Seen}
 use Rattle.oc_writes.proofs.KeptRuns.{stmts_keep}
-use Rattle.oc_writes.proofs.KeptReach.{at_place}
+use Rattle.oc_reach.proofs.Lists.{at_place}
 use Rattle.oc_writes.proofs.KeptRules.{Same, AllSame}
 use Rattle.oc_writes.proofs.KeptCalls.{calls_keep}
 use Rattle.oc_writes.proofs.KeptRegion.{all_ruled, region_spared}

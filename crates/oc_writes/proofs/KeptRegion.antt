@@ -40,7 +40,7 @@ use Rattle.oc_writes.specs.Kept.{StandIn, numbers_of, first_word, is_stored, is_
 use Rattle.oc_writes.proofs.Standing.{Each, each_map, each_front, each_back, each_join, each_both, each_for, standing_is}
 use Rattle.oc_writes.proofs.KeptNames.{Names}
 use Rattle.oc_writes.proofs.KeptRuns.{ArgSpared, ArgsSpared, CallSpared, RightSpared, KindSpared, Spared}
-use Rattle.oc_writes.proofs.KeptReach.{at_place}
+use Rattle.oc_reach.proofs.Lists.{at_place}
 use Rattle.oc_writes.proofs.KeptRules.{AllSame, Ruled, body_ruled, param_found}
 use Rattle.oc_writes.proofs.KeptFunctions.{alone_is, shared_never, no_more, takes_at}
 

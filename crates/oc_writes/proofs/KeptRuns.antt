@@ -10,11 +10,12 @@ use Rattle.oc_tree.specs.Calls.{function_place}
 use Rattle.oc_tree.specs.Assigned.{alone, first_param, takes_mutable, param_assigned, reaches_assign}
 use Rattle.oc_tree.specs.Marked.{TRegion}
 use Rattle.oc_tree.specs.Places.{Place as Spot, Placed, Variables, behind, in_branch, in_loop, kind_placed, else_placed, block_placed, stmts_placed}
+use Rattle.oc_tree.specs.Weight.{count_of}
 use Rattle.oc_meaning.specs.Store.{Held, Place, Global, Store, Binding, binding_of, place_of, holding, made}
 use Rattle.oc_meaning.specs.Eval.{Got, Val, Traps, is_zero, value_of}
 use Rattle.oc_meaning.specs.Uses.{is_fresh, is_use, use_samples, begins_use, ends_use}
 use Rattle.oc_meaning.specs.Exec.{Outcome, Went, Passed, Copied, Lent, Passing, Passes, Breaks, number_in, sense, used, done, opened, closed, begun_by, ended_by, finished}
-use Rattle.oc_meaning.specs.Exec.{passed_first, copied_first, passed_on, value_first, arg_first, args_of, count_of, in_turn, grown, entered, call_run, right_run, kind_run}
+use Rattle.oc_meaning.specs.Exec.{passed_first, copied_first, passed_on, value_first, arg_first, args_of, in_turn, grown, entered, call_run, right_run, kind_run}
 use Rattle.oc_meaning.specs.Exec.{else_run, block_run, stmts_run}
 use Rattle.oc_writes.specs.Kept.{store_after}
 use Rattle.oc_writes.proofs.Standing.{Each, each_front, each_back}

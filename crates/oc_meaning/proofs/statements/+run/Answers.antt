@@ -11,11 +11,12 @@ use Rattle.oc_tree.specs.declared.tree.Stmt as statements
 use Rattle.oc_tree.specs.declared.tree.StmtKind.{fold-roll-StmtKind}
 use Rattle.oc_tree.specs.declared.tree.StmtKind as X
 use Rattle.oc_tree.specs.declared.tree.StmtKind.TheOpen.{StmtKind-F}
+use Rattle.oc_tree.specs.Weight.{count_of}
 use Rattle.oc_meaning.specs.Samples.{union}
 use Rattle.oc_meaning.specs.Store.{Binding, Store}
 use Rattle.oc_meaning.specs.Eval.{Val, Traps, value_of}
 use Rattle.oc_meaning.specs.Uses.{begins_use, ends_use, is_fresh, is_use, use_samples}
-use Rattle.oc_meaning.specs.Exec.{Went, Outcome, begun_by, closed, count_of, done, ended_by, entered, finished, for_turns, grown, in_turn, leave, opened, then_do, trapped, used, while_turns}
+use Rattle.oc_meaning.specs.Exec.{Went, Outcome, begun_by, closed, done, ended_by, entered, finished, for_turns, grown, in_turn, leave, opened, then_do, trapped, used, while_turns}
 use Rattle.oc_meaning.specs.Run.{function_named}
 use Rattle.oc_meaning.specs.Seen.{completion_at, got_view, passed_view}
 use Rattle.oc_meaning.specs.Cuts.{Oldest, events_in}

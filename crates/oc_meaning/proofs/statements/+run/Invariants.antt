@@ -3,9 +3,10 @@ use Rattle.oc_tree.specs.View.{block_view, expr_view, kind_view, stmts_view}
 use Rattle.oc_tree.specs.declared.tree.Block.{size-Block}
 use Rattle.oc_tree.specs.declared.tree.Stmt.{size-Stmt}
 use Rattle.oc_tree.specs.declared.tree.StmtKind.{size-StmtKind}
+use Rattle.oc_tree.specs.Weight.{count_of}
 use Rattle.oc_meaning.specs.Eval.{value_of}
 use Rattle.oc_meaning.specs.Uses.{is_fresh, is_use, use_samples}
-use Rattle.oc_meaning.specs.Exec.{count_of, for_turns, in_turn, while_turns}
+use Rattle.oc_meaning.specs.Exec.{for_turns, in_turn, while_turns}
 use Rattle.oc_meaning.specs.Runs.{block_here, stmts_here, stmts_in}
 use Rattle.oc_meaning.specs.declared.running.Running.{Running}
 use Rattle.oc_meaning.proofs.Sizes.{largest}

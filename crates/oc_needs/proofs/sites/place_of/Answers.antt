@@ -4,8 +4,8 @@ use Rattle.oc_flow.specs.Variables.{same_variable}
 use Rattle.oc_needs.proofs.Rows.{same_variable_is}
 use Rattle.oc_needs.proofs.sites.place_of.Goals as goal
 
-pub returns-then-is_same_variable : goal.returns-then-is_same_variable
-returns-then-is_same_variable c =
+pub returns-then-is_same : goal.returns-then-is_same
+returns-then-is_same c =
     let vs = c.args.variables.now in
     let i = c.loop-i.i in
     let x = c.args.x in

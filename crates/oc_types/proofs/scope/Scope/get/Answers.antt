@@ -1,5 +1,5 @@
 use Rattle.std.proofs.Common.{◌≡◌, ◌∙◌}
-use Rattle.oc_types.proofs.Entries.{lookup-seen}
+use Rattle.oc_reach.proofs.Entries.{lookup-seen}
 use Rattle.oc_types.proofs.scope.Scope.get.Goals as goal
 
 pub returns-in-Some : goal.returns-in-Some

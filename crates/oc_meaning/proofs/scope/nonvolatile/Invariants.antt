@@ -1,6 +1,6 @@
 use Rattle.std.proofs.Common.{◌≡◌, ◌≤◌, drop, length}
 use Rattle.oc_meaning.specs.Run.{nv_env}
-use Rattle.oc_judge.proofs.calls.nonvolatile.Given as goal
+use Rattle.oc_meaning.proofs.scope.nonvolatile.Given as goal
 
 abbrev pub invariant-loop-index : goal.invariant-loop-index
 invariant-loop-index l = record {

@@ -19,7 +19,7 @@ use Rattle.oc_tree.specs.Calls.{place_from, place, function_place}
 use Rattle.oc_tree.specs.Assigned.{param_names}
 use Rattle.oc_tree.specs.Places.{Place as Spot, Placed, Variables, find_variable, param_variables, behind, in_branch, in_loop, at_start, kind_placed, else_placed}
 use Rattle.oc_tree.specs.Places.{block_placed, stmts_placed}
-use Rattle.oc_tree.specs.Scope.{Scope, variable_in, is_among, is_taken, is_in_scope, is_declared, takes_param, with_param, param_var}
+use Rattle.oc_tree.specs.Scope.{Scope, variable_in, is_name_of, is_taken, is_in_scope, is_declared, takes_param, with_param, param_var}
 use Rattle.oc_code.specs.Scope.{Slot, InFrame, ByAddress, InNv, NoSlot, Named, named, kind_words, param_slot, let_named, for_named, params_scope, nv_scope, function_scope}
 use Rattle.oc_code.proofs.Places.{base, nv_width}
 use Rattle.oc_code.proofs.Lawful.{Access}
@@ -120,8 +120,8 @@ param_first p scope n (c ∷ qs) (suc l) q free at = by (bytes_eq q.name c.name)
 
 -- no parameter has the name of a nonvolatile variable
 not_nv : (p : TProgram) (y : Text) → is_declared p y ≡ false → place p.names.nvs y ≡ None
-not_nv p y h = none (place p.names.nvs y) (first_fails (is_among p.names.nvs y) (is_some (function_place p.functions y))
-    (second_fails (is_among p.names.ports y) _ (second_fails (is_among p.names.sensors y) _ h)))
+not_nv p y h = none (place p.names.nvs y) (first_fails (is_name_of p.names.nvs y) (is_some (function_place p.functions y))
+    (second_fails (is_name_of p.names.ports y) _ (second_fails (is_name_of p.names.sensors y) _ h)))
   where
     none : (o : Option ℕ) → is_some o ≡ false → o ≡ None
     none None h = refl

@@ -5,7 +5,7 @@ use Rattle.std.specs.Str.{bytes_eq}
 use Rattle.std.proofs.lemmas.Slice.Eq.{bytes_eq-Decides}
 use Rattle.oc_tree.specs.Names.{Text}
 use Rattle.oc_tree.specs.Calls.{place_from, reaches_mention}
-use Rattle.oc_tree.specs.Scope.{is_among}
+use Rattle.oc_tree.specs.Scope.{is_name_of}
 use Rattle.oc_meaning.specs.Store.{Place, Local, Global, Turn, Nowhere, binding_of, place_of, Store}
 use Rattle.oc_meaning.specs.Run.{nv_env, function_named}
 use Rattle.oc_formed.proofs.Declared.{all_within}
@@ -50,7 +50,7 @@ module _ (p : TProgram) (groups : List Group) (checked : IsChecked p groups) (f 
   abbrev unseen : Text → Bool
   unseen = hidden_by p all
 
-  nv : (y : Text) → unseen y ≡ true → is_among p.names.nvs y ≡ true
+  nv : (y : Text) → unseen y ≡ true → is_name_of p.names.nvs y ≡ true
   nv y h =
       let l = lent_global all (place_of (nv_env 0 p.names.nvs) y) h in
       ap is_some (nv_of_name 0 p.names.nvs y l.0 l.1).0

@@ -17,7 +17,7 @@ use Rattle.oc_tree.specs.declared.scope.Var.{Var}
 use Rattle.oc_tree.specs.Mentions.{expr_mentions, call_mentions, right_mentions, own_mentions, targets, annotates, own_names}
 use Rattle.oc_tree.specs.Calls.{place_from, function_names, function_place, callee, expr_calls, call_calls, args_calls, right_calls, own_calls, kind_hides, kind_kinds, else_kinds}
 use Rattle.oc_tree.specs.Calls.{block_kinds, stmts_kinds, has_param, reaches_mention}
-use Rattle.oc_tree.specs.Scope.{Scope, variable_in, variable_of, is_variable, is_in_scope, is_among, is_declared, is_taken, param_var, with_param, with_params, takes_param}
+use Rattle.oc_tree.specs.Scope.{Scope, variable_in, variable_of, is_variable, is_in_scope, is_name_of, is_declared, is_taken, param_var, with_param, with_params, takes_param}
 use Rattle.oc_tree.specs.Scope.{function_named as rule_named}
 use Rattle.oc_tree.specs.Elements.{Here, inside, in_turn, before_stmts, scope_after, after_stmt, stmt_elements, kind_elements, else_elements, block_elements, stmts_elements}
 use Rattle.oc_tree.specs.Elements.{in_function, function_item}
@@ -84,7 +84,7 @@ other_or : (b : Bool) → not b ≡ false → b ≡ true
 other_or true h = refl
 other_or false h = absurd (true≢false h)
 
-module _ (p : TProgram) (hidden : Text → Bool) (nv : ForHidden hidden (λ y. is_among p.names.nvs y ≡ true)) where
+module _ (p : TProgram) (hidden : Text → Bool) (nv : ForHidden hidden (λ y. is_name_of p.names.nvs y ≡ true)) where
   -- a function of this number leads to no mention of what is hidden
   pub record IsQuiet (x : Text) (g : TFunction) : Type 0 where
     pub number : ℕ
@@ -103,19 +103,19 @@ module _ (p : TProgram) (hidden : Text → Bool) (nv : ForHidden hidden (λ y. i
   free_parts y k h = let t = three (nat_lt 0 (own_mentions y k)) (targets y k) (annotates y k) h in (none_less (own_mentions y k) t.0, t.1, t.2)
 
   -- a new name is none of the hidden ones
-  nv_not_taken : (s : Scope) (x : Text) → is_taken p s x ≡ false → is_among p.names.nvs x ≡ false
+  nv_not_taken : (s : Scope) (x : Text) → is_taken p s x ≡ false → is_name_of p.names.nvs x ≡ false
   nv_not_taken s x h =
       let d : is_declared p x ≡ false = second_fails (is_in_scope s x) (is_declared p x) h in
-      let q = second_fails (is_among p.names.sensors x) _ d in
-      let r = second_fails (is_among p.names.ports x) _ q in
-      first_fails (is_among p.names.nvs x) _ r
+      let q = second_fails (is_name_of p.names.sensors x) _ d in
+      let r = second_fails (is_name_of p.names.ports x) _ q in
+      first_fails (is_name_of p.names.nvs x) _ r
 
   new_name : (s : Scope) (x : Text) → is_taken p s x ≡ false → ForHidden hidden (λ y. bytes_eq y x ≡ false)
   new_name s x h y k = by (bytes_eq y x) refl
     where
       by : (b : Bool) → bytes_eq y x ≡ b → b ≡ false
       by false e = refl
-      by true e = absurd (true≢false (sym (nv y k) ∙ ap (is_among p.names.nvs) ((bytes_eq-Decides y x).0 e) ∙ nv_not_taken s x h))
+      by true e = absurd (true≢false (sym (nv y k) ∙ ap (is_name_of p.names.nvs) ((bytes_eq-Decides y x).0 e) ∙ nv_not_taken s x h))
 
   -- ---- flags
 

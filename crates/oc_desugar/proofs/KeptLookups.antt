@@ -17,7 +17,7 @@ use Rattle.oc_tree.specs.declared.scope.Origin.{Origin}
 use Rattle.oc_tree.specs.declared.scope.Origin.TheVariants as origins
 use Rattle.oc_tree.specs.declared.scope.Var.{Var}
 use Rattle.oc_tree.specs.Calls.{place, function_place, function_names}
-use Rattle.oc_tree.specs.Scope.{Scope, variable_in, variable_of, is_variable, is_among, is_declared, is_taken, is_in_scope, nv_var, nv_named, or_nv, function_named}
+use Rattle.oc_tree.specs.Scope.{Scope, variable_in, variable_of, is_variable, is_name_of, is_declared, is_taken, is_in_scope, nv_var, nv_named, or_nv, function_named}
 use Rattle.oc_tree.specs.Types.{scalar_of, is_reference, value_type, pointed_type, has_elements, result_of}
 use Rattle.oc_tree.specs.Rules.{only_reference, has_kind, origin_is, is_mutable_param, is_writable, is_writable_array, is_own, is_let_in, is_nv, params_of}
 use Rattle.oc_tree.specs.Expansion.{temporary}
@@ -97,16 +97,16 @@ same_result {p = p} {q = q} top x = result_by_head (function_named q x) ∙ ap h
 
 -- ---- the top level
 
-pub same_sensor : {p q : TProgram} → SameTop p q → (x : Text) → is_among q.names.sensors x ≡ is_among p.names.sensors x
-same_sensor top x = ap (λ n. is_among n.sensors x) top.names
+pub same_sensor : {p q : TProgram} → SameTop p q → (x : Text) → is_name_of q.names.sensors x ≡ is_name_of p.names.sensors x
+same_sensor top x = ap (λ n. is_name_of n.sensors x) top.names
 
-pub same_port : {p q : TProgram} → SameTop p q → (x : Text) → is_among q.names.ports x ≡ is_among p.names.ports x
-same_port top x = ap (λ n. is_among n.ports x) top.names
+pub same_port : {p q : TProgram} → SameTop p q → (x : Text) → is_name_of q.names.ports x ≡ is_name_of p.names.ports x
+same_port top x = ap (λ n. is_name_of n.ports x) top.names
 
 pub same_declared : {p q : TProgram} → SameTop p q → (x : Text) → is_declared q x ≡ is_declared p x
 same_declared {p = p} {q = q} top x =
-    ap (λ n. is_among n.sensors x || (is_among n.ports x || (is_among n.nvs x || is_some (function_place q.functions x)))) top.names
-    ∙ ap (λ i. is_among p.names.sensors x || (is_among p.names.ports x || (is_among p.names.nvs x || is_some i))) (same_place top x)
+    ap (λ n. is_name_of n.sensors x || (is_name_of n.ports x || (is_name_of n.nvs x || is_some (function_place q.functions x)))) top.names
+    ∙ ap (λ i. is_name_of p.names.sensors x || (is_name_of p.names.ports x || (is_name_of p.names.nvs x || is_some i))) (same_place top x)
 
 same_nv : {p q : TProgram} → SameTop p q → (x : Text) → nv_named q x ≡ nv_named p x
 same_nv {p = p} {q = q} top x =

@@ -8,7 +8,7 @@ use Rattle.oc_tree.specs.Tree.{TFunction, TProgram, let_to}
 use Rattle.oc_tree.specs.Form.{FunctionInForm, InForm}
 use Rattle.oc_tree.specs.Pulls.{program_pulls}
 use Rattle.oc_tree.specs.Calls.{place_from, function_names, function_place}
-use Rattle.oc_tree.specs.Scope.{is_among}
+use Rattle.oc_tree.specs.Scope.{is_name_of}
 use Rattle.oc_tree.specs.Elements.{nothing_before, program_elements}
 use Rattle.oc_tree.specs.Limits.{nothing_counted}
 use Rattle.oc_tree.specs.Broken.{first_broken}
@@ -34,7 +34,7 @@ no_place [] n k h = refl
 no_place (x ∷ xs) n k h = ap (λ b. cond b (Some n) (place_from (n + 1) xs (temporary k))) (none_is_name x (h 0 x (omega arith)) k) ∙ no_place xs (n + 1) k (all_behind IsName x xs h)
 
 -- so it isn't found there
-not_among : (xs : List Text) (k : ℕ) → All IsName xs → is_among xs (temporary k) ≡ false
+not_among : (xs : List Text) (k : ℕ) → All IsName xs → is_name_of xs (temporary k) ≡ false
 not_among xs k h = ap (λ (o : Option ℕ). is_some o) (no_place xs 0 k h)
 
 -- nor is it the name of a function
@@ -48,9 +48,9 @@ pub no_temporary : (p : TProgram) → InForm IsName p → NoTemporary p
 no_temporary p h k =
     let s = h.spellable in
     let top = is_some (function_place p.functions (temporary k)) in
-    or_from (is_among p.names.sensors (temporary k)) _ (not_among p.names.sensors k s.sensors)
-    (or_from (is_among p.names.ports (temporary k)) _ (not_among p.names.ports k s.ports)
-    (or_from (is_among p.names.nvs (temporary k)) top (not_among p.names.nvs k s.nvs) (ap (λ (o : Option ℕ). is_some o) (no_function p.functions 0 k s.functions))))
+    or_from (is_name_of p.names.sensors (temporary k)) _ (not_among p.names.sensors k s.sensors)
+    (or_from (is_name_of p.names.ports (temporary k)) _ (not_among p.names.ports k s.ports)
+    (or_from (is_name_of p.names.nvs (temporary k)) top (not_among p.names.nvs k s.nvs) (ap (λ (o : Option ℕ). is_some o) (no_function p.functions 0 k s.functions))))
 
 -- ---- the law
 

@@ -6,7 +6,7 @@ use Rattle.oc_lex.specs.Stands.{IsName}
 use Rattle.oc_tree.specs.Tree.{right_call, TKind, let_to, let_array, assign, assign_index, assign_deref, if_else, for_in, while_do, call_only, sense_only, emit, fresh, consistent, return, TProgram}
 use Rattle.oc_tree.specs.Form.{KindInForm}
 use Rattle.oc_tree.specs.Pulls.{expr_pulls, own_pulls, own_skips, right_skips}
-use Rattle.oc_tree.specs.Scope.{variable_of, variable_in, is_variable, is_among}
+use Rattle.oc_tree.specs.Scope.{variable_of, variable_in, is_variable, is_name_of}
 use Rattle.oc_tree.specs.Types.{value_type, pointed_type, has_elements, is_int, is_bool, is_same, type_of, right_type}
 use Rattle.oc_tree.specs.Elements.{Here}
 use Rattle.oc_tree.specs.Limits.{Tally, statement_passes}
@@ -89,7 +89,7 @@ module _ {p q : TProgram} {f : ℕ → ℕ} {h g : Here} (top : SameTop p q) (he
   known_own k i (call_only c) o t e = known_call same k c o t e
   known_own k i (sense_only x) o t e = same_sensor top x ∙ e
   known_own k i (emit port a) o t e =
-      both_hold _ _ (same_port top port ∙ first_holds _ (expr_known p h.scope a) e) (known_expr same k a o.1 t (second_holds (is_among p.names.ports port) _ e))
+      both_hold _ _ (same_port top port ∙ first_holds _ (expr_known p h.scope a) e) (known_expr same k a o.1 t (second_holds (is_name_of p.names.ports port) _ e))
   known_own k i (fresh x) o t e = same_is_variable same x o ∙ e
   known_own k i (consistent x n) o t e = same_is_variable same x o.0 ∙ e
   known_own k i (return a) o t e = known_expr same k a o t e

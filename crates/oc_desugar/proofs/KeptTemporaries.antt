@@ -10,7 +10,7 @@ use Rattle.oc_tree.specs.declared.tree.Scalar.TheVariants as scalars
 use Rattle.oc_tree.specs.Form.{ExprInForm, RightInForm, KindInForm}
 use Rattle.oc_tree.specs.Pulls.{expr_pulls, right_pulls}
 use Rattle.oc_tree.specs.Calls.{function_place, args_of_call, expr_calls, args_calls, right_calls}
-use Rattle.oc_tree.specs.Scope.{is_variable, is_among, is_declared, variable_in, variable_of}
+use Rattle.oc_tree.specs.Scope.{is_variable, is_name_of, is_declared, variable_in, variable_of}
 use Rattle.oc_tree.specs.Types.{has_elements, is_int, type_of, pointed_type, scalar_of, right_type}
 use Rattle.oc_tree.specs.Elements.{Here, let_var, kind_of, scope_after}
 use Rattle.oc_tree.specs.Limits.{Tally, statement_passes}
@@ -96,7 +96,7 @@ module _ {p q : TProgram} {f : ℕ → ℕ} {h g : Here} (top : SameTop p q) (re
   pull_of_kind k (call_only (call x xs)) front back r at o u t = pull_of_call k (call x xs) front back r at o u.known u.fits u.calls u.gives t
   pull_of_kind k (sense_only x) front back r at o u t = absurd (no_place front back r at)
   pull_of_kind k (emit port e) front back r at o u t =
-      pull_of_expr k e front back r at o.1 (second_holds (is_among p.names.ports port) _ u.known) u.fits u.calls u.gives t
+      pull_of_expr k e front back r at o.1 (second_holds (is_name_of p.names.ports port) _ u.known) u.fits u.calls u.gives t
   pull_of_kind k (fresh x) front back r at o u t = absurd (no_place front back r at)
   pull_of_kind k (consistent x n) front back r at o u t = absurd (no_place front back r at)
   pull_of_kind k (return e) front back r at o u t = pull_of_expr k e front back r at o u.known u.fits u.calls u.gives t

@@ -6,7 +6,7 @@ use Rattle.std.proofs.lemmas.Slice.Eq.{bytes_eq-Decides}
 use Rattle.oc_tree.specs.Names.{Text}
 use Rattle.oc_tree.specs.Tree.{TFunction, TProgram}
 use Rattle.oc_tree.specs.Calls.{place_from, function_place, function_names}
-use Rattle.oc_tree.specs.Scope.{is_among, function_named}
+use Rattle.oc_tree.specs.Scope.{is_name_of, function_named}
 use Rattle.oc_meaning.specs.Exec.{number_in}
 use Rattle.oc_meaning.specs.Run as meaning
 use Rattle.oc_code.specs.Formed.{IsKnown}
@@ -23,7 +23,7 @@ known_from n (y ∷ ys) x h = by (bytes_eq x y) (known_from (n + 1) ys x) h
     by false rest e = let below : number_in ys x < length ys = rest e in omega (arith, below)
 
 -- a name that is among them has a number
-pub among_known : (xs : List Text) (x : Text) → is_among xs x ≡ true → IsKnown xs x
+pub among_known : (xs : List Text) (x : Text) → is_name_of xs x ≡ true → IsKnown xs x
 among_known xs x h = known_from 0 xs x h
 
 -- ---- functions

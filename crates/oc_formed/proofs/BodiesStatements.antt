@@ -8,7 +8,7 @@ use Rattle.oc_tree.specs.Checked.{AnyName}
 use Rattle.oc_tree.specs.Marked.{TRegion}
 use Rattle.oc_tree.specs.Form.{KindInForm, ElseInForm, BlockInForm, StmtsInForm}
 use Rattle.oc_tree.specs.Calls.{expr_calls, right_calls, kind_kinds, else_kinds, block_kinds, stmts_kinds}
-use Rattle.oc_tree.specs.Scope.{variable_of, is_variable, is_among}
+use Rattle.oc_tree.specs.Scope.{variable_of, is_variable, is_name_of}
 use Rattle.oc_tree.specs.Types.{is_same, value_type, right_type, type_of}
 use Rattle.oc_tree.specs.Elements.{Here, after_stmt, in_turn, inside, is_end, before_stmts, kind_elements, else_elements, stmt_elements, block_elements, stmts_elements}
 use Rattle.oc_tree.specs.Rules.{expr_known, right_known, is_mutable_param, is_writable, is_writable_array, origin_is, stmts_return}
@@ -144,7 +144,7 @@ module _ (p : TProgram) (long : LongParams p) (regions : List TRegion) (rank : T
     kind_is_formed h γ s (call_only c) other marked all form calls u fine =
         call_is_formed p long regions rank own h γ all c u.known (last_call (CallFine p h) c u.calls) (last_call (Lower p rank own) c calls.0)
     kind_is_formed h γ s (sense_only x) other marked all form calls u fine = among_known p.names.sensors x u.known
-    kind_is_formed h γ s (emit q e) other marked all form calls u fine = among_known p.names.ports q (first_holds (is_among p.names.ports q) (expr_known p h.scope e) u.known)
+    kind_is_formed h γ s (emit q e) other marked all form calls u fine = among_known p.names.ports q (first_holds (is_name_of p.names.ports q) (expr_known p h.scope e) u.known)
     kind_is_formed h γ s (fresh x) other marked all form calls u fine = tt
     kind_is_formed h γ s (consistent x n) other marked all form calls u fine = tt
     kind_is_formed h γ s (return e) other marked all form calls u fine = absurd (true≢false other)

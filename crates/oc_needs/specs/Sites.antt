@@ -1,7 +1,8 @@
 -- Where the inputs of a variable count as taken.
-use Rattle.std.specs.Prelude.{ℕ, Bool, true, ◌&&◌, not, List, [], ◌∷◌, flat_map, filter, find, reverse, cond, nat_eq}
+use Rattle.std.specs.Prelude.{ℕ, Bool, true, ◌&&◌, not, List, [], ◌∷◌, flat_map, filter, find, reverse, cond}
 use Rattle.std.specs.Option.{unwrap_or}
 use Rattle.std.specs.List.{list_any}
+use Rattle.oc_tree.specs.Members.{is_number_of}
 use Rattle.oc_tree.specs.Tree.{TProgram}
 use Rattle.oc_tree.specs.declared.tree.VarId.{VarId}
 use Rattle.oc_tree.specs.declared.tree.VarId.TheVariants.{Declared}
@@ -19,7 +20,7 @@ loops_of p f a = filter (is_loop_at p f) (reverse a.around)
 
 -- a statement stands in the statement `s`
 abbrev pub stands_in : (s : ℕ) → TEffect → Bool
-stands_in s a = list_any (λ t. nat_eq t s) a.around
+stands_in s a = is_number_of a.around s
 
 -- the variable is declared outside the loop: parameters, nonvolatile variables and the result are outside of all loops
 abbrev pub is_outside : TProgram → ℕ → (loop : ℕ) → VarId → Bool

@@ -11,7 +11,7 @@ use Rattle.oc_tree.specs.Form.{Numbered}
 use Rattle.oc_tree.specs.Places.{encloses}
 use Rattle.oc_tree.specs.Checked.{Group, IsChecked}
 use Rattle.oc_tree.specs.Marked.{function_of}
-use Rattle.oc_tree.specs.Members.{IsOf}
+use Rattle.oc_tree.specs.Members.{IsOf, is_number_of}
 use Rattle.oc_tree.specs.Reach.{Links}
 use Rattle.oc_effects.specs.Effects.{effects_at}
 use Rattle.oc_flow.specs.Variables.{from}
@@ -25,7 +25,7 @@ use Rattle.oc_needs.proofs.SitesLaw.{join_same}
 use Rattle.oc_region.proofs.Owners.{around_function}
 use Rattle.oc_region.proofs.Required.{Own, Asks, asked}
 use Rattle.oc_regcheck.specs.Enough.{AreCovered, is_function, covers_all, is_covered, Guarded, open_call, open_calls, comes_to, is_guarded, is_met, first_open, has_both, second_of}
-use Rattle.oc_regcheck.specs.Code.{is_among, outer, same_place, shares, share_all, second_by, call_by, calls_in, calls_by, comes_by, meets, first_by}
+use Rattle.oc_regcheck.specs.Code.{outer, same_place, shares, share_all, second_by, call_by, calls_in, calls_by, comes_by, meets, first_by}
 use Rattle.oc_regcheck.proofs.Outer.{either, same_answer, is_one, both_is, same_two}
 use Rattle.oc_regcheck.proofs.Members.{of_all, all_of, each_of, among_of}
 use Rattle.oc_regcheck.proofs.Guards.{guarded_is}
@@ -71,13 +71,13 @@ first_there p is_block r e = let f = find_some (λ q. not (meets p is_block q)) 
 
 module _ (p : TProgram) (form : Numbered p) (blocks : List ℕ) where
   abbrev is_block : ℕ → Bool
-  is_block = is_among blocks
+  is_block = is_number_of blocks
 
   -- ---- two statements in one block
 
   pub both_shares : (s u : ℕ) → has_both p blocks s u ≡ shares p is_block s u
   both_shares s u =
-      any_same (λ b. encloses p b s && encloses p b u) (λ b. is_among (up p s) b && is_among (up p u) b) blocks (λ b. (λ i. encloses_is p b s i && encloses_is p b u i))
+      any_same (λ b. encloses p b s && encloses p b u) (λ b. is_number_of (up p s) b && is_number_of (up p u) b) blocks (λ b. (λ i. encloses_is p b s i && encloses_is p b u i))
       ∙ both_is blocks (up p) (up p s) (up p u) (line p form s) (line p form u)
 
   pub second_is : (first : ℕ) (sites : List ℕ) → second_of p blocks first sites ≡ second_by p is_block first sites

@@ -13,7 +13,7 @@ use Rattle.oc_tree.specs.Form.{Numbered}
 use Rattle.oc_tree.specs.Places.{Placed, placed, block_of, stands_in, encloses}
 use Rattle.oc_tree.specs.Checked.{Group, same_block, IsChecked}
 use Rattle.oc_tree.specs.Marked.{TRegion, TMarked, IsRegion, AreRegions, IsMarked, around, is_in_region, covers, function_of}
-use Rattle.oc_tree.specs.Members.{IsOf}
+use Rattle.oc_tree.specs.Members.{IsOf, is_number_of}
 use Rattle.oc_effects.specs.Effects.{TCalled, TEffect, effects_at}
 use Rattle.oc_flow.specs.Laws.{Decides}
 use Rattle.oc_flow.proofs.Ranks.{ranked}
@@ -29,7 +29,7 @@ use Rattle.oc_region.proofs.Required.{Own, own_effects, Asks, asked}
 use Rattle.oc_region.proofs.Chains.{Chain, line_chain}
 use Rattle.oc_regcheck.specs.Enough.{AreStatements, AreCovered, is_inside, covers_all, is_covered, Guarded, comes_to, open_calls, is_guarded}
 use Rattle.oc_regcheck.specs.BlockMarks.{outermost, block_region, block_regions, blocks_marked}
-use Rattle.oc_regcheck.specs.Code.{is_among, outer}
+use Rattle.oc_regcheck.specs.Code.{outer}
 use Rattle.oc_regcheck.proofs.Outer.{Line, or_else, outermost_in, among_any, over, is_one, is_alone, inside_is}
 use Rattle.oc_regcheck.proofs.Members.{in_filter, of_filter, of_all, all_of, each_of, among_of, of_among}
 use Rattle.oc_regcheck.proofs.Guards.{caller_guarded, not_true, guarded_is}
@@ -60,10 +60,10 @@ module _ (p : TProgram) where
       by None is = subst (λ o. Chain p (around o)) (sym is) tt
       by (Some a) is = (line_chain p form s a is).1
 
-  pub encloses_is : (b s : ℕ) → encloses p b s ≡ is_among (up s) b
+  pub encloses_is : (b s : ℕ) → encloses p b s ≡ is_number_of (up s) b
   encloses_is b s = by (placed p s)
     where
-      by : (o : Option Placed) → stands_in b o ≡ is_among (around o) b
+      by : (o : Option Placed) → stands_in b o ≡ is_number_of (around o) b
       by None = refl
       by (Some a) = refl
 
@@ -88,7 +88,7 @@ module _ (p : TProgram) where
       let high = leb-true t b ends.1 in
       omega (arith, low, high)
 
-  covers_inside : (i t s : ℕ) → is_some (placed p t) ≡ true → is_among (up s) t ≡ true → covers p (block_region p i t) s ≡ true
+  covers_inside : (i t s : ℕ) → is_some (placed p t) ≡ true → is_number_of (up s) t ≡ true → covers p (block_region p i t) s ≡ true
   covers_inside i t s h m = or_right (is_in_region p (block_region p i t) s) (list_any (is_in_region p (block_region p i t)) (up s))
       (among_any (is_in_region p (block_region p i t)) (up s) t m (itself_in i t h))
 
@@ -102,14 +102,14 @@ module _ (p : TProgram) where
   ids i (b ∷ bs) = ap (λ ns. i ∷ ns) (ids (i + 1) bs ∙ (let e : i + 1 ≡ suc i = omega arith in ap (λ j. numbers_on j (length (block_regions p (i + 1) bs))) e))
 
   module _ (form : Numbered p) (blocks : List ℕ) where
-    pub inside_outer : (s : ℕ) → is_inside p blocks s ≡ is_some (outer p (is_among blocks) s)
-    inside_outer s = any_same (λ b. encloses p b s) (λ b. is_among (up s) b) blocks (λ b. encloses_is b s) ∙ inside_is blocks up (up s) (line form s)
+    pub inside_outer : (s : ℕ) → is_inside p blocks s ≡ is_some (outer p (is_number_of blocks) s)
+    inside_outer s = any_same (λ b. encloses p b s) (λ b. is_number_of (up s) b) blocks (λ b. encloses_is b s) ∙ inside_is blocks up (up s) (line form s)
 
     -- all sites of a requirement that a block covers have one outermost block
-    pub one_outer : (b : ℕ) → IsOf b blocks → (t : ℕ) × ((s : ℕ) → encloses p b s ≡ true → outer p (is_among blocks) s ≡ Some t)
+    pub one_outer : (b : ℕ) → IsOf b blocks → (t : ℕ) × ((s : ℕ) → encloses p b s ≡ true → outer p (is_number_of blocks) s ≡ Some t)
     one_outer b o =
-        let t = by (outermost_in (is_among blocks) (up b)) in
-        (t.0, λ s e. over (is_among blocks) up (up s) b (line form s) (of_among b blocks o) (sym (encloses_is b s) ∙ e) ∙ t.1)
+        let t = by (outermost_in (is_number_of blocks) (up b)) in
+        (t.0, λ s e. over (is_number_of blocks) up (up s) b (line form s) (of_among b blocks o) (sym (encloses_is b s) ∙ e) ∙ t.1)
       where
         by : (u : Option ℕ) → (t : ℕ) × (or_else u (Some b) ≡ Some t)
         by None = (b, refl)
@@ -126,10 +126,10 @@ module _ (p : TProgram) where
     outer_of : (b : ℕ) → IsOf b (outermost p blocks) → IsOuter b
     outer_of b o = let f = of_filter (λ x. not (is_inside p blocks x)) b (rising blocks) o in record { one = of_rising b blocks f.0; alone = not_true p blocks (is_inside p blocks b) f.1 }
 
-    outer_one : (s t : ℕ) → outer p (is_among blocks) s ≡ Some t → IsOf t (outermost p blocks)
+    outer_one : (s t : ℕ) → outer p (is_number_of blocks) s ≡ Some t → IsOf t (outermost p blocks)
     outer_one s t e =
-        let one = is_one (is_among blocks) (up s) t e in
-        let none = is_alone (is_among blocks) up (up s) t (line form s) e in
+        let one = is_one (is_number_of blocks) (up s) t e in
+        let none = is_alone (is_number_of blocks) up (up s) t (line form s) e in
         let alone : is_inside p blocks t ≡ false = inside_outer form blocks t ∙ ap is_some none in
         in_filter (λ x. not (is_inside p blocks x)) t (rising blocks) (in_rising t blocks (among_of t blocks one.0)) (ap not alone)
 
@@ -188,16 +188,16 @@ module _ (p : TProgram) where
       pub region : TRegion
       pub one : IsOf region (block_regions p 1 (outermost p blocks))
       pub function : region.function ≡ k
-      pub covers : (s : ℕ) → outer p (is_among blocks) s ≡ Some t → covers p region s ≡ true
+      pub covers : (s : ℕ) → outer p (is_number_of blocks) s ≡ Some t → covers p region s ≡ true
 
-    region_of : (k s t : ℕ) → Own p k s → outer p (is_among blocks) s ≡ Some t → HasRegion k t
+    region_of : (k s t : ℕ) → Own p k s → outer p (is_number_of blocks) s ≡ Some t → HasRegion k t
     region_of k s t own e =
         let there = outer_one s t e in
-        let one = is_one (is_among blocks) (up s) t e in
+        let one = is_one (is_number_of blocks) (up s) t e in
         let j = in_regions t 1 (outermost p blocks) there in
         let stands = each_of (λ u. function_of p u ≡ Some k) t (up s) (around_function p form.statements form.blocks k s own) (among_of t (up s) one.1) in
         let h = statements t (outer_of t there).one in
-        record { region = block_region p j.0 t; one = j.1; function = ap (λ f. unwrap_or f 0) stands; covers = λ u q. covers_inside j.0 t u h (is_one (is_among blocks) (up u) t q).1 }
+        record { region = block_region p j.0 t; one = j.1; function = ap (λ f. unwrap_or f 0) stands; covers = λ u q. covers_inside j.0 t u h (is_one (is_number_of blocks) (up u) t q).1 }
 
     is_there : (o : Option ℕ) → is_some o ≡ true → (t : ℕ) × (o ≡ Some t)
     is_there None e = absurd (true≢false (sym e))
@@ -216,7 +216,7 @@ module _ (p : TProgram) where
 
     covered_at : (f : ℕ) (a : TEffect) → IsOf a (effects_at p f) → is_inside p blocks a.stmt ≡ true → IsCoveredAt by_blocks f a.stmt
     covered_at f a i e =
-        let t = is_there checked.form.numbered blocks statements (outer p (is_among blocks) a.stmt) (sym (inside_outer checked.form.numbered blocks a.stmt) ∙ e) in
+        let t = is_there checked.form.numbered blocks statements (outer p (is_number_of blocks) a.stmt) (sym (inside_outer checked.form.numbered blocks a.stmt) ∙ e) in
         let r = region_of checked.form.numbered blocks statements f a.stmt t.0 (each_of (λ b. Own p f b.stmt) a (effects_at p f) (own_effects p f) i) t.1 in
         record { region = r.region; one = r.one; there = r.function; covered = r.covers a.stmt t.1 }
 

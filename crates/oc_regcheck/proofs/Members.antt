@@ -3,11 +3,10 @@ use Rattle.std.proofs.Common.{◌≡◌, ◌<◌, ◌≤◌, ℕ, zero, suc, ◌
 use Rattle.std.specs.Prelude.{filter}
 use Rattle.std.specs.List.{list_all}
 use Rattle.std.proofs.lemmas.Bool.{eqb-true, eq-eqb, and_parts, and_from, cases_lt}
-use Rattle.oc_tree.specs.Members.{IsOf}
+use Rattle.oc_tree.specs.Members.{IsOf, is_number_of}
 use Rattle.oc_flow.specs.Variables.{from}
 use Rattle.oc_needs.proofs.Tests.{any_of, of_any}
 use Rattle.oc_region.proofs.Elements.{Each}
-use Rattle.oc_regcheck.specs.Code.{is_among}
 
 pub in_filter : {A : Type 0} (t : A → Bool) (x : A) (xs : List A) → IsOf x xs → t x ≡ true → IsOf x (filter t xs)
 in_filter t x [] h e = h
@@ -43,10 +42,10 @@ each_of P x (y ∷ ys) e (inl s) = subst P (sym s) e.0
 each_of P x (y ∷ ys) e (inr i) = each_of P x ys e.1 i
 
 -- one of these numbers, by the test
-pub among_of : (n : ℕ) (xs : List ℕ) → is_among xs n ≡ true → IsOf n xs
+pub among_of : (n : ℕ) (xs : List ℕ) → is_number_of xs n ≡ true → IsOf n xs
 among_of n xs e = let a = any_of (λ x. x == n) xs e in subst (λ m. IsOf m xs) (eqb-true a.0 n a.2) a.1
 
-pub of_among : (n : ℕ) (xs : List ℕ) → IsOf n xs → is_among xs n ≡ true
+pub of_among : (n : ℕ) (xs : List ℕ) → IsOf n xs → is_number_of xs n ≡ true
 of_among n xs o = of_any (λ x. x == n) n xs o (eq-eqb n n refl)
 
 -- ---- numbers from one on

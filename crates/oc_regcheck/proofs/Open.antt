@@ -18,12 +18,13 @@ use Rattle.oc_reach.proofs.Tests.{only_one}
 use Rattle.oc_reach.proofs.Walk.{some_is}
 use Rattle.oc_needs.proofs.Froms.{from_more}
 use Rattle.oc_regcheck.specs.Enough.{comes_to}
-use Rattle.oc_regcheck.specs.Code.{is_among, calls_in, calls_by}
+use Rattle.oc_tree.specs.Members.{is_number_of}
+use Rattle.oc_regcheck.specs.Code.{calls_in, calls_by}
 use Rattle.oc_regcheck.proofs.Guards.{calls_of}
 use Rattle.oc_regcheck.proofs.Exact.{calls_are}
 
 module _ (p : TProgram) (groups : List Group) (checked : IsChecked p groups) (blocks : List ℕ) where
-  pub within : IsWithin (calls_by p (is_among blocks)) (length p.functions)
+  pub within : IsWithin (calls_by p (is_number_of blocks)) (length p.functions)
   within = λ u v e. (
       let c = calls_of p blocks u v (subst (λ (l : Links). linked l u v ≡ true) (sym (calls_are p checked.form.numbered blocks)) e) in
       (subst (λ n. n < length p.functions) c.callee ((ranked p groups checked).inside v c.effect c.called c.one c.there), c.small))

@@ -9,17 +9,17 @@ use Rattle.oc_needs.proofs.Froms.{get_of_map}
 use Rattle.oc_tree.specs.Tree.{TProgram}
 use Rattle.oc_tree.specs.Form.{Numbered}
 use Rattle.oc_tree.specs.Checked.{Group, IsChecked}
-use Rattle.oc_tree.specs.Members.{IsOf}
+use Rattle.oc_tree.specs.Members.{IsOf, is_number_of}
 use Rattle.oc_needs.specs.Requirements.{TRequirement, requirements}
 use Rattle.oc_regcheck.proofs.InputLaws.{function_small}
 use Rattle.oc_region.proofs.Elements.{Each, each_all}
 use Rattle.oc_regcheck.specs.declared.verdict.BlockVerdict.{BlockVerdict}
 use Rattle.oc_regcheck.specs.declared.verdict.BlockVerdict.TheVariants.{Covered, Open}
 use Rattle.oc_regcheck.specs.Enough.{AreCovered, IsVerdict, is_covering, Tells}
-use Rattle.oc_regcheck.specs.Code.{is_among, IsVerdictBy}
+use Rattle.oc_regcheck.specs.Code.{IsVerdictBy}
 use Rattle.oc_regcheck.proofs.Exact.{first_is, second_is, covered_so, open_so}
 
-pub from_code : (p : TProgram) → Numbered p → (blocks : List ℕ) (v : BlockVerdict) → IsVerdictBy p (is_among blocks) v → IsVerdict p blocks v
+pub from_code : (p : TProgram) → Numbered p → (blocks : List ℕ) (v : BlockVerdict) → IsVerdictBy p (is_number_of blocks) v → IsVerdict p blocks v
 from_code p form blocks Covered h = first_is p form blocks ∙ h
 from_code p form blocks (Open policy function first second) h = record {
   requirement = h.requirement;
@@ -31,8 +31,8 @@ from_code p form blocks (Open policy function first second) h = record {
 }
 
 -- blocks in order answer for the blocks as they were given
-pub from_sorted : (p : TProgram) → Numbered p → (sorted blocks : List ℕ) → ((t : ℕ) → is_among sorted t ≡ is_among blocks t) → (v : BlockVerdict)
-    → IsVerdictBy p (is_among sorted) v → IsVerdict p blocks v
+pub from_sorted : (p : TProgram) → Numbered p → (sorted blocks : List ℕ) → ((t : ℕ) → is_number_of sorted t ≡ is_number_of blocks t) → (v : BlockVerdict)
+    → IsVerdictBy p (is_number_of sorted) v → IsVerdict p blocks v
 from_sorted p form sorted blocks same v h = from_code p form blocks v (subst (λ (f : ℕ → Bool). IsVerdictBy p f v) (λ i t. same t i) h)
 
 pub tells : (p : TProgram) (groups : List Group) → IsChecked p groups → (blocks : List ℕ) (v : BlockVerdict) → IsVerdict p blocks v → Tells p blocks v

@@ -18,10 +18,6 @@ use Rattle.oc_regcheck.specs.declared.verdict.BlockVerdict.{BlockVerdict}
 use Rattle.oc_regcheck.specs.declared.verdict.BlockVerdict.TheVariants.{Covered, Open}
 use Rattle.oc_regcheck.specs.Enough.{comes_to}
 
--- a number is one of these
-abbrev pub is_among : List ℕ → ℕ → Bool
-is_among xs n = list_any (λ x. x == n) xs
-
 -- the last of these that is a block, or `found` where none is
 abbrev pub outermost_from : (ℕ → Bool) → Option ℕ → List ℕ → Option ℕ
 outermost_from is_block found [] = found

@@ -1,6 +1,6 @@
 //! Blocks, by the numbers of their statements.
 ghost use Rattle.std.specs.Prelude.{◌≡◌, ℕ, IfOk};
-ghost use Rattle.oc_regcheck.specs.Code.{is_among};
+ghost use Rattle.oc_tree.specs.Members.{is_number_of};
 
 use oc_tree::tree::StmtId;
 use std::alloc::{AllocError, Global};
@@ -26,7 +26,7 @@ impl Model for Blocks {
 impl Blocks {
     /// These blocks, in order.
     pub fn new(alloc: Global, blocks: &[StmtId]) -> Result<Blocks, AllocError>
-        ensures { IfOk result (λ b. (t : ℕ) → is_among b t ≡ is_among blocks.now t) }
+        ensures { IfOk result (λ b. (t : ℕ) → is_number_of b t ≡ is_number_of blocks.now t) }
     {
         let mut sorted = Vec::from_slice(alloc, blocks)?;
         sorted.sort_unstable();
@@ -35,7 +35,7 @@ impl Blocks {
 
     /// Whether a statement is one of them.
     pub fn has(&self, s: StmtId) -> bool
-        ensures { result ≡ is_among self.now s }
+        ensures { result ≡ is_number_of self.now s }
     {
         self.sorted.binary_search(&s).is_ok()
     }

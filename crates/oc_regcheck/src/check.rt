@@ -5,7 +5,8 @@ ghost use Rattle.oc_needs.specs.Requirements.{requirements};
 ghost use Rattle.oc_needs.specs.View.{requirement_view};
 ghost use Rattle.oc_reach.specs.Marked.{is_in};
 ghost use Rattle.oc_regcheck.specs.BlockMarks.{blocks_marked};
-ghost use Rattle.oc_regcheck.specs.Code.{comes_by, first_by, is_among, meets, requirement_seen, second_by, IsVerdictBy};
+ghost use Rattle.oc_tree.specs.Members.{is_number_of};
+ghost use Rattle.oc_regcheck.specs.Code.{comes_by, first_by, meets, requirement_seen, second_by, IsVerdictBy};
 ghost use Rattle.oc_regcheck.specs.Enough.{is_covering, AreStatements, IsVerdict, Tells};
 
 use crate::blocks::Blocks;
@@ -27,9 +28,9 @@ use std::alloc::{AllocError, Global};
 fn is_met(effects: &Effects, blocks: &Blocks, open: &Marks, requirement: &Requirement) -> bool
     requires function { requirement.now.function < open.now.1 }
     requires open { (f : ℕ) → is_in open.now.0 f
-        ≡ comes_by effects.now.program (is_among blocks.now) f }
+        ≡ comes_by effects.now.program (is_number_of blocks.now) f }
     ensures { result
-        ≡ meets effects.now.program (is_among blocks.now) (requirement_view requirement.now) }
+        ≡ meets effects.now.program (is_number_of blocks.now) (requirement_view requirement.now) }
 {
     share_all(effects, blocks, requirement.sites.as_slice())
         || !open.has(requirement.function as usize)
@@ -44,9 +45,9 @@ fn first_open<'r>(
 ) -> Option<&'r Requirement>
     requires functions { All (λ r. r.function < open.now.1) (map requirement_view required.now) }
     requires open { (f : ℕ) → is_in open.now.0 f
-        ≡ comes_by effects.now.program (is_among blocks.now) f }
+        ≡ comes_by effects.now.program (is_number_of blocks.now) f }
     ensures { requirement_seen result
-        ≡ first_by effects.now.program (is_among blocks.now) (map requirement_view required.now) }
+        ≡ first_by effects.now.program (is_number_of blocks.now) (map requirement_view required.now) }
 {
     for requirement in required {
         if !is_met(effects, blocks, open, requirement) {
@@ -64,9 +65,9 @@ fn second_site(
     requirement: &Requirement,
     first: StmtId,
 ) -> StmtId
-    requires { first_by effects.now.program (is_among blocks.now) (requirements effects.now.program)
+    requires { first_by effects.now.program (is_number_of blocks.now) (requirements effects.now.program)
         ≡ Some (requirement_view requirement.now) }
-    ensures { second_by effects.now.program (is_among blocks.now) first requirement.now.sites.items
+    ensures { second_by effects.now.program (is_number_of blocks.now) first requirement.now.sites.items
         ≡ Some result }
 {
     let _program = effects.checked().program();
@@ -83,10 +84,10 @@ fn opened(
     blocks: &Blocks,
     requirement: &Requirement,
 ) -> Result<BlockVerdict, AllocError>
-    requires { first_by summaries.now.program (is_among blocks.now)
+    requires { first_by summaries.now.program (is_number_of blocks.now)
         (requirements summaries.now.program)
         ≡ Some (requirement_view requirement.now) }
-    ensures { IfOk result (IsVerdictBy summaries.now.program (is_among blocks.now)) }
+    ensures { IfOk result (IsVerdictBy summaries.now.program (is_number_of blocks.now)) }
 {
     let effects = summaries.effects();
     let first = lowest_input(alloc, summaries, requirement)?;
@@ -107,7 +108,7 @@ fn verdict_by(
     blocks: &Blocks,
 ) -> Result<BlockVerdict, AllocError>
     requires { map requirement_view required.now ≡ requirements summaries.now.program }
-    ensures { IfOk result (IsVerdictBy summaries.now.program (is_among blocks.now)) }
+    ensures { IfOk result (IsVerdictBy summaries.now.program (is_number_of blocks.now)) }
 {
     let effects = summaries.effects();
     let open = from_main(alloc, effects, blocks)?;

@@ -4,7 +4,8 @@ ghost use Rattle.oc_tree.specs.Rules.{main};
 ghost use Rattle.oc_tree.specs.Calls.{function_place};
 ghost use Rattle.oc_effects.specs.View.{effect_view};
 ghost use Rattle.oc_reach.specs.Marked.{is_in};
-ghost use Rattle.oc_regcheck.specs.Code.{call_by, calls_by, calls_in, comes_by, is_among};
+ghost use Rattle.oc_tree.specs.Members.{is_number_of};
+ghost use Rattle.oc_regcheck.specs.Code.{call_by, calls_by, calls_in, comes_by};
 
 use crate::blocks::Blocks;
 use crate::inside::outer;
@@ -25,7 +26,7 @@ fn add_call(
 ) -> Result<(), AllocError>
     ensures { OnOk result
         (links.new.items ≡ links.old.items
-        ++ call_by effects.now.program (is_among blocks.now) caller (effect_view effect.now)) }
+        ++ call_by effects.now.program (is_number_of blocks.now) caller (effect_view effect.now)) }
 {
     if outer(effects, blocks, effect.stmt).is_some() {
         return Ok(());
@@ -45,7 +46,7 @@ fn add_calls(
 ) -> Result<(), AllocError>
     ensures { OnOk result
         (links.new.items ≡ links.old.items
-        ++ calls_in effects.now.program (is_among blocks.now) caller
+        ++ calls_in effects.now.program (is_number_of blocks.now) caller
         (map effect_view statements.now)) }
 {
     for effect in statements {
@@ -59,7 +60,7 @@ fn open_calls(
     effects: &Effects,
     blocks: &Blocks,
 ) -> Result<Vec<(usize, usize)>, AllocError>
-    ensures { IfOk result (λ l. l.items ≡ calls_by effects.now.program (is_among blocks.now)) }
+    ensures { IfOk result (λ l. l.items ≡ calls_by effects.now.program (is_number_of blocks.now)) }
 {
     let mut links = Vec::new(alloc);
     for caller in 0..effects.functions() {
@@ -93,7 +94,7 @@ fn marks_of(alloc: Global, bound: usize, function: Option<usize>) -> Result<Mark
 pub fn from_main(alloc: Global, effects: &Effects, blocks: &Blocks) -> Result<Marks, AllocError>
     ensures bound { IfOk result (λ m. m.1 ≡ length effects.now.program.functions) }
     ensures marked { IfOk result
-        (λ m. (f : ℕ) → is_in m.0 f ≡ comes_by effects.now.program (is_among blocks.now) f) }
+        (λ m. (f : ℕ) → is_in m.0 f ≡ comes_by effects.now.program (is_number_of blocks.now) f) }
 {
     let _program = effects.checked().program();
     let bound = effects.functions();

@@ -1,7 +1,8 @@
 //! Which statements are inside which blocks.
 ghost use Rattle.std.specs.Prelude.{◌≡◌};
 ghost use Rattle.std.specs.List.{list_all};
-ghost use Rattle.oc_regcheck.specs.Code.{is_among, is_at, outer, same_place, second_by, share_all};
+ghost use Rattle.oc_tree.specs.Members.{is_number_of};
+ghost use Rattle.oc_regcheck.specs.Code.{is_at, outer, same_place, second_by, share_all};
 
 use crate::blocks::Blocks;
 use oc_effects::effects::Effects;
@@ -10,7 +11,7 @@ use oc_tree::tree::StmtId;
 
 /// The outermost block around a statement.
 pub fn outer(effects: &Effects, blocks: &Blocks, s: StmtId) -> Option<StmtId>
-    ensures { result ≡ outer effects.now.program (is_among blocks.now) s }
+    ensures { result ≡ outer effects.now.program (is_number_of blocks.now) s }
 {
     let mut found = None;
     for t in around(effects, s) {
@@ -32,21 +33,21 @@ fn is_same(block: Option<StmtId>, other: Option<StmtId>) -> bool
 
 // Whether this is the outermost block around a statement.
 fn is_at(effects: &Effects, blocks: &Blocks, block: Option<StmtId>, s: StmtId) -> bool
-    ensures { result ≡ is_at effects.now.program (is_among blocks.now) block s }
+    ensures { result ≡ is_at effects.now.program (is_number_of blocks.now) block s }
 {
     is_same(block, outer(effects, blocks, s))
 }
 
 fn all_at(effects: &Effects, blocks: &Blocks, block: Option<StmtId>, sites: &[StmtId]) -> bool
     ensures { result
-        ≡ list_all (is_at effects.now.program (is_among blocks.now) block) sites.now }
+        ≡ list_all (is_at effects.now.program (is_number_of blocks.now) block) sites.now }
 {
     sites.iter().all(|s| is_at(effects, blocks, block, *s))
 }
 
 /// Whether one block has all these statements inside.
 pub fn share_all(effects: &Effects, blocks: &Blocks, sites: &[StmtId]) -> bool
-    ensures { result ≡ share_all effects.now.program (is_among blocks.now) sites.now }
+    ensures { result ≡ share_all effects.now.program (is_number_of blocks.now) sites.now }
 {
     match sites {
         [] => false,
@@ -56,7 +57,7 @@ pub fn share_all(effects: &Effects, blocks: &Blocks, sites: &[StmtId]) -> bool
 
 /// The first of these statements that no block has inside together with another statement.
 pub fn second(effects: &Effects, blocks: &Blocks, first: StmtId, sites: &[StmtId]) -> Option<StmtId>
-    ensures { result ≡ second_by effects.now.program (is_among blocks.now) first sites.now }
+    ensures { result ≡ second_by effects.now.program (is_number_of blocks.now) first sites.now }
 {
     let block = outer(effects, blocks, first);
     for s in sites {

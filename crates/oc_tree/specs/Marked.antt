@@ -3,6 +3,7 @@ use Rattle.std.specs.Prelude.{◌≡◌, ◌<◌, ◌≤◌, ℕ, Bool, false, �
 use Rattle.std.specs.List.{list_any}
 use Rattle.oc_tree.specs.Tree.{TProgram}
 use Rattle.oc_tree.specs.Numbers.{numbers_on, block_statements}
+use Rattle.oc_tree.specs.Members.{is_number_of}
 use Rattle.oc_tree.specs.Places.{Placed, placed, block_of}
 use Rattle.oc_tree.specs.Checked.{Group, IsChecked, same_block}
 use Rattle.oc_tree.specs.declared.marked.Policy.{Policy}
@@ -19,7 +20,7 @@ pub record TRegion : Type 0 where
 
 -- the place of the function in which a statement stands
 abbrev pub function_of : TProgram → ℕ → Option ℕ
-function_of p s = position (λ f. list_any (λ n. n == s) (block_statements f.body)) p.functions
+function_of p s = position (λ f. is_number_of (block_statements f.body) s) p.functions
 
 -- a statement stands directly in a region
 abbrev pub is_in_region : TProgram → TRegion → ℕ → Bool

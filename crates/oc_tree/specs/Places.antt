@@ -1,12 +1,12 @@
 -- Where statements stand, and which variables are visible there.
 use Rattle.std.specs.Prelude.{ℕ, ◌+◌, Bool, true, false, ◌==◌, List, [], ◌∷◌, ◌++◌, flat_map, find, Option, Some, None, cond, option_map, option_and_then}
-use Rattle.std.specs.List.{list_any}
 use Rattle.oc_tree.specs.Names.{Text, named_in}
 use Rattle.oc_tree.specs.Tree.{TKind, let_to, let_array, if_else, for_in, while_do, TElse, no_else, else_do, stmt, TBlock, block, TStmts, no_stmts, more, TFunction, TProgram}
 use Rattle.oc_tree.specs.declared.tree.Param.{Param}
 use Rattle.oc_tree.specs.declared.tree.VarId.{VarId}
 use Rattle.oc_tree.specs.declared.tree.VarId.TheVariants as variables
 use Rattle.oc_tree.specs.Calls.{place}
+use Rattle.oc_tree.specs.Members.{is_number_of}
 
 -- variables by their names, in the order of their declarations
 abbrev pub Variables : Type 0
@@ -108,7 +108,7 @@ loops_around p s = option_map (λ a. a.at.loops) (placed p s)
 
 abbrev pub stands_in : (outer : ℕ) → Option Placed → Bool
 stands_in outer None = false
-stands_in outer (Some a) = list_any (λ s. s == outer) a.at.around
+stands_in outer (Some a) = is_number_of a.at.around outer
 
 -- the statement `inner` stands in the statement `outer`
 abbrev pub encloses : TProgram → (outer inner : ℕ) → Bool

@@ -25,7 +25,7 @@ use Rattle.oc_tree.specs.Mentions.{own_mentions, call_mentions}
 use Rattle.oc_tree.specs.Calls.{place, function_place, callee, args_of_call, args_calls, own_calls, call_links, reaches_mention}
 use Rattle.oc_tree.specs.Reach.{reaches}
 use Rattle.oc_tree.specs.Assigned.{reaches_assign}
-use Rattle.oc_tree.specs.Scope.{Scope, variable_in, variable_of, is_variable, is_among, is_taken, function_named}
+use Rattle.oc_tree.specs.Scope.{Scope, variable_in, variable_of, is_variable, is_name_of, is_taken, function_named}
 use Rattle.oc_tree.specs.Types.{is_by_reference, is_reference, is_array, scalar_of, is_int, is_bool, is_same, is_same_kind, value_type, pointed_type, has_elements, type_of, right_type, call_type}
 use Rattle.oc_tree.specs.Elements.{Here, is_end}
 
@@ -58,7 +58,7 @@ abbrev mutual
   expr_known p scope (deref x) = is_variable p scope x
   expr_known p scope (unary op e) = expr_known p scope e
   expr_known p scope (binary op a b) = expr_known p scope a && expr_known p scope b
-  expr_known p scope (sensed s) = is_among p.names.sensors s
+  expr_known p scope (sensed s) = is_name_of p.names.sensors s
   expr_known p scope (called c) = call_known p scope c
 
   pub call_known : TProgram → Scope → TCall → Bool
@@ -75,7 +75,7 @@ abbrev mutual
 
 abbrev pub right_known : TProgram → Scope → TRight → Bool
 right_known p scope (right_value e) = expr_known p scope e
-right_known p scope (right_sense s) = is_among p.names.sensors s
+right_known p scope (right_sense s) = is_name_of p.names.sensors s
 right_known p scope (right_call c) = call_known p scope c
 
 abbrev pub own_known : TProgram → Scope → TKind → Bool
@@ -88,8 +88,8 @@ own_known p scope (if_else c a b) = expr_known p scope c
 own_known p scope (for_in x m n b) = true
 own_known p scope (while_do c n b) = expr_known p scope c
 own_known p scope (call_only c) = call_known p scope c
-own_known p scope (sense_only s) = is_among p.names.sensors s
-own_known p scope (emit port e) = is_among p.names.ports port && expr_known p scope e
+own_known p scope (sense_only s) = is_name_of p.names.sensors s
+own_known p scope (emit port e) = is_name_of p.names.ports port && expr_known p scope e
 own_known p scope (fresh x) = is_variable p scope x
 own_known p scope (consistent x n) = is_variable p scope x
 own_known p scope (return e) = expr_known p scope e

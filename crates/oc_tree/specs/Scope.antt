@@ -23,8 +23,8 @@ is_in_scope scope x = is_some (variable_in scope x)
 
 -- ---- names of the top level
 
-abbrev pub is_among : List Text → Text → Bool
-is_among xs x = is_some (place xs x)
+abbrev pub is_name_of : List Text → Text → Bool
+is_name_of xs x = is_some (place xs x)
 
 abbrev pub function_named : TProgram → Text → Option TFunction
 function_named p x = option_and_then (λ i. slice_get p.functions i) (function_place p.functions x)
@@ -40,7 +40,7 @@ nv_named p x = option_map nv_var (option_and_then (λ i. slice_get p.nv i) (plac
 
 -- the name is declared somewhere at the top level
 abbrev pub is_declared : TProgram → Text → Bool
-is_declared p x = is_among p.names.sensors x || (is_among p.names.ports x || (is_among p.names.nvs x || is_some (function_place p.functions x)))
+is_declared p x = is_name_of p.names.sensors x || (is_name_of p.names.ports x || (is_name_of p.names.nvs x || is_some (function_place p.functions x)))
 
 -- a visible variable has that name already, or something at the top level has it
 abbrev pub is_taken : TProgram → Scope → Text → Bool

@@ -1,7 +1,7 @@
 //! Whether used names are visible, and of the kind that is needed.
 ghost use Rattle.std.specs.Prelude.{◌≡◌};
 ghost use Rattle.oc_tree.specs.View.{arg_view, call_view, expr_view, kind_view, program_view, right_view};
-ghost use Rattle.oc_tree.specs.Scope.{is_among, is_variable};
+ghost use Rattle.oc_tree.specs.Scope.{is_name_of, is_variable};
 ghost use Rattle.oc_tree.specs.Rules.{arg_known, call_known, expr_known, own_known, right_known, takes_name};
 
 use crate::scope::Scope;
@@ -27,7 +27,7 @@ fn is_variable<'a>(top: &TopLevel<'a>, scope: &Scope<'a>, name: &Name) -> bool
 }
 
 fn is_sensor(top: &TopLevel, name: &Name) -> bool
-    ensures { result ≡ is_among (program_view top.now).names.sensors name.now }
+    ensures { result ≡ is_name_of (program_view top.now).names.sensors name.now }
 {
     top.sensor_place(name).is_some()
 }

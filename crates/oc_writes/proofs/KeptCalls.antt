@@ -17,7 +17,7 @@ use Rattle.oc_tree.specs.Assigned.{reaches_assign}
 use Rattle.oc_tree.specs.Checked.{Group, IsChecked}
 use Rattle.oc_tree.specs.Marked.{TRegion}
 use Rattle.oc_tree.specs.Places.{Variables, find_variable, param_variables, at_start}
-use Rattle.oc_tree.specs.Scope.{Scope, variable_in, is_in_scope, is_among, is_declared, is_taken, param_var, with_param, takes_param}
+use Rattle.oc_tree.specs.Scope.{Scope, variable_in, is_in_scope, is_name_of, is_declared, is_taken, param_var, with_param, takes_param}
 use Rattle.oc_meaning.specs.Blocks.{set_home}
 use Rattle.oc_meaning.specs.Store.{Place, Global, Nowhere, Store, Binding, binding_of, place_of}
 use Rattle.oc_meaning.specs.Exec.{Outcome, Passed, Copied, Lent, block_run}
@@ -112,10 +112,10 @@ module _ (p : TProgram) (i : ℕ) where
     -- a parameter's name is new
     param_new : (s : Scope) (vs : Variables) (q : Param) → Covered s vs → is_taken p s q.name ≡ false → IsNew vs q.name
     param_new s vs q all free =
-        let past = second_fails (is_among p.names.ports q.name) _ (second_fails (is_among p.names.sensors q.name) _ (second_fails (is_in_scope s q.name) (is_declared p q.name) free)) in
+        let past = second_fails (is_name_of p.names.ports q.name) _ (second_fails (is_name_of p.names.sensors q.name) _ (second_fails (is_in_scope s q.name) (is_declared p q.name) free)) in
         record {
           unseen = all q.name (none_is (variable_in s q.name) (first_fails (is_in_scope s q.name) (is_declared p q.name) free));
-          unplaced = none_is (place p.names.nvs q.name) (first_fails (is_among p.names.nvs q.name) _ past);
+          unplaced = none_is (place p.names.nvs q.name) (first_fails (is_name_of p.names.nvs q.name) _ past);
         }
 
     -- the parameters for which nothing is passed

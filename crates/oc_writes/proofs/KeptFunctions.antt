@@ -24,7 +24,7 @@ use Rattle.oc_tree.specs.Calls.{place_from, place, function_place, callee, args_
 use Rattle.oc_tree.specs.Assigned.{is_mutable, mutable_params, param_names, first_param, takes_mutable, mutable_param, own_param, alone, link_of, arg_links, args_links, to_links}
 use Rattle.oc_tree.specs.Assigned.{pass_call, written_through, param_assigned, assigned_number, arg_assigns, args_assign, callee_assigns, call_assigns, own_assigns, reaches_assign}
 use Rattle.oc_tree.specs.Places.{Variables, find_variable, at_start, block_placed}
-use Rattle.oc_tree.specs.Scope.{Scope, variable_of, is_among, is_taken, is_in_scope, is_declared, function_named, takes_param, with_param}
+use Rattle.oc_tree.specs.Scope.{Scope, variable_of, is_name_of, is_taken, is_in_scope, is_declared, function_named, takes_param, with_param}
 use Rattle.oc_tree.specs.Types.{is_reference}
 use Rattle.oc_tree.specs.Checked.{Group, IsChecked}
 use Rattle.oc_tree.specs.Elements.{Here}
@@ -148,9 +148,9 @@ module _ (p : TProgram) (i : ℕ) (x : Text) (named : slice_get p.names.nvs i �
       by : (b : Bool) → bytes_eq x y ≡ b → b ≡ false
       by false e = refl
       by true e =
-          let among : is_among p.names.nvs y ≡ true = subst (λ z. is_among p.names.nvs z ≡ true) ((bytes_eq-Decides x y).0 e) (stands_among 0 p.names.nvs i x named) in
-          let past = second_fails (is_among p.names.ports y) _ (second_fails (is_among p.names.sensors y) _ h) in
-          absurd (true≢false (sym among ∙ first_fails (is_among p.names.nvs y) (is_some (function_place p.functions y)) past))
+          let among : is_name_of p.names.nvs y ≡ true = subst (λ z. is_name_of p.names.nvs z ≡ true) ((bytes_eq-Decides x y).0 e) (stands_among 0 p.names.nvs i x named) in
+          let past = second_fails (is_name_of p.names.ports y) _ (second_fails (is_name_of p.names.sensors y) _ h) in
+          absurd (true≢false (sym among ∙ first_fails (is_name_of p.names.nvs y) (is_some (function_place p.functions y)) past))
 
   -- no parameter has it
   pub no_param : (scope : Scope) (qs : List Param) → takes_param p scope qs ≡ false → has_param x qs ≡ false

@@ -1,14 +1,15 @@
 use Rattle.std.proofs.Common.{◌∙◌, sym, ap, subst}
 use Rattle.oc_tree.specs.Checked.{IsChecked, TChecked}
 use Rattle.oc_needs.specs.View.{requirement_view}
-use Rattle.oc_regcheck.specs.Code.{is_among, second_by}
+use Rattle.oc_tree.specs.Members.{is_number_of}
+use Rattle.oc_regcheck.specs.Code.{second_by}
 use Rattle.oc_regcheck.proofs.Exact.{first_there, second_there}
 use Rattle.oc_regcheck.proofs.check.second_site.Goals as goal
 
 pub unreachable-requires : goal.unreachable-requires
 unreachable-requires c =
     let p = c.args.effects.now.program in
-    let is_block = is_among c.args.blocks.now in
+    let is_block = is_number_of c.args.blocks.now in
     let required = requirement_view c.args.requirement.now in
     let checked = subst (λ (t : TChecked). IsChecked t.program t.groups) c.checked.ensures c.program-program.ensures.checked in
     let open' = first_there p is_block required c.requires in

@@ -20,6 +20,7 @@ pub mod CodeShort
 pub mod BlockRanges
 pub mod RegionCounts
 pub mod PairsAround
+pub mod RowsAround
 pub mod RegionsMarked
 pub mod RegionsApart
 pub mod Law

@@ -1,5 +1,5 @@
 -- The regions of a marked program begin and end in the same block.
-use Rattle.std.proofs.Common.{◌≡◌, ◌<◌, ◌⊎◌, inl, inr, ℕ, zero, suc, ◌+◌, List, [], ◌∷◌, ◌++◌, length, sum_by, Some, ap, sym, ◌∙◌, subst, arith, length-append, append-nil, flat_map}
+use Rattle.std.proofs.Common.{◌≡◌, ◌<◌, ℕ, zero, suc, ◌+◌, List, [], ◌∷◌, ◌++◌, length, sum_by, Some, ap, sym, ◌∙◌, subst, arith, length-append, append-nil, flat_map}
 use Rattle.std.specs.Prelude.{slice_get}
 use Rattle.std.proofs.lemmas.Option.{none-some, same_Some}
 use Rattle.oc_tree.specs.Tree.{TKind, let_to, let_array, assign, assign_index, assign_deref, if_else, for_in, while_do, call_only, sense_only, emit, fresh, consistent, return}
@@ -11,109 +11,39 @@ use Rattle.oc_tree.specs.Marked.{TRegion}
 use Rattle.oc_meaning.specs.Exec.{begun_by, ended_by}
 use Rattle.oc_code.specs.Formed.{marks}
 use Rattle.oc_desugar.proofs.NumberLists.{Follow, first_of, parts}
-use Rattle.oc_desugar.proofs.BlockPairs.{Pair, kind_pairs, else_pairs, block_pairs, stmts_pairs, program_pairs, block_there}
+use Rattle.oc_desugar.proofs.BlockPairs.{kind_pairs, else_pairs, block_pairs, stmts_pairs, program_pairs, block_there}
 use Rattle.oc_formed.proofs.BodiesMarked.{KindMarked, ElseMarked, BlockMarked, StmtsMarked}
-use Rattle.oc_formed.proofs.BlockRanges.{EachPair, pairs_map, From, Ranged, RangedIn, kind_ranged, else_ranged, block_ranged, stmts_ranged, functions_ranged}
+use Rattle.oc_formed.proofs.BlockRanges.{EachPair, Ranged, kind_ranged, else_ranged, block_ranged, stmts_ranged, functions_ranged}
 use Rattle.oc_formed.proofs.RegionCounts.{EachRegion, Differ, begins, ends, open_at, begun_counted, ended_counted, InBlock, all_across, none_before, none_behind}
-use Rattle.oc_formed.proofs.PairsAround.{Outside, Earlier, Later, later_part, earlier_part, Around, around_first, around_second, around_less, in_block_range, in_block_gap}
+use Rattle.oc_formed.proofs.PairsAround.{Around, around_less, in_block_range, in_block_gap}
+use Rattle.oc_formed.proofs.RowsAround.{Part, part_first, part_second, Known, inside_part, rest_part}
 
 module _ (p : TProgram) (numbered : Numbered p) (regions : List TRegion) (within : EachRegion (InBlock (block_of p)) regions) (firsts : Differ (λ r. r.first) regions)
     (lasts : Differ (λ r. r.last) regions) where
-  -- the statements and blocks of a part, with what is around it
-  abbrev Part : (i j : ℕ) (statements blocks : List ℕ) (pairs : List Pair) → Type 0
-  Part i j statements blocks pairs = Around p i (i + length statements) j (j + length blocks) pairs
-
-  -- the first of two parts
-  part_first : (i j : ℕ) (us vs bs cs : List ℕ) (xs ys : List Pair) → EachPair (Ranged (i + length us) (i + length us + length vs) (j + length bs) (j + length bs + length cs)) ys
-      → Part i j (us ++ vs) (bs ++ cs) (xs ++ ys) → Part i j us bs xs
-  part_first i j us vs bs cs xs ys r a =
-      let m = length-append us vs in
-      let n = length-append bs cs in
-      around_first p i (i + length (us ++ vs)) j (j + length (bs ++ cs)) (i + length us) j (j + length bs) xs ys (omega (arith, m)) (omega arith) (omega (arith, n))
-      (later_part (i + length us) (i + length us + length vs) (j + length bs) (j + length bs + length cs) j ys r) a
-
-  -- the second of two parts
-  part_second : (i j : ℕ) (us vs bs cs : List ℕ) (xs ys : List Pair) → EachPair (Ranged i (i + length us) j (j + length bs)) xs → Part i j (us ++ vs) (bs ++ cs) (xs ++ ys)
-      → Part (i + length us) (j + length bs) vs cs ys
-  part_second i j us vs bs cs xs ys r a =
-      let m : i + length (us ++ vs) ≡ i + length us + length vs = omega (arith, length-append us vs) in
-      let n : j + length (bs ++ cs) ≡ j + length bs + length cs = omega (arith, length-append bs cs) in
-      let b = subst (λ d. Around p i (i + length (us ++ vs)) j d (xs ++ ys)) n a in
-      let c = subst (λ z. Around p i z j (j + length bs + length cs) (xs ++ ys)) m b in
-      around_second p i (i + length us + length vs) j (j + length bs + length cs) (i + length us) (j + length bs) (j + length bs + length cs) xs ys (omega arith) (omega arith) (omega arith)
-      (earlier_part i (i + length us) j (j + length bs) (j + length bs + length cs) xs r) c
-
-  -- a statement of the block b, with those inside it and those behind it
-  module _ (b i j : ℕ) (n : ℕ) (k : TKind) (rest : TStmts) where
-    -- the statements inside it
-    abbrev inner : List ℕ
-    inner = kind_statements k
-
-    -- the number of the statement behind it
-    abbrev next : ℕ
-    next = i + suc (length inner)
-
-    -- the number of the block behind those inside it
-    abbrev after : ℕ
-    after = j + length (kind_blocks k)
-
-    -- what a row of statements is
-    abbrev Row : Type 0
-    Row = Around p i (next + length (stmts_statements rest)) j (after + length (stmts_blocks rest)) ((i, b) ∷ (kind_pairs k ++ stmts_pairs b rest))
-
-    -- what is known of it
-    record Known : Type 0 where
-      row : Row
-      below : b < j
-      inside : EachPair (Ranged (suc i) next j after) (kind_pairs k)
-      others : EachPair (RangedIn b next (next + length (stmts_statements rest)) after (after + length (stmts_blocks rest))) (stmts_pairs b rest)
-
-    -- around what is inside and behind it
-    behind_own : Known → Around p (suc i) (next + length (stmts_statements rest)) j (after + length (stmts_blocks rest)) (kind_pairs k ++ stmts_pairs b rest)
-    behind_own h =
-        around_second p i (next + length (stmts_statements rest)) j (after + length (stmts_blocks rest)) (suc i) j (after + length (stmts_blocks rest)) ((i, b) ∷ [])
-        (kind_pairs k ++ stmts_pairs b rest) (omega arith) (omega arith) (omega arith)
-        ((omega arith, inl h.below), tt) h.row
-
-    -- around the statements inside it
-    inside_part : Known → Around p (suc i) next j after (kind_pairs k)
-    inside_part h =
-        around_first p (suc i) (next + length (stmts_statements rest)) j (after + length (stmts_blocks rest)) next j after (kind_pairs k) (stmts_pairs b rest) (omega arith) (omega arith) (omega arith)
-        (pairs_map (RangedIn b next (next + length (stmts_statements rest)) after (after + length (stmts_blocks rest))) (Later next j after) (λ x r. (r.0.0, apart x r.1))
-        (stmts_pairs b rest) h.others) (behind_own h)
-      where
-        apart : (x : Pair) → (x.1 ≡ b) ⊎ From after (after + length (stmts_blocks rest)) x.1 → Outside j after x.1
-        apart x (inl e) = let below = h.below in inl (omega (arith, e, below))
-        apart x (inr r) = inr r.0
-
-    -- around the statements behind it
-    rest_part : Known → Around p next (next + length (stmts_statements rest)) after (after + length (stmts_blocks rest)) (stmts_pairs b rest)
-    rest_part h =
-        around_second p (suc i) (next + length (stmts_statements rest)) j (after + length (stmts_blocks rest)) next after (after + length (stmts_blocks rest)) (kind_pairs k)
-        (stmts_pairs b rest) (omega arith) (omega arith) (omega arith)
-        (earlier_part (suc i) next j after (after + length (stmts_blocks rest)) (kind_pairs k) h.inside) (behind_own h)
-
-    -- the regions that are open behind it
-    crossed : Known → n ≡ i → open_at regions b i + marks (begun_by regions n) ≡ open_at regions b next + marks (ended_by regions n)
-    crossed h e =
-        let here : block_of p i ≡ Some b = block_there p numbered.statements (i, b) (h.row.front, (kind_pairs k ++ stmts_pairs b rest) ++ h.row.back, h.row.is) in
-        let gap = in_block_gap p i (next + length (stmts_statements rest)) j (after + length (stmts_blocks rest)) next after b (kind_pairs k) (stmts_pairs b rest)
-        (omega arith) h.below h.inside h.others h.row in
-        let sums = all_across (block_of p) b i next here (omega arith) gap regions within in
-        let start : marks (begun_by regions n) ≡ sum_by (begins i) regions = ap (λ m. marks (begun_by regions m)) e ∙ begun_counted regions i firsts in
-        let stop : marks (ended_by regions n) ≡ sum_by (ends i) regions = ap (λ m. marks (ended_by regions m)) e ∙ ended_counted regions i lasts in
-        omega (arith, sums, start, stop)
+  -- the regions that are open behind a statement of the block b
+  crossed : (b i j n : ℕ) (k : TKind) (rest : TStmts) → Known p b i j k rest → n ≡ i
+      → open_at regions b i + marks (begun_by regions n) ≡ open_at regions b (i + suc (length (kind_statements k))) + marks (ended_by regions n)
+  crossed b i j n k rest h e =
+      let next = i + suc (length (kind_statements k)) in
+      let after = j + length (kind_blocks k) in
+      let here : block_of p i ≡ Some b = block_there p numbered.statements (i, b) (h.row.front, (kind_pairs k ++ stmts_pairs b rest) ++ h.row.back, h.row.is) in
+      let gap = in_block_gap p i (next + length (stmts_statements rest)) j (after + length (stmts_blocks rest)) next after b (kind_pairs k) (stmts_pairs b rest)
+      (omega arith) h.below h.inside h.others h.row in
+      let sums = all_across (block_of p) b i next here (omega arith) gap regions within in
+      let start : marks (begun_by regions n) ≡ sum_by (begins i) regions = ap (λ m. marks (begun_by regions m)) e ∙ begun_counted regions i firsts in
+      let stop : marks (ended_by regions n) ≡ sum_by (ends i) regions = ap (λ m. marks (ended_by regions m)) e ∙ ended_counted regions i lasts in
+      omega (arith, sums, start, stop)
 
   mutual
     -- a statement
-    kind_is_marked : (i j : ℕ) (k : TKind) → Follow i (kind_statements k) → Follow j (kind_blocks k) → Part i j (kind_statements k) (kind_blocks k) (kind_pairs k) → KindMarked regions k
+    kind_is_marked : (i j : ℕ) (k : TKind) → Follow i (kind_statements k) → Follow j (kind_blocks k) → Part p i j (kind_statements k) (kind_blocks k) (kind_pairs k) → KindMarked regions k
     kind_is_marked i j (if_else c a b) f g h =
         let s = parts i (block_statements a) (else_statements b) f in
         let t = parts j (block_blocks a) (else_blocks b) g in
         let i' = i + length (block_statements a) in
         let j' = j + length (block_blocks a) in (
-          block_is_marked i j a s.0 t.0 (part_first i j (block_statements a) (else_statements b) (block_blocks a) (else_blocks b) (block_pairs a) (else_pairs b) (else_ranged i' j' b s.1 t.1) h),
-          else_is_marked i' j' b s.1 t.1 (part_second i j (block_statements a) (else_statements b) (block_blocks a) (else_blocks b) (block_pairs a) (else_pairs b) (block_ranged i j a s.0 t.0) h),
+          block_is_marked i j a s.0 t.0 (part_first p i j (block_statements a) (else_statements b) (block_blocks a) (else_blocks b) (block_pairs a) (else_pairs b) (else_ranged i' j' b s.1 t.1) h),
+          else_is_marked i' j' b s.1 t.1 (part_second p i j (block_statements a) (else_statements b) (block_blocks a) (else_blocks b) (block_pairs a) (else_pairs b) (block_ranged i j a s.0 t.0) h),
         )
     kind_is_marked i j (for_in x m n b) f g h = block_is_marked i j b f g h
     kind_is_marked i j (while_do c n b) f g h = block_is_marked i j b f g h
@@ -130,12 +60,12 @@ module _ (p : TProgram) (numbered : Numbered p) (regions : List TRegion) (within
     kind_is_marked i j (return e) f g h = tt
 
     -- what stands behind `else`
-    else_is_marked : (i j : ℕ) (b : TElse) → Follow i (else_statements b) → Follow j (else_blocks b) → Part i j (else_statements b) (else_blocks b) (else_pairs b) → ElseMarked regions b
+    else_is_marked : (i j : ℕ) (b : TElse) → Follow i (else_statements b) → Follow j (else_blocks b) → Part p i j (else_statements b) (else_blocks b) (else_pairs b) → ElseMarked regions b
     else_is_marked i j no_else f g h = tt
     else_is_marked i j (else_do b) f g h = block_is_marked i j b f g h
 
     -- a block
-    block_is_marked : (i j : ℕ) (b : TBlock) → Follow i (block_statements b) → Follow j (block_blocks b) → Part i j (block_statements b) (block_blocks b) (block_pairs b) → BlockMarked regions b
+    block_is_marked : (i j : ℕ) (b : TBlock) → Follow i (block_statements b) → Follow j (block_blocks b) → Part p i j (block_statements b) (block_blocks b) (block_pairs b) → BlockMarked regions b
     block_is_marked i j (block id ss) f g h =
         let o = first_of id j (stmts_blocks ss) g in
         let z = i + length (stmts_statements ss) in
@@ -146,7 +76,7 @@ module _ (p : TProgram) (numbered : Numbered p) (regions : List TRegion) (within
         subst (λ n. StmtsMarked regions n ss) none (stmts_are_marked id i (suc j) ss f o.1 less (omega (arith, o.0)) (λ s e. (range s e).1))
 
     -- statements of the block b, of which none has a number from the end of these on
-    stmts_are_marked : (b i j : ℕ) (ss : TStmts) → Follow i (stmts_statements ss) → Follow j (stmts_blocks ss) → Part i j (stmts_statements ss) (stmts_blocks ss) (stmts_pairs b ss)
+    stmts_are_marked : (b i j : ℕ) (ss : TStmts) → Follow i (stmts_statements ss) → Follow j (stmts_blocks ss) → Part p i j (stmts_statements ss) (stmts_blocks ss) (stmts_pairs b ss)
         → b < j → ((s : ℕ) → block_of p s ≡ Some b → s < i + length (stmts_statements ss)) → StmtsMarked regions (open_at regions b i) ss
     stmts_are_marked b i j no_stmts f g h below end = none_behind (block_of p) b i (λ s e. omega (arith, end s e)) regions within
     stmts_are_marked b i j (more (stmt n line k) rest) f g h below end =
@@ -162,22 +92,22 @@ module _ (p : TProgram) (numbered : Numbered p) (regions : List TRegion) (within
         let row2 = subst (λ z. Around p i z j (j + length (kind_blocks k ++ stmts_blocks rest)) ((i, b) ∷ (kind_pairs k ++ stmts_pairs b rest))) top row1 in
         let row3 = subst (λ d. Around p i (next + length (stmts_statements rest)) j d ((i, b) ∷ (kind_pairs k ++ stmts_pairs b rest))) deep row2 in
         let width : suc i + length (kind_statements k) ≡ next = omega arith in
-        let known : Known b i j n k rest = record {
+        let known : Known p b i j k rest = record {
           row = row3;
           below = below;
           inside = subst (λ z. EachPair (Ranged (suc i) z j after) (kind_pairs k)) width (kind_ranged (suc i) j k o.1 t.0);
           others = stmts_ranged b next after rest s.1 t.1;
         } in
-        let inner = subst (λ z. Around p (suc i) z j after (kind_pairs k)) (sym width) (inside_part b i j n k rest known) in (
+        let inner = subst (λ z. Around p (suc i) z j after (kind_pairs k)) (sym width) (inside_part p b i j k rest known) in (
           kind_is_marked (suc i) j k o.1 t.0 inner,
           open_at regions b next,
           crossed b i j n k rest known o.0,
-          stmts_are_marked b next after rest s.1 t.1 (rest_part b i j n k rest known) (omega (arith, below)) (λ x e. omega (arith, end x e, top)),
+          stmts_are_marked b next after rest s.1 t.1 (rest_part p b i j k rest known) (omega (arith, below)) (λ x e. omega (arith, end x e, top)),
         )
 
   -- functions
   functions_marked : (i j : ℕ) (fs : List TFunction) → Follow i (flat_map (λ f. block_statements f.body) fs) → Follow j (flat_map (λ f. block_blocks f.body) fs)
-      → Part i j (flat_map (λ f. block_statements f.body) fs) (flat_map (λ f. block_blocks f.body) fs) (flat_map (λ f. block_pairs f.body) fs) → (u : ℕ) (f : TFunction)
+      → Part p i j (flat_map (λ f. block_statements f.body) fs) (flat_map (λ f. block_blocks f.body) fs) (flat_map (λ f. block_pairs f.body) fs) → (u : ℕ) (f : TFunction)
       → slice_get fs u ≡ Some f → BlockMarked regions f.body
   functions_marked i j [] f g h u x e = absurd (none-some x e)
   functions_marked i j (y ∷ fs) f g h u x e =
@@ -188,9 +118,9 @@ module _ (p : TProgram) (numbered : Numbered p) (regions : List TRegion) (within
       let s = parts i us vs f in
       let t = parts j bs cs g in
       let own = block_is_marked i j y.body s.0 t.0
-      (part_first i j us vs bs cs (block_pairs y.body) (flat_map (λ f. block_pairs f.body) fs) (functions_ranged (i + length us) (j + length bs) fs s.1 t.1) h) in
+      (part_first p i j us vs bs cs (block_pairs y.body) (flat_map (λ f. block_pairs f.body) fs) (functions_ranged (i + length us) (j + length bs) fs s.1 t.1) h) in
       let others = functions_marked (i + length us) (j + length bs) fs s.1 t.1
-      (part_second i j us vs bs cs (block_pairs y.body) (flat_map (λ f. block_pairs f.body) fs) (block_ranged i j y.body s.0 t.0) h) in
+      (part_second p i j us vs bs cs (block_pairs y.body) (flat_map (λ f. block_pairs f.body) fs) (block_ranged i j y.body s.0 t.0) h) in
       go u e own others
     where
       go : (u : ℕ) → slice_get (y ∷ fs) u ≡ Some x → BlockMarked regions y.body → ((v : ℕ) (z : TFunction) → slice_get fs v ≡ Some z → BlockMarked regions z.body) → BlockMarked regions x.body

@@ -12,84 +12,11 @@ use Rattle.oc_tree.specs.Places.{block_of}
 use Rattle.oc_desugar.proofs.NumberLists.{Follow, first_of, parts}
 use Rattle.oc_desugar.proofs.BlockPairs.{Pair, kind_pairs, else_pairs, block_pairs, stmts_pairs, program_pairs, block_beside, block_is_beside}
 use Rattle.oc_formed.proofs.BlockRanges.{EachPair, pairs_join, pairs_map, From, Ranged, RangedIn, kind_ranged, else_ranged, block_ranged, stmts_ranged, functions_ranged}
-use Rattle.oc_formed.proofs.PairsAround.{Outside, Earlier, Later, later_part, earlier_part, Around, around_first, around_second, around_less, told}
+use Rattle.oc_formed.proofs.PairsAround.{Outside, Earlier, Later, Around, around_less, told}
+use Rattle.oc_formed.proofs.RowsAround.{Part, part_first, part_second, Known, inside_part, rest_part}
 use Rattle.oc_timely.specs.Laid.{IsClosed, LaidKind, LaidElse, LaidBlock, LaidStmts}
 
 module _ (p : TProgram) where
-  -- the statements and blocks of a part, with what is around it
-  abbrev Part : (i j : ℕ) (statements blocks : List ℕ) (pairs : List Pair) → Type 0
-  Part i j statements blocks pairs = Around p i (i + length statements) j (j + length blocks) pairs
-
-  -- the first of two parts
-  part_first : (i j : ℕ) (us vs bs cs : List ℕ) (xs ys : List Pair) → EachPair (Ranged (i + length us) (i + length us + length vs) (j + length bs) (j + length bs + length cs)) ys →
-      Part i j (us ++ vs) (bs ++ cs) (xs ++ ys) → Part i j us bs xs
-  part_first i j us vs bs cs xs ys r a =
-      let m = length-append us vs in
-      let n = length-append bs cs in
-      around_first p i (i + length (us ++ vs)) j (j + length (bs ++ cs)) (i + length us) j (j + length bs) xs ys (omega (arith, m)) (omega arith) (omega (arith, n))
-      (later_part (i + length us) (i + length us + length vs) (j + length bs) (j + length bs + length cs) j ys r) a
-
-  -- the second of two parts
-  part_second : (i j : ℕ) (us vs bs cs : List ℕ) (xs ys : List Pair) → EachPair (Ranged i (i + length us) j (j + length bs)) xs → Part i j (us ++ vs) (bs ++ cs) (xs ++ ys) →
-      Part (i + length us) (j + length bs) vs cs ys
-  part_second i j us vs bs cs xs ys r a =
-      let m : i + length (us ++ vs) ≡ i + length us + length vs = omega (arith, length-append us vs) in
-      let n : j + length (bs ++ cs) ≡ j + length bs + length cs = omega (arith, length-append bs cs) in
-      let b = subst (λ d. Around p i (i + length (us ++ vs)) j d (xs ++ ys)) n a in
-      let c = subst (λ z. Around p i z j (j + length bs + length cs) (xs ++ ys)) m b in
-      around_second p i (i + length us + length vs) j (j + length bs + length cs) (i + length us) (j + length bs) (j + length bs + length cs) xs ys (omega arith) (omega arith) (omega arith)
-      (earlier_part i (i + length us) j (j + length bs) (j + length bs + length cs) xs r) c
-
-  -- a statement of the block b, with those inside it and those behind it
-  module _ (b i j : ℕ) (n : ℕ) (k : TKind) (rest : TStmts) where
-    -- the statements inside it
-    abbrev inner : List ℕ
-    inner = kind_statements k
-
-    -- the number of the statement behind it
-    abbrev next : ℕ
-    next = i + suc (length inner)
-
-    -- the number of the block behind those inside it
-    abbrev after : ℕ
-    after = j + length (kind_blocks k)
-
-    -- what a row of statements is
-    abbrev Row : Type 0
-    Row = Around p i (next + length (stmts_statements rest)) j (after + length (stmts_blocks rest)) ((i, b) ∷ (kind_pairs k ++ stmts_pairs b rest))
-
-    -- what is known of it
-    record Known : Type 0 where
-      row : Row
-      below : b < j
-      inside : EachPair (Ranged (suc i) next j after) (kind_pairs k)
-      others : EachPair (RangedIn b next (next + length (stmts_statements rest)) after (after + length (stmts_blocks rest))) (stmts_pairs b rest)
-
-    -- around what is inside and behind it
-    behind_own : Known → Around p (suc i) (next + length (stmts_statements rest)) j (after + length (stmts_blocks rest)) (kind_pairs k ++ stmts_pairs b rest)
-    behind_own h =
-        around_second p i (next + length (stmts_statements rest)) j (after + length (stmts_blocks rest)) (suc i) j (after + length (stmts_blocks rest)) ((i, b) ∷ [])
-        (kind_pairs k ++ stmts_pairs b rest) (omega arith) (omega arith) (omega arith)
-        ((omega arith, inl h.below), tt) h.row
-
-    -- around the statements inside it
-    inside_part : Known → Around p (suc i) next j after (kind_pairs k)
-    inside_part h =
-        around_first p (suc i) (next + length (stmts_statements rest)) j (after + length (stmts_blocks rest)) next j after (kind_pairs k) (stmts_pairs b rest) (omega arith) (omega arith) (omega arith)
-        (pairs_map (RangedIn b next (next + length (stmts_statements rest)) after (after + length (stmts_blocks rest))) (Later next j after) (λ x r. (r.0.0, apart x r.1))
-        (stmts_pairs b rest) h.others) (behind_own h)
-      where
-        apart : (x : Pair) → (x.1 ≡ b) ⊎ From after (after + length (stmts_blocks rest)) x.1 → Outside j after x.1
-        apart x (inl e) = let below = h.below in inl (omega (arith, e, below))
-        apart x (inr r) = inr r.0
-
-    -- around the statements behind it
-    rest_part : Known → Around p next (next + length (stmts_statements rest)) after (after + length (stmts_blocks rest)) (stmts_pairs b rest)
-    rest_part h =
-        around_second p (suc i) (next + length (stmts_statements rest)) j (after + length (stmts_blocks rest)) next after (after + length (stmts_blocks rest)) (kind_pairs k)
-        (stmts_pairs b rest) (omega arith) (omega arith) (omega arith)
-        (earlier_part (suc i) next j after (after + length (stmts_blocks rest)) (kind_pairs k) h.inside) (behind_own h)
-
   outside_not : (j d c : ℕ) → Outside j d c → From j d c → ⊥
   outside_not j d c (inl o) r = omega (arith, o, r.0)
   outside_not j d c (inr o) r = omega (arith, o, r.1)
@@ -117,7 +44,7 @@ module _ (p : TProgram) where
   straight i = omega arith
 
   mutual
-    kind_laid : (i j : ℕ) (k : TKind) → Follow i (kind_statements k) → Follow j (kind_blocks k) → Part i j (kind_statements k) (kind_blocks k) (kind_pairs k) →
+    kind_laid : (i j : ℕ) (k : TKind) → Follow i (kind_statements k) → Follow j (kind_blocks k) → Part p i j (kind_statements k) (kind_blocks k) (kind_pairs k) →
         LaidKind p i k (i + length (kind_statements k))
     kind_laid i j (if_else c a b) f g h =
         let s = parts i (block_statements a) (else_statements b) f in
@@ -126,9 +53,9 @@ module _ (p : TProgram) where
         let j' = j + length (block_blocks a) in
         let n : i' + length (else_statements b) ≡ i + length (block_statements a ++ else_statements b) = omega (arith, length-append (block_statements a) (else_statements b)) in (
           i',
-          block_laid i j a s.0 t.0 (part_first i j (block_statements a) (else_statements b) (block_blocks a) (else_blocks b) (block_pairs a) (else_pairs b) (else_ranged i' j' b s.1 t.1) h),
+          block_laid i j a s.0 t.0 (part_first p i j (block_statements a) (else_statements b) (block_blocks a) (else_blocks b) (block_pairs a) (else_pairs b) (else_ranged i' j' b s.1 t.1) h),
           subst (λ k. LaidElse p i' b k) n (else_laid i' j' b s.1 t.1
-              (part_second i j (block_statements a) (else_statements b) (block_blocks a) (else_blocks b) (block_pairs a) (else_pairs b) (block_ranged i j a s.0 t.0) h)),
+              (part_second p i j (block_statements a) (else_statements b) (block_blocks a) (else_blocks b) (block_pairs a) (else_pairs b) (block_ranged i j a s.0 t.0) h)),
         )
     kind_laid i j (for_in x m n b) f g h = block_laid i j b f g h
     kind_laid i j (while_do c n b) f g h = block_laid i j b f g h
@@ -144,12 +71,12 @@ module _ (p : TProgram) where
     kind_laid i j (consistent x n) f g h = straight i
     kind_laid i j (return e) f g h = straight i
 
-    else_laid : (i j : ℕ) (b : TElse) → Follow i (else_statements b) → Follow j (else_blocks b) → Part i j (else_statements b) (else_blocks b) (else_pairs b) →
+    else_laid : (i j : ℕ) (b : TElse) → Follow i (else_statements b) → Follow j (else_blocks b) → Part p i j (else_statements b) (else_blocks b) (else_pairs b) →
         LaidElse p i b (i + length (else_statements b))
     else_laid i j no_else f g h = straight i
     else_laid i j (else_do b) f g h = block_laid i j b f g h
 
-    block_laid : (i j : ℕ) (b : TBlock) → Follow i (block_statements b) → Follow j (block_blocks b) → Part i j (block_statements b) (block_blocks b) (block_pairs b) →
+    block_laid : (i j : ℕ) (b : TBlock) → Follow i (block_statements b) → Follow j (block_blocks b) → Part p i j (block_statements b) (block_blocks b) (block_pairs b) →
         LaidBlock p i b (i + length (block_statements b))
     block_laid i j (block id ss) f g h =
         let o = first_of id j (stmts_blocks ss) g in
@@ -158,7 +85,7 @@ module _ (p : TProgram) where
         let less = subst (λ d. Around p i z (suc j) d (stmts_pairs id ss)) d (around_less p i z j (j + suc (length (stmts_blocks ss))) (suc j) (stmts_pairs id ss) (omega arith) h) in
         (closed i z j (j + suc (length (stmts_blocks ss))) (stmts_pairs id ss) (block_ranged i j (block id ss) f g) h, stmts_laid id i (suc j) ss f o.1 less (omega (arith, o.0)))
 
-    stmts_laid : (b i j : ℕ) (ss : TStmts) → Follow i (stmts_statements ss) → Follow j (stmts_blocks ss) → Part i j (stmts_statements ss) (stmts_blocks ss) (stmts_pairs b ss) → b < j →
+    stmts_laid : (b i j : ℕ) (ss : TStmts) → Follow i (stmts_statements ss) → Follow j (stmts_blocks ss) → Part p i j (stmts_statements ss) (stmts_blocks ss) (stmts_pairs b ss) → b < j →
         LaidStmts p i ss (i + length (stmts_statements ss))
     stmts_laid b i j no_stmts f g h below = straight i
     stmts_laid b i j (more (stmt n line k) rest) f g h below =
@@ -174,18 +101,18 @@ module _ (p : TProgram) where
         let row2 = subst (λ z. Around p i z j (j + length (kind_blocks k ++ stmts_blocks rest)) ((i, b) ∷ (kind_pairs k ++ stmts_pairs b rest))) top row1 in
         let row3 = subst (λ d. Around p i (next + length (stmts_statements rest)) j d ((i, b) ∷ (kind_pairs k ++ stmts_pairs b rest))) deep row2 in
         let width : suc i + length (kind_statements k) ≡ next = omega arith in
-        let known : Known b i j n k rest = record {
+        let known : Known p b i j k rest = record {
           row = row3;
           below = below;
           inside = subst (λ z. EachPair (Ranged (suc i) z j after) (kind_pairs k)) width (kind_ranged (suc i) j k o.1 t.0);
           others = stmts_ranged b next after rest s.1 t.1;
         } in
-        let inner = subst (λ z. Around p (suc i) z j after (kind_pairs k)) (sym width) (inside_part b i j n k rest known) in
+        let inner = subst (λ z. Around p (suc i) z j after (kind_pairs k)) (sym width) (inside_part p b i j k rest known) in
         let own : LaidKind p (suc i) k next = subst (λ z. LaidKind p (suc i) k z) width (kind_laid (suc i) j k o.1 t.0 inner) in (
           o.0,
           next,
           subst (λ m. LaidKind p (suc m) k next) (sym o.0) own,
-          subst (λ z. LaidStmts p next rest z) (sym top) (stmts_laid b next after rest s.1 t.1 (rest_part b i j n k rest known) (omega (arith, below))),
+          subst (λ z. LaidStmts p next rest z) (sym top) (stmts_laid b next after rest s.1 t.1 (rest_part p b i j k rest known) (omega (arith, below))),
         )
 
   -- a function of the list
@@ -196,7 +123,7 @@ module _ (p : TProgram) where
     pub laid : LaidBlock p first g.body (first + length (block_statements g.body))
 
   functions_laid : (i j : ℕ) (fs : List TFunction) → Follow i (flat_map (λ f. block_statements f.body) fs) → Follow j (flat_map (λ f. block_blocks f.body) fs) →
-      Part i j (flat_map (λ f. block_statements f.body) fs) (flat_map (λ f. block_blocks f.body) fs) (flat_map (λ f. block_pairs f.body) fs) → (u : ℕ) (g : TFunction) → slice_get fs u ≡ Some g →
+      Part p i j (flat_map (λ f. block_statements f.body) fs) (flat_map (λ f. block_blocks f.body) fs) (flat_map (λ f. block_pairs f.body) fs) → (u : ℕ) (g : TFunction) → slice_get fs u ≡ Some g →
       IsLaid i g
   functions_laid i j [] f g h u x e = absurd (none-some x e)
   functions_laid i j (y ∷ fs) f g h u x e =
@@ -211,10 +138,10 @@ module _ (p : TProgram) where
         from = omega arith;
         follows = s.0;
         laid =
-            block_laid i j y.body s.0 t.0 (part_first i j us vs bs cs (block_pairs y.body) (flat_map (λ f. block_pairs f.body) fs) (functions_ranged (i + length us) (j + length bs) fs s.1 t.1) h);
+            block_laid i j y.body s.0 t.0 (part_first p i j us vs bs cs (block_pairs y.body) (flat_map (λ f. block_pairs f.body) fs) (functions_ranged (i + length us) (j + length bs) fs s.1 t.1) h);
       } in
       let others = functions_laid (i + length us) (j + length bs) fs s.1 t.1
-      (part_second i j us vs bs cs (block_pairs y.body) (flat_map (λ f. block_pairs f.body) fs) (block_ranged i j y.body s.0 t.0) h) in
+      (part_second p i j us vs bs cs (block_pairs y.body) (flat_map (λ f. block_pairs f.body) fs) (block_ranged i j y.body s.0 t.0) h) in
       go u e own others
     where
       go : (u : ℕ) → slice_get (y ∷ fs) u ≡ Some x → IsLaid i y → ((v : ℕ) (z : TFunction) → slice_get fs v ≡ Some z → IsLaid (i + length (block_statements y.body)) z) → IsLaid i x

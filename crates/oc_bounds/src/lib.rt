@@ -16,7 +16,8 @@ ghost use Rattle.oc_bounds.specs.Attempts.{AttemptsClose};
 pub fn progress()
     ensures { (d : Device) (b : Bounds) (h : ℕ → ℕ → ℤ) (periods : List Period) → IsFit d
         → IsBounded d b → ((sensor tick : ℕ) → is_word (h sensor tick) ≡ true) →
-        AreSafe b (suc b.total) periods → (how : Ending) × ((power_run d h periods).state.phase ≡ Over how) }
+        AreSafe b (suc b.total) periods
+        → (how : Ending) × ((power_run d h periods).state.phase ≡ Over how) }
 {}
 
 /// An attempt of a region that begins where its period has the steps for it is closed, by its

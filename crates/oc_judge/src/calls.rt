@@ -72,7 +72,10 @@ pub fn frame<'a>(
         (store.new ≡ record store.old {
           locals =
               (with_params function.now.params.items (map passed_view passed.items)
-              (record { env = nv_env 0 program.now.names.nvs.items; locals = store.old.locals })).locals;
+              (record {
+                env = nv_env 0 program.now.names.nvs.items;
+                locals = store.old.locals;
+              })).locals;
         }) }
 {
     let mut scope = nonvolatile(alloc, program.names.nvs.as_slice())?;

@@ -185,8 +185,8 @@ impl Machine {
         ensures state { self.new
             ≡ record {
               parts = self.old.parts;
-              state =
-                  (Power.resume (device_of self.old.parts) self.old.state.area self.old.state).state;
+              state = (Power.resume (device_of self.old.parts) self.old.state.area
+                  self.old.state).state;
             } }
         ensures said { result
             ≡ (Power.resume (device_of self.old.parts) self.old.state.area self.old.state).said }

@@ -64,7 +64,8 @@ impl Machine {
           parts = self.old.parts;
           state =
               (writing addr word
-              (regs_at (self.old.state.pc + 1) self.old.state.fp (drop operands self.old.state.stack))
+              (regs_at (self.old.state.pc + 1) self.old.state.fp
+              (drop operands self.old.state.stack))
               self.old.state).state;
         } }
         ensures said { result
@@ -103,7 +104,8 @@ impl Machine {
           parts = self.old.parts;
           state = record
               (Power.running self.old.state
-              (regs_at (self.old.state.pc + 1) self.old.state.fp (drop operands self.old.state.stack))
+              (regs_at (self.old.state.pc + 1) self.old.state.fp
+              (drop operands self.old.state.stack))
               self.old.state.depth) { nv = slice_set self.old.state.nv addr word };
         } }
     {

@@ -43,7 +43,17 @@ impl Model for Machine {
 
     ghost view = { λ m. record {
       parts = m.image;
-      state = record { phase = m.phase; pc = m.pc; fp = m.fp; depth = m.depth; stack = m.stack.words; nv = m.nvm; log = m.log.entries; area = m.area.state; words = m.area.words };
+      state = record {
+        phase = m.phase;
+        pc = m.pc;
+        fp = m.fp;
+        depth = m.depth;
+        stack = m.stack.words;
+        nv = m.nvm;
+        log = m.log.entries;
+        area = m.area.state;
+        words = m.area.words;
+      };
     } };
 
     ghost invariant = { λ m. IsKept m.image m.rows.items m.entry m.frame m.phase m.pc m.fp m.stack

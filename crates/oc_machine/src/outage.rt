@@ -16,8 +16,8 @@ impl Machine {
         ensures state { self.new
             ≡ record {
               parts = self.old.parts;
-              state =
-                  (Power.fail_in (device_of self.old.parts) cut self.old.state.phase self.old.state).state;
+              state = (Power.fail_in (device_of self.old.parts) cut self.old.state.phase
+                  self.old.state).state;
             } }
         ensures said { result
             ≡ (Power.fail_in (device_of self.old.parts) cut self.old.state.phase

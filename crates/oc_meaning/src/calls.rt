@@ -73,7 +73,10 @@ pub fn frame<'a>(
         (store.new ≡ record store.old {
           locals =
               (with_params function.now.params.items (map passed_view passed.items)
-              (record { env = nv_env 0 program.now.names.nvs.items; locals = store.old.locals })).locals;
+              (record {
+                env = nv_env 0 program.now.names.nvs.items;
+                locals = store.old.locals;
+              })).locals;
         }) }
     ensures kept { OnErr result (store.new.events ≡ store.old.events) }
 {

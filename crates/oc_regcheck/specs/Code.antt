@@ -1,6 +1,6 @@
 -- What the code works with: one block around each statement, the outermost.
-use Rattle.std.specs.Prelude.{◌≡◌, ℕ, Bool, false, not, ◌||◌, List, [], ◌∷◌, length, map, flat_map, find, Option, Some, None, cond, is_some, nat_eq, option_map, option_to_list, ◌==◌}
-use Rattle.std.specs.List.{list_any, list_all}
+use Rattle.std.specs.Prelude.{◌≡◌, ℕ, Bool, false, not, ◌||◌, List, [], ◌∷◌, length, map, flat_map, find, Option, Some, None, cond, is_some, nat_eq, option_map, option_to_list}
+use Rattle.std.specs.List.{list_all}
 use Rattle.std.proofs.Common.{Bor}
 use Rattle.oc_tree.specs.Tree.{TProgram}
 use Rattle.oc_tree.specs.Rules.{main}

@@ -25,32 +25,33 @@ use oc_tree::tree::StmtId;
 use std::alloc::{AllocError, Global};
 
 // Whether a block has all sites of a requirement inside, or its function is guarded.
-fn is_met(effects: &Effects, blocks: &Blocks, open: &Marks, requirement: &Requirement) -> bool
-    requires function { requirement.now.function < open.now.1 }
-    requires open { (f : ℕ) → is_in open.now.0 f
+fn is_met(effects: &Effects, blocks: &Blocks, unguarded: &Marks, requirement: &Requirement) -> bool
+    requires function { requirement.now.function < unguarded.now.1 }
+    requires unguarded { (f : ℕ) → is_in unguarded.now.0 f
         ≡ comes_by effects.now.program (is_number_of blocks.now) f }
     ensures { result
         ≡ meets effects.now.program (is_number_of blocks.now) (requirement_view requirement.now) }
 {
     share_all(effects, blocks, requirement.sites.as_slice())
-        || !open.has(requirement.function as usize)
+        || !unguarded.has(requirement.function as usize)
 }
 
 // The first requirement that isn't met.
 fn first_open<'r>(
     effects: &Effects,
     blocks: &Blocks,
-    open: &Marks,
+    unguarded: &Marks,
     required: &'r [Requirement],
 ) -> Option<&'r Requirement>
-    requires functions { All (λ r. r.function < open.now.1) (map requirement_view required.now) }
-    requires open { (f : ℕ) → is_in open.now.0 f
+    requires functions { All (λ r. r.function < unguarded.now.1) (map requirement_view required.now) }
+    requires unguarded { (f : ℕ) → is_in unguarded.now.0 f
         ≡ comes_by effects.now.program (is_number_of blocks.now) f }
     ensures { requirement_seen result
-        ≡ first_by effects.now.program (is_number_of blocks.now) (map requirement_view required.now) }
+        ≡ first_by effects.now.program (is_number_of blocks.now)
+        (map requirement_view required.now) }
 {
     for requirement in required {
-        if !is_met(effects, blocks, open, requirement) {
+        if !is_met(effects, blocks, unguarded, requirement) {
             return Some(requirement);
         }
     }
@@ -65,10 +66,10 @@ fn second_site(
     requirement: &Requirement,
     first: StmtId,
 ) -> StmtId
-    requires { first_by effects.now.program (is_number_of blocks.now) (requirements effects.now.program)
-        ≡ Some (requirement_view requirement.now) }
-    ensures { second_by effects.now.program (is_number_of blocks.now) first requirement.now.sites.items
-        ≡ Some result }
+    requires { first_by effects.now.program (is_number_of blocks.now)
+        (requirements effects.now.program) ≡ Some (requirement_view requirement.now) }
+    ensures { second_by effects.now.program (is_number_of blocks.now) first
+        requirement.now.sites.items ≡ Some result }
 {
     let _program = effects.checked().program();
     match second(effects, blocks, first, requirement.sites.as_slice()) {
@@ -111,8 +112,8 @@ fn verdict_by(
     ensures { IfOk result (IsVerdictBy summaries.now.program (is_number_of blocks.now)) }
 {
     let effects = summaries.effects();
-    let open = from_main(alloc, effects, blocks)?;
-    match first_open(effects, blocks, &open, required) {
+    let unguarded = from_main(alloc, effects, blocks)?;
+    match first_open(effects, blocks, &unguarded, required) {
         Some(requirement) => {
             let verdict = opened(alloc, summaries, blocks, requirement)?;
             Ok(verdict)

@@ -6,5 +6,5 @@ use Rattle.oc_regcheck.proofs.check.verdict_by.Goals as goal
 
 pub first_open-requires-clause-functions : goal.first_open-requires-clause-functions
 first_open-requires-clause-functions c =
-    functions_small c.args.summaries.now.program c.in_ok-open.open.1 (c.in_ok-open.ensures.bound ∙ ap (λ (t : TChecked). length t.program.functions) c.effects-effects.ensures)
+    functions_small c.args.summaries.now.program c.in_ok-unguarded.unguarded.1 (c.in_ok-unguarded.ensures.bound ∙ ap (λ (t : TChecked). length t.program.functions) c.effects-effects.ensures)
     (map requirement_view c.args.required.now) c.requires

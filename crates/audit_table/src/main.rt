@@ -152,7 +152,7 @@ fn put_regions<O: Sink>(alloc: Global, out: &mut O) -> anyhow::Result<()> {
 
 fn main(rt: HostRuntime) -> anyhow::Result<()> {
     let alloc = rt.alloc();
-    let mut out = StreamSink::new(alloc, io::writer(&rt))?;
+    let mut out = StreamSink::new(io::writer(&rt));
     put_fresh(alloc, &mut out)?;
     put_sets(alloc, &mut out)?;
     put_regions(alloc, &mut out)?;

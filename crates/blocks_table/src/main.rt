@@ -67,7 +67,7 @@ fn put_checked<O: Sink>(
 
 fn main(rt: HostRuntime) -> anyhow::Result<()> {
     let alloc = rt.alloc();
-    let mut out = StreamSink::new(alloc, io::writer(&rt))?;
+    let mut out = StreamSink::new(io::writer(&rt));
     for (source, one, other) in sources() {
         let blocks = [one, other];
         if source.len() <= 1048576 {

@@ -152,7 +152,7 @@ fn put_image<O: Sink>(alloc: Global, name: &str, plan: &Plan, out: &mut O) -> an
 
 fn main(rt: HostRuntime) -> anyhow::Result<()> {
     let alloc = rt.alloc();
-    let mut out = StreamSink::new(alloc, io::writer(&rt))?;
+    let mut out = StreamSink::new(io::writer(&rt));
     put_first_rules(alloc, &mut out)?;
     put_other_rules(alloc, &mut out)?;
     put_fields(alloc, &mut out)?;

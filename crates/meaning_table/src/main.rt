@@ -157,7 +157,7 @@ fn put_worked<O: Sink>(alloc: Global, worked: &Worked, out: &mut O) -> anyhow::R
 
 fn main(rt: HostRuntime) -> anyhow::Result<()> {
     let alloc = rt.alloc();
-    let mut out = StreamSink::new(alloc, io::writer(&rt))?;
+    let mut out = StreamSink::new(io::writer(&rt));
     for worked in &cases() {
         put_worked(alloc, worked, &mut out)?;
     }

@@ -284,7 +284,7 @@ fn put_held<F: Shelf, O: Sink>(
 
 fn main(rt: HostRuntime) -> anyhow::Result<()> {
     let alloc = rt.alloc();
-    let mut out = StreamSink::new(alloc, io::writer(&rt))?;
+    let mut out = StreamSink::new(io::writer(&rt));
     parts(alloc, &mut out)?;
     tree(alloc, FRESH, &mut out)?;
     sensors(alloc, &mut out)?;

@@ -52,7 +52,7 @@ fn put_requirements<O: Sink>(alloc: Global, source: &[u8], out: &mut O) -> anyho
 
 fn main(rt: HostRuntime) -> anyhow::Result<()> {
     let alloc = rt.alloc();
-    let mut out = StreamSink::new(alloc, io::writer(&rt))?;
+    let mut out = StreamSink::new(io::writer(&rt));
     for source in sources() {
         if source.len() <= 1048576 {
             put_requirements(alloc, source.as_bytes(), &mut out)?;

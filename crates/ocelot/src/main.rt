@@ -51,12 +51,8 @@ fn run(rt: &HostRuntime, words: &[String]) -> Result<u8, AllocError> {
     let alloc: Global = rt.alloc();
     let mut shelf = DiskShelf::new(rt);
     let stderr = rt.stderr();
-    let Ok(mut out) = StreamSink::new(alloc, io::writer(rt)) else {
-        return Err(AllocError);
-    };
-    let Ok(mut err) = StreamSink::new(alloc, io::writer(&stderr)) else {
-        return Err(AllocError);
-    };
+    let mut out = StreamSink::new(io::writer(rt));
+    let mut err = StreamSink::new(io::writer(&stderr));
     ocelot_with_standard(alloc, words, &mut shelf, &mut out, &mut err)
 }
 

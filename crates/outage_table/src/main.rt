@@ -135,7 +135,7 @@ fn count_over<O: Sink>(
 
 fn main(rt: HostRuntime) -> anyhow::Result<()> {
     let alloc = rt.alloc();
-    let mut out = StreamSink::new(alloc, io::writer(&rt))?;
+    let mut out = StreamSink::new(io::writer(&rt));
     let one_value = b"time,sensor,value\n0,t,21\n";
     for first in 0..25 {
         for second in 0..17 {

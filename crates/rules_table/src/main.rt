@@ -106,7 +106,7 @@ fn tell<O: Sink>(alloc: Global, out: &mut O) -> anyhow::Result<()> {
 
 fn main(rt: HostRuntime) -> anyhow::Result<()> {
     let alloc = rt.alloc();
-    let mut out = StreamSink::new(alloc, io::writer(&rt))?;
+    let mut out = StreamSink::new(io::writer(&rt));
     let told = tell(alloc, &mut out);
     out.flush()?;
     told

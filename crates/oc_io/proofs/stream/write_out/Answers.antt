@@ -1,22 +1,26 @@
-use Rattle.std.proofs.Common.{ℕ, ◌≡◌, ◌-◌, List, ◌++◌, Option, length, take, drop, subst, sym, ap, ◌∙◌, take-append-drop}
-use Rattle.std.proofs.lemmas.List.{take_rest}
+use Rattle.std.proofs.Common.{ℕ, List, ◌≡◌, ◌≤◌, ◌+◌, length, take, drop, arith, ap, sym, subst}
+use Rattle.std.proofs.lemmas.List.{take_rest, length-drop}
 use Rattle.std.proofs.KnownBytes.{Appends-trans}
 use Rattle.std.specs.Io.KnownBytes.{Appends}
-use Rattle.oc_io.proofs.Going.{Going, go_on}
+use Rattle.oc_io.proofs.Streams.{joined}
 use Rattle.oc_io.proofs.stream.write_out.Goals as goal
 
-halves : (n : ℕ) (xs : List ℕ) → xs ≡ take n xs ++ take (length xs - n) (drop n xs)
-halves n xs = sym (take-append-drop n xs) ∙ ap (λ l. take n xs ++ l) (sym (take_rest xs n))
+few_more : (n k : ℕ) (rest xs : List ℕ) → rest ≡ drop n xs → n ≤ length xs → k ≤ length rest → n + k ≤ length xs
+few_more n k rest xs e l m = let d = ap length e in let s = length-drop n xs in omega (arith, d, s, l, m)
 
-abbrev Grew : {S : Type 0} → (S → Option (List ℕ)) → S → List ℕ → S → Type 0
-Grew contents a x b = Appends (contents a) (contents b) x
-
-goes_on : {S : Type 0} (contents : S → Option (List ℕ)) (a b c : S) (n : ℕ) (rest whole : List ℕ)
-    → Going (Grew contents) a b rest whole → Appends (contents b) (contents c) (take n rest) → Going (Grew contents) a c (take (length rest - n) (drop n rest)) whole
-goes_on contents a b c n rest whole g p =
-    go_on (Grew contents) (λ a b d x y. Appends-trans (contents a) (contents b) (contents d) x y) a b c (take n rest) (take (length rest - n) (drop n rest)) whole
-    (subst (λ r. Going (Grew contents) a b r whole) (halves n rest) g) p
-
-pub loop-rest-preserved : goal.loop-rest-preserved
-loop-rest-preserved g c =
-    goes_on g.W.Write.contents c.args.to.now c.loop-rest.to c.write.new.self c.in-Ok.count c.loop-rest.rest.now c.args.bytes.now c.loop-rest.invariant c.in-Ok.ensures.bytes
+pub loop-written-preserved : goal.loop-written-preserved
+loop-written-preserved g c =
+    let from = c.args.from in
+    let n = c.loop-written.written in
+    let k = c.in-Ok.count in
+    let xs = c.args.bytes.now in
+    let before = g.W.Write.contents c.args.to.now in
+    let here = g.W.Write.contents c.loop-written.to in
+    let after = g.W.Write.contents c.write.new.self in record {
+      few = few_more n k _ xs (take_rest xs n) c.loop-written.invariant.few c.in-Ok.ensures.bound;
+      more = (let m = c.loop-written.invariant.more in omega (arith, m));
+      bytes =
+          subst (Appends before after) (sym (joined from n k xs c.loop-written.invariant.more c.loop-written.invariant.few))
+          (Appends-trans before here after (drop from (take n xs)) (take k (drop n xs)) c.loop-written.invariant.bytes
+          (subst (λ rest. Appends here after (take k rest)) (take_rest xs n) c.in-Ok.ensures.bytes));
+    }

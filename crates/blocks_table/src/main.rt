@@ -2,6 +2,7 @@
 #![tactic(auto)]
 
 ghost use Rattle.std.specs.Prelude.{◌≤◌, length};
+ghost use Rattle.oc_lex.specs.Limits.{source_limit};
 
 mod blocks;
 mod sources;
@@ -47,7 +48,7 @@ fn put_checked<O: Sink>(
     blocks: &[StmtId],
     out: &mut O,
 ) -> anyhow::Result<()>
-    requires { length source.now ≤ 1048576 }
+    requires { length source.now ≤ source_limit }
 {
     out.put(source)?;
     out.put(b"\n")?;

@@ -4,6 +4,7 @@
 #![tactic(auto)]
 
 ghost use Rattle.std.specs.Prelude.{◌≤◌, ◌≡◌, length, map, IfOk};
+ghost use Rattle.oc_lex.specs.Limits.{source_limit};
 ghost use Rattle.oc_needs.specs.Requirements.{requirements};
 ghost use Rattle.oc_needs.specs.View.{requirement_view};
 
@@ -129,7 +130,7 @@ fn regions<O: Sink>(alloc: Global, checked: Checked, out: &mut O) -> anyhow::Res
 
 /// The tokens and the tree of a source, and the programs that are made of it.
 fn tree<O: Sink>(alloc: Global, source: &[u8], out: &mut O) -> anyhow::Result<()>
-    requires { length source.now ≤ 1048576 }
+    requires { length source.now ≤ source_limit }
 {
     let tokens = lex(alloc, source)?;
     fine("lex", out)?;

@@ -2,6 +2,7 @@
 #![tactic(auto)]
 
 ghost use Rattle.std.specs.Prelude.{◌≤◌, length};
+ghost use Rattle.oc_lex.specs.Limits.{source_limit};
 
 mod sources;
 
@@ -36,7 +37,7 @@ fn put_requirement<O: Sink>(
 
 /// Writes a source and what it requires.
 fn put_requirements<O: Sink>(alloc: Global, source: &[u8], out: &mut O) -> anyhow::Result<()>
-    requires { length source.now ≤ 1048576 }
+    requires { length source.now ≤ source_limit }
 {
     out.put(source)?;
     out.put(b"\n")?;

@@ -3,3 +3,4 @@ pub mod Spellings
 pub mod Pieces
 pub mod Tokens
 pub mod Stands
+pub mod Limits

@@ -1,5 +1,6 @@
 //! From bytes to tokens.
 ghost use Rattle.std.specs.Prelude.{◌≡◌, ◌+◌, ◌≤◌, ◌<◌, ◌⊎◌, ◌++◌, List, Err, Ok, length, IfOk, IfErr, MatchResult, OnOk, MatchBool, All};
+ghost use Rattle.oc_lex.specs.Limits.{source_limit};
 ghost use Rattle.oc_lex.specs.Stands.{InOrder, StandsIn};
 ghost use Rattle.oc_lex.specs.Tokens.{AreTokens, HasFault, BeginsWithLetter, Reads, feeds_of, tokens_of};
 ghost use Rattle.oc_lex.specs.declared.token.Token.{Token as SomeToken};
@@ -37,7 +38,7 @@ impl<T: Drop> From<AllocFailed<T>> for LexError {
 
 /// The tokens of a source of at most 1 MiB, or its first fault from the left.
 pub fn lex(alloc: Global, source: &[u8]) -> Result<Vec<Token>, LexError>
-    requires { length source.now ≤ 1048576 }
+    requires { length source.now ≤ source_limit }
     // What comes with Ok are the tokens of the source.
     ensures found { IfOk result (λ tokens. AreTokens source.now tokens.items) }
     // Each of them stands in the source, they follow each other, and they are no more than its bytes.
@@ -57,7 +58,7 @@ pub fn lex(alloc: Global, source: &[u8]) -> Result<Vec<Token>, LexError>
 }
 
 fn read_all(alloc: Global, source: &[u8]) -> Result<Vec<Token>, LexError>
-    requires { length source.now ≤ 1048576 }
+    requires { length source.now ≤ source_limit }
     ensures { MatchResult result (λ tokens. AreTokens source.now tokens.items)
         (λ e. (e ≡ LexError.Memory) ⊎ HasFault source.now e) }
 {

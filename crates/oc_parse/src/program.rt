@@ -1,5 +1,6 @@
 //! Whole programs.
 ghost use Rattle.std.specs.Prelude.{◌≡◌, ◌≤◌, ◌-◌, ℕ, Bool, true, List, length, IfOk, MatchResult};
+ghost use Rattle.oc_lex.specs.Limits.{source_limit};
 ghost use Rattle.oc_tree.specs.Tree.{TProgram};
 ghost use Rattle.oc_tree.specs.Nodes.{program_nodes};
 ghost use Rattle.oc_tree.specs.View.{program_view};
@@ -41,7 +42,7 @@ pub enum ParseError {
 /// and at most 255 binary operators.
 pub fn parse(alloc: Global, source: &[u8], tokens: &[Token]) -> Result<Program, ParseError>
     requires tokens { AreTokens source.now tokens.now }
-    requires small { length source.now ≤ 1048576 }
+    requires small { length source.now ≤ source_limit }
     // What comes with Ok is spelled by the tokens.
     ensures found { IfOk result
         (λ p. SpellsProgram the_depths (program_view p) (lexemes_of source.now tokens.now)) }
@@ -70,7 +71,7 @@ pub fn parse_blocks(
     tokens: &[Token],
 ) -> Result<(Program, Vec<StmtId>), ParseError>
     requires tokens { AreTokens source.now tokens.now }
-    requires small { length source.now ≤ 1048576 }
+    requires small { length source.now ≤ source_limit }
     ensures found { IfOk result
         (λ r. SpellsProgram the_depths (program_view r.0) (lexemes_in true source.now tokens.now)) }
     ensures only { (p : TProgram)
@@ -95,7 +96,7 @@ pub fn parse_blocks(
 // one without it.
 fn read(alloc: Global, source: &[u8], tokens: &[Token], atomic: bool) -> Result<Program, ParseError>
     requires tokens { AreTokens source.now tokens.now }
-    requires small { length source.now ≤ 1048576 }
+    requires small { length source.now ≤ source_limit }
     ensures found { IfOk result
         (λ p. SpellsProgram the_depths (program_view p) (lexemes_in atomic source.now tokens.now)) }
     ensures only { (p : TProgram)
@@ -131,7 +132,7 @@ fn place(tokens: &[Token], left: usize) -> usize
 }
 
 fn whole(alloc: Global, source: &[u8], tokens: &[Token], atomic: bool) -> Result<Program, Stop>
-    requires { length tokens.now ≤ 1048576 }
+    requires { length tokens.now ≤ source_limit }
     ensures { Whole result (program_at the_depths (lexemes_in atomic source.now tokens.now)) }
 {
     let mut program = empty(alloc, last_line(tokens));

@@ -1,5 +1,6 @@
 //! Programs, prefixes and depths.
 ghost use Rattle.std.specs.Prelude.{◌≤◌, length};
+ghost use Rattle.oc_lex.specs.Limits.{source_limit};
 
 use crate::{ParseError, parse, parse_blocks};
 use oc_lex::{LexError, lex};
@@ -8,7 +9,7 @@ use std::test::Fail;
 
 /// Why a source has no tree, if it has tokens.
 fn fault(alloc: Global, source: &[u8]) -> Result<Option<ParseError>, LexError>
-    requires { length source.now ≤ 1048576 }
+    requires { length source.now ≤ source_limit }
 {
     let tokens = lex(alloc, source)?;
     Ok(parse(alloc, source, tokens.as_slice()).err())

@@ -43,7 +43,8 @@ fn first_open<'r>(
     unguarded: &Marks,
     required: &'r [Requirement],
 ) -> Option<&'r Requirement>
-    requires functions { All (λ r. r.function < unguarded.now.1) (map requirement_view required.now) }
+    requires functions { All (λ r. r.function < unguarded.now.1)
+        (map requirement_view required.now) }
     requires unguarded { (f : ℕ) → is_in unguarded.now.0 f
         ≡ comes_by effects.now.program (is_number_of blocks.now) f }
     ensures { requirement_seen result

@@ -1,5 +1,6 @@
 -- How an answer to a task comes of its steps.
 use Rattle.std.proofs.Common.{ℕ, suc, ◌≡◌, ◌≤◌, ◌⊎◌, ◌∙◌, sym, ap, refl, subst, arith, inl, inr, List, [], ◌∷◌, length, Bool, Option, Some, None, true, true≢false}
+use Rattle.oc_lex.specs.Limits.{source_limit}
 use Rattle.oc_io.specs.declared.period.Period.{Period}
 use Rattle.std.specs.Prelude.{codes, option_map, if◌then◌else◌}
 use Rattle.oc_power.specs.Choice.{first_with}
@@ -20,7 +21,7 @@ use Rattle.oc_bounds.proofs.Attempting.{attempts_close}
 use Rattle.oc_bounds.proofs.Periods.{safe_ends}
 use Rattle.oc_top.specs.Meant.{program_code, program_bounds}
 use Rattle.oc_top.specs.Commands.{Plan, report, regions, listing, imaging, checking, auditing, executing, Task}
-use Rattle.oc_top.specs.Commands.{limits_of, meters_of, audit_limits, image_limit, run_limits, source_limit, command_of, task_of, task_for, with_image, with_plan, plans_of}
+use Rattle.oc_top.specs.Commands.{limits_of, meters_of, audit_limits, image_limit, run_limits, command_of, task_of, task_for, with_image, with_plan, plans_of}
 use Rattle.oc_top.specs.declared.command.Command.{Command}
 use Rattle.oc_top.specs.declared.command.Command.TheVariants as commands
 use Rattle.oc_tree.specs.Tree.{TProgram}

@@ -1,7 +1,8 @@
 -- Why a file wasn't fetched, and for which files a shelf was asked.
 use Rattle.std.proofs.Common.{ℕ, zero, suc, ◌+◌, ◌<◌, ◌≡◌, List, [], ◌∷◌, ◌++◌, length, subst, arith, inl, inr, refl}
+use Rattle.oc_lex.specs.Limits.{source_limit}
 use Rattle.oc_io.specs.Held.{Held}
-use Rattle.oc_top.specs.Commands.{audit_limits, run_limits, rows_limit, source_limit, word_at}
+use Rattle.oc_top.specs.Commands.{audit_limits, run_limits, rows_limit, word_at}
 use Rattle.oc_top.specs.Files.{AreFiles, Fetches, IsFile, IsRefused, NotFetched, WereFetched, file_at, limit_at, names_of}
 use Rattle.oc_top.specs.declared.answer.Answer.{Answer}
 use Rattle.oc_top.specs.declared.answer.Answer.TheVariants as answer

@@ -1,5 +1,6 @@
 -- What meters were told of a report that was written through their sink.
 use Rattle.std.proofs.Common.{ℕ, ◌≡◌, ◌∙◌, sym, ap, refl, subst, List, [], map, Bool, true, false, Option, Some, None}
+use Rattle.oc_lex.specs.Limits.{source_limit}
 use Rattle.oc_io.specs.Faults.{Rose}
 use Rattle.oc_tree.specs.Names.{NameLists, names_view}
 use Rattle.oc_tree.specs.declared.name.Names.{Names}
@@ -18,7 +19,7 @@ use Rattle.oc_isa.specs.Image.{Parts}
 use Rattle.oc_isa.specs.Power.{power_run}
 use Rattle.oc_isa.specs.Table.{device_of}
 use Rattle.oc_machine.specs.Kept.{Running}
-use Rattle.oc_top.specs.Commands.{Plan, report, run_limits, source_limit}
+use Rattle.oc_top.specs.Commands.{Plan, report, run_limits}
 use Rattle.oc_top.specs.Files.{AreFiles, Files, listed, names_of}
 use Rattle.oc_top.specs.Steps.{IsReady, by_memory}
 use Rattle.oc_top.specs.Meters.{IsReported, read, unread}

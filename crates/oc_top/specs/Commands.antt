@@ -1,6 +1,7 @@
 -- The command lines.
 use Rattle.std.specs.Prelude.{ℕ, ◌==◌, ◌&&◌, Bool, true, false, not, List, [], ◌∷◌, length, get_or, codes, Option, Some, None, option_and_then, option_map, nat_le, nat_lt, if◌then◌else◌}
 use Rattle.std.specs.Str.{bytes_eq}
+use Rattle.oc_lex.specs.Limits.{source_limit}
 use Rattle.oc_io.specs.declared.period.Period.{Period}
 use Rattle.oc_power.specs.Choice.{first_with}
 use Rattle.oc_rows.specs.Numbers.{number_of}
@@ -140,10 +141,7 @@ task_for plans meters (Some (commands.Exec first)) = with_image first (plans 0)
 abbrev pub task_of : Plans → List Reading → List (List ℕ) → Option Task
 task_of plans meters words = task_for plans meters (command_of words)
 
--- how many bytes a source may have, a file of rows or a report, and an image
-abbrev pub source_limit : ℕ
-source_limit = 1048576
-
+-- how many bytes a file of rows or a report may have, and an image
 abbrev pub rows_limit : ℕ
 rows_limit = 16777216
 

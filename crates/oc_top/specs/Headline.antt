@@ -1,5 +1,6 @@
 -- What the report of a run keeps, whenever power fails.
 use Rattle.std.specs.Prelude.{ℕ, suc, ℤ, ◌≡◌, ◌≤◌, List, [], ◌++◌, length, map, Some, None, if◌then◌else◌}
+use Rattle.oc_lex.specs.Limits.{source_limit}
 use Rattle.oc_io.specs.declared.period.Period.{Period}
 use Rattle.oc_power.specs.Power.{power_file}
 use Rattle.oc_power.specs.Power as power_rows
@@ -24,7 +25,7 @@ use Rattle.oc_outage.specs.Honest.{AreRead}
 use Rattle.oc_bounds.specs.Bounds.{AreSafe}
 use Rattle.oc_bounds.specs.Attempts.{AttemptsClose}
 use Rattle.oc_top.specs.Meant.{program_marked, program_code, program_bounds, program_run, plain_run, plain_said}
-use Rattle.oc_top.specs.Commands.{Plan, source_limit}
+use Rattle.oc_top.specs.Commands.{Plan}
 use Rattle.oc_top.specs.Files.{Files}
 use Rattle.oc_top.specs.Sources.{ReadsAs, program}
 use Rattle.oc_top.specs.Verdict.{RunFits, Verdict, runs}

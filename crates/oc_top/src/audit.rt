@@ -1,5 +1,6 @@
 //! Whether a report is honest for the program of a source.
 ghost use Rattle.std.specs.Prelude.{◌≤◌, length, IfOk, IfErr};
+ghost use Rattle.oc_lex.specs.Limits.{source_limit};
 ghost use Rattle.oc_top.specs.Answers.{writes};
 ghost use Rattle.oc_top.specs.Audited.{IsFound};
 ghost use Rattle.oc_top.specs.Judged.{IsAudited};
@@ -14,7 +15,7 @@ use std::alloc::Global;
 
 /// What an audit of a report finds for the program that a source spells.
 fn find(alloc: Global, source: &[u8], report: &[u8]) -> Result<Finding, Answer>
-    requires { length source.now ≤ 1048576 }
+    requires { length source.now ≤ source_limit }
     ensures found { IfOk result (λ f. IsFound source.now report.now f) }
     ensures refused { IfErr result (λ a. IsNotBuilt source.now a) }
 {
@@ -26,7 +27,7 @@ fn find(alloc: Global, source: &[u8], report: &[u8]) -> Result<Finding, Answer>
 /// Writes `honest` where a report is honest for the program that a source spells, or answers why it
 /// isn't.
 pub fn audit_report<O: Sink>(alloc: Global, source: &[u8], report: &[u8], out: &mut O) -> Answer
-    requires { length source.now ≤ 1048576 }
+    requires { length source.now ≤ source_limit }
     ensures audited { IsAudited source.now report.now
         (writes O.took O.held O.faults out.old out.new) result }
     ensures count { O.faults out.old ≤ O.faults out.new }

@@ -1,5 +1,6 @@
 //! From a source to its marked program, and from that to its image.
 ghost use Rattle.std.specs.Prelude.{◌≡◌, ◌≤◌, ℕ, Bool, true, List, length, map, IfOk, IfErr};
+ghost use Rattle.oc_lex.specs.Limits.{source_limit};
 ghost use Rattle.oc_tree.specs.View.{program_view};
 ghost use Rattle.oc_tree.specs.Form.{InForm};
 ghost use Rattle.oc_tree.specs.Nodes.{program_nodes};
@@ -50,7 +51,7 @@ fn count_feeds(bytes: &[u8]) -> usize
 
 /// The line of the byte at a place.
 fn line_of(source: &[u8], at: usize) -> usize
-    requires { length source.now ≤ 1048576 }
+    requires { length source.now ≤ source_limit }
     ensures { result ≡ line_at source.now at }
 {
     1 + count_feeds(&source[..at.min(source.len())])
@@ -68,7 +69,7 @@ fn token_line(tokens: &[Token], token: usize) -> usize
 }
 
 fn answer_without_tokens(source: &[u8], error: LexError) -> Answer
-    requires { length source.now ≤ 1048576 }
+    requires { length source.now ≤ source_limit }
     ensures { result ≡ for_tokens source.now error }
 {
     match error {
@@ -104,7 +105,7 @@ pub fn answer_without_rules(error: RuleError) -> Answer
 
 /// The tokens of a source.
 pub fn tokens_of(alloc: Global, source: &[u8]) -> Result<Vec<Token>, Answer>
-    requires { length source.now ≤ 1048576 }
+    requires { length source.now ≤ source_limit }
     ensures tokens { IfOk result (λ ts. AreTokens source.now ts.items) }
     ensures few { IfOk result (λ ts. length ts.items ≤ length source.now) }
     ensures refused { IfErr result (λ a. IsNotBuilt source.now a) }
@@ -118,10 +119,10 @@ pub fn tokens_of(alloc: Global, source: &[u8]) -> Result<Vec<Token>, Answer>
 
 /// The program that a source spells.
 fn program_of(alloc: Global, source: &[u8]) -> Result<Program, Answer>
-    requires { length source.now ≤ 1048576 }
+    requires { length source.now ≤ source_limit }
     ensures spelled { IfOk result (λ p. Spells source.now (program_view p)) }
     ensures form { IfOk result (λ p. InForm IsName (program_view p)) }
-    ensures nodes { IfOk result (λ p. program_nodes (program_view p) ≤ 1048576) }
+    ensures nodes { IfOk result (λ p. program_nodes (program_view p) ≤ source_limit) }
     ensures refused { IfErr result (λ a. IsNotBuilt source.now a) }
 {
     let tokens = tokens_of(alloc, source)?;
@@ -133,7 +134,7 @@ fn program_of(alloc: Global, source: &[u8]) -> Result<Program, Answer>
 
 /// The program that a source spells, where it breaks no rule.
 fn written(alloc: Global, source: &[u8]) -> Result<Written, Answer>
-    requires { length source.now ≤ 1048576 }
+    requires { length source.now ≤ source_limit }
     ensures accepted { IfOk result (λ w. IsAccepted source.now w) }
     ensures refused { IfErr result (λ a. IsNotBuilt source.now a) }
 {
@@ -173,7 +174,7 @@ fn with_regions(alloc: Global, written: Written) -> Result<Marked, Memory>
 /// rule. What is wrong first decides the answer: a byte, a token, a depth or a broken rule, with its
 /// line.
 pub fn marked_of(alloc: Global, source: &[u8]) -> Result<Marked, Answer>
-    requires { length source.now ≤ 1048576 }
+    requires { length source.now ≤ source_limit }
     ensures marked { IfOk result (λ m. IsMarkedOf source.now m) }
     ensures refused { IfErr result (λ a. IsNotBuilt source.now a) }
 {

@@ -1,5 +1,6 @@
 //! Whether the blocks that `atomic` begins suffice for what a source's annotations require.
 ghost use Rattle.std.specs.Prelude.{◌≡◌, ◌≤◌, ◌<◌, true, length, IfOk, IfErr};
+ghost use Rattle.oc_lex.specs.Limits.{source_limit};
 ghost use Rattle.oc_tree.specs.View.{program_view};
 ghost use Rattle.oc_tree.specs.Form.{InForm};
 ghost use Rattle.oc_tree.specs.Nodes.{program_nodes};
@@ -34,10 +35,10 @@ use std::alloc::{AllocError, Global};
 /// The program that a source spells in the grammar with `atomic`, and the statements that `atomic`
 /// begins.
 fn program_with_blocks(alloc: Global, source: &[u8]) -> Result<(Program, Vec<StmtId>), Answer>
-    requires { length source.now ≤ 1048576 }
+    requires { length source.now ≤ source_limit }
     ensures spelled { IfOk result (λ r. SpellsBlocks source.now (program_view r.0) r.1.items) }
     ensures form { IfOk result (λ r. InForm IsName (program_view r.0)) }
-    ensures nodes { IfOk result (λ r. program_nodes (program_view r.0) ≤ 1048576) }
+    ensures nodes { IfOk result (λ r. program_nodes (program_view r.0) ≤ source_limit) }
     ensures refused { IfErr result (λ a. IsNotRead true source.now a) }
 {
     let tokens = tokens_of(alloc, source)?;
@@ -49,7 +50,7 @@ fn program_with_blocks(alloc: Global, source: &[u8]) -> Result<(Program, Vec<Stm
 
 /// The expansion of that program, where it breaks no rule.
 fn checked_with_blocks(alloc: Global, source: &[u8]) -> Result<(Checked, Vec<StmtId>), Answer>
-    requires { length source.now ≤ 1048576 }
+    requires { length source.now ≤ source_limit }
     ensures checked { IfOk result (λ r. IsCheckedOf source.now r.0 r.1.items) }
     ensures refused { IfErr result (λ a. IsNotRead true source.now a) }
 {
@@ -107,7 +108,7 @@ fn judge(alloc: Global, checked: &Checked, blocks: &[StmtId]) -> Result<(), Answ
 
 /// Whether the blocks of a source suffice.
 fn try_blocks(alloc: Global, source: &[u8]) -> Result<(), Answer>
-    requires { length source.now ≤ 1048576 }
+    requires { length source.now ≤ source_limit }
     ensures enough { IfOk result (λ _. AreEnough source.now) }
     ensures refused { IfErr result (λ a. IsNotSafe source.now a) }
 {
@@ -119,7 +120,7 @@ fn try_blocks(alloc: Global, source: &[u8]) -> Result<(), Answer>
 
 /// Writes `safe` where the blocks of a source suffice, or answers why they don't.
 pub fn check_source<O: Sink>(alloc: Global, source: &[u8], out: &mut O) -> Answer
-    requires { length source.now ≤ 1048576 }
+    requires { length source.now ≤ source_limit }
     ensures checked { IsChecked source.now (writes O.took O.held O.faults out.old out.new) result }
     ensures count { O.faults out.old ≤ O.faults out.new }
 {

@@ -1,5 +1,6 @@
 //! The drill: a run of files that are made in memory.
 ghost use Rattle.std.specs.Prelude.{◌≤◌, ◌≡◌, length, IfOk, option_map};
+ghost use Rattle.oc_lex.specs.Limits.{source_limit};
 ghost use Rattle.oc_power.specs.Choice.{first_with};
 ghost use Rattle.oc_top.specs.Answers.{drill_files, writes};
 ghost use Rattle.oc_top.specs.Drills.{IsAnswered, IsDrilled, IsDrilledWith, IsMeasured};
@@ -28,7 +29,7 @@ struct Measured {
 fn make_files(alloc: Global, turns: u32) -> Result<Fetched, AllocError>
     requires { turns ≤ 1000 }
     ensures files { IfOk result (λ f. bytes_of f ≡ drill_files turns) }
-    ensures within { IfOk result (λ f. length f.source.items ≤ 1048576) }
+    ensures within { IfOk result (λ f. length f.source.items ≤ source_limit) }
 {
     let source = source(alloc, turns)?;
     let sensors = sensors(alloc, turns)?;
@@ -47,7 +48,7 @@ fn run_files<O: Sink>(
     supply: &mut dyn Supply,
     out: &mut O,
 ) -> Answer
-    requires { length files.now.source.items ≤ 1048576 }
+    requires { length files.now.source.items ≤ source_limit }
     ensures { IsAnswered (bytes_of files.now) (plan supply.old)
         (writes O.took O.held O.faults out.old out.new) result }
 {
@@ -59,7 +60,7 @@ fn run_files<O: Sink>(
 
 /// Runs files over a sink that counts.
 fn measure(alloc: Global, files: &Fetched, supply: &mut dyn Supply) -> Result<Measured, Memory>
-    requires { length files.now.source.items ≤ 1048576 }
+    requires { length files.now.source.items ≤ source_limit }
     ensures { IfOk result
         (λ m. IsMeasured (bytes_of files.now) (plan supply.old) m.status m.lines m.bytes) }
 {

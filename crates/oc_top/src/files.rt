@@ -1,8 +1,9 @@
 //! Fetching files.
 ghost use Rattle.std.specs.Prelude.{◌+◌, ◌<◌, [], ◌∷◌, length, map, IfOk, IfErr, OnOk};
 ghost use Rattle.std.specs.String.{string_bytes};
+ghost use Rattle.oc_lex.specs.Limits.{source_limit};
 ghost use Rattle.oc_io.specs.Faults.{Rose};
-ghost use Rattle.oc_top.specs.Commands.{audit_limits, run_limits, source_limit, word_at};
+ghost use Rattle.oc_top.specs.Commands.{audit_limits, run_limits, word_at};
 ghost use Rattle.oc_top.specs.Files.{AreFiles, IsFile, IsRefused, NotFetched, ShelfStays, bytes_of, fetches, listed, names_of};
 
 use crate::answer::Answer;

@@ -1,6 +1,7 @@
 //! The bytes of a program's image.
 ghost use Rattle.std.specs.Prelude.{◌≤◌, length};
 ghost use Rattle.oc_isa.specs.Bytes.{IsSmall, image_bytes as bytes_of_image};
+ghost use Rattle.oc_lex.specs.Limits.{source_limit};
 ghost use Rattle.oc_top.specs.Answers.{IsWritten, writes};
 ghost use Rattle.oc_top.specs.Printed.{IsPrinted};
 ghost use Rattle.oc_top.specs.Verdict.{image_of, prints};
@@ -29,7 +30,7 @@ fn put_image<O: Sink>(image: &Image, out: &mut O) -> Answer
 
 /// Writes the bytes of the image of the program that a source spells, or answers why there is none.
 pub fn print_image<O: Sink>(alloc: Global, source: &[u8], out: &mut O) -> Answer
-    requires { length source.now ≤ 1048576 }
+    requires { length source.now ≤ source_limit }
     ensures printed { IsPrinted source.now image_of
         (writes O.took O.held O.faults out.old out.new) result }
     ensures count { O.faults out.old ≤ O.faults out.new }

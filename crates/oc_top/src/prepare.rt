@@ -1,5 +1,6 @@
 //! The steps before the first byte is written.
 ghost use Rattle.std.specs.Prelude.{◌≡◌, ◌≤◌, length, IfOk, IfErr};
+ghost use Rattle.oc_lex.specs.Limits.{source_limit};
 ghost use Rattle.oc_sensors.specs.File.{Explains, readings, sensor_file};
 ghost use Rattle.oc_top.specs.Files.{bytes_of};
 ghost use Rattle.oc_isa.specs.Run.{IsSound};
@@ -74,7 +75,7 @@ impl From<VerifyError> for Answer {
 
 /// The image of the program that a source spells.
 pub fn build(alloc: Global, source: &[u8]) -> Result<Image, Answer>
-    requires { length source.now ≤ 1048576 }
+    requires { length source.now ≤ source_limit }
     ensures built { IfOk result (λ i. IsBuilt source.now i) }
     ensures refused { IfErr result (λ a. IsNotBuilt source.now a) }
 {
@@ -118,7 +119,7 @@ fn set_up(
 
 /// The same with the image of the program that the source spells.
 pub fn prepare(alloc: Global, files: &Fetched, supply: &mut dyn Supply) -> Result<Prepared, Answer>
-    requires { length files.now.source.items ≤ 1048576 }
+    requires { length files.now.source.items ≤ source_limit }
     ensures ready { IfOk result
         (λ p. IsReady (bytes_of files.now) (plan supply.old) p.machine p.sensors
         (left supply.new)) }

@@ -3,6 +3,7 @@ ghost use Rattle.std.specs.Prelude.{◌≡◌, ◌≤◌, length, IfOk, IfErr};
 ghost use Rattle.oc_isa.specs.Listing.{listing_text};
 ghost use Rattle.oc_budget.specs.Budgets.{budgets as budgets_of};
 ghost use Rattle.oc_budget.specs.View.{budgets_view};
+ghost use Rattle.oc_lex.specs.Limits.{source_limit};
 ghost use Rattle.oc_top.specs.Answers.{IsWritten, writes};
 ghost use Rattle.oc_top.specs.Printed.{IsPrinted, Tells};
 ghost use Rattle.oc_top.specs.RegionDetails.{HasDetails};
@@ -33,7 +34,7 @@ pub struct Told {
 
 /// The regions of the program that a source spells, with their budgets.
 fn tell(alloc: Global, source: &[u8]) -> Result<Told, Answer>
-    requires { length source.now ≤ 1048576 }
+    requires { length source.now ≤ source_limit }
     ensures told { IfOk result (λ t. Tells source.now t) }
     ensures refused { IfErr result (λ a. IsNotBuilt source.now a) }
 {
@@ -88,7 +89,7 @@ fn put_listing<O: Sink>(image: &Image, out: &mut O) -> Answer
 
 /// Writes the regions of the program that a source spells, or answers why there is none.
 pub fn print_regions<O: Sink>(alloc: Global, source: &[u8], out: &mut O) -> Answer
-    requires { length source.now ≤ 1048576 }
+    requires { length source.now ≤ source_limit }
     ensures printed { IsPrinted source.now regions_of
         (writes O.took O.held O.faults out.old out.new) result }
     ensures count { O.faults out.old ≤ O.faults out.new }
@@ -102,7 +103,7 @@ pub fn print_regions<O: Sink>(alloc: Global, source: &[u8], out: &mut O) -> Answ
 /// Writes the listing of the image of the program that a source spells, or answers why there is
 /// none.
 pub fn print_listing<O: Sink>(alloc: Global, source: &[u8], out: &mut O) -> Answer
-    requires { length source.now ≤ 1048576 }
+    requires { length source.now ≤ source_limit }
     ensures printed { IsPrinted source.now listing_of
         (writes O.took O.held O.faults out.old out.new) result }
     ensures count { O.faults out.old ≤ O.faults out.new }

@@ -2,6 +2,7 @@
 -- such.
 use Rattle.std.specs.Prelude.{◌≡◌, ◌≤◌, ℕ, Bool, true, false, ◌&&◌, ◌==◌, List, All, Option, Some, None, count_by, find, nat_le}
 use Rattle.oc_lex.specs.Stands.{IsName}
+use Rattle.oc_lex.specs.Limits.{source_limit}
 use Rattle.oc_tree.specs.Names.{Text}
 use Rattle.oc_tree.specs.Tree.{TProgram}
 use Rattle.oc_tree.specs.Nodes.{program_nodes}
@@ -15,7 +16,7 @@ use Rattle.oc_tree.specs.Places.{block_of}
 -- no rule is broken.
 pub record IsWritten (p : TProgram) : Type 0 where
   pub form : InForm IsName p
-  pub few_nodes : program_nodes p ≤ 1048576
+  pub few_nodes : program_nodes p ≤ source_limit
   pub unbroken : broken p ≡ None
 
 -- ---- groups

@@ -1,5 +1,6 @@
 //! The first element of a program that breaks a rule.
 ghost use Rattle.std.specs.Prelude.{◌≡◌, ◌<◌, ◌≤◌, ◌^◌, [], ◌∷◌, false, None, Some, length, slice_get, IfOk};
+ghost use Rattle.oc_lex.specs.Limits.{source_limit};
 ghost use Rattle.oc_tree.specs.Nodes.{block_nodes, program_nodes};
 ghost use Rattle.oc_tree.specs.View.{block_view, function_view, program_view};
 ghost use Rattle.oc_tree.specs.Broken.{broken_element, end_rules, item_rules, lowest};
@@ -281,7 +282,7 @@ fn walk_program<'a>(alloc: Global, top: &TopLevel<'a>) -> Result<Option<Broken>,
 /// The first element in source order that breaks a rule, with the lowest rule that it breaks.
 #[tactic(auto, using(crate::proofs::InOrder::ends_broken))]
 pub fn first_broken(alloc: Global, program: &Program) -> Result<Option<Broken>, AllocError>
-    requires { program_nodes (program_view program.now) ≤ 1048576 }
+    requires { program_nodes (program_view program.now) ≤ source_limit }
     ensures { IfOk result (λ r. r ≡ broken_element (program_view program.now)) }
 {
     let top = TopLevel::new(alloc, program)?;

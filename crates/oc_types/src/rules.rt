@@ -1,5 +1,6 @@
 //! Programs that break no rule.
 ghost use Rattle.std.specs.Prelude.{◌≡◌, ◌≤◌, None, IfErr, IfOk};
+ghost use Rattle.oc_lex.specs.Limits.{source_limit};
 ghost use Rattle.oc_lex.specs.Stands.{IsName};
 ghost use Rattle.oc_tree.specs.Broken.{broken};
 ghost use Rattle.oc_tree.specs.Form.{InForm};
@@ -28,7 +29,7 @@ pub enum RuleError {
 /// The program, if it breaks no rule.
 pub fn check(alloc: Global, program: Program) -> Result<Written, RuleError>
     requires form { InForm IsName (program_view program) }
-    requires nodes { program_nodes (program_view program) ≤ 1048576 }
+    requires nodes { program_nodes (program_view program) ≤ source_limit }
     // What comes with Ok is the program, of which no rule is broken.
     ensures same { IfOk result (λ w. w ≡ program_view program) }
     ensures unbroken { IfOk result (λ w. broken (program_view program) ≡ None) }

@@ -1,6 +1,7 @@
 //! The rules on weight and stack, which are looked at where no element is broken.
 ghost use Rattle.std.specs.Prelude.{◌≡◌, ◌≤◌, codes, length, map, nat_lt, None, IfOk};
 ghost use Rattle.std.specs.List.{list_any};
+ghost use Rattle.oc_lex.specs.Limits.{source_limit};
 ghost use Rattle.oc_lex.specs.Stands.{IsName};
 ghost use Rattle.oc_tree.specs.Broken.{broken, broken_element, lowest, or_later, size_rules};
 ghost use Rattle.oc_tree.specs.Calls.{function_place};
@@ -97,7 +98,7 @@ fn broken_size(alloc: Global, program: &Program) -> Result<Option<Broken>, Alloc
 /// there is none, the last line with the lower of the rules on weight and stack that is broken.
 pub fn broken(alloc: Global, program: &Program) -> Result<Option<Broken>, AllocError>
     requires form { InForm IsName (program_view program.now) }
-    requires nodes { program_nodes (program_view program.now) ≤ 1048576 }
+    requires nodes { program_nodes (program_view program.now) ≤ source_limit }
     ensures { IfOk result (λ r. r ≡ broken (program_view program.now)) }
 {
     match first_broken(alloc, program)? {

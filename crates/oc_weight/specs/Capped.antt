@@ -1,5 +1,8 @@
 -- Numbers that stop one past the greatest weight that is allowed.
 use Rattle.std.specs.Prelude.{ℕ, min}
 
+abbrev pub weight_cap : ℕ
+weight_cap = 4294967297
+
 abbrev pub capped : ℕ → ℕ
-capped n = min n 4294967297
+capped n = min n weight_cap

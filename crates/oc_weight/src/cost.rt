@@ -5,17 +5,17 @@ ghost use Rattle.oc_tree.specs.Calls.{function_names};
 ghost use Rattle.oc_tree.specs.Weight.{arg_cost, args_cost, binary_cost, block_cost, call_cost, else_cost, expr_cost, function_cost, has_result, kind_cost, known_of, result_at, right_cost, turns};
 ghost use Rattle.std.specs.Prelude.{Option};
 ghost use Rattle.oc_tree.specs.declared.tree.BinaryOp.{BinaryOp};
-ghost use Rattle.oc_weight.specs.Capped.{capped};
+ghost use Rattle.oc_weight.specs.Capped.{capped, weight_cap};
 
 use crate::caps::{cap, greater, plus, times};
 use oc_reach::table::{Table, result_at};
 use oc_tree::tree::{Arg, BinaryOp, Block, Call, Expr, Function, Right, StmtKind};
 
 fn binary_cost(op: BinaryOp, a: u64, b: u64) -> u64
-    requires a { a ≤ 4294967297 }
-    requires b { b ≤ 4294967297 }
+    requires a { a ≤ weight_cap }
+    requires b { b ≤ weight_cap }
     ensures cost { result ≡ capped (binary_cost op a b) }
-    ensures small { result ≤ 4294967297 }
+    ensures small { result ≤ weight_cap }
 {
     match op {
         BinaryOp::And => plus(plus(a, b), 2),
@@ -37,7 +37,7 @@ fn binary_cost(op: BinaryOp, a: u64, b: u64) -> u64
 #[tactic(auto, using(crate::proofs::CappedLaws::binary_capped))]
 fn expr_cost(expr: &Expr) -> u64
     ensures cost { result ≡ capped (expr_cost (expr_view expr.now)) }
-    ensures small { result ≤ 4294967297 }
+    ensures small { result ≤ weight_cap }
 {
     match expr {
         Expr::Number { .. } | Expr::Truth { .. } | Expr::Variable { .. } => 1,
@@ -51,7 +51,7 @@ fn expr_cost(expr: &Expr) -> u64
 
 fn arg_cost(arg: &Arg) -> u64
     ensures cost { result ≡ capped (arg_cost (arg_view arg.now)) }
-    ensures small { result ≤ 4294967297 }
+    ensures small { result ≤ weight_cap }
 {
     match arg {
         Arg::Value { value } => expr_cost(value),
@@ -61,7 +61,7 @@ fn arg_cost(arg: &Arg) -> u64
 
 fn args_cost(args: &[Arg]) -> u64
     ensures cost { result ≡ capped (args_cost (args_view args.now)) }
-    ensures small { result ≤ 4294967297 }
+    ensures small { result ≤ weight_cap }
 {
     let mut cost = 0;
     for arg in args {
@@ -73,7 +73,7 @@ fn args_cost(args: &[Arg]) -> u64
 /// What is known of the function at a place.
 pub fn known_of(weights: &[u64], place: Option<usize>) -> u64
     ensures known { result ≡ capped (known_of weights.now place) }
-    ensures small { result ≤ 4294967297 }
+    ensures small { result ≤ weight_cap }
 {
     match place {
         Some(place) => {
@@ -91,7 +91,7 @@ fn call_cost(functions: &[Function], table: &Table, weights: &[u64], call: &Call
     requires { table.now ≡ function_names (map function_view functions.now) }
     ensures cost { result
         ≡ capped (call_cost (map function_view functions.now) weights.now (call_view call.now)) }
-    ensures small { result ≤ 4294967297 }
+    ensures small { result ≤ weight_cap }
 {
     plus(
         plus(args_cost(call.args.as_slice()), 1),
@@ -103,7 +103,7 @@ fn right_cost(functions: &[Function], table: &Table, weights: &[u64], right: &Ri
     requires { table.now ≡ function_names (map function_view functions.now) }
     ensures cost { result
         ≡ capped (right_cost (map function_view functions.now) weights.now (right_view right.now)) }
-    ensures small { result ≤ 4294967297 }
+    ensures small { result ≤ weight_cap }
 {
     match right {
         Right::Value { value } => expr_cost(value),
@@ -132,7 +132,7 @@ pub fn block_cost(functions: &[Function], table: &Table, weights: &[u64], block:
     requires { table.now ≡ function_names (map function_view functions.now) }
     ensures cost { result
         ≡ capped (block_cost (map function_view functions.now) weights.now (block_view block.now)) }
-    ensures small { result ≤ 4294967297 }
+    ensures small { result ≤ weight_cap }
 {
     let mut cost = 0;
     for statement in &block.statements {
@@ -151,11 +151,11 @@ fn else_cost(
     otherwise: &Option<Block>,
 ) -> u64
     requires table { table.now ≡ function_names (map function_view functions.now) }
-    requires small { then ≤ 4294967297 }
+    requires small { then ≤ weight_cap }
     ensures cost { result
         ≡ capped (else_cost (map function_view functions.now) weights.now then
         (else_view otherwise.now)) }
-    ensures small { result ≤ 4294967297 }
+    ensures small { result ≤ weight_cap }
 {
     match otherwise {
         Some(block) => greater(plus(then, 1), block_cost(functions, table, weights, block)),
@@ -169,7 +169,7 @@ fn kind_cost(functions: &[Function], table: &Table, weights: &[u64], kind: &Stmt
     requires { table.now ≡ function_names (map function_view functions.now) }
     ensures cost { result
         ≡ capped (kind_cost (map function_view functions.now) weights.now (kind_view kind.now)) }
-    ensures small { result ≤ 4294967297 }
+    ensures small { result ≤ weight_cap }
 {
     match kind {
         StmtKind::Let { right, .. } | StmtKind::Assign { right, .. } => {
@@ -240,7 +240,7 @@ pub fn function_cost(
     ensures cost { result
         ≡ capped
         (function_cost (map function_view functions.now) weights.now (function_view function.now)) }
-    ensures small { result ≤ 4294967297 }
+    ensures small { result ≤ weight_cap }
 {
     let returns = if function.result.is_some() { 0 } else { 1 };
     plus(

@@ -5,7 +5,7 @@ ghost use Rattle.oc_tree.specs.View.{arg_view, args_view, block_view, call_view,
 ghost use Rattle.oc_tree.specs.declared.tree.BinaryOp.{BinaryOp};
 ghost use Rattle.oc_tree.specs.Calls.{function_names};
 ghost use Rattle.oc_tree.specs.Stack.{arg_depth, args_depth, binary_depth, block_depth, block_slots, call_depth, else_depth, else_slots, expr_depth, frame, function_stack, kind_depth, kind_slots, link_words, right_depth};
-ghost use Rattle.oc_weight.specs.Capped.{capped};
+ghost use Rattle.oc_weight.specs.Capped.{capped, weight_cap};
 
 use crate::caps::{cap, greater, plus};
 use crate::cost::known_of;
@@ -15,7 +15,7 @@ use oc_tree::tree::{Arg, BinaryOp, Block, Call, Expr, Function, Right, StmtKind}
 #[cycle(slots)]
 fn kind_slots(kind: &StmtKind) -> u64
     ensures slots { result ≡ capped (kind_slots (kind_view kind.now)) }
-    ensures small { result ≤ 4294967297 }
+    ensures small { result ≤ weight_cap }
 {
     match kind {
         StmtKind::Let { .. } => 1,
@@ -33,7 +33,7 @@ fn kind_slots(kind: &StmtKind) -> u64
 #[cycle(slots)]
 fn else_slots(otherwise: &Option<Block>) -> u64
     ensures slots { result ≡ capped (else_slots (else_view otherwise.now)) }
-    ensures small { result ≤ 4294967297 }
+    ensures small { result ≤ weight_cap }
 {
     match otherwise {
         Some(block) => block_slots(block),
@@ -44,7 +44,7 @@ fn else_slots(otherwise: &Option<Block>) -> u64
 #[cycle(slots)]
 fn block_slots(block: &Block) -> u64
     ensures slots { result ≡ capped (block_slots (block_view block.now)) }
-    ensures small { result ≤ 4294967297 }
+    ensures small { result ≤ weight_cap }
 {
     let mut slots = 0;
     for statement in &block.statements {
@@ -65,7 +65,7 @@ fn link_words(function: &Function) -> u64
 
 fn frame(function: &Function) -> u64
     ensures frame { result ≡ capped (frame (function_view function.now)) }
-    ensures small { result ≤ 4294967297 }
+    ensures small { result ≤ weight_cap }
 {
     let params = cap(function.params.len() as u64);
     plus(
@@ -75,10 +75,10 @@ fn frame(function: &Function) -> u64
 }
 
 fn binary_depth(op: BinaryOp, a: u64, b: u64) -> u64
-    requires a { a ≤ 4294967297 }
-    requires b { b ≤ 4294967297 }
+    requires a { a ≤ weight_cap }
+    requires b { b ≤ weight_cap }
     ensures depth { result ≡ capped (binary_depth op a b) }
-    ensures small { result ≤ 4294967297 }
+    ensures small { result ≤ weight_cap }
 {
     match op {
         BinaryOp::And | BinaryOp::Or => greater(a, b),
@@ -99,7 +99,7 @@ fn binary_depth(op: BinaryOp, a: u64, b: u64) -> u64
 #[tactic(auto, using(crate::proofs::StackLaws::binary_capped))]
 fn expr_depth(expr: &Expr) -> u64
     ensures depth { result ≡ capped (expr_depth (expr_view expr.now)) }
-    ensures small { result ≤ 4294967297 }
+    ensures small { result ≤ weight_cap }
 {
     match expr {
         Expr::Number { .. }
@@ -116,7 +116,7 @@ fn expr_depth(expr: &Expr) -> u64
 
 fn arg_depth(arg: &Arg) -> u64
     ensures depth { result ≡ capped (arg_depth (arg_view arg.now)) }
-    ensures small { result ≤ 4294967297 }
+    ensures small { result ≤ weight_cap }
 {
     match arg {
         Arg::Value { value } => expr_depth(value),
@@ -127,7 +127,7 @@ fn arg_depth(arg: &Arg) -> u64
 // Each argument waits for those behind it.
 fn args_depth(args: &[Arg]) -> u64
     ensures depth { result ≡ capped (args_depth (args_view args.now)) }
-    ensures small { result ≤ 4294967297 }
+    ensures small { result ≤ weight_cap }
 {
     let mut depth = 0;
     let mut waiting = 0;
@@ -142,7 +142,7 @@ fn call_depth(functions: &[Function], table: &Table, stacks: &[u64], call: &Call
     requires { table.now ≡ function_names (map function_view functions.now) }
     ensures depth { result
         ≡ capped (call_depth (map function_view functions.now) stacks.now (call_view call.now)) }
-    ensures small { result ≤ 4294967297 }
+    ensures small { result ≤ weight_cap }
 {
     let callee = known_of(stacks, table.place(&call.function));
     greater(1, greater(args_depth(call.args.as_slice()), callee))
@@ -152,7 +152,7 @@ fn right_depth(functions: &[Function], table: &Table, stacks: &[u64], right: &Ri
     requires { table.now ≡ function_names (map function_view functions.now) }
     ensures depth { result
         ≡ capped (right_depth (map function_view functions.now) stacks.now (right_view right.now)) }
-    ensures small { result ≤ 4294967297 }
+    ensures small { result ≤ weight_cap }
 {
     match right {
         Right::Value { value } => expr_depth(value),
@@ -172,7 +172,7 @@ fn else_depth(
     ensures depth { result
         ≡ capped
         (else_depth (map function_view functions.now) stacks.now (else_view otherwise.now)) }
-    ensures small { result ≤ 4294967297 }
+    ensures small { result ≤ weight_cap }
 {
     match otherwise {
         Some(block) => block_depth(functions, table, stacks, block),
@@ -185,7 +185,7 @@ fn kind_depth(functions: &[Function], table: &Table, stacks: &[u64], kind: &Stmt
     requires { table.now ≡ function_names (map function_view functions.now) }
     ensures depth { result
         ≡ capped (kind_depth (map function_view functions.now) stacks.now (kind_view kind.now)) }
-    ensures small { result ≤ 4294967297 }
+    ensures small { result ≤ weight_cap }
 {
     match kind {
         StmtKind::Let { right, .. } | StmtKind::Assign { right, .. } => right_depth(
@@ -238,7 +238,7 @@ fn block_depth(functions: &[Function], table: &Table, stacks: &[u64], block: &Bl
     requires { table.now ≡ function_names (map function_view functions.now) }
     ensures depth { result
         ≡ capped (block_depth (map function_view functions.now) stacks.now (block_view block.now)) }
-    ensures small { result ≤ 4294967297 }
+    ensures small { result ≤ weight_cap }
 {
     let mut depth = 0;
     for statement in &block.statements {
@@ -258,7 +258,7 @@ pub fn function_stack(
     ensures stack { result
         ≡ capped
         (function_stack (map function_view functions.now) stacks.now (function_view function.now)) }
-    ensures small { result ≤ 4294967297 }
+    ensures small { result ≤ weight_cap }
 {
     plus(
         frame(function),

@@ -2,6 +2,7 @@
 #![tactic(auto)]
 
 ghost use Rattle.std.specs.Prelude.{◌≤◌, length};
+ghost use Rattle.oc_lex.specs.Limits.{source_limit};
 
 use oc_desugar::expand;
 use oc_lex::lex;
@@ -13,7 +14,7 @@ use std::alloc::Global;
 /// The checked program of a source of at most 1 MiB; what refuses the source, or want of memory, is
 /// the error.
 pub fn checked(alloc: Global, source: &[u8]) -> anyhow::Result<Checked>
-    requires { length source.now ≤ 1048576 }
+    requires { length source.now ≤ source_limit }
 {
     let tokens = lex(alloc, source)?;
     let program = parse(alloc, source, tokens.as_slice())?;

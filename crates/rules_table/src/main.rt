@@ -3,6 +3,7 @@
 #![tactic(auto)]
 
 ghost use Rattle.std.specs.Prelude.{◌≤◌, length};
+ghost use Rattle.oc_lex.specs.Limits.{source_limit};
 
 mod sources;
 
@@ -18,7 +19,7 @@ use std::io;
 
 /// The line and the number of the rule that a source breaks.
 fn broken(alloc: Global, source: &[u8]) -> anyhow::Result<Option<(u32, u8)>>
-    requires { length source.now ≤ 1048576 }
+    requires { length source.now ≤ source_limit }
 {
     let tokens = lex(alloc, source)?;
     let program = parse(alloc, source, tokens.as_slice())?;

@@ -1,7 +1,7 @@
 use Rattle.std.proofs.Common.{arith, map, [], ◌∷◌}
 use Rattle.std.specs.String.{string_bytes}
 use Rattle.std.proofs.lemmas.Result.{err_from_is_err_and}
-use Rattle.oc_top.specs.Commands.{source_limit}
+use Rattle.oc_lex.specs.Limits.{source_limit}
 use Rattle.oc_top.specs.Files.{fetches}
 use Rattle.oc_top.proofs.Fetching.{first_asked, first_refused, one_file}
 use Rattle.oc_top.proofs.files.fetch_source.Goals as goal

@@ -1,7 +1,7 @@
 //! What an audit finds in some reports.
 #![tactic(auto)]
 
-ghost use Rattle.std.specs.Prelude.{◌≡◌, ◌≤◌, [], length, map, IfOk};
+ghost use Rattle.std.specs.Prelude.{◌≡◌, [], map, IfOk};
 ghost use Rattle.oc_needs.specs.Requirements.{requirements};
 ghost use Rattle.oc_needs.specs.View.{requirement_view};
 

@@ -1,8 +1,6 @@
 //! What some programs say over lists of samples, with the samples on which each event depends.
 #![tactic(auto)]
 
-ghost use Rattle.std.specs.Prelude.{◌≤◌, length};
-
 mod sources;
 
 use oc_io::sink::Sink;

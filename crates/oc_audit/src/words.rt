@@ -1,5 +1,5 @@
 //! The line of a nonvolatile variable, read back.
-ghost use Rattle.std.specs.Prelude.{◌≡◌, ◌<◌, ◌++◌, true, length, IfOk, IfSome, IfNone};
+ghost use Rattle.std.specs.Prelude.{◌≡◌, ◌<◌, ◌++◌, true, IfOk, IfSome, IfNone};
 ghost use Rattle.oc_items.specs.Reading.{has_no_space};
 ghost use Rattle.oc_audit.specs.Words.{IsTail, IsNext, HasNoNext, GivesWords};
 

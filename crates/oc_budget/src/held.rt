@@ -2,7 +2,7 @@
 ghost use Rattle.std.specs.Prelude.{◌≡◌, cond};
 ghost use Rattle.oc_tree.specs.Marked.{is_in_region};
 ghost use Rattle.oc_tree.specs.Regions.{region_view};
-ghost use Rattle.oc_tree.specs.View.{block_view, else_view, function_view, kind_view};
+ghost use Rattle.oc_tree.specs.View.{block_view, else_view, kind_view};
 ghost use Rattle.oc_budget.specs.Budgets.{held_cost};
 ghost use Rattle.oc_budget.specs.Costs.{costs};
 ghost use Rattle.oc_budget.specs.Fitting.{IsFitted};

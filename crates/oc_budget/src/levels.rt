@@ -2,7 +2,6 @@
 ghost use Rattle.std.specs.Prelude.{◌≡◌, ◌<◌, ℕ, map, IfOk};
 ghost use Rattle.std.proofs.Math.ListN.{get_or};
 ghost use Rattle.oc_tree.specs.Marked.{IsMarked};
-ghost use Rattle.oc_tree.specs.View.{function_view};
 ghost use Rattle.oc_budget.specs.Costs.{costs, is_use};
 ghost use Rattle.oc_tree.specs.Costs.{function_cost};
 

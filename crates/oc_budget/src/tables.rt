@@ -1,5 +1,5 @@
 //! Tables of statements by their numbers.
-ghost use Rattle.std.specs.Prelude.{◌≡◌, ◌||◌, ◌≤◌, ◌<◌, ◌+◌, ℕ, false, length, nat_eq, OnOk};
+ghost use Rattle.std.specs.Prelude.{◌≡◌, ◌||◌, ◌<◌, ℕ, false, length, nat_eq, OnOk};
 ghost use Rattle.std.proofs.Math.ListN.{get_or};
 
 use oc_tree::tree::StmtId;

@@ -1,6 +1,6 @@
 //! The cost of a tree, where the costs of the functions that it calls are known.
 ghost use Rattle.std.specs.Prelude.{◌≡◌};
-ghost use Rattle.oc_tree.specs.View.{block_view, call_view, else_view, expr_view, function_view, kind_view, right_view};
+ghost use Rattle.oc_tree.specs.View.{block_view, call_view, else_view, function_view, kind_view, right_view};
 ghost use Rattle.oc_tree.specs.Weight.{call_cost, known_of, right_cost, turns};
 ghost use Rattle.oc_budget.specs.Costs.{is_use};
 ghost use Rattle.oc_budget.specs.Fitting.{IsFitted};

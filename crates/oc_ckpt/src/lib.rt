@@ -1,7 +1,7 @@
 //! The area where registers and the stack are saved, with its one state word.
 #![tactic(auto)]
 
-ghost use Rattle.std.specs.Prelude.{◌≡◌, ℕ, ◌+◌, ◌<◌, ◌≤◌, pos, List, length, replicate, slice_index_or, slice_set, IfOk};
+ghost use Rattle.std.specs.Prelude.{◌≡◌, ◌+◌, ◌<◌, ◌≤◌, pos, length, replicate, slice_index_or, slice_set, IfOk};
 ghost use Rattle.oc_ckpt.specs.Saving.{saved_words, save_all};
 
 use oc_io::Memory;

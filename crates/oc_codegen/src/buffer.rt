@@ -1,6 +1,6 @@
 //! Code as it is written.
-ghost use Rattle.std.specs.Prelude.{◌≡◌, ◌<◌, ◌++◌, ◌∷◌, [], length, slice_set, OnOk, IfOk};
-ghost use Rattle.oc_isa.specs.declared.instr.Instr.TheVariants.{Jump, Jfalse};
+ghost use Rattle.std.specs.Prelude.{◌≡◌, ◌<◌, ◌++◌, [], length, slice_set, OnOk, IfOk};
+ghost use Rattle.oc_isa.specs.declared.instr.Instr.TheVariants.{Jfalse};
 ghost use Rattle.oc_code.specs.Forms.{placed, one};
 
 use oc_isa::instr::{Instr, Placed};

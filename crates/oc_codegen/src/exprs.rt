@@ -1,5 +1,5 @@
 //! The code of expressions.
-ghost use Rattle.std.specs.Prelude.{◌≡◌, ◌<◌, pos, ◌+◌, ◌++◌, ◌∷◌, [], length, slice_set, OnOk, IfOk};
+ghost use Rattle.std.specs.Prelude.{◌≡◌, ◌<◌, pos, ◌+◌, ◌++◌, ◌∷◌, length, slice_set, OnOk, IfOk};
 ghost use Rattle.oc_tree.specs.Word.{truth};
 ghost use Rattle.oc_tree.specs.View.{arg_view, args_view, expr_view};
 ghost use Rattle.oc_isa.specs.declared.instr.Instr.TheVariants.{Push, Jump, Jfalse};

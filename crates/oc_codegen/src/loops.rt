@@ -1,8 +1,8 @@
 //! The code of loops around their turns.
-ghost use Rattle.std.specs.Prelude.{◌≡◌, ◌<◌, ◌+◌, ◌++◌, ◌∷◌, [], pos, length, slice_set, OnOk, IfOk};
+ghost use Rattle.std.specs.Prelude.{◌≡◌, ◌<◌, ◌+◌, ◌++◌, ◌∷◌, length, slice_set, OnOk, IfOk};
 ghost use Rattle.oc_isa.specs.declared.instr.BinOp.TheVariants.{Lt};
 ghost use Rattle.oc_isa.specs.declared.instr.Instr.TheVariants.{Push, Load, Store, Bin, Jfalse};
-ghost use Rattle.oc_code.specs.Forms.{placed, one, again_code, below_code, fill_code, array_code};
+ghost use Rattle.oc_code.specs.Forms.{placed, again_code, below_code, fill_code, array_code};
 
 use crate::buffer::Buffer;
 use oc_isa::instr::{BinOp, Instr};

@@ -1,15 +1,14 @@
 //! The code of a whole program.
-ghost use Rattle.std.specs.Prelude.{◌≡◌, ◌≤◌, ◌+◌, ◌++◌, ◌∷◌, [], codes, map, length, sum_by, OnOk, IfOk};
+ghost use Rattle.std.specs.Prelude.{◌≡◌, ◌≤◌, ◌+◌, ◌++◌, [], codes, map, length, sum_by, OnOk, IfOk};
 ghost use Rattle.std.specs.List.{All};
 ghost use Rattle.oc_tree.specs.Calls.{function_place};
-ghost use Rattle.oc_tree.specs.Names.{names_view};
 ghost use Rattle.oc_tree.specs.Regions.{region_view};
 ghost use Rattle.oc_tree.specs.Stack.{frame, link_words, stacks_to};
 ghost use Rattle.oc_tree.specs.View.{function_view, program_view};
 ghost use Rattle.oc_tree.specs.Weight.{known_of};
 ghost use Rattle.oc_isa.specs.Image.{parts_of};
 ghost use Rattle.oc_code.specs.Scope.{kind_words, nv_scope, param_slot, params_scope, may_write};
-ghost use Rattle.oc_code.specs.Code.{block_code, close_code, code_of, functions_code, image_functions, image_nv};
+ghost use Rattle.oc_code.specs.Code.{block_code, close_code, code_of, image_nv};
 ghost use Rattle.oc_code.specs.Formed.{IsFormed};
 ghost use Rattle.oc_codegen.specs.Room.{HasRoom};
 ghost use Rattle.oc_codegen.specs.Small.{IsSmall};

@@ -1,5 +1,5 @@
 //! What is around the statements of a function.
-ghost use Rattle.std.specs.Prelude.{◌≡◌, ◌≤◌, ◌<◌, List, map, length, IfOk};
+ghost use Rattle.std.specs.Prelude.{◌≡◌, ◌≤◌, ◌<◌, map, length, IfOk};
 ghost use Rattle.oc_tree.specs.Names.{names_view};
 ghost use Rattle.oc_tree.specs.View.{function_view};
 ghost use Rattle.oc_tree.specs.Regions.{region_view};

@@ -1,5 +1,5 @@
 //! The code of statements without statements inside.
-ghost use Rattle.std.specs.Prelude.{◌≡◌, ◌<◌, if◌then◌else◌, ◌+◌, ◌++◌, ◌∷◌, [], length, Option, OnOk, IfOk};
+ghost use Rattle.std.specs.Prelude.{◌≡◌, ◌<◌, if◌then◌else◌, ◌+◌, ◌++◌, ◌∷◌, [], length, Option, OnOk};
 ghost use Rattle.oc_tree.specs.View.{call_view, expr_view, kind_view, right_view, stmts_view};
 ghost use Rattle.oc_tree.specs.Stack.{kind_slots};
 ghost use Rattle.oc_tree.specs.Tree.{return};
@@ -9,7 +9,7 @@ ghost use Rattle.oc_meaning.specs.Exec.{ended_by, number_in};
 ghost use Rattle.oc_meaning.specs.Uses.{begins_use, ends_use, is_use};
 ghost use Rattle.oc_code.specs.Scope.{in_scope, is_fresh_in, slot_of};
 ghost use Rattle.oc_code.specs.Forms.{placed, one, enter_code, commit_code, probe_code, write_code, expr_code};
-ghost use Rattle.oc_code.specs.Code.{called_name, has_result, call_code, right_code, element_code, return_code, test_code, before_code, after_code, last_code, first_code};
+ghost use Rattle.oc_code.specs.Code.{called_name, has_result, call_code, right_code, element_code, return_code, after_code, last_code, first_code};
 ghost use Rattle.oc_codegen.specs.Room.{HasRoom};
 
 use crate::buffer::Buffer;

@@ -1,11 +1,11 @@
 //! The code of statements.
-ghost use Rattle.std.specs.Prelude.{◌≡◌, ◌<◌, ◌+◌, ◌++◌, ◌∷◌, [], length, slice_set, OnOk, IfOk};
-ghost use Rattle.oc_tree.specs.Tree.{if_else, for_in, while_do};
-ghost use Rattle.oc_tree.specs.View.{block_view, else_view, expr_view, kind_view, stmts_view};
+ghost use Rattle.std.specs.Prelude.{◌≡◌, ◌<◌, ◌+◌, ◌++◌, length, slice_set, OnOk, IfOk};
+ghost use Rattle.oc_tree.specs.Tree.{for_in};
+ghost use Rattle.oc_tree.specs.View.{block_view, kind_view, stmts_view};
 ghost use Rattle.oc_isa.specs.declared.instr.Instr.TheVariants.{Jump, Jfalse};
 ghost use Rattle.oc_meaning.specs.Uses.{is_use};
 ghost use Rattle.oc_code.specs.Forms.{placed, one};
-ghost use Rattle.oc_code.specs.Scope.{in_scope, is_fresh_in};
+ghost use Rattle.oc_code.specs.Scope.{in_scope};
 ghost use Rattle.oc_tree.specs.Stack.{block_slots, kind_slots};
 ghost use Rattle.oc_code.specs.Code.{block_code, first_code, kind_code, whole_code};
 ghost use Rattle.oc_codegen.specs.Room.{HasRoom};

@@ -1,5 +1,5 @@
 //! Uses of fresh variables.
-ghost use Rattle.std.specs.Prelude.{◌≡◌, Bool};
+ghost use Rattle.std.specs.Prelude.{◌≡◌};
 ghost use Rattle.std.specs.List.{list_any};
 ghost use Rattle.oc_tree.specs.View.{arg_view, args_view, call_view, expr_view, kind_view, right_view};
 ghost use Rattle.oc_meaning.specs.Uses.{arg_names, args_names, call_names, expr_names, right_names, is_use};

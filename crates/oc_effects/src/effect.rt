@@ -1,5 +1,4 @@
 //! The effects of statements.
-ghost use Rattle.std.specs.Prelude.{◌≡◌};
 
 use oc_tree::tree::{BlockId, StmtId, VarId};
 use std::marker::Model;

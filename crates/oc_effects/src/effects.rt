@@ -1,11 +1,11 @@
 //! The effects of a program's statements.
-ghost use Rattle.std.specs.Prelude.{◌≡◌, ◌<◌, ◌≤◌, ◌^◌, ◌+◌, ◌++◌, All, map, length, find, nat_eq, option_map, slice_range, OnOk, IfOk};
+ghost use Rattle.std.specs.Prelude.{◌≡◌, ◌<◌, ◌≤◌, ◌^◌, ◌+◌, ◌++◌, All, map, length, find, option_map, slice_range, OnOk, IfOk};
 ghost use Rattle.std.proofs.Math.ListN.{get_or};
 ghost use Rattle.oc_tree.specs.Numbers.{numbers_on};
 ghost use Rattle.oc_tree.specs.Marked.{is_in_region};
 ghost use Rattle.oc_tree.specs.Places.{block_of, param_variables, placed};
 ghost use Rattle.oc_tree.specs.Regions.{region_view};
-ghost use Rattle.oc_tree.specs.View.{function_view, program_view};
+ghost use Rattle.oc_tree.specs.View.{function_view};
 ghost use Rattle.oc_effects.specs.Effects.{effect_of, effects_at, function_effects, is_numbered};
 ghost use Rattle.oc_effects.specs.Flat.{all_effects, starts_from};
 ghost use Rattle.oc_effects.specs.View.{effect_view, effect_seen};

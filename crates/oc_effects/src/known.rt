@@ -1,5 +1,5 @@
 //! What is known of a program at all statements.
-ghost use Rattle.std.specs.Prelude.{◌≡◌, ◌<◌, ◌^◌, map, length, IfOk, IfSome};
+ghost use Rattle.std.specs.Prelude.{◌≡◌, ◌<◌, ◌^◌, length, IfOk, IfSome};
 ghost use Rattle.oc_tree.specs.View.{program_view};
 ghost use Rattle.oc_tree.specs.Calls.{function_place};
 ghost use Rattle.oc_tree.specs.Places.{nv_variable};
@@ -36,7 +36,6 @@ impl<'a> Model for Known<'a> {
     ghost use Rattle.oc_tree.specs.Stored.{block_code};
     ghost use Rattle.oc_tree.specs.Tree.{TProgram};
     ghost use Rattle.oc_tree.specs.View.{program_view};
-    ghost use Rattle.oc_tree.specs.Calls.{function_names};
     ghost use Rattle.oc_effects.specs.Known.{KnownTables};
 
     ghost Value = { TProgram };

@@ -1,6 +1,6 @@
 //! What a statement sets and what it says of variables.
 ghost use Rattle.std.specs.Prelude.{◌≡◌};
-ghost use Rattle.oc_tree.specs.View.{kind_view, right_view};
+ghost use Rattle.oc_tree.specs.View.{kind_view};
 ghost use Rattle.oc_tree.specs.Places.{declares};
 ghost use Rattle.oc_effects.specs.Effects.{is_loop, is_sense, note_of, right_of, target_of};
 ghost use Rattle.oc_effects.specs.Walk.{placed_view, right_seen};

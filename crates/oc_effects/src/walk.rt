@@ -1,5 +1,5 @@
 //! The effects of all statements of a block.
-ghost use Rattle.std.specs.Prelude.{◌≡◌, ◌∷◌, ◌++◌, [], map, OnOk, IfOk};
+ghost use Rattle.std.specs.Prelude.{◌≡◌, ◌∷◌, ◌++◌, map, OnOk, IfOk};
 ghost use Rattle.oc_tree.specs.View.{block_view, kind_view, stmt_view};
 ghost use Rattle.oc_effects.specs.Effects.{effect_of};
 ghost use Rattle.oc_effects.specs.View.{effect_view};

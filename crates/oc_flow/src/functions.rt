@@ -1,15 +1,13 @@
 //! What is known of all functions, callees first.
-ghost use Rattle.std.specs.Prelude.{◌≡◌, ◌<◌, ◌++◌, ◌≤◌, ◌^◌, ℕ, List, [], map, length, Option, None, Some, true, is_some, replicate, OnOk, IfOk};
+ghost use Rattle.std.specs.Prelude.{◌≡◌, ◌<◌, ◌++◌, ℕ, map, length, Option, None, Some, true, is_some, replicate, OnOk, IfOk};
 ghost use Rattle.oc_tree.specs.declared.tree.VarId.{VarId};
 ghost use Rattle.oc_tree.specs.declared.tree.VarId.TheVariants.{Nv, Param};
 ghost use Rattle.std.specs.List.{list_all};
-ghost use Rattle.oc_tree.specs.Tree.{TProgram};
-ghost use Rattle.oc_tree.specs.Checked.{TChecked, IsChecked};
-ghost use Rattle.oc_effects.specs.Effects.{TEffect, effects_at, params_at};
+ghost use Rattle.oc_effects.specs.Effects.{effects_at, params_at};
 ghost use Rattle.oc_effects.specs.View.{effect_view};
 ghost use Rattle.oc_flow.specs.Variables.{from};
 ghost use Rattle.oc_flow.specs.Flow.{chain};
-ghost use Rattle.oc_flow.specs.Known.{Below, KnownBy, Learns, LearnsAll, Links, Right, declared_of, is_ready, known_at, outer_of, some_leads};
+ghost use Rattle.oc_flow.specs.Known.{KnownBy, Learns, LearnsAll, Links, Right, declared_of, is_ready, known_at, outer_of, some_leads};
 
 use crate::inputs::received;
 use crate::known::Known;

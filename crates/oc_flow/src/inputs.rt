@@ -1,5 +1,5 @@
 //! Which statements of a function bring input, and which of its variables receive it.
-ghost use Rattle.std.specs.Prelude.{◌≡◌, ◌<◌, ◌&&◌, ◌||◌, ℕ, List, [], map, filter, Option, Some, IfOk};
+ghost use Rattle.std.specs.Prelude.{◌≡◌, ◌<◌, ◌&&◌, map, filter, Option, Some, IfOk};
 ghost use Rattle.std.specs.List.{list_any};
 ghost use Rattle.oc_tree.specs.declared.tree.VarId.{VarId};
 ghost use Rattle.oc_effects.specs.View.{called_view, effect_view};

@@ -1,8 +1,7 @@
 //! What is known of a function.
-ghost use Rattle.std.specs.Prelude.{◌≡◌, List, map, Option};
-ghost use Rattle.std.proofs.Math.ListN.{get_or};
+ghost use Rattle.std.specs.Prelude.{◌≡◌, Option};
 ghost use Rattle.oc_tree.specs.declared.tree.VarId.{VarId};
-ghost use Rattle.oc_effects.specs.View.{called_view, effect_view, passed_view};
+ghost use Rattle.oc_effects.specs.View.{called_view, effect_view};
 ghost use Rattle.oc_flow.specs.Variables.{arg_at, ends, is_variable_of};
 ghost use Rattle.oc_flow.specs.Known.{TKnown, end_of, known_receives, table_flows};
 

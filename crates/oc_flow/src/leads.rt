@@ -1,5 +1,5 @@
 //! Which variables of a function lead to which by its statements.
-ghost use Rattle.std.specs.Prelude.{◌≡◌, ◌<◌, ◌&&◌, ◌||◌, ℕ, List, [], map, Option, Some};
+ghost use Rattle.std.specs.Prelude.{◌≡◌, ◌<◌, ◌&&◌, map, Option, Some};
 ghost use Rattle.std.specs.List.{list_all, list_any};
 ghost use Rattle.oc_tree.specs.declared.tree.VarId.{VarId};
 ghost use Rattle.oc_effects.specs.View.{called_view, effect_view};

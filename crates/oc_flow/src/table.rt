@@ -1,5 +1,5 @@
 //! Tables of which variable of a function leads to which.
-ghost use Rattle.std.specs.Prelude.{◌≡◌, ◌<◌, ◌≤◌, ◌&&◌, ◌||◌, ℕ, [], Bool, true, false, length, map, replicate, Some, OnOk, IfOk, IfSome};
+ghost use Rattle.std.specs.Prelude.{◌≡◌, ◌<◌, ◌&&◌, ◌||◌, [], true, false, length, replicate, Some, OnOk, IfOk, IfSome};
 ghost use Rattle.std.proofs.Math.ListN.{get_or};
 ghost use Rattle.oc_tree.specs.declared.tree.VarId.{VarId};
 ghost use Rattle.oc_flow.specs.Variables.{is_among, same_variable};

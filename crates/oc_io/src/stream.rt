@@ -1,5 +1,5 @@
 //! Streams of bytes.
-ghost use Rattle.std.specs.Prelude.{◌≡◌, ℕ, ◌≤◌, List, [], ◌++◌, length, take, drop, OnOk, OnErr, true, false};
+ghost use Rattle.std.specs.Prelude.{◌≡◌, ◌≤◌, [], ◌++◌, length, take, drop, OnOk, OnErr, true, false};
 ghost use Rattle.std.specs.Result.{is_ok};
 ghost use Rattle.std.specs.Io.KnownBytes.{Appends};
 ghost use Rattle.oc_io.specs.Faults.{Rose, TookPart};
@@ -138,7 +138,6 @@ impl<W: Write + Drop> StreamSink<W> {
 }
 
 impl<W: Write + Drop> Sink for StreamSink<W> {
-    ghost use Rattle.std.specs.Prelude.{List};
     ghost use Rattle.std.specs.Io.KnownBytes.{Appends};
     ghost use Rattle.oc_io.specs.Streams.{unwritten, with_held};
     ghost use Rattle.std.proofs.KnownBytes.{Appends-nil, Appends-trans};

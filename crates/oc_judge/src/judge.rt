@@ -1,5 +1,5 @@
 //! Whether a report is honest.
-ghost use Rattle.std.specs.Prelude.{◌≡◌, map, option_map, IfOk};
+ghost use Rattle.std.specs.Prelude.{map, option_map, IfOk};
 ghost use Rattle.oc_items.specs.Told.{told_of};
 ghost use Rattle.oc_steps.specs.Auditing.{Finds, first_watch};
 ghost use Rattle.oc_judge.specs.Going.{program_of, regions_of};

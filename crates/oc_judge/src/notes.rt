@@ -2,7 +2,7 @@
 ghost use Rattle.std.specs.Prelude.{◌≡◌};
 ghost use Rattle.oc_tree.specs.View.{block_view, else_view, kind_view, program_view};
 ghost use Rattle.oc_honest.specs.Timely.{set_of};
-ghost use Rattle.oc_judge.specs.Notes.{block_note, else_note, kind_note, note_of, set_from};
+ghost use Rattle.oc_judge.specs.Notes.{block_note, else_note, kind_note, note_of};
 
 use oc_tree::tree::{Block, Program, StmtId, StmtKind};
 

@@ -1,5 +1,5 @@
 //! The store of a run under way.
-ghost use Rattle.std.specs.Prelude.{◌≡◌, [], ◌∷◌, length, map, option_map, slice_get, slice_index_or, slice_set, suc, if◌then◌else◌, IfOk, OnOk};
+ghost use Rattle.std.specs.Prelude.{◌≡◌, [], length, option_map, slice_get, slice_index_or, slice_set, suc, if◌then◌else◌, IfOk, OnOk};
 ghost use Rattle.oc_meaning.specs.Store.{happened, held_at, left_at, made, nothing, noted, put, replaced, value_in};
 ghost use Rattle.oc_meaning.specs.Eval.{element_of};
 ghost use Rattle.oc_meaning.specs.Exec.{closed, entered, opened, tagged, trapped};

@@ -1,6 +1,5 @@
 //! Boot: reading the area's state, putting old words back, restoring, resuming.
-ghost use Rattle.std.specs.Prelude.{◌≡◌, ◌+◌, ◌<◌, ◌^◌, ℕ, List, length, suc};
-ghost use Rattle.oc_isa.specs.Image.{parts_of};
+ghost use Rattle.std.specs.Prelude.{◌≡◌, ◌+◌, ◌<◌, ◌^◌};
 ghost use Rattle.oc_isa.specs.Power;
 ghost use Rattle.oc_machine.specs.Acting.{IsNamedSaid};
 ghost use Rattle.oc_isa.specs.Table;

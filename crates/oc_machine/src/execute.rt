@@ -1,7 +1,7 @@
 //! Executing an instruction.
 ghost use Rattle.std.specs.Prelude.{◌≡◌, ◌+◌, ◌<◌, ◌≤◌, ◌^◌, ℕ, ℤ, length, drop, Some, None, IfSome, slice_get, slice_set, false, if◌then◌else◌, ◌∷◌, ◌++◌, []};
 ghost use Rattle.oc_sensors.specs.History.{history};
-ghost use Rattle.oc_isa.specs.Image.{parts_of, Exists, IsWellMade};
+ghost use Rattle.oc_isa.specs.Image.{Exists};
 ghost use Rattle.oc_undo.specs.Undo.{has_entry};
 ghost use Rattle.oc_isa.specs.Power;
 ghost use Rattle.oc_isa.specs.Table;

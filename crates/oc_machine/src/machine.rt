@@ -1,5 +1,5 @@
 //! The machine, and what it lends.
-ghost use Rattle.std.specs.Prelude.{◌≡◌, ◌≤◌, ◌<◌, ◌+◌, ◌^◌, ◌++◌, ℤ, All, replicate, vec_len, sum_by, IfOk, OnOk, FitsSigned};
+ghost use Rattle.std.specs.Prelude.{◌≡◌, ◌≤◌, ◌<◌, ◌+◌, ◌^◌, ◌++◌, All, replicate, vec_len, sum_by, IfOk, OnOk, FitsSigned};
 ghost use Rattle.std.specs.Int.{w32};
 ghost use Rattle.oc_isa.specs.Image as images;
 ghost use Rattle.oc_isa.specs.Image.{main_of, entry_of, frame_of};

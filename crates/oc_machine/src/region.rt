@@ -1,5 +1,5 @@
 //! Regions: entering one, and committing.
-ghost use Rattle.std.specs.Prelude.{◌≡◌, ◌+◌, ◌<◌, ◌^◌, ℕ, List, [], length, slice_get};
+ghost use Rattle.std.specs.Prelude.{◌≡◌, ◌+◌, ◌<◌, ◌^◌, length, slice_get};
 ghost use Rattle.oc_isa.specs.Power;
 ghost use Rattle.oc_isa.specs.Table.{device_of};
 ghost use Rattle.oc_machine.specs.Acting.{IsNamedSaid, enter_in, regs_at};

@@ -1,7 +1,7 @@
 //! Statements without statements inside, once their right side is executed.
 ghost use Rattle.std.specs.Prelude.{◌≡◌, length, map, IfOk, OnErr};
-ghost use Rattle.oc_tree.specs.Tree.{emit, consistent, let_array};
-ghost use Rattle.oc_tree.specs.View.{block_view, expr_view, kind_view};
+ghost use Rattle.oc_tree.specs.Tree.{emit, consistent};
+ghost use Rattle.oc_tree.specs.View.{expr_view, kind_view};
 ghost use Rattle.oc_tree.specs.Regions.{region_view};
 ghost use Rattle.oc_meaning.specs.Store.{Value, Store, held_at, holding, made, place_of, put, replaced};
 ghost use Rattle.oc_meaning.specs.Eval.{element_of, value_of};

@@ -30,9 +30,8 @@ impl<'a, O: Sink, M: Meter> MeterSink<'a, O, M> {
 }
 
 impl<O: Sink, M: Meter> Sink for MeterSink<'_, O, M> {
-    ghost use Rattle.std.specs.Prelude.{◌≡◌, ℕ, List, false};
+    ghost use Rattle.std.specs.Prelude.{◌≡◌, false};
     ghost use Rattle.std.proofs.Common.{refl, ◌∙◌};
-    ghost use Rattle.oc_meters.specs.Passing.{Marks, marks_nothing, marks_both};
     ghost use Rattle.oc_meters.specs.Reads.{page};
     ghost use Rattle.oc_meters.specs.Taken.{Took, took_nothing, took_both};
 

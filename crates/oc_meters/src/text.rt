@@ -1,5 +1,5 @@
 //! The lines of meters.
-ghost use Rattle.std.specs.Prelude.{◌≡◌, ◌≤◌, ◌++◌, codes, decimal, OnOk, OnErr};
+ghost use Rattle.std.specs.Prelude.{◌≡◌, ◌≤◌, OnOk, OnErr};
 ghost use Rattle.oc_io.specs.Faults.{Rose, TookPart};
 ghost use Rattle.oc_meters.specs.Lines.{kind_name, meter_line, meter_lines, number_field};
 ghost use Rattle.oc_meters.specs.Tally.{reading, readings, width as width_of};

@@ -1,5 +1,5 @@
 //! Policies with what they speak of.
-ghost use Rattle.std.specs.Prelude.{◌≡◌, ◌++◌, map, filter, IfOk, OnOk};
+ghost use Rattle.std.specs.Prelude.{◌≡◌, map, IfOk};
 ghost use Rattle.oc_effects.specs.Effects.{effects_at};
 ghost use Rattle.oc_effects.specs.View.{effect_view};
 ghost use Rattle.oc_needs.specs.Policies.{is_held, is_note_of, note_variable};

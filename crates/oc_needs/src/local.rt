@@ -1,5 +1,5 @@
 //! What is known of a function for all policies.
-ghost use Rattle.std.specs.Prelude.{◌≡◌, ◌<◌, ℕ, ◌+◌, ◌++◌, [], ◌∷◌, map, filter, flat_map, length, reverse, IfOk, OnOk};
+ghost use Rattle.std.specs.Prelude.{◌≡◌, ◌<◌, ◌+◌, ◌++◌, [], map, filter, length, IfOk, OnOk};
 ghost use Rattle.std.proofs.Math.ListN.{get_or};
 ghost use Rattle.oc_tree.specs.declared.tree.VarId.TheVariants.{Nv, Param};
 ghost use Rattle.oc_effects.specs.Effects.{effects_at, params_at};

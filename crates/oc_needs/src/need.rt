@@ -1,13 +1,13 @@
 //! Which variables of callers a policy needs.
-ghost use Rattle.std.specs.Prelude.{◌≡◌, ◌<◌, ℕ, suc, Some, ◌+◌, ◌++◌, Bool, true, false, List, [], ◌∷◌, map, filter, flat_map, length, Option, option_map, IfOk, OnOk, IsTrue};
+ghost use Rattle.std.specs.Prelude.{◌≡◌, ◌<◌, Some, ◌+◌, ◌++◌, true, false, [], map, filter, IfOk, OnOk};
 ghost use Rattle.std.specs.List.{list_any};
 ghost use Rattle.std.proofs.Math.ListN.{get_or};
 ghost use Rattle.oc_tree.specs.declared.tree.VarId.{VarId};
 ghost use Rattle.oc_effects.specs.Effects.{effects_at};
 ghost use Rattle.oc_effects.specs.View.{called_view, effect_view};
-ghost use Rattle.oc_flow.specs.Variables.{arg_at, begins, is_among, is_given, same_variable, variables};
+ghost use Rattle.oc_flow.specs.Variables.{arg_at, begins, is_among, is_given, variables};
 ghost use Rattle.oc_flow.specs.Flow.{flows};
-ghost use Rattle.oc_needs.specs.Need.{needs, needs_to};
+ghost use Rattle.oc_needs.specs.Need.{needs};
 ghost use Rattle.oc_needs.specs.Code.{is_changed, is_changed_row, is_given_to, is_row_changed, all_locals, is_stale, needed_in_call, needed_in_calls, needed_itself, needing, next_level, next_row, row_by, rows_of, same_row, stands_for, start_level};
 ghost use Rattle.oc_needs.specs.CodeView.{level_view, local_view, rows_view, IsAsked, IsBody};
 

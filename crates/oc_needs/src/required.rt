@@ -1,6 +1,5 @@
 //! All requirements of a program.
-ghost use Rattle.std.specs.Prelude.{◌≡◌, ◌≤◌, ◌<◌, ℕ, ◌+◌, ◌-◌, ◌++◌, [], ◌∷◌, map, length, option_map, option_to_list, IfOk, OnOk};
-ghost use Rattle.oc_effects.specs.Effects.{effects_at};
+ghost use Rattle.std.specs.Prelude.{◌≡◌, ◌<◌, ℕ, ◌+◌, ◌-◌, ◌++◌, map, length, option_map, option_to_list, IfOk, OnOk};
 ghost use Rattle.oc_effects.specs.View.{effect_view};
 ghost use Rattle.oc_tree.specs.declared.marked.Policy.{Policy};
 ghost use Rattle.oc_tree.specs.declared.tree.VarId.{VarId};
@@ -9,7 +8,7 @@ ghost use Rattle.oc_flow.specs.Variables.{from};
 ghost use Rattle.oc_needs.specs.Code.{added, all_locals, call_list, call_lists, lists_in, looped_at, own_list, required_by, required_by_from, required_here, requirements_in, sites_for};
 ghost use Rattle.oc_needs.specs.CodeView.{local_view, rows_view, sites_view, tables_view, IsAsked, IsBody};
 ghost use Rattle.oc_needs.specs.Need.{Need, needs};
-ghost use Rattle.oc_needs.specs.Requirements.{in_order, required_from, required_in, required_of, requirements};
+ghost use Rattle.oc_needs.specs.Requirements.{in_order, requirements};
 ghost use Rattle.oc_needs.specs.View.{requirement_view};
 
 use crate::asked::{Asked, spoken_of};

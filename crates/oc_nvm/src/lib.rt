@@ -1,7 +1,7 @@
 //! The nonvolatile words, which an outage leaves as they are.
 #![tactic(auto)]
 
-ghost use Rattle.std.specs.Prelude.{◌≡◌, ℕ, ◌<◌, pos, List, length, slice_index_or, slice_set, IfOk};
+ghost use Rattle.std.specs.Prelude.{◌≡◌, ◌<◌, pos, List, length, slice_index_or, slice_set, IfOk};
 
 use oc_io::Memory;
 use std::alloc::Global;

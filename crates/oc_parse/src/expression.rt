@@ -1,5 +1,5 @@
 //! Expressions.
-ghost use Rattle.std.specs.Prelude.{◌≡◌, ◌+◌, ◌<◌, ◌≤◌, length, map, OnOk};
+ghost use Rattle.std.specs.Prelude.{◌<◌, ◌≤◌, length, map, OnOk};
 ghost use Rattle.oc_tree.specs.View.{arg_view, expr_view};
 ghost use Rattle.oc_grammar.specs.Limits.{the_depths};
 ghost use Rattle.oc_grammar.specs.ReadingExpressions.{prefix_by, unary_here, named_at, prefixed_at, inner_at, inner_args_at, inner_sensor_at, sensor_at, args_at, arg_at, part_at, level_at, whole_at};

@@ -1,6 +1,5 @@
 //! Declarations, functions and programs.
-ghost use Rattle.std.specs.Prelude.{◌≡◌, ◌<◌, ◌≤◌, length, map, OnOk, MatchResult};
-ghost use Rattle.oc_tree.specs.Names.{Text};
+ghost use Rattle.std.specs.Prelude.{◌≡◌, ◌<◌, ◌≤◌, length, OnOk, MatchResult};
 ghost use Rattle.oc_tree.specs.View.{function_view, program_view};
 ghost use Rattle.oc_grammar.specs.Limits.{the_depths};
 ghost use Rattle.oc_grammar.specs.Programs.{with_sensor, with_port, with_nv, with_function};

@@ -1,9 +1,9 @@
 //! Statements and blocks.
-ghost use Rattle.std.specs.Prelude.{◌≡◌, ◌+◌, ◌<◌, ◌≤◌, length, map, OnOk};
-ghost use Rattle.oc_tree.specs.View.{block_view, else_view, kind_view, stmt_view, stmts_view};
+ghost use Rattle.std.specs.Prelude.{◌+◌, ◌<◌, ◌≤◌, length, map, OnOk};
+ghost use Rattle.oc_tree.specs.View.{block_view, else_view, kind_view, stmt_view};
 ghost use Rattle.oc_grammar.specs.Limits.{the_depths};
 ghost use Rattle.oc_grammar.specs.Lexemes.{lexeme_of};
-ghost use Rattle.oc_grammar.specs.ReadingStatements.{kind_by, if_by, for_by, while_by, atomic_by, stmt_here, stmt_at, stmts_at, block_at, chained_at, else_at};
+ghost use Rattle.oc_grammar.specs.ReadingStatements.{kind_by, if_by, for_by, while_by, atomic_by, stmt_here, stmts_at, block_at, chained_at, else_at};
 ghost use Rattle.oc_parse.specs.Steps.{Fits, ReadsTo, from, left};
 
 use crate::reader::Reader;

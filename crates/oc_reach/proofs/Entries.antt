@@ -16,7 +16,8 @@ pub lookup-seen : {A : Type 0} (x : Text) (es : List (Bor Text × A)) → lookup
 lookup-seen x [] = refl
 lookup-seen x (e ∷ es) = ap (cond (bytes_eq x e.0.now) (Some e.1)) (lookup-seen x es)
 
-pub insert-seen : {A : Type 0} (es : List (Bor Text × A)) (k : Bor Text) (v : A) → named_in (seen es) k.now ≡ None → seen (insert_entry (λ x y. bytes_eq x.now y.now) es k v) ≡ seen es ++ (k.now, v) ∷ []
+pub insert-seen : {A : Type 0} (es : List (Bor Text × A)) (k : Bor Text) (v : A) → named_in (seen es) k.now ≡ None
+    → seen (insert_entry (λ x y. bytes_eq x.now y.now) es k v) ≡ seen es ++ (k.now, v) ∷ []
 insert-seen [] k v h = refl
 insert-seen (e ∷ es) k v h = by (bytes_eq k.now e.0.now) h (insert-seen es k v)
   where

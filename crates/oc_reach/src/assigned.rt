@@ -1,5 +1,5 @@
 //! Which functions assign a nonvolatile variable, themselves or through references that they pass.
-ghost use Rattle.std.specs.Prelude.{◌≡◌, ◌<◌, ◌+◌, ℕ, [], Some, List, map, length, OnOk, IfOk};
+ghost use Rattle.std.specs.Prelude.{◌≡◌, ◌<◌, ℕ, [], Some, List, map, length, IfOk};
 ghost use Rattle.std.specs.List.{list_any};
 ghost use Rattle.oc_tree.specs.View.{arg_view, args_view, call_view, function_view, kind_view};
 ghost use Rattle.oc_tree.specs.declared.tree.Function.{Function};

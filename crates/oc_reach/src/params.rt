@@ -1,11 +1,11 @@
 //! The parameters of all functions, numbered through.
-ghost use Rattle.std.specs.Prelude.{◌≡◌, ◌<◌, ◌≤◌, ◌^◌, ◌+◌, ◌++◌, List, ℕ, [], false, map, length, vec_len, OnOk, IfOk, IfSome};
+ghost use Rattle.std.specs.Prelude.{◌≡◌, ◌<◌, ◌^◌, ◌+◌, List, [], false, map, length, vec_len, OnOk, IfOk};
 ghost use Rattle.std.proofs.Math.ListN.{get_or};
 ghost use Rattle.oc_tree.specs.View.{function_view};
 ghost use Rattle.oc_tree.specs.declared.tree.Function.{Function};
 ghost use Rattle.oc_tree.specs.declared.tree.Passing.{Passing};
 ghost use Rattle.oc_reach.specs.Views.{name_seen};
-ghost use Rattle.oc_tree.specs.Assigned.{first_param, first_params, is_mutable, mutable_param, own_param, param_count, takes_mutable};
+ghost use Rattle.oc_tree.specs.Assigned.{first_param, first_params, is_mutable, mutable_param, own_param, param_count};
 
 use crate::table::Table;
 use oc_tree::name::Name;

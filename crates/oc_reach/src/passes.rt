@@ -1,12 +1,9 @@
 //! Which parameters are passed on to which, and which are written through.
-ghost use Rattle.std.specs.Prelude.{◌≡◌, ◌<◌, ◌^◌, ◌+◌, ◌++◌, ℕ, Bool, false, List, Option, map, length, option_to_list, OnOk, IfOk};
+ghost use Rattle.std.specs.Prelude.{◌≡◌, ◌<◌, ◌^◌, ◌+◌, ◌++◌, Option, map, length, option_to_list, OnOk, IfOk};
 ghost use Rattle.std.specs.List.{flat_map};
-ghost use Rattle.std.proofs.Math.ListN.{get_or};
-ghost use Rattle.oc_tree.specs.Tree.{TArgs};
 ghost use Rattle.oc_tree.specs.View.{arg_view, args_view, call_view, expr_view, function_view, kind_view};
 ghost use Rattle.oc_tree.specs.declared.tree.Function.{Function};
-ghost use Rattle.oc_tree.specs.Reach.{Links};
-ghost use Rattle.oc_tree.specs.Assigned.{alone, arg_links, args_links, first_param, function_links, link_of, param_count, param_names, function_writes, own_param, pass_call, pass_links, pass_links_from, writes_from, written_through};
+ghost use Rattle.oc_tree.specs.Assigned.{alone, arg_links, args_links, function_links, link_of, function_writes, own_param, pass_call, pass_links, writes_from, written_through};
 ghost use Rattle.oc_reach.specs.Views.{calls_seen, kinds_seen, name_seen};
 
 use crate::calls::Calls;

@@ -4,7 +4,7 @@ ghost use Rattle.std.specs.Str.{bytes_eq};
 ghost use Rattle.oc_tree.specs.Names.{Text, names_seen};
 ghost use Rattle.oc_tree.specs.View.{function_view};
 ghost use Rattle.oc_tree.specs.declared.tree.Param.{Param};
-ghost use Rattle.oc_tree.specs.Calls.{place, place_from, function_names, function_place};
+ghost use Rattle.oc_tree.specs.Calls.{place, function_names, function_place};
 ghost use Rattle.oc_tree.specs.Weight.{result_at};
 ghost use Rattle.oc_reach.specs.Entries.{Entries, number_in, or_else};
 

@@ -74,7 +74,9 @@ module _ (is_block : ℕ → Bool) where
         stays None None rest e = absurd (none-some b e)
         stays None (Some v) rest e = absurd (none-some v e)
 
-        by : (t == b ≡ true) ⊎ (is_number_of l b ≡ true) → (is_number_of l b ≡ true → outermost_in l ≡ or_else (outermost_in (up b)) (Some b)) → outermost_in (t ∷ l) ≡ or_else (outermost_in (up b)) (Some b)
+        by : (t == b ≡ true) ⊎ (is_number_of l b ≡ true)
+            → (is_number_of l b ≡ true → outermost_in l ≡ or_else (outermost_in (up b)) (Some b))
+            → outermost_in (t ∷ l) ≡ or_else (outermost_in (up b)) (Some b)
         by (inl e) rest =
             let q : t ≡ b = eqb-true t b e in
             let is : is_block t ≡ true = ap is_block q ∙ k in
@@ -169,7 +171,8 @@ module _ (blocks : List ℕ) (up : ℕ → List ℕ) where
       here (Some v) is e = let r = is_one (is_number_of blocks) l v is in among_any (λ b. is_number_of l b) blocks v r.0 r.1
 
   -- some block is among both
-  pub both_is : (ls ms : List ℕ) → Line up ls → Line up ms → list_any (λ b. is_number_of ls b && is_number_of ms b) blocks ≡ same_place (outermost_in (is_number_of blocks) ls) (outermost_in (is_number_of blocks) ms)
+  pub both_is : (ls ms : List ℕ) → Line up ls → Line up ms → list_any (λ b. is_number_of ls b && is_number_of ms b) blocks
+      ≡ same_place (outermost_in (is_number_of blocks) ls) (outermost_in (is_number_of blocks) ms)
   both_is ls ms h k = same_answer (list_any (λ b. is_number_of ls b && is_number_of ms b) blocks) (same_place (outermost_in (is_number_of blocks) ls) (outermost_in (is_number_of blocks) ms))
       (λ e. let r = any_among (λ b. is_number_of ls b && is_number_of ms b) blocks e in
       let two = and_parts (is_number_of ls r.0) (is_number_of ms r.0) r.2 in

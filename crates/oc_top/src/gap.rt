@@ -1,7 +1,7 @@
 //! What hand-written blocks leave open.
 ghost use Rattle.std.specs.Prelude.{◌≡◌, ◌≤◌, IfOk, OnOk, OnErr};
 ghost use Rattle.oc_io.specs.Faults.{Rose, TookPart};
-ghost use Rattle.oc_top.specs.Gaps.{gap_line, gap_of, kind_gap_line};
+ghost use Rattle.oc_top.specs.Gaps.{gap_line, gap_of};
 
 use crate::names::{function_name, policy_name};
 use crate::regions::line_at;

@@ -1,5 +1,5 @@
 //! Runs that meters are told of.
-ghost use Rattle.std.specs.Prelude.{◌≡◌, ◌≤◌, [], false, None, Some};
+ghost use Rattle.std.specs.Prelude.{◌≡◌, ◌≤◌, false, None, Some};
 ghost use Rattle.oc_io.specs.Faults.{Rose};
 ghost use Rattle.oc_tree.specs.Names.{names_view};
 ghost use Rattle.oc_apart.specs.Apart.{HasNamesApart};

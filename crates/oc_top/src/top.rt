@@ -2,7 +2,7 @@
 ghost use Rattle.std.specs.Prelude.{◌≡◌, ◌≤◌, ◌+◌, ◌<◌, [], map, length, Some, if◌then◌else◌};
 ghost use Rattle.std.specs.String.{string_bytes};
 ghost use Rattle.oc_meters.specs.Tally.{readings};
-ghost use Rattle.oc_top.specs.Commands.{auditing as to_audit, checking as to_check, command_of, imaging as to_image, listing as to_list, plans_of, regions as to_tell_regions, report as to_report, task_for, task_of};
+ghost use Rattle.oc_top.specs.Commands.{auditing as to_audit, checking as to_check, command_of, imaging as to_image, listing as to_list, plans_of, regions as to_tell_regions, report as to_report, task_of};
 ghost use Rattle.oc_top.specs.declared.command.Command.TheVariants as commands;
 ghost use Rattle.oc_top.specs.Files.{ShelfStays, fetches};
 ghost use Rattle.oc_top.specs.Answers.{Comes, call_of, told_by, writes};

@@ -1,7 +1,6 @@
 //! Checked programs with regions.
 ghost use Rattle.std.specs.Prelude.{◌≡◌, map};
-ghost use Rattle.oc_tree.specs.Checked.{TChecked};
-ghost use Rattle.oc_tree.specs.Marked.{AreRegions, IsMarked, TMarked};
+ghost use Rattle.oc_tree.specs.Marked.{IsMarked, TMarked};
 ghost use Rattle.oc_tree.specs.Regions.{region_view};
 
 use crate::checked::Checked;

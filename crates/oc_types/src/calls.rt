@@ -1,13 +1,13 @@
 //! Whether calls meet the functions that they name.
 ghost use Rattle.std.specs.Prelude.{◌≡◌, ◌==◌, ◌++◌, [], ◌∷◌, ℕ, Bool, List, is_some, length};
-ghost use Rattle.std.specs.List.{list_all, list_any};
+ghost use Rattle.std.specs.List.{list_all};
 ghost use Rattle.oc_tree.specs.Tree.{TCall};
 ghost use Rattle.oc_tree.specs.View.{arg_view, args_view, call_view, expr_view, kind_view, program_view};
 ghost use Rattle.oc_tree.specs.Types.{call_type};
 ghost use Rattle.oc_reach.specs.Views.{calls_seen};
 ghost use Rattle.oc_types.specs.Lent.{passes};
 ghost use Rattle.oc_tree.specs.Mentions.{call_mentions};
-ghost use Rattle.oc_tree.specs.Rules.{all_lent, arg_lends, arg_meets, args_differ, args_meet, call_args, call_meets, calls_main, has_kind, lends_alone, lends_fixed, lent_is, lent_twice, lone_is, mutable_meets, result_missing, shared_meets, used_calls, value_lent_is, value_meets};
+ghost use Rattle.oc_tree.specs.Rules.{all_lent, arg_lends, arg_meets, args_differ, args_meet, call_args, call_meets, calls_main, has_kind, lends_alone, lends_fixed, lent_is, lent_twice, mutable_meets, result_missing, shared_meets, used_calls, value_meets};
 
 use crate::operands::passed_on;
 use crate::scope::Scope;

@@ -1,5 +1,5 @@
 //! What is counted, and the limits.
-ghost use Rattle.std.specs.Prelude.{◌≡◌, ◌<◌, ◌≤◌, ◌^◌, ◌+◌, false, length, OnOk};
+ghost use Rattle.std.specs.Prelude.{◌≡◌, ◌<◌, ◌≤◌, ◌^◌, ◌+◌, false, OnOk};
 ghost use Rattle.std.specs.List.{list_any};
 ghost use Rattle.oc_tree.specs.Nodes.{kind_nodes};
 ghost use Rattle.oc_tree.specs.View.{function_view, kind_view};

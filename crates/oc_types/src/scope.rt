@@ -1,6 +1,6 @@
 //! The variables in scope.
 ghost use Rattle.oc_tree.specs.declared.scope.Var.{Var};
-ghost use Rattle.std.specs.Prelude.{◌≡◌, ◌++◌, List, ℕ, [], ◌∷◌, map, take, length, None, OnOk, IfOk};
+ghost use Rattle.std.specs.Prelude.{◌≡◌, ◌++◌, List, ℕ, [], ◌∷◌, map, take, length, None, OnOk};
 ghost use Rattle.oc_tree.specs.Scope.{Scope as Variables, variable_in};
 
 use indexmap::IndexMap;

@@ -3,7 +3,7 @@ ghost use Rattle.std.specs.Prelude.{◌≡◌, ◌≤◌, codes, length, map, na
 ghost use Rattle.std.specs.List.{list_any};
 ghost use Rattle.oc_lex.specs.Limits.{source_limit};
 ghost use Rattle.oc_lex.specs.Stands.{IsName};
-ghost use Rattle.oc_tree.specs.Broken.{broken, broken_element, lowest, or_later, size_rules};
+ghost use Rattle.oc_tree.specs.Broken.{broken, lowest, or_later, size_rules};
 ghost use Rattle.oc_tree.specs.Calls.{function_place};
 ghost use Rattle.oc_tree.specs.Expansion.{program_size};
 ghost use Rattle.oc_tree.specs.Form.{InForm};

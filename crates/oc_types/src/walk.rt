@@ -1,9 +1,9 @@
 //! The elements of a program in source order, up to the first that breaks a rule.
 ghost use Rattle.std.specs.Prelude.{◌≡◌, ◌<◌, ◌≤◌, ◌^◌, false, Some, None, OnOk, IfOk, take, drop, length};
 ghost use Rattle.oc_tree.specs.Nodes.{block_nodes, kind_nodes, stmt_nodes};
-ghost use Rattle.oc_tree.specs.View.{block_view, function_view, kind_view, program_view, stmt_view, stmts_view};
+ghost use Rattle.oc_tree.specs.View.{block_view, kind_view, program_view, stmt_view, stmts_view};
 ghost use Rattle.oc_tree.specs.Broken.{lowest, statement_rules};
-ghost use Rattle.oc_tree.specs.Elements.{in_turn, is_end, scope_after, kind_of};
+ghost use Rattle.oc_tree.specs.Elements.{is_end, scope_after, kind_of};
 ghost use Rattle.oc_tree.specs.Rules.{takes_name};
 ghost use Rattle.oc_tree.specs.Pulls.{own_pulls};
 ghost use Rattle.oc_tree.specs.Limits.{with_statement};

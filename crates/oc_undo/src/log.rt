@@ -1,5 +1,5 @@
 //! The log with its marks.
-ghost use Rattle.std.specs.Prelude.{◌≡◌, ℕ, ◌+◌, ◌-◌, ◌^◌, ◌<◌, ◌≤◌, Bool, false, List, [], ◌∷◌, ◌++◌, length, IfOk, nat_lt, slice_index_or, All};
+ghost use Rattle.std.specs.Prelude.{◌≡◌, ℕ, ◌+◌, ◌-◌, ◌<◌, ◌≤◌, false, [], ◌∷◌, ◌++◌, length, IfOk, nat_lt, slice_index_or, All};
 ghost use Rattle.oc_undo.specs.Undo.{has_entry, left, undo_one, after_one};
 
 use crate::Entry;

@@ -1,5 +1,5 @@
 //! Lists of a file. Room for one is never taken by the length that the file tells.
-ghost use Rattle.std.specs.Prelude.{◌≡◌, map};
+ghost use Rattle.std.specs.Prelude.{map};
 ghost use Rattle.oc_verify.specs.Reading.{list_at, many_at, placed_at, target_at};
 ghost use Rattle.oc_verify.specs.Reads as reads;
 

@@ -1,5 +1,5 @@
 //! Images of files.
-ghost use Rattle.std.specs.Prelude.{◌≡◌, ◌+◌, IfErr, IfOk, MatchResult, length};
+ghost use Rattle.std.specs.Prelude.{◌≡◌, IfErr, IfOk, MatchResult};
 ghost use Rattle.oc_isa.specs.Image.{Parts, parts_of};
 ghost use Rattle.oc_verify.specs.Reading.{AreImage, read_at};
 ghost use Rattle.oc_verify.specs.Reads as reads;

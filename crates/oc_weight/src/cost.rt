@@ -1,5 +1,5 @@
 //! The cost of a tree without pulls, where the weights of the functions that it calls are known.
-ghost use Rattle.std.specs.Prelude.{◌≡◌, ◌≤◌, ◌+◌, ◌*◌, map, max, cond};
+ghost use Rattle.std.specs.Prelude.{◌≡◌, ◌≤◌, ◌*◌, map};
 ghost use Rattle.oc_tree.specs.View.{arg_view, args_view, block_view, call_view, else_view, expr_view, function_view, kind_view, right_view};
 ghost use Rattle.oc_tree.specs.Calls.{function_names};
 ghost use Rattle.oc_tree.specs.Weight.{arg_cost, args_cost, binary_cost, block_cost, call_cost, else_cost, expr_cost, function_cost, has_result, kind_cost, known_of, result_at, right_cost, turns};

@@ -1,6 +1,6 @@
 //! The stack of a function of a program without pulls, where the stacks of the functions that it
 //! calls are known.
-ghost use Rattle.std.specs.Prelude.{◌≡◌, ◌≤◌, ◌+◌, map, max, length};
+ghost use Rattle.std.specs.Prelude.{◌≡◌, ◌≤◌, map};
 ghost use Rattle.oc_tree.specs.View.{arg_view, args_view, block_view, call_view, else_view, expr_view, function_view, kind_view, right_view};
 ghost use Rattle.oc_tree.specs.declared.tree.BinaryOp.{BinaryOp};
 ghost use Rattle.oc_tree.specs.Calls.{function_names};

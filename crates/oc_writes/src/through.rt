@@ -24,7 +24,7 @@ pub struct Through<'a> {
 }
 
 impl<'a> Model for Through<'a> {
-    ghost use Rattle.std.specs.Prelude.{◌≡◌, ℕ, List, map};
+    ghost use Rattle.std.specs.Prelude.{◌≡◌, ℕ, map};
     ghost use Rattle.std.specs.Coded.{codes};
     ghost use Rattle.oc_tree.specs.Stored.{block_code};
     ghost use Rattle.oc_tree.specs.Tree.{TProgram};

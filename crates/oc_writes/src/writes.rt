@@ -6,8 +6,6 @@ ghost use Rattle.std.proofs.Math.ListN.{get_or};
 ghost use Rattle.oc_tree.specs.View.{program_view};
 ghost use Rattle.oc_tree.specs.Regions.{region_view};
 ghost use Rattle.oc_tree.specs.declared.tree.VarId.TheVariants.{Nv, Param as AParam};
-ghost use Rattle.oc_effects.specs.Effects.{params_at};
-ghost use Rattle.oc_effects.specs.View.{effect_view};
 ghost use Rattle.oc_writes.specs.Targets.{assigns, may_write, region_targets, words_of};
 ghost use Rattle.oc_writes.specs.Kept.{OnlyTargets};
 ghost use Rattle.oc_writes.specs.Seen.{effects_seen, slot_targets, some_assigns, stored_from, stored_targets};

@@ -32,11 +32,15 @@ module _ (d : Device) where
   abbrev AllSafe : Core → Type 0
   AllSafe c = (n : ℕ) (samples : List ℤ) → AreWords samples → Safe d n samples c
 
-  commit_safe : (k : ℕ) (to : Regs) (c : Core) (go : Here) (n : ℕ) → ((c : Core) → go c → AllSafe c) → commit_ends k to c go → (samples : List ℤ) → AreWords samples → safe_commit k to samples c (Safe d n)
+  commit_safe : (k : ℕ) (to : Regs) (c : Core) (go : Here) (n : ℕ)
+      → ((c : Core) → go c → AllSafe c) → commit_ends k to c go → (samples : List ℤ) → AreWords samples → safe_commit k to samples c (Safe d n)
   commit_safe zero to c go n h e samples words = e
   commit_safe (suc k) to c go n h e samples words = h _ e n samples words
 
-  sense_safe : (to : Regs) (c : Core) (go : Here) (n : ℕ) → ((c : Core) → go c → AllSafe c) → ((x : ℤ) → is_word x ≡ true → go (core_at (pushed to x) c.depth c.nv)) → (samples : List ℤ) → AreWords samples → safe_sense samples to c (Safe d n)
+  sense_safe : (to : Regs) (c : Core) (go : Here) (n : ℕ)
+      → ((c : Core) → go c → AllSafe c)
+      → ((x : ℤ) → is_word x ≡ true → go (core_at (pushed to x) c.depth c.nv))
+      → (samples : List ℤ) → AreWords samples → safe_sense samples to c (Safe d n)
   sense_safe to c go n h e [] words = tt
   sense_safe to c go n h e (x ∷ samples) words = h _ (e x (All-head IsWord x samples words)) n samples (All-tail IsWord x samples words)
 

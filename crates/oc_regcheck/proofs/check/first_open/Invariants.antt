@@ -6,4 +6,5 @@ use Rattle.oc_regcheck.proofs.check.first_open.Given as goal
 
 abbrev pub invariant-loop-requirement : goal.invariant-loop-requirement
 invariant-loop-requirement l =
-    first_by l.effects.program (is_number_of l.blocks) (map requirement_view (drop l.requirement-index l.required)) ≡ first_by l.effects.program (is_number_of l.blocks) (map requirement_view l.required)
+    first_by l.effects.program (is_number_of l.blocks) (map requirement_view (drop l.requirement-index l.required))
+    ≡ first_by l.effects.program (is_number_of l.blocks) (map requirement_view l.required)

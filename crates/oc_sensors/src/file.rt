@@ -1,5 +1,5 @@
 //! Sensor files.
-ghost use Rattle.std.specs.Prelude.{◌≡◌, ◌+◌, length, IfOk, IfErr};
+ghost use Rattle.std.specs.Prelude.{◌≡◌, ◌+◌, ◌≤◌, ◌^◌, length, IfOk, IfErr};
 ghost use Rattle.oc_sensors.specs.History.{ShowsWords};
 ghost use Rattle.oc_sensors.specs.File.{Explains, is_header, readings, sensor_file, sensor_of, sensor_row, sensor_rows, value_of};
 ghost use Rattle.oc_sensors.specs.declared.file.SensorError.TheVariants as error;
@@ -65,12 +65,13 @@ fn read_value(bytes: &[u8]) -> Option<i32>
 }
 
 /// The place of a name.
-fn find_sensor(names: &[Name], name: &[u8]) -> Option<usize>
+fn find_sensor(names: &[Name], name: &[u8]) -> Option<u32>
+    requires { length names.now ≤ 2 ^ 32 }
     ensures { result ≡ sensor_of names.now name.now }
 {
     for (place, known) in names.iter().enumerate() {
         if known.bytes() == name {
-            return Some(place);
+            return Some(place as u32);
         }
     }
     None
@@ -87,6 +88,7 @@ fn has_header(rows: &Rows) -> bool
 
 /// The row at hand, after a row of this time.
 fn read_row(rows: &Rows, names: &[Name], before: u64) -> Result<Row, SensorWhat>
+    requires { length names.now ≤ 2 ^ 32 }
     ensures { result ≡ sensor_row names.now before rows.now.row }
 {
     if rows.field_count() != 3 {
@@ -113,6 +115,7 @@ fn read_row(rows: &Rows, names: &[Name], before: u64) -> Result<Row, SensorWhat>
 
 /// The rows left.
 fn read_rows(alloc: Global, rows: &mut Rows, names: &[Name]) -> Result<Vec<Row>, SensorError>
+    requires { length names.now ≤ 2 ^ 32 }
     ensures ok { IfOk result
         (λ v. sensor_rows names.now (rows.old.number + 1) 0 rows.old.left ≡ readings v.items) }
     ensures row { IfErr result
@@ -138,7 +141,8 @@ fn read_rows(alloc: Global, rows: &mut Rows, names: &[Name]) -> Result<Vec<Row>,
 }
 
 /// The sensors of a sensor file, at tick 0. Its header is `time,sensor,value`; each row after it
-/// has a time, not below that of the row before, the name of a sensor, and a value.
+/// has a time, not below that of the row before, the name of a sensor, and a value. A row keeps the
+/// place of its sensor in 32 bits, so memory is wanting where there are more names than these count.
 pub fn read_sensors(alloc: Global, bytes: &[u8], names: &[Name]) -> Result<Sensors, SensorError>
     ensures rows { IfOk result (λ s. sensor_file names.now bytes.now ≡ readings s.rows) }
     ensures sensors { IfOk result (λ s. s.sensors ≡ length names.now) }
@@ -152,6 +156,9 @@ pub fn read_sensors(alloc: Global, bytes: &[u8], names: &[Name]) -> Result<Senso
             row: 1,
             what: SensorWhat::Header,
         });
+    }
+    if names.len() > 1 << 32 {
+        return Err(SensorError::Memory);
     }
     let read = read_rows(alloc, &mut rows, names)?;
     Ok(Sensors::new(alloc, read, names.len())?)

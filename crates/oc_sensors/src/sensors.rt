@@ -11,7 +11,7 @@ use std::marker::Model;
 #[derive(Clone, Copy, Debug, PartialEq, Eq)]
 pub struct Row {
     pub time: u64,
-    pub sensor: usize,
+    pub sensor: u32,
     pub value: i32,
 }
 
@@ -52,7 +52,7 @@ fn move_on(rows: &[Row], last: &mut [i32], place: usize, now: u64) -> usize
     let mut at = place;
     while at < rows.len() && rows[at].time <= now {
         let row = rows[at];
-        last[row.sensor] = row.value;
+        last[row.sensor as usize] = row.value;
         at += 1;
     }
     at

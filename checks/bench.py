@@ -48,6 +48,14 @@ class Workload:
         return sum(path.stat().st_size for path in pathlib.Path(folder).iterdir())
 
 
+class Listing(Workload):
+    """The code of a source of checks/inputs/worst.py."""
+
+    def __init__(self, name, size, kind):
+        super().__init__(name, size, kind)
+        self.words = ("build", "source.oc")
+
+
 class Audit(Workload):
     """The audit of a report of N bytes that checks/inputs/reports.py prints."""
 
@@ -90,6 +98,8 @@ WORKLOADS = [
     Workload("references to nonvolatile variables", 63, "references"),
     Workload("names that end differently", 32, "names"),
     Workload("a thousand regions", 126, "regions"),
+    Workload("regions of 8,000 usual statements", 64, "usual"),
+    Listing("code of 8,000 usual statements", 64, "usual"),
     Audit("a report of the greatest size, four in five attempts aborted", "attempts"),
     Audit("a report of the greatest size, sums of all samples so far", "sums"),
     Execution("an image with the greatest code", "straight"),

@@ -97,12 +97,24 @@ def regions(n):
     return "sensor s;\nport r;\n" + shown + functions + function("main", [f"f{n - 1}();"])
 
 
+def usual(n):
+    """no hard one: N functions of a hundred statements and a fresh variable, each of which calls the one before it (64)"""
+    functions = []
+    for f in range(n):
+        lines = ["let x = sense(s);", "Fresh(x);", "emit(r, x);"]
+        for k in range(31):
+            value = "sense(s)" if k % 8 == 0 else f"n{(k + f) % 64} + {k}"
+            lines += [f"let a{k} = {value};", f"n{(k * 7 + f) % 64} = a{k} * 3 + 1;", f"if a{k} > 5 {{ emit(r, a{k}); }}"]
+        functions.append(function(f"f{f}", lines + [f"f{f - 1}();"] * (f > 0)))
+    return HEAD + "".join(functions) + function("main", [f"f{n - 1}();"])
+
+
 def statements(n):
     """N statements, of which 8,192 are accepted (8,192; up to 100,000 are refused)"""
     return "sensor s;\nfn main() {\n" + "sense(s);\n" * n + "}\n"
 
 
-KINDS = [fan, chain, tied, loops, variables, sums, pulls, references, names, regions, statements]
+KINDS = [fan, chain, tied, loops, variables, sums, pulls, references, names, regions, usual, statements]
 
 
 def main():

@@ -2,7 +2,7 @@
 use Rattle.std.proofs.Common.{◌≡◌, ◌<◌, ℕ, zero, suc, ◌+◌, Bool, true, false, true≢false, List, [], ◌∷◌, length, Option, Some, None, refl, ap, sym, ◌∙◌, subst, arith}
 use Rattle.std.specs.Prelude.{◌&&◌, ◌↔◌, cond, nat_eq, option_map, option_to_list, slice_get}
 use Rattle.std.specs.List.{list_any}
-use Rattle.std.proofs.lemmas.Bool.{eqb-true, eq-eqb}
+use Rattle.std.proofs.lemmas.Bool.{eqb-true, eq-eqb, and_from, and_parts}
 use Rattle.std.proofs.lemmas.List.{length-map}
 use Rattle.std.proofs.lemmas.Option.{none-some, same_Some}
 use Rattle.oc_tree.specs.Names.{Text}
@@ -13,7 +13,6 @@ use Rattle.oc_tree.specs.Members.{IsOf}
 use Rattle.oc_tree.specs.Assigned.{param_names, first_param, param_count, takes_mutable, mutable_param, own_param, alone, link_of, arg_links, args_links, to_links, pass_call}
 use Rattle.oc_tree.specs.Assigned.{function_links, pass_links_from, pass_links, written_through, function_writes, writes_from, writes_through, param_assigned}
 use Rattle.oc_tree.proofs.ReachLaws.{or_left, or_right, or_elim, links_lead, leads_trans, least}
-use Rattle.oc_reach.proofs.Bools.{and_both, and_first, and_second}
 use Rattle.oc_reach.proofs.Entries.{place_below}
 use Rattle.oc_reach.proofs.LinkLaws.{any_append}
 use Rattle.oc_reach.proofs.PassLaws.{params_at, takes_below, passes_within}
@@ -45,7 +44,7 @@ link_is : (r s : Option ℕ) (a b : ℕ) → linked (link_of r s) a b ≡ true �
 link_is None s a b h = absurd (true≢false (sym h))
 link_is (Some x) None a b h = absurd (true≢false (sym h))
 link_is (Some x) (Some y) a b h = or_elim (is_link a b (x, y)) false h
-    (λ k. (ap Some (eqb-true x a (and_first (nat_eq x a) (nat_eq y b) k)), ap Some (eqb-true y b (and_second (nat_eq x a) (nat_eq y b) k))))
+    (λ k. (ap Some (eqb-true x a (and_parts (nat_eq x a) (nat_eq y b) k).0), ap Some (eqb-true y b (and_parts (nat_eq x a) (nat_eq y b) k).1)))
     (λ k. absurd (true≢false (sym k)))
 
 -- ---- what is written
@@ -107,7 +106,7 @@ module _ (fs : List TFunction) where
   alone_is e x h = absurd (none-some x h)
 
   self_link : (a b : ℕ) → linked (link_of (Some a) (Some b)) a b ≡ true
-  self_link a b = or_left (nat_eq a a && nat_eq b b) false (and_both (nat_eq a a) (nat_eq b b) (eq-eqb a a refl) (eq-eqb b b refl))
+  self_link a b = or_left (nat_eq a a && nat_eq b b) false (and_from (nat_eq a a) (nat_eq b b) (eq-eqb a a refl) (eq-eqb b b refl))
 
   module _ (first : ℕ) (params : List Text) (v : ℕ) where
     arg_linked : (i j : ℕ) (x : Text) → place params x ≡ Some j → takes_mutable fs v i ≡ true → linked (arg_links fs first params v i (value (variable x))) (first + j) (number v i) ≡ true
@@ -206,17 +205,17 @@ module _ (fs : List TFunction) where
       let ab = links_lead links n a b link in
       let q = some_is n (λ w. writes_through fs w && reaches links n b w) h in
       let w = q.0 in
-      let on : reaches links n a w ≡ true = or_elim (nat_eq b w) (leads links n b w) (and_second (writes_through fs w) (reaches links n b w) q.2)
+      let on : reaches links n a w ≡ true = or_elim (nat_eq b w) (leads links n b w) (and_parts (writes_through fs w) (reaches links n b w) q.2).1
       (λ e. or_right (nat_eq a w) (leads links n a w) (subst (λ z. leads links n a z ≡ true) (eqb-true b w e) ab))
       (λ e. or_right (nat_eq a w) (leads links n a w) (leads_trans links n a b w (passes_within fs a b link).1 ab e)) in
-      some_at n (λ z. writes_through fs z && reaches links n a z) w q.1 (and_both (writes_through fs w) (reaches links n a w) (and_first (writes_through fs w) (reaches links n b w) q.2) on)
+      some_at n (λ z. writes_through fs z && reaches links n a z) w q.1 (and_from (writes_through fs w) (reaches links n a w) (and_parts (writes_through fs w) (reaches links n b w) q.2).0 on)
 
   through_assigned : (u j : ℕ) → AssignsThrough fs u j → param_assigned fs (number u j) ≡ true
   through_assigned u j (itself w) =
       let n = param_count fs in
       let x = number u j in
       some_at n (λ z. writes_through fs z && reaches (pass_links fs) n x z) x (number_below fs u j (is_param u j w.function w.name w.at w.param))
-      (and_both (writes_through fs x) (reaches (pass_links fs) n x x) (written u j w) (or_left (nat_eq x x) (leads (pass_links fs) n x x) (eq-eqb x x refl)))
+      (and_from (writes_through fs x) (reaches (pass_links fs) n x x) (written u j w) (or_left (nat_eq x x) (leads (pass_links fs) n x x) (eq-eqb x x refl)))
   through_assigned u j (passed_on {v = v} {i = i} p t) = assigned_on (number u j) (number v i) (linked_on u j v i p) (through_assigned v i t)
 
   -- the parameters of a number are assigned through
@@ -243,8 +242,8 @@ module _ (fs : List TFunction) where
       let x = number u j in
       let q = some_is n (λ w. writes_through fs w && reaches links n x w) h in
       let w = q.0 in
-      let there : At w = at_written w (and_first (writes_through fs w) (reaches links n x w) q.2) in
-      or_elim (nat_eq x w) (leads links n x w) (and_second (writes_through fs w) (reaches links n x w) q.2)
+      let there : At w = at_written w (and_parts (writes_through fs w) (reaches links n x w) q.2).0 in
+      or_elim (nat_eq x w) (leads links n x w) (and_parts (writes_through fs w) (reaches links n x w) q.2).1
       (λ e. there u j i (eqb-true x w e))
       (λ l. least links (λ a b. At b → At a) at_linked (λ a b c f g. λ k. f (g k)) n x w l there u j i refl)
 

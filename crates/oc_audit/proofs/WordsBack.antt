@@ -1,5 +1,6 @@
 -- The words of a line, read back.
 use Rattle.std.proofs.Common.{◌≡◌, ◌<◌, ℕ, suc, ◌+◌, ℤ, Bool, true, false, List, [], ◌∷◌, ◌++◌, length, FitsSigned, codes, refl, sym, ap, ◌∙◌, subst, append-nil, append_assoc, arith}
+use Rattle.std.proofs.lemmas.Bool.{and_parts}
 use Rattle.std.specs.Prelude.{◌==◌, ◌&&◌, ◌||◌, not}
 use Rattle.std.specs.Int.{w32}
 use Rattle.std.specs.Fmt.{signed_decimal}
@@ -12,14 +13,10 @@ use Rattle.oc_items.specs.Reading.{has_no_space, StandsBehind}
 use Rattle.oc_items.proofs.Numbers.{signed_from, signed_field, signed_back}
 use Rattle.oc_audit.specs.Words.{IsTail, IsNext, HasNoNext, spaced, IsWordsLine, ReadsOn, GivesWords}
 
-both : (a b : Bool) → (a && b) ≡ true → (a ≡ true) × (b ≡ true)
-both true b e = (refl, e)
-both false b e = absurd (cc (e))
-
 -- a field has no space
 field_spaces : (bytes : List ℕ) → is_field bytes ≡ true → has_no_space bytes ≡ true
 field_spaces [] h = refl
-field_spaces (b ∷ bytes) h = let p = both (not (ends_field b)) (is_field bytes) h in by (b == 32) (b == 10) p.0 (field_spaces bytes p.1)
+field_spaces (b ∷ bytes) h = let p = and_parts (not (ends_field b)) (is_field bytes) h in by (b == 32) (b == 10) p.0 (field_spaces bytes p.1)
   where
     by : (x y : Bool) → not (x || y) ≡ true → has_no_space bytes ≡ true → (not x && has_no_space bytes) ≡ true
     by false y n r = r
@@ -39,7 +36,7 @@ tail_cut (c ∷ a) [] x [] h k s t e = absurd (cc (e))
 tail_cut (c ∷ a) [] x (z ∷ y) h k s t e = let zc : c ≡ z = cc (e) in absurd (no_space_first c a h (zc ∙ t))
 tail_cut (c ∷ a) (d ∷ b) x y h k s t e =
     let cd : c ≡ d = cc (e) in
-    let r = tail_cut a b x y (both (not (c == 32)) (has_no_space a) h).1 (both (not (d == 32)) (has_no_space b) k).1 s t (cc (e)) in
+    let r = tail_cut a b x y (and_parts (not (c == 32)) (has_no_space a) h).1 (and_parts (not (d == 32)) (has_no_space b) k).1 s t (cc (e)) in
     (ap (λ z. z ∷ a) cd ∙ ap (λ l. d ∷ l) r.0, r.1)
 
 digits_spaces : (z : ℤ) → FitsSigned w32 z → has_no_space (signed_decimal z) ≡ true

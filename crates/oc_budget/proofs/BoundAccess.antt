@@ -1,6 +1,7 @@
 -- What a function, or a region of it, may write: names that may stand for a nonvolatile variable, or for what was lent, only
 -- where tables say so.
 use Rattle.std.proofs.Common.{◌≡◌, ◌≤◌, ◌+◌, ℕ, zero, suc, Bool, true, false, true≢false, List, [], ◌∷◌, ◌++◌, map, cond, Option, Some, None, refl, sym, ap, ◌∙◌, subst, arith}
+use Rattle.std.proofs.lemmas.Bool.{and_from, and_parts}
 use Rattle.std.specs.Prelude.{is_some, slice_get, ◌&&◌, ◌||◌, if◌then◌else◌}
 use Rattle.std.specs.Option.{option_or}
 use Rattle.std.specs.Str.{bytes_eq}
@@ -23,7 +24,6 @@ use Rattle.oc_tree.specs.Scope.{Scope, variable_in, is_name_of, is_taken, is_in_
 use Rattle.oc_code.specs.Scope.{Slot, InFrame, ByAddress, InNv, NoSlot, Named, named, kind_words, param_slot, let_named, for_named, params_scope, nv_scope, function_scope}
 use Rattle.oc_code.proofs.Places.{base, nv_width}
 use Rattle.oc_code.proofs.Lawful.{Access}
-use Rattle.oc_desugar.proofs.KeptExpressions.{first_holds, second_holds}
 use Rattle.oc_formed.proofs.BodiesPass.{first_fails, second_fails}
 use Rattle.oc_writes.proofs.Standing.{Each, each_front, each_back, each_join}
 use Rattle.oc_writes.proofs.KeptNames.{found_on}
@@ -52,14 +52,10 @@ at_param par qs (Some j) = one_param par j (slice_get qs j)
 abbrev pub access : TProgram → TFunction → (ℕ → Bool) → (ℕ → Bool) → Access
 access p f nv par = record { names = λ x. at_nv nv (place p.names.nvs x) && at_param par f.params (place (param_names f) x); nvs = nv }
 
-both_true : (a b : Bool) → a ≡ true → b ≡ true → a && b ≡ true
-both_true true b h g = g
-both_true false b h g = h
-
 module _ (p : TProgram) (f : TFunction) (nv par : ℕ → Bool) (x : Text) where
   pub may_name : ((i : ℕ) → place p.names.nvs x ≡ Some i → nv i ≡ true)
       → ((j : ℕ) (q : Param) → place (param_names f) x ≡ Some j → slice_get f.params j ≡ Some q → param_may q.passing (par j) ≡ true) → (access p f nv par).names x ≡ true
-  may_name h g = both_true (at_nv nv (place p.names.nvs x)) (at_param par f.params (place (param_names f) x)) (one (place p.names.nvs x) refl) (two (place (param_names f) x) refl)
+  may_name h g = and_from (at_nv nv (place p.names.nvs x)) (at_param par f.params (place (param_names f) x)) (one (place p.names.nvs x) refl) (two (place (param_names f) x) refl)
     where
       one : (o : Option ℕ) → place p.names.nvs x ≡ o → at_nv nv o ≡ true
       one None e = refl
@@ -74,10 +70,10 @@ module _ (p : TProgram) (f : TFunction) (nv par : ℕ → Bool) (x : Text) where
       two (Some j) e = three j e (slice_get f.params j) refl
 
   pub name_nv : (access p f nv par).names x ≡ true → (i : ℕ) → place p.names.nvs x ≡ Some i → nv i ≡ true
-  name_nv h i e = sym (ap (at_nv nv) e) ∙ first_holds (at_nv nv (place p.names.nvs x)) (at_param par f.params (place (param_names f) x)) h
+  name_nv h i e = sym (ap (at_nv nv) e) ∙ (and_parts (at_nv nv (place p.names.nvs x)) (at_param par f.params (place (param_names f) x)) h).0
 
   pub name_param : (access p f nv par).names x ≡ true → (j : ℕ) (q : Param) → place (param_names f) x ≡ Some j → slice_get f.params j ≡ Some q → param_may q.passing (par j) ≡ true
-  name_param h j q e s = sym (ap (one_param par j) s) ∙ sym (ap (at_param par f.params) e) ∙ second_holds (at_nv nv (place p.names.nvs x)) (at_param par f.params (place (param_names f) x)) h
+  name_param h j q e s = sym (ap (one_param par j) s) ∙ sym (ap (at_param par f.params) e) ∙ (and_parts (at_nv nv (place p.names.nvs x)) (at_param par f.params (place (param_names f) x)) h).1
 
 -- ---- names of parameters differ
 

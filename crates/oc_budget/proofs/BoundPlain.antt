@@ -1,5 +1,6 @@
 -- In a checked program each value is plain: no reference stands in it by its name alone, and no input or call.
 use Rattle.std.proofs.Common.{◌≡◌, ◌≤◌, ◌+◌, ℕ, zero, suc, Bool, true, false, true≢false, List, [], ◌∷◌, ◌++◌, sum_by, cond, Option, Some, None, refl, sym, ap, ◌∙◌, arith}
+use Rattle.std.proofs.lemmas.Bool.{and_parts}
 use Rattle.std.specs.Prelude.{is_some, slice_get, ◌&&◌, ◌||◌}
 use Rattle.std.proofs.lemmas.List.Sums.{sum_by-cons}
 use Rattle.std.proofs.lemmas.Option.{none-some, same_Some}
@@ -17,7 +18,6 @@ use Rattle.oc_tree.specs.Rules.{only_reference, passed_on, unary_fits, binary_fi
 use Rattle.oc_meaning.specs.Uses.{is_use}
 use Rattle.oc_code.specs.Scope.{Named, slot_of, address_slot, passed_slot, is_fresh_in, in_scope, for_named}
 use Rattle.oc_code.proofs.Spent.{IsPlain}
-use Rattle.oc_desugar.proofs.KeptExpressions.{first_holds, second_holds}
 use Rattle.oc_desugar.proofs.Unbroken.{Unbroken, unbroken}
 use Rattle.oc_formed.proofs.BodiesPass.{AllFine, fine_front, fine_back}
 use Rattle.oc_formed.proofs.BodiesArguments.{own_value}
@@ -32,13 +32,13 @@ module _ (p : TProgram) (scope : Scope) (γ : List Named) (all : AllFound p scop
   plain (number z) fits none = tt
   plain (truth b) fits none = tt
   plain (variable x) fits none = own_value p scope γ all x fits
-  plain (index x e) fits none = plain e (first_holds (expr_fits p scope e) (is_int (type_of p scope e)) (second_holds (has_elements (variable_of p scope x)) _ fits)) none
+  plain (index x e) fits none = plain e (and_parts (expr_fits p scope e) (is_int (type_of p scope e)) (and_parts (has_elements (variable_of p scope x)) _ fits).1).0 none
   plain (deref x) fits none = tt
-  plain (unary op e) fits none = plain e (first_holds (expr_fits p scope e) (unary_fits op (type_of p scope e)) fits) none
+  plain (unary op e) fits none = plain e (and_parts (expr_fits p scope e) (unary_fits op (type_of p scope e)) fits).0 none
   plain (binary op a b) fits none =
-      let rest = second_holds (expr_fits p scope a) _ fits in (
-        plain a (first_holds (expr_fits p scope a) _ fits) (omega (arith, none)),
-        plain b (first_holds (expr_fits p scope b) (binary_fits op (type_of p scope a) (type_of p scope b)) rest)
+      let rest = (and_parts (expr_fits p scope a) _ fits).1 in (
+        plain a (and_parts (expr_fits p scope a) _ fits).0 (omega (arith, none)),
+        plain b (and_parts (expr_fits p scope b) (binary_fits op (type_of p scope a) (type_of p scope b)) rest).0
             (omega (arith, none)),
       )
   plain (sensed s) fits none = absurd (omega (arith, none))
@@ -66,8 +66,8 @@ module _ (p : TProgram) (scope : Scope) (γ : List Named) (all : AllFound p scop
   args_plain : (args : TArgs) → args_fit p scope args ≡ true → args_pulls args ≡ 0 → args_counted γ args
   args_plain no_args fits none = tt
   args_plain (more_args a rest) fits none = (
-    arg_plain a (first_holds (arg_fits p scope a) (args_fit p scope rest) fits) (omega (arith, none)),
-    args_plain rest (second_holds (arg_fits p scope a) (args_fit p scope rest) fits)
+    arg_plain a (and_parts (arg_fits p scope a) (args_fit p scope rest) fits).0 (omega (arith, none)),
+    args_plain rest (and_parts (arg_fits p scope a) (args_fit p scope rest) fits).1
         (omega (arith, none)),
   )
 
@@ -111,13 +111,13 @@ module _ (p : TProgram) (uses : ℕ → Bool) where
     kind_plain h γ s (let_array m x t z n) all u fine own none told = tt
     kind_plain h γ s (assign x r) all u fine own none told = right_plain p h.scope γ all r u.fits own
     kind_plain h γ s (assign_index x e r) all u fine own none told =
-        let parts = second_holds (has_elements (variable_of p h.scope x)) _ u.fits in
-        let rest = second_holds (expr_fits p h.scope e) _ parts in (
-          right_plain p h.scope γ all r (second_holds (is_int (type_of p h.scope e)) (right_fits p h.scope r) rest) (omega (arith, own)),
+        let parts = (and_parts (has_elements (variable_of p h.scope x)) _ u.fits).1 in
+        let rest = (and_parts (expr_fits p h.scope e) _ parts).1 in (
+          right_plain p h.scope γ all r (and_parts (is_int (type_of p h.scope e)) (right_fits p h.scope r) rest).1 (omega (arith, own)),
           plain p h.scope γ all e
-              (first_holds (expr_fits p h.scope e) _ parts) (omega (arith, own)),
+              (and_parts (expr_fits p h.scope e) _ parts).0 (omega (arith, own)),
         )
-    kind_plain h γ s (assign_deref x r) all u fine own none told = right_plain p h.scope γ all r (second_holds _ (right_fits p h.scope r) u.fits) own
+    kind_plain h γ s (assign_deref x r) all u fine own none told = right_plain p h.scope γ all r (and_parts _ (right_fits p h.scope r) u.fits).1 own
     kind_plain h γ s (if_else c a b) all u fine own none told =
         let xs = block_elements p (inside h) a in
         let ys = else_elements p (inside h) b in (

@@ -2,7 +2,7 @@
 use Rattle.std.proofs.Common.{◌≡◌, ◌≤◌, ◌+◌, ℕ, zero, suc, Bool, true, false, true≢false, List, [], ◌∷◌, ◌++◌, map, cond, Option, Some, None, refl, sym, ap, ◌∙◌, arith}
 use Rattle.std.specs.Prelude.{slice_get, ◌&&◌, ◌||◌, length, filter, option_map, option_and_then}
 use Rattle.std.specs.List.{list_any}
-use Rattle.std.proofs.lemmas.Bool.{eq-eqb}
+use Rattle.std.proofs.lemmas.Bool.{eq-eqb, and_from}
 use Rattle.std.proofs.lemmas.Option.{none-some, same_Some}
 use Rattle.oc_tree.specs.Names.{Text}
 use Rattle.oc_tree.specs.Tree.{variable, TArg, value, shared, mutable, TCall, call, TArgs, no_args, more_args, TRight, right_value, right_sense, right_call, TKind, let_to, let_array}
@@ -23,7 +23,6 @@ use Rattle.oc_tree.specs.Places.{Placed, or_nonvolatile, at_start, block_placed}
 use Rattle.oc_tree.specs.Checked.{Group, IsChecked}
 use Rattle.oc_tree.specs.Marked.{TRegion, is_in_region}
 use Rattle.oc_tree.proofs.ReachLaws.{or_left, or_right}
-use Rattle.oc_reach.proofs.Bools.{and_both}
 use Rattle.oc_code.specs.Scope.{Slot, InFrame, ByAddress, InNv, NoSlot, kind_words, param_slot}
 use Rattle.oc_code.proofs.Lawful.{Access}
 use Rattle.oc_code.proofs.Closed.{call_within}
@@ -215,12 +214,12 @@ module _ (p : TProgram) (r : TRegion) where
         one : (e : TArg) → is_mutable q.passing ≡ true → param_assigned p.functions n ≡ true
             → ((w : VarId) → is_variable_of (passed p a q e).lent w && param_assigned p.functions n ≡ true → Assigned w) → ArgNamed p f nv par a ruled old v l e
         one (value (variable y)) m told back =
-            λ j c at s mm. back (variables.Param j) (and_both (is_variable_of (passed p a q (value (variable y))).lent (variables.Param j)) _
+            λ j c at s mm. back (variables.Param j) (and_from (is_variable_of (passed p a q (value (variable y))).lent (variables.Param j)) _
             (ap (λ o. is_variable_of o (variables.Param j)) (ap (λ b. cond b (variable_at p a y) None) m ∙ is_param y j at) ∙ same_itself (variables.Param j)) told)
         one (value g) m told back = tt
         one (shared y) m told back = tt
         one (mutable y) m told back =
-            λ i at. stored_at y i at (back (variables.Nv i) (and_both (is_variable_of (passed p a q (mutable y)).lent (variables.Nv i)) _
+            λ i at. stored_at y i at (back (variables.Nv i) (and_from (is_variable_of (passed p a q (mutable y)).lent (variables.Nv i)) _
             (ap (λ o. is_variable_of o (variables.Nv i)) (ap (λ b. cond b (variable_at p a y) None) m ∙ is_nv y i at) ∙ same_itself (variables.Nv i)) told))
 
     call_told : (c : TCall) → ((w : VarId) → region.call_assigns p (called_by p a c) w ≡ true → Assigned w)

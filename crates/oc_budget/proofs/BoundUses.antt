@@ -4,7 +4,7 @@ use Rattle.std.specs.Prelude.{is_some, slice_get, ◌&&◌, ◌||◌, if◌then�
 use Rattle.std.specs.List.{list_any}
 use Rattle.std.specs.Option.{option_or}
 use Rattle.std.specs.Str.{bytes_eq}
-use Rattle.std.proofs.lemmas.Bool.{eq-eqb}
+use Rattle.std.proofs.lemmas.Bool.{eq-eqb, and_from}
 use Rattle.std.proofs.lemmas.Option.{none-some, same_Some}
 use Rattle.std.proofs.lemmas.Slice.Eq.{bytes_eq-Decides}
 use Rattle.oc_tree.specs.Names.{Text}
@@ -20,7 +20,6 @@ use Rattle.oc_tree.specs.Stack.{kind_slots, block_slots}
 use Rattle.oc_tree.specs.Places.{Place as Spot, Placed, Variables, find_variable, let_variables, or_nonvolatile, behind, in_branch, in_loop, at_start, kind_placed, else_placed, block_placed}
 use Rattle.oc_tree.specs.Places.{stmts_placed}
 use Rattle.oc_tree.proofs.ReachLaws.{or_left, or_right}
-use Rattle.oc_reach.proofs.Bools.{and_both}
 use Rattle.oc_reach.proofs.LinkLaws.{any_append}
 use Rattle.oc_meaning.specs.Uses.{is_annotated, own_names}
 use Rattle.oc_meaning.specs.Uses as meaning
@@ -210,7 +209,7 @@ function_told p u f stands fine =
     each_map _ (Told p f es (budget_use p))
     (λ a h. record {
       ruled = h.0;
-      used = λ k. in_some p (uses_in a.id) p.functions u f stands (h.1.0 (and_both (nat_eq a.id a.id) (list_any T (effect_of p a).named) (eq-eqb a.id a.id refl) k));
+      used = λ k. in_some p (uses_in a.id) p.functions u f stands (h.1.0 (and_from (nat_eq a.id a.id) (list_any T (effect_of p a).named) (eq-eqb a.id a.id refl) k));
       marks = λ w e. h.1.1 w (ap (is_fresh_note w) e ∙ same_itself w);
     })
     xs (each_both _ _ xs (body_ruled p f u fine) (each_both _ _ xs one two))

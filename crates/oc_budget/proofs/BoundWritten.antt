@@ -1,6 +1,7 @@
 -- What each function may write, and what each region may: the tables of the code's claims, from the rules and from what is
 -- told of assignments.
 use Rattle.std.proofs.Common.{◌≡◌, ◌≤◌, ◌<◌, ◌+◌, ℕ, suc, Bool, true, false, true≢false, List, [], ◌∷◌, ◌++◌, map, get_or, cond, Option, Some, None, refl, sym, ap, ◌∙◌, subst, arith}
+use Rattle.std.proofs.lemmas.Bool.{and_from, and_parts}
 use Rattle.std.specs.Prelude.{is_some, slice_get, ◌&&◌, ◌||◌, ◌==◌, length, option_map, option_and_then}
 use Rattle.std.specs.List.{list_any, list_all}
 use Rattle.std.specs.Str.{bytes_eq}
@@ -24,7 +25,6 @@ use Rattle.oc_tree.specs.Scope.{variable_of, function_named, takes_param}
 use Rattle.oc_tree.specs.Checked.{Group, IsChecked}
 use Rattle.oc_tree.specs.Rules.{origin_is, is_mutable_param, is_writable, is_writable_array, arg_meets, args_meet, args_list, params_of, call_args, arg_lends}
 use Rattle.oc_tree.proofs.ReachLaws.{or_left, or_right}
-use Rattle.oc_reach.proofs.Bools.{and_both}
 use Rattle.oc_reach.proofs.LinkLaws.{any_append}
 use Rattle.oc_meaning.specs.Run as meaning
 use Rattle.oc_code.specs.Scope.{param_slot}
@@ -33,7 +33,6 @@ use Rattle.oc_code.proofs.Places.{is_reference}
 use Rattle.oc_code.proofs.Lawful.{Access, right_lawful}
 use Rattle.oc_code.proofs.Closed.{lent_name, name_may, params_within, call_within, tells_nvs}
 use Rattle.oc_desugar.proofs.FineCalls.{CallFine, Each as EachCall, each_back as calls_back}
-use Rattle.oc_desugar.proofs.KeptExpressions.{first_holds, second_holds}
 use Rattle.oc_desugar.proofs.Unbroken.{Unbroken}
 use Rattle.oc_formed.proofs.BodiesCalls.{last_call}
 use Rattle.oc_formed.proofs.BodiesFormed.{head_unbroken}
@@ -228,8 +227,8 @@ module _ (p : TProgram) (f : TFunction) (nv par : ℕ → Bool) (a : Placed) (ru
   args_may v l [] args meets lends n = tt
   args_may v l (q ∷ qs) no_args meets lends n = tt
   args_may v l (q ∷ qs) (more_args e rest) meets lends n = (
-    λ m told. arg_may v l q e m (first_holds (arg_meets p ruled.here.scope q e) (args_meet p ruled.here.scope qs rest) meets) (first_holds (arg_lends p ruled.here.scope e) _ lends) (n.0 m told),
-    args_may v (l + 1) qs rest (second_holds (arg_meets p ruled.here.scope q e) (args_meet p ruled.here.scope qs rest) meets) (second_holds (arg_lends p ruled.here.scope e) _ lends) n.1,
+    λ m told. arg_may v l q e m (and_parts (arg_meets p ruled.here.scope q e) (args_meet p ruled.here.scope qs rest) meets).0 (and_parts (arg_lends p ruled.here.scope e) _ lends).0 (n.0 m told),
+    args_may v (l + 1) qs rest (and_parts (arg_meets p ruled.here.scope q e) (args_meet p ruled.here.scope qs rest) meets).1 (and_parts (arg_lends p ruled.here.scope e) _ lends).1 n.1,
   )
 
   -- what is told of a call
@@ -246,8 +245,7 @@ module _ (p : TProgram) (f : TFunction) (nv par : ℕ → Bool) (a : Placed) (ru
       meets : (v : ℕ) (h : TFunction) → function_place p.functions g ≡ Some v → slice_get p.functions v ≡ Some h → args_meet p ruled.here.scope h.params args ≡ true
       meets v h placed stands =
           let found : function_named p g ≡ Some h = ap (option_and_then (λ k. slice_get p.functions k)) placed ∙ stands in
-          subst (λ o. args_meet p ruled.here.scope (params_of o) args ≡ true) found (second_holds (length (params_of (function_named p g)) == length (call_args (call g args)))
-          (args_meet p ruled.here.scope (params_of (function_named p g)) args) fine.meets)
+          subst (λ o. args_meet p ruled.here.scope (params_of o) args ≡ true) found (and_parts (length (params_of (function_named p g)) == length (call_args (call g args))) (args_meet p ruled.here.scope (params_of (function_named p g)) args) fine.meets).1
 
   abbrev pub RightTold : TRight → Type 0
   RightTold (right_value e) = Unit {0}
@@ -376,7 +374,7 @@ module _ (p : TProgram) (u : ℕ) (f : TFunction) (stands : slice_get p.function
         one (value g) m told none links = tt
         one (shared y) m told none links = tt
         one (mutable y) m told none links =
-            λ i at. stored_if y i at (λ j b. true≢false (sym (and_both (bytes_eq j.1 y) _ b (ap (assigned_number p.functions) (to m) ∙ told)) ∙ none j))
+            λ i at. stored_if y i at (λ j b. true≢false (sym (and_from (bytes_eq j.1 y) _ b (ap (assigned_number p.functions) (to m) ∙ told)) ∙ none j))
 
     call_told : (c : TCall) → ((j : Spare) → call_assigns p.functions j.1 c ≡ false) → ((j : Spare) → NoneCalled j c) → ((m : Kept) → NonePassed m c) → CallTold p f nv par a ruled old c
     call_told (call g args) assigns called passed = record {

@@ -1,5 +1,6 @@
 -- A call that breaks no rule, as a whole.
 use Rattle.std.proofs.Common.{◌≡◌, ℕ, suc, List, [], ◌∷◌, length, Some, refl, ap, sym, ◌∙◌, subst}
+use Rattle.std.proofs.lemmas.Bool.{and_parts}
 use Rattle.std.proofs.lemmas.Option.{none-some}
 use Rattle.std.specs.Prelude.{is_some, slice_get, codes}
 use Rattle.oc_tree.specs.Names.{Text}
@@ -12,7 +13,6 @@ use Rattle.oc_tree.specs.Rules.{args_known}
 use Rattle.oc_meaning.specs.Store.{Store, Global, Turn}
 use Rattle.oc_meaning.specs.Exec.{Passed, Went, Returned, Stopped}
 use Rattle.oc_meaning.specs.Run.{function_named, function_run, call_to, first_values, first_store}
-use Rattle.oc_desugar.proofs.KeptExpressions.{first_holds}
 use Rattle.oc_formed.proofs.Declared.{all_within}
 use Rattle.oc_formed.proofs.Mains.{main_called, main_takes_none}
 use Rattle.oc_copies.specs.Copies.{AreCopies, AreCopiedBack, own_run, beside, MayPass, HasStored, CopiesTellTheSame}
@@ -46,7 +46,7 @@ module _ (p : TProgram) (groups : List Group) (checked : IsChecked p groups) (re
 
 pub calls_do_copy : CallsDoCopy
 calls_do_copy p groups checked regions depth scope env σ stands stored f args ruled ps e =
-    let v = is_there (function_place p.functions f) (first_holds (is_some (function_place p.functions f)) (args_known p scope args) ruled.known) in
+    let v = is_there (function_place p.functions f) (and_parts (is_some (function_place p.functions f)) (args_known p scope args) ruled.known).0 in
     let found = found_named p f v.0 v.1 in
     let may = calls_may_pass p scope env σ stands f args ruled v.0 found.function v.1 found.stands ps e in
     does_copy p groups checked regions depth f v.0 found.function v.1 found.stands ps σ stored may.0 may.1

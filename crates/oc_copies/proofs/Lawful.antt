@@ -2,7 +2,7 @@
 use Rattle.std.proofs.Common.{◌≡◌, ℕ, suc, ◌+◌, Bool, true, false, true≢false, List, [], ◌∷◌, ◌++◌, length, Option, Some, None, cond, refl, ap, sym, ◌∙◌, subst, arith}
 use Rattle.std.specs.Prelude.{◌&&◌, ◌||◌, ◌==◌, not, nat_lt, is_some, slice_get, option_and_then, if◌then◌else◌}
 use Rattle.std.specs.Str.{bytes_eq}
-use Rattle.std.proofs.lemmas.Bool.{eqb-true, ltb-false}
+use Rattle.std.proofs.lemmas.Bool.{eqb-true, ltb-false, and_parts}
 use Rattle.std.proofs.lemmas.Slice.Eq.{bytes_eq-Decides}
 use Rattle.std.proofs.lemmas.Option.{none-some, same_Some}
 use Rattle.oc_tree.specs.Names.{Text}
@@ -28,7 +28,6 @@ use Rattle.oc_tree.specs.Rules.{is_writable_array, is_mutable_param}
 use Rattle.oc_meaning.specs.Uses.{expr_names, right_names}
 use Rattle.oc_meaning.specs.Uses.{own_names as said_names}
 use Rattle.oc_meaning.specs.Run.{function_named}
-use Rattle.oc_desugar.proofs.KeptExpressions.{first_holds, second_holds}
 use Rattle.oc_desugar.proofs.FineCalls.{CallFine, Each as EachCall, each_back as calls_back}
 use Rattle.oc_desugar.proofs.Unbroken.{Passes, none_broken, Unbroken, unbroken}
 use Rattle.oc_formed.proofs.BodiesPass.{first_fails, second_fails, AllFine, fine_front, fine_back, function_fine}
@@ -152,7 +151,7 @@ module _ (p : TProgram) (hidden : Text → Bool) (nv : ForHidden hidden (λ y. i
   call_lawful : (h : Here) (fs : Flags) (c : TCall) → AllFlags h.scope fs → call_known p h.scope c ≡ true → EachCall (CallFine p h) (call_calls c) → EachCall Goal (call_calls c) →
       ForHidden hidden (λ y. call_mentions y c ≡ 0) → IsLawfulCall hidden p IsQuiet (function_named p.functions) fs c
   call_lawful h fs (call f args) s known fine goes free =
-      let v = is_there (function_place p.functions f) (first_holds (is_some (function_place p.functions f)) (args_known p h.scope args) known) in
+      let v = is_there (function_place p.functions f) (and_parts (is_some (function_place p.functions f)) (args_known p h.scope args) known).0 in
       let found = found_named p f v.0 v.1 in
       let own : CallFine p h (call f args) = (calls_back (CallFine p h) (args_calls args) (call f args ∷ []) fine).0 in
       let on : Goal (call f args) = (calls_back Goal (args_calls args) (call f args ∷ []) goes).0 in
@@ -160,12 +159,12 @@ module _ (p : TProgram) (hidden : Text → Bool) (nv : ForHidden hidden (λ y. i
       let meets : (length found.function.params == length (args_list args)) && args_meet p h.scope found.function.params args ≡ true =
       subst (λ qs. (length qs == length (args_list args)) && args_meet p h.scope qs args ≡ true) params own.meets in
       let many : length found.function.params ≡ length (args_list args) =
-      eqb-true _ _ (first_holds (length found.function.params == length (args_list args)) (args_meet p h.scope found.function.params args) meets) in (
+      eqb-true _ _ (and_parts (length found.function.params == length (args_list args)) (args_meet p h.scope found.function.params args) meets).0 in (
         found.function,
         found.named,
         record { number = v.0; stands = found.stands; unnamed = λ y k. on v.0 v.1 y k },
         all_lawful p h.scope fs s hidden found.function.params args many
-            (second_holds (length found.function.params == length (args_list args)) (args_meet p h.scope found.function.params args) meets) own.lends free,
+            (and_parts (length found.function.params == length (args_list args)) (args_meet p h.scope found.function.params args) meets).1 own.lends free,
       )
 
   right_lawful : (h : Here) (fs : Flags) (r : TRight) → AllFlags h.scope fs → right_known p h.scope r ≡ true → EachCall (CallFine p h) (right_calls r) → EachCall Goal (right_calls r) →
@@ -261,15 +260,15 @@ module _ (p : TProgram) (hidden : Text → Bool) (nv : ForHidden hidden (λ y. i
     kind_lawful h fs (let_array m x t z n) s u fine free goes = tt
     kind_lawful h fs (assign x r) s u fine free goes =
         assign_lawful h fs x r is_writable refl s (target_shown x (assign x r) (λ y. refl) (λ y e. (free y e).0))
-        (second_holds (is_variable p h.scope x) (right_known p h.scope r) u.known) u.calls goes.0 (mentions_none (assign x r) (λ y e. (free y e).0)) (other_or _ u.target)
+        (and_parts (is_variable p h.scope x) (right_known p h.scope r) u.known).1 u.calls goes.0 (mentions_none (assign x r) (λ y e. (free y e).0)) (other_or _ u.target)
     kind_lawful h fs (assign_deref x r) s u fine free goes =
         assign_lawful h fs x r is_mutable_param refl s (target_shown x (assign_deref x r) (λ y. refl) (λ y e. (free y e).0))
-        (second_holds (is_variable p h.scope x) (right_known p h.scope r) u.known) u.calls goes.0 (mentions_none (assign_deref x r) (λ y e. (free y e).0)) (other_or _ u.pointee)
+        (and_parts (is_variable p h.scope x) (right_known p h.scope r) u.known).1 u.calls goes.0 (mentions_none (assign_deref x r) (λ y e. (free y e).0)) (other_or _ u.pointee)
     kind_lawful h fs (assign_index x i r) s u fine free goes =
         let none = mentions_none (assign_index x i r) (λ y e. (free y e).0) in
-        let known = second_holds (is_variable p h.scope x) (expr_known p h.scope i && right_known p h.scope r) u.known in
+        let known = (and_parts (is_variable p h.scope x) (expr_known p h.scope i && right_known p h.scope r) u.known).1 in
         let rest = assign_lawful h fs x r is_writable_array refl s (target_shown x (assign_index x i r) (λ y. refl) (λ y e. (free y e).0))
-        (second_holds (expr_known p h.scope i) (right_known p h.scope r) known)
+        (and_parts (expr_known p h.scope i) (right_known p h.scope r) known).1
         (calls_back (CallFine p h) (expr_calls i) (right_calls r) u.calls) (calls_back Goal (expr_calls i) (right_calls r) goes.0)
         (λ y k. let q : expr_mentions y i + right_mentions y r ≡ 0 = none y k in omega (arith, q)) (other_or _ u.array) in
         (rest.0, rest.1, shown_expr hidden i (λ y k. let q : expr_mentions y i + right_mentions y r ≡ 0 = none y k in omega (arith, q)), rest.2)

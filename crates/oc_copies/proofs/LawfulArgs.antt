@@ -1,5 +1,6 @@
 -- What rules leave of names in expressions and arguments.
 use Rattle.std.proofs.Common.{◌≡◌, ◌+◌, Bool, true, false, true≢false, List, [], ◌∷◌, ◌++◌, length, Option, Some, None, cond, refl, ap, sym, ◌∙◌, arith}
+use Rattle.std.proofs.lemmas.Bool.{and_parts}
 use Rattle.std.specs.List.{list_all}
 use Rattle.std.specs.Str.{bytes_eq}
 use Rattle.std.proofs.lemmas.Slice.Eq.{bytes_eq-Decides}
@@ -19,7 +20,6 @@ use Rattle.oc_tree.specs.Scope.{Scope, variable_in, variable_of, or_nv}
 use Rattle.oc_tree.specs.Types.{is_reference, scalar_of, is_same, value_type}
 use Rattle.oc_tree.specs.Rules.{only_reference, passed_on, has_kind, origin_is, is_mutable_param, is_writable, value_meets, shared_meets, arg_meets, args_meet, args_list, arg_lends}
 use Rattle.oc_meaning.specs.Uses.{expr_names, arg_names, call_names, args_names}
-use Rattle.oc_desugar.proofs.KeptExpressions.{first_holds, second_holds}
 use Rattle.oc_copies.proofs.Twins.{Flags, flag_of, is_shared, handed, Shown, AreLawful}
 
 module _ (hidden : Text → Bool) where
@@ -115,7 +115,7 @@ module _ (p : TProgram) (scope : Scope) (fs : Flags) (flags : AllFlags scope fs)
       absurd (true≢false (sym h ∙ ap (λ o. is_same (scalar_of kind) (value_type (or_nv p x o))) v.1 ∙ ap (is_same (scalar_of kind)) (no_value v.0 v.2) ∙ same_none kind))
   value_careful passings.Mutable kind x h k =
       let v = flags x k in
-      let w = first_holds (origin_is is_mutable_param (passed_on p scope (variable x))) (has_kind kind (passed_on p scope (variable x))) h in
+      let w = (and_parts (origin_is is_mutable_param (passed_on p scope (variable x))) (has_kind kind (passed_on p scope (variable x))) h).0 in
       absurd (true≢false (sym w ∙ ap (λ o. origin_is is_mutable_param (only_reference (or_nv p x o))) v.1 ∙ not_writing v.0 v.2))
 
   shared_careful : (w : Passing) (kind : ValueKind) (o : Option Var) → shared_meets w kind o ≡ true → is_shared w ≡ true
@@ -145,9 +145,9 @@ module _ (p : TProgram) (scope : Scope) (fs : Flags) (flags : AllFlags scope fs)
     record {
       shown = shown_arg hidden a (λ y k. let s : arg_mentions y a + args_mentions y rest ≡ 0 = h y k in omega (arith, s));
       careful =
-          λ x e k. careful_arg q a x (first_holds (arg_meets p scope q a) (args_meet p scope qs rest) m) (first_holds (arg_lends p scope a) (list_all (arg_lends p scope) (args_list rest)) l) e k;
+          λ x e k. careful_arg q a x (and_parts (arg_meets p scope q a) (args_meet p scope qs rest) m).0 (and_parts (arg_lends p scope a) (list_all (arg_lends p scope) (args_list rest)) l).0 e k;
     },
-    all_lawful hidden qs rest (omega (arith, n)) (second_holds (arg_meets p scope q a) (args_meet p scope qs rest) m)
-        (second_holds (arg_lends p scope a) (list_all (arg_lends p scope) (args_list rest)) l)
+    all_lawful hidden qs rest (omega (arith, n)) (and_parts (arg_meets p scope q a) (args_meet p scope qs rest) m).1
+        (and_parts (arg_lends p scope a) (list_all (arg_lends p scope) (args_list rest)) l).1
         (λ y k. let s : arg_mentions y a + args_mentions y rest ≡ 0 = h y k in omega (arith, s)),
   )

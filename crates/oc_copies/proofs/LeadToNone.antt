@@ -3,7 +3,7 @@ use Rattle.std.proofs.Common.{◌≡◌, ◌<◌, ℕ, zero, suc, ◌+◌, Bool,
 use Rattle.std.specs.Prelude.{◌&&◌, ◌||◌, not, nat_eq, slice_get, option_to_list}
 use Rattle.std.specs.List.{list_any, flat_map}
 use Rattle.std.proofs.Math.ListN.{get_or}
-use Rattle.std.proofs.lemmas.Bool.{eqb-true, eq-eqb}
+use Rattle.std.proofs.lemmas.Bool.{eqb-true, eq-eqb, and_from, and_parts}
 use Rattle.std.proofs.lemmas.List.{map-append}
 use Rattle.std.proofs.lemmas.Option.{none-some, same_Some, slice_get_within}
 use Rattle.oc_tree.specs.Names.{Text}
@@ -14,7 +14,6 @@ use Rattle.oc_tree.specs.Calls.{place, function_names, function_place, callee, o
 use Rattle.oc_tree.specs.Calls.{function_mentions, reaches_mention}
 use Rattle.oc_tree.proofs.ReachLaws.{or_left, or_right, or_elim, links_lead, leads_trans}
 use Rattle.oc_reach.specs.Within.{IsWithin}
-use Rattle.oc_reach.proofs.Bools.{and_both, and_first, and_second}
 use Rattle.oc_reach.proofs.LinkLaws.{any_append, calls_within}
 use Rattle.oc_reach.proofs.Walk.{some_at, some_is}
 use Rattle.oc_desugar.proofs.FineCalls.{Each as EachCall, each_front as calls_front, each_back as calls_back}
@@ -29,7 +28,7 @@ self_fails links n test u below h = by (test u) refl
     by : (b : Bool) → test u ≡ b → b ≡ false
     by false e = refl
     by true e =
-        absurd (true≢false (sym (some_at n (λ v. test v && reaches links n u v) u below (and_both (test u) (reaches links n u u) e (or_left (nat_eq u u) (leads links n u u) (eq-eqb u u refl)))) ∙ h))
+        absurd (true≢false (sym (some_at n (λ v. test v && reaches links n u v) u below (and_from (test u) (reaches links n u u) e (or_left (nat_eq u u) (leads links n u u) (eq-eqb u u refl)))) ∙ h))
 
 -- and what it is linked to reaches none either
 pub next_fails : (links : Links) (n : ℕ) (test : ℕ → Bool) (u v : ℕ) → IsWithin links n → linked links u v ≡ true → reaches_some links n test u ≡ false → reaches_some links n test v ≡ false
@@ -46,9 +45,9 @@ next_fails links n test u v within link h = by (reaches_some links n test v) ref
     by false e = refl
     by true e =
         let q = some_is n (λ w. test w && reaches links n v w) e in
-        let t : test q.0 ≡ true = and_first (test q.0) (reaches links n v q.0) q.2 in
-        let r : reaches links n v q.0 ≡ true = and_second (test q.0) (reaches links n v q.0) q.2 in
-        absurd (true≢false (sym (some_at n (λ w. test w && reaches links n u w) q.0 q.1 (and_both (test q.0) (reaches links n u q.0) t (on q.0 r))) ∙ h))
+        let t : test q.0 ≡ true = (and_parts (test q.0) (reaches links n v q.0) q.2).0 in
+        let r : reaches links n v q.0 ≡ true = (and_parts (test q.0) (reaches links n v q.0) q.2).1 in
+        absurd (true≢false (sym (some_at n (λ w. test w && reaches links n u w) q.0 q.1 (and_from (test q.0) (reaches links n u q.0) t (on q.0 r))) ∙ h))
 
 -- ---- each of a list
 
@@ -107,4 +106,4 @@ each_called names u Q (c ∷ cs) h =
     )
   where
     own : (v : ℕ) → linked (map (λ w. (u, w)) (option_to_list (Some v))) u v ≡ true
-    own v = or_left (nat_eq u u && nat_eq v v) false (and_both (nat_eq u u) (nat_eq v v) (eq-eqb u u refl) (eq-eqb v v refl))
+    own v = or_left (nat_eq u u && nat_eq v v) false (and_from (nat_eq u u) (nat_eq v v) (eq-eqb u u refl) (eq-eqb v v refl))

@@ -2,7 +2,7 @@
 use Rattle.std.proofs.Common.{◌≡◌, ◌<◌, ◌≤◌, ℕ, zero, suc, Bool, true, false, true≢false, List, [], ◌∷◌, length, Option, Some, None, cond, refl, ap, sym, ◌∙◌, subst, arith}
 use Rattle.std.specs.Prelude.{ℤ, ◌&&◌, ◌==◌, nat_lt, is_some, slice_get, option_map, if◌then◌else◌}
 use Rattle.std.specs.List.{list_any, list_all}
-use Rattle.std.proofs.lemmas.Bool.{eqb-true}
+use Rattle.std.proofs.lemmas.Bool.{eqb-true, and_parts}
 use Rattle.std.proofs.lemmas.Slice.Eq.{bytes_eq-Decides}
 use Rattle.std.proofs.lemmas.Option.{none-some, same_Some, slice_get_within}
 use Rattle.oc_tree.specs.Names.{Text}
@@ -24,7 +24,6 @@ use Rattle.oc_tree.specs.Rules.{lent_is, all_lent}
 use Rattle.oc_meaning.specs.Store.{Place, Local, Global, Turn, Nowhere, Store, Binding, binding_of, place_of}
 use Rattle.oc_meaning.specs.Eval.{Got, Val, Traps, value_of}
 use Rattle.oc_meaning.specs.Exec.{Passed, Copied, Lent, Passing as Given, Passes, Breaks, passed_on, value_first, arg_first, args_of}
-use Rattle.oc_desugar.proofs.KeptExpressions.{first_holds, second_holds}
 use Rattle.oc_formed.proofs.BodiesPass.{first_fails, second_fails}
 use Rattle.oc_copies.specs.Copies.{lent_place, passing_at, IsThere, nv_name, MayPass}
 use Rattle.oc_copies.specs.Stands.{IsVariablePlace, Stands, AreFormed, IsRuledCall, CallsMayPass}
@@ -173,7 +172,7 @@ module _ (p : TProgram) (scope : Scope) (env : List Binding) (σ : Store) (s : S
   copied_form passings.Value kind e m h = refl
   copied_form passings.Shared kind e m h = absurd (true≢false (sym m ∙ ap (has_kind kind) (not_passed e h)))
   copied_form passings.Mutable kind e m h =
-      absurd (true≢false (sym (second_holds (origin_is is_mutable_param (rule_passed p scope e)) (has_kind kind (rule_passed p scope e)) m) ∙ ap (has_kind kind) (not_passed e h)))
+      absurd (true≢false (sym (and_parts (origin_is is_mutable_param (rule_passed p scope e)) (has_kind kind (rule_passed p scope e)) m).1 ∙ ap (has_kind kind) (not_passed e h)))
 
   lent_form : (w : Passing) (kind : ValueKind) (x : Text) → value_meets p scope w kind (variable x) ≡ true → (binding_of env x).reference ≡ true → is_by_reference w ≡ true
   lent_form passings.Value kind x m r = absurd (true≢false (sym m ∙ ap (is_same (scalar_of kind)) (value_none (variable_of p scope x) (sym (s.reference x) ∙ r)) ∙ same_none kind))
@@ -205,8 +204,8 @@ module _ (p : TProgram) (scope : Scope) (env : List Binding) (σ : Store) (s : S
   all_formed : (qs : List Param) (args : TArgs) (ps : List Passed) → length qs ≡ length (args_list args) → args_meet p scope qs args ≡ true → AreGivenBy args ps → AreFormed qs ps
   all_formed [] no_args [] n m g = tt
   all_formed (q ∷ qs) (more_args a rest) (t ∷ ps) n m g =
-      formed_first q qs t ps (one_form q a t (first_holds (arg_meets p scope q a) (args_meet p scope qs rest) m) g.0)
-      (all_formed qs rest ps (omega (arith, n)) (second_holds (arg_meets p scope q a) (args_meet p scope qs rest) m) g.1)
+      formed_first q qs t ps (one_form q a t (and_parts (arg_meets p scope q a) (args_meet p scope qs rest) m).0 g.0)
+      (all_formed qs rest ps (omega (arith, n)) (and_parts (arg_meets p scope q a) (args_meet p scope qs rest) m).1 g.1)
   all_formed [] (more_args a rest) ps n m g = absurd (omega (arith, n))
   all_formed (q ∷ qs) no_args ps n m g = absurd (omega (arith, n))
   all_formed [] no_args (t ∷ ps) n m g = absurd g
@@ -253,16 +252,16 @@ module _ (p : TProgram) (scope : Scope) (env : List Binding) (σ : Store) (s : S
     passing = refl;
     nth = refl;
     given = subst (λ c. IsGivenBy a (Lent c)) (same_Some b q e) g.0;
-    meets = first_holds (arg_meets p scope r a) (args_meet p scope qs rest) m;
-    lends = first_holds (arg_lends p scope a) (list_all (arg_lends p scope) (args_list rest)) l;
-    known = first_holds (arg_known p scope a) (args_known p scope rest) k;
+    meets = (and_parts (arg_meets p scope r a) (args_meet p scope qs rest) m).0;
+    lends = (and_parts (arg_lends p scope a) (list_all (arg_lends p scope) (args_list rest)) l).0;
+    known = (and_parts (arg_known p scope a) (args_known p scope rest) k).0;
     hidden = first_fails (arg_exposes p scope u a) (list_any (arg_exposes p scope u) (args_list rest)) h;
-    tests = λ test t. first_holds (lent_is test r a) (all_lent test qs rest) t;
+    tests = λ test t. (and_parts (lent_is test r a) (all_lent test qs rest) t).0;
   }
   lent_at u (r ∷ qs) (more_args a rest) (t ∷ ps) (suc i) q n m l k h g e =
-      let f = lent_at u qs rest ps i q (omega (arith, n)) (second_holds (arg_meets p scope r a) (args_meet p scope qs rest) m)
-      (second_holds (arg_lends p scope a) (list_all (arg_lends p scope) (args_list rest)) l)
-      (second_holds (arg_known p scope a) (args_known p scope rest) k) (second_fails (arg_exposes p scope u a) (list_any (arg_exposes p scope u) (args_list rest)) h) g.1 (later t ∙ e) in
+      let f = lent_at u qs rest ps i q (omega (arith, n)) (and_parts (arg_meets p scope r a) (args_meet p scope qs rest) m).1
+      (and_parts (arg_lends p scope a) (list_all (arg_lends p scope) (args_list rest)) l).1
+      (and_parts (arg_known p scope a) (args_known p scope rest) k).1 (second_fails (arg_exposes p scope u a) (list_any (arg_exposes p scope u) (args_list rest)) h) g.1 (later t ∙ e) in
       record {
         param = f.param;
         arg = f.arg;
@@ -273,7 +272,7 @@ module _ (p : TProgram) (scope : Scope) (env : List Binding) (σ : Store) (s : S
         lends = f.lends;
         known = f.known;
         hidden = f.hidden;
-        tests = λ test c. f.tests test (second_holds (lent_is test r a) (all_lent test qs rest) c);
+        tests = λ test c. f.tests test (and_parts (lent_is test r a) (all_lent test qs rest) c).1;
       }
     where
       later : (t : Passed) → lent_place ps i ≡ lent_place (t ∷ ps) (suc i)
@@ -301,7 +300,7 @@ module _ (p : TProgram) (scope : Scope) (env : List Binding) (σ : Store) (s : S
       let in_turn = s.turn g.0 z (sym g.3 ∙ t) in
       let meets : value_meets p scope passings.Mutable param.kind (variable g.0) ≡ true =
       subst (λ d. value_meets p scope passings.Mutable param.kind d ≡ true) g.1 (subst (λ c. value_meets p scope c param.kind e ≡ true) w m) in
-      let first = first_holds (origin_is is_mutable_param (rule_passed p scope (variable g.0))) (has_kind param.kind (rule_passed p scope (variable g.0))) meets in
+      let first = (and_parts (origin_is is_mutable_param (rule_passed p scope (variable g.0))) (has_kind param.kind (rule_passed p scope (variable g.0))) meets).0 in
       true≢false (sym first ∙ ap (λ o. origin_is is_mutable_param (only_reference (or_nv p g.0 o))) in_turn)
   not_turn param (shared x) q z g m l w t = true≢false (sym m ∙ ap (λ c. shared_meets c param.kind (variable_of p scope x)) w)
   not_turn param (mutable x) q z g m l w t = true≢false (sym l ∙ ap (λ o. origin_is is_writable (or_nv p x o)) (s.turn x z (sym g ∙ t)))
@@ -354,16 +353,16 @@ module _ (p : TProgram) (scope : Scope) (env : List Binding) (σ : Store) (s : S
     meets = subst (λ qs. (length qs == length (args_list args)) && args_meet p scope qs args ≡ true) params ruled.meets
 
     many : length g.params ≡ length (args_list args)
-    many = eqb-true _ _ (first_holds (length g.params == length (args_list args)) (args_meet p scope g.params args) meets)
+    many = eqb-true _ _ (and_parts (length g.params == length (args_list args)) (args_meet p scope g.params args) meets).0
 
     each : args_meet p scope g.params args ≡ true
-    each = second_holds (length g.params == length (args_list args)) (args_meet p scope g.params args) meets
+    each = (and_parts (length g.params == length (args_list args)) (args_meet p scope g.params args) meets).1
 
     formed : AreFormed g.params ps
     formed = all_formed g.params args ps many each given
 
     known : args_known p scope args ≡ true
-    known = second_holds (is_some (function_place p.functions f)) (args_known p scope args) ruled.known
+    known = (and_parts (is_some (function_place p.functions f)) (args_known p scope args) ruled.known).1
 
     hidden : list_any (arg_exposes p scope u) (args_list args) ≡ false
     hidden = ap (at_place (λ w. list_any (arg_exposes p scope w) (args_list args))) (sym at_name) ∙ ruled.hidden

@@ -14,7 +14,6 @@ use Rattle.oc_tree.specs.Calls.{place, function_names, function_place, callee, o
 use Rattle.oc_tree.specs.Calls.{function_mentions, reaches_mention}
 use Rattle.oc_tree.proofs.ReachLaws.{or_left, or_right, or_elim, links_lead, leads_trans}
 use Rattle.oc_reach.specs.Within.{IsWithin}
-use Rattle.oc_reach.proofs.Bools.{and_both, and_first, and_second}
 use Rattle.oc_reach.proofs.LinkLaws.{any_append, calls_within}
 use Rattle.oc_reach.proofs.Lists.{at_place}
 use Rattle.oc_desugar.proofs.FineCalls.{Each as EachCall}

@@ -1,5 +1,6 @@
 -- Calls that break no rule, in lists.
 use Rattle.std.proofs.Common.{◌≡◌, ℕ, ◌+◌, Bool, true, false, true≢false, List, [], ◌∷◌, ◌++◌, refl, ap, sym, subst, ◌∙◌}
+use Rattle.std.proofs.lemmas.Bool.{and_from, and_parts}
 use Rattle.std.specs.Prelude.{is_some, ◌||◌}
 use Rattle.std.specs.List.{list_all, list_any}
 use Rattle.oc_lex.specs.Stands.{IsName}
@@ -16,7 +17,7 @@ use Rattle.oc_tree.specs.Expansion.{left_expr, left_call, left_right, expand_kin
 use Rattle.oc_desugar.proofs.Seen.{SameTop, SameReach, SameHere}
 use Rattle.oc_desugar.proofs.HeldParts.{HeldCall, HeldRight, HeldKind}
 use Rattle.oc_desugar.proofs.KeptLookups.{SameNames}
-use Rattle.oc_desugar.proofs.KeptExpressions.{first_holds, second_holds, both_hold, no_calls_expr, no_calls_args, same_call_type}
+use Rattle.oc_desugar.proofs.KeptExpressions.{no_calls_expr, no_calls_args, same_call_type}
 use Rattle.oc_desugar.proofs.KeptCalls.{same_call_meets, same_call_lends, still_alone, same_call_exposes, same_back}
 
 -- the call breaks no rule, but maybe that its result is used
@@ -73,17 +74,17 @@ module _ (p : TProgram) (h : Here) where
   fine_from_rules (x ∷ xs) a b c d e g =
       let one : CallFine p h x = record {
         other = none_first _ (list_any (λ y. is_main (callee y)) xs) a;
-        meets = first_holds _ (list_all (call_meets p h.scope) xs) b;
-        lends = first_holds _ (list_all (λ y. list_all (arg_lends p h.scope) (call_args y)) xs) c;
-        alone = first_holds _ (list_all (lends_alone p) xs) d;
+        meets = (and_parts _ (list_all (call_meets p h.scope) xs) b).0;
+        lends = (and_parts _ (list_all (λ y. list_all (arg_lends p h.scope) (call_args y)) xs) c).0;
+        alone = (and_parts _ (list_all (lends_alone p) xs) d).0;
         hidden = none_first _ (list_any (call_exposes p h.scope) xs) e;
         away = none_first _ (list_any (callee_is (back_to p h.number) p) xs) g;
       } in
       let rest = fine_from_rules xs
       (none_second (is_main (callee x)) _ a)
-      (second_holds (call_meets p h.scope x) _ b)
-      (second_holds (list_all (arg_lends p h.scope) (call_args x)) _ c)
-      (second_holds (lends_alone p x) _ d)
+      (and_parts (call_meets p h.scope x) _ b).1
+      (and_parts (list_all (arg_lends p h.scope) (call_args x)) _ c).1
+      (and_parts (lends_alone p x) _ d).1
       (none_second (call_exposes p h.scope x) _ e)
       (none_second (callee_is (back_to p h.number) p x) _ g) in
       (one, rest)
@@ -94,15 +95,15 @@ module _ (p : TProgram) (h : Here) where
 
   pub all_meet : (cs : List TCall) → Each (CallFine p h) cs → list_all (call_meets p h.scope) cs ≡ true
   all_meet [] e = refl
-  all_meet (c ∷ cs) e = both_hold _ _ e.0.meets (all_meet cs e.1)
+  all_meet (c ∷ cs) e = and_from _ _ e.0.meets (all_meet cs e.1)
 
   pub all_lend : (cs : List TCall) → Each (CallFine p h) cs → list_all (λ c. list_all (arg_lends p h.scope) (call_args c)) cs ≡ true
   all_lend [] e = refl
-  all_lend (c ∷ cs) e = both_hold _ _ e.0.lends (all_lend cs e.1)
+  all_lend (c ∷ cs) e = and_from _ _ e.0.lends (all_lend cs e.1)
 
   pub all_alone : (cs : List TCall) → Each (CallFine p h) cs → list_all (lends_alone p) cs ≡ true
   all_alone [] e = refl
-  all_alone (c ∷ cs) e = both_hold _ _ e.0.alone (all_alone cs e.1)
+  all_alone (c ∷ cs) e = and_from _ _ e.0.alone (all_alone cs e.1)
 
   pub none_exposes : (cs : List TCall) → Each (CallFine p h) cs → list_any (call_exposes p h.scope) cs ≡ false
   none_exposes [] e = refl
@@ -114,11 +115,11 @@ module _ (p : TProgram) (h : Here) where
 
 pub gives_from_rule : (p : TProgram) (cs : List TCall) → list_all (λ c. is_some (call_type p c)) cs ≡ true → Each (Gives p) cs
 gives_from_rule p [] h = tt
-gives_from_rule p (c ∷ cs) h = (first_holds _ (list_all (λ d. is_some (call_type p d)) cs) h, gives_from_rule p cs (second_holds (is_some (call_type p c)) _ h))
+gives_from_rule p (c ∷ cs) h = ((and_parts _ (list_all (λ d. is_some (call_type p d)) cs) h).0, gives_from_rule p cs (and_parts (is_some (call_type p c)) _ h).1)
 
 pub all_give : (p : TProgram) (cs : List TCall) → Each (Gives p) cs → list_all (λ c. is_some (call_type p c)) cs ≡ true
 all_give p [] e = refl
-all_give p (c ∷ cs) e = both_hold _ _ e.0 (all_give p cs e.1)
+all_give p (c ∷ cs) e = and_from _ _ e.0 (all_give p cs e.1)
 
 -- ---- what is left of a statement calls what is left of its own call, if it is one or its right side is one
 

@@ -1,5 +1,6 @@
 -- Each pull of a statement that breaks no rule is a right side that breaks none, where the temporaries before it are held.
 use Rattle.std.proofs.Common.{◌≡◌, ℕ, ◌+◌, true, false, List, [], ◌∷◌, ◌++◌, length, inl, inr, refl, ap, sym, subst, ◌∙◌}
+use Rattle.std.proofs.lemmas.Bool.{and_parts}
 use Rattle.std.specs.Prelude.{is_some, ◌&&◌, ◌||◌}
 use Rattle.oc_lex.specs.Stands.{IsName}
 use Rattle.oc_tree.specs.Tree.{TExpr, number, truth, variable, index, deref, unary, binary, sensed, called, TArg, value, shared, mutable, TCall, call, TArgs, no_args, more_args}
@@ -18,7 +19,7 @@ use Rattle.oc_desugar.proofs.Lengths.{length_expr, length_arg}
 use Rattle.oc_desugar.proofs.NoPulls.{none_call}
 use Rattle.oc_desugar.proofs.HeldParts.{HeldCall, held_front, held_back, held_call}
 use Rattle.oc_desugar.proofs.KeptLookups.{SameNames, same_sensor}
-use Rattle.oc_desugar.proofs.KeptExpressions.{first_holds, second_holds, none_skipped, known_call, fits_call, same_call_type}
+use Rattle.oc_desugar.proofs.KeptExpressions.{none_skipped, known_call, fits_call, same_call_type}
 use Rattle.oc_desugar.proofs.FineCalls.{CallFine, Gives, Each, each_front, each_back, each_call, fine_left, gives_left}
 use Rattle.oc_desugar.proofs.PullSplits.{no_place, only_place, InSecond, first_or_second}
 
@@ -60,11 +61,11 @@ pub record PullFine (p q : TProgram) (g : Here) (r : TRight) : Type 0 where
 module _ (p : TProgram) (h : Here) where
   fine_in_index : (x : _) (e : TExpr) → ExprFine p h (index x e) → ExprFine p h e
   fine_in_index x e w =
-      let rest : expr_fits p h.scope e && is_int (type_of p h.scope e) ≡ true = second_holds (has_elements (variable_of p h.scope x)) _ w.fits in
+      let rest : expr_fits p h.scope e && is_int (type_of p h.scope e) ≡ true = (and_parts (has_elements (variable_of p h.scope x)) _ w.fits).1 in
       record {
         form = w.form.1;
-        known = second_holds (is_variable p h.scope x) _ w.known;
-        fits = or_right (is_some (passed_on p h.scope e)) _ (first_holds _ (is_int (type_of p h.scope e)) rest);
+        known = (and_parts (is_variable p h.scope x) _ w.known).1;
+        fits = or_right (is_some (passed_on p h.scope e)) _ (and_parts _ (is_int (type_of p h.scope e)) rest).0;
         calls = w.calls;
         gives = w.gives;
       }
@@ -73,7 +74,7 @@ module _ (p : TProgram) (h : Here) where
   fine_in_unary op e w = record {
     form = w.form;
     known = w.known;
-    fits = or_right (is_some (passed_on p h.scope e)) _ (first_holds _ (unary_fits op (type_of p h.scope e)) w.fits);
+    fits = or_right (is_some (passed_on p h.scope e)) _ (and_parts _ (unary_fits op (type_of p h.scope e)) w.fits).0;
     calls = w.calls;
     gives = w.gives;
   }
@@ -81,19 +82,19 @@ module _ (p : TProgram) (h : Here) where
   fine_on_left : (op : _) (a b : TExpr) → ExprFine p h (binary op a b) → ExprFine p h a
   fine_on_left op a b w = record {
     form = w.form.0;
-    known = first_holds _ (expr_known p h.scope b) w.known;
-    fits = or_right (is_some (passed_on p h.scope a)) _ (first_holds _ (expr_fits p h.scope b && binary_fits op (type_of p h.scope a) (type_of p h.scope b)) w.fits);
+    known = (and_parts _ (expr_known p h.scope b) w.known).0;
+    fits = or_right (is_some (passed_on p h.scope a)) _ (and_parts _ (expr_fits p h.scope b && binary_fits op (type_of p h.scope a) (type_of p h.scope b)) w.fits).0;
     calls = each_front (CallFine p h) (expr_calls a) (expr_calls b) w.calls;
     gives = each_front (Gives p) (expr_calls a) (expr_calls b) w.gives;
   }
 
   fine_on_right : (op : _) (a b : TExpr) → ExprFine p h (binary op a b) → ExprFine p h b
   fine_on_right op a b w =
-      let rest : expr_fits p h.scope b && binary_fits op (type_of p h.scope a) (type_of p h.scope b) ≡ true = second_holds (expr_fits p h.scope a) _ w.fits in
+      let rest : expr_fits p h.scope b && binary_fits op (type_of p h.scope a) (type_of p h.scope b) ≡ true = (and_parts (expr_fits p h.scope a) _ w.fits).1 in
       record {
         form = w.form.1;
-        known = second_holds (expr_known p h.scope a) _ w.known;
-        fits = or_right (is_some (passed_on p h.scope b)) _ (first_holds _ (binary_fits op (type_of p h.scope a) (type_of p h.scope b)) rest);
+        known = (and_parts (expr_known p h.scope a) _ w.known).1;
+        fits = or_right (is_some (passed_on p h.scope b)) _ (and_parts _ (binary_fits op (type_of p h.scope a) (type_of p h.scope b)) rest).0;
         calls = each_back (CallFine p h) (expr_calls a) (expr_calls b) w.calls;
         gives = each_back (Gives p) (expr_calls a) (expr_calls b) w.gives;
       }
@@ -101,8 +102,8 @@ module _ (p : TProgram) (h : Here) where
   fine_first : (a : TArg) (rest : TArgs) → ArgsFine p h (more_args a rest) → ArgFine p h a
   fine_first a rest w = record {
     form = w.form.0;
-    known = first_holds _ (args_known p h.scope rest) w.known;
-    fits = first_holds _ (args_fit p h.scope rest) w.fits;
+    known = (and_parts _ (args_known p h.scope rest) w.known).0;
+    fits = (and_parts _ (args_fit p h.scope rest) w.fits).0;
     calls = each_front (CallFine p h) (arg_calls a) (args_calls rest) w.calls;
     gives = each_front (Gives p) (arg_calls a) (args_calls rest) w.gives;
   }
@@ -110,8 +111,8 @@ module _ (p : TProgram) (h : Here) where
   fine_later : (a : TArg) (rest : TArgs) → ArgsFine p h (more_args a rest) → ArgsFine p h rest
   fine_later a rest w = record {
     form = w.form.1;
-    known = second_holds (arg_known p h.scope a) _ w.known;
-    fits = second_holds (arg_fits p h.scope a) _ w.fits;
+    known = (and_parts (arg_known p h.scope a) _ w.known).1;
+    fits = (and_parts (arg_fits p h.scope a) _ w.fits).1;
     calls = each_back (CallFine p h) (arg_calls a) (args_calls rest) w.calls;
     gives = each_back (Gives p) (arg_calls a) (args_calls rest) w.gives;
   }
@@ -122,7 +123,7 @@ module _ (p : TProgram) (h : Here) where
   fine_in_call : (g : _) (xs : TArgs) → ExprFine p h (called (call g xs)) → ArgsFine p h xs
   fine_in_call g xs w = record {
     form = w.form.1;
-    known = second_holds (is_some (function_place p.functions g)) _ w.known;
+    known = (and_parts (is_some (function_place p.functions g)) _ w.known).1;
     fits = w.fits;
     calls = each_front (CallFine p h) (args_calls xs) (call g xs ∷ []) w.calls;
     gives = each_front (Gives p) (args_calls xs) (call g xs ∷ []) w.gives;

@@ -1,11 +1,11 @@
 -- The groups of an expansion are groups: each is a stretch of statements directly in one block, and each statement is in
 -- one.
 use Rattle.std.proofs.Common.{◌≡◌, ℕ, zero, suc, ◌+◌, ◌<◌, ◌≤◌, ◌⊎◌, inl, inr, Bool, true, false, cond, ◌&&◌, Some, List, [], ◌∷◌, ◌++◌, length, refl, ap, sym, subst, ◌∙◌, arith}
-use Rattle.std.proofs.Common.{All, count_by, flat_map, true≢false}
+use Rattle.std.proofs.Common.{All, count_by, flat_map}
 use Rattle.std.specs.Prelude.{nat_le}
 use Rattle.std.proofs.lemmas.List.Sums.{sum_by-cons}
 use Rattle.std.proofs.lemmas.List.Elements.{All-nil, All-cons}
-use Rattle.std.proofs.lemmas.Bool.{eq-eqb, le-leb, leb-true}
+use Rattle.std.proofs.lemmas.Bool.{eq-eqb, le-leb, leb-true, and_parts}
 use Rattle.oc_tree.specs.Tree.{TRight, TKind, let_to, let_array, assign, assign_index, assign_deref, if_else, for_in, while_do, call_only, sense_only, emit, fresh, consistent}
 use Rattle.oc_tree.specs.Tree.{return, TElse, no_else, else_do, stmt, TBlock, block, TStmts, no_stmts, more, TFunction, TProgram}
 use Rattle.oc_tree.specs.Numbers.{numbers_on}
@@ -23,14 +23,6 @@ use Rattle.oc_desugar.proofs.BlockPairs.{Pair, kind_pairs, else_pairs, block_pai
 and_false : (b : Bool) → b && false ≡ false
 and_false true = refl
 and_false false = refl
-
-and_first : (a b : Bool) → a && b ≡ true → a ≡ true
-and_first true b h = refl
-and_first false b h = h
-
-and_second : (a b : Bool) → a && b ≡ true → b ≡ true
-and_second true b h = h
-and_second false b h = absurd (true≢false (sym h))
 
 -- ---- the statements of a group stand in one block
 
@@ -170,8 +162,8 @@ module _ (p : TProgram) where
     told : (b : Bool) → is_between s g ≡ b → is_in_group (expansion p) s g ≡ is_between s g
     told false e = ap (λ x. same_block (block_of (expansion p) s) (block_of (expansion p) g.0) && x) e ∙ and_false (same_block (block_of (expansion p) s) (block_of (expansion p) g.0)) ∙ sym e
     told true e =
-        let l = leb-true g.0 s (and_first (nat_le g.0 s) (nat_le s g.1) e) in
-        let m = leb-true s g.1 (and_second (nat_le g.0 s) (nat_le s g.1) e) in
+        let l = leb-true g.0 s (and_parts (nat_le g.0 s) (nat_le s g.1) e).0 in
+        let m = leb-true s g.1 (and_parts (nat_le g.0 s) (nat_le s g.1) e).1 in
         ap (λ x. x && is_between s g) (blocks_same g t s g.0 l m (omega arith) t.1)
 
   counted_same : (s : ℕ) (gs : List Group) → Each (Together (program_pairs (expansion p))) gs → count_by (is_in_group (expansion p) s) gs ≡ count_by (is_between s) gs

@@ -1,6 +1,7 @@
 -- Where no rule is broken by a call, none is by what is left of it in the expansion: its arguments meet the parameters,
 -- lend what may be lent, stand alone where they are lent, and expose no nonvolatile variable.
 use Rattle.std.proofs.Common.{◌≡◌, ℕ, ◌+◌, ◌≤◌, Bool, true, true≢false, List, [], ◌∷◌, length, Option, Some, None, refl, ap, sym, ◌∙◌, arith}
+use Rattle.std.proofs.lemmas.Bool.{and_from, and_parts}
 use Rattle.std.specs.Prelude.{option_map, ◌&&◌, ◌||◌, ◌==◌}
 use Rattle.std.specs.Str.{bytes_eq}
 use Rattle.std.specs.List.{list_all, list_any}
@@ -26,7 +27,7 @@ use Rattle.oc_tree.specs.Expansion.{temporary, left_expr, left_call, left_args, 
 use Rattle.oc_desugar.proofs.Seen.{SameReach, new_var}
 use Rattle.oc_desugar.proofs.HeldParts.{HeldExpr, HeldCall, HeldArgs, HeldArg}
 use Rattle.oc_desugar.proofs.KeptLookups.{SameNames, apart, same_text, same_place, same_params, same_variable, same_test, new_kind, new_test, new_mutable, new_writable, new_own, new_is_nv}
-use Rattle.oc_desugar.proofs.KeptExpressions.{first_holds, second_holds, both_hold, same_type, same_passed}
+use Rattle.oc_desugar.proofs.KeptExpressions.{same_type, same_passed}
 
 -- ---- names are mentioned no more often
 
@@ -152,13 +153,13 @@ module _ {p q : TProgram} {f : ℕ → ℕ} {s t : Scope} (m : SameNames p q f s
     still_args gs k no_args i within o h = refl
     still_args [] k (more_args a rest) i within o h = refl
     still_args (g ∷ gs) k (more_args a rest) i within o h =
-        let own = still_arg g k a i.0 (λ x n. omega (arith, within x n)) (first_holds _ (args_meet p s gs rest) o) (first_holds _ (all_lent (λ x. all x == 1) gs rest) h) in
-        let others = still_args gs (k + arg_pulls a) rest i.1 (λ x n. omega (arith, within x n)) (second_holds (arg_meets p s g a) _ o) (second_holds (lent_is (λ x. all x == 1) g a) _ h) in
-        both_hold _ _ own others
+        let own = still_arg g k a i.0 (λ x n. omega (arith, within x n)) (and_parts _ (args_meet p s gs rest) o).0 (and_parts _ (all_lent (λ x. all x == 1) gs rest) h).0 in
+        let others = still_args gs (k + arg_pulls a) rest i.1 (λ x n. omega (arith, within x n)) (and_parts (arg_meets p s g a) _ o).1 (and_parts (lent_is (λ x. all x == 1) g a) _ h).1 in
+        and_from _ _ own others
 
   pub still_alone : (k : ℕ) (c : TCall) → CallInForm IsName c → call_meets p s c ≡ true → lends_alone p c ≡ true → lends_alone q (left_call k c) ≡ true
   still_alone k (call g xs) i o h =
-      let meet : args_meet p s (params_of (function_named p g)) xs ≡ true = second_holds (length (params_of (function_named p g)) == length (args_list xs)) _ o in
+      let meet : args_meet p s (params_of (function_named p g)) xs ≡ true = (and_parts (length (params_of (function_named p g)) == length (args_list xs)) _ o).1 in
       ap (λ gs. all_lent (λ x. args_mentions x (left_args k xs) == 1) gs (left_args k xs)) (same_params m.top g)
       ∙ still_args (λ x. args_mentions x xs) (λ x. args_mentions x (left_args k xs)) (λ x n. fewer_args x n k xs) (params_of (function_named p g)) k xs i.1 (λ x n. omega arith) meet h
 

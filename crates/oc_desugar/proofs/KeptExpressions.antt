@@ -1,6 +1,7 @@
 -- Where no rule is broken by an expression, none is by what is left of it in the expansion: its names are known, its
 -- parts fit, and it has the same type.
-use Rattle.std.proofs.Common.{◌≡◌, ℕ, ◌+◌, Bool, true, false, true≢false, [], ◌++◌, Option, Some, None, refl, ap, sym, ◌∙◌}
+use Rattle.std.proofs.Common.{◌≡◌, ℕ, ◌+◌, Bool, true, false, [], ◌++◌, Option, Some, None, refl, ap, ◌∙◌}
+use Rattle.std.proofs.lemmas.Bool.{and_from, and_parts}
 use Rattle.std.specs.Prelude.{nat_lt, is_some, option_map, ◌&&◌, ◌||◌}
 use Rattle.oc_lex.specs.Stands.{IsName}
 use Rattle.oc_tree.specs.Tree.{TExpr, number, truth, variable, index, deref, unary, binary, sensed, called, TArg, value, shared, mutable, TCall, call, TArgs, no_args, more_args}
@@ -21,18 +22,6 @@ use Rattle.oc_desugar.proofs.KeptLookups.{SameNames, same_place, same_result, sa
 use Rattle.oc_desugar.proofs.KeptLookups.{new_passed, held_is_variable, held_type, held_passed}
 
 -- ---- tests of two parts
-
-pub first_holds : (a b : Bool) → a && b ≡ true → a ≡ true
-first_holds true b h = refl
-first_holds false b h = h
-
-pub second_holds : (a b : Bool) → a && b ≡ true → b ≡ true
-second_holds true b h = h
-second_holds false b h = absurd (true≢false (sym h))
-
-pub both_hold : (a b : Bool) → a ≡ true → b ≡ true → a && b ≡ true
-both_hold true b h k = k
-both_hold false b h k = absurd (true≢false (sym h))
 
 -- ---- no call and no skipped pull is left
 
@@ -139,19 +128,19 @@ module _ {p q : TProgram} {f : ℕ → ℕ} {s t : Scope} (m : SameNames p q f s
     known_expr k (truth b) i h e = refl
     known_expr k (variable x) i h e = same_is_variable m x i ∙ e
     known_expr k (index x a) i h e =
-        both_hold _ _ (same_is_variable m x i.0 ∙ first_holds (is_variable p s x) (expr_known p s a) e) (known_expr k a i.1 h (second_holds (is_variable p s x) (expr_known p s a) e))
+        and_from _ _ (same_is_variable m x i.0 ∙ (and_parts (is_variable p s x) (expr_known p s a) e).0) (known_expr k a i.1 h (and_parts (is_variable p s x) (expr_known p s a) e).1)
     known_expr k (deref x) i h e = same_is_variable m x i ∙ e
     known_expr k (unary op a) i h e = known_expr k a i h e
     known_expr k (binary op a b) i h e =
-        both_hold _ _ (known_expr k a i.0 h.0 (first_holds (expr_known p s a) (expr_known p s b) e)) (known_expr (k + expr_pulls a) b i.1 h.1 (second_holds (expr_known p s a) (expr_known p s b) e))
+        and_from _ _ (known_expr k a i.0 h.0 (and_parts (expr_known p s a) (expr_known p s b) e).0) (known_expr (k + expr_pulls a) b i.1 h.1 (and_parts (expr_known p s a) (expr_known p s b) e).1)
     known_expr k (sensed x) i h e = held_is_variable q h
     known_expr k (called c) i h e = held_is_variable q h.1
 
     known_args : (k : ℕ) (xs : TArgs) → ArgsInForm IsName xs → HeldArgs p t k xs → args_known p s xs ≡ true → args_known q t (left_args k xs) ≡ true
     known_args k no_args i h e = refl
     known_args k (more_args a rest) i h e =
-        both_hold _ _ (known_arg k a i.0 h.0 (first_holds (arg_known p s a) (args_known p s rest) e))
-        (known_args (k + arg_pulls a) rest i.1 h.1 (second_holds (arg_known p s a) (args_known p s rest) e))
+        and_from _ _ (known_arg k a i.0 h.0 (and_parts (arg_known p s a) (args_known p s rest) e).0)
+        (known_args (k + arg_pulls a) rest i.1 h.1 (and_parts (arg_known p s a) (args_known p s rest) e).1)
 
     known_arg : (k : ℕ) (a : TArg) → ArgInForm IsName a → HeldArg p t k a → arg_known p s a ≡ true → arg_known q t (left_arg k a) ≡ true
     known_arg k (value a) i h e = known_expr k a i h e
@@ -160,7 +149,7 @@ module _ {p q : TProgram} {f : ℕ → ℕ} {s t : Scope} (m : SameNames p q f s
 
   pub known_call : (k : ℕ) (c : TCall) → CallInForm IsName c → HeldCall p t k c → call_known p s c ≡ true → call_known q t (left_call k c) ≡ true
   known_call k (call g args) i h e =
-      both_hold _ _ (ap is_some (same_place m.top g) ∙ first_holds _ (args_known p s args) e) (known_args k args i.1 h (second_holds _ (args_known p s args) e))
+      and_from _ _ (ap is_some (same_place m.top g) ∙ (and_parts _ (args_known p s args) e).0) (known_args k args i.1 h (and_parts _ (args_known p s args) e).1)
 
   pub known_right : (k : ℕ) (r : TRight) → RightInForm IsName r → HeldRight p t k r → right_known p s r ≡ true → right_known q t (left_right k r) ≡ true
   known_right k (right_value a) i h e = known_expr k a i.1 h e
@@ -175,26 +164,26 @@ module _ {p q : TProgram} {f : ℕ → ℕ} {s t : Scope} (m : SameNames p q f s
     fits_expr k (truth b) i h e = refl
     fits_expr k (variable x) i h e = ap is_some (same_value_type m x i) ∙ e
     fits_expr k (index x a) i h e =
-        let elements : has_elements (variable_of p s x) ≡ true = first_holds _ _ e in
-        let rest : expr_fits p s a && is_int (type_of p s a) ≡ true = second_holds (has_elements (variable_of p s x)) _ e in
-        both_hold _ _ (same_elements m x i.0 ∙ elements)
-        (both_hold _ _ (fits_expr k a i.1 h (first_holds _ (is_int (type_of p s a)) rest)) (ap is_int (same_type k a i.1 h) ∙ second_holds (expr_fits p s a) _ rest))
+        let elements : has_elements (variable_of p s x) ≡ true = (and_parts _ _ e).0 in
+        let rest : expr_fits p s a && is_int (type_of p s a) ≡ true = (and_parts (has_elements (variable_of p s x)) _ e).1 in
+        and_from _ _ (same_elements m x i.0 ∙ elements)
+        (and_from _ _ (fits_expr k a i.1 h (and_parts _ (is_int (type_of p s a)) rest).0) (ap is_int (same_type k a i.1 h) ∙ (and_parts (expr_fits p s a) _ rest).1))
     fits_expr k (deref x) i h e = ap is_some (same_pointed_type m x i) ∙ e
     fits_expr k (unary op a) i h e =
-        both_hold _ _ (fits_expr k a i h (first_holds _ (unary_fits op (type_of p s a)) e)) (ap (unary_fits op) (same_type k a i h) ∙ second_holds (expr_fits p s a) _ e)
+        and_from _ _ (fits_expr k a i h (and_parts _ (unary_fits op (type_of p s a)) e).0) (ap (unary_fits op) (same_type k a i h) ∙ (and_parts (expr_fits p s a) _ e).1)
     fits_expr k (binary op a b) i h e =
-        let left : expr_fits p s a ≡ true = first_holds _ _ e in
-        let rest : expr_fits p s b && binary_fits op (type_of p s a) (type_of p s b) ≡ true = second_holds (expr_fits p s a) _ e in
+        let left : expr_fits p s a ≡ true = (and_parts _ _ e).0 in
+        let rest : expr_fits p s b && binary_fits op (type_of p s a) (type_of p s b) ≡ true = (and_parts (expr_fits p s a) _ e).1 in
         let types = ap (λ x. binary_fits op x (type_of q t (left_expr (k + expr_pulls a) b))) (same_type k a i.0 h.0) ∙ ap (binary_fits op (type_of p s a)) (same_type (k + expr_pulls a) b i.1 h.1) in
-        both_hold _ _ (fits_expr k a i.0 h.0 left)
-        (both_hold _ _ (fits_expr (k + expr_pulls a) b i.1 h.1 (first_holds _ (binary_fits op (type_of p s a) (type_of p s b)) rest)) (types ∙ second_holds (expr_fits p s b) _ rest))
+        and_from _ _ (fits_expr k a i.0 h.0 left)
+        (and_from _ _ (fits_expr (k + expr_pulls a) b i.1 h.1 (and_parts _ (binary_fits op (type_of p s a) (type_of p s b)) rest).0) (types ∙ (and_parts (expr_fits p s b) _ rest).1))
     fits_expr k (sensed x) i h e = ap is_some (held_type q h) ∙ h.some
     fits_expr k (called c) i h e = ap is_some (held_type q h.1) ∙ h.1.some
 
     fit_args : (k : ℕ) (xs : TArgs) → ArgsInForm IsName xs → HeldArgs p t k xs → args_fit p s xs ≡ true → args_fit q t (left_args k xs) ≡ true
     fit_args k no_args i h e = refl
     fit_args k (more_args a rest) i h e =
-        both_hold _ _ (fits_arg k a i.0 h.0 (first_holds (arg_fits p s a) (args_fit p s rest) e)) (fit_args (k + arg_pulls a) rest i.1 h.1 (second_holds (arg_fits p s a) (args_fit p s rest) e))
+        and_from _ _ (fits_arg k a i.0 h.0 (and_parts (arg_fits p s a) (args_fit p s rest) e).0) (fit_args (k + arg_pulls a) rest i.1 h.1 (and_parts (arg_fits p s a) (args_fit p s rest) e).1)
 
     fits_arg : (k : ℕ) (a : TArg) → ArgInForm IsName a → HeldArg p t k a → arg_fits p s a ≡ true → arg_fits q t (left_arg k a) ≡ true
     fits_arg k (value a) i h e = fits_value f (passed_on p s a) (passed_on q t (left_expr k a)) (expr_fits p s a) (expr_fits q t (left_expr k a)) (same_passed k a i h) (fits_expr k a i h) e

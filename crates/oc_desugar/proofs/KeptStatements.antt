@@ -1,6 +1,7 @@
 -- The written statement as it is left in the expansion breaks no rule but maybe that of the counts, where the written
 -- one breaks none.
 use Rattle.std.proofs.Common.{◌≡◌, ℕ, ◌+◌, Bool, true, false, None, refl, ap, ◌∙◌, arith}
+use Rattle.std.proofs.lemmas.Bool.{and_from, and_parts}
 use Rattle.std.specs.Prelude.{not, nat_lt, is_some, ◌&&◌, ◌||◌}
 use Rattle.oc_lex.specs.Stands.{IsName}
 use Rattle.oc_tree.specs.Tree.{right_call, TKind, let_to, let_array, assign, assign_index, assign_deref, if_else, for_in, while_do, call_only, sense_only, emit, fresh, consistent, return, TProgram}
@@ -20,7 +21,7 @@ use Rattle.oc_desugar.proofs.NoPulls.{none_expr, none_kind}
 use Rattle.oc_desugar.proofs.HeldParts.{HeldKind, held_kind}
 use Rattle.oc_desugar.proofs.KeptLookups.{SameNames, same_taken, same_sensor, same_port, same_is_variable, same_value_type, same_pointed_type, same_elements, same_test, new_test}
 use Rattle.oc_desugar.proofs.KeptLookups.{new_writable, new_writable_array, new_mutable, new_let_in}
-use Rattle.oc_desugar.proofs.KeptExpressions.{first_holds, second_holds, both_hold, none_skipped_expr, none_skipped, same_type, same_right_type, known_expr, known_call}
+use Rattle.oc_desugar.proofs.KeptExpressions.{none_skipped_expr, none_skipped, same_type, same_right_type, known_expr, known_call}
 use Rattle.oc_desugar.proofs.KeptExpressions.{known_right, fits_expr, fits_call, fits_right}
 use Rattle.oc_desugar.proofs.FineCalls.{CallFine, Gives, each_own, each_used, fine_left, gives_left}
 use Rattle.oc_desugar.proofs.Unbroken.{Unbroken, unbroken, stays_unbroken}
@@ -76,20 +77,20 @@ module _ {p q : TProgram} {f : ℕ → ℕ} {h g : Here} (top : SameTop p q) (he
   known_own k i (let_to m x n r) o t e = known_right same k r o.2 t e
   known_own k i (let_array m x n z w) o t e = refl
   known_own k i (assign x r) o t e =
-      both_hold _ _ (same_is_variable same x o.0 ∙ first_holds _ (right_known p h.scope r) e) (known_right same k r o.1 t (second_holds (is_variable p h.scope x) _ e))
+      and_from _ _ (same_is_variable same x o.0 ∙ (and_parts _ (right_known p h.scope r) e).0) (known_right same k r o.1 t (and_parts (is_variable p h.scope x) _ e).1)
   known_own k i (assign_index x a r) o t e =
-      let rest : expr_known p h.scope a && right_known p h.scope r ≡ true = second_holds (is_variable p h.scope x) _ e in
-      both_hold _ _ (same_is_variable same x o.0 ∙ first_holds _ (expr_known p h.scope a && right_known p h.scope r) e)
-      (both_hold _ _ (known_expr same k a o.1 t.0 (first_holds _ (right_known p h.scope r) rest)) (known_right same (k + expr_pulls a) r o.2 t.1 (second_holds (expr_known p h.scope a) _ rest)))
+      let rest : expr_known p h.scope a && right_known p h.scope r ≡ true = (and_parts (is_variable p h.scope x) _ e).1 in
+      and_from _ _ (same_is_variable same x o.0 ∙ (and_parts _ (expr_known p h.scope a && right_known p h.scope r) e).0)
+      (and_from _ _ (known_expr same k a o.1 t.0 (and_parts _ (right_known p h.scope r) rest).0) (known_right same (k + expr_pulls a) r o.2 t.1 (and_parts (expr_known p h.scope a) _ rest).1))
   known_own k i (assign_deref x r) o t e =
-      both_hold _ _ (same_is_variable same x o.0 ∙ first_holds _ (right_known p h.scope r) e) (known_right same k r o.1 t (second_holds (is_variable p h.scope x) _ e))
+      and_from _ _ (same_is_variable same x o.0 ∙ (and_parts _ (right_known p h.scope r) e).0) (known_right same k r o.1 t (and_parts (is_variable p h.scope x) _ e).1)
   known_own k i (if_else c a b) o t e = known_expr same k c o.0 t e
   known_own k i (for_in x from to b) o t e = refl
   known_own k i (while_do c n b) o t e = known_expr same k c o.0 t e
   known_own k i (call_only c) o t e = known_call same k c o t e
   known_own k i (sense_only x) o t e = same_sensor top x ∙ e
   known_own k i (emit port a) o t e =
-      both_hold _ _ (same_port top port ∙ first_holds _ (expr_known p h.scope a) e) (known_expr same k a o.1 t (second_holds (is_name_of p.names.ports port) _ e))
+      and_from _ _ (same_port top port ∙ (and_parts _ (expr_known p h.scope a) e).0) (known_expr same k a o.1 t (and_parts (is_name_of p.names.ports port) _ e).1)
   known_own k i (fresh x) o t e = same_is_variable same x o ∙ e
   known_own k i (consistent x n) o t e = same_is_variable same x o.0 ∙ e
   known_own k i (return a) o t e = known_expr same k a o t e
@@ -101,16 +102,16 @@ module _ {p q : TProgram} {f : ℕ → ℕ} {h g : Here} (top : SameTop p q) (he
   fits_own k i (let_array m x n z w) o t e = refl
   fits_own k i (assign x r) o t e = fits_right same k r o.1 t e
   fits_own k i (assign_index x a r) o t e =
-      let one : has_elements (variable_of p h.scope x) ≡ true = first_holds _ _ e in
-      let two : expr_fits p h.scope a && (is_int (type_of p h.scope a) && right_fits p h.scope r) ≡ true = second_holds (has_elements (variable_of p h.scope x)) _ e in
-      let three : is_int (type_of p h.scope a) && right_fits p h.scope r ≡ true = second_holds (expr_fits p h.scope a) _ two in
-      both_hold _ _ (same_elements same x o.0 ∙ one)
-      (both_hold _ _ (fits_expr same k a o.1 t.0 (first_holds _ (is_int (type_of p h.scope a) && right_fits p h.scope r) two))
-      (both_hold _ _ (ap is_int (same_type same k a o.1 t.0) ∙ first_holds _ (right_fits p h.scope r) three)
-      (fits_right same (k + expr_pulls a) r o.2 t.1 (second_holds (is_int (type_of p h.scope a)) _ three))))
+      let one : has_elements (variable_of p h.scope x) ≡ true = (and_parts _ _ e).0 in
+      let two : expr_fits p h.scope a && (is_int (type_of p h.scope a) && right_fits p h.scope r) ≡ true = (and_parts (has_elements (variable_of p h.scope x)) _ e).1 in
+      let three : is_int (type_of p h.scope a) && right_fits p h.scope r ≡ true = (and_parts (expr_fits p h.scope a) _ two).1 in
+      and_from _ _ (same_elements same x o.0 ∙ one)
+      (and_from _ _ (fits_expr same k a o.1 t.0 (and_parts _ (is_int (type_of p h.scope a) && right_fits p h.scope r) two).0)
+      (and_from _ _ (ap is_int (same_type same k a o.1 t.0) ∙ (and_parts _ (right_fits p h.scope r) three).0)
+      (fits_right same (k + expr_pulls a) r o.2 t.1 (and_parts (is_int (type_of p h.scope a)) _ three).1)))
   fits_own k i (assign_deref x r) o t e =
-      both_hold _ _ (ap is_some (same_pointed_type same x o.0) ∙ first_holds _ (right_fits p h.scope r) e)
-      (fits_right same k r o.1 t (second_holds (is_some (pointed_type (variable_of p h.scope x))) _ e))
+      and_from _ _ (ap is_some (same_pointed_type same x o.0) ∙ (and_parts _ (right_fits p h.scope r) e).0)
+      (fits_right same k r o.1 t (and_parts (is_some (pointed_type (variable_of p h.scope x))) _ e).1)
   fits_own k i (if_else c a b) o t e = fits_expr same k c o.0 t e
   fits_own k i (for_in x from to b) o t e = refl
   fits_own k i (while_do c n b) o t e = fits_expr same k c o.0 t e

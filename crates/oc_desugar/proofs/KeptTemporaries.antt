@@ -1,6 +1,7 @@
 -- The `let` of each temporary breaks no rule but maybe that of the counts, where the written statement breaks none and
 -- the temporaries before it are held; and behind it its temporary is held too.
 use Rattle.std.proofs.Common.{◌≡◌, ℕ, ◌+◌, Bool, true, false, List, [], ◌∷◌, ◌++◌, length, inl, inr, Option, Some, None, refl, ap, ◌∙◌}
+use Rattle.std.proofs.lemmas.Bool.{and_parts}
 use Rattle.std.specs.Prelude.{nat_lt, is_some, ◌&&◌, ◌||◌}
 use Rattle.oc_lex.specs.Stands.{IsName}
 use Rattle.oc_tree.specs.Tree.{TExpr, TCall, call, TRight, right_value, right_sense, right_call, TKind, let_to, let_array, assign, assign_index, assign_deref, if_else, for_in}
@@ -21,7 +22,6 @@ use Rattle.oc_tree.proofs.ReachLaws.{or_right}
 use Rattle.oc_desugar.proofs.Seen.{SameTop, SameReach, SameHere, NoTemporary, IsHeld, pull_type, HeldPulls}
 use Rattle.oc_desugar.proofs.Lengths.{length_expr}
 use Rattle.oc_desugar.proofs.KeptLookups.{same_declared}
-use Rattle.oc_desugar.proofs.KeptExpressions.{first_holds, second_holds}
 use Rattle.oc_desugar.proofs.FineCalls.{CallFine, Gives, Each, each_front, each_back}
 use Rattle.oc_desugar.proofs.Unbroken.{Unbroken, unbroken, stays_unbroken}
 use Rattle.oc_desugar.proofs.PullSplits.{no_place, first_or_second, found_last}
@@ -45,7 +45,7 @@ module _ {p q : TProgram} {f : ℕ → ℕ} {h g : Here} (top : SameTop p q) (re
   pull_of_call k (call x xs) front back r at form known fits calls gives t =
       let w : ArgsFine p h xs = record {
         form = form.1;
-        known = second_holds (is_some (function_place p.functions x)) _ known;
+        known = (and_parts (is_some (function_place p.functions x)) _ known).1;
         fits = fits;
         calls = each_front (CallFine p h) (args_calls xs) (call x xs ∷ []) calls;
         gives = gives;
@@ -68,35 +68,35 @@ module _ {p q : TProgram} {f : ℕ → ℕ} {h g : Here} (top : SameTop p q) (re
   pull_of_kind k (let_to m x n a) front back r at o u t = pull_of_right k a front back r at o.2 u.known u.fits u.calls u.gives t
   pull_of_kind k (let_array m x n z w) front back r at o u t = absurd (no_place front back r at)
   pull_of_kind k (assign x a) front back r at o u t =
-      pull_of_right k a front back r at o.1 (second_holds (is_variable p h.scope x) _ u.known) u.fits u.calls u.gives t
+      pull_of_right k a front back r at o.1 (and_parts (is_variable p h.scope x) _ u.known).1 u.fits u.calls u.gives t
   pull_of_kind k (assign_index x e a) front back r at o u t =
       let j = k + expr_pulls e in
-      let known : expr_known p h.scope e && right_known p h.scope a ≡ true = second_holds (is_variable p h.scope x) _ u.known in
-      let two : expr_fits p h.scope e && (is_int (type_of p h.scope e) && right_fits p h.scope a) ≡ true = second_holds (has_elements (variable_of p h.scope x)) _ u.fits in
-      let three : is_int (type_of p h.scope e) && right_fits p h.scope a ≡ true = second_holds (expr_fits p h.scope e) _ two in
+      let known : expr_known p h.scope e && right_known p h.scope a ≡ true = (and_parts (is_variable p h.scope x) _ u.known).1 in
+      let two : expr_fits p h.scope e && (is_int (type_of p h.scope e) && right_fits p h.scope a) ≡ true = (and_parts (has_elements (variable_of p h.scope x)) _ u.fits).1 in
+      let three : is_int (type_of p h.scope e) && right_fits p h.scope a ≡ true = (and_parts (expr_fits p h.scope e) _ two).1 in
       elim (first_or_second (pulled_expr k e) (pulled_right j a) front back r at) [
         | inl s ↦ pull_of_expr k e front s.0 r s.1 o.1
-            (first_holds _ (right_known p h.scope a) known)
-            (first_holds _ (is_int (type_of p h.scope e) && right_fits p h.scope a) two)
+            (and_parts _ (right_known p h.scope a) known).0
+            (and_parts _ (is_int (type_of p h.scope e) && right_fits p h.scope a) two).0
             (each_front (CallFine p h) (expr_calls e) (right_calls a) u.calls)
             (each_front (Gives p) (expr_calls e) (right_calls a) u.gives)
             t
         | inr s ↦ pull_of_right j a s.0 back r s.2 o.2
-            (second_holds (expr_known p h.scope e) _ known)
-            (second_holds (is_int (type_of p h.scope e)) _ three)
+            (and_parts (expr_known p h.scope e) _ known).1
+            (and_parts (is_int (type_of p h.scope e)) _ three).1
             (each_back (CallFine p h) (expr_calls e) (right_calls a) u.calls)
             (each_back (Gives p) (expr_calls e) (right_calls a) u.gives)
             (behind top reach here k (expr_pulls e) (pulled_expr k e) (pulled_right j a) front back r (length_expr k e) s t)
       ]
   pull_of_kind k (assign_deref x a) front back r at o u t =
-      pull_of_right k a front back r at o.1 (second_holds (is_variable p h.scope x) _ u.known) (second_holds (is_some (pointed_type (variable_of p h.scope x))) _ u.fits) u.calls u.gives t
+      pull_of_right k a front back r at o.1 (and_parts (is_variable p h.scope x) _ u.known).1 (and_parts (is_some (pointed_type (variable_of p h.scope x))) _ u.fits).1 u.calls u.gives t
   pull_of_kind k (if_else c a b) front back r at o u t = pull_of_expr k c front back r at o.0 u.known u.fits u.calls u.gives t
   pull_of_kind k (for_in x from to b) front back r at o u t = absurd (no_place front back r at)
   pull_of_kind k (while_do c n b) front back r at o u t = pull_of_expr k c front back r at o.0 u.known u.fits u.calls u.gives t
   pull_of_kind k (call_only (call x xs)) front back r at o u t = pull_of_call k (call x xs) front back r at o u.known u.fits u.calls u.gives t
   pull_of_kind k (sense_only x) front back r at o u t = absurd (no_place front back r at)
   pull_of_kind k (emit port e) front back r at o u t =
-      pull_of_expr k e front back r at o.1 (second_holds (is_name_of p.names.ports port) _ u.known) u.fits u.calls u.gives t
+      pull_of_expr k e front back r at o.1 (and_parts (is_name_of p.names.ports port) _ u.known).1 u.fits u.calls u.gives t
   pull_of_kind k (fresh x) front back r at o u t = absurd (no_place front back r at)
   pull_of_kind k (consistent x n) front back r at o u t = absurd (no_place front back r at)
   pull_of_kind k (return e) front back r at o u t = pull_of_expr k e front back r at o u.known u.fits u.calls u.gives t

@@ -1,5 +1,6 @@
 -- Cells of tables.
 use Rattle.std.proofs.Common.{◌≡◌, ◌≢◌, ◌<◌, ◌⊎◌, inl, inr, ℕ, zero, suc, Bool, true, false, List, [], ◌∷◌, Option, Some, None, drop, refl, ap, sym, ◌∙◌, subst, length, arith, replicate, Vec, Global}
+use Rattle.std.proofs.lemmas.Bool.{and_from, and_parts}
 use Rattle.std.specs.Prelude.{◌||◌, ◌&&◌, slice_set}
 use Rattle.std.proofs.Math.ListN.{get_or}
 use Rattle.std.proofs.lemmas.List.{get_or-set_same, get_or-set_other}
@@ -9,7 +10,7 @@ use Rattle.oc_tree.proofs.ReachLaws.{or_left, or_right, or_elim}
 use Rattle.oc_flow.specs.Variables.{same_variable, is_among}
 use Rattle.oc_flow.specs.Flow.{chain}
 use Rattle.oc_flow.specs.Known.{number_in, Cells, cells_of, cell, cell_at, IsSquare, TTable, linked, Links, set_cell, Joined, JoinedEach, JoinedTo}
-use Rattle.oc_flow.proofs.Lists.{same_tests, same_is, same_itself, both, first_of_both, second_of_both}
+use Rattle.oc_flow.proofs.Lists.{same_tests, same_is, same_itself}
 use Rattle.oc_flow.proofs.Numbers.{number_below, number_at, numbered}
 
 differs : (i j : ℕ) → (i ≡ j) ⊎ (i ≢ j)
@@ -135,8 +136,8 @@ link_set vs rows u v i j s hu hv a b ha hb =
     (λ h. more x.0 y.0 x.1 y.1 h (differs x.0 i) (differs y.0 j))
     (λ h. or_elim (linked old a b) (same_variable a u && same_variable b v) h
     (λ k. kept x.0 y.0 x.1 y.1 k (differs x.0 i) (differs y.0 j))
-    (λ k. subst (λ w. linked new w b ≡ true) (sym (same_is a u (first_of_both (same_variable a u) (same_variable b v) k)))
-    (subst (λ w. linked new u w ≡ true) (sym (same_is b v (second_of_both (same_variable a u) (same_variable b v) k))) (linked_is new u v i j hu hv ∙ set_here (length vs) rows i j s lu lv))))
+    (λ k. subst (λ w. linked new w b ≡ true) (sym (same_is a u (and_parts (same_variable a u) (same_variable b v) k).0))
+    (subst (λ w. linked new u w ≡ true) (sym (same_is b v (and_parts (same_variable a u) (same_variable b v) k).1)) (linked_is new u v i j hu hv ∙ set_here (length vs) rows i j s lu lv))))
   where
     old' : TTable
     old' = record { variables = vs; cells = rows }
@@ -155,7 +156,7 @@ link_set vs rows u v i j s hu hv a b ha hb =
     more x y ea eb h (inl ex) (inl ey) =
         let z = at_cell x y ea eb ex ey in
         or_right (linked old' a b) (same_variable a u && same_variable b v)
-        (both (same_variable a u) (same_variable b v) (subst (λ w. same_variable a w ≡ true) z.0 (same_itself a)) (subst (λ w. same_variable b w ≡ true) z.1 (same_itself b)))
+        (and_from (same_variable a u) (same_variable b v) (subst (λ w. same_variable a w ≡ true) z.0 (same_itself a)) (subst (λ w. same_variable b w ≡ true) z.1 (same_itself b)))
     more x y ea eb h (inr d) q = or_left (linked old' a b) (same_variable a u && same_variable b v) (sym (away x y ea eb (λ e f. d e)) ∙ h)
     more x y ea eb h (inl e) (inr d) = or_left (linked old' a b) (same_variable a u && same_variable b v) (sym (away x y ea eb (λ e f. d f)) ∙ h)
 
@@ -239,8 +240,8 @@ pub link_not : (t : TTable) (u v : VarId) → ((i j : ℕ) → number_in t.varia
 link_not t u v none a b ha hb = same_tests (linked t a b) (linked t a b || (same_variable a u && same_variable b v)) (λ h. or_left (linked t a b) (same_variable a u && same_variable b v) h)
     (λ h. or_elim (linked t a b) (same_variable a u && same_variable b v) h (λ k. k)
     (λ k.
-    let x = numbered 0 t.variables u (subst (λ w. is_among w t.variables ≡ true) (same_is a u (first_of_both (same_variable a u) (same_variable b v) k)) ha) in
-    let y = numbered 0 t.variables v (subst (λ w. is_among w t.variables ≡ true) (same_is b v (second_of_both (same_variable a u) (same_variable b v) k)) hb) in
+    let x = numbered 0 t.variables u (subst (λ w. is_among w t.variables ≡ true) (same_is a u (and_parts (same_variable a u) (same_variable b v) k).0) ha) in
+    let y = numbered 0 t.variables v (subst (λ w. is_among w t.variables ≡ true) (same_is b v (and_parts (same_variable a u) (same_variable b v) k).1) hb) in
     absurd (none x.0 y.0 x.1 y.1)))
 
 drop_at : (vs : List VarId) (n : ℕ) (w d : VarId) → n < length vs → w ≡ get_or vs n d → drop n vs ≡ w ∷ drop (suc n) vs

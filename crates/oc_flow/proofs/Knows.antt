@@ -1,5 +1,6 @@
 -- What is known of a function by its statements is so, where what is known of its callees is so.
 use Rattle.std.proofs.Common.{◌≡◌, ◌≢◌, ◌<◌, ◌⊎◌, inl, inr, ◌+◌, ◌++◌, map, ℕ, zero, suc, Bool, true, false, true≢false, List, [], ◌∷◌, Option, Some, None, cond, refl, ap, sym}
+use Rattle.std.proofs.lemmas.Bool.{and_from, and_parts}
 use Rattle.std.proofs.Common.{◌∙◌, subst, length, arith, append_assoc, filter}
 use Rattle.std.specs.Prelude.{◌||◌, ◌&&◌, nat_lt, is_some, slice_set}
 use Rattle.std.specs.List.{list_any, list_all}
@@ -17,7 +18,7 @@ use Rattle.oc_flow.specs.Flow.{chain, leads_by_value, leads_by_call, leads, flow
 use Rattle.oc_flow.specs.Known.{number_from, number_in, cell, cell_at, TTable, linked, Links, flows_between, table_flows, TKnown, known_receives, received_at, Knowns, known_at}
 use Rattle.oc_flow.specs.Known.{leads_from, leads_to_callee, leads_called, leads_known, brings_from_callee, brings_called, brings_known, is_ready, outer_of, declared_of}
 use Rattle.oc_flow.specs.Known.{some_leads, some_brings, KnownBy, KnownIs, Right, Learns, Learning, Below, function_rank}
-use Rattle.oc_flow.proofs.Lists.{both, first_of_both, second_of_both, same_tests, any_in, in_any, any_cong}
+use Rattle.oc_flow.proofs.Lists.{same_tests, any_in, in_any, any_cong}
 use Rattle.oc_flow.proofs.Fixpoint.{Ranked, chain_cong, flow_fix, brings_fix}
 use Rattle.oc_flow.proofs.FlowLaw.{ends_at}
 use Rattle.oc_flow.proofs.Numbers.{numbered, number_at, number_below}
@@ -65,8 +66,8 @@ and_false false = refl
 
 all_at : {A : Type 0} (t : A → Bool) (xs : List A) → list_all t xs ≡ true → (x : A) → IsOf x xs → t x ≡ true
 all_at t [] h x i = absurd i
-all_at t (y ∷ ys) h x (inl e) = ap t e ∙ first_of_both (t y) (list_all t ys) h
-all_at t (y ∷ ys) h x (inr i) = all_at t ys (second_of_both (t y) (list_all t ys) h) x i
+all_at t (y ∷ ys) h x (inl e) = ap t e ∙ (and_parts (t y) (list_all t ys) h).0
+all_at t (y ∷ ys) h x (inr i) = all_at t ys (and_parts (t y) (list_all t ys) h).1 x i
 
 kept_of : {A : Type 0} (t : A → Bool) (xs : List A) (x : A) → IsOf x xs → t x ≡ true → IsOf x (filter t xs)
 kept_of t [] x i h = i
@@ -93,13 +94,13 @@ swapped P Q es vs = same_tests (list_any Q (filter (λ u. list_any (λ b. P b u)
     let u = in_any Q (filter (λ u. list_any (λ b. P b u) es) vs) h in
     let k = of_kept (λ u. list_any (λ b. P b u) es) vs u.0 u.1 in
     let b = in_any (λ b. P b u.0) es k.1 in
-    any_in (λ b. list_any (λ u. P b u && Q u) vs) es b.0 b.1 (any_in (λ u. P b.0 u && Q u) vs u.0 k.0 (both (P b.0 u.0) (Q u.0) b.2 u.2)))
+    any_in (λ b. list_any (λ u. P b u && Q u) vs) es b.0 b.1 (any_in (λ u. P b.0 u && Q u) vs u.0 k.0 (and_from (P b.0 u.0) (Q u.0) b.2 u.2)))
     (λ h.
     let b = in_any (λ b. list_any (λ u. P b u && Q u) vs) es h in
     let u = in_any (λ u. P b.0 u && Q u) vs b.2 in
     any_in Q (filter (λ u. list_any (λ b. P b u) es) vs) u.0
-    (kept_of (λ u. list_any (λ b. P b u) es) vs u.0 u.1 (any_in (λ b. P b u.0) es b.0 b.1 (first_of_both (P b.0 u.0) (Q u.0) u.2)))
-    (second_of_both (P b.0 u.0) (Q u.0) u.2))
+    (kept_of (λ u. list_any (λ b. P b u) es) vs u.0 u.1 (any_in (λ b. P b u.0) es b.0 b.1 (and_parts (P b.0 u.0) (Q u.0) u.2).0))
+    (and_parts (P b.0 u.0) (Q u.0) u.2).1)
 
 got : {A : Type 0} (xs : List A) (i : ℕ) (d e : A) → i < length xs → get_or xs i d ≡ get_or xs i e
 got [] i d e h = absurd (omega arith)
@@ -236,8 +237,8 @@ module _ (p : TProgram) (r : Ranked p) (ks : Knowns) (right : Right p ks) where
         none h =
             let b = in_any (λ b. list_any (λ u. brings p b u && flows p f u v) (variables p f)) es h in
             let u = in_any (λ u. brings p b.0 u && flows p f u v) (variables p f) b.2 in
-            let e = ends_at p r f u.0 v (second_of_both (brings p b.0 u.0) (flows p f u.0 v) u.2) in
-            subst (λ l. is_among v l ≡ true) (sym listed_so) (second_of_both (nat_lt f (length p.functions)) (is_among v (variables p f)) e)
+            let e = ends_at p r f u.0 v (and_parts (brings p b.0 u.0) (flows p f u.0 v) u.2).1 in
+            subst (λ l. is_among v l ≡ true) (sym listed_so) (and_parts (nat_lt f (length p.functions)) (is_among v (variables p f)) e).1
 
         go : (o : Option ℕ) → number_in vs v ≡ o → received_at (map F vs) o ≡ receives p (brings p) f v
         go (Some i) e = received_is F vs v i e ∙ F_is
@@ -289,7 +290,7 @@ module _ (p : TProgram) (r : Ranked p) (fall : (f : ℕ) (a : TEffect) (c : TCal
   -- where all callees are known, a function is ready
   ready_all : (ks : Knowns) (es : List TEffect) → ((a : TEffect) (c : TCalled) → IsOf a es → a.call ≡ Some c → is_some (known_at ks c.function) ≡ true) → list_all (λ e. is_ready ks e.call) es ≡ true
   ready_all ks [] h = refl
-  ready_all ks (e ∷ es) h = both (is_ready ks e.call) (list_all (λ e. is_ready ks e.call) es) (one e.call refl) (ready_all ks es (λ a c i q. h a c (inr i) q))
+  ready_all ks (e ∷ es) h = and_from (is_ready ks e.call) (list_all (λ e. is_ready ks e.call) es) (one e.call refl) (ready_all ks es (λ a c i q. h a c (inr i) q))
     where
       one : (o : Option TCalled) → e.call ≡ o → is_ready ks o ≡ true
       one None q = refl

@@ -1,6 +1,6 @@
 -- Tests on lists and on variables.
 use Rattle.std.proofs.Common.{◌≡◌, ◌<◌, inl, inr, ℕ, zero, suc, Bool, true, false, true≢false, List, [], ◌∷◌, map, length, Option, Some, None, refl, ap, sym, ◌∙◌, subst, arith}
-use Rattle.std.specs.Prelude.{◌||◌, ◌&&◌, nat_eq}
+use Rattle.std.specs.Prelude.{◌||◌, nat_eq}
 use Rattle.std.specs.List.{list_any}
 use Rattle.std.proofs.Math.ListN.{get_or}
 use Rattle.std.proofs.lemmas.Bool.{eqb-true}
@@ -11,17 +11,6 @@ use Rattle.oc_flow.specs.Variables.{same_variable, is_among, is_variable_of}
 use Rattle.oc_tree.specs.Members.{IsOf}
 
 -- ---- tests
-
-pub both : (a b : Bool) → a ≡ true → b ≡ true → a && b ≡ true
-both a b h k = subst (λ x. x && b ≡ true) (sym h) k
-
-pub first_of_both : (a b : Bool) → a && b ≡ true → a ≡ true
-first_of_both true b h = refl
-first_of_both false b h = h
-
-pub second_of_both : (a b : Bool) → a && b ≡ true → b ≡ true
-second_of_both true b h = h
-second_of_both false b h = absurd (true≢false (sym h))
 
 -- tests that follow from each other are the same
 pub same_tests : (a b : Bool) → (a ≡ true → b ≡ true) → (b ≡ true → a ≡ true) → a ≡ b

@@ -2,7 +2,7 @@
 use Rattle.std.proofs.Common.{◌≡◌, ◌≤◌, ℕ, Bool, true, false, true≢false, List, [], ◌∷◌, length, Option, Some, None, cond, refl, ap, sym, ◌∙◌, arith}
 use Rattle.std.specs.Prelude.{is_some, nat_lt}
 use Rattle.std.specs.List.{list_all, list_any}
-use Rattle.std.proofs.lemmas.Bool.{eqb-true, ltb-false}
+use Rattle.std.proofs.lemmas.Bool.{eqb-true, ltb-false, and_parts}
 use Rattle.std.proofs.lemmas.Option.{none-some, same_Some}
 use Rattle.oc_tree.specs.Names.{Text}
 use Rattle.oc_tree.specs.Tree.{TExpr, number, truth, variable, index, deref, unary, binary, sensed, called, TArg, value, shared, mutable, TArgs, no_args, more_args, TProgram}
@@ -21,7 +21,6 @@ use Rattle.oc_tree.specs.Rules.{only_reference, passed_on, has_kind, origin_is, 
 use Rattle.oc_tree.specs.Rules.{args_list, is_bad_length, has_bad_length, arg_lends}
 use Rattle.oc_code.specs.Scope.{Named, named, slot_of, address_slot, passed_slot, kind_words}
 use Rattle.oc_code.specs.Formed.{IsLent, NamesLent, NamesWritable, IsPassed, ArePassed}
-use Rattle.oc_desugar.proofs.KeptExpressions.{first_holds, second_holds}
 use Rattle.oc_formed.proofs.BodiesPass.{first_fails, second_fails}
 use Rattle.oc_formed.proofs.ScopesSeen.{AllFound, code_writes, writes_own, writes_through}
 
@@ -184,8 +183,8 @@ module _ (p : TProgram) (scope : Scope) (γ : List Named) (all : AllFound p scop
   value_passed passings.Value kind e l h = (scalar_words kind (type_of p scope e) h, none_passed e (same_right (scalar_of kind) (type_of p scope e) h))
   value_passed passings.Shared kind e l h = passed_shared kind e l h
   value_passed passings.Mutable kind e l h =
-      let writes = first_holds (origin_is is_mutable_param (passed_on p scope e)) (has_kind kind (passed_on p scope e)) h in
-      let kept = second_holds (origin_is is_mutable_param (passed_on p scope e)) (has_kind kind (passed_on p scope e)) h in
+      let writes = (and_parts (origin_is is_mutable_param (passed_on p scope e)) (has_kind kind (passed_on p scope e)) h).0 in
+      let kept = (and_parts (origin_is is_mutable_param (passed_on p scope e)) (has_kind kind (passed_on p scope e)) h).1 in
       (passed_shared kind e l kept, passed_writable e writes)
 
   -- so has an argument `&x`
@@ -215,7 +214,7 @@ module _ (p : TProgram) (scope : Scope) (γ : List Named) (all : AllFound p scop
   all_passed (q ∷ qs) no_args long e h w = absurd (omega (arith, e))
   all_passed (q ∷ qs) (more_args a rest) long e h w =
       let l = some_words q.kind (first_fails (has_bad_length q.kind) (list_any (λ r. has_bad_length r.kind) qs) long) in
-      let one = one_passed q a l (first_holds (arg_meets p scope q a) (args_meet p scope qs rest) h) (first_holds (arg_lends p scope a) (list_all (arg_lends p scope) (args_list rest)) w) in
+      let one = one_passed q a l (and_parts (arg_meets p scope q a) (args_meet p scope qs rest) h).0 (and_parts (arg_lends p scope a) (list_all (arg_lends p scope) (args_list rest)) w).0 in
       let more = all_passed qs rest (second_fails (has_bad_length q.kind) (list_any (λ r. has_bad_length r.kind) qs) long) (omega (arith, e))
-      (second_holds (arg_meets p scope q a) (args_meet p scope qs rest) h) (second_holds (arg_lends p scope a) (list_all (arg_lends p scope) (args_list rest)) w) in
+      (and_parts (arg_meets p scope q a) (args_meet p scope qs rest) h).1 (and_parts (arg_lends p scope a) (list_all (arg_lends p scope) (args_list rest)) w).1 in
       (one, more)

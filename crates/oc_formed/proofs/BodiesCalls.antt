@@ -2,7 +2,7 @@
 use Rattle.std.proofs.Common.{◌≡◌, ◌<◌, ℕ, true, false, List, [], ◌∷◌, length, Some, ap, sym, subst, ◌∙◌}
 use Rattle.std.specs.Prelude.{is_some, slice_get, ◌&&◌, ◌==◌}
 use Rattle.std.specs.List.{list_any, flat_map}
-use Rattle.std.proofs.lemmas.Bool.{eqb-true}
+use Rattle.std.proofs.lemmas.Bool.{eqb-true, and_parts}
 use Rattle.oc_tree.specs.Names.{Text}
 use Rattle.oc_tree.specs.Tree.{TCall, call, TRight, right_value, right_sense, right_call, TKind, TFunction, TProgram}
 use Rattle.oc_tree.specs.Marked.{TRegion}
@@ -13,7 +13,6 @@ use Rattle.oc_tree.specs.Rules.{call_known, args_known, right_known, is_main, ar
 use Rattle.oc_code.specs.Scope.{Named}
 use Rattle.oc_code.specs.Code.{gives, has_result, called_name}
 use Rattle.oc_code.specs.Formed.{call_formed, right_formed}
-use Rattle.oc_desugar.proofs.KeptExpressions.{first_holds, second_holds}
 use Rattle.oc_desugar.proofs.FineCalls.{CallFine, Gives, Each, each_front, each_back}
 use Rattle.oc_formed.proofs.BodiesPlaces.{Called, name_called, called_named, among_known}
 use Rattle.oc_formed.proofs.BodiesArguments.{all_passed}
@@ -45,11 +44,11 @@ module _ (p : TProgram) (long : LongParams p) (regions : List TRegion) (rank : T
   -- a call that breaks no rule is formed
   pub call_is_formed : (c : TCall) → call_known p h.scope c ≡ true → CallFine p h c → Lower p rank own c → call_formed p.names p.functions regions rank own γ c
   call_is_formed (call f args) known fine lower =
-      let to : Called p f = name_called p f (first_holds (is_some (function_place p.functions f)) (args_known p h.scope args) known) in
+      let to : Called p f = name_called p f (and_parts (is_some (function_place p.functions f)) (args_known p h.scope args) known).0 in
       let meets : (length to.callee.params == length (args_list args)) && args_meet p h.scope to.callee.params args ≡ true =
       subst (λ qs. (length qs == length (args_list args)) && args_meet p h.scope qs args ≡ true) (ap params_of (called_named p f to)) fine.meets in
-      let same = eqb-true (length to.callee.params) (length (args_list args)) (first_holds (length to.callee.params == length (args_list args)) (args_meet p h.scope to.callee.params args) meets) in
-      let each = second_holds (length to.callee.params == length (args_list args)) (args_meet p h.scope to.callee.params args) meets in
+      let same = eqb-true (length to.callee.params) (length (args_list args)) (and_parts (length to.callee.params == length (args_list args)) (args_meet p h.scope to.callee.params args) meets).0 in
+      let each = (and_parts (length to.callee.params == length (args_list args)) (args_meet p h.scope to.callee.params args) meets).1 in
       record {
         callee = to.callee;
         found = to.meant;
@@ -61,7 +60,7 @@ module _ (p : TProgram) (long : LongParams p) (regions : List TRegion) (rank : T
   -- a call whose result is used has one
   call_gives : (c : TCall) → call_known p h.scope c ≡ true → Gives p c → has_result p.functions (called_name c) ≡ true
   call_gives (call f args) known has =
-      let to : Called p f = name_called p f (first_holds (is_some (function_place p.functions f)) (args_known p h.scope args) known) in
+      let to : Called p f = name_called p f (and_parts (is_some (function_place p.functions f)) (args_known p h.scope args) known).0 in
       ap gives to.meant ∙ sym (ap (λ o. is_some (result_of o)) (called_named p f to)) ∙ has
 
   -- a right side whose calls break no rule is formed

@@ -1,5 +1,6 @@
 -- The statements of a checked body are formed.
 use Rattle.std.proofs.Common.{arith, ◌≡◌, ℕ, ◌+◌, Bool, true, false, true≢false, List, [], ◌∷◌, ◌++◌, None, cond, refl, sym, subst, ◌∙◌}
+use Rattle.std.proofs.lemmas.Bool.{and_parts}
 use Rattle.std.specs.Prelude.{is_some, not, ◌&&◌}
 use Rattle.oc_tree.specs.Names.{Text}
 use Rattle.oc_tree.specs.Tree.{TExpr, TRight, TKind, let_to, let_array, assign, assign_index, assign_deref, if_else, for_in, while_do, call_only, sense_only, emit, fresh}
@@ -15,7 +16,6 @@ use Rattle.oc_tree.specs.Rules.{expr_known, right_known, is_mutable_param, is_wr
 use Rattle.oc_tree.specs.Stack.{kind_slots, block_slots}
 use Rattle.oc_code.specs.Scope.{Named, in_scope, for_named}
 use Rattle.oc_code.specs.Formed.{kind_formed, else_formed, block_formed, stmts_formed, IsLast}
-use Rattle.oc_desugar.proofs.KeptExpressions.{first_holds, second_holds}
 use Rattle.oc_desugar.proofs.FineCalls.{CallFine, Gives, Each, each_back}
 use Rattle.oc_desugar.proofs.Unbroken.{Unbroken, unbroken}
 use Rattle.oc_formed.proofs.BodiesPass.{AllFine, fine_front, fine_back}
@@ -75,11 +75,11 @@ module _ (p : TProgram) (long : LongParams p) (regions : List TRegion) (rank : T
       → Unbroken p (before_stmts h rest) (return e) → StmtsMarked regions inside (more (stmt n line (return e)) rest) → StmtsFormed gives inside γ s (more (stmt n line (return e)) rest)
   return_formed gives inside h γ s n line e rest ends u marked =
       let both = is_so ((h.last && is_end rest) && is_same h.function.result (type_of p h.scope e)) u.returns in
-      let last = first_holds (h.last && is_end rest) (is_same h.function.result (type_of p h.scope e)) both in
-      let same = second_holds (h.last && is_end rest) (is_same h.function.result (type_of p h.scope e)) both in
-      let end = second_holds h.last (is_end rest) last in
+      let last = (and_parts (h.last && is_end rest) (is_same h.function.result (type_of p h.scope e)) both).0 in
+      let same = (and_parts (h.last && is_end rest) (is_same h.function.result (type_of p h.scope e)) both).1 in
+      let end = (and_parts h.last (is_end rest) last).1 in
       let none = none_left regions marked.1 rest end marked.3 in
-      (ends.result (first_holds h.last (is_end rest) last) ∙ same_left h.function.result (type_of p h.scope e) same, omega (arith, none, marked.2), is_last rest end)
+      (ends.result (and_parts h.last (is_end rest) last).0 ∙ same_left h.function.result (type_of p h.scope e) same, omega (arith, none, marked.2), is_last rest end)
 
   -- a statement and those behind it
   step_formed : (gives : Bool) (inside : ℕ) (h : Here) (γ : List Named) (s n line : ℕ) (k : TKind) (rest : TStmts) → Ends gives h (more (stmt n line k) rest)
@@ -96,7 +96,7 @@ module _ (p : TProgram) (long : LongParams p) (regions : List TRegion) (rank : T
     -- an assignment to a name
     assign_formed : (x : Text) (r : TRight) → Each (Lower p rank own) (right_calls r) → Unbroken p h (assign x r) → KindFormed γ s (assign x r)
     assign_formed x r lower u =
-        let known = second_holds (is_variable p h.scope x) (right_known p h.scope r) u.known in
+        let known = (and_parts (is_variable p h.scope x) (right_known p h.scope r) u.known).1 in
         let value = same_left (value_type (variable_of p h.scope x)) (right_type p h.scope r) (is_so (is_same (value_type (variable_of p h.scope x)) (right_type p h.scope r)) u.sides) in
         let writes = is_so (origin_is is_writable (variable_of p h.scope x)) u.target in
         (right_is_formed p long regions rank own h γ all r known u.calls u.gives lower, rule_writes p h.scope γ all is_writable writes_own x writes, own_value p h.scope γ all x value)
@@ -104,8 +104,8 @@ module _ (p : TProgram) (long : LongParams p) (regions : List TRegion) (rank : T
     -- an assignment to an element of an array
     assign_index_formed : (x : Text) (e : TExpr) (r : TRight) → Each (Lower p rank own) (expr_calls e ++ right_calls r) → Unbroken p h (assign_index x e r) → KindFormed γ s (assign_index x e r)
     assign_index_formed x e r lower u =
-        let parts = second_holds (is_variable p h.scope x) (expr_known p h.scope e && right_known p h.scope r) u.known in
-        let known = second_holds (expr_known p h.scope e) (right_known p h.scope r) parts in
+        let parts = (and_parts (is_variable p h.scope x) (expr_known p h.scope e && right_known p h.scope r) u.known).1 in
+        let known = (and_parts (expr_known p h.scope e) (right_known p h.scope r) parts).1 in
         let writes = is_so (origin_is is_writable_array (variable_of p h.scope x)) u.array in
         let calls = each_back (CallFine p h) (expr_calls e) (right_calls r) u.calls in
         let gives = each_back (Gives p) (expr_calls e) (right_calls r) u.gives in
@@ -115,7 +115,7 @@ module _ (p : TProgram) (long : LongParams p) (regions : List TRegion) (rank : T
     -- an assignment through a reference
     assign_deref_formed : (x : Text) (r : TRight) → Each (Lower p rank own) (right_calls r) → Unbroken p h (assign_deref x r) → KindFormed γ s (assign_deref x r)
     assign_deref_formed x r lower u =
-        let known = second_holds (is_variable p h.scope x) (right_known p h.scope r) u.known in
+        let known = (and_parts (is_variable p h.scope x) (right_known p h.scope r) u.known).1 in
         let writes = is_so (origin_is is_mutable_param (variable_of p h.scope x)) u.pointee in
         (right_is_formed p long regions rank own h γ all r known u.calls u.gives lower, rule_writes p h.scope γ all is_mutable_param writes_through x writes)
 
@@ -144,7 +144,7 @@ module _ (p : TProgram) (long : LongParams p) (regions : List TRegion) (rank : T
     kind_is_formed h γ s (call_only c) other marked all form calls u fine =
         call_is_formed p long regions rank own h γ all c u.known (last_call (CallFine p h) c u.calls) (last_call (Lower p rank own) c calls.0)
     kind_is_formed h γ s (sense_only x) other marked all form calls u fine = among_known p.names.sensors x u.known
-    kind_is_formed h γ s (emit q e) other marked all form calls u fine = among_known p.names.ports q (first_holds (is_name_of p.names.ports q) (expr_known p h.scope e) u.known)
+    kind_is_formed h γ s (emit q e) other marked all form calls u fine = among_known p.names.ports q (and_parts (is_name_of p.names.ports q) (expr_known p h.scope e) u.known).0
     kind_is_formed h γ s (fresh x) other marked all form calls u fine = tt
     kind_is_formed h γ s (consistent x n) other marked all form calls u fine = tt
     kind_is_formed h γ s (return e) other marked all form calls u fine = absurd (true≢false other)

@@ -1,10 +1,10 @@
 -- Which function calls which, where no statement breaks the rule on cycles of calls.
 use Rattle.std.proofs.Common.{◌≡◌, ◌<◌, ℕ, suc, ◌+◌, ◌++◌, Bool, true, false, true≢false, List, [], ◌∷◌, length, map, Option, Some, None, refl, ap, sym, ◌∙◌, subst, arith}
 use Rattle.std.specs.Str.{bytes_eq}
-use Rattle.std.specs.Prelude.{nat_eq, ◌||◌, ◌&&◌, cond, option_to_list, slice_get}
+use Rattle.std.specs.Prelude.{nat_eq, ◌||◌, cond, option_to_list, slice_get}
 use Rattle.std.specs.List.{list_any, flat_map}
 use Rattle.std.proofs.lemmas.List.{map-append, length-map}
-use Rattle.std.proofs.lemmas.Bool.{eqb-true}
+use Rattle.std.proofs.lemmas.Bool.{eqb-true, and_parts}
 use Rattle.oc_tree.specs.Names.{Text}
 use Rattle.oc_tree.specs.Tree.{TCall, TKind, let_to, let_array, assign, assign_index, assign_deref, if_else, for_in, while_do, call_only, sense_only, emit, fresh, consistent}
 use Rattle.oc_tree.specs.Tree.{return, TElse, no_else, else_do, stmt, TBlock, block, TStmts, no_stmts, more, TFunction, TProgram}
@@ -140,16 +140,6 @@ any_append test (x ∷ xs) ys = or_join (test x) (list_any test xs) (list_any te
     or_join true b c d e = refl
     or_join false b c d e = e
 
--- of both the first
-and_first : (a b : Bool) → a && b ≡ true → a ≡ true
-and_first true b h = refl
-and_first false b h = h
-
--- of both the second
-and_second : (a b : Bool) → a && b ≡ true → b ≡ true
-and_second true b h = h
-and_second false b h = absurd (true≢false (sym h))
-
 -- what is found at a place stands before the end
 place_below : (n : ℕ) (xs : List Text) (x : Text) (i : ℕ) → place_from n xs x ≡ Some i → i < n + length xs
 place_below n [] x i e = absurd (cc e)
@@ -170,9 +160,9 @@ module _ (p : TProgram) where
   one_link w None x u v is away h = absurd (true≢false (sym h))
   one_link w (Some i) x u v is away h = or_elim (is_link u v (w, i)) false h
       (λ k.
-      let at : i ≡ v = eqb-true i v (and_second (nat_eq w u) (nat_eq i v) k) in
+      let at : i ≡ v = eqb-true i v (and_parts (nat_eq w u) (nat_eq i v) k).1 in
       let below : i < 0 + length names = place_below 0 names x i is in
-      (eqb-true w u (and_first (nat_eq w u) (nat_eq i v) k), omega (arith, at, below), subst (λ n. back_to p w n ≡ false) at away))
+      (eqb-true w u (and_parts (nat_eq w u) (nat_eq i v) k).0, omega (arith, at, below), subst (λ n. back_to p w n ≡ false) at away))
       (λ k. absurd (true≢false (sym k)))
 
   -- of the links of the calls of the function w

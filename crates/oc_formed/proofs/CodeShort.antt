@@ -1,7 +1,7 @@
 -- The code of a checked program is short.
 use Rattle.std.proofs.Common.{◌≡◌, ◌≤◌, ◌<◌, ◌^◌, ℕ, suc, ◌+◌, ◌*◌, Bool, true, false, List, [], ◌∷◌, length, sum_by, Option, Some, None, refl, arith, length-append}
 use Rattle.std.specs.Prelude.{slice_get, is_some, if◌then◌else◌, option_and_then, ◌==◌}
-use Rattle.std.proofs.lemmas.Bool.{eqb-true}
+use Rattle.std.proofs.lemmas.Bool.{eqb-true, and_parts}
 use Rattle.std.proofs.lemmas.List.Sums.{sum_by-cons}
 use Rattle.oc_tree.specs.Tree.{TCall, TFunction, TProgram}
 use Rattle.oc_tree.specs.Marked.{TRegion}
@@ -21,7 +21,6 @@ use Rattle.oc_code.specs.Code.{close_code, body_code, function_code, functions_c
 use Rattle.oc_desugar.proofs.FineCalls.{CallFine}
 use Rattle.oc_desugar.proofs.FewStatements.{few_statements}
 use Rattle.oc_desugar.proofs.SizesKept.{unbroken_element}
-use Rattle.oc_desugar.proofs.KeptExpressions.{first_holds}
 use Rattle.oc_formed.proofs.BodiesPass.{function_fine}
 use Rattle.oc_formed.proofs.CallLinks.{KindsCall, body_so}
 use Rattle.oc_formed.proofs.Declared.{AllWithin}
@@ -45,7 +44,7 @@ module _ (p : TProgram) (within : AllWithin p) where
   few_args h c fine =
       let same : length (callee_params p c) ≡ length (call_args c) =
       eqb-true (length (callee_params p c)) (length (call_args c))
-      (first_holds (length (callee_params p c) == length (call_args c)) (args_meet p h.scope (callee_params p c) (args_of_call c)) fine.meets) in
+      (and_parts (length (callee_params p c) == length (call_args c)) (args_meet p h.scope (callee_params p c) (args_of_call c)) fine.meets).0 in
       let few : length (callee_params p c) ≤ 8 = few_params (function_place p.functions (callee c)) in
       omega (arith, same, few)
 

@@ -1,10 +1,10 @@
 -- What passes the tests is timely.
 use Rattle.std.proofs.Common.{◌≡◌, ℕ, inl, inr, Bool, true, false, true≢false, List, [], ◌∷◌, Some, refl, sym, ap, ◌∙◌, subst, ◌==◌, cond, arith}
-use Rattle.std.specs.Prelude.{ℤ, ◌&&◌, ◌||◌}
+use Rattle.std.specs.Prelude.{ℤ, ◌||◌}
 use Rattle.std.specs.List.{list_all, list_any}
 use Rattle.std.specs.Cmp.Derive.{both_true}
 use Rattle.std.specs.Ordering.{int_eq}
-use Rattle.std.proofs.lemmas.Bool.{eqb-true}
+use Rattle.std.proofs.lemmas.Bool.{eqb-true, and_parts}
 use Rattle.oc_tree.specs.Tree.{TProgram}
 use Rattle.oc_tree.specs.Members.{IsOf}
 use Rattle.oc_tree.specs.declared.said.Said.{Said}
@@ -14,18 +14,10 @@ use Rattle.oc_meaning.specs.Store.{Event}
 use Rattle.oc_honest.specs.Timely.{IsInput, IsUse, AreTogether, set_of}
 use Rattle.oc_honest.specs.Deciding.{input_of, uses, tag_of, holds, feeds, same_set, tags_one_set, together, use_is_fresh, inputs_meet, TestsTell}
 
-first_true : (a b : Bool) → (a && b) ≡ true → a ≡ true
-first_true true b h = refl
-first_true false b h = absurd (true≢false (sym h))
-
-second_true : (a b : Bool) → (a && b) ≡ true → b ≡ true
-second_true true b h = h
-second_true false b h = absurd (true≢false (sym h))
-
 each : {A : Type 0} (f : A → Bool) (xs : List A) (x : A) → list_all f xs ≡ true → IsOf x xs → f x ≡ true
 each f [] x h o = elim o [ ]
-each f (y ∷ ys) x h (inl e) = ap f e ∙ first_true (f y) (list_all f ys) h
-each f (y ∷ ys) x h (inr o) = each f ys x (second_true (f y) (list_all f ys) h) o
+each f (y ∷ ys) x h (inl e) = ap f e ∙ (and_parts (f y) (list_all f ys) h).0
+each f (y ∷ ys) x h (inr o) = each f ys x (and_parts (f y) (list_all f ys) h).1 o
 
 same : (n : ℕ) → (n == n) ≡ true
 same n = grind arith
@@ -77,10 +69,10 @@ stand_together p t u h =
 pub tests_tell : TestsTell
 tests_tell p all h = record {
   fresh = λ a u j ina inu i it o.
-      let passes = each (λ v. use_is_fresh a v) all u (each (λ b. list_all (λ v. use_is_fresh b v) all) all a (first_true (list_all (λ b. list_all (λ v. use_is_fresh b v) all) all) _ h) ina) inu in
+      let passes = each (λ v. use_is_fresh a v) all u (each (λ b. list_all (λ v. use_is_fresh b v) all) all a (and_parts (list_all (λ b. list_all (λ v. use_is_fresh b v) all) all) _ h).0 ina) inu in
       equal_where _ a.offs u.offs (both_true (fed j a.event u.event i o) (used u.event.said it)) passes;
   consistent = λ a b t u j k ina inb int inu i l tags o q.
-      let at_a = each _ all a (second_true (list_all (λ b. list_all (λ v. use_is_fresh b v) all) all) _ h) ina in
+      let at_a = each _ all a (and_parts (list_all (λ b. list_all (λ v. use_is_fresh b v) all) all) _ h).1 ina in
       let at_b = each _ all b at_a inb in
       let at_t = each _ all t at_b int in
       let passes = each (λ v. inputs_meet p a b t v) all u at_t inu in

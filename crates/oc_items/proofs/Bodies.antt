@@ -1,5 +1,6 @@
 -- An item is read from the parts of its line.
 use Rattle.std.proofs.Common.{ℕ, zero, suc, ℤ, ◌<◌, ◌≤◌, ◌≡◌, ◌^◌, ◌==◌, ◌&&◌, ◌||◌, not, Bool, true, false, List, [], ◌∷◌, ◌++◌, codes, decimal, refl, sym, ap, subst, ◌∙◌, append_assoc, arith}
+use Rattle.std.proofs.lemmas.Bool.{and_parts}
 use Rattle.std.proofs.lemmas.List.{append_cancel_left, append_cancel_right}
 use Rattle.std.specs.Fmt.{signed_decimal}
 use Rattle.oc_tree.specs.Names.{NameLists, Text, name_at}
@@ -39,10 +40,6 @@ body_there names line i h = append_cancel_right (decimal (tick_of i) ++ (codes "
 
 -- ---- the first space
 
-both : (a b : Bool) → (a && b) ≡ true → (a ≡ true) × (b ≡ true)
-both true b h = (refl, h)
-both false b h = cc h
-
 head_is : (a b : ℕ) (x y : List ℕ) → a ∷ x ≡ b ∷ y → a ≡ b
 head_is a b x y e = cc
 
@@ -50,10 +47,10 @@ tail_is : (a b : ℕ) (x y : List ℕ) → a ∷ x ≡ b ∷ y → x ≡ y
 tail_is a b x y e = cc
 
 no_space_first : (b : ℕ) (bs : List ℕ) → has_no_space (b ∷ bs) ≡ true → 32 ≡ b → ⊥
-no_space_first b bs h e = let t : not (b == 32) ≡ true = (both (not (b == 32)) (has_no_space bs) h).0 in let u : not (32 == 32) ≡ true = subst (λ (x : ℕ). not (x == 32) ≡ true) (sym e) t in cc u
+no_space_first b bs h e = let t : not (b == 32) ≡ true = (and_parts (not (b == 32)) (has_no_space bs) h).0 in let u : not (32 == 32) ≡ true = subst (λ (x : ℕ). not (x == 32) ≡ true) (sym e) t in cc u
 
 no_space_rest : (b : ℕ) (bs : List ℕ) → has_no_space (b ∷ bs) ≡ true → has_no_space bs ≡ true
-no_space_rest b bs h = (both (not (b == 32)) (has_no_space bs) h).1
+no_space_rest b bs h = (and_parts (not (b == 32)) (has_no_space bs) h).1
 
 space_cut : (a b x y : List ℕ) → has_no_space a ≡ true → has_no_space b ≡ true → a ++ (codes " " ++ x) ≡ b ++ (codes " " ++ y) → (a ≡ b) × (x ≡ y)
 space_cut [] [] x y h k e = (refl, tail_is 32 32 x y e)

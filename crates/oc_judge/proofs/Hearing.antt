@@ -1,5 +1,6 @@
 -- From what a run tells next to what the audit answers.
 use Rattle.std.proofs.Common.{◌≡◌, refl, sym, ap, ◌∙◌, subst, ℕ, ℤ, ◌+◌, suc, ◌<◌, ◌≤◌, arith, Bool, true, false, ◌&&◌, List, length, map, drop, get_or, Option, Some, None}
+use Rattle.std.proofs.lemmas.Bool.{and_from}
 use Rattle.std.proofs.lemmas.List.{drop_more, drop_all}
 use Rattle.oc_tree.specs.Tree.{TProgram}
 use Rattle.oc_tree.specs.Marked.{TRegion}
@@ -38,9 +39,6 @@ store_at completions.Went σ = refl
 store_at (completions.Returned v) σ = refl
 store_at completions.Trapped σ = refl
 
-both_true : (a b : Bool) → a ≡ true → b ≡ true → a && b ≡ true
-both_true a b h k = ap (λ x. x && b) h ∙ k
-
 pub second_false : (a b : Bool) → b ≡ false → a && b ≡ false
 second_false true b h = h
 second_false false b h = refl
@@ -57,7 +55,7 @@ module _ (p : TProgram) (rs : List TRegion) (nv : Option (List ℤ)) where
     comes = h;
     made = tt;
     answer = ap (λ v. Some (record w { now = v })) s
-        ∙ sym (ap (λ b. if_so p nv b (record w { now = with_shown p nv now a e })) (both_true (is_said e.said (Showed a)) (may_show p nv now a e) k m));
+        ∙ sym (ap (λ b. if_so p nv b (record w { now = with_shown p nv now a e })) (and_from (is_said e.said (Showed a)) (may_show p nv now a e) k m));
   }
 
   pub shown_no : (w : Watch) (a : Shown) (e : Event) (now : Way) → IsNext p rs w.now (Says e now) → is_said e.said (Showed a) && may_show p nv now a e ≡ false
@@ -81,7 +79,7 @@ module _ (p : TProgram) (rs : List TRegion) (nv : Option (List ℤ)) where
     comes = h;
     made = tt;
     answer = sym (ap (λ b. if_so p nv b (record w { now = record now { over = true } }))
-        (both_true (is_said e.said (Ended how)) (has_words p nv nv (words p nv now.out)) k (words_at now c σ o true m)));
+        (and_from (is_said e.said (Ended how)) (has_words p nv nv (words p nv now.out)) k (words_at now c σ o true m)));
   }
 
   pub ended_other : (w : Watch) (how : Ending) (e : Event) (now : Way) → IsNext p rs w.now (Says e now) → is_said e.said (Ended how) ≡ false → IsTold p rs nv w (Ended how) None
@@ -118,7 +116,7 @@ module _ (p : TProgram) (rs : List TRegion) (nv : Option (List ℤ)) where
     next = Stands now;
     comes = h;
     made = tt;
-    answer = sym (at_went w now c σ true o (sym (both_true (halts_at c now.over) (has_words p nv nv (words_of σ.nv)) (sym k) (sym m))));
+    answer = sym (at_went w now c σ true o (sym (and_from (halts_at c now.over) (has_words p nv nv (words_of σ.nv)) (sym k) (sym m))));
   }
 
   pub halted_not : (w : Watch) (now : Way) (c : Completion) (σ : Store) → now.out ≡ completion_at c σ → IsNext p rs w.now (Stands now) → false ≡ halts_at c now.over

@@ -2,7 +2,7 @@
 use Rattle.std.proofs.Common.{◌≡◌, refl, sym, ap, ◌∙◌, subst, ℕ, zero, suc, ◌<◌, ◌≤◌, arith, Bool, true, false, true≢false, nat_eq, inl, inr, List, [], ◌∷◌, length, Option, Some, None}
 use Rattle.std.specs.Prelude.{◌&&◌, ◌||◌, not}
 use Rattle.std.specs.List.{list_any}
-use Rattle.std.proofs.lemmas.Bool.{cases_lt, eqb-true, eq-eqb}
+use Rattle.std.proofs.lemmas.Bool.{cases_lt, eqb-true, eq-eqb, and_from, and_parts}
 use Rattle.oc_tree.specs.Tree.{TProgram}
 use Rattle.oc_tree.specs.Checked.{Group, IsChecked}
 use Rattle.oc_tree.specs.declared.tree.VarId.{VarId}
@@ -17,7 +17,7 @@ use Rattle.oc_flow.proofs.FlowLaw.{flows_decide}
 use Rattle.oc_flow.proofs.Ranks.{ranked}
 use Rattle.oc_needs.specs.Policies.{annotated, held}
 use Rattle.oc_needs.specs.Need.{Need, by_annotation, by_call, is_empty, is_needed_at, needs_by_call, needs_itself, needs_to, needs}
-use Rattle.oc_needs.proofs.Tests.{and_left, and_right, both, or_case, any_of, of_any}
+use Rattle.oc_needs.proofs.Tests.{or_case, any_of, of_any}
 use Rattle.oc_needs.proofs.NeedLevels.{effects_past, annotated_past, listed, needed_variable}
 
 decided : (b : Bool) (A : Type 0) → Decides b A → b ≡ true → A
@@ -51,7 +51,7 @@ not_empty (n ∷ ns) h e = true≢false (sym (ap is_empty e ∙ refl))
 ends_in : (p : TProgram) (depth f : ℕ) (u v : VarId) → flows_to p depth f u v ≡ true → is_variable p f v ≡ true
 unfolding flows_to
 ends_in p zero f u v h = absurd (true≢false (sym h))
-ends_in p (suc depth) f u v h = and_left (is_variable p f v) _ (and_right (is_variable p f u) _ h)
+ends_in p (suc depth) f u v h = (and_parts (is_variable p f v) _ (and_parts (is_variable p f u) _ h).1).0
 
 module _ (p : TProgram) (q : Policy) (flow : (f : ℕ) (u v : VarId) → Decides (flows p f u v) (Flow p f u v)) where
   -- what the test says is so
@@ -59,15 +59,15 @@ module _ (p : TProgram) (q : Policy) (flow : (f : ℕ) (u v : VarId) → Decides
   unfolding needs_to
   sound zero g w h = absurd (true≢false (sym h))
   sound (suc depth) g w h =
-      or_case (needs_itself p q g w) (needs_by_call p (needs_to p q depth) g w) (and_right (is_given w) _ h) (own g w (and_left (is_given w) _ h))
-      (called (needs_to p q depth) (sound depth) g w (and_left (is_given w) _ h))
+      or_case (needs_itself p q g w) (needs_by_call p (needs_to p q depth) g w) (and_parts (is_given w) _ h).1 (own g w (and_parts (is_given w) _ h).0)
+      (called (needs_to p q depth) (sound depth) g w (and_parts (is_given w) _ h).0)
     where
       own : (g : ℕ) (w : VarId) → is_given w ≡ true → needs_itself p q g w ≡ true → Need p q g w
       own g w i e =
-          let here : q.function ≡ g = sym (eqb-true g q.function (and_left (nat_eq g q.function) _ e)) in
-          let rest = and_right (nat_eq g q.function) _ e in
-          let x = any_of (flows p g w) (annotated p q) (and_right (not (is_empty (held p q))) _ rest) in
-          subst (λ f. Need p q f w) here (by_annotation x.1 (not_empty (held p q) (and_left (not (is_empty (held p q))) _ rest)) i
+          let here : q.function ≡ g = sym (eqb-true g q.function (and_parts (nat_eq g q.function) _ e).0) in
+          let rest = (and_parts (nat_eq g q.function) _ e).1 in
+          let x = any_of (flows p g w) (annotated p q) (and_parts (not (is_empty (held p q))) _ rest).1 in
+          subst (λ f. Need p q f w) here (by_annotation x.1 (not_empty (held p q) (and_parts (not (is_empty (held p q))) _ rest).0) i
           (subst (λ f. Flow p f w x.0) (sym here) (decided (flows p g w x.0) (Flow p g w x.0) (flow g w x.0) x.2)))
 
       at_call : (need : ℕ → VarId → Bool) → ((f : ℕ) (x : VarId) → need f x ≡ true → Need p q f x) → (g : ℕ) (w y : VarId) → is_given w ≡ true → Flow p g w y → (a : TEffect)
@@ -75,20 +75,20 @@ module _ (p : TProgram) (q : Policy) (flow : (f : ℕ) (u v : VarId) → Decides
       at_call need so g w y i f a o None e h = absurd (true≢false (sym h))
       at_call need so g w y i f a o (Some c) e h =
           let x = any_of (λ v. need c.function v && begins c v y) (variables p c.function) h in
-          by_call a c o e (so c.function x.0 (and_left (need c.function x.0) _ x.2)) (and_right (need c.function x.0) _ x.2) i f
+          by_call a c o e (so c.function x.0 (and_parts (need c.function x.0) _ x.2).0) (and_parts (need c.function x.0) _ x.2).1 i f
 
       called : (need : ℕ → VarId → Bool) → ((f : ℕ) (x : VarId) → need f x ≡ true → Need p q f x) → (g : ℕ) (w : VarId) → is_given w ≡ true → needs_by_call p need g w ≡ true → Need p q g w
       called need so g w i e =
           let a = any_of (λ b. list_any (λ y. is_needed_at p need b.call y && flows p g w y) (variables p g)) (effects_at p g) e in
           let y = any_of (λ z. is_needed_at p need a.0.call z && flows p g w z) (variables p g) a.2 in
-          at_call need so g w y.0 i (decided (flows p g w y.0) (Flow p g w y.0) (flow g w y.0) (and_right (is_needed_at p need a.0.call y.0) _ y.2)) a.0 a.1 a.0.call refl
-          (and_left (is_needed_at p need a.0.call y.0) _ y.2)
+          at_call need so g w y.0 i (decided (flows p g w y.0) (Flow p g w y.0) (flow g w y.0) (and_parts (is_needed_at p need a.0.call y.0) _ y.2).1) a.0 a.1 a.0.call refl
+          (and_parts (is_needed_at p need a.0.call y.0) _ y.2).0
 
   module _ (rank : ℕ → ℕ) (falls : (g : ℕ) (a : TEffect) (c : TCalled) → IsOf a (effects_at p g) → a.call ≡ Some c → rank c.function < rank g) where
     own_test : (w x : VarId) → IsOf x (annotated p q) → (held p q ≡ [] → ⊥) → Flow p q.function w x → needs_itself p q q.function w ≡ true
     own_test w x o h f =
-        both (nat_eq q.function q.function) _ (eq-eqb q.function q.function refl)
-        (both (not (is_empty (held p q))) _ (some_held (held p q) h)
+        and_from (nat_eq q.function q.function) _ (eq-eqb q.function q.function refl)
+        (and_from (not (is_empty (held p q))) _ (some_held (held p q) h)
         (of_any (flows p q.function w) x (annotated p q) o (back (flows p q.function w x) (Flow p q.function w x) (flow q.function w x) f)))
 
     call_test : (depth g : ℕ) (x y w : VarId) (a : TEffect) (c : TCalled) → IsOf a (effects_at p g) → a.call ≡ Some c → needs_to p q depth c.function x ≡ true → begins c x y ≡ true
@@ -97,20 +97,20 @@ module _ (p : TProgram) (q : Policy) (flow : (f : ℕ) (u v : VarId) → Decides
         let goes : flows p g w y ≡ true = back (flows p g w y) (Flow p g w y) (flow g w y) f in
         let needed : is_needed_at p (needs_to p q depth) (Some c) y ≡ true =
         of_any (λ v. needs_to p q depth c.function v && begins c v y) x (variables p c.function) (needed_variable p q depth c.function x n)
-        (both (needs_to p q depth c.function x) (begins c x y) n b) in
+        (and_from (needs_to p q depth c.function x) (begins c x y) n b) in
         of_any (λ d. list_any (λ z. is_needed_at p (needs_to p q depth) d.call z && flows p g w z) (variables p g)) a (effects_at p g) o
         (of_any (λ z. is_needed_at p (needs_to p q depth) a.call z && flows p g w z) y (variables p g) (listed p g y (ends_in p (length p.functions) g w y goes))
-        (both (is_needed_at p (needs_to p q depth) a.call y) (flows p g w y) (subst (λ s. is_needed_at p (needs_to p q depth) s y ≡ true) (sym e) needed) goes))
+        (and_from (is_needed_at p (needs_to p q depth) a.call y) (flows p g w y) (subst (λ s. is_needed_at p (needs_to p q depth) s y ≡ true) (sym e) needed) goes))
 
     -- what is so is found, as deep as the rank
     pub complete : (g : ℕ) (w : VarId) → Need p q g w → (depth : ℕ) → rank g < depth → needs_to p q depth g w ≡ true
     unfolding needs_to
     complete g w n zero l = absurd (omega arith)
     complete _ _ (by_annotation {w = w} {x = x} o h i f) (suc depth) l =
-        both (is_given w) _ i (or_first (needs_itself p q q.function w) (needs_by_call p (needs_to p q depth) q.function w) (own_test w x o h f))
+        and_from (is_given w) _ i (or_first (needs_itself p q q.function w) (needs_by_call p (needs_to p q depth) q.function w) (own_test w x o h f))
     complete _ _ (by_call {g = g} {x = x} {y = y} {w = w} a c o e n b i f) (suc depth) l =
         let deep : rank c.function < rank g = falls g a c o e in
-        both (is_given w) _ i (or_second (needs_itself p q g w) (needs_by_call p (needs_to p q depth) g w)
+        and_from (is_given w) _ i (or_second (needs_itself p q g w) (needs_by_call p (needs_to p q depth) g w)
         (call_test depth g x y w a c o e (complete c.function x n depth (omega (arith, deep, l))) b f))
 
     none_past : (g : ℕ) (w : VarId) → Need p q g w → length p.functions ≤ g → ⊥

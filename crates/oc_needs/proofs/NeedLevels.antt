@@ -4,7 +4,7 @@ use Rattle.std.proofs.Common.{map, length, cond, Option, Some, None}
 use Rattle.std.specs.Prelude.{◌&&◌, ◌||◌, not, filter, flat_map, option_map, option_to_list}
 use Rattle.std.specs.List.{list_any}
 use Rattle.std.proofs.Math.ListN.{get_or}
-use Rattle.std.proofs.lemmas.Bool.{cases_lt, eqb-true, eqb-false}
+use Rattle.std.proofs.lemmas.Bool.{cases_lt, eqb-true, eqb-false, and_parts}
 use Rattle.std.proofs.lemmas.List.{get_or_past, length-map}
 use Rattle.std.proofs.lemmas.List.Folds.{list_any-append}
 use Rattle.oc_tree.specs.Tree.{TProgram}
@@ -20,7 +20,7 @@ use Rattle.oc_needs.specs.Code.{row_of, rows_of, stands_for, needed_in_call, nee
 use Rattle.oc_needs.specs.Code.{next_row, is_changed_row, is_row_changed, no_row, start_level, next_level, level_at}
 use Rattle.oc_needs.proofs.Froms.{get_map_from, length_map_from}
 use Rattle.oc_needs.proofs.Rows.{same_variable_is}
-use Rattle.oc_needs.proofs.Tests.{bool_same, and_left, and_right, or_case, or_no, or_same, any_same, any_none, any_flat_map, any_filter, filter_same, filter_none, any_of, filter_tells}
+use Rattle.oc_needs.proofs.Tests.{bool_same, or_case, or_no, or_same, any_same, any_none, any_flat_map, any_filter, filter_same, filter_none, any_of, filter_tells}
 
 -- ---- past the end of the functions
 
@@ -129,26 +129,26 @@ among_is v (w ∷ ws) h = or_case (same_variable v w) (list_any (same_variable v
 
 -- a variable of a function stands in its list
 pub listed : (p : TProgram) (f : ℕ) (v : VarId) → is_variable p f v ≡ true → IsOf v (variables p f)
-listed p f v h = among_is v (variables p f) (and_right (nat_lt f (length p.functions)) _ h)
+listed p f v h = among_is v (variables p f) (and_parts (nat_lt f (length p.functions)) _ h).1
 
 starts_to : (p : TProgram) (depth f : ℕ) (u v : VarId) → flows_to p depth f u v ≡ true → is_variable p f u ≡ true
 unfolding flows_to
 starts_to p zero f u v h = absurd (true≢false (sym h))
-starts_to p (suc depth) f u v h = and_left (is_variable p f u) _ h
+starts_to p (suc depth) f u v h = (and_parts (is_variable p f u) _ h).0
 
 pub flow_starts : (p : TProgram) (f : ℕ) (u v : VarId) → flows p f u v ≡ true → is_variable p f u ≡ true
 flow_starts p f u v h = starts_to p (length p.functions) f u v h
 
 by_variable : (p : TProgram) (q : Policy) (need : Needed) (g : ℕ) (w : VarId) → needs_by p q need g w ≡ true → IsOf w (variables p g)
-by_variable p q need g w h = listed p g w (or_case (needs_itself p q g w) (needs_by_call p need g w) (and_right (is_given w) _ h) own calls)
+by_variable p q need g w h = listed p g w (or_case (needs_itself p q g w) (needs_by_call p need g w) (and_parts (is_given w) _ h).1 own calls)
   where
     own : needs_itself p q g w ≡ true → is_variable p g w ≡ true
-    own e = let x = any_of (flows p g w) (annotated p q) (and_right (not (is_empty (held p q))) _ (and_right (nat_eq g q.function) _ e)) in flow_starts p g w x.0 x.2
+    own e = let x = any_of (flows p g w) (annotated p q) (and_parts (not (is_empty (held p q))) _ (and_parts (nat_eq g q.function) _ e).1).1 in flow_starts p g w x.0 x.2
 
     calls : needs_by_call p need g w ≡ true → is_variable p g w ≡ true
     calls e =
         let a = any_of (λ b. list_any (λ y. is_needed_at p need b.call y && flows p g w y) (variables p g)) (effects_at p g) e in
-        let y = any_of (λ z. is_needed_at p need a.0.call z && flows p g w z) (variables p g) a.2 in flow_starts p g w y.0 (and_right (is_needed_at p need a.0.call y.0) _ y.2)
+        let y = any_of (λ z. is_needed_at p need a.0.call z && flows p g w z) (variables p g) a.2 in flow_starts p g w y.0 (and_parts (is_needed_at p need a.0.call y.0) _ y.2).1
 
 pub needed_variable : (p : TProgram) (q : Policy) (depth g : ℕ) (w : VarId) → needs_to p q depth g w ≡ true → IsOf w (variables p g)
 unfolding needs_to
@@ -161,7 +161,7 @@ same_row_is [] [] h = refl
 same_row_is [] (w ∷ ws) h = absurd (true≢false (sym h))
 same_row_is (v ∷ vs) [] h = absurd (true≢false (sym h))
 same_row_is (v ∷ vs) (w ∷ ws) h =
-    ap (λ z. z ∷ vs) (same_variable_is v w (and_left (same_variable v w) (same_row vs ws) h)) ∙ ap (λ zs. w ∷ zs) (same_row_is vs ws (and_right (same_variable v w) (same_row vs ws) h))
+    ap (λ z. z ∷ vs) (same_variable_is v w (and_parts (same_variable v w) (same_row vs ws) h).0) ∙ ap (λ zs. w ∷ zs) (same_row_is vs ws (and_parts (same_variable v w) (same_row vs ws) h).1)
 
 rows_tell : (p : TProgram) (q : Policy) (d e g : ℕ) (w : VarId) → row_of p (needs_to p q d) g ≡ row_of p (needs_to p q e) g → needs_to p q d g w ≡ needs_to p q e g w
 rows_tell p q d e g w h =

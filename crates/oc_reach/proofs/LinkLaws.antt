@@ -3,14 +3,14 @@ use Rattle.std.proofs.Common.{◌≡◌, ◌<◌, ◌+◌, ◌++◌, ℕ, Bool, 
 use Rattle.std.specs.Prelude.{◌&&◌, ◌||◌, option_to_list}
 use Rattle.std.specs.List.{list_any}
 use Rattle.std.proofs.lemmas.List.{map-append, length-map}
-use Rattle.std.proofs.lemmas.Bool.{eqb-true}
+use Rattle.std.proofs.lemmas.Bool.{eqb-true, and_parts}
 use Rattle.oc_tree.specs.Names.{Text}
 use Rattle.oc_tree.specs.Tree.{TCall, TFunction}
 use Rattle.oc_tree.specs.Reach.{linked, is_link}
 use Rattle.oc_tree.specs.Calls.{place, callee, body_calls, called_places, links_from, function_names, call_links}
 use Rattle.oc_tree.proofs.ReachLaws.{or_elim}
 use Rattle.oc_reach.specs.Within.{IsWithin}
-use Rattle.oc_reach.proofs.Bools.{or_assoc, and_first, and_second}
+use Rattle.oc_reach.proofs.Bools.{or_assoc}
 use Rattle.oc_reach.proofs.Entries.{place_below}
 
 pub any_append : {A : Type 0} (test : A → Bool) (xs ys : List A) → list_any test (xs ++ ys) ≡ list_any test xs || list_any test ys
@@ -21,9 +21,9 @@ one_within : (names : List Text) (w : ℕ) (x : Text) (r : Option ℕ) (u v : �
 one_within names w x None u v e h = absurd (true≢false (sym h))
 one_within names w x (Some i) u v e h = or_elim (is_link u v (w, i)) false h
     (λ k.
-    let iv : i ≡ v = eqb-true i v (and_second (nat_eq w u) (nat_eq i v) k) in
+    let iv : i ≡ v = eqb-true i v (and_parts (nat_eq w u) (nat_eq i v) k).1 in
     let b : i < 0 + length names = place_below 0 names x i (sym e) in
-    (eqb-true w u (and_first (nat_eq w u) (nat_eq i v) k), omega (arith, iv, b)))
+    (eqb-true w u (and_parts (nat_eq w u) (nat_eq i v) k).0, omega (arith, iv, b)))
     (λ k. absurd (true≢false (sym k)))
 
 row_within : (names : List Text) (w : ℕ) (cs : List TCall) (u v : ℕ) → linked (map (λ a. (w, a)) (called_places names cs)) u v ≡ true → (w ≡ u) × (v < length names)

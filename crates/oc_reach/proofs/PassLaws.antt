@@ -5,7 +5,7 @@ use Rattle.std.specs.List.{flat_map}
 use Rattle.std.proofs.Math.ListN.{get_or}
 use Rattle.std.proofs.lemmas.List.{length-map, append_assoc}
 use Rattle.std.proofs.lemmas.List.Sums.{sum_by-cons}
-use Rattle.std.proofs.lemmas.Bool.{eqb-true}
+use Rattle.std.proofs.lemmas.Bool.{eqb-true, and_parts}
 use Rattle.oc_tree.specs.Names.{Text}
 use Rattle.oc_tree.specs.Tree.{TArg, value, shared, mutable, TCall, call, TArgs, no_args, more_args, TFunction}
 use Rattle.oc_tree.specs.declared.tree.Param.{Param}
@@ -17,7 +17,6 @@ use Rattle.oc_tree.specs.Assigned.{is_mutable, alone, first_params, first_param,
 use Rattle.oc_tree.specs.Assigned.{args_links, to_links, pass_call, function_links, pass_links_from, pass_links, param_names}
 use Rattle.oc_tree.proofs.ReachLaws.{or_elim}
 use Rattle.oc_reach.specs.Within.{IsWithin}
-use Rattle.oc_reach.proofs.Bools.{and_first, and_second}
 use Rattle.oc_reach.proofs.Entries.{place_below}
 use Rattle.oc_reach.proofs.LinkLaws.{any_append}
 use Rattle.oc_reach.proofs.Tests.{test_inside}
@@ -66,7 +65,7 @@ link_is : (r s : Option ℕ) (a b : ℕ) → linked (link_of r s) a b ≡ true �
 link_is None s a b h = absurd (true≢false (sym h))
 link_is (Some x) None a b h = absurd (true≢false (sym h))
 link_is (Some x) (Some y) a b h = or_elim (is_link a b (x, y)) false h
-    (λ k. (ap Some (eqb-true x a (and_first (nat_eq x a) (nat_eq y b) k)), ap Some (eqb-true y b (and_second (nat_eq x a) (nat_eq y b) k))))
+    (λ k. (ap Some (eqb-true x a (and_parts (nat_eq x a) (nat_eq y b) k).0), ap Some (eqb-true y b (and_parts (nat_eq x a) (nat_eq y b) k).1)))
     (λ k. absurd (true≢false (sym k)))
 
 module _ (all : List TFunction) (first : ℕ) (params : List Text) where

@@ -4,12 +4,12 @@ use Rattle.std.specs.Prelude.{◌&&◌, ◌||◌}
 use Rattle.std.specs.List.{list_any}
 use Rattle.std.proofs.Math.ListN.{get_or, set}
 use Rattle.std.proofs.lemmas.List.{get_or-set_same, get_or-set_other}
-use Rattle.std.proofs.lemmas.Bool.{eq-eqb}
+use Rattle.std.proofs.lemmas.Bool.{eq-eqb, and_from}
 use Rattle.std.proofs.lemmas.Bool.Decides.{eqb_tells, nat_tests}
 use mathlib.Core.Logic.{inl, inr}
 use Rattle.oc_tree.specs.Reach.{Links, linked, is_link}
 use Rattle.oc_reach.specs.Marked.{is_in, rows}
-use Rattle.oc_reach.proofs.Bools.{or_assoc, or_false, and_both}
+use Rattle.oc_reach.proofs.Bools.{or_assoc, or_false}
 use Rattle.oc_reach.proofs.Lists.{is_in_push}
 use Rattle.oc_tree.proofs.ReachLaws.{or_left, or_right}
 
@@ -34,7 +34,7 @@ row_is r n row w h e f = f ∙ ap (λ v. v.items) e ∙ sym (rows_at r n w h)
 -- a link of the list
 pub link_at : (links : Links) (i : ℕ) → i < length links → linked links (get_or links i (0, 0)).0 (get_or links i (0, 0)).1 ≡ true
 link_at [] i h = absurd (omega arith)
-link_at (l ∷ links) zero h = or_left _ _ (and_both (nat_eq l.0 l.0) (nat_eq l.1 l.1) (eq-eqb l.0 l.0 refl) (eq-eqb l.1 l.1 refl))
+link_at (l ∷ links) zero h = or_left _ _ (and_from (nat_eq l.0 l.0) (nat_eq l.1 l.1) (eq-eqb l.0 l.0 refl) (eq-eqb l.1 l.1 refl))
 link_at (l ∷ links) (suc i) h = or_right (is_link (get_or links i (0, 0)).0 (get_or links i (0, 0)).1 l) _ (link_at links i (omega arith))
 
 any_push : {A : Type 0} (test : A → Bool) (xs : List A) (x : A) → list_any test (xs ++ x ∷ []) ≡ list_any test xs || test x

@@ -3,11 +3,11 @@ use Rattle.std.proofs.Common.{◌≡◌, ◌<◌, ◌≤◌, ◌+◌, ℕ, zero,
 use Rattle.std.specs.Prelude.{◌&&◌, ◌||◌}
 use Rattle.std.proofs.Math.ListN.{get_or}
 use Rattle.std.proofs.lemmas.List.{take_all}
-use Rattle.std.proofs.lemmas.Bool.{eqb-true, eq-eqb}
+use Rattle.std.proofs.lemmas.Bool.{eqb-true, eq-eqb, and_from, and_parts}
 use Rattle.std.proofs.lemmas.Bool.Decides.{nat_tests}
 use Rattle.oc_tree.specs.Reach.{Links, reaches, reaches_some}
 use Rattle.oc_reach.specs.Marked.{is_in, add}
-use Rattle.oc_reach.proofs.Bools.{or_false, and_both, and_first, and_second, both_ways}
+use Rattle.oc_reach.proofs.Bools.{or_false, both_ways}
 use Rattle.oc_reach.proofs.Lists.{in_add}
 use Rattle.oc_reach.proofs.Walk.{some_same, some_at, some_is}
 
@@ -73,8 +73,8 @@ some_tests links n p q u h = some_same n (λ v. p v && reaches links n u v) (λ 
 pub only_one : (links : Links) (n f u : ℕ) → f < n → reaches_some links n (is_in (f ∷ [])) u ≡ reaches links n u f
 only_one links n f u h = both_ways _ _
     (λ e. let p = some_is n (λ v. is_in (f ∷ []) v && reaches links n u v) e in
-    let q : is_in (f ∷ []) p.0 ≡ true = and_first (is_in (f ∷ []) p.0) (reaches links n u p.0) p.2 in
+    let q : is_in (f ∷ []) p.0 ≡ true = (and_parts (is_in (f ∷ []) p.0) (reaches links n u p.0) p.2).0 in
     let s : nat_eq f p.0 ≡ true = sym (or_false (nat_eq f p.0) false refl) ∙ q in
-    subst (λ x. reaches links n u x ≡ true) (sym (eqb-true f p.0 s)) (and_second (is_in (f ∷ []) p.0) (reaches links n u p.0) p.2))
+    subst (λ x. reaches links n u x ≡ true) (sym (eqb-true f p.0 s)) (and_parts (is_in (f ∷ []) p.0) (reaches links n u p.0) p.2).1)
     (λ e. let s : is_in (f ∷ []) f ≡ true = or_false (nat_eq f f) false refl ∙ eq-eqb f f refl in
-    some_at n (λ v. is_in (f ∷ []) v && reaches links n u v) f h (and_both (is_in (f ∷ []) f) (reaches links n u f) s e))
+    some_at n (λ v. is_in (f ∷ []) v && reaches links n u v) f h (and_from (is_in (f ∷ []) f) (reaches links n u f) s e))

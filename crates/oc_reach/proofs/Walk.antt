@@ -2,14 +2,14 @@
 use Rattle.std.proofs.Common.{◌≡◌, ◌<◌, ◌≤◌, ◌+◌, ℕ, zero, suc, Bool, true, false, List, length, refl, sym, ap, ◌∙◌, true≢false, arith, subst}
 use Rattle.std.specs.Prelude.{◌&&◌, ◌||◌, nat_eq}
 use Rattle.std.proofs.Math.ListN.{get_or}
-use Rattle.std.proofs.lemmas.Bool.{eqb-true, eq-eqb}
+use Rattle.std.proofs.lemmas.Bool.{eqb-true, eq-eqb, and_from, and_parts}
 use Rattle.std.proofs.lemmas.Bool.Decides.{eqb_tells}
 use mathlib.Core.Logic.{inl, inr}
 use Rattle.oc_tree.specs.Reach.{Links, linked, leads, reaches, some_below, reaches_some}
 use Rattle.oc_tree.proofs.ReachLaws.{or_left, or_right, or_elim, links_lead, leads_trans, least}
 use Rattle.oc_reach.specs.Marked.{is_in}
 use Rattle.oc_reach.specs.Within.{IsWithin}
-use Rattle.oc_reach.proofs.Bools.{and_both, and_first, and_second, both_ways}
+use Rattle.oc_reach.proofs.Bools.{both_ways}
 use Rattle.oc_reach.proofs.Lists.{place_of, in_at}
 
 -- what is linked to the first `i` numbers is there
@@ -69,9 +69,9 @@ pub complete : (links : Links) (n : ℕ) (start xs : List ℕ)
     → IsDone links xs (length xs)
     → (u : ℕ) → is_in xs u ≡ reaches_some links n (is_in start) u
 complete links n start xs inside started sound done u = both_ways _ _
-    (λ h. let f = sound u h in some_at n (λ v. is_in start v && reaches links n u v) f.0 (inside f.0 f.1) (and_both _ _ f.1 f.2))
+    (λ h. let f = sound u h in some_at n (λ v. is_in start v && reaches links n u v) f.0 (inside f.0 f.1) (and_from _ _ f.1 f.2))
     (λ h. let p = some_is n (λ v. is_in start v && reaches links n u v) h in
-    back links n xs done u p.0 (and_second (is_in start p.0) _ p.2) (started p.0 (and_first (is_in start p.0) _ p.2)))
+    back links n xs done u p.0 (and_parts (is_in start p.0) _ p.2).1 (started p.0 (and_parts (is_in start p.0) _ p.2).0))
 
 pub done_all : (links : Links) (xs : List ℕ) (i : ℕ) → length xs ≤ i → IsDone links xs i → IsDone links xs (length xs)
 done_all links xs i h done j a b = done j (omega arith) b

@@ -1,5 +1,6 @@
 -- The answer to an item that a run tells.
 use Rattle.std.proofs.Common.{◌≡◌, ℕ, suc, ℤ, Bool, true, false, List, [], ◌∷◌, ◌++◌, length, map, get_or, Option, Some, None, refl, sym, ap, ◌∙◌, subst, inl, inr, ⊎_elim}
+use Rattle.std.proofs.lemmas.Bool.{and_parts}
 use Rattle.std.proofs.Common.{eqb-true, eq-eqb, append-nil, arith}
 use Rattle.std.specs.Prelude.{◌==◌, ◌&&◌, not, if◌then◌else◌}
 use Rattle.std.specs.Ordering.{int_eq}
@@ -50,11 +51,6 @@ use Rattle.oc_steps.proofs.Lives.{honest_more, timely_back, way_more, going_more
 
 -- ---- what is the same
 
-both : (a b : Bool) → (a && b) ≡ true → (a ≡ true) × (b ≡ true)
-both true true e = (refl, refl)
-both true false e = absurd (cc (e))
-both false b e = absurd (cc (e))
-
 one_int : (a b : ℤ) → int_eq a b ≡ true → a ≡ b
 one_int a b e = (Decides-int_eq a b).0 e
 
@@ -73,7 +69,7 @@ kind_own Index = refl
 
 one_shown : (a b : Shown) → is_shown a b ≡ true → a ≡ b
 one_shown (Emitted q z) (Emitted r y) e =
-    let h = both (q == r) (int_eq z y) e in
+    let h = and_parts (q == r) (int_eq z y) e in
     let a : q ≡ r = eqb-true q r h.0 in
     let b : z ≡ y = one_int z y h.1 in
     ap (λ x. Emitted x z) a ∙ ap (λ x. Emitted r x) b
@@ -138,7 +134,7 @@ one_ended (Ended Halted) Halted e = refl
 one_ended (Ended Halted) (Trapped j m) e = absurd (cc (e))
 one_ended (Ended (Trapped k n)) Halted e = absurd (cc (e))
 one_ended (Ended (Trapped k n)) (Trapped j m) e =
-    let h = both (is_kind k j) (n == m) e in
+    let h = and_parts (is_kind k j) (n == m) e in
     ap (λ x. Ended (Trapped x n)) (one_kind k j h.0) ∙ ap (λ x. Ended (Trapped j x)) (eqb-true n m h.1)
 one_ended (Sensed a b) how e = absurd (cc (e))
 one_ended (Showed a) how e = absurd (cc (e))
@@ -164,7 +160,7 @@ one_words [] [] e = refl
 one_words [] (y ∷ ys) e = absurd (cc (e))
 one_words (x ∷ xs) [] e = absurd (cc (e))
 one_words (x ∷ xs) (y ∷ ys) e =
-    let h = both (int_eq x y) (are_words xs ys) e in
+    let h = and_parts (int_eq x y) (are_words xs ys) e in
     ap (λ z. z ∷ xs) (one_int x y h.0) ∙ ap (λ l. y ∷ l) (one_words xs ys h.1)
 
 words_own : (xs : List ℤ) → are_words xs xs ≡ true

@@ -1,5 +1,6 @@
 -- A tag of a consistent set more.
 use Rattle.std.proofs.Common.{◌≡◌, ◌<◌, ◌≤◌, ℕ, ℤ, Bool, true, false, List, [], ◌∷◌, ◌++◌, length, get_or, Option, Some, None, refl, sym, ap, ◌∙◌, subst, inl, inr, ⊎_elim, arith}
+use Rattle.std.proofs.lemmas.Bool.{and_parts}
 use Rattle.std.proofs.Common.{nat_lt, ltb-true, ltb-false, eqb-true, eq-eqb}
 use Rattle.std.specs.Prelude.{◌⊎◌, ◌==◌, ◌&&◌, find, if◌then◌else◌}
 use Rattle.std.specs.Ordering.{int_eq}
@@ -88,14 +89,9 @@ same_int a b e = (Decides-int_eq a b).0 e
 int_same : (a : ℤ) → int_eq a a ≡ true
 int_same a = (Decides-int_eq a a).1 refl
 
-and_both : (a b : Bool) → (a && b) ≡ true → (a ≡ true) × (b ≡ true)
-and_both true true e = (refl, refl)
-and_both true false e = absurd (cc (e))
-and_both false b e = absurd (cc (e))
-
 set_is : (k : ℕ × ℤ) (i : Instance) → is_set k i ≡ true → i.set ≡ k
 set_is k i e =
-    let h = and_both (i.set.0 == k.0) (int_eq i.set.1 k.1) e in
+    let h = and_parts (i.set.0 == k.0) (int_eq i.set.1 k.1) e in
     let a : i.set.0 ≡ k.0 = eqb-true i.set.0 k.0 h.0 in
     let b : i.set.1 ≡ k.1 = same_int i.set.1 k.1 h.1 in
     ap (λ x. (x, i.set.1)) a ∙ ap (λ y. (k.0, y)) b

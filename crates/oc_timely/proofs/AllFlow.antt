@@ -1,5 +1,6 @@
 -- Samples stay within the flow, at each statement of each function, however deep calls go.
 use Rattle.std.proofs.Common.{◌≡◌, ℕ, zero, suc, ◌+◌, true, true≢false, List, [], ◌∷◌, ◌++◌, map, length, Some, refl, sym, ◌∙◌, subst, arith}
+use Rattle.std.proofs.lemmas.Bool.{and_from}
 use Rattle.std.specs.Prelude.{slice_get, nat_lt, ◌&&◌}
 use Rattle.oc_tree.specs.Tree.{TFunction, TProgram}
 use Rattle.oc_tree.specs.Numbers.{block_statements}
@@ -16,7 +17,6 @@ use Rattle.oc_tree.specs.Members.{IsOf}
 use Rattle.oc_copies.specs.Copies.{own_frame, own_run}
 use Rattle.oc_timely.specs.Within.{start_where, AnyOf}
 use Rattle.oc_timely.specs.Modes.{Among, PairedBlock}
-use Rattle.oc_timely.proofs.Beginning.{both_true}
 use Rattle.oc_timely.proofs.CallsGoes.{FlowsOut, RunsFlow, calls_go}
 use Rattle.oc_timely.proofs.Distinct.{checked_sees}
 use Rattle.oc_timely.specs.Modes.{AllFlows}
@@ -37,7 +37,7 @@ use Rattle.oc_timely.proofs.Writes.{came_wider, comes_wider}
 has_result : (p : TProgram) (f : ℕ) (g : TFunction) → slice_get p.functions f ≡ Some g → is_variable p f variables.Returned ≡ true
 has_result p f g at =
     let inside : nat_lt f (length p.functions) ≡ true = (let l = stands_at p.functions f g at in grind (arith, l)) in
-    both_true (nat_lt f (length p.functions)) (is_among variables.Returned (all_variables p f)) inside
+    and_from (nat_lt f (length p.functions)) (is_among variables.Returned (all_variables p f)) inside
     (among_back variables.Returned (map variables.Nv (from 0 (length p.names.nvs))) _ (among_back variables.Returned (map variables.Param (from 0 (length (params_at p f)))) _ refl))
 
 module _ (m : TMarked) (marked : IsMarked m) where

@@ -4,7 +4,7 @@ use Rattle.std.proofs.Common.{refl, sym, ap, ◌∙◌, subst, arith}
 use Rattle.std.specs.Prelude.{◌==◌, ◌&&◌, not, slice_get, find, flat_map}
 use Rattle.std.specs.List.{list_any}
 use Rattle.std.proofs.Math.ListN.{get_or}
-use Rattle.std.proofs.lemmas.Bool.{eqb-true}
+use Rattle.std.proofs.lemmas.Bool.{eqb-true, and_parts}
 use Rattle.std.proofs.lemmas.Option.{none-some, same_Some}
 use Rattle.oc_tree.specs.Tree.{TKind, let_to, let_array, assign, assign_index, assign_deref, if_else, for_in, while_do, call_only, sense_only, emit, fresh, consistent, return}
 use Rattle.oc_tree.specs.Tree.{TElse, no_else, else_do, stmt, TBlock, block, TStmts, no_stmts, more, TFunction, TProgram}
@@ -15,7 +15,7 @@ use Rattle.oc_tree.specs.declared.tree.VarId.TheVariants as variables
 use Rattle.oc_effects.specs.Effects.{TEffect, effect_of, function_effects, effects_at, is_numbered}
 use Rattle.oc_tree.specs.Members.{IsOf}
 use Rattle.oc_needs.specs.Sites.{stands_in, is_outside}
-use Rattle.oc_needs.proofs.Tests.{any_of, and_left, and_right}
+use Rattle.oc_needs.proofs.Tests.{any_of}
 use Rattle.oc_desugar.proofs.NumberLists.{Follow, first_of, parts}
 use Rattle.oc_timely.proofs.Lies.{in_append}
 
@@ -166,8 +166,8 @@ module _ (p : TProgram) (follow : Follow 1 (program_statements p)) where
   pub inner : (f loop s : ℕ) → is_outside p f loop (variables.Declared s) ≡ false → loop < s
   inner f loop s e =
       let r = any_of (λ a. is_numbered s a && stands_in loop a) (effects_at p f) (not_false (list_any (λ a. is_numbered s a && stands_in loop a) (effects_at p f)) e) in
-      let at = eqb-true r.0.stmt s (and_left (is_numbered s r.0) (stands_in loop r.0) r.2) in
-      let t = any_of (λ t. nat_eq t loop) r.0.around (and_right (is_numbered s r.0) (stands_in loop r.0) r.2) in
+      let at = eqb-true r.0.stmt s (and_parts (is_numbered s r.0) (stands_in loop r.0) r.2).0 in
+      let t = any_of (λ t. nat_eq t loop) r.0.around (and_parts (is_numbered s r.0) (stands_in loop r.0) r.2).1 in
       let same = eqb-true t.0 loop t.2 in
       let n = effects_nested f r.0 r.1 in
       let low = n.0 t.0 t.1 in omega (arith, at, same, low)

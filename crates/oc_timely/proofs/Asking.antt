@@ -4,7 +4,7 @@ use Rattle.std.specs.Prelude.{ℤ, nat_eq, flat_map, option_map, option_to_list}
 use Rattle.std.specs.List.{list_any}
 use Rattle.std.specs.Ordering.{int_eq}
 use Rattle.std.proofs.Math.ListN.{get_or}
-use Rattle.std.proofs.lemmas.Bool.{eqb-true}
+use Rattle.std.proofs.lemmas.Bool.{eqb-true, and_parts}
 use Rattle.oc_tree.specs.Tree.{TProgram}
 use Rattle.oc_tree.specs.declared.marked.Policy.{Policy}
 use Rattle.oc_tree.specs.declared.marked.PolicyKind.{PolicyKind}
@@ -12,7 +12,7 @@ use Rattle.oc_tree.specs.declared.marked.PolicyKind.TheVariants as kinds
 use Rattle.oc_effects.specs.declared.effect.Note.{Note}
 use Rattle.oc_effects.specs.Effects.{TEffect, effects, effects_at}
 use Rattle.oc_tree.specs.Members.{IsOf}
-use Rattle.oc_flow.proofs.Lists.{in_any, same_is, first_of_both, second_of_both}
+use Rattle.oc_flow.proofs.Lists.{in_any, same_is}
 use Rattle.oc_needs.specs.Policies.{kind_of_note, same_kind, same_policy, asked_from, each_once, policies}
 use Rattle.oc_timely.proofs.Lies.{in_append}
 use Rattle.oc_timely.proofs.Inside.{of_left, of_right}
@@ -28,8 +28,8 @@ same_kind_is (kinds.Consistent k) (kinds.Fresh w) h = absurd (true≢false (sym 
 
 same_policy_is : (q r : Policy) → same_policy q r ≡ true → q ≡ r
 same_policy_is q r h =
-    let e = eqb-true q.function r.function (first_of_both (nat_eq q.function r.function) (same_kind q.kind r.kind) h) in
-    let k = same_kind_is q.kind r.kind (second_of_both (nat_eq q.function r.function) (same_kind q.kind r.kind) h) in
+    let e = eqb-true q.function r.function (and_parts (nat_eq q.function r.function) (same_kind q.kind r.kind) h).0 in
+    let k = same_kind_is q.kind r.kind (and_parts (nat_eq q.function r.function) (same_kind q.kind r.kind) h).1 in
     λ i. record { function = e i; kind = k i }
 
 -- ---- each once

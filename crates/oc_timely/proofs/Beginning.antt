@@ -1,6 +1,7 @@
 -- What a function sees when it begins: its parameters and the nonvolatile variables.
 use Rattle.std.proofs.Common.{◌≡◌, ◌⊎◌, inl, inr, ℕ, zero, suc, ◌+◌, ◌<◌, ◌≤◌, Bool, true, false, ◌==◌, List, [], ◌∷◌, ◌++◌, length, map, Option, Some, None, refl, sym, ap, ◌∙◌, subst, arith}
-use Rattle.std.specs.Prelude.{cond, if◌then◌else◌, nat_lt, option_map, ◌&&◌, ◌||◌}
+use Rattle.std.proofs.lemmas.Bool.{and_from}
+use Rattle.std.specs.Prelude.{cond, if◌then◌else◌, nat_lt, option_map, ◌||◌}
 use Rattle.std.specs.Str.{bytes_eq}
 use Rattle.std.proofs.lemmas.Slice.Eq.{bytes_eq-Decides}
 use Rattle.oc_tree.specs.Names.{Text}
@@ -33,10 +34,6 @@ from_has c n (suc count) i l u = by (n == i) refl (λ l'. from_has c (n + 1) cou
     by : (b : Bool) → (n == i) ≡ b → (n + 1 ≤ i → is_among (c i) (map c (from (n + 1) count)) ≡ true) → same_variable (c i) (c n) || is_among (c i) (map c (from (n + 1) count)) ≡ true
     by true e rest = let s : n ≡ i = grind (arith, e) in any_first (same_variable (c i) (c n)) (is_among (c i) (map c (from (n + 1) count))) (ap (λ k. same_variable (c i) (c k)) s ∙ same_self (c i))
     by false e rest = any_second (same_variable (c i) (c n)) (is_among (c i) (map c (from (n + 1) count))) (rest (let s : n ≡ i → ⊥ = grind (arith, e) in grind (arith, s, l)))
-
-pub both_true : (b c : Bool) → b ≡ true → c ≡ true → b && c ≡ true
-both_true true c e h = h
-both_true false c e h = absurd (grind (arith, e))
 
 -- ---- names
 
@@ -115,10 +112,10 @@ nv_named w total n (x ∷ xs) few nvs y =
 
 module _ (p : TProgram) (f : ℕ) (g : TFunction) (inside : nat_lt f (length p.functions) ≡ true) (params : params_at p f ≡ g.params) (distinct : AreDistinct 0 g.params) where
   has_nv : (i : ℕ) → i < length p.names.nvs → is_variable p f (variables.Nv i) ≡ true
-  has_nv i h = both_true _ _ inside (among_front (variables.Nv i) (map variables.Nv (from 0 (length p.names.nvs))) _ (from_has variables.Nv 0 (length p.names.nvs) i (omega arith) (omega (arith, h))))
+  has_nv i h = and_from _ _ inside (among_front (variables.Nv i) (map variables.Nv (from 0 (length p.names.nvs))) _ (from_has variables.Nv 0 (length p.names.nvs) i (omega arith) (omega (arith, h))))
 
   has_param : (i : ℕ) → i < length (params_at p f) → is_variable p f (variables.Param i) ≡ true
-  has_param i h = both_true _ _ inside (among_back (variables.Param i) (map variables.Nv (from 0 (length p.names.nvs))) _
+  has_param i h = and_from _ _ inside (among_back (variables.Param i) (map variables.Nv (from 0 (length p.names.nvs))) _
       (among_front (variables.Param i) (map variables.Param (from 0 (length (params_at p f)))) _ (from_has variables.Param 0 (length (params_at p f)) i (omega arith) (omega (arith, h)))))
 
   module _ (base : ℕ) where

@@ -1,5 +1,6 @@
 -- A call leaves what it must, where the run of its function does.
 use Rattle.std.proofs.Common.{◌≡◌, ◌⊎◌, inl, inr, ℕ, zero, suc, ◌+◌, ◌<◌, ◌≤◌, Bool, true, false, List, [], ◌∷◌, length, Option, Some, None, refl, sym, ap, ◌∙◌, subst, arith}
+use Rattle.std.proofs.lemmas.Bool.{and_parts}
 use Rattle.std.specs.Prelude.{ℤ, pos, ◌==◌, ◌&&◌, nat_lt, if◌then◌else◌, slice_get, slice_index_or, unwrap_or, option_and_then, option_map}
 use Rattle.std.proofs.lemmas.Option.{none-some}
 use Rattle.oc_tree.specs.Names.{Text}
@@ -24,7 +25,6 @@ use Rattle.oc_tree.specs.Members.{IsOf}
 use Rattle.oc_flow.specs.Relations.{itself, by_call, by_callee}
 use Rattle.oc_copies.specs.Copies.{AreCopies, AreCopiedBack, IsCopiedBack, HasStored, own_frame, own_run, lent_place, passing_at, NotWritten, beside, behind_call}
 use Rattle.oc_copies.specs.Stands.{AreFormed, IsRuledCall, DoesCopy}
-use Rattle.oc_desugar.proofs.KeptExpressions.{second_holds}
 use Rattle.oc_copies.proofs.Cells.{IsCell}
 use Rattle.oc_copies.proofs.Behind.{left_length, copied_locals, copied_beside}
 use Rattle.oc_copies.proofs.DoCopy.{calls_do_copy}
@@ -123,7 +123,7 @@ args_fit : (p : TProgram) (scope : Scope) (x : Text) (args : TArgs) (u : ℕ) (g
     call_meets p scope (call x args) ≡ true → args_meet p scope g.params args ≡ true
 args_fit p scope x args u g placed stands h =
     let named : function_named p x ≡ Some g = ap (λ o. option_and_then (λ i. slice_get p.functions i) o) placed ∙ stands in
-    subst (λ qs. args_meet p scope qs args ≡ true) (ap params_of named) (second_holds _ (args_meet p scope (params_of (function_named p x)) args) h)
+    subst (λ qs. args_meet p scope qs args ≡ true) (ap params_of named) (and_parts _ (args_meet p scope (params_of (function_named p x)) args) h).1
 
 module _ (p : TProgram) (groups : List Group) (checked : IsChecked p groups) (regions : List TRegion) (depth : ℕ) (home : ℤ → ℕ) (f base : ℕ) (body : List Placed) (names : AreNamed p f body) where
   abbrev calls : Text → List Passed → Store → Outcome

@@ -1,6 +1,7 @@
 -- What the statics take of the tests of flow and of sites.
 use Rattle.std.proofs.Common.{◌≡◌, inl, inr, ℕ, ◌≤◌, Bool, true, false, true≢false, List, [], ◌∷◌, Some, refl, sym, ap, ◌∙◌, arith}
-use Rattle.std.specs.Prelude.{◌&&◌, filter, find, reverse, if◌then◌else◌}
+use Rattle.std.proofs.lemmas.Bool.{and_from}
+use Rattle.std.specs.Prelude.{filter, find, reverse, if◌then◌else◌}
 use Rattle.std.specs.Option.{unwrap_or}
 use Rattle.oc_tree.specs.Tree.{TProgram}
 use Rattle.oc_tree.specs.Checked.{Group, IsChecked}
@@ -16,15 +17,10 @@ pub decide_true : (b : Bool) (A : Type 0) → Decides b A → A → b ≡ true
 decide_true true A d a = refl
 decide_true false A d a = absurd (d a)
 
-both : (x y : Bool) → x ≡ true → y ≡ true → x && y ≡ true
-both true true a b = refl
-both true false a b = absurd (true≢false (sym b))
-both false y a b = absurd (true≢false (sym a))
-
 pub input_is : FlowsIsFlow → BringsIsBrings → (p : TProgram) (groups : List Group) → IsChecked p groups → (f : ℕ) (a : TEffect) (u x : VarId) → IsOf a (effects_at p f) → Brings p f a u →
     Flow p f u x → is_input p f a u x ≡ true
 input_is flow bring p groups c f a u x i b fl =
-    both (brings p a u) (flows p f u x) (decide_true (brings p a u) (Brings p f a u) (bring p groups c f a u i) b) (decide_true (flows p f u x) (Flow p f u x) (flow p groups c f u x) fl)
+    and_from (brings p a u) (flows p f u x) (decide_true (brings p a u) (Brings p f a u) (bring p groups c f a u i) b) (decide_true (flows p f u x) (Flow p f u x) (flow p groups c f u x) fl)
 
 -- ---- sites
 

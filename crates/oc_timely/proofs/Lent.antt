@@ -1,5 +1,6 @@
 -- What is copied back behind a call was lent by a name of its arguments.
 use Rattle.std.proofs.Common.{◌≡◌, ◌⊎◌, inl, inr, ℕ, zero, suc, ◌+◌, ◌<◌, ◌≤◌, Bool, true, false, true≢false, List, [], ◌∷◌, Option, Some, None, cond, refl, sym, ap, ◌∙◌, subst, arith}
+use Rattle.std.proofs.lemmas.Bool.{and_parts}
 use Rattle.std.specs.Prelude.{◌&&◌, ◌==◌, if◌then◌else◌, option_and_then}
 use Rattle.std.proofs.Math.ListN.{get_or}
 use Rattle.std.proofs.lemmas.Option.{none-some, same_Some}
@@ -19,7 +20,6 @@ use Rattle.oc_meaning.specs.Exec.{Passed, Copied, Lent, Passing as Given, Passes
 use Rattle.oc_effects.specs.Effects.{variable_at, lent_name, all_passed}
 use Rattle.oc_flow.specs.Variables.{nothing_passed}
 use Rattle.oc_tree.specs.Members.{IsOf}
-use Rattle.oc_desugar.proofs.KeptExpressions.{first_holds, second_holds}
 use Rattle.oc_copies.specs.Copies.{lent_place, passing_at, copied_back, all_copied_back}
 use Rattle.oc_timely.proofs.Writes.{put_or}
 
@@ -119,7 +119,7 @@ module _ (p : TProgram) (scope : Scope) (b : Placed) (env : List Binding) (σ : 
   lent_named no_args qs (s ∷ ps) e meets i r m l = absurd (cc)
   lent_named (more_args a rest) [] ps e meets i r m l = absurd (none-some passings.Mutable m)
   lent_named (more_args a rest) (q ∷ qs) ps e meets zero r m l =
-      (first_given q a (args_of env σ rest) ps (first_holds (arg_meets p scope q a) (args_meet p scope qs rest) meets) e).first r (same_Some q.passing passings.Mutable m) l
+      (first_given q a (args_of env σ rest) ps (and_parts (arg_meets p scope q a) (args_meet p scope qs rest) meets).0 e).first r (same_Some q.passing passings.Mutable m) l
   lent_named (more_args a rest) (q ∷ qs) ps e meets (suc i) r m l =
-      let g = first_given q a (args_of env σ rest) ps (first_holds (arg_meets p scope q a) (args_meet p scope qs rest) meets) e in
-      lent_named rest qs g.others g.is (second_holds (arg_meets p scope q a) (args_meet p scope qs rest) meets) i r m (g.later i r l)
+      let g = first_given q a (args_of env σ rest) ps (and_parts (arg_meets p scope q a) (args_meet p scope qs rest) meets).0 e in
+      lent_named rest qs g.others g.is (and_parts (arg_meets p scope q a) (args_meet p scope qs rest) meets).1 i r m (g.later i r l)

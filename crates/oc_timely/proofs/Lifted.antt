@@ -1,5 +1,6 @@
 -- A site comes no later than its statement, nor than a loop out of which a carrier comes.
 use Rattle.std.proofs.Common.{◌≡◌, ◌⊎◌, inl, inr, ℕ, ◌≤◌, true, List, [], ◌∷◌, ◌++◌, refl, sym, subst, arith}
+use Rattle.std.proofs.lemmas.Bool.{and_from, and_parts}
 use Rattle.std.specs.Prelude.{◌&&◌, nat_lt, reverse}
 use Rattle.std.proofs.lemmas.Grind.{reverse_onto}
 use Rattle.oc_tree.specs.Tree.{TProgram}
@@ -11,7 +12,7 @@ use Rattle.oc_tree.specs.Members.{IsOf}
 use Rattle.oc_flow.specs.Relations.{Flow, itself, by_value, by_call}
 use Rattle.oc_flow.specs.Flow.{flows}
 use Rattle.oc_flow.specs.Laws.{FlowsIsFlow}
-use Rattle.oc_flow.proofs.Lists.{any_in, in_any, both, second_of_both, same_is}
+use Rattle.oc_flow.proofs.Lists.{any_in, in_any, same_is}
 use Rattle.oc_needs.specs.Sites.{is_loop_at, is_outside, carries, lifts, site}
 use Rattle.oc_timely.proofs.Lies.{in_append}
 use Rattle.oc_timely.proofs.Inside.{of_left, of_right}
@@ -56,7 +57,7 @@ flow_from p f u v (by_call a c i s k b r e t) = k
 
 pub there : (p : TProgram) (f : ℕ) (u : VarId) → is_variable p f u ≡ true → IsOf u (variables p f)
 there p f u h =
-    let r = in_any (same_variable u) (variables p f) (second_of_both (nat_lt f _) (is_among u (variables p f)) h) in
+    let r = in_any (same_variable u) (variables p f) (and_parts (nat_lt f _) (is_among u (variables p f)) h).1 in
     subst (λ z. IsOf z (variables p f)) (sym (same_is u r.0 r.2)) r.1
 
 module _ (flow : FlowsIsFlow) (p : TProgram) (groups : List Group) (checked : IsChecked p groups) (f : ℕ) where
@@ -65,7 +66,7 @@ module _ (flow : FlowsIsFlow) (p : TProgram) (groups : List Group) (checked : Is
       let first = decide_true (flows p f u w) (Flow p f u w) (flow p groups checked f u w) a in
       let second = decide_true (flows p f w x) (Flow p f w x) (flow p groups checked f w x) b in
       any_in (λ w. carries p f u x w && is_outside p f loop w) (variables p f) w (there p f w (flow_from p f w x b))
-      (both (carries p f u x w) (is_outside p f loop w) (both (flows p f u w) (flows p f w x) first second) o)
+      (and_from (carries p f u x w) (is_outside p f loop w) (and_from (flows p f u w) (flows p f w x) first second) o)
 
   pub low : (a : TEffect) (u x : VarId) → IsOf a (effects_at p f) → site p f a u x ≤ a.stmt
   low a u x i = site_low p f a u x (λ y o. let n = effects_nested p checked.form.numbered.statements f a i in let l = n.0 y (in_reverse y a.around o) in omega (arith, l))

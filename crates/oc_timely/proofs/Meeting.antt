@@ -2,7 +2,7 @@
 use Rattle.std.proofs.Common.{◌≡◌, ◌⊎◌, inl, inr, ℕ, zero, suc, ◌+◌, ◌<◌, ◌≤◌, Bool, true, false, true≢false, List, [], ◌∷◌, ◌++◌, length, Some, nat_eq, nat_lt, cond, refl, sym, ap, ◌∙◌, subst, arith}
 use Rattle.std.specs.Prelude.{flat_map, ◌&&◌}
 use Rattle.std.specs.List.{list_all}
-use Rattle.std.proofs.lemmas.Bool.{eq-eqb}
+use Rattle.std.proofs.lemmas.Bool.{eq-eqb, and_from, and_parts}
 use Rattle.std.proofs.lemmas.List.{length-map}
 use Rattle.oc_tree.specs.Tree.{TProgram}
 use Rattle.oc_tree.specs.Marked.{TMarked, IsMarked, covers}
@@ -15,7 +15,7 @@ use Rattle.oc_tree.specs.Members.{IsOf}
 use Rattle.oc_flow.specs.Relations.{Flow, itself, by_value, by_call as flow_by_call}
 use Rattle.oc_flow.specs.Flow.{flows, brings}
 use Rattle.oc_flow.specs.Laws.{Decides, FlowsIsFlow, BringsIsBrings}
-use Rattle.oc_flow.proofs.Lists.{any_in, row_within, first_of_both, second_of_both, both}
+use Rattle.oc_flow.proofs.Lists.{any_in, row_within}
 use Rattle.oc_needs.specs.Policies.{policies, annotated, held}
 use Rattle.oc_needs.specs.Need.{Need, by_annotation, by_call as need_by_call, NeedsIsNeed, is_empty, is_needed_at, needs}
 use Rattle.oc_needs.specs.Sites.{site, is_input, input_sites}
@@ -125,8 +125,8 @@ call_required p q g a o e =
 
 pub all_of : (t : ℕ → Bool) (xs : List ℕ) (x : ℕ) → list_all t xs ≡ true → IsOf x xs → t x ≡ true
 all_of t [] x h o = absurd o
-all_of t (y ∷ ys) x h (inl e) = ap t e ∙ first_of_both (t y) (list_all t ys) h
-all_of t (y ∷ ys) x h (inr o) = all_of t ys x (second_of_both (t y) (list_all t ys) h) o
+all_of t (y ∷ ys) x h (inl e) = ap t e ∙ (and_parts (t y) (list_all t ys) h).0
+all_of t (y ∷ ys) x h (inr o) = all_of t ys x (and_parts (t y) (list_all t ys) h).1 o
 
 decided : (b : Bool) (A : Type 0) → Decides b A → b ≡ true → A
 decided true A d e = d
@@ -147,7 +147,7 @@ module _ (flow : FlowsIsFlow) (bring : BringsIsBrings) (need : NeedsIsNeed) (m :
 
   pub site_in : (xs : List VarId) (b : TEffect) (u x : VarId) → IsOf b (effects_at p f) → IsOf x xs → is_input p f b u x ≡ true → IsOf (site p f b u x) (input_sites p f xs)
   site_in xs b u x i o t =
-      let fl = decided (flows p f u x) (Flow p f u x) (flow p m.groups marked.checked f u x) (second_of_both (brings p b u) (flows p f u x) t) in
+      let fl = decided (flows p f u x) (Flow p f u x) (flow p m.groups marked.checked f u x) (and_parts (brings p b u) (flows p f u x) t).1 in
       let known = there p f u (flow_from p f u x fl) in
       in_flat (λ (a : TEffect). flat_map (λ (u : VarId). flat_map (λ (x : VarId). cond (is_input p f a u x) (site p f a u x ∷ []) []) xs) (variables p f)) (effects_at p f) b (site p f b u x) i
       (in_flat (λ (u : VarId). flat_map (λ (x : VarId). cond (is_input p f b u x) (site p f b u x ∷ []) []) xs) (variables p f) u (site p f b u x) known
@@ -191,7 +191,7 @@ module _ (flow : FlowsIsFlow) (bring : BringsIsBrings) (need : NeedsIsNeed) (m :
           let test : needs p q d.function y ≡ true = decide_true (needs p q d.function y) (Need p q d.function y) (need p m.groups marked.checked q d.function y) n in
           let some : is_needed_at p (needs p q) (Some d) x ≡ true =
           any_in (λ y. needs p q d.function y && begins d y x) (variables p d.function) y (there p d.function y (need_known p q d.function y n))
-          (both (needs p q d.function y) (begins d y x) test b) in
+          (and_from (needs p q d.function y) (begins d y x) test b) in
           let needed : IsOf x (needed_at p q f a) = in_filter (is_needed_at p (needs p q) a.call) x (variables p f) (there p f x k) (ap (λ z. is_needed_at p (needs p q) z x) e ∙ some) in
           meets a x (needed_at p q f a) (a.stmt ∷ []) needed (inl refl)
           (λ z. is_required p q f (rising (input_sites p f (needed_at p q f a) ++ a.stmt ∷ [])) o (there_is a i) (call_required p q f a i z))

@@ -1,5 +1,6 @@
 -- Each statement of a function has its effect, and what it declares is a variable of the function.
 use Rattle.std.proofs.Common.{◌≡◌, inl, inr, ℕ, zero, suc, Bool, true, false, List, [], ◌∷◌, ◌++◌, length, map, filter, Some, sym, ap, ◌∙◌, subst, arith}
+use Rattle.std.proofs.lemmas.Bool.{and_from}
 use Rattle.std.specs.Prelude.{cond, slice_get, ◌||◌, ◌&&◌}
 use Rattle.std.proofs.Math.ListN.{get_or}
 use Rattle.oc_tree.specs.Tree.{TFunction, TProgram}
@@ -9,7 +10,6 @@ use Rattle.oc_effects.specs.Effects.{TEffect, effect_of, effects_at, function_ef
 use Rattle.oc_flow.specs.Variables.{same_variable, is_among, is_variable, from}
 use Rattle.oc_tree.specs.Members.{IsOf}
 use Rattle.oc_timely.proofs.Sources.{same_self, any_first, any_second, among_back}
-use Rattle.oc_timely.proofs.Beginning.{both_true}
 use Rattle.oc_timely.proofs.NoCalls.{stands_at}
 
 of_map : (p : TProgram) (b : Placed) (bs : List Placed) → IsOf b bs → IsOf (effect_of p b) (map (effect_of p) bs)
@@ -43,7 +43,7 @@ declared_among a (x ∷ es) (inr h) d = by x.declares (declared_among a es h d)
 pub has_declared : (p : TProgram) (f : ℕ) (g : TFunction) → slice_get p.functions f ≡ Some g → (b : Placed) → IsOf b (block_placed (at_start g) g.body) → declares b.kind ≡ true →
     is_variable p f (variables.Declared b.id) ≡ true
 has_declared p f g at b h d =
-    both_true _ _ (let l = stands_at p.functions f g at in grind (arith, l))
+    and_from _ _ (let l = stands_at p.functions f g at in grind (arith, l))
     (among_back (variables.Declared b.id) (map variables.Nv (from 0 (length p.names.nvs))) _
     (among_back (variables.Declared b.id) (map variables.Param (from 0 (length (params_at p f)))) _
     (any_second (same_variable (variables.Declared b.id) variables.Returned) _ (declared_among (effect_of p b) (effects_at p f) (has_effect p f g at b h) d))))

@@ -1,6 +1,7 @@
 -- A variable that is annotated as fresh has its policy.
 use Rattle.std.proofs.Common.{◌≡◌, inl, inr, ℕ, zero, suc, ◌+◌, Bool, true, false, List, [], ◌∷◌, ◌++◌, Some, refl, sym, ap, ◌∙◌, subst, arith}
-use Rattle.std.specs.Prelude.{cond, flat_map, option_map, option_to_list, nat_eq, ◌||◌, ◌&&◌}
+use Rattle.std.proofs.lemmas.Bool.{and_parts}
+use Rattle.std.specs.Prelude.{cond, flat_map, option_map, option_to_list, nat_eq, ◌||◌}
 use Rattle.std.specs.List.{list_any}
 use Rattle.std.proofs.Math.ListN.{get_or}
 use Rattle.oc_tree.specs.Names.{Text}
@@ -23,13 +24,9 @@ same_kinds : (v : VarId) (k : PolicyKind) → same_kind (kinds.Fresh v) k ≡ tr
 same_kinds v (kinds.Fresh u) e = ap kinds.Fresh (same_is v u e)
 same_kinds v (kinds.Consistent k) e = absurd (grind (arith, e))
 
-both_are : (b c : Bool) → b && c ≡ true → (b ≡ true) × (c ≡ true)
-both_are true c e = (refl, e)
-both_are false c e = absurd (grind (arith, e))
-
 same_policies : (f : ℕ) (v : VarId) (q : Policy) → same_policy (asked f v) q ≡ true → asked f v ≡ q
 same_policies f v q e =
-    let b = both_are (nat_eq f q.function) (same_kind (kinds.Fresh v) q.kind) e in
+    let b = and_parts (nat_eq f q.function) (same_kind (kinds.Fresh v) q.kind) e in
     let n : f ≡ q.function = (let h = b.0 in grind (arith, h)) in
     ap (λ (g : ℕ). asked g v) n ∙ ap (λ (k : PolicyKind). record { function = q.function; kind = k }) (same_kinds v q.kind b.1)
 

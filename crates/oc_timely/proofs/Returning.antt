@@ -1,5 +1,6 @@
 -- A `return` is the last statement of its function: no other statement returns.
 use Rattle.std.proofs.Common.{◌≡◌, ◌⊎◌, ℕ, zero, suc, Bool, true, false, true≢false, List, [], ◌∷◌, ◌++◌, length, Option, Some, None, refl, sym, ap, ◌∙◌}
+use Rattle.std.proofs.lemmas.Bool.{and_parts}
 use Rattle.std.specs.Prelude.{ℤ, pos, ◌+ℤ◌, ◌-ℤ◌, ◌&&◌, not, slice_get, if◌then◌else◌}
 use Rattle.oc_tree.specs.Names.{Text, NameLists}
 use Rattle.oc_tree.specs.Tree.{TExpr, TKind, let_to, let_array, assign, assign_index, assign_deref, if_else, for_in, while_do, call_only, sense_only, emit, fresh, consistent}
@@ -19,7 +20,6 @@ use Rattle.oc_meaning.specs.Eval.{Got, Val, Traps, is_zero, element_of, value_of
 use Rattle.oc_meaning.specs.Exec.{Outcome, Went, Returned, Stopped, Passed, begun_by, ended_by, opened, closed, used, done, finished, then_do, with_value, with_result, number_in}
 use Rattle.oc_meaning.specs.Exec.{sense, element_written, leave, for_turns, while_turns, in_turn as turn_of, grown, entered, call_run, right_run, kind_run, else_run}
 use Rattle.oc_meaning.specs.Exec.{block_run, stmts_run}
-use Rattle.oc_desugar.proofs.KeptExpressions.{first_holds, second_holds}
 use Rattle.oc_desugar.proofs.Unbroken.{unbroken}
 use Rattle.oc_formed.proofs.BodiesPass.{AllFine, fine_front, fine_back, function_fine}
 
@@ -102,7 +102,7 @@ module _ (p : TProgram) where
   ends_with : (h : Here) (k : TKind) (rest : TStmts) (later : Type 0) → returns_elsewhere p (before_stmts h rest) k ≡ false → AllFine p (kind_elements p (before_stmts h rest) k) → later →
       EndsWith k rest later
   ends_with h (return e) rest later fine all l =
-      none_follows rest (second_holds h.last (is_end rest) (first_holds (h.last && is_end rest) (is_same h.function.result (type_of p h.scope e)) (not_not _ fine)))
+      none_follows rest (and_parts h.last (is_end rest) (and_parts (h.last && is_end rest) (is_same h.function.result (type_of p h.scope e)) (not_not _ fine)).0).1
   ends_with h (if_else c a b) rest later fine all l = (
     (
       block_stays (inside h) a refl (fine_front p (block_elements p (inside h) a) (else_elements p (inside h) b) all),

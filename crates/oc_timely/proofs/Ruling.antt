@@ -1,6 +1,7 @@
 -- What the rules leave of each statement of a function, with the scope that its variables tell: names that are declared are new, and
 -- calls break no rule.
 use Rattle.std.proofs.Common.{◌≡◌, ◌⊎◌, inl, inr, ℕ, ◌+◌, true, false, true≢false, List, [], ◌∷◌, ◌++◌, Some, None, refl, sym, ap, ◌∙◌, subst, append-nil}
+use Rattle.std.proofs.lemmas.Bool.{and_parts}
 use Rattle.std.specs.Prelude.{slice_get, ◌&&◌}
 use Rattle.std.proofs.lemmas.Option.{none-some, same_Some}
 use Rattle.oc_tree.specs.Names.{Text}
@@ -15,7 +16,6 @@ use Rattle.oc_tree.specs.Rules.{takes_name, expr_known, right_known}
 use Rattle.oc_tree.specs.Places.{Place, Placed, find_variable, let_variables, at_start, behind, in_branch, in_loop, kind_placed, else_placed, block_placed, stmts_placed, placed}
 use Rattle.oc_effects.specs.Effects.{right_call_of, call_of}
 use Rattle.oc_tree.specs.Members.{IsOf}
-use Rattle.oc_desugar.proofs.KeptExpressions.{second_holds}
 use Rattle.oc_desugar.proofs.FineCalls.{CallFine, Each, each_back}
 use Rattle.oc_desugar.proofs.Unbroken.{Unbroken, unbroken}
 use Rattle.oc_formed.proofs.BodiesPass.{AllFine, fine_front, fine_back, function_fine}
@@ -119,11 +119,11 @@ right_ruled p h (right_call d) k e c is = subst (IsRuledCall p h.scope) (same_So
 
 kind_ruled : (p : TProgram) (h : Here) (k : TKind) → Unbroken p h k → (c : TCall) → call_of k ≡ Some c → IsRuledCall p h.scope c
 kind_ruled p h (let_to m x t r) u c is = right_ruled p h r u.known u.calls c is
-kind_ruled p h (assign x r) u c is = right_ruled p h r (second_holds (is_variable p h.scope x) (right_known p h.scope r) u.known) u.calls c is
+kind_ruled p h (assign x r) u c is = right_ruled p h r (and_parts (is_variable p h.scope x) (right_known p h.scope r) u.known).1 u.calls c is
 kind_ruled p h (assign_index x i r) u c is =
-    let known = second_holds (is_variable p h.scope x) (expr_known p h.scope i && right_known p h.scope r) u.known in
-    right_ruled p h r (second_holds (expr_known p h.scope i) (right_known p h.scope r) known) (each_back (CallFine p h) (expr_calls i) (right_calls r) u.calls) c is
-kind_ruled p h (assign_deref x r) u c is = right_ruled p h r (second_holds (is_variable p h.scope x) (right_known p h.scope r) u.known) u.calls c is
+    let known = (and_parts (is_variable p h.scope x) (expr_known p h.scope i && right_known p h.scope r) u.known).1 in
+    right_ruled p h r (and_parts (expr_known p h.scope i) (right_known p h.scope r) known).1 (each_back (CallFine p h) (expr_calls i) (right_calls r) u.calls) c is
+kind_ruled p h (assign_deref x r) u c is = right_ruled p h r (and_parts (is_variable p h.scope x) (right_known p h.scope r) u.known).1 u.calls c is
 kind_ruled p h (call_only d) u c is = subst (IsRuledCall p h.scope) (same_Some d c is) (ruled_call p h d u.known (call_whole p h d u.calls))
 kind_ruled p h (let_array m x t z n) u c is = absurd (none-some c is)
 kind_ruled p h (if_else x a b) u c is = absurd (none-some c is)

@@ -2,8 +2,7 @@
 use Rattle.std.proofs.Common.{ℕ, ◌+◌, ◌<◌, ◌≤◌, ◌≡◌, List, [], ◌∷◌, length, arith, subst, refl, Bool, true, false, cond, Option, Some, None}
 use Rattle.std.specs.Prelude.{nat_le, ◌&&◌, codes, option_and_then}
 use Rattle.std.specs.Str.{bytes_eq}
-use Rattle.std.proofs.lemmas.Bool.{leb-true}
-use Rattle.oc_flow.proofs.Lists.{second_of_both}
+use Rattle.std.proofs.lemmas.Bool.{leb-true, and_parts}
 use Rattle.oc_rows.specs.Numbers.{number_of}
 use Rattle.oc_top.specs.Commands.{are_files, is_file, run_with, supply_of, print_with, with_three, turns_named, turns_of, drill_with, command_of}
 use Rattle.oc_top.specs.declared.command.Command.{Command}
@@ -44,7 +43,7 @@ run_in n (Some k) metered place l = this_one n (commands.Run k place metered) l
 within_by : (b : Bool) (n m : ℕ) → (nat_le 1 n && nat_le n 1000) ≡ b → cond b (Some n) None ≡ Some m → m ≤ 1000
 within_by true n m h e =
     let i : n ≡ m = cc in
-    let within : nat_le n 1000 ≡ true = second_of_both (nat_le 1 n) (nat_le n 1000) h in
+    let within : nat_le n 1000 ≡ true = (and_parts (nat_le 1 n) (nat_le n 1000) h).1 in
     subst (λ (k : ℕ). k ≤ 1000) i (grind (arith, leb-true, within))
 within_by false n m h e = cc e
 

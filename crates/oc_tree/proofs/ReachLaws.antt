@@ -1,5 +1,6 @@
 -- `leads` is the least transitive relation that holds of links; and the rank falls along links.
 use Rattle.std.proofs.Common.{◌≡◌, ◌<◌, ◌≤◌, ℕ, zero, suc, Bool, true, false, refl, sym, ap, true≢false, arith, subst}
+use Rattle.std.proofs.lemmas.Bool.{and_from, and_parts}
 use Rattle.std.specs.Prelude.{◌&&◌, ◌||◌}
 use Rattle.std.proofs.lemmas.Bool.Decides.{eqb_tells}
 use mathlib.Core.Logic.{inl, inr}
@@ -12,21 +13,9 @@ pub or_right : (a b : Bool) → b ≡ true → a || b ≡ true
 or_right true b h = refl
 or_right false b h = h
 
-and_both : (a b : Bool) → a ≡ true → b ≡ true → a && b ≡ true
-and_both true b h k = k
-and_both false b h k = h
-
 pub or_elim : {C : Type 0} (a b : Bool) → a || b ≡ true → (a ≡ true → C) → (b ≡ true → C) → C
 or_elim true b h f g = f refl
 or_elim false b h f g = g h
-
-and_first : (a b : Bool) → a && b ≡ true → a ≡ true
-and_first true b h = refl
-and_first false b h = h
-
-and_second : (a b : Bool) → a && b ≡ true → b ≡ true
-and_second true b h = h
-and_second false b h = absurd (true≢false (sym h))
 
 pub links_lead : (g : Links) (k u v : ℕ) → linked g u v ≡ true → leads_by g k u v ≡ true
 links_lead g zero u v h = h
@@ -49,17 +38,17 @@ step d a c xw kw wv wk f g h p q =
     or_elim xw (a && kw) p
     (λ x. or_elim wv (wk && c) q
     (λ y. or_left d (a && c) (f x y))
-    (λ y. or_right d (a && c) (and_both a c (g x (and_first wk c y)) (and_second wk c y))))
+    (λ y. or_right d (a && c) (and_from a c (g x (and_parts wk c y).0) (and_parts wk c y).1)))
     (λ x. or_elim wv (wk && c) q
-    (λ y. or_right d (a && c) (and_both a c (and_first a kw x) (h (and_second a kw x) y)))
-    (λ y. or_right d (a && c) (and_both a c (and_first a kw x) (and_second wk c y))))
+    (λ y. or_right d (a && c) (and_from a c (and_parts a kw x).0 (h (and_parts a kw x).1 y)))
+    (λ y. or_right d (a && c) (and_from a c (and_parts a kw x).0 (and_parts wk c y).1)))
 
 pub leads_by_trans : (g : Links) (k u w v : ℕ) → w < k → leads_by g k u w ≡ true → leads_by g k w v ≡ true → leads_by g k u v ≡ true
 leads_by_trans g zero u w v h p q = absurd (omega arith)
 leads_by_trans g (suc k) u w v h p q =
     let ih = leads_by_trans g k in
     elim (eqb_tells w k) [
-      | inl e ↦ or_right _ _ (and_both _ _
+      | inl e ↦ or_right _ _ (and_from _ _
           (at_once (leads_by g k u k) (leads_by g k k k) (subst (λ x. leads_by g (suc k) u x ≡ true) e.1 p))
           (at_once' (leads_by g k k k) (leads_by g k k v) (subst (λ x. leads_by g (suc k) x v ≡ true) e.1 q)))
       | inr n ↦
@@ -79,7 +68,7 @@ least g R direct trans zero u v p = direct u v p
 least g R direct trans (suc k) u v p =
     let ih = least g R direct trans k in
     or_elim (leads_by g k u v) (leads_by g k u k && leads_by g k k v) p (ih u v)
-    (λ x. trans u k v (ih u k (and_first _ _ x)) (ih k v (and_second _ _ x)))
+    (λ x. trans u k v (ih u k (and_parts _ _ x).0) (ih k v (and_parts _ _ x).1))
 
 one_le : (a b : Bool) → (a ≡ true → b ≡ true) → one a ≤ one b
 one_le true true h = omega arith

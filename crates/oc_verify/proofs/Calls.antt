@@ -1,5 +1,6 @@
 -- Calls in the code are links, and what is called is led to from `main`.
 use Rattle.std.proofs.Common.{◌≡◌, ℕ, zero, suc, ◌+◌, ◌<◌, ◌≤◌, List, [], ◌∷◌, ◌++◌, length, drop, Some, refl, sym, ap, ◌∙◌, subst, ⊎_elim, inl, inr, arith, Bool, true, false, nat_le, nat_eq}
+use Rattle.std.proofs.lemmas.Bool.{and_parts}
 use Rattle.std.specs.Prelude.{◌⊎◌, if◌then◌else◌, ◌&&◌, ◌||◌, slice_get}
 use Rattle.std.specs.List.{list_any}
 use Rattle.std.proofs.lemmas.Option.{slice_get_within}
@@ -12,7 +13,7 @@ use Rattle.oc_isa.specs.declared.instr.Instr.TheVariants.{Call}
 use Rattle.oc_isa.specs.Image.{Parts}
 use Rattle.oc_verify.specs.Typing.{owner, owner_from}
 use Rattle.oc_verify.specs.Rules.{link_from, links_on, calls_of, code_at, main_number, rises, rises_from, laid_out, Kinds, CalledIn, IsCalled}
-use Rattle.oc_verify.proofs.Owners.{both_left, both_right, stays, owned, stands, laid_rises}
+use Rattle.oc_verify.proofs.Owners.{stays, owned, stands, laid_rises}
 
 any_left : {A : Type 0} (test : A → Bool) (xs ys : List A) → list_any test xs ≡ true → list_any test (xs ++ ys) ≡ true
 any_left test [] ys e = absurd (cc)
@@ -35,15 +36,15 @@ one_link f h x e = subst (λ y. linked (link_from f y) f h ≡ true) (sym e) (le
     ap (λ c. c && nat_eq h h || false) a ∙ ap (λ c. c || false) b)
 
 entry_low : (a : ℕ) (g : ImageFunction) (gs : List ImageFunction) → rises_from a (g ∷ gs) ≡ true → a ≤ g.entry
-entry_low a g gs r = let x : nat_le a g.entry ≡ true = both_left _ _ r in grind (arith, x)
+entry_low a g gs r = let x : nat_le a g.entry ≡ true = (and_parts _ _ r).0 in grind (arith, x)
 
 -- past the entry, or before it
 rises_past : (a : ℕ) (g : ImageFunction) (gs : List ImageFunction) → rises_from a (g ∷ gs) ≡ true → nat_le g.entry a ≡ true → rises_from (suc a) gs ≡ true
 rises_past a g gs r e = let l = entry_low a g gs r in let n : g.entry ≡ a = (let u : g.entry ≤ a = grind (arith, e) in omega (arith, l, u)) in
-    subst (λ m. rises_from (suc m) gs ≡ true) n (both_right _ _ r)
+    subst (λ m. rises_from (suc m) gs ≡ true) n (and_parts _ _ r).1
 
 rises_before : (a : ℕ) (g : ImageFunction) (gs : List ImageFunction) → rises_from a (g ∷ gs) ≡ true → nat_le g.entry a ≡ false → rises_from (suc a) (g ∷ gs) ≡ true
-rises_before a g gs r e = let l = entry_low a g gs r in let n : nat_le (suc a) g.entry ≡ true = grind (arith, l, e) in ap (λ b. b && rises_from (suc g.entry) gs) n ∙ both_right _ _ r
+rises_before a g gs r e = let l = entry_low a g gs r in let n : nat_le (suc a) g.entry ≡ true = grind (arith, l, e) in ap (λ b. b && rises_from (suc g.entry) gs) n ∙ (and_parts _ _ r).1
 
 -- the call stands here
 call_here : (f a : ℕ) (gs : List ImageFunction) (ps : List Placed) (h : ℕ) (q : Placed) → rises_from a gs ≡ true → q.instr ≡ Call h
@@ -56,7 +57,7 @@ call_here f a (g ∷ gs) ps h q r c = by (nat_le g.entry a) refl
         (owner_from gs a (suc (suc f)) (if b then suc f else f)) h ≡ true
     by true e = let o : owner_from gs a (suc (suc f)) (suc f) ≡ suc f = stays (suc a) gs a (suc (suc f)) (suc f) (rises_past a g gs r e) (omega arith) in
         subst (λ n. linked (link_from (suc f) q.instr ++ links_on (suc f) (suc a) gs ps) n h ≡ true) (sym o) (any_left (is_link (suc f) h) (link_from (suc f) q.instr) _ (one_link (suc f) h q.instr c))
-    by false e = let o : owner_from gs a (suc (suc f)) f ≡ f = stays (suc g.entry) gs a (suc (suc f)) f (both_right _ _ r) (let l = entry_low a g gs r in omega (arith, l)) in
+    by false e = let o : owner_from gs a (suc (suc f)) f ≡ f = stays (suc g.entry) gs a (suc (suc f)) f (and_parts _ _ r).1 (let l = entry_low a g gs r in omega (arith, l)) in
         subst (λ n. linked (link_from f q.instr ++ links_on f (suc a) (g ∷ gs) ps) n h ≡ true) (sym o) (any_left (is_link f h) (link_from f q.instr) _ (one_link f h q.instr c))
 
 -- or further on
@@ -90,11 +91,11 @@ call_on f a (g ∷ gs) (q ∷ ps) (suc j) h p r e c =
 
 rises_one : (fs : List ImageFunction) → rises fs ≡ true → rises_from 0 (drop 1 fs) ≡ true
 rises_one [] r = refl
-rises_one (g ∷ gs) r = lower gs (both_right _ _ r)
+rises_one (g ∷ gs) r = lower gs (and_parts _ _ r).1
   where
     lower : (gs : List ImageFunction) → rises_from 1 gs ≡ true → rises_from 0 gs ≡ true
     lower [] r = refl
-    lower (h ∷ gs) r = let n : nat_le 0 h.entry ≡ true = grind arith in ap (λ b. b && rises_from (suc h.entry) gs) n ∙ both_right _ _ r
+    lower (h ∷ gs) r = let n : nat_le 0 h.entry ≡ true = grind arith in ap (λ b. b && rises_from (suc h.entry) gs) n ∙ (and_parts _ _ r).1
 
 owner_one : (fs : List ImageFunction) (a : ℕ) → rises fs ≡ true → owner_from (drop 1 fs) a 1 0 ≡ owner fs a
 owner_one [] a r = refl

@@ -1,5 +1,6 @@
 -- The code of a function, from its entry to its end.
 use Rattle.std.proofs.Common.{◌≡◌, ℕ, zero, suc, ◌<◌, ◌≤◌, List, [], ◌∷◌, length, drop, get_or, map, Option, Some, None, refl, sym, ap, ◌∙◌, subst, ⊎_elim, arith, Bool, true, false, nat_lt, nat_le}
+use Rattle.std.proofs.lemmas.Bool.{and_from, and_parts}
 use Rattle.std.specs.Prelude.{◌⊎◌, ◌&&◌, ◌||◌, if◌then◌else◌, slice_get, max}
 use Rattle.std.specs.List.{list_all}
 use Rattle.oc_tree.specs.declared.said.Target.{Target}
@@ -12,7 +13,7 @@ use Rattle.oc_isa.specs.declared.instr.Instr.TheVariants.{Enter}
 use Rattle.oc_verify.specs.Rules.{names_exist, params_of, targets_of, on_function, end_at, within, code_at, some_before, param_fits, laid_out, gives, is_retv}
 use Rattle.oc_verify.specs.Facts.{IsStretch, need, needs}
 use Rattle.std.proofs.lemmas.Option.{slice_get_read}
-use Rattle.oc_verify.proofs.Owners.{both_left, both_right, stands}
+use Rattle.oc_verify.proofs.Owners.{stands}
 
 -- where a function's code ends
 pub end_is : (fs : List ImageFunction) (size f : ℕ) (g : ImageFunction) → slice_get fs (suc f) ≡ Some g → end_at fs size f ≡ g.entry
@@ -27,16 +28,13 @@ end_last (k ∷ []) size zero h = refl
 end_last (k ∷ (j ∷ fs)) size zero h = absurd (omega (arith, h))
 end_last (k ∷ fs) size (suc f) h = end_last fs size f (omega (arith, h))
 
-both : (a b : Bool) → a ≡ true → b ≡ true → a && b ≡ true
-both a b h k = ap (λ c. c && b) h ∙ k
-
 pub inside_code : (i : Parts) (f a : ℕ) (s : ℕ × ℕ) (x : Placed) → IsStretch i f s → s.0 ≤ a → a < s.1 → slice_get i.code a ≡ Some x → code_at i f a ≡ Some x
 inside_code i f a s x h l u e =
     let g = h.0 in
     let low : nat_le g.entry a ≡ true = (let q = h.2 in let m : g.entry ≤ a = omega (arith, q, l) in grind (arith, m)) in
     let high : nat_lt a (end_at i.functions (length i.code) f) ≡ true = (let q = h.3 in let m : a < end_at i.functions (length i.code) f = omega (arith, q, u) in grind (arith, m)) in
     ap (on_function None (λ g. if within g (end_at i.functions (length i.code) f) a then slice_get i.code a else None)) h.1
-    ∙ ap (λ b. if b then slice_get i.code a else None) (both (nat_le g.entry a) (nat_lt a (end_at i.functions (length i.code) f)) low high) ∙ e
+    ∙ ap (λ b. if b then slice_get i.code a else None) (and_from (nat_le g.entry a) (nat_lt a (end_at i.functions (length i.code) f)) low high) ∙ e
 
 pub outside_code : (i : Parts) (f a : ℕ) (s : ℕ × ℕ) → IsStretch i f s → (a < s.0) ⊎ (s.1 ≤ a) → code_at i f a ≡ None
 outside_code i f a s h o = by (code_at i f a) refl
@@ -100,12 +98,12 @@ needs_tell params (t ∷ ts) = (λ j. need_one params t j && needs_tell params t
 end_small : (fs : List ImageFunction) (size f : ℕ) → list_all (λ g. nat_lt g.entry size) fs ≡ true → end_at fs size f ≤ size
 end_small [] size f h = omega arith
 end_small (g ∷ []) size zero h = omega arith
-end_small (g ∷ (k ∷ fs)) size zero h = (let t : nat_lt k.entry size ≡ true = both_left _ _ (both_right (nat_lt g.entry size) (list_all (λ g. nat_lt g.entry size) (k ∷ fs)) h) in
+end_small (g ∷ (k ∷ fs)) size zero h = (let t : nat_lt k.entry size ≡ true = (and_parts _ _ (and_parts (nat_lt g.entry size) (list_all (λ g. nat_lt g.entry size) (k ∷ fs)) h).1).0 in
     let l : k.entry < size = grind (arith, t) in omega (arith, l))
-end_small (g ∷ fs) size (suc f) h = end_small fs size f (both_right (nat_lt g.entry size) (list_all (λ g. nat_lt g.entry size) fs) h)
+end_small (g ∷ fs) size (suc f) h = end_small fs size f (and_parts (nat_lt g.entry size) (list_all (λ g. nat_lt g.entry size) fs) h).1
 
 pub end_inside : (i : Parts) → laid_out i ≡ true → (f : ℕ) → end_at i.functions (length i.code) f ≤ length i.code
-end_inside i l f = end_small i.functions (length i.code) f (both_left _ _ (both_right _ _ (both_right _ _ l)))
+end_inside i l f = end_small i.functions (length i.code) f (and_parts _ _ (and_parts _ _ (and_parts _ _ l).1).1).0
 
 no_function : (fs : List ImageFunction) (f : ℕ) → length fs ≤ f → slice_get fs f ≡ None
 no_function [] f h = refl

@@ -1,5 +1,6 @@
 -- What a field was read from: its own bytes; a fault lies inside of what was to be read.
 use Rattle.std.proofs.Common.{append_assoc, ◌≡◌, ℕ, zero, suc, ◌+◌, ◌<◌, ◌≤◌, ◌^◌, List, [], ◌∷◌, ◌++◌, length, length-append, take, drop, get_or, Result, Ok, Err, refl, sym, ap}
+use Rattle.std.proofs.lemmas.Bool.{and_parts}
 use Rattle.std.proofs.Common.{◌∙◌, subst, arith, Bool, true, false, nat_le}
 use Rattle.std.specs.Prelude.{◌&&◌, FitsSigned}
 use Rattle.std.specs.List.{flat_map, All}
@@ -11,7 +12,6 @@ use Rattle.std.proofs.lemmas.List.Elements.{All-nil, All-cons}
 use borrow.Author.Gap.{read_sfits}
 use Rattle.oc_isa.specs.Bytes.{Bytes, number_bytes, word_bytes, list_bytes, IsFew}
 use Rattle.oc_verify.specs.Reading.{Read, ◌>>=◌, if_in, number_at, any_at, word_at, greatest, many_at, list_at, IsNumber, front_number}
-use Rattle.oc_verify.proofs.Owners.{both_left, both_right}
 
 abbrev pub AreBytes : Bytes → Type 0
 AreBytes bs = (i : ℕ) → get_or bs i 0 < 256
@@ -103,8 +103,8 @@ number_field low high = record {
       let b = if_good (nat_le low (front_number bs) && nat_le (front_number bs) high) bs (Ok (front_number bs, drop 4 bs)) (x, rest) a.1 in
       let q = ok_pair (front_number bs) x (drop 4 bs) rest b.1 in
       let four : 4 ≤ length bs = grind (arith, a.0) in
-      let l : low ≤ front_number bs = (let t : nat_le low (front_number bs) ≡ true = both_left (nat_le low (front_number bs)) (nat_le (front_number bs) high) b.0 in grind (arith, t)) in
-      let u : front_number bs ≤ high = (let t : nat_le (front_number bs) high ≡ true = both_right (nat_le low (front_number bs)) (nat_le (front_number bs) high) b.0 in grind (arith, t)) in
+      let l : low ≤ front_number bs = (let t : nat_le low (front_number bs) ≡ true = (and_parts (nat_le low (front_number bs)) (nat_le (front_number bs) high) b.0).0 in grind (arith, t)) in
+      let u : front_number bs ≤ high = (let t : nat_le (front_number bs) high ≡ true = (and_parts (nat_le low (front_number bs)) (nat_le (front_number bs) high) b.0).1 in grind (arith, t)) in
       let whole : bs ≡ number_bytes (front_number bs) ++ drop 4 bs = sym (take-append-drop 4 bs) ∙ ap (λ l. l ++ drop 4 bs) (sym (number_of_four bs h four)) in
       record {
         is = whole ∙ (λ j. number_bytes (q.0 j) ++ q.1 j);

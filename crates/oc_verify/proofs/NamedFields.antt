@@ -1,5 +1,6 @@
 -- What fields with names were read from, and that they are read back.
 use Rattle.std.proofs.Common.{append_assoc, ◌≡◌, ℕ, zero, suc, ◌≤◌, List, [], ◌∷◌, ◌++◌, length, length-append, take, drop, Ok, Err, refl, sym, ap, ◌∙◌, subst, arith, true, false, nat_le}
+use Rattle.std.proofs.lemmas.Bool.{and_from, and_parts}
 use Rattle.std.specs.Prelude.{◌&&◌, map, not}
 use Rattle.std.specs.List.{flat_map, All}
 use Rattle.std.proofs.lemmas.List.{take-append-drop, length-take}
@@ -8,8 +9,7 @@ use Rattle.oc_lex.specs.Stands.{IsName}
 use Rattle.oc_tree.specs.Names.{Text}
 use Rattle.oc_isa.specs.Bytes.{Bytes, number_bytes, name_bytes, list_bytes, IsFew}
 use Rattle.oc_verify.specs.Reading.{Read, ◌>>=◌, if_in, number_at, any_at, name_at, named_at, names_at, is_name, is_named, each_once, IsNumber}
-use Rattle.oc_verify.proofs.Owners.{both_left, both_right}
-use Rattle.oc_verify.proofs.WordLaws.{named, is_named_so, negated, both}
+use Rattle.oc_verify.proofs.WordLaws.{named, is_named_so, negated}
 use Rattle.oc_verify.proofs.FieldLaws.{AreBytes, Was, IsField, IsBetween, bytes_behind, bind_good, bind_bad, then_bad, if_good, if_bad, ok_pair, number_field, any_field}
 use Rattle.oc_verify.proofs.ReadLaws.{number_back, any_back}
 
@@ -27,16 +27,16 @@ name_field seen = record {
       let w = any_field.good bs h s.0 s.1 s.2 in
       let t = if_good (nat_le s.0 (length s.1) && (is_name (take s.0 s.1) && not (is_named seen (take s.0 s.1)))) bs (Ok (take s.0 s.1, drop s.0 s.1)) (x, rest) s.3 in
       let q = ok_pair (take s.0 s.1) x (drop s.0 s.1) rest t.1 in
-      let here : nat_le s.0 (length s.1) ≡ true = both_left (nat_le s.0 (length s.1)) (is_name (take s.0 s.1) && not (is_named seen (take s.0 s.1))) t.0 in
-      let right = both_right (nat_le s.0 (length s.1)) (is_name (take s.0 s.1) && not (is_named seen (take s.0 s.1))) t.0 in
+      let here : nat_le s.0 (length s.1) ≡ true = (and_parts (nat_le s.0 (length s.1)) (is_name (take s.0 s.1) && not (is_named seen (take s.0 s.1))) t.0).0 in
+      let right = (and_parts (nat_le s.0 (length s.1)) (is_name (take s.0 s.1) && not (is_named seen (take s.0 s.1))) t.0).1 in
       let long : s.0 ≤ length s.1 = grind (arith, here) in
       let n : length (take s.0 s.1) ≡ s.0 = (let l = length-take s.0 s.1 in omega (arith, l, long)) in
       let few : IsFew (take s.0 s.1) = subst IsNumber (sym n) w.fine in
       let fine : IsFresh seen (take s.0 s.1) = (
         few,
-        named (take s.0 s.1) (both_left (is_name (take s.0 s.1)) (not (is_named seen (take s.0 s.1))) right),
+        named (take s.0 s.1) (and_parts (is_name (take s.0 s.1)) (not (is_named seen (take s.0 s.1))) right).0,
         negated (is_named seen (take s.0 s.1))
-            (both_right (is_name (take s.0 s.1)) (not (is_named seen (take s.0 s.1))) right),
+            (and_parts (is_name (take s.0 s.1)) (not (is_named seen (take s.0 s.1))) right).1,
       ) in
       record {
         is = w.is ∙ (λ j. number_bytes (sym n j) ++ sym (take-append-drop s.0 s.1) j) ∙ sym (append_assoc (number_bytes (length (take s.0 s.1))) (take s.0 s.1) (drop s.0 s.1))
@@ -63,7 +63,7 @@ unfolding name_at
 name_back seen x rest few name fresh =
     let bs : Bytes = name_bytes x ++ rest in
     let long : nat_le (length x) (length (x ++ rest)) ≡ true = (let n = length-append x rest in let l : length x ≤ length (x ++ rest) = omega (arith, n) in grind (arith, l)) in
-    let right : is_name x && not (is_named seen x) ≡ true = both (is_name x) (not (is_named seen x)) (is_named_so x name) (ap not fresh) in
+    let right : is_name x && not (is_named seen x) ≡ true = and_from (is_name x) (not (is_named seen x)) (is_named_so x name) (ap not fresh) in
     ap (λ r. r >>= λ n. if_in (nat_le n.0 (length n.1) && (is_name (take n.0 n.1) && not (is_named seen (take n.0 n.1)))) bs (Ok (take n.0 n.1, drop n.0 n.1)))
     (ap any_at (append_assoc (number_bytes (length x)) x rest) ∙ any_back (length x) (x ++ rest) few)
     ∙ (λ j. if_in (long j && (is_name (front_of x rest j) && not (is_named seen (front_of x rest j)))) bs (Ok (front_of x rest j, behind_of x rest j)))
@@ -72,7 +72,7 @@ name_back seen x rest few name fresh =
 -- Lists with names
 
 once_of : (seen : List Text) (x : Text) (xs : List Text) → is_named seen x ≡ false → each_once (seen ++ x ∷ []) xs ≡ true → each_once seen (x ∷ xs) ≡ true
-once_of seen x xs f o = both (not (is_named seen x)) (each_once (seen ++ x ∷ []) xs) (ap not f) o
+once_of seen x xs f o = and_from (not (is_named seen x)) (each_once (seen ++ x ∷ []) xs) (ap not f) o
 
 -- what stands behind each name, and how the name is had from both
 module _ {A : Type 0} (one : Text → Bytes → Read A) (name_of : A → Text) (tail : A → Bytes) (P : A → Type 0) where
@@ -160,9 +160,9 @@ module _ {A : Type 0} (one : Text → Bytes → Read A) (name_of : A → Text) (
         let x = name_of y in
         let more : Bytes = flat_map with_name ys ++ rest in
         let go : A × Bytes → Read (List A) = λ z. named_at one (seen ++ x ∷ []) (length ys) z.1 >>= λ zs. Ok (z.0 ∷ zs.0, zs.1) in
-        let fresh : is_named seen x ≡ false = negated (is_named seen x) (both_left (not (is_named seen x)) (each_once (seen ++ x ∷ []) (map name_of ys)) h.once) in
+        let fresh : is_named seen x ≡ false = negated (is_named seen x) (and_parts (not (is_named seen x)) (each_once (seen ++ x ∷ []) (map name_of ys)) h.once).0 in
         let rest_named : AreNamed (seen ++ x ∷ []) ys = record {
-          once = both_right (not (is_named seen x)) (each_once (seen ++ x ∷ []) (map name_of ys)) h.once;
+          once = (and_parts (not (is_named seen x)) (each_once (seen ++ x ∷ []) (map name_of ys)) h.once).1;
           names = All-tail IsName x (map name_of ys) h.names;
           few = All-tail IsFew x (map name_of ys) h.few;
           fine = All-tail P y ys h.fine;

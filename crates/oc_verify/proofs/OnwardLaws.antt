@@ -1,5 +1,6 @@
 -- Function after function, callers first.
 use Rattle.std.proofs.Common.{◌≡◌, ℕ, zero, suc, ◌+◌, ◌<◌, ◌≤◌, ◌≢◌, List, length, get_or, Some, None, refl, sym, ap, ◌∙◌, subst, ⊎_elim, inl, inr, arith, Bool, true, false, nat_lt}
+use Rattle.std.proofs.lemmas.Bool.{and_parts}
 use Rattle.std.specs.Prelude.{◌⊎◌, ◌==◌, ◌&&◌, ◌||◌, if◌then◌else◌, slice_get, replicate}
 use Rattle.std.proofs.lemmas.Bool.Decides.{eqb_tells}
 use Rattle.oc_tree.specs.Reach.{linked}
@@ -8,7 +9,6 @@ use Rattle.oc_verify.specs.Rules.{calls_of}
 use Rattle.oc_verify.specs.Facts.{IsRanked}
 use Rattle.oc_verify.specs.Work.{Marks}
 use Rattle.oc_verify.specs.Tables.{Passed, IsDone, IsNext, all_done, done_by, with_done}
-use Rattle.oc_verify.proofs.Owners.{both_left, both_right}
 use Rattle.oc_verify.proofs.Exact.{either, or_second}
 use Rattle.oc_verify.proofs.VerifiedLaws.{calls_low}
 
@@ -52,16 +52,16 @@ module _ (i : Parts) (ranks : List ℕ) (R : IsRanked i ranks) where
 
   parts : (k f h : ℕ) → done_by n ranks k f h ≡ true → (h < n) × ((n < get_or ranks h 0 + k) ⊎ ((h < f) × (get_or ranks h 0 + k ≡ n)))
   parts k f h d =
-      let low : nat_lt h n ≡ true = both_left (nat_lt h n) _ d in (
+      let low : nat_lt h n ≡ true = (and_parts (nat_lt h n) _ d).0 in (
         grind (arith, low),
         ⊎_elim
             (λ e. inl (grind (arith, e)))
             (λ e. inr (
-              let x : nat_lt h f ≡ true = both_left (nat_lt h f) (get_or ranks h 0 + k == n) e in
+              let x : nat_lt h f ≡ true = (and_parts (nat_lt h f) (get_or ranks h 0 + k == n) e).0 in
                   grind (arith, x),
-              let y : (get_or ranks h 0 + k == n) ≡ true = both_right (nat_lt h f) (get_or ranks h 0 + k == n) e in grind (arith, y),
+              let y : (get_or ranks h 0 + k == n) ≡ true = (and_parts (nat_lt h f) (get_or ranks h 0 + k == n) e).1 in grind (arith, y),
             ))
-            (either (nat_lt n (get_or ranks h 0 + k)) (nat_lt h f && (get_or ranks h 0 + k == n)) (both_right (nat_lt h n) _ d)),
+            (either (nat_lt n (get_or ranks h 0 + k)) (nat_lt h f && (get_or ranks h 0 + k == n)) (and_parts (nat_lt h n) _ d).1),
       )
 
   above_by : (k f h : ℕ) → h < n → n < get_or ranks h 0 + k → done_by n ranks k f h ≡ true

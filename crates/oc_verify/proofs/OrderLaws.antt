@@ -1,5 +1,6 @@
 -- Numbers that fall along every call show that there is no circle; where they don't fall, there is one.
 use Rattle.std.proofs.Common.{◌≡◌, ℕ, zero, suc, ◌+◌, ◌<◌, ◌≤◌, List, [], ◌∷◌, ◌++◌, Option, Some, None, length, drop, get_or, append_assoc, nat_le, nat_lt, refl, sym}
+use Rattle.std.proofs.lemmas.Bool.{and_parts}
 use Rattle.std.proofs.Common.{ap, ◌∙◌, subst, ⊎_elim, inl, inr, arith, Bool, true, false, nat_eq}
 use Rattle.std.specs.Prelude.{◌⊎◌, ◌&&◌, ◌||◌, if◌then◌else◌, slice_get}
 use Rattle.oc_tree.specs.Reach.{Links, linked, is_link, leads, reaches, count_below}
@@ -15,7 +16,7 @@ use Rattle.oc_verify.specs.Blames.{Blames}
 use Rattle.oc_verify.specs.declared.fault.VerifyError.{VerifyError}
 use Rattle.oc_verify.specs.declared.fault.VerifyError.TheVariants as errors
 use Rattle.std.proofs.lemmas.Option.{slice_get_within}
-use Rattle.oc_verify.proofs.Owners.{both_left, both_right, laid_rises}
+use Rattle.oc_verify.proofs.Owners.{laid_rises}
 use Rattle.oc_verify.proofs.FactLaws.{inside_code, end_inside}
 use Rattle.oc_verify.proofs.Exact.{count_small, either, or_second, reach_back}
 
@@ -52,8 +53,8 @@ link_of [] l u v e = inr (pair_of (either (is_link u v l) false e))
   where
     pair_of : (is_link u v l ≡ true) ⊎ (false ≡ true) → (l.0 ≡ u) × (l.1 ≡ v)
     pair_of (inl x) = (
-      let a : nat_eq l.0 u ≡ true = both_left (nat_eq l.0 u) (nat_eq l.1 v) x in grind (arith, a),
-      let b : nat_eq l.1 v ≡ true = both_right (nat_eq l.0 u) (nat_eq l.1 v) x in
+      let a : nat_eq l.0 u ≡ true = (and_parts (nat_eq l.0 u) (nat_eq l.1 v) x).0 in grind (arith, a),
+      let b : nat_eq l.1 v ≡ true = (and_parts (nat_eq l.0 u) (nat_eq l.1 v) x).1 in
           grind (arith, b),
     )
     pair_of (inr x) = absurd (cc)
@@ -140,8 +141,8 @@ all_links ls f a gs ps whole e h = sym (append_none ls) ∙ ap (λ l. ls ++ l) (
 
 from_or : (f : ℕ) (x : Instr) (rest : Links) (u v : ℕ) → linked (link_from f x ++ rest) u v ≡ true → ((u ≡ f) × (x ≡ Call v)) ⊎ (linked rest u v ≡ true)
 from_or f (Call g) rest u v e = ⊎_elim
-    (λ q. let a : nat_eq f u ≡ true = both_left (nat_eq f u) (nat_eq g v) q in
-    let b : nat_eq g v ≡ true = both_right (nat_eq f u) (nat_eq g v) q in
+    (λ q. let a : nat_eq f u ≡ true = (and_parts (nat_eq f u) (nat_eq g v) q).0 in
+    let b : nat_eq g v ≡ true = (and_parts (nat_eq f u) (nat_eq g v) q).1 in
     let m : f ≡ u = grind (arith, a) in
     let n : g ≡ v = grind (arith, b) in
     inl (sym m, ap Call n))
@@ -187,7 +188,7 @@ home_in (k ∷ fs) size a g l u = by (nat_le k.entry a) refl (λ h. home_in fs s
 
 first_zero : (fs : List ImageFunction) → rises fs ≡ true → (g : ImageFunction) × (gs : List ImageFunction) × (fs ≡ g ∷ gs) × (g.entry ≡ 0)
 first_zero [] r = absurd (cc)
-first_zero (g ∷ gs) r = (g, gs, refl, (let z : nat_eq g.entry 0 ≡ true = both_left (nat_eq g.entry 0) (rises_from 1 gs) r in grind (arith, z)))
+first_zero (g ∷ gs) r = (g, gs, refl, (let z : nat_eq g.entry 0 ≡ true = (and_parts (nat_eq g.entry 0) (rises_from 1 gs) r).0 in grind (arith, z)))
 
 pub home_of : (i : Parts) → laid_out i ≡ true → (a : ℕ) (p : Placed) → slice_get i.code a ≡ Some p → (f : ℕ) × (code_at i f a ≡ Some p)
 home_of i l a p e =

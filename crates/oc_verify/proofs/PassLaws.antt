@@ -1,5 +1,6 @@
 -- The kinds behind one call more.
 use Rattle.std.proofs.Common.{◌≡◌, ℕ, zero, suc, ◌+◌, ◌<◌, ◌≤◌, ◌≢◌, List, [], ◌∷◌, length, take, map, Option, Some, None, refl, sym, ap, ◌∙◌, subst, ⊎_elim, inl, inr, arith, true, nat_eq, nat_lt}
+use Rattle.std.proofs.lemmas.Bool.{and_parts}
 use Rattle.std.specs.Prelude.{◌⊎◌, ◌||◌, ◌&&◌, slice_get, slice_set}
 use Rattle.std.specs.List.{All}
 use Rattle.std.proofs.lemmas.Bool.Decides.{eqb_tells}
@@ -15,7 +16,6 @@ use Rattle.oc_verify.specs.Rules.{code_at, params_of}
 use Rattle.oc_verify.specs.Told.{kind_of}
 use Rattle.oc_verify.specs.Work.{Marks}
 use Rattle.oc_verify.specs.Tables.{Calls, Passed, SeenCall, IsPassed, with_calls, JoinsBy, Joins}
-use Rattle.oc_verify.proofs.Owners.{both_left, both_right}
 use Rattle.oc_verify.proofs.Exact.{either, or_second}
 use Rattle.oc_verify.proofs.MergeLaws.{suit_both, one_of_both, all_then, itself}
 use Rattle.oc_verify.proofs.KindLaws.{kinds_long}
@@ -72,7 +72,7 @@ calls_new seen f to h a e l =
 pub calls_parts : (seen : Calls) (f to h a : ℕ) → with_calls seen f to h a ≡ true → (seen h a ≡ true) ⊎ ((h ≡ f) × (a < to))
 calls_parts seen f to h a e = ⊎_elim
     (λ q. inl q)
-    (λ q. inr (let x : nat_eq h f ≡ true = both_left (nat_eq h f) (nat_lt a to) q in grind (arith, x), let y : nat_lt a to ≡ true = both_right (nat_eq h f) (nat_lt a to) q in grind (arith, y)))
+    (λ q. inr (let x : nat_eq h f ≡ true = (and_parts (nat_eq h f) (nat_lt a to) q).0 in grind (arith, x), let y : nat_lt a to ≡ true = (and_parts (nat_eq h f) (nat_lt a to) q).1 in grind (arith, y)))
     (either (seen h a) (nat_eq h f && nat_lt a to) e)
 
 module _ (i : Parts) (tab : Marks) (f : ℕ) (ps : Passed) where

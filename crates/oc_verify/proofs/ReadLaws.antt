@@ -1,5 +1,6 @@
 -- Fields are read back.
-use Rattle.std.proofs.Common.{append_assoc, ◌≡◌, ℕ, ◌<◌, ◌≤◌, ◌^◌, List, [], ◌∷◌, ◌++◌, length, take, drop, Ok, refl, ap, ◌∙◌, arith, Bool, true, false, nat_le}
+use Rattle.std.proofs.Common.{append_assoc, ◌≡◌, ℕ, ◌<◌, ◌≤◌, ◌^◌, List, [], ◌∷◌, ◌++◌, length, take, drop, Ok, refl, ap, ◌∙◌, arith, true, nat_le}
+use Rattle.std.proofs.lemmas.Bool.{and_from}
 use Rattle.std.specs.Prelude.{◌&&◌}
 use Rattle.std.specs.List.{flat_map, All}
 use Rattle.std.specs.Int.{w32, from_le_bytes}
@@ -26,10 +27,6 @@ number_is : (n : ℕ) → n < 2 ^ 32 → from_le_bytes w32 (number_bytes n) ≡ 
 unfolding number_bytes
 number_is n s = from_le_bytes-to_le_bytes_4 n s
 
-both : (a b : Bool) → a ≡ true → b ≡ true → a && b ≡ true
-both true b h k = k
-both false b h k = absurd (cc)
-
 pub number_back : (low high n : ℕ) (rest : Bytes) → low ≤ n → n ≤ high → n < 2 ^ 32 → number_at low high (number_bytes n ++ rest) ≡ Ok (n, rest)
 unfolding number_at
 number_back low high n rest l h s =
@@ -39,7 +36,7 @@ number_back low high n rest l h s =
     let b : nat_le n high ≡ true = grind (arith, h) in
     ap (λ t. if_in t bs (if_in (nat_le low (front_number bs) && nat_le (front_number bs) high) bs (Ok (front_number bs, drop 4 bs)))) (number_long n rest)
     ∙ ap (λ m. if_in (nat_le low m && nat_le m high) bs (Ok (m, drop 4 bs))) v
-    ∙ ap (λ t. if_in t bs (Ok (n, drop 4 bs))) (both (nat_le low n) (nat_le n high) a b)
+    ∙ ap (λ t. if_in t bs (Ok (n, drop 4 bs))) (and_from (nat_le low n) (nat_le n high) a b)
     ∙ ap (λ r. Ok (n, r)) (number_behind n rest)
 
 pub any_back : (n : ℕ) (rest : Bytes) → IsNumber n → any_at (number_bytes n ++ rest) ≡ Ok (n, rest)

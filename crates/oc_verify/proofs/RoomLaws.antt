@@ -1,5 +1,6 @@
 -- What functions need of the stack.
 use Rattle.std.proofs.Common.{◌≡◌, ℕ, zero, suc, ◌+◌, ◌-◌, ◌<◌, ◌≤◌, ◌≢◌, List, [], ◌∷◌, length, get_or, max, Some, refl, sym, ap, ◌∙◌, subst, ⊎_elim, inl, inr, arith, Bool, true, false}
+use Rattle.std.proofs.lemmas.Bool.{and_parts}
 use Rattle.std.specs.Prelude.{nat_le, nat_lt, ◌⊎◌, ◌==◌, ◌&&◌, ◌||◌, slice_set, replicate}
 use Rattle.std.proofs.lemmas.Bool.Decides.{eqb_tells}
 use Rattle.oc_isa.specs.declared.instr.Placed.{Placed}
@@ -16,7 +17,6 @@ use Rattle.oc_verify.specs.Facts.{IsLaid, IsNamed, IsRanked}
 use Rattle.oc_verify.specs.Work.{Marks}
 use Rattle.oc_verify.specs.Tables.{Passed, kinds_of, SeenCall, IsDone, IsExamined, all_done}
 use Rattle.oc_verify.specs.Room.{IsEnough, HasRoom, IsHeld, needed, needed_at, SeenAt, IsMost, BlamesDeep, AreBounded, bounded_by}
-use Rattle.oc_verify.proofs.Owners.{both_left, both_right}
 use Rattle.oc_verify.proofs.Calls.{call_linked, function_short}
 use Rattle.oc_verify.proofs.Exact.{either, or_second}
 use Rattle.oc_verify.proofs.KindLaws.{call_deep, own_put}
@@ -99,15 +99,15 @@ module _ (i : Parts) (L : IsLaid i) (named : (f : ℕ) → IsNamed i f) (ranks :
 
   bounded_parts : (n k f h : ℕ) → bounded_by n ranks k f h ≡ true → (h < n) × ((get_or ranks h 0 < k) ⊎ ((h < f) × (get_or ranks h 0 ≡ k)))
   bounded_parts n k f h d =
-      let low : nat_lt h n ≡ true = both_left (nat_lt h n) _ d in (
+      let low : nat_lt h n ≡ true = (and_parts (nat_lt h n) _ d).0 in (
         grind (arith, low),
         ⊎_elim
             (λ e. inl (grind (arith, e)))
             (λ e. inr (
-              let x : nat_lt h f ≡ true = both_left (nat_lt h f) (get_or ranks h 0 == k) e in grind (arith, x),
-              let y : (get_or ranks h 0 == k) ≡ true = both_right (nat_lt h f) (get_or ranks h 0 == k) e in grind (arith, y),
+              let x : nat_lt h f ≡ true = (and_parts (nat_lt h f) (get_or ranks h 0 == k) e).0 in grind (arith, x),
+              let y : (get_or ranks h 0 == k) ≡ true = (and_parts (nat_lt h f) (get_or ranks h 0 == k) e).1 in grind (arith, y),
             ))
-            (either (nat_lt (get_or ranks h 0) k) (nat_lt h f && (get_or ranks h 0 == k)) (both_right (nat_lt h n) _ d)),
+            (either (nat_lt (get_or ranks h 0) k) (nat_lt h f && (get_or ranks h 0 == k)) (and_parts (nat_lt h n) _ d).1),
       )
 
   bounded_lower : (n k f h : ℕ) → h < n → get_or ranks h 0 < k → bounded_by n ranks k f h ≡ true

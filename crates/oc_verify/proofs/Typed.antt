@@ -1,5 +1,6 @@
 -- A verified image is typed.
 use Rattle.std.proofs.Common.{◌≡◌, ℕ, zero, suc, ◌+◌, ◌-◌, ◌<◌, ◌≤◌, ◌≢◌, List, [], ◌∷◌, ◌++◌, length, append_assoc, take, drop, Option, Some, None, Ok, Err, refl, sym, ap, ◌∙◌}
+use Rattle.std.proofs.lemmas.Bool.{and_parts}
 use Rattle.std.proofs.Common.{subst, ⊎_elim, arith, Bool, true, false, nat_le, nat_lt, nat_eq, cond}
 use Rattle.std.proofs.lemmas.List.Sums.{sum_by-cons}
 use Rattle.std.specs.Prelude.{◌==◌, if◌then◌else◌, ◌&&◌, ◌||◌, not, slice_get, count_by}
@@ -21,7 +22,7 @@ use Rattle.oc_verify.specs.Rules.{gives, returns_right, names_exist, main_number
 use Rattle.oc_verify.specs.Rules.{target_fits}
 use Rattle.oc_verify.specs.Verified.{IsVerified, Seen, frame_at}
 use Rattle.oc_verify.proofs.Cells.{level_below, level_short}
-use Rattle.oc_verify.proofs.Owners.{both_left, both_right, owned, stands, main_is, words_are, main_shifts}
+use Rattle.oc_verify.proofs.Owners.{owned, stands, main_is, words_are, main_shifts}
 use Rattle.oc_verify.proofs.Steps.{sound}
 use Rattle.oc_verify.proofs.Calls.{no_call_of_main}
 
@@ -138,8 +139,8 @@ not_so false e = refl
 
 each_frame : (fs : List ImageFunction) (f : ℕ) (g : ImageFunction) → list_all has_frame fs ≡ true → slice_get fs f ≡ Some g → has_frame g ≡ true
 each_frame [] f g e h = absurd (cc)
-each_frame (x ∷ fs) zero g e h = let q : x ≡ g = (cc) in subst (λ y. has_frame y ≡ true) q (both_left _ _ e)
-each_frame (x ∷ fs) (suc f) g e h = each_frame fs f g (both_right _ _ e) h
+each_frame (x ∷ fs) zero g e h = let q : x ≡ g = (cc) in subst (λ y. has_frame y ≡ true) q (and_parts _ _ e).0
+each_frame (x ∷ fs) (suc f) g e h = each_frame fs f g (and_parts _ _ e).1 h
 
 other_frame : (g : ImageFunction) (b : Bool) → is_main g ≡ false → has_frame g ≡ true → g.params + 2 ≤ g.frame
 other_frame g b e h = let q : nat_le (g.params + 2) g.frame ≡ true = ap (λ c. if c then nat_eq g.params 0 else nat_le (g.params + 2) g.frame) (sym e) ∙ h in grind (arith, q)
@@ -213,9 +214,9 @@ others (x ∷ fs) c f g e n = by (is_main x) refl f e n (λ f e n c'. others fs 
 frames_laid : (i : Parts) → laid_out i ≡ true → list_all has_frame i.functions ≡ true
 frames_laid i l =
     let a : rises i.functions && (list_all (λ h. nat_lt h.entry (length i.code)) i.functions && (nat_eq (count_by is_main i.functions) 1 && list_all has_frame i.functions))
-    ≡ true = both_right (nat_lt (length i.code) 2147483648) _ l in
-    let b : list_all (λ h. nat_lt h.entry (length i.code)) i.functions && (nat_eq (count_by is_main i.functions) 1 && list_all has_frame i.functions) ≡ true = both_right (rises i.functions) _ a in
-    both_right (nat_eq (count_by is_main i.functions) 1) _ (both_right (list_all (λ h. nat_lt h.entry (length i.code)) i.functions) _ b)
+    ≡ true = (and_parts (nat_lt (length i.code) 2147483648) _ l).1 in
+    let b : list_all (λ h. nat_lt h.entry (length i.code)) i.functions && (nat_eq (count_by is_main i.functions) 1 && list_all has_frame i.functions) ≡ true = (and_parts (rises i.functions) _ a).1 in
+    (and_parts (nat_eq (count_by is_main i.functions) 1) _ (and_parts (list_all (λ h. nat_lt h.entry (length i.code)) i.functions) _ b).1).1
 
 words_few : (i : Parts) → counts_fit i ≡ true → nv_words i ≤ 65536
 words_few i c =
@@ -234,9 +235,9 @@ words_few i c =
 one_main_only : (i : Parts) → laid_out i ≡ true → (f : ℕ) (g : ImageFunction) → slice_get i.functions f ≡ Some g → f ≢ main_number i → is_main g ≡ false
 one_main_only i l f g e n =
     let a : rises i.functions && (list_all (λ h. nat_lt h.entry (length i.code)) i.functions && (nat_eq (count_by is_main i.functions) 1 && list_all has_frame i.functions))
-    ≡ true = both_right (nat_lt (length i.code) 2147483648) _ l in
-    let b : list_all (λ h. nat_lt h.entry (length i.code)) i.functions && (nat_eq (count_by is_main i.functions) 1 && list_all has_frame i.functions) ≡ true = both_right (rises i.functions) _ a in
-    let c : nat_eq (count_by is_main i.functions) 1 ≡ true = both_left _ (list_all has_frame i.functions) (both_right (list_all (λ h. nat_lt h.entry (length i.code)) i.functions) _ b) in
+    ≡ true = (and_parts (nat_lt (length i.code) 2147483648) _ l).1 in
+    let b : list_all (λ h. nat_lt h.entry (length i.code)) i.functions && (nat_eq (count_by is_main i.functions) 1 && list_all has_frame i.functions) ≡ true = (and_parts (rises i.functions) _ a).1 in
+    let c : nat_eq (count_by is_main i.functions) 1 ≡ true = (and_parts _ (list_all has_frame i.functions) (and_parts (list_all (λ h. nat_lt h.entry (length i.code)) i.functions) _ b).1).0 in
     others i.functions (equal _ _ c) f g e n
 
 -- The image at hand
@@ -339,14 +340,14 @@ module _ (i : Parts) (t : Typing) (v : IsVerified i t) where
     fine_of (Ret k) x =
         let u = none_open_inv p.opens _ s.after (judged (Ret k) x) in
         let r = returns_here (Ret k) x in
-        let b = both_right (not (s.fn == main_number i)) (nat_eq k (params_of i s.fn) && not (gives i s.fn)) r in
-        let e : nat_eq k (params_of i s.fn) ≡ true = both_left _ _ b in
-        (equal k (params_of i s.fn) e ∙ params_are s.fn g is, not_main _ r, u.0, v.gives s.fn ∙ not_so (gives i s.fn) (both_right _ _ b))
+        let b = (and_parts (not (s.fn == main_number i)) (nat_eq k (params_of i s.fn) && not (gives i s.fn)) r).1 in
+        let e : nat_eq k (params_of i s.fn) ≡ true = (and_parts _ _ b).0 in
+        (equal k (params_of i s.fn) e ∙ params_are s.fn g is, not_main _ r, u.0, v.gives s.fn ∙ not_so (gives i s.fn) (and_parts _ _ b).1)
     fine_of (Retv k) x =
         let u = number_inv p.ops _ s.after (judged (Retv k) x) in
         let w = none_open_inv p.opens _ s.after u.2 in
         let r = returns_here (Retv k) x in
-        let e : nat_eq k (params_of i s.fn) ≡ true = both_right (not (s.fn == main_number i)) _ r in
+        let e : nat_eq k (params_of i s.fn) ≡ true = (and_parts (not (s.fn == main_number i)) _ r).1 in
         (u.0, u.1, equal k (params_of i s.fn) e ∙ params_are s.fn g is, not_main _ r, w.0, v.gives s.fn ∙ retv_gives i s.fn a s.placed k s.found x)
     fine_of (Sense n) x = to (Sense n) x (a + 1) _ _ (judged (Sense n) x) (here (a + 1))
     fine_of (Enter r) x = to (Enter r) x (a + 1) _ _ (judged (Enter r) x) (here (a + 1))

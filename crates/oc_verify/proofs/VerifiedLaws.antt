@@ -1,5 +1,6 @@
 -- What the passes leave shows that an image breaks no rule.
 use Rattle.std.proofs.Common.{◌≡◌, ℕ, zero, suc, ◌+◌, ◌<◌, ◌≤◌, List, [], ◌∷◌, length, take, map, get_or, Option, Some, None, refl, sym, ap, ◌∙◌, subst, ⊎_elim, inr}
+use Rattle.std.proofs.lemmas.Bool.{and_parts}
 use Rattle.std.proofs.Common.{arith, Bool, true, false, nat_lt, nat_eq, cond}
 use Rattle.std.specs.Prelude.{◌&&◌, if◌then◌else◌, slice_get, count_by}
 use Rattle.std.specs.List.{list_all}
@@ -18,7 +19,7 @@ use Rattle.oc_verify.specs.Told.{kind_of}
 use Rattle.oc_verify.specs.Work.{IsWork, Marks}
 use Rattle.oc_verify.specs.Room.{HasRoom}
 use Rattle.oc_verify.specs.Tables.{Passed, kinds_of, is_walked, own_by, own_marks, SeenCall, IsDone, IsExamined, all_done}
-use Rattle.oc_verify.proofs.Owners.{main_shifts, both_left, both_right}
+use Rattle.oc_verify.proofs.Owners.{main_shifts}
 use Rattle.oc_verify.proofs.Calls.{function_short}
 use Rattle.oc_verify.proofs.OrderLaws.{no_circle}
 use Rattle.oc_verify.proofs.KindLaws as known
@@ -47,7 +48,7 @@ main_there (g ∷ fs) h = by (is_main g) refl (λ k. main_there fs k)
         (r.0, ap (slice_get (g ∷ fs)) (main_shifts fs 0) ∙ r.1)
 
 fourth : (a b c d e : Bool) → a && (b && (c && (d && e))) ≡ true → d ≡ true
-fourth a b c d e h = both_left d e (both_right c (d && e) (both_right b (c && (d && e)) (both_right a (b && (c && (d && e))) h)))
+fourth a b c d e h = (and_parts d e (and_parts c (d && e) (and_parts b (c && (d && e)) (and_parts a (b && (c && (d && e))) h).1).1).1).0
 
 one_main : (i : Parts) → laid_out i ≡ true → 1 ≤ count_by is_main i.functions
 one_main i l =

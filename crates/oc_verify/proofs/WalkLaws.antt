@@ -1,5 +1,6 @@
 -- Where a walk begins, and that it comes to an end.
 use Rattle.std.proofs.Common.{◌≡◌, true, nat_lt, get_or, Err, ℕ, zero, suc, ◌+◌, ◌*◌, ◌<◌, ◌≤◌, List, [], ◌∷◌, ◌++◌, length, map, reverse, cond, Option, Some, None, refl, sym, ap, ◌∙◌, subst, arith}
+use Rattle.std.proofs.lemmas.Bool.{and_parts}
 use Rattle.std.specs.Prelude.{slice_get, slice_set}
 use Rattle.std.proofs.lemmas.List.{length-append, length-map, length-reverse}
 use Rattle.std.proofs.lemmas.List.Elements.{All-nil, All-cons}
@@ -24,7 +25,7 @@ use Rattle.oc_verify.specs.declared.fault.Fault.{Fault}
 use Rattle.oc_verify.specs.declared.fault.Fault.TheVariants as faults
 use Rattle.oc_verify.proofs.FactLaws.{inside_code}
 use Rattle.oc_verify.proofs.TableLaws.{all_last, blame_step, same_marks, set_other}
-use Rattle.oc_verify.proofs.Owners.{both_left, stands}
+use Rattle.oc_verify.proofs.Owners.{stands}
 use Rattle.oc_verify.proofs.Working.{begun}
 
 -- one blank less
@@ -141,7 +142,7 @@ pub address_small : (i : Parts) → IsLaid i → (f a : ℕ) (x : Placed) → co
 address_small i L f a x e =
     let s = stands i f a x e in
     let l = slice_get_within i.code a x s.found in
-    let n : nat_lt (length i.code) 2147483648 ≡ true = both_left (nat_lt (length i.code) 2147483648) _ L.laid in
+    let n : nat_lt (length i.code) 2147483648 ≡ true = (and_parts (nat_lt (length i.code) 2147483648) _ L.laid).0 in
     let m : length i.code < 2147483648 = grind (arith, n) in
     omega (arith, l, m)
 

@@ -1,5 +1,6 @@
 -- A verified image is well made.
 use Rattle.std.proofs.Common.{◌≡◌, ℕ, suc, ◌+◌, ◌<◌, ◌≤◌, List, [], ◌∷◌, length, Some, None, refl, sym, ap, ◌∙◌, subst, arith, Bool, true, false, nat_lt, nat_le, nat_eq, All}
+use Rattle.std.proofs.lemmas.Bool.{and_parts}
 use Rattle.std.specs.Prelude.{if◌then◌else◌, ◌&&◌, slice_get, count_by}
 use Rattle.std.specs.List.{list_all}
 use Rattle.std.proofs.lemmas.List.Elements.{All-nil, All-cons}
@@ -12,7 +13,7 @@ use Rattle.oc_isa.specs.Image.{Parts, is_main, main_of, frame_of, Exists, IsWell
 use Rattle.oc_verify.specs.Typing.{pair, Typing}
 use Rattle.oc_verify.specs.Rules.{on_function, end_at, within, code_at, rises, rises_from, names_exist, is_region, has_frame, nv_words, target_fits, param_fits, params_of, targets_of}
 use Rattle.oc_verify.specs.Verified.{IsVerified, frame_at}
-use Rattle.oc_verify.proofs.Owners.{both_left, both_right, laid_rises, main_is}
+use Rattle.oc_verify.proofs.Owners.{laid_rises, main_is}
 use Rattle.oc_verify.proofs.Exact.{in_table, seen_in}
 
 -- a function in whose code an address is
@@ -33,7 +34,7 @@ home_of g (k ∷ gs) size a l h = by (nat_le k.entry a) refl (λ l'. home_of k g
 
 home_in : (fs : List ImageFunction) (size a : ℕ) → rises fs ≡ true → a < size → Home fs size a
 home_in [] size a r h = absurd (cc)
-home_in (g ∷ gs) size a r h = let z : nat_eq g.entry 0 ≡ true = both_left (nat_eq g.entry 0) (rises_from 1 gs) r in home_of g gs size a (grind (arith, z)) h
+home_in (g ∷ gs) size a r h = let z : nat_eq g.entry 0 ≡ true = (and_parts (nat_eq g.entry 0) (rises_from 1 gs) r).0 in home_of g gs size a (grind (arith, z)) h
 
 code_is : (i : Parts) (a : ℕ) (p : Placed) (h : Home i.functions (length i.code) a) → slice_get i.code a ≡ Some p → code_at i h.number a ≡ Some p
 code_is i a p h e =
@@ -46,13 +47,13 @@ code_is i a p h e =
     ∙ ap (λ b. if b then slice_get i.code a else None) y ∙ e
 
 region_there : (i : Parts) (r : ℕ) → is_region i r ≡ true → (1 ≤ r) × (r ≤ length i.targets)
-region_there i r e = let x = both_left (nat_le 1 r) (nat_le r (length i.targets)) e in let y = both_right (nat_le 1 r) (nat_le r (length i.targets)) e in (grind (arith, x), grind (arith, y))
+region_there i r e = let x = (and_parts (nat_le 1 r) (nat_le r (length i.targets)) e).0 in let y = (and_parts (nat_le 1 r) (nat_le r (length i.targets)) e).1 in (grind (arith, x), grind (arith, y))
 
 exists_by : (i : Parts) (f : ℕ) (x : Instr) → names_exist i f x ≡ true → Exists i x
 exists_by i f (Call g) e = grind (arith, e)
 exists_by i f (Sense s) e = grind (arith, e)
 exists_by i f (Emit p) e = grind (arith, e)
-exists_by i f (Enter r) e = region_there i r (both_left (is_region i r) (list_all (param_fits (params_of i f)) (targets_of i r)) e)
+exists_by i f (Enter r) e = region_there i r (and_parts (is_region i r) (list_all (param_fits (params_of i f)) (targets_of i r)) e).0
 exists_by i f (Commit r) e = region_there i r e
 exists_by i f x e = tt
 

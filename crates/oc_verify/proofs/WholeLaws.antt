@@ -1,5 +1,6 @@
 -- Which bytes are an image's: what was read was written, and what was written is read back.
 use Rattle.std.proofs.Common.{append_assoc, ◌≡◌, ℕ, suc, ◌≤◌, List, [], ◌∷◌, ◌++◌, length, take, drop, Result, Ok, Err, refl, sym, ap, ◌∙◌, subst, arith, Bool, true, false}
+use Rattle.std.proofs.lemmas.Bool.{and_from, and_parts}
 use Rattle.std.specs.Prelude.{◌&&◌, if◌then◌else◌, map, not, FitsSigned, ℤ}
 use Rattle.std.specs.List.{flat_map, All}
 use Rattle.std.specs.Int.{w32, cast_signed, cast_unsigned}
@@ -19,8 +20,6 @@ use Rattle.oc_isa.specs.Image.{Parts}
 use Rattle.oc_isa.specs.Bytes.{Bytes, IsFew, magic, image_bytes, number_bytes, word_bytes, name_bytes, list_bytes, nvs_bytes, all_nvs_bytes, function_bytes, target_bytes, placed_bytes}
 use Rattle.oc_verify.specs.Reading.{Read, ◌>>=◌, AreImage, IsTold, HasNumbers, all_names, each_once, is_named, IsNumber, AreNumbers, target_numbers, IsInstr, any_at, word_at}
 use Rattle.oc_verify.specs.Reading.{list_at, names_at, bare_at, nv_at, function_at, target_at, placed_at, ended, read_at}
-use Rattle.oc_verify.proofs.Owners.{both_left, both_right}
-use Rattle.oc_verify.proofs.WordLaws.{both}
 use Rattle.oc_verify.proofs.FieldLaws.{AreBytes, IsField, bytes_behind, shorter, bind_good, then_bad, ok_pair, any_field, word_field, list_field}
 use Rattle.oc_verify.proofs.InstrFields.{target_field, placed_field}
 use Rattle.oc_verify.proofs.NamedFields.{with_name, HasName, IsTail, AreNamed, names_field, names_back}
@@ -261,9 +260,9 @@ module _ (s p : List Text) (v : List Nv) (f : List ImageFunction) (r : List (Lis
 
   all_once : each_once [] s ≡ true → each_once s p ≡ true → each_once (s ++ p) ns ≡ true → each_once ((s ++ p) ++ ns) fs ≡ true → each_once [] (all_names I) ≡ true
   all_once a b d e =
-      once_append [] s (p ++ (ns ++ fs)) ∙ both (each_once [] s) (each_once s (p ++ (ns ++ fs))) a
-      (once_append s p (ns ++ fs) ∙ both (each_once s p) (each_once (s ++ p) (ns ++ fs)) b
-      (once_append (s ++ p) ns fs ∙ both (each_once (s ++ p) ns) (each_once ((s ++ p) ++ ns) fs) d e))
+      once_append [] s (p ++ (ns ++ fs)) ∙ and_from (each_once [] s) (each_once s (p ++ (ns ++ fs))) a
+      (once_append s p (ns ++ fs) ∙ and_from (each_once s p) (each_once (s ++ p) (ns ++ fs)) b
+      (once_append (s ++ p) ns fs ∙ and_from (each_once (s ++ p) ns) (each_once ((s ++ p) ++ ns) fs) d e))
 
   put_together : (bs : Bytes) → bs ≡ image_bytes I → (length s ≤ 64) × Bare [] s → (length p ≤ 64) × Bare s p → (length v ≤ 64) × Nvs (s ++ p) v → (length f ≤ 128) × Functions ((s ++ p) ++ ns) f
       → IsFew r × All AreTargets r → IsNumber w → IsFew c × All IsInstr c → AreImage bs I
@@ -374,9 +373,9 @@ module _ (s p : List Text) (v : List Nv) (f : List ImageFunction) (r : List (Lis
       let ns : List Text = map (λ x. x.0) v in
       let fs : List Text = map (λ x. x.name) f in
       let once1 = sym (once_append [] s (p ++ (ns ++ fs))) ∙ t.differ in
-      let behind1 : each_once s (p ++ (ns ++ fs)) ≡ true = both_right (each_once [] s) (each_once s (p ++ (ns ++ fs))) once1 in
+      let behind1 : each_once s (p ++ (ns ++ fs)) ≡ true = (and_parts (each_once [] s) (each_once s (p ++ (ns ++ fs))) once1).1 in
       let once2 = sym (once_append s p (ns ++ fs)) ∙ behind1 in
-      let behind2 : each_once (s ++ p) (ns ++ fs) ≡ true = both_right (each_once s p) (each_once (s ++ p) (ns ++ fs)) once2 in
+      let behind2 : each_once (s ++ p) (ns ++ fs) ≡ true = (and_parts (each_once s p) (each_once (s ++ p) (ns ++ fs)) once2).1 in
       let once3 = sym (once_append (s ++ p) ns fs) ∙ behind2 in
       let N : (P : Text → Type 0) → All P (all_names (image_of s p v f r w c)) → All P p × All P ns × All P fs = λ P h.
       (let l = all_last P s (p ++ (ns ++ fs)) h in let k = all_last P p (ns ++ fs) l in (all_first P p (ns ++ fs) l, all_first P ns fs k, all_last P ns fs k)) in
@@ -384,21 +383,21 @@ module _ (s p : List Text) (v : List Nv) (f : List ImageFunction) (r : List (Lis
       let fews = N IsFew n.names in
       let plain : (xs : List Text) (P : Text → Type 0) → All P xs → All P (map itself xs) = λ xs P q. subst (All P) (sym (same_map xs)) q in
       let S : Bare [] s = record {
-        once = subst (λ l. each_once [] l ≡ true) (sym (same_map s)) (both_left (each_once [] s) (each_once s (p ++ (ns ++ fs))) once1);
+        once = subst (λ l. each_once [] l ≡ true) (sym (same_map s)) (and_parts (each_once [] s) (each_once s (p ++ (ns ++ fs))) once1).0;
         names =
             plain s IsName (all_first IsName s (p ++ (ns ++ fs)) t.names);
         few = plain s IsFew (all_first IsFew s (p ++ (ns ++ fs)) n.names);
         fine = all_always s;
       } in
       let Q : Bare s p = record {
-        once = subst (λ l. each_once s l ≡ true) (sym (same_map p)) (both_left (each_once s p) (each_once (s ++ p) (ns ++ fs)) once2);
+        once = subst (λ l. each_once s l ≡ true) (sym (same_map p)) (and_parts (each_once s p) (each_once (s ++ p) (ns ++ fs)) once2).0;
         names =
             plain p IsName ids.0;
         few = plain p IsFew fews.0;
         fine = all_always p;
       } in
-      let V : Nvs (s ++ p) v = record { once = both_left (each_once (s ++ p) ns) (each_once ((s ++ p) ++ ns) fs) once3; names = ids.1; few = fews.1; fine = each_part v n.nv } in
-      let F : Functions ((s ++ p) ++ ns) f = record { once = both_right (each_once (s ++ p) ns) (each_once ((s ++ p) ++ ns) fs) once3; names = ids.2; few = fews.2; fine = n.functions } in
+      let V : Nvs (s ++ p) v = record { once = (and_parts (each_once (s ++ p) ns) (each_once ((s ++ p) ++ ns) fs) once3).0; names = ids.1; few = fews.1; fine = each_part v n.nv } in
+      let F : Functions ((s ++ p) ++ ns) f = record { once = (and_parts (each_once (s ++ p) ns) (each_once ((s ++ p) ++ ns) fs) once3).1; names = ids.2; few = fews.2; fine = n.functions } in
       let few_v : length v ≤ 64 = (let l = t.few_nvs in let m = length-map v (λ x. x.0) in omega (arith, l, m)) in
       let behind_code : Bytes = list_bytes placed_bytes c in
       let behind_stack : Bytes = number_bytes w ++ behind_code in

@@ -1,5 +1,6 @@
 -- The test of names is the definition of names.
-use Rattle.std.proofs.Common.{◌≡◌, List, [], ◌∷◌, refl, subst, ap, ◌∙◌, Bool, true, false}
+use Rattle.std.proofs.Common.{◌≡◌, List, [], ◌∷◌, refl, subst, ap, Bool, true, false}
+use Rattle.std.proofs.lemmas.Bool.{and_from, and_parts}
 use Rattle.std.specs.Prelude.{not, ◌&&◌, ◌||◌}
 use Rattle.std.specs.List.{list_all, list_any}
 use Rattle.std.specs.Str.{bytes_eq}
@@ -12,7 +13,6 @@ use Rattle.oc_lex.specs.Bytes.{begins_name, in_name}
 use Rattle.oc_lex.specs.Spellings.{word_spelling, SpellsNoWord}
 use Rattle.oc_lex.specs.Stands.{IsName}
 use Rattle.oc_verify.specs.Reading.{all_words, has_form, is_name, is_word}
-use Rattle.oc_verify.proofs.Owners.{both_left, both_right}
 
 spelled : (w : Word) → is_word (word_spelling w) ≡ true
 spelled words.Sensor = refl
@@ -37,17 +37,14 @@ pub named : (x : Text) → is_name x ≡ true → IsName x
 unfolding is_name
 named [] e = absurd (cc)
 named (b ∷ bs) e =
-    let f : begins_name b && list_all in_name bs ≡ true = both_left (has_form (b ∷ bs)) (not (is_word (b ∷ bs))) e in
-    let w : is_word (b ∷ bs) ≡ false = negated (is_word (b ∷ bs)) (both_right (has_form (b ∷ bs)) (not (is_word (b ∷ bs))) e) in
-    ((both_left (begins_name b) (list_all in_name bs) f, AllPass-from_list_all in_name bs (both_right (begins_name b) (list_all in_name bs) f)), no_word (b ∷ bs) w)
-
-pub both : (a b : Bool) → a ≡ true → b ≡ true → a && b ≡ true
-both a b h k = ap (λ c. c && b) h ∙ k
+    let f : begins_name b && list_all in_name bs ≡ true = (and_parts (has_form (b ∷ bs)) (not (is_word (b ∷ bs))) e).0 in
+    let w : is_word (b ∷ bs) ≡ false = negated (is_word (b ∷ bs)) (and_parts (has_form (b ∷ bs)) (not (is_word (b ∷ bs))) e).1 in
+    (((and_parts (begins_name b) (list_all in_name bs) f).0, AllPass-from_list_all in_name bs (and_parts (begins_name b) (list_all in_name bs) f).1), no_word (b ∷ bs) w)
 
 pub is_named_so : (x : Text) → IsName x → is_name x ≡ true
 unfolding is_name
 is_named_so [] h = absurd h.0
 is_named_so (b ∷ bs) h =
-    both (has_form (b ∷ bs)) (not (is_word (b ∷ bs)))
-    (both (begins_name b) (list_all in_name bs) h.0.0 (list_all-from_AllPass in_name bs h.0.1))
+    and_from (has_form (b ∷ bs)) (not (is_word (b ∷ bs)))
+    (and_from (begins_name b) (list_all in_name bs) h.0.0 (list_all-from_AllPass in_name bs h.0.1))
     (ap not (none_of (b ∷ bs) h.1 all_words))

@@ -5,7 +5,7 @@ use Rattle.std.specs.Prelude.{◌&&◌, ◌||◌, ◌==◌, not, is_some, slice_
 use Rattle.std.specs.List.{list_all, list_any}
 use Rattle.std.specs.Str.{bytes_eq}
 use Rattle.std.proofs.Math.ListN.{get_or}
-use Rattle.std.proofs.lemmas.Bool.{eq-eqb}
+use Rattle.std.proofs.lemmas.Bool.{eq-eqb, and_from, and_parts}
 use Rattle.std.proofs.lemmas.Option.{none-some, same_Some}
 use Rattle.std.proofs.lemmas.Slice.Eq.{bytes_eq-Decides}
 use Rattle.oc_tree.specs.Names.{Text}
@@ -31,11 +31,9 @@ use Rattle.oc_tree.specs.Elements.{Here}
 use Rattle.oc_tree.specs.Rules.{only_reference, has_kind, origin_is, is_mutable_passing, is_mutable_param, is_writable, is_writable_array, value_meets, shared_meets, arg_meets}
 use Rattle.oc_tree.specs.Rules.{args_meet, args_list, params_of, call_args, arg_lends, takes_name}
 use Rattle.oc_tree.proofs.ReachLaws.{or_left, or_right}
-use Rattle.oc_reach.proofs.Bools.{and_both}
 use Rattle.oc_reach.proofs.LinkLaws.{any_append}
 use Rattle.oc_meaning.specs.Store.{Place, Global}
 use Rattle.oc_desugar.proofs.FineCalls.{CallFine, Each as EachCall, each_back as calls_back}
-use Rattle.oc_desugar.proofs.KeptExpressions.{first_holds, second_holds}
 use Rattle.oc_desugar.proofs.Unbroken.{Unbroken}
 use Rattle.oc_formed.proofs.BodiesFormed.{head_unbroken}
 use Rattle.oc_formed.proofs.BodiesPass.{first_fails, second_fails, function_fine}
@@ -103,7 +101,7 @@ module _ (p : TProgram) (scope : Scope) where
   pub value_mutable : (q : Passing) (kind : ValueKind) (y : Text) → is_mutable q ≡ true → value_meets p scope q kind (variable y) ≡ true → origin_is is_mutable_param (variable_of p scope y) ≡ true
   value_mutable passings.Value kind y m h = absurd (true≢false (sym m))
   value_mutable passings.Shared kind y m h = absurd (true≢false (sym m))
-  value_mutable passings.Mutable kind y m h = only_mutable (variable_of p scope y) (first_holds _ (has_kind kind (only_reference (variable_of p scope y))) h)
+  value_mutable passings.Mutable kind y m h = only_mutable (variable_of p scope y) (and_parts _ (has_kind kind (only_reference (variable_of p scope y))) h).0
 
   -- `&` meets no such parameter
   pub shared_never : (q : Param) (y : Text) → is_mutable q.passing ≡ true → arg_meets p scope q (shared y) ≡ true → ⊥
@@ -131,7 +129,7 @@ calls_for J P (c ∷ cs) h = ((λ j. (h j).0), calls_for J P cs (λ j. (h j).1))
 
 -- a link links
 pub linked_is : (a b : ℕ) → linked (link_of (Some a) (Some b)) a b ≡ true
-linked_is a b = or_left (nat_eq a a && nat_eq b b) false (and_both (nat_eq a a) (nat_eq b b) (eq-eqb a a refl) (eq-eqb b b refl))
+linked_is a b = or_left (nat_eq a a && nat_eq b b) false (and_from (nat_eq a a) (nat_eq b b) (eq-eqb a a refl) (eq-eqb b b refl))
 
 module _ (p : TProgram) (i : ℕ) (x : Text) (named : slice_get p.names.nvs i ≡ Some x) where
   -- the variable's name
@@ -259,15 +257,15 @@ module _ (p : TProgram) (i : ℕ) (x : Text) (named : slice_get p.names.nvs i �
             let z : l + 0 ≡ l = omega arith in
             let none : takes_mutable p.functions v l ≡ false = sym (ap (takes_mutable p.functions v) z) ∙ takes 0 in (
               λ y h n t. absurd (true≢false (sym t ∙ none)),
-              args_spared (l + 1) [] rest (no_more p scope rest) (second_holds (arg_lends p scope a) _ lends) (second_fails (arg_assigns p.functions x v l a) _ assigns)
+              args_spared (l + 1) [] rest (no_more p scope rest) (and_parts (arg_lends p scope a) _ lends).1 (second_fails (arg_assigns p.functions x v l a) _ assigns)
                   (rest_links v l a rest links) (λ k. let e : l + 1 + k ≡ l + suc k = omega arith in ap (takes_mutable p.functions v) e ∙ takes (suc k)),
             )
         args_spared l (q ∷ qs) (more_args a rest) meets lends assigns links takes =
             let z : l + 0 ≡ l = omega arith in
             let here : takes_mutable p.functions v l ≡ is_mutable q.passing = sym (ap (takes_mutable p.functions v) z) ∙ takes 0 in (
-              arg_spared l q a (first_holds (arg_meets p scope q a) (args_meet p scope qs rest) meets) (first_holds (arg_lends p scope a) _ lends)
+              arg_spared l q a (and_parts (arg_meets p scope q a) (args_meet p scope qs rest) meets).0 (and_parts (arg_lends p scope a) _ lends).0
                   (first_fails (arg_assigns p.functions x v l a) _ assigns) (first_links v l a rest links) here,
-              args_spared (l + 1) qs rest (second_holds (arg_meets p scope q a) (args_meet p scope qs rest) meets) (second_holds (arg_lends p scope a) _ lends)
+              args_spared (l + 1) qs rest (and_parts (arg_meets p scope q a) (args_meet p scope qs rest) meets).1 (and_parts (arg_lends p scope a) _ lends).1
                   (second_fails (arg_assigns p.functions x v l a) _ assigns) (rest_links v l a rest links) (λ k. let e : l + 1 + k ≡ l + suc k = omega arith in
                   ap (takes_mutable p.functions v) e ∙ takes (suc k)),
             )
@@ -278,7 +276,7 @@ module _ (p : TProgram) (i : ℕ) (x : Text) (named : slice_get p.names.nvs i �
           let qs = params_of (slice_get p.functions v) in
           let meet : args_meet p scope qs args ≡ true =
           subst (λ o. args_meet p scope (params_of o) args ≡ true) found
-          (second_holds (length (params_of (function_named p g)) == length (call_args (call g args))) (args_meet p scope (params_of (function_named p g)) args) fine.meets) in
+          (and_parts (length (params_of (function_named p g)) == length (call_args (call g args))) (args_meet p scope (params_of (function_named p g)) args) fine.meets).1 in
           let own : args_assign p.functions x v 0 args ≡ false = sym (ap (callee_assigns p.functions x args) at) ∙ assigns in
           let passes : (m : Through) → (b : ℕ) → linked (args_links p.functions first (param_names f) v 0 args) (first + m.0) b ≡ true → param_assigned p.functions b ≡ false =
           λ m b l. links m b (ap (λ o. linked (to_links p.functions first (param_names f) args o) (first + m.0) b) at ∙ l) in

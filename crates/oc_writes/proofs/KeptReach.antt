@@ -14,7 +14,6 @@ use Rattle.oc_tree.specs.Assigned.{param_names, first_param, param_count, takes_
 use Rattle.oc_tree.specs.Assigned.{function_writes, writes_from, writes_through, param_assigned, own_assigns, function_assigns, reaches_assign}
 use Rattle.oc_tree.proofs.ReachLaws.{or_left, or_right, or_elim, links_lead, leads_trans}
 use Rattle.oc_reach.specs.Within.{IsWithin}
-use Rattle.oc_reach.proofs.Bools.{and_both, and_first, and_second}
 use Rattle.oc_reach.proofs.LinkLaws.{any_append, calls_within}
 use Rattle.oc_reach.proofs.Lists.{at_place}
 use Rattle.oc_reach.proofs.PassLaws.{takes_below, first_room, passes_within}

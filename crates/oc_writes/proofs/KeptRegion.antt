@@ -3,7 +3,7 @@ use Rattle.std.proofs.Common.{◌≡◌, ℕ, zero, suc, ◌+◌, Bool, true, fa
 use Rattle.std.specs.Prelude.{◌&&◌, ◌||◌, ◌==◌, slice_get, option_map, option_and_then}
 use Rattle.std.specs.List.{All, filter, list_any}
 use Rattle.std.proofs.Math.ListN.{get_or}
-use Rattle.std.proofs.lemmas.Bool.{eq-eqb}
+use Rattle.std.proofs.lemmas.Bool.{eq-eqb, and_parts}
 use Rattle.std.proofs.lemmas.Option.{none-some, same_Some}
 use Rattle.std.proofs.lemmas.List.Elements.{All-head, All-tail}
 use Rattle.std.proofs.lemmas.List.Sums.{sum_by-cons}
@@ -32,7 +32,6 @@ use Rattle.oc_effects.specs.Effects.{TEffect, right_call_of, call_of, lent_name,
 use Rattle.oc_effects.specs.Effects.{function_effects, effects_at}
 use Rattle.oc_flow.specs.Variables.{same_variable, is_variable_of}
 use Rattle.oc_desugar.proofs.FineCalls.{CallFine, Each as EachCall, each_back as calls_back}
-use Rattle.oc_desugar.proofs.KeptExpressions.{first_holds, second_holds}
 use Rattle.oc_formed.proofs.BodiesPass.{first_fails, second_fails, function_fine}
 use Rattle.oc_writes.specs.Targets.{lends, call_assigns, assigns, reaches, region_effects, assigns_nv, assigns_param, words_of, nv_targets, param_targets, region_targets}
 use Rattle.oc_writes.specs.Seen.{stands_in}
@@ -246,14 +245,14 @@ module _ (p : TProgram) (i : ℕ) (x : Text) (passed : ℕ → Place) where
           let z : l + 0 ≡ l = omega arith in
           let here_takes : takes_mutable p.functions v l ≡ is_mutable q.passing = sym (ap (takes_mutable p.functions v) z) ∙ takes 0 in
           let n : first_param p.functions v + l + 1 ≡ first_param p.functions v + (l + 1) = omega arith in (
-            arg_spared l q g (first_holds (arg_meets p here.scope q g) (args_meet p here.scope qs gs) meets)
+            arg_spared l q g (and_parts (arg_meets p here.scope q g) (args_meet p here.scope qs gs) meets).0
                 (λ y m. (let f = free y m in record {
                   var = f.var;
                   is = f.is;
                   fails =
                       first_fails (is_variable_of (passes p a q g).lent f.var && param_assigned p.functions (first_param p.functions v + l)) _ f.fails;
                 })) here_takes,
-            args_spared (l + 1) qs gs (second_holds (arg_meets p here.scope q g) (args_meet p here.scope qs gs) meets)
+            args_spared (l + 1) qs gs (and_parts (arg_meets p here.scope q g) (args_meet p here.scope qs gs) meets).1
                 (λ y m. (let f = free y m in record {
                   var = f.var;
                   is = f.is;
@@ -271,7 +270,7 @@ module _ (p : TProgram) (i : ℕ) (x : Text) (passed : ℕ → Place) where
         let looked : params_of (function_named p g) ≡ params_at p v = ap params_of found ∙ params_looked p.functions v in
         let meet : args_meet p here.scope (params_at p v) gs ≡ true =
         subst (λ qs. args_meet p here.scope qs gs ≡ true) looked
-        (second_holds (length (params_of (function_named p g)) == length (call_args (call g gs))) (args_meet p here.scope (params_of (function_named p g)) gs) fine.meets) in
+        (and_parts (length (params_of (function_named p g)) == length (call_args (call g gs))) (args_meet p here.scope (params_of (function_named p g)) gs) fine.meets).1 in
         let z : first_param p.functions v ≡ first_param p.functions v + 0 = omega arith in (
           sym (ap (λ o. reaches p o x) called) ∙ none,
           args_spared v 0 (params_at p v) gs meet

@@ -1,8 +1,8 @@
 -- What each function may write, and what each region may: the tables of the code's claims, from the rules and from what is
 -- told of assignments.
-use Rattle.std.proofs.Common.{◌≡◌, ◌≤◌, ◌<◌, ◌+◌, ℕ, suc, Bool, true, false, true≢false, List, [], ◌∷◌, ◌++◌, map, get_or, cond, Option, Some, None, refl, sym, ap, ◌∙◌, subst, arith}
+use Rattle.std.proofs.Common.{◌≡◌, ◌+◌, ℕ, suc, Bool, true, false, true≢false, List, [], ◌∷◌, map, get_or, cond, Option, Some, None, refl, sym, ap, ◌∙◌, subst, arith}
 use Rattle.std.proofs.lemmas.Bool.{and_from, and_parts}
-use Rattle.std.specs.Prelude.{is_some, slice_get, ◌&&◌, ◌||◌, ◌==◌, length, option_map, option_and_then}
+use Rattle.std.specs.Prelude.{is_some, slice_get, ◌==◌, length, option_map, option_and_then}
 use Rattle.std.specs.List.{list_any, list_all}
 use Rattle.std.specs.Str.{bytes_eq}
 use Rattle.std.proofs.lemmas.Option.{none-some, same_Some}
@@ -245,7 +245,7 @@ module _ (p : TProgram) (f : TFunction) (nv par : ℕ → Bool) (a : Placed) (ru
       meets : (v : ℕ) (h : TFunction) → function_place p.functions g ≡ Some v → slice_get p.functions v ≡ Some h → args_meet p ruled.here.scope h.params args ≡ true
       meets v h placed stands =
           let found : function_named p g ≡ Some h = ap (option_and_then (λ k. slice_get p.functions k)) placed ∙ stands in
-          subst (λ o. args_meet p ruled.here.scope (params_of o) args ≡ true) found (and_parts (length (params_of (function_named p g)) == length (call_args (call g args))) (args_meet p ruled.here.scope (params_of (function_named p g)) args) fine.meets).1
+          subst (λ o. args_meet p ruled.here.scope (params_of o) args ≡ true) found (and_parts _ (args_meet p ruled.here.scope (params_of (function_named p g)) args) fine.meets).1
 
   abbrev pub RightTold : TRight → Type 0
   RightTold (right_value e) = Unit {0}

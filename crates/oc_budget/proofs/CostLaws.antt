@@ -13,7 +13,7 @@ use Rattle.oc_tree.specs.Calls.{function_place}
 use Rattle.oc_tree.specs.Checked.{Group, IsChecked}
 use Rattle.oc_tree.specs.Expansion.{inner_size, else_size, block_size, stmts_size, program_size}
 use Rattle.oc_tree.specs.Marked.{TRegion}
-use Rattle.oc_tree.specs.Weight.{known_of, args_cost, expr_cost, call_cost, right_cost, has_result, turns, kind_cost, weights_to, weights}
+use Rattle.oc_tree.specs.Weight.{known_of, expr_cost, call_cost, right_cost, turns, kind_cost, weights_to, weights}
 use Rattle.oc_tree.specs.Weight as weight
 use Rattle.oc_tree.specs.Costs.{one, marks_at, probes, inner_cost, costs_to}
 use Rattle.oc_tree.specs.Costs as cost

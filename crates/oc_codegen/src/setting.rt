@@ -1,17 +1,18 @@
 //! What is around the statements of a function.
 ghost use Rattle.std.specs.Prelude.{◌≡◌, ◌≤◌, ◌<◌, map, length, IfOk};
 ghost use Rattle.oc_tree.specs.Names.{names_view};
-ghost use Rattle.oc_tree.specs.View.{function_view};
+ghost use Rattle.oc_tree.specs.View.{call_view, function_view};
 ghost use Rattle.oc_tree.specs.Regions.{region_view};
+ghost use Rattle.oc_tree.specs.Weight.{has_result};
 ghost use Rattle.oc_meaning.specs.Exec.{begun_by, ended_by, number_in};
-ghost use Rattle.oc_code.specs.Code.{function_number, has_result};
+ghost use Rattle.oc_code.specs.Code.{function_number};
 
 use oc_meaning::names::place_in;
 use oc_meaning::regions::{begun_by, ended_by};
-use oc_reach::table::{Table, function_table};
+use oc_reach::table::{Table, function_table, result_at};
 use oc_tree::marked::Region;
 use oc_tree::name::Name;
-use oc_tree::tree::{Function, Program};
+use oc_tree::tree::{Call, Function, Program};
 use std::alloc::{AllocError, Global};
 use std::marker::Model;
 
@@ -115,14 +116,14 @@ impl<'a> Setting<'a> {
         }
     }
 
-    /// Whether a call of a function leaves a word.
-    pub fn has_result(&self, name: &Name) -> bool
-        ensures { result ≡ has_result self.now.functions name.now }
+    /// Whether a call leaves a word.
+    pub fn has_result(&self, call: &Call) -> bool
+        ensures { result ≡ has_result self.now.functions (call_view call.now) }
     {
-        match self.table.place(name) {
-            Some(place) => self.program.functions[place].result.is_some(),
-            None => false,
-        }
+        result_at(
+            self.program.functions.as_slice(),
+            self.table.place(&call.function),
+        )
     }
 
     /// The region that begins with a statement.

@@ -3,13 +3,14 @@ ghost use Rattle.std.specs.Prelude.{◌≡◌, ◌<◌, if◌then◌else◌, ◌
 ghost use Rattle.oc_tree.specs.View.{call_view, expr_view, kind_view, right_view, stmts_view};
 ghost use Rattle.oc_tree.specs.Stack.{kind_slots};
 ghost use Rattle.oc_tree.specs.Tree.{return};
+ghost use Rattle.oc_tree.specs.Weight.{has_result};
 ghost use Rattle.oc_isa.specs.declared.instr.Instr.TheVariants.{Store, Drop, Emit, Sense};
 ghost use Rattle.oc_isa.specs.declared.instr.ProbeKind.TheVariants.{Use};
 ghost use Rattle.oc_meaning.specs.Exec.{ended_by, number_in};
 ghost use Rattle.oc_meaning.specs.Uses.{begins_use, ends_use, is_use};
 ghost use Rattle.oc_code.specs.Scope.{in_scope, is_fresh_in, slot_of};
 ghost use Rattle.oc_code.specs.Forms.{placed, one, enter_code, commit_code, probe_code, write_code, expr_code};
-ghost use Rattle.oc_code.specs.Code.{called_name, has_result, call_code, right_code, element_code, return_code, after_code, last_code, first_code};
+ghost use Rattle.oc_code.specs.Code.{call_code, right_code, element_code, return_code, after_code, last_code, first_code};
 ghost use Rattle.oc_codegen.specs.Room.{HasRoom};
 
 use crate::buffer::Buffer;
@@ -156,17 +157,17 @@ pub fn call_only(
 ) -> Result<(), AllocError>
     requires { HasRoom code.old (call_code setting.now.names setting.now.functions
         setting.now.regions setting.now.params n scope.now (length code.old) (call_view inner.now)
-        ++ (if has_result setting.now.functions (called_name (call_view inner.now)) then one n Drop
+        ++ (if has_result setting.now.functions (call_view inner.now) then one n Drop
         else [])) }
     ensures { OnOk result
         (code.new ≡ code.old
         ++ (call_code setting.now.names setting.now.functions setting.now.regions setting.now.params
         n scope.now (length code.old) (call_view inner.now)
-        ++ (if has_result setting.now.functions (called_name (call_view inner.now)) then one n Drop
+        ++ (if has_result setting.now.functions (call_view inner.now) then one n Drop
         else []))) }
 {
     call(code, setting, scope, n, inner)?;
-    if setting.has_result(&inner.function) {
+    if setting.has_result(inner) {
         code.put(n, Instr::Drop)
     } else {
         Ok(())

@@ -1,20 +1,17 @@
 -- Functions that lead to none that passes a test, and what their statements and calls keep of that.
-use Rattle.std.proofs.Common.{◌≡◌, ◌<◌, ℕ, zero, suc, ◌+◌, Bool, true, false, true≢false, List, [], ◌∷◌, ◌++◌, map, length, Some, None, refl, ap, sym, ◌∙◌, subst, arith}
-use Rattle.std.specs.Prelude.{◌&&◌, ◌||◌, not, nat_eq, slice_get, option_to_list}
+use Rattle.std.proofs.Common.{◌≡◌, ◌<◌, ℕ, zero, suc, ◌+◌, Bool, true, false, true≢false, List, [], ◌∷◌, ◌++◌, map, Some, refl, ap, sym, ◌∙◌, subst, arith}
+use Rattle.std.specs.Prelude.{◌&&◌, ◌||◌, nat_eq, slice_get, option_to_list}
 use Rattle.std.specs.List.{list_any, flat_map}
-use Rattle.std.proofs.Math.ListN.{get_or}
 use Rattle.std.proofs.lemmas.Bool.{eqb-true, eq-eqb, and_from, and_parts}
 use Rattle.std.proofs.lemmas.List.{map-append}
-use Rattle.std.proofs.lemmas.Option.{none-some, same_Some, slice_get_within}
+use Rattle.std.proofs.lemmas.Option.{none-some, same_Some}
 use Rattle.oc_tree.specs.Names.{Text}
 use Rattle.oc_tree.specs.Tree.{TCall, TKind, TFunction}
 use Rattle.oc_tree.specs.Reach.{Links, linked, is_link, leads, reaches, reaches_some}
-use Rattle.oc_tree.specs.Mentions.{own_names}
-use Rattle.oc_tree.specs.Calls.{place, function_names, function_place, callee, own_calls, block_kinds, body_calls, called_places, links_from, call_links, has_param, test_at}
-use Rattle.oc_tree.specs.Calls.{function_mentions, reaches_mention}
+use Rattle.oc_tree.specs.Calls.{place, callee, own_calls, body_calls, called_places, links_from}
 use Rattle.oc_tree.proofs.ReachLaws.{or_left, or_right, or_elim, links_lead, leads_trans}
 use Rattle.oc_reach.specs.Within.{IsWithin}
-use Rattle.oc_reach.proofs.LinkLaws.{any_append, calls_within}
+use Rattle.oc_reach.proofs.LinkLaws.{any_append}
 use Rattle.oc_reach.proofs.Walk.{some_at, some_is}
 use Rattle.oc_desugar.proofs.FineCalls.{Each as EachCall, each_front as calls_front, each_back as calls_back}
 use Rattle.oc_formed.proofs.BodiesPass.{first_fails, second_fails}

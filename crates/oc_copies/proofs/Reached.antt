@@ -1,20 +1,15 @@
 -- What a function doesn't name, neither its statements nor those that they call do.
-use Rattle.std.proofs.Common.{◌≡◌, ◌<◌, ℕ, zero, suc, ◌+◌, Bool, true, false, true≢false, List, [], ◌∷◌, ◌++◌, map, length, Some, None, refl, ap, sym, ◌∙◌, subst, arith}
-use Rattle.std.specs.Prelude.{◌&&◌, ◌||◌, not, nat_eq, slice_get, option_to_list}
-use Rattle.std.specs.List.{list_any, flat_map}
-use Rattle.std.proofs.Math.ListN.{get_or}
-use Rattle.std.proofs.lemmas.Bool.{eqb-true, eq-eqb}
-use Rattle.std.proofs.lemmas.List.{map-append}
-use Rattle.std.proofs.lemmas.Option.{none-some, same_Some, slice_get_within}
+use Rattle.std.proofs.Common.{◌≡◌, ◌<◌, ℕ, ◌+◌, Bool, true, false, true≢false, List, map, length, Some, None, sym, ◌∙◌, subst, arith}
+use Rattle.std.specs.Prelude.{◌&&◌, not, slice_get}
+use Rattle.std.specs.List.{list_any}
+use Rattle.std.proofs.lemmas.Option.{slice_get_within}
 use Rattle.oc_tree.specs.Names.{Text}
-use Rattle.oc_tree.specs.Tree.{TCall, TKind, TFunction}
-use Rattle.oc_tree.specs.Reach.{Links, linked, is_link, leads, reaches, reaches_some}
+use Rattle.oc_tree.specs.Tree.{TFunction}
+use Rattle.oc_tree.specs.Reach.{linked}
 use Rattle.oc_tree.specs.Mentions.{own_names}
-use Rattle.oc_tree.specs.Calls.{place, function_names, function_place, callee, own_calls, block_kinds, body_calls, called_places, links_from, call_links, has_param, test_at}
+use Rattle.oc_tree.specs.Calls.{function_names, function_place, callee, own_calls, block_kinds, body_calls, called_places, call_links, has_param, test_at}
 use Rattle.oc_tree.specs.Calls.{function_mentions, reaches_mention}
-use Rattle.oc_tree.proofs.ReachLaws.{or_left, or_right, or_elim, links_lead, leads_trans}
-use Rattle.oc_reach.specs.Within.{IsWithin}
-use Rattle.oc_reach.proofs.LinkLaws.{any_append, calls_within}
+use Rattle.oc_reach.proofs.LinkLaws.{calls_within}
 use Rattle.oc_reach.proofs.Lists.{at_place}
 use Rattle.oc_desugar.proofs.FineCalls.{Each as EachCall}
 use Rattle.oc_copies.proofs.LeadToNone.{EachKind, none_pass, each_calls, self_fails, next_fails, call_row, each_called}

@@ -1,7 +1,6 @@
 //! What a statement sets and what it says of variables.
 ghost use Rattle.std.specs.Prelude.{◌≡◌};
 ghost use Rattle.oc_tree.specs.View.{kind_view};
-ghost use Rattle.oc_tree.specs.Places.{declares};
 ghost use Rattle.oc_effects.specs.Effects.{is_loop, is_sense, note_of, right_of, target_of};
 ghost use Rattle.oc_effects.specs.Walk.{placed_view, right_seen};
 
@@ -14,15 +13,6 @@ pub fn is_loop(kind: &StmtKind) -> bool
 {
     match kind {
         StmtKind::For { .. } | StmtKind::While { .. } => true,
-        _ => false,
-    }
-}
-
-pub fn declares(kind: &StmtKind) -> bool
-    ensures { result ≡ declares (kind_view kind.now) }
-{
-    match kind {
-        StmtKind::Let { .. } | StmtKind::LetArray { .. } | StmtKind::For { .. } => true,
         _ => false,
     }
 }

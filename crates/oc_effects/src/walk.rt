@@ -10,7 +10,7 @@ use crate::effect::Effect;
 use crate::here::{Here, variables};
 use crate::known::Known;
 use crate::names::source_names;
-use crate::parts::{declares, is_loop, note, senses, target};
+use crate::parts::{is_loop, note, senses, target};
 use crate::scope::Scope;
 use oc_meaning::names::own_names;
 use oc_tree::tree::{Block, BlockId, Stmt, StmtId, StmtKind, VarId};
@@ -35,7 +35,7 @@ fn effect(alloc: Global, here: &Here) -> Result<Effect, AllocError>
         block: here.block,
         around,
         is_loop: is_loop(here.kind),
-        declares: declares(here.kind),
+        declares: here.kind.declares(),
         named,
         sources,
         target: target(here),

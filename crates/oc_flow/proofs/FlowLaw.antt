@@ -120,7 +120,9 @@ module _ (p : TProgram) where
     begins_at f u v h = (and_parts (is_variable p f u) (is_variable p f v && (same_variable u v || chain (leads p (flows p) f) (variables p f) u v)) (sym (flow_fix p r f u v) ∙ h)).0
 
     pub ends_at : (f : ℕ) (u v : VarId) → flows p f u v ≡ true → is_variable p f v ≡ true
-    ends_at f u v h = (and_parts (is_variable p f v) (same_variable u v || chain (leads p (flows p) f) (variables p f) u v) (and_parts (is_variable p f u) (is_variable p f v && (same_variable u v || chain (leads p (flows p) f) (variables p f) u v)) (sym (flow_fix p r f u v) ∙ h)).1).0
+    ends_at f u v h =
+        let goes = same_variable u v || chain (leads p (flows p) f) (variables p f) u v in
+        (and_parts (is_variable p f v) goes (and_parts (is_variable p f u) (is_variable p f v && goes) (sym (flow_fix p r f u v) ∙ h)).1).0
 
     -- a variable of a function stands in its list
     pub listed : (f : ℕ) (v : VarId) → is_variable p f v ≡ true → IsOf v (variables p f)
@@ -134,7 +136,8 @@ module _ (p : TProgram) where
         let ht = begins_at f t v h in
         let hv = ends_at f t v h in
         let more : chain step vs u v ≡ true = or_elim (same_variable t v) (chain step vs t v)
-        (and_parts (is_variable p f v) (same_variable t v || chain step vs t v) (and_parts (is_variable p f t) (is_variable p f v && (same_variable t v || chain step vs t v)) (sym (flow_fix p r f t v) ∙ h)).1).1
+        (and_parts (is_variable p f v) (same_variable t v || chain step vs t v)
+        (and_parts (is_variable p f t) (is_variable p f v && (same_variable t v || chain step vs t v)) (sym (flow_fix p r f t v) ∙ h)).1).1
         (λ e. chain_step step vs u v (subst (λ x. step u x ≡ true) (same_is t v e) l))
         (λ k. chain_on step vs u t v (listed f t ht) (chain_step step vs u t l) k) in
         flow_fix p r f u v ∙ and_from (is_variable p f u) (is_variable p f v && (same_variable u v || chain step vs u v)) hu

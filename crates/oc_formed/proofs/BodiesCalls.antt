@@ -8,10 +8,11 @@ use Rattle.oc_tree.specs.Tree.{TCall, call, TRight, right_value, right_sense, ri
 use Rattle.oc_tree.specs.Marked.{TRegion}
 use Rattle.oc_tree.specs.Calls.{function_place, callee, args_calls, call_calls, right_calls, own_calls, body_calls}
 use Rattle.oc_tree.specs.Types.{result_of}
+use Rattle.oc_tree.specs.Weight.{has_result}
 use Rattle.oc_tree.specs.Elements.{Here}
 use Rattle.oc_tree.specs.Rules.{call_known, args_known, right_known, is_main, args_meet, args_list, params_of, has_bad_length}
 use Rattle.oc_code.specs.Scope.{Named}
-use Rattle.oc_code.specs.Code.{gives, has_result, called_name}
+use Rattle.oc_code.proofs.Needs.{gives, result_named}
 use Rattle.oc_code.specs.Formed.{call_formed, right_formed}
 use Rattle.oc_desugar.proofs.FineCalls.{CallFine, Gives, Each, each_front, each_back}
 use Rattle.oc_formed.proofs.BodiesPlaces.{Called, name_called, called_named, among_known}
@@ -58,10 +59,10 @@ module _ (p : TProgram) (long : LongParams p) (regions : List TRegion) (rank : T
       }
 
   -- a call whose result is used has one
-  call_gives : (c : TCall) → call_known p h.scope c ≡ true → Gives p c → has_result p.functions (called_name c) ≡ true
+  call_gives : (c : TCall) → call_known p h.scope c ≡ true → Gives p c → has_result p.functions c ≡ true
   call_gives (call f args) known has =
       let to : Called p f = name_called p f (and_parts (is_some (function_place p.functions f)) (args_known p h.scope args) known).0 in
-      ap gives to.meant ∙ sym (ap (λ o. is_some (result_of o)) (called_named p f to)) ∙ has
+      result_named p.functions f ∙ ap gives to.meant ∙ sym (ap (λ o. is_some (result_of o)) (called_named p f to)) ∙ has
 
   -- a right side whose calls break no rule is formed
   pub right_is_formed : (r : TRight) → right_known p h.scope r ≡ true → Each (CallFine p h) (right_calls r) → Each (Gives p) (right_calls r)

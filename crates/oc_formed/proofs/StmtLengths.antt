@@ -19,7 +19,8 @@ use Rattle.oc_meaning.specs.Uses.{is_use, begins_use, ends_use}
 use Rattle.oc_meaning.specs.Exec.{begun_by, ended_by, number_in}
 use Rattle.oc_code.specs.Scope.{Slot, InFrame, ByAddress, InNv, NoSlot, Named, slot_of, words_of, is_fresh_in, in_scope, for_named}
 use Rattle.oc_code.specs.Forms.{placed, one, enter_code, commit_code, probe_code, write_code, base_code, expr_code, args_code, again_code, count_code, turn_code, while_code}
-use Rattle.oc_code.specs.Code.{function_number, has_result, called_name, last_code, before_code, after_code, call_code, right_code, element_code, test_code, return_code}
+use Rattle.oc_tree.specs.Weight.{has_result}
+use Rattle.oc_code.specs.Code.{function_number, last_code, before_code, after_code, call_code, right_code, element_code, test_code, return_code}
 use Rattle.oc_code.specs.Code.{first_code, whole_code, kind_code, if_code, block_code, stmts_code}
 use Rattle.oc_desugar.proofs.FineCalls.{Each, each_back}
 use Rattle.oc_formed.proofs.CallLinks.{KindsCall, kinds_front, kinds_back, none_hides}
@@ -195,7 +196,7 @@ module _ (names : NameLists) (fs : List TFunction) (regions : List TRegion) (k :
         )
     kind_short γ n s p (call_only c) few =
         let cc = call_code names fs regions k n γ p c in
-        omega (arith, length-append cc (if has_result fs (called_name c) then one n Drop else []), drop_short n (has_result fs (called_name c)), call_short n γ p c (last_call FewArgs c few.0))
+        omega (arith, length-append cc (if has_result fs c then one n Drop else []), drop_short n (has_result fs c), call_short n γ p c (last_call FewArgs c few.0))
     kind_short γ n s p (sense_only x) few = omega arith
     kind_short γ n s p (emit q e) few = omega (arith, length-append (expr_code n γ p e) (one n (Emit (number_in names.ports q))), expr_short n γ p e)
     kind_short γ n s p (fresh x) few = omega arith

@@ -1,5 +1,5 @@
 -- A tree that tokens spell has names of the language for names, and for numbers what tokens can say.
-use Rattle.std.proofs.Common.{◌≡◌, ℕ, zero, suc, ℤ, pos, neg_ℤ, ◌<◌, ◌≤◌, ◌^◌, List, [], ◌∷◌, ◌++◌, refl, sym, subst, ap, ◌∙◌, arith, inl, inr, Option, Bool, unsigned_abs, All}
+use Rattle.std.proofs.Common.{◌≡◌, ℕ, zero, suc, ℤ, pos, neg_ℤ, ◌≤◌, List, [], refl, sym, subst, ap, ◌∙◌, arith, inl, inr, Option, Bool, unsigned_abs, All}
 use Rattle.std.specs.Int.{w32}
 use Rattle.std.proofs.lemmas.Int.{wrapping_neg_is, int_wrap_fits, fits_signed_from_abs}
 use Rattle.std.proofs.lemmas.List.Elements.{All-nil, All-cons, All-push}

@@ -1,5 +1,5 @@
 -- Reports that aren't timely: the definition says no to an outage between an input and its use, and among the inputs of a set.
-use Rattle.std.proofs.Common.{◌≡◌, inl, inr, ℕ, [], ◌∷◌, refl, arith}
+use Rattle.std.proofs.Common.{◌≡◌, inl, inr, [], ◌∷◌, refl, arith}
 use Rattle.std.specs.Prelude.{pos}
 use Rattle.oc_tree.specs.declared.said.Said.TheVariants.{Showed}
 use Rattle.oc_tree.specs.declared.said.Shown.TheVariants.{Tagged}

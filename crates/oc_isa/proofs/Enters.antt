@@ -1,5 +1,5 @@
 -- Only the instruction `enter` enters.
-use Rattle.std.proofs.Common.{◌≡◌, ℕ, ◌+◌, ◌-◌, ℤ, List, [], ◌∷◌, length, Option, Some, None, refl, Bool, true, false}
+use Rattle.std.proofs.Common.{◌≡◌, ℕ, ◌-◌, ℤ, List, ◌∷◌, length, Option, Some, None, refl, Bool, true, false}
 use Rattle.std.specs.Prelude.{nat_lt, if◌then◌else◌}
 use Rattle.oc_tree.specs.Word.{is_word}
 use Rattle.oc_tree.specs.declared.said.Ending.{Ending}

@@ -1,5 +1,5 @@
 -- What a line tells.
-use Rattle.std.specs.Prelude.{ℕ, ℤ, ◌^◌, ◌<◌, ◌≤◌, ◌≡◌, ◌≢◌, ◌++◌, ⊤, ◌==◌, not, Bool, List, length, codes, decimal, FitsSigned}
+use Rattle.std.specs.Prelude.{ℕ, ℤ, ◌^◌, ◌<◌, ◌≤◌, ◌≡◌, ◌++◌, ◌==◌, not, Bool, List, length, codes, decimal, FitsSigned}
 use Rattle.std.specs.Int.{w32}
 use Rattle.std.specs.Fmt.{signed_decimal}
 use Rattle.std.specs.List.{list_all}

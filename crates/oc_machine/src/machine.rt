@@ -67,18 +67,12 @@ struct Start {
     frame: u32,
 }
 
-fn is_main(function: &ImageFunction) -> bool
-    ensures { result ≡ images.is_main function.now }
-{
-    function.name.bytes() == b"main".as_slice()
-}
-
 fn find_main(functions: &[ImageFunction]) -> Start
     ensures entry { result.entry ≡ entry_of (main_of functions.now) }
     ensures frame { result.frame ≡ frame_of (main_of functions.now) }
 {
     for function in functions {
-        if is_main(function) {
+        if function.name.is_main() {
             return Start {
                 entry: function.entry,
                 frame: function.frame,

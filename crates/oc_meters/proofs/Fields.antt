@@ -1,10 +1,10 @@
 -- The line of a meter, put number by number, and those of all meters.
-use Rattle.std.proofs.Common.{ℕ, ◌≡◌, ◌<◌, ◌≤◌, List, [], ◌∷◌, ◌++◌, map, codes, decimal, refl, ap, sym, length, get_or, drop, subst}
+use Rattle.std.proofs.Common.{ℕ, ◌≡◌, List, [], ◌∷◌, ◌++◌, map, codes, decimal, refl, ap}
 use Rattle.std.proofs.lemmas.List.{append-nil}
 use Rattle.oc_io.specs.Lines.{further}
 use Rattle.oc_io.proofs.Going.{Going}
 use Rattle.oc_meters.specs.Lines.{kind_name, meter_line, meter_lines, number_field}
-use Rattle.oc_meters.specs.Tally.{Reading, reading, readings}
+use Rattle.oc_meters.specs.Tally.{reading, readings}
 
 -- the line's first pieces, and the fields of these numbers
 abbrev pub head_of : ℕ → List ℕ

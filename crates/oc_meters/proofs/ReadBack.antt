@@ -1,5 +1,5 @@
 -- Of a whole report meters are told the items.
-use Rattle.std.proofs.Common.{ℕ, zero, suc, ℤ, ◌+◌, ◌<◌, ◌^◌, ◌≡◌, cond, Bool, true, false, List, [], ◌∷◌, ◌++◌, map, take, drop, get_or, codes, decimal, refl, sym, ap}
+use Rattle.std.proofs.Common.{ℕ, suc, ℤ, ◌+◌, ◌<◌, ◌^◌, ◌≡◌, cond, Bool, true, false, List, [], ◌∷◌, ◌++◌, map, take, drop, get_or, codes, decimal, refl, sym, ap}
 use Rattle.std.proofs.Common.{subst, ◌∙◌, append_assoc, arith}
 use Rattle.std.specs.Fmt.{signed_decimal}
 use Rattle.std.specs.List.{All}
@@ -10,7 +10,7 @@ use Rattle.oc_tree.specs.Names.{NameLists, Text}
 use Rattle.oc_items.specs.declared.item.Item.{Item}
 use Rattle.oc_items.specs.Text.{tick_of, fields_of, item_line, report_text, words_line, words_lines, nv_lines, is_over}
 use Rattle.oc_items.specs.OneText.{AreApart, IsItem, is_field}
-use Rattle.oc_items.specs.Reading.{HasLine, place_of}
+use Rattle.oc_items.specs.Reading.{place_of}
 use Rattle.oc_items.proofs.Back.{one_text, first_of_all, rest_of_all, line_fits}
 use Rattle.oc_items.proofs.Fields.{begins_with_digit}
 use Rattle.oc_meters.specs.Tally.{Reading, tell_readings}

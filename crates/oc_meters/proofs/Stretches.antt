@@ -3,7 +3,7 @@ use Rattle.std.proofs.Common.{ℕ, zero, suc, ◌+◌, ◌≡◌, ◌==◌, ◌|
 use Rattle.std.proofs.lemmas.List.{append-nil}
 use Rattle.oc_io.specs.Lines.{further, line_of}
 use Rattle.oc_tree.specs.Names.{NameLists}
-use Rattle.oc_items.specs.OneText.{ends_field, is_field}
+use Rattle.oc_items.specs.OneText.{is_field}
 use Rattle.oc_items.proofs.Fields.{AllFields}
 use Rattle.oc_meters.specs.Tally.{Reading}
 use Rattle.oc_meters.specs.Reads.{Page, longest_line, IsTold, TakesByte, ends, goes_on, TakesBytes}

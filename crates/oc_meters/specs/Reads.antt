@@ -1,5 +1,5 @@
 -- What meters are told of the bytes of a report.
-use Rattle.std.specs.Prelude.{ℕ, suc, ◌+◌, ◌==◌, ◌≡◌, true, false, List, [], ◌∷◌, ◌++◌, length, take, max}
+use Rattle.std.specs.Prelude.{ℕ, ◌+◌, ◌==◌, ◌≡◌, true, false, List, [], ◌∷◌, ◌++◌, length, take, max}
 use Rattle.oc_tree.specs.Names.{NameLists, Text}
 use Rattle.oc_items.specs.declared.item.Item.{Item}
 use Rattle.oc_items.specs.Reading.{Tells, TellsNone}

@@ -1,8 +1,7 @@
 -- What a sink with a book says of a piece.
-use Rattle.std.proofs.Common.{◌≡◌, ◌≤◌, ℕ, List, [], ◌∷◌, ◌++◌, true, false, Bool, refl, sym, ◌∙◌, ap, subst, true≢false}
+use Rattle.std.proofs.Common.{◌≡◌, ℕ, List, [], ◌∷◌, ◌++◌, true, false, Bool, refl, sym, ◌∙◌, subst, true≢false}
 use Rattle.oc_tree.specs.Names.{NameLists, names_view}
 use Rattle.oc_tree.specs.declared.name.Names.{Names}
-use Rattle.oc_io.specs.Faults.{Rose}
 use Rattle.oc_meters.specs.Passing.{Marks, marks_nothing, marks_both}
 use Rattle.oc_meters.specs.Reads.{Page, TakesBytes}
 

@@ -1,5 +1,5 @@
 -- What meters make of the items of a report.
-use Rattle.std.specs.Prelude.{ℕ, zero, suc, ◌+◌, ◌-◌, ◌^◌, List, [], ◌∷◌, map, min, max, ◌==◌, if◌then◌else◌}
+use Rattle.std.specs.Prelude.{ℕ, zero, suc, ◌+◌, ◌-◌, ◌^◌, List, [], ◌∷◌, map, min, max}
 use Rattle.oc_items.specs.declared.item.Item.{Item}
 use Rattle.oc_items.specs.declared.item.Item.TheVariants as item
 

@@ -1,5 +1,5 @@
 -- The statements that `atomic` begins are statements of the expansion.
-use Rattle.std.proofs.Common.{◌≡◌, ℕ, Bool, true, false, true≢false, ◌==◌, inl, inr, List, [], ◌∷◌, Some, refl, sym, ap, ◌∙◌, cond}
+use Rattle.std.proofs.Common.{◌≡◌, ℕ, Bool, true, false, true≢false, ◌==◌, inl, inr, List, [], ◌∷◌, Some, refl, sym, ◌∙◌, cond}
 use Rattle.std.specs.Prelude.{map, filter, flat_map, find, is_some}
 use Rattle.std.specs.List.{zip}
 use Rattle.std.proofs.lemmas.Bool.{eq-eqb}

@@ -1,5 +1,5 @@
 -- Lists of numbers in which each stands once, and places of lists.
-use Rattle.std.proofs.Common.{◌≡◌, ◌≢◌, ◌<◌, ◌≤◌, ◌+◌, ◌++◌, ℕ, zero, suc, Bool, true, false, List, [], ◌∷◌, Some, map, nat_eq, length, refl, sym, ap, ◌∙◌, true≢false, arith, subst, drop}
+use Rattle.std.proofs.Common.{◌≡◌, ◌<◌, ◌≤◌, ◌++◌, ℕ, zero, suc, Bool, true, false, List, [], ◌∷◌, Some, map, nat_eq, length, refl, sym, ap, ◌∙◌, true≢false, arith, subst, drop}
 use Rattle.std.proofs.Math.Seq.{drop-cons}
 use Rattle.std.specs.Prelude.{◌||◌, if◌then◌else◌, slice_get}
 use Rattle.std.proofs.Math.ListN.{get_or, set, get_or-append}

@@ -1,7 +1,7 @@
 -- A call leaves what it must, where the run of its function does.
 use Rattle.std.proofs.Common.{◌≡◌, ◌⊎◌, inl, inr, ℕ, zero, suc, ◌+◌, ◌<◌, ◌≤◌, Bool, true, false, List, [], ◌∷◌, length, Option, Some, None, refl, sym, ap, ◌∙◌, subst, arith}
 use Rattle.std.proofs.lemmas.Bool.{and_parts}
-use Rattle.std.specs.Prelude.{ℤ, pos, ◌==◌, ◌&&◌, nat_lt, if◌then◌else◌, slice_get, slice_index_or, unwrap_or, option_and_then, option_map}
+use Rattle.std.specs.Prelude.{ℤ, pos, ◌==◌, nat_lt, if◌then◌else◌, slice_get, slice_index_or, unwrap_or, option_and_then, option_map}
 use Rattle.std.proofs.lemmas.Option.{none-some}
 use Rattle.oc_tree.specs.Names.{Text}
 use Rattle.oc_tree.specs.Tree.{call, TArgs, TFunction, TProgram}

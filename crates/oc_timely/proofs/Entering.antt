@@ -1,5 +1,5 @@
 -- What a called function begins with: each sample of its variables is one of a variable of the caller that stands for it.
-use Rattle.std.proofs.Common.{◌≡◌, ◌⊎◌, inl, inr, ℕ, ◌+◌, ◌<◌, ◌≤◌, Bool, true, false, List, [], ◌∷◌, length, refl, sym, ap, ◌∙◌, subst, arith}
+use Rattle.std.proofs.Common.{◌≡◌, ◌⊎◌, inl, inr, ℕ, ◌+◌, ◌<◌, ◌≤◌, Bool, true, false, List, length, refl, sym, ap, ◌∙◌, subst, arith}
 use Rattle.std.specs.Prelude.{unwrap_or, ◌-◌, nat_lt, if◌then◌else◌}
 use Rattle.oc_tree.specs.Tree.{TArgs, TFunction, TProgram}
 use Rattle.oc_tree.specs.Places.{Placed}

@@ -1,17 +1,15 @@
 -- Statements are numbered in source order, and each block of which a part has a statement has all of them there.
-use Rattle.std.proofs.Common.{◌≡◌, ◌<◌, ◌≤◌, ◌⊎◌, inl, inr, ℕ, zero, suc, ◌+◌, Bool, true, false, List, [], ◌∷◌, ◌++◌, length, Some, cond, refl, sym, ◌∙◌, subst, arith}
+use Rattle.std.proofs.Common.{◌≡◌, ◌<◌, ◌≤◌, inl, inr, ℕ, zero, suc, ◌+◌, List, [], ◌∷◌, ◌++◌, length, Some, sym, subst, arith}
 use Rattle.std.proofs.Common.{length-append, append-nil, flat_map}
-use Rattle.std.specs.Prelude.{◌==◌, slice_get}
-use Rattle.std.proofs.lemmas.Bool.{eqb-true}
+use Rattle.std.specs.Prelude.{slice_get}
 use Rattle.std.proofs.lemmas.Option.{none-some, same_Some}
 use Rattle.oc_tree.specs.Tree.{TKind, let_to, let_array, assign, assign_index, assign_deref, if_else, for_in, while_do, call_only, sense_only, emit, fresh, consistent, return}
 use Rattle.oc_tree.specs.Tree.{TElse, no_else, else_do, stmt, TBlock, block, TStmts, no_stmts, more, TFunction, TProgram}
 use Rattle.oc_tree.specs.Form.{Numbered}
 use Rattle.oc_tree.specs.Numbers.{kind_statements, else_statements, block_statements, stmts_statements, kind_blocks, else_blocks, block_blocks, stmts_blocks}
-use Rattle.oc_tree.specs.Places.{block_of}
 use Rattle.oc_desugar.proofs.NumberLists.{Follow, first_of, parts}
-use Rattle.oc_desugar.proofs.BlockPairs.{Pair, kind_pairs, else_pairs, block_pairs, stmts_pairs, program_pairs, block_beside, block_is_beside}
-use Rattle.oc_formed.proofs.BlockRanges.{EachPair, pairs_join, pairs_map, From, Ranged, RangedIn, kind_ranged, else_ranged, block_ranged, stmts_ranged, functions_ranged}
+use Rattle.oc_desugar.proofs.BlockPairs.{Pair, kind_pairs, else_pairs, block_pairs, stmts_pairs, program_pairs}
+use Rattle.oc_formed.proofs.BlockRanges.{EachPair, pairs_map, From, Ranged, kind_ranged, else_ranged, block_ranged, stmts_ranged, functions_ranged}
 use Rattle.oc_formed.proofs.PairsAround.{Outside, Earlier, Later, Around, around_less, told}
 use Rattle.oc_formed.proofs.RowsAround.{Part, part_first, part_second, Known, inside_part, rest_part}
 use Rattle.oc_timely.specs.Laid.{IsClosed, LaidKind, LaidElse, LaidBlock, LaidStmts}

@@ -1,5 +1,5 @@
 -- No run parts a consistent set.
-use Rattle.std.proofs.Common.{◌≡◌, ◌⊎◌, inl, inr, ℕ, zero, suc, ◌+◌, ◌-◌, ◌<◌, ◌≤◌, Bool, true, false, List, [], ◌∷◌, ◌++◌, length, Option, Some, None, refl, sym, ap, ◌∙◌, subst}
+use Rattle.std.proofs.Common.{◌≡◌, ◌⊎◌, inl, inr, ℕ, zero, suc, ◌-◌, ◌<◌, ◌≤◌, Bool, true, false, List, [], ◌∷◌, ◌++◌, length, Option, Some, None, refl, sym, ap, ◌∙◌, subst}
 use Rattle.std.proofs.Common.{arith, append_assoc, true≢false}
 use Rattle.std.specs.Prelude.{ℤ, codes, slice_get, nat_lt, not, count_by, position, map, filter, is_some, cond, option_map, option_and_then, unwrap_or, if◌then◌else◌, ◌==◌}
 use Rattle.std.specs.List.{list_any, prefix_len}

@@ -1,6 +1,6 @@
 -- A set whose annotations one region covers is parted by no run of its function: the region is executed once in each execution of the set's block, or is open around it.
 use Rattle.std.proofs.Common.{◌≡◌, ◌⊎◌, inl, inr, ℕ, zero, suc, ◌<◌, ◌≤◌, ◌==◌, Bool, true, false, List, [], ◌∷◌, length, Option, Some, None, cond, refl, ap, sym, subst, ◌∙◌, arith, true≢false}
-use Rattle.std.specs.Prelude.{ℤ, ◌-ℤ◌, option_map, slice_get, if◌then◌else◌}
+use Rattle.std.specs.Prelude.{ℤ, ◌-ℤ◌, option_map, slice_get}
 use Rattle.std.proofs.lemmas.Bool.{eq-eqb}
 use Rattle.std.proofs.lemmas.Option.{none-some}
 use Rattle.oc_tree.specs.Names.{Text}

@@ -1,5 +1,5 @@
 -- The place of the first that passes a test.
-use Rattle.std.proofs.Common.{◌≡◌, ◌<◌, ℕ, zero, suc, ◌+◌, Bool, true, false, List, ◌∷◌, length, Some, None, cond, refl, ap, ◌∙◌, arith}
+use Rattle.std.proofs.Common.{◌≡◌, ◌<◌, ℕ, suc, ◌+◌, Bool, true, false, List, ◌∷◌, length, Some, None, cond, refl, ap, ◌∙◌, arith}
 use Rattle.std.specs.Prelude.{position, nat_lt, not}
 use Rattle.std.specs.List.{position_or_len}
 use Rattle.std.proofs.lemmas.Bool.{ltb-true, lt-ltb}

@@ -1,6 +1,6 @@
 -- What straight statements leave, where calls leave what they must: samples come to variables by the flow and by input alone.
-use Rattle.std.proofs.Common.{◌≡◌, ◌⊎◌, inl, inr, ℕ, suc, ◌+◌, ◌<◌, ◌≤◌, true, List, [], ◌∷◌, ◌++◌, length, Option, Some, None, refl, sym, ap, ◌∙◌, subst, arith}
-use Rattle.std.specs.Prelude.{ℤ, pos, if◌then◌else◌}
+use Rattle.std.proofs.Common.{◌≡◌, inl, inr, ℕ, suc, ◌+◌, ◌<◌, true, List, [], ◌∷◌, length, Option, Some, None, refl, sym, ap, ◌∙◌, subst, arith}
+use Rattle.std.specs.Prelude.{ℤ, pos}
 use Rattle.oc_tree.specs.Names.{Text}
 use Rattle.oc_tree.specs.Tree.{TExpr, TRight, right_value, right_sense, right_call, TCall, TKind, let_to, let_array, assign, assign_index, assign_deref, if_else, for_in, while_do}
 use Rattle.oc_tree.specs.Tree.{call_only, sense_only, emit, fresh, consistent, return, TProgram}

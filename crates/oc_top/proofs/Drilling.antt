@@ -1,5 +1,5 @@
 -- How files that needn't be fetched are answered, and what is counted of their runs.
-use Rattle.std.proofs.Common.{ℕ, ◌+◌, ◌<◌, ◌^◌, ◌≤◌, ◌≡◌, List, [], length, ap, sym, ◌∙◌, refl, subst, arith, Option, Some, None}
+use Rattle.std.proofs.Common.{ℕ, ◌+◌, ◌<◌, ◌^◌, ◌≡◌, List, [], length, ap, sym, ◌∙◌, refl, subst, arith, Option, Some, None}
 use Rattle.std.specs.Prelude.{option_map}
 use Rattle.oc_power.specs.Choice.{first_with}
 use Rattle.oc_io.specs.Counts.{capped, line_feeds}

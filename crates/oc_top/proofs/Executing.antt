@@ -1,5 +1,5 @@
 -- How images are run.
-use Rattle.std.proofs.Common.{ℕ, ◌+◌, ◌≡◌, ◌⊎◌, ◌∙◌, sym, ap, refl, subst, inl, inr, arith, List, length, true}
+use Rattle.std.proofs.Common.{ℕ, ◌≡◌, ◌∙◌, sym, ap, refl, subst, inl, inr, arith, List, true}
 use Rattle.std.specs.Prelude.{Result, Ok, Err}
 use Rattle.oc_io.specs.declared.period.Period.{Period}
 use Rattle.oc_power.specs.Power.{Power, power_file}
@@ -11,7 +11,7 @@ use Rattle.oc_isa.specs.Table.{device_of}
 use Rattle.oc_machine.specs.Kept.{Running}
 use Rattle.oc_outage.proofs.Enters.{device_fit}
 use Rattle.oc_outage.proofs.Runs.{every_prefix_later, over_is_whole}
-use Rattle.oc_verify.specs.Reading.{AreImage, read_at}
+use Rattle.oc_verify.specs.Reading.{AreImage}
 use Rattle.oc_verify.specs.Reads.{IsBad}
 use Rattle.oc_verify.specs.Blames.{Blames}
 use Rattle.oc_verify.specs.Rules.{Broken}

@@ -1,5 +1,5 @@
 -- A drill: a run of files that are made in memory.
-use Rattle.std.specs.Prelude.{ℕ, ◌≡◌, Option, Some, None, List, [], length}
+use Rattle.std.specs.Prelude.{ℕ, ◌≡◌, Option, Some, None, [], length}
 use Rattle.oc_io.specs.Counts.{capped, line_feeds}
 use Rattle.oc_top.specs.Answers.{IsDrill, IsWritten, Writes, status_of}
 use Rattle.oc_top.specs.Commands.{Plan}

@@ -1,5 +1,5 @@
 -- The program's own supplies and meters.
-use Rattle.std.specs.Prelude.{ℕ, zero, suc, List, [], ◌∷◌, Some, None}
+use Rattle.std.specs.Prelude.{zero, suc, List, [], ◌∷◌, Some, None}
 use Rattle.oc_power.specs.Looping.{looped}
 use Rattle.oc_power.specs.Cutting.{cut_rows}
 use Rattle.oc_meters.specs.Tally.{Reading}

@@ -1,5 +1,5 @@
 -- Regions of a checked program, and the policies that ask for them.
-use Rattle.std.specs.Prelude.{◌≡◌, ◌<◌, ◌≤◌, ℕ, Bool, false, ◌&&◌, List, [], ◌∷◌, length, map, All, AllPairs, Option, Some, None, position, nat_le, ◌==◌}
+use Rattle.std.specs.Prelude.{◌≡◌, ◌<◌, ◌≤◌, ℕ, Bool, false, ◌&&◌, List, [], ◌∷◌, length, map, All, AllPairs, Option, Some, None, position, nat_le}
 use Rattle.std.specs.List.{list_any}
 use Rattle.oc_tree.specs.Tree.{TProgram}
 use Rattle.oc_tree.specs.Numbers.{numbers_on, block_statements}

@@ -1,5 +1,5 @@
 -- The rules, each as a test that says whether it is broken.
-use Rattle.std.specs.Prelude.{ℕ, pos, ◌-ℤ◌, Bool, true, false, not, ◌&&◌, ◌||◌, ◌==◌, List, [], ◌∷◌, length, Option, Some, None, cond, is_some, nat_lt, int_lt}
+use Rattle.std.specs.Prelude.{ℕ, pos, ◌-ℤ◌, Bool, true, false, not, ◌&&◌, ◌||◌, ◌==◌, List, [], ◌∷◌, length, Option, Some, None, codes, cond, is_some, nat_lt, int_lt}
 use Rattle.std.specs.Str.{bytes_eq}
 use Rattle.std.specs.List.{list_all, list_any}
 use Rattle.oc_tree.specs.Names.{Text}
@@ -98,7 +98,7 @@ own_known p scope (return e) = expr_known p scope e
 
 -- the name `main`
 abbrev pub main : Text
-main = 109 ∷ 97 ∷ 105 ∷ 110 ∷ []
+main = codes "main"
 
 abbrev pub is_main : Text → Bool
 is_main x = bytes_eq x main

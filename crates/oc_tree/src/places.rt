@@ -1,7 +1,6 @@
 //! Where statements stand.
 ghost use Rattle.std.specs.Prelude.{◌≡◌};
 ghost use Rattle.oc_tree.specs.View.{block_view, kind_view, program_view};
-ghost use Rattle.oc_tree.specs.Places.{declares};
 ghost use Rattle.oc_tree.specs.Sought.{block_found, kind_found, in_statement, in_loop, program_found};
 
 use crate::tree::{Block, BlockId, Program, StmtId, StmtKind};
@@ -28,25 +27,6 @@ pub struct Found {
     pub line: u32,
     pub declares: bool,
     pub spot: Spot,
-}
-
-fn declares(kind: &StmtKind) -> bool
-    ensures { result ≡ declares (kind_view kind.now) }
-{
-    match kind {
-        StmtKind::Let { .. } | StmtKind::LetArray { .. } | StmtKind::For { .. } => true,
-        StmtKind::Assign { .. }
-        | StmtKind::AssignIndex { .. }
-        | StmtKind::AssignDeref { .. }
-        | StmtKind::If { .. }
-        | StmtKind::While { .. }
-        | StmtKind::CallOnly { .. }
-        | StmtKind::SenseOnly { .. }
-        | StmtKind::Emit { .. }
-        | StmtKind::Fresh { .. }
-        | StmtKind::Consistent { .. }
-        | StmtKind::Return { .. } => false,
-    }
 }
 
 /// In a block of the statement `id`, which stands at the spot.
@@ -114,7 +94,7 @@ fn seek_in_block(block: &Block, asked: Asked, spot: Spot) -> Option<Found>
         if statement.id == asked.id {
             return Some(Found {
                 line: statement.line,
-                declares: declares(&statement.kind),
+                declares: statement.kind.declares(),
                 spot,
             });
         }

@@ -1,4 +1,8 @@
 //! The tree of a program.
+ghost use Rattle.std.specs.Prelude.{◌≡◌};
+ghost use Rattle.oc_tree.specs.View.{kind_view};
+ghost use Rattle.oc_tree.specs.Places.{declares};
+
 use crate::name::{Name, Names};
 
 /// The number of a statement, from 1 in source order over the whole program.
@@ -217,6 +221,18 @@ pub enum StmtKind {
     Return {
         value: Expr,
     },
+}
+
+impl StmtKind {
+    /// Whether it declares a variable.
+    pub fn declares(&self) -> bool
+        ensures { result ≡ declares (kind_view self.now) }
+    {
+        match self {
+            StmtKind::Let { .. } | StmtKind::LetArray { .. } | StmtKind::For { .. } => true,
+            _ => false,
+        }
+    }
 }
 
 /// A statement, with the line of its first token.

@@ -1,5 +1,5 @@
 -- The numbers of the rules on weight and stack, where those of the code stop at a cap.
-use Rattle.std.proofs.Common.{◌≡◌, ◌≤◌, ◌<◌, ◌+◌, ℕ, zero, suc, Bool, List, [], ◌∷◌, Option, Some, None, refl, ap, ◌∙◌, map, length, arith}
+use Rattle.std.proofs.Common.{◌≡◌, ◌<◌, ◌+◌, ℕ, zero, suc, Bool, List, [], ◌∷◌, Option, Some, None, refl, ap, ◌∙◌, map, length, arith}
 use Rattle.std.specs.Prelude.{◌||◌, codes, cond, nat_lt}
 use Rattle.std.specs.List.{list_any}
 use Rattle.std.proofs.Math.ListN.{get_or}

@@ -1,5 +1,5 @@
 -- Counts that have passed no limit, with an element more that passes none.
-use Rattle.std.proofs.Common.{◌≡◌, ◌≤◌, ℕ}
+use Rattle.std.proofs.Common.{◌≤◌}
 use Rattle.oc_tree.specs.Names.{Text}
 use Rattle.oc_tree.specs.Tree.{TFunction, TKind}
 use Rattle.oc_tree.specs.declared.tree.NvDecl.{NvDecl}

@@ -1,16 +1,16 @@
 -- What the code takes is at most what the tree costs, by the trees alone.
-use Rattle.std.proofs.Common.{◌≡◌, ◌≤◌, ◌+◌, ◌-◌, ◌*◌, ℕ, zero, suc, Bool, true, false, List, [], ◌∷◌, length, map, cond, get_or, Option, Some, None, refl, sym, ap, ◌∙◌, subst, arith}
+use Rattle.std.proofs.Common.{◌≡◌, ◌≤◌, ◌+◌, ◌-◌, ◌*◌, ℕ, zero, suc, Bool, true, false, List, [], ◌∷◌, length, map, cond, Option, Some, None, refl, sym, ap, ◌∙◌, subst, arith}
 use Rattle.std.specs.Prelude.{ℤ, ◌==◌, ◌||◌, is_some, slice_get, nat_eq, if◌then◌else◌, ◌-ℤ◌}
 use Rattle.std.specs.List.{list_any}
 use Rattle.std.proofs.Math.Nat.{mul-le-mul_left}
-use Rattle.std.proofs.lemmas.Option.{none-some, same_Some}
+use Rattle.std.proofs.lemmas.Option.{none-some}
 use Rattle.oc_tree.specs.Names.{Text, NameLists}
 use Rattle.oc_tree.specs.Tree.{TExpr, variable, TArg, value, shared, mutable, TArgs, no_args, more_args, TCall, call, TRight, right_value, right_sense, right_call, TKind, let_to, let_array}
 use Rattle.oc_tree.specs.Tree.{assign, assign_index, assign_deref, if_else, for_in, while_do, call_only, sense_only, emit, fresh, consistent, return, TElse, no_else, else_do, stmt, TBlock}
 use Rattle.oc_tree.specs.Tree.{block, TStmts, no_stmts, more, TFunction, TProgram}
 use Rattle.oc_tree.specs.Calls.{function_place}
 use Rattle.oc_tree.specs.Weight as weight
-use Rattle.oc_tree.specs.Weight.{known_of, expr_cost, arg_cost, args_cost, call_cost, right_cost, result_at}
+use Rattle.oc_tree.specs.Weight.{known_of, expr_cost, arg_cost, args_cost, call_cost, right_cost, has_result}
 use Rattle.oc_tree.specs.Marked.{TRegion}
 use Rattle.oc_tree.specs.Stack.{kind_slots, block_slots, link_words}
 use Rattle.oc_isa.specs.declared.instr.ProbeKind.{ProbeKind}
@@ -22,7 +22,6 @@ use Rattle.oc_meaning.specs.Run.{function_named}
 use Rattle.oc_code.specs.Scope.{Slot, InFrame, ByAddress, InNv, NoSlot, Named, address_slot, slot_of, passed_slot, is_fresh_in, in_scope, for_named, function_scope}
 use Rattle.oc_code.specs.Forms.{enter_code, commit_code, probe_code, write_code}
 use Rattle.oc_code.specs.Forms as forms
-use Rattle.oc_code.specs.Code as code
 use Rattle.oc_code.specs.Formed.{marks, kind_formed, block_formed, stmts_formed, body_formed}
 use Rattle.oc_code.proofs.Needs.{FoundAt, found_at_place, mapped_at}
 use Rattle.oc_code.proofs.Spent.{expr_spent, value_spent, arg_spent, args_spent, call_spent, right_spent, kind_spent, return_spent, while_spent, open_spent, region_spent, row_spent}
@@ -142,25 +141,9 @@ around F u n k h = omega (arith, probe_less n (is_use F k) u Use h, probe_less n
 
 -- ---- names and places
 
-result_of : (fs : List TFunction) (i : ℕ) (f : TFunction) → slice_get fs i ≡ Some f → get_or (map (λ f. is_some f.result) fs) i false ≡ is_some f.result
-result_of [] i f e = absurd (none-some f e)
-result_of (g ∷ fs) zero f e = ap (λ f. is_some f.result) (same_Some g f e)
-result_of (g ∷ fs) (suc i) f e = result_of fs i f e
-
-result_same : (fs : List TFunction) (x : Text) → code.has_result fs x ≡ result_at fs (function_place fs x)
-result_same fs x = go (function_named fs x) (found_at_place 0 fs x)
-  where
-    go : (o : Option TFunction) → FoundAt 0 fs x o → code.gives o ≡ result_at fs (function_place fs x)
-    go None at = sym (ap (result_at fs) at)
-    go (Some f) at =
-        let place : 0 + at.0 ≡ at.0 = omega arith in
-        sym (ap (result_at fs) (at.1 ∙ ap Some place) ∙ result_of fs at.0 f at.2)
-
-drop_is : (n : ℕ) (b c : Bool) → b ≡ c → length (if b then forms.one n Drop else []) ≡ cond c 1 0
-drop_is n true true e = refl
-drop_is n false false e = refl
-drop_is n true false e = absurd (grind (arith, e))
-drop_is n false true e = absurd (grind (arith, e))
+drop_is : (n : ℕ) (b : Bool) → length (if b then forms.one n Drop else []) ≡ cond b 1 0
+drop_is n true = refl
+drop_is n false = refl
 
 -- ---- regions: from a statement on, to the one that the region ends with
 
@@ -210,7 +193,7 @@ module _ (names : NameLists) (fs : List TFunction) (regions : List TRegion) (ran
   right_less γ (right_call k) c = call_less γ k c
 
   only_less : (γ : List Named) (n s : ℕ) (c : TCall) → call_counted γ c → kind_spent fs regions cost γ n s (call_only c) ≤ inner_cost fs uses regions ws n (call_only c)
-  only_less γ n s (call f args) c = omega (arith, call_less γ (call f args) c, drop_is n (code.has_result fs f) (result_at fs (function_place fs f)) (result_same fs f))
+  only_less γ n s (call f args) c = omega (arith, call_less γ (call f args) c, drop_is n (has_result fs (call f args)))
 
   while_less : (u : Bool) (n t bc bb cc cb : ℕ) → length (probe_code n u Use) + bc ≤ cc → bb ≤ cb → t * (10 + (length (probe_code n u Use) + bc) + bb) ≤ t * (10 + cc + cb)
   while_less u n t bc bb cc cb h1 h2 = mul-le-mul_left t (omega (arith, h1, h2))

@@ -1,19 +1,16 @@
 -- What a function doesn't assign, neither its statements nor those that they call do.
-use Rattle.std.proofs.Common.{◌≡◌, ◌<◌, ℕ, zero, suc, ◌+◌, Bool, true, false, true≢false, List, [], ◌∷◌, ◌++◌, map, length, Some, None, refl, ap, sym, ◌∙◌, subst, arith}
+use Rattle.std.proofs.Common.{◌≡◌, ◌<◌, ℕ, zero, suc, ◌+◌, Bool, true, false, true≢false, List, [], ◌∷◌, map, length, Some, None, refl, ap, sym, ◌∙◌, subst, arith}
 use Rattle.std.specs.Prelude.{◌&&◌, ◌||◌, not, nat_eq, slice_get, option_to_list}
 use Rattle.std.specs.List.{list_any, flat_map}
-use Rattle.std.proofs.Math.ListN.{get_or}
-use Rattle.std.proofs.lemmas.Bool.{eqb-true, eq-eqb}
-use Rattle.std.proofs.lemmas.List.{map-append}
+use Rattle.std.proofs.lemmas.Bool.{eq-eqb}
 use Rattle.std.proofs.lemmas.Option.{none-some, same_Some, slice_get_within}
 use Rattle.oc_tree.specs.Names.{Text}
 use Rattle.oc_tree.specs.Tree.{TCall, TKind, TFunction}
-use Rattle.oc_tree.specs.Reach.{Links, linked, is_link, leads, reaches, reaches_some}
-use Rattle.oc_tree.specs.Calls.{place, function_names, function_place, callee, own_calls, block_kinds, body_calls, called_places, links_from, call_links, has_param, test_at}
+use Rattle.oc_tree.specs.Reach.{linked, is_link}
+use Rattle.oc_tree.specs.Calls.{function_names, function_place, callee, own_calls, block_kinds, body_calls, called_places, call_links, has_param, test_at}
 use Rattle.oc_tree.specs.Assigned.{param_names, first_param, param_count, takes_mutable, own_param, written_through, pass_call, function_links, pass_links_from, pass_links}
 use Rattle.oc_tree.specs.Assigned.{function_writes, writes_from, writes_through, param_assigned, own_assigns, function_assigns, reaches_assign}
-use Rattle.oc_tree.proofs.ReachLaws.{or_left, or_right, or_elim, links_lead, leads_trans}
-use Rattle.oc_reach.specs.Within.{IsWithin}
+use Rattle.oc_tree.proofs.ReachLaws.{or_left, or_right}
 use Rattle.oc_reach.proofs.LinkLaws.{any_append, calls_within}
 use Rattle.oc_reach.proofs.Lists.{at_place}
 use Rattle.oc_reach.proofs.PassLaws.{takes_below, first_room, passes_within}

@@ -1,4 +1,4 @@
-use Rattle.std.proofs.Common.{◌≡◌, ℕ, List, subst, max, arith}
+use Rattle.std.proofs.Common.{List, subst, max, arith}
 use Rattle.oc_tree.specs.declared.said.Said.{Said}
 use Rattle.oc_items.specs.Erase.{marked, kept_samples}
 use Rattle.oc_items.specs.Reports.{IsPrefixOf}

@@ -1,5 +1,5 @@
 use Rattle.std.proofs.Common.{◌≡◌, sym, subst, refl, arith}
-use Rattle.oc_meters.specs.Tally.{reading, readings, tell_reading}
+use Rattle.oc_meters.specs.Tally.{reading, tell_reading}
 use Rattle.oc_meters.proofs.Half.{half_on}
 use Rattle.oc_meters.proofs.meter.tell_all.Goals as goal
 

@@ -1,4 +1,4 @@
-use Rattle.std.proofs.Common.{◌≡◌, ◌<◌, [], map, ap, sym, subst, ◌∙◌, true}
+use Rattle.std.proofs.Common.{◌≡◌, ◌<◌, map, ap, sym, subst, ◌∙◌, true}
 use Rattle.oc_tree.specs.View.{function_view}
 use Rattle.oc_tree.specs.Assigned.{param_count}
 use Rattle.oc_reach.specs.Marked.{is_in}

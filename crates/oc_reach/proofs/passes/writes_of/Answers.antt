@@ -1,4 +1,4 @@
-use Rattle.std.proofs.Common.{◌≡◌, ◌<◌, ◌+◌, [], map, length, ap, arith}
+use Rattle.std.proofs.Common.{◌≡◌, map, length, ap, arith}
 use Rattle.std.proofs.Math.ListN.{get_or}
 use Rattle.oc_tree.specs.View.{function_view}
 use Rattle.oc_reach.proofs.PassLaws.{params_at, params_read}

@@ -1,6 +1,5 @@
-use Rattle.std.proofs.Common.{◌≡◌, ◌∷◌, [], ap, ◌∙◌, refl, ℕ, List}
+use Rattle.std.proofs.Common.{ap, ◌∙◌, refl, ℕ, List}
 use denote.Param.Object.{read_made}
-use Rattle.oc_meters.specs.Tally.{Reading}
 use Rattle.oc_top.proofs.standard.ocelot_with_standard.OwnLists.{own-1, at-1-2, at-1-3, own-2, at-2-1, at-2-2, at-2-3}
 use Rattle.oc_top.proofs.standard.ocelot_with_standard.Goals as goal
 

@@ -1,4 +1,4 @@
-use Rattle.std.proofs.Common.{arith, sym, map, None, ◌∙◌, ap}
+use Rattle.std.proofs.Common.{arith, sym, map, None}
 use Rattle.std.specs.String.{string_bytes}
 use Rattle.std.proofs.lemmas.List.{length-map}
 use Rattle.oc_meters.specs.Tally.{readings}

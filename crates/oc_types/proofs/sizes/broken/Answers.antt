@@ -1,4 +1,4 @@
-use Rattle.std.proofs.Common.{◌≡◌, sym, ◌∙◌}
+use Rattle.std.proofs.Common.{sym, ◌∙◌}
 use Rattle.oc_tree.specs.View.{program_view}
 use Rattle.oc_desugar.proofs.FewStatements.{few_statements}
 use Rattle.oc_types.proofs.sizes.broken.Goals as goal

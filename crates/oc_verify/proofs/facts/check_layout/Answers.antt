@@ -1,4 +1,4 @@
-use Rattle.std.proofs.Common.{rules, ◌≡◌, ◌<◌, false, sym, ◌∙◌}
+use Rattle.std.proofs.Common.{rules, ◌≡◌, false}
 use Rattle.oc_isa.specs.Image.{parts_of}
 use Rattle.oc_verify.specs.Rules.{counts, counts_fit, laid_out, layout, wide}
 use Rattle.oc_verify.proofs.facts.check_layout.Goals as goal

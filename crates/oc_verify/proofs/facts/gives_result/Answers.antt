@@ -1,5 +1,4 @@
-use Rattle.std.proofs.Common.{rules, ◌≡◌, ◌+◌, ◌<◌, ◌≤◌, refl, suc, length, drop, Some, true, false, arith, ap, sym, ◌∙◌}
-use Rattle.std.specs.Prelude.{slice_get}
+use Rattle.std.proofs.Common.{rules, ◌≡◌, ◌+◌, ◌<◌, refl, suc, length, drop, true, false, arith, ap, sym, ◌∙◌}
 use Rattle.oc_verify.specs.Rules.{is_retv, some_before, end_at}
 use Rattle.oc_isa.specs.Image.{parts_of}
 use Rattle.std.proofs.lemmas.Option.{slice_get_read}

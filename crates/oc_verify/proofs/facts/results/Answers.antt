@@ -1,4 +1,4 @@
-use Rattle.std.proofs.Common.{rules, ◌≡◌, ◌≤◌, length, arith}
+use Rattle.std.proofs.Common.{◌≡◌, length, arith}
 use Rattle.oc_isa.specs.Image.{parts_of}
 use Rattle.oc_verify.proofs.FactLaws.{all_results}
 use Rattle.oc_verify.proofs.facts.results.Goals as goal

@@ -1,7 +1,7 @@
 use Rattle.std.proofs.Common.{rules, ◌≡◌, ◌<◌, ◌≤◌, ℕ, List, length, get_or, ap, refl, sym, subst, ◌∙◌}
 use Rattle.oc_isa.specs.Image.{Parts}
 use Rattle.oc_tree.specs.Reach.{Links, count_below, linked, reaches}
-use Rattle.oc_verify.specs.Rules.{calls_of, laid_out}
+use Rattle.oc_verify.specs.Rules.{calls_of}
 use Rattle.oc_verify.proofs.OrderLaws.{blame_falls, links_within, ranked_by}
 use Rattle.oc_verify.proofs.order.check_calls.Goals as goal
 

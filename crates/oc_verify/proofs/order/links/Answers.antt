@@ -1,4 +1,4 @@
-use Rattle.std.proofs.Common.{rules, ◌≡◌, ◌<◌, ◌≤◌, ◌+◌, ◌++◌, ◌∷◌, length, drop, get_or, Some, ap, sym, subst, ◌∙◌}
+use Rattle.std.proofs.Common.{rules, ◌≡◌, ◌<◌, ◌≤◌, ◌+◌, ◌++◌, ◌∷◌, length, drop, get_or, ap, sym, subst, ◌∙◌}
 use Rattle.std.specs.Prelude.{List, pos, slice_get}
 use Rattle.oc_isa.specs.declared.instr.Instr.TheVariants.{Push}
 use Rattle.std.proofs.lemmas.List.{drop_more}

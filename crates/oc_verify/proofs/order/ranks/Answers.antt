@@ -1,5 +1,4 @@
-use Rattle.std.proofs.Common.{rules, ◌≡◌, ◌<◌, ◌≤◌, ◌+◌, ◌++◌, ℕ, suc, length, take, drop, get_or, ap, sym, subst, ◌∙◌, arith}
-use Rattle.oc_reach.specs.Marked.{is_in}
+use Rattle.std.proofs.Common.{rules, ◌≡◌, ◌<◌, ◌+◌, ◌++◌, suc, length, take, drop, get_or, ap, sym, subst, ◌∙◌, arith}
 use Rattle.oc_tree.specs.Reach.{count_below, one, reaches}
 use Rattle.oc_verify.proofs.Exact.{front_is}
 use Rattle.oc_verify.proofs.OrderLaws.{counted_low}

@@ -1,4 +1,4 @@
-use Rattle.std.proofs.Common.{◌≡◌, ◌<◌, ◌≤◌, ℕ, length, get_or}
+use Rattle.std.proofs.Common.{◌≡◌, ◌<◌, ℕ, length, get_or}
 use Rattle.oc_tree.specs.Reach.{count_below, reaches}
 use Rattle.oc_verify.proofs.order.ranks.Given as goal
 

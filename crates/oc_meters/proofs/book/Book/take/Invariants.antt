@@ -1,4 +1,4 @@
-use Rattle.std.proofs.Common.{◌≡◌, ℕ, drop}
+use Rattle.std.proofs.Common.{◌≡◌, drop}
 use Rattle.oc_tree.specs.Names.{NameLists, names_view}
 use Rattle.oc_meters.specs.Reads.{Page, page, TakesBytes}
 use Rattle.oc_meters.proofs.book.Book.take.Given as goal

@@ -1,4 +1,4 @@
-use Rattle.std.proofs.Common.{◌≡◌, ℕ, true, false, ap, ◌∙◌, ◌+◌}
+use Rattle.std.proofs.Common.{true, false, ap, ◌∙◌}
 use Rattle.oc_reach.specs.Marked.{is_in}
 use Rattle.oc_reach.proofs.Tests.{test_on, test_off}
 use Rattle.oc_reach.proofs.marks.Marks.of.Goals as goal

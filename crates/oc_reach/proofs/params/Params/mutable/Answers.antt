@@ -1,4 +1,4 @@
-use Rattle.std.proofs.Common.{rules, ◌^◌, ◌≡◌, ◌<◌, ◌+◌, ℕ, true, false, [], map, cond, Some, None, ap, sym, ◌∙◌, arith}
+use Rattle.std.proofs.Common.{rules, ◌^◌, ◌≡◌, ◌<◌, ◌+◌, true, false, map, cond, Some, None, ap, sym, ◌∙◌, arith}
 use Rattle.std.proofs.Math.ListN.{get_or}
 use Rattle.oc_tree.specs.View.{function_view}
 use Rattle.oc_tree.specs.Assigned.{is_mutable, first_param, takes_mutable}

@@ -1,4 +1,4 @@
-use Rattle.std.proofs.Common.{◌≡◌, ◌<◌, ◌∙◌, ap}
+use Rattle.std.proofs.Common.{◌≡◌, ◌∙◌, ap}
 use Rattle.oc_tree.specs.Calls.{place}
 use Rattle.oc_reach.proofs.Entries.{place_within}
 use Rattle.oc_reach.proofs.table.Table.place.Goals as goal

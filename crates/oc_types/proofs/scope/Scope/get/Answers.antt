@@ -1,4 +1,3 @@
-use Rattle.std.proofs.Common.{◌≡◌, ◌∙◌}
 use Rattle.oc_reach.proofs.Entries.{lookup-seen}
 use Rattle.oc_types.proofs.scope.Scope.get.Goals as goal
 

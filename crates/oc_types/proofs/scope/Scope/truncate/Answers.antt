@@ -1,4 +1,3 @@
-use Rattle.std.proofs.Common.{◌≡◌, ◌∙◌}
 use Rattle.oc_reach.proofs.Entries.{take-seen}
 use Rattle.oc_types.proofs.scope.Scope.truncate.Goals as goal
 

@@ -1,9 +1,9 @@
-use Rattle.std.proofs.Common.{rules, ◌≡◌, ◌<◌, ◌≤◌, ◌+◌, ◌≢◌, ℕ, zero, suc, true, false, Some, None, length, arith, ap, refl, sym, subst, ◌∙◌, ⊎_elim, inl, inr}
-use Rattle.std.specs.Prelude.{slice_get, nat_lt, Bool}
+use Rattle.std.proofs.Common.{rules, ◌≡◌, ◌<◌, ◌≤◌, ◌≢◌, ℕ, zero, suc, true, false, Some, arith, ap, refl, sym, ◌∙◌, ⊎_elim}
+use Rattle.std.specs.Prelude.{slice_get}
 use Rattle.std.proofs.lemmas.Bool.Decides.{eqb_tells}
 use Rattle.oc_isa.specs.declared.instr.Placed.{Placed}
 use Rattle.oc_isa.specs.Image.{parts_of}
-use Rattle.oc_verify.specs.Rules.{code_at, names, names_exist, returns as wrong_return, returns_right}
+use Rattle.oc_verify.specs.Rules.{names, names_exist, returns as wrong_return, returns_right}
 use Rattle.oc_verify.proofs.Owners.{stands}
 use Rattle.oc_verify.proofs.FactLaws.{here}
 use Rattle.oc_verify.proofs.facts.Facts.check_names.Goals as goal

@@ -2,7 +2,7 @@
 -- told of assignments.
 use Rattle.std.proofs.Common.{◌≡◌, ◌+◌, ℕ, suc, Bool, true, false, true≢false, List, [], ◌∷◌, map, get_or, cond, Option, Some, None, refl, sym, ap, ◌∙◌, subst, arith}
 use Rattle.std.proofs.lemmas.Bool.{and_from, and_parts}
-use Rattle.std.specs.Prelude.{is_some, slice_get, ◌==◌, length, option_map, option_and_then}
+use Rattle.std.specs.Prelude.{is_some, slice_get, option_map, option_and_then}
 use Rattle.std.specs.List.{list_any, list_all}
 use Rattle.std.specs.Str.{bytes_eq}
 use Rattle.std.proofs.lemmas.Option.{none-some, same_Some}
@@ -23,7 +23,7 @@ use Rattle.oc_tree.specs.Assigned.{written_through, param_assigned, assigned_num
 use Rattle.oc_tree.specs.Places.{Placed, at_start, block_placed}
 use Rattle.oc_tree.specs.Scope.{variable_of, function_named, takes_param}
 use Rattle.oc_tree.specs.Checked.{Group, IsChecked}
-use Rattle.oc_tree.specs.Rules.{origin_is, is_mutable_param, is_writable, is_writable_array, arg_meets, args_meet, args_list, params_of, call_args, arg_lends}
+use Rattle.oc_tree.specs.Rules.{origin_is, is_mutable_param, is_writable, is_writable_array, arg_meets, args_meet, args_list, params_of, arg_lends}
 use Rattle.oc_tree.proofs.ReachLaws.{or_left, or_right}
 use Rattle.oc_reach.proofs.LinkLaws.{any_append}
 use Rattle.oc_meaning.specs.Run as meaning

@@ -14,6 +14,7 @@ mod interrupted;
 pub mod laws;
 mod marks;
 pub mod names;
+pub mod numbers;
 pub mod operators;
 pub mod place;
 pub mod regions;

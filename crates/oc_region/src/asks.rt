@@ -1,6 +1,5 @@
 //! Which ranges the policies ask for.
 ghost use Rattle.std.specs.Prelude.{◌≡◌, map, IfOk};
-ghost use Rattle.oc_meaning.specs.Samples.{with_sample};
 ghost use Rattle.oc_needs.specs.View.{requirement_view};
 ghost use Rattle.oc_region.specs.Views.{ask_range, ask_reasons, ask_view, asks, stretch_view};
 
@@ -8,6 +7,7 @@ use crate::places::covers;
 use crate::range::Stretch;
 use crate::smallest::Grouped;
 use oc_effects::effects::Effects;
+use oc_meaning::numbers::insert_number;
 use oc_needs::requirement::Requirement;
 use std::alloc::{AllocError, Global};
 
@@ -49,24 +49,6 @@ pub fn asked_ranges(alloc: Global, asks: &[Ask]) -> Result<Vec<Stretch>, AllocEr
         ranges.push(ask.range)?;
     }
     Ok(ranges)
-}
-
-/// Puts a number into its place among rising ones, unless it stands there.
-fn insert_number(numbers: &mut Vec<u32>, n: u32) -> Result<(), AllocError>
-    ensures { IfOk result (λ _. numbers.new.items ≡ with_sample n numbers.old.items) }
-{
-    for i in 0..numbers.len() {
-        let m = numbers[i];
-        if n < m {
-            numbers.insert(i, n)?;
-            return Ok(());
-        }
-        if n == m {
-            return Ok(());
-        }
-    }
-    numbers.push(n)?;
-    Ok(())
 }
 
 /// The rising numbers of the policies that ask for a range inside this one.

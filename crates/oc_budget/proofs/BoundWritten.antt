@@ -42,7 +42,7 @@ use Rattle.oc_reach.proofs.Lists.{at_place}
 use Rattle.oc_writes.proofs.KeptReach.{none_assigns, none_called, none_writes, none_passes}
 use Rattle.oc_writes.proofs.KeptRules.{Ruled, body_ruled, param_passes, own_passes}
 use Rattle.oc_writes.proofs.KeptKinds.{hidden, none_hidden, block_each}
-use Rattle.oc_writes.proofs.KeptFunctions.{place_there, stands_among, so, mutable_both, array_param, value_mutable, calls_for, linked_is, no_param, not_hidden, shared_never, takes_at}
+use Rattle.oc_writes.proofs.KeptFunctions.{place_there, stands_among, so, array_param, value_mutable, calls_for, linked_is, no_param, not_hidden, shared_never, takes_at}
 use Rattle.oc_budget.proofs.BoundAccess.{param_may, access, may_name, name_nv, name_param, param_first, Old, block_old, start_old}
 use Rattle.oc_budget.proofs.BoundWithin.{KindMay}
 
@@ -199,7 +199,7 @@ module _ (p : TProgram) (f : TFunction) (nv par : ℕ → Bool) (a : Placed) (ru
   passed_may y origin lent =
       may_name p f nv par y
       (λ i e. absurd (true≢false (sym (own_passes p f is_mutable_param ruled.here.scope a.at.variables ruled.same y origin (old.nvs y i e)))))
-      (λ j q e s. through is_mutable_param mutable_both y origin j q e s (lent j q e s))
+      (λ j q e s. through is_mutable_param (λ q h. h) y origin j q e s (lent j q e s))
 
   -- ---- arguments
 

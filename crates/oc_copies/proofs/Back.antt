@@ -18,7 +18,8 @@ use Rattle.oc_copies.proofs.Cells.{IsCell, there, has_place}
 use Rattle.oc_copies.proofs.Matching.{Renaming, IsRenaming, Match}
 use Rattle.oc_copies.proofs.Twins.{IsLawfulBlock, AreTwins, Alike}
 use Rattle.oc_copies.proofs.TwinCalls.{start_flags, framed_alike, calls_alike}
-use Rattle.oc_copies.proofs.Root.{Entry, is_mutable, entries, after_values, to_own, fixed_own, is_global, has_global, IsLow, Fine, own_global, renaming, is_renaming, to_place}
+use Rattle.oc_tree.specs.Assigned.{is_mutable}
+use Rattle.oc_copies.proofs.Root.{Entry, entries, after_values, to_own, fixed_own, is_global, has_global, IsLow, Fine, own_global, renaming, is_renaming, to_place}
 use Rattle.oc_copies.proofs.Root.{is_live, to_at, live_at, fixed_at, own_index}
 use Rattle.oc_copies.proofs.Passing.{Lows, more_values, not_value, fine_entries, mutable_is}
 use Rattle.oc_copies.proofs.Start.{held_in, IsMade, AreLeft, low_held, all_made}

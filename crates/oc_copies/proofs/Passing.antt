@@ -8,7 +8,8 @@ use Rattle.oc_meaning.specs.Store.{Place, Local, Global, Turn, Nowhere}
 use Rattle.oc_meaning.specs.Exec.{Passed, Copied, Lent}
 use Rattle.oc_copies.specs.Copies.{lent_place, passing_at}
 use Rattle.oc_copies.proofs.Cells.{IsCell}
-use Rattle.oc_copies.proofs.Root.{Entry, is_mutable, entries, after_values, IsLow, ApartAll, Fine}
+use Rattle.oc_tree.specs.Assigned.{is_mutable}
+use Rattle.oc_copies.proofs.Root.{Entry, entries, after_values, IsLow, ApartAll, Fine}
 
 pub more_values : (qs : List Param) (ps : List Passed) (n : ℕ) → n ≤ after_values qs ps n
 more_values [] ps n = omega arith

@@ -2,8 +2,7 @@
 use Rattle.std.proofs.Common.{◌≡◌, ◌⊎◌, inl, inr, ℕ, zero, suc, ◌+◌, ◌-◌, ◌<◌, ◌≤◌, Bool, true, false, true≢false, not, List, [], ◌∷◌, length, refl, sym, ap, ◌∙◌, subst, arith}
 use Rattle.std.specs.Prelude.{if◌then◌else◌, nat_lt, nat_eq, ◌||◌}
 use Rattle.oc_tree.specs.declared.tree.Param.{Param}
-use Rattle.oc_tree.specs.declared.tree.Passing.{Passing}
-use Rattle.oc_tree.specs.declared.tree.Passing.TheVariants as passings
+use Rattle.oc_tree.specs.Assigned.{is_mutable}
 use Rattle.oc_meaning.specs.Store.{Place, Local, Global, Turn, Nowhere}
 use Rattle.oc_meaning.specs.Exec.{Passed, Copied, Lent}
 use Rattle.oc_copies.proofs.Cells.{IsCell, has_place}
@@ -11,10 +10,6 @@ use Rattle.oc_copies.proofs.Matching.{Renaming, IsRenaming}
 
 abbrev pub Entry : Type 0
 Entry = Place × Bool
-
-abbrev pub is_mutable : Passing → Bool
-is_mutable passings.Mutable = true
-is_mutable passing = false
 
 -- what each own variable stands for, and whether it can only be read; the first value stands at `n`
 abbrev pub entries : List Param → List Passed → (n : ℕ) → List Entry

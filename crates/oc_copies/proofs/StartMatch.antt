@@ -13,7 +13,8 @@ use Rattle.oc_copies.proofs.Cells.{at_past}
 use Rattle.oc_copies.proofs.Matching.{Match}
 use Rattle.oc_copies.proofs.Twins.{Flags, is_shared, Sees, sees_more}
 use Rattle.oc_copies.proofs.TwinCalls.{start_flags}
-use Rattle.oc_copies.proofs.Root.{Entry, is_mutable, entries, to_own, fixed_own, Fine, renaming, is_renaming, to_place, is_live, to_at, live_at, fixed_at, own_index, own_later}
+use Rattle.oc_tree.specs.Assigned.{is_mutable}
+use Rattle.oc_copies.proofs.Root.{Entry, entries, to_own, fixed_own, Fine, renaming, is_renaming, to_place, is_live, to_at, live_at, fixed_at, own_index, own_later}
 use Rattle.oc_copies.proofs.Passing.{Lows, later_place}
 use Rattle.oc_copies.proofs.Start.{held_in, IsMade, AreLeft, left_more, left_first, made_copied, made_lent}
 

@@ -2,7 +2,6 @@
 ghost use Rattle.std.specs.Prelude.{◌≡◌, ◌<◌, map, option_and_then, option_map, IfOk};
 ghost use Rattle.oc_reach.specs.Views.{name_seen};
 ghost use Rattle.oc_tree.specs.View.{arg_view, args_view, call_view, kind_view};
-ghost use Rattle.oc_tree.specs.Assigned.{is_mutable};
 ghost use Rattle.oc_effects.specs.Effects.{all_passed, call_of, called_by, lent_name, passed};
 ghost use Rattle.oc_effects.specs.View.{called_view, passed_view};
 ghost use Rattle.oc_effects.specs.Walk.{call_seen, placed_view};
@@ -12,17 +11,8 @@ use crate::here::{Here, variable, variables};
 use crate::parts::right_of;
 use oc_meaning::names::arg_names;
 use oc_tree::name::Name;
-use oc_tree::tree::{Arg, Call, Expr, Param, Passing, Right, StmtKind, VarId};
+use oc_tree::tree::{Arg, Call, Expr, Param, Right, StmtKind, VarId};
 use std::alloc::{AllocError, Global};
-
-fn is_mutable(passing: Passing) -> bool
-    ensures { result ≡ is_mutable passing }
-{
-    match passing {
-        Passing::Value | Passing::Shared => false,
-        Passing::Mutable => true,
-    }
-}
 
 // The name that is lent where the parameter takes `&mut`.
 fn lent_name(arg: &Arg) -> Option<&Name>
@@ -43,7 +33,7 @@ fn lent(here: &Here, param: &Param, arg: &Arg) -> Option<VarId>
     ensures { result
         ≡ (passed here.now.known.now (placed_view here.now) param.now (arg_view arg.now)).lent }
 {
-    if !is_mutable(param.passing) {
+    if !param.passing.is_mutable() {
         return None;
     }
     let name = lent_name(arg)?;

@@ -3,13 +3,12 @@ ghost use Rattle.std.specs.Prelude.{◌≡◌, ◌<◌, ◌^◌, ◌+◌, List, 
 ghost use Rattle.std.proofs.Math.ListN.{get_or};
 ghost use Rattle.oc_tree.specs.View.{function_view};
 ghost use Rattle.oc_tree.specs.declared.tree.Function.{Function};
-ghost use Rattle.oc_tree.specs.declared.tree.Passing.{Passing};
 ghost use Rattle.oc_reach.specs.Views.{name_seen};
 ghost use Rattle.oc_tree.specs.Assigned.{first_param, first_params, is_mutable, mutable_param, own_param, param_count};
 
 use crate::table::Table;
 use oc_tree::name::Name;
-use oc_tree::tree::{Function, Param, Passing};
+use oc_tree::tree::{Function, Param};
 use std::alloc::{AllocError, Global};
 use std::marker::Model;
 
@@ -38,20 +37,11 @@ fn first_params(alloc: Global, functions: &[Function]) -> Result<(Vec<usize>, us
     Ok((firsts, all.len()))
 }
 
-fn is_mutable(passing: Passing) -> bool
-    ensures { result ≡ is_mutable passing }
-{
-    match passing {
-        Passing::Value | Passing::Shared => false,
-        Passing::Mutable => true,
-    }
-}
-
 fn is_mutable_at(params: &[Param], place: usize) -> bool
     ensures { result ≡ get_or (map (λ p. is_mutable p.passing) params.now) place false }
 {
     if place < params.len() {
-        is_mutable(params[place].passing)
+        params[place].passing.is_mutable()
     } else {
         false
     }

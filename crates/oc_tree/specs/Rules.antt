@@ -24,7 +24,7 @@ use Rattle.oc_tree.specs.Pulls.{own_pulls}
 use Rattle.oc_tree.specs.Mentions.{own_mentions, call_mentions}
 use Rattle.oc_tree.specs.Calls.{place, function_place, callee, args_of_call, args_calls, own_calls, call_links, reaches_mention}
 use Rattle.oc_tree.specs.Reach.{reaches}
-use Rattle.oc_tree.specs.Assigned.{reaches_assign}
+use Rattle.oc_tree.specs.Assigned.{is_mutable, reaches_assign}
 use Rattle.oc_tree.specs.Scope.{Scope, variable_in, variable_of, is_variable, is_name_of, is_taken, function_named}
 use Rattle.oc_tree.specs.Types.{is_by_reference, is_reference, is_array, scalar_of, is_int, is_bool, is_same, is_same_kind, value_type, pointed_type, has_elements, type_of, right_type, call_type}
 use Rattle.oc_tree.specs.Elements.{Here, is_end}
@@ -217,13 +217,9 @@ abbrev pub origin_is : (Origin → Bool) → Option Var → Bool
 origin_is test None = false
 origin_is test (Some v) = test v.origin
 
-abbrev pub is_mutable_passing : Passing → Bool
-is_mutable_passing passings.Mutable = true
-is_mutable_passing _ = false
-
 -- a parameter by `&mut`
 abbrev pub is_mutable_param : Origin → Bool
-is_mutable_param (origins.Param passing) = is_mutable_passing passing
+is_mutable_param (origins.Param passing) = is_mutable passing
 is_mutable_param _ = false
 
 -- an argument that is an expression

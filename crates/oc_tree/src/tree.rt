@@ -1,6 +1,7 @@
 //! The tree of a program.
 ghost use Rattle.std.specs.Prelude.{◌≡◌};
 ghost use Rattle.oc_tree.specs.View.{kind_view};
+ghost use Rattle.oc_tree.specs.Assigned.{is_mutable};
 ghost use Rattle.oc_tree.specs.Places.{declares};
 
 use crate::name::{Name, Names};
@@ -60,6 +61,18 @@ pub enum Passing {
     Value,
     Shared,
     Mutable,
+}
+
+impl Passing {
+    /// Whether it is by `&mut`.
+    pub fn is_mutable(self) -> bool
+        ensures { result ≡ is_mutable self }
+    {
+        match self {
+            Passing::Value | Passing::Shared => false,
+            Passing::Mutable => true,
+        }
+    }
 }
 
 /// The type of a variable: a number, a truth value, or an array of so many numbers.

@@ -1,29 +1,20 @@
 //! What may be written to, and lent.
 ghost use Rattle.std.specs.Prelude.{◌≡◌};
 ghost use Rattle.oc_tree.specs.View.{arg_view, kind_view, program_view};
-ghost use Rattle.oc_tree.specs.Rules.{arg_lends, array_fixed, is_mutable_param, is_mutable_passing, is_nv, is_own, is_writable, is_writable_array, origin_is, pointee_fixed, target_fixed};
+ghost use Rattle.oc_tree.specs.Rules.{arg_lends, array_fixed, is_mutable_param, is_nv, is_own, is_writable, is_writable_array, origin_is, pointee_fixed, target_fixed};
 
 use crate::scope::Scope;
 use crate::top::TopLevel;
 use crate::types::is_reference;
 use oc_tree::scope::{Origin, Var};
-use oc_tree::tree::{Arg, Passing, StmtKind};
-
-fn is_mutable_passing(passing: Passing) -> bool
-    ensures { result ≡ is_mutable_passing passing }
-{
-    match passing {
-        Passing::Mutable => true,
-        _ => false,
-    }
-}
+use oc_tree::tree::{Arg, StmtKind};
 
 /// A parameter by `&mut`.
 fn is_mutable_param(origin: Origin) -> bool
     ensures { result ≡ is_mutable_param origin }
 {
     match origin {
-        Origin::Param { passing } => is_mutable_passing(passing),
+        Origin::Param { passing } => passing.is_mutable(),
         _ => false,
     }
 }

@@ -28,7 +28,7 @@ use Rattle.oc_tree.specs.Scope.{Scope, variable_of, is_name_of, is_taken, is_in_
 use Rattle.oc_tree.specs.Types.{is_reference}
 use Rattle.oc_tree.specs.Checked.{Group, IsChecked}
 use Rattle.oc_tree.specs.Elements.{Here}
-use Rattle.oc_tree.specs.Rules.{only_reference, has_kind, origin_is, is_mutable_passing, is_mutable_param, is_writable, is_writable_array, value_meets, shared_meets, arg_meets}
+use Rattle.oc_tree.specs.Rules.{only_reference, has_kind, origin_is, is_mutable_param, is_writable, is_writable_array, value_meets, shared_meets, arg_meets}
 use Rattle.oc_tree.specs.Rules.{args_meet, args_list, params_of, call_args, arg_lends, takes_name}
 use Rattle.oc_tree.proofs.ReachLaws.{or_left, or_right}
 use Rattle.oc_reach.proofs.LinkLaws.{any_append}
@@ -73,14 +73,9 @@ pub so : (b : Bool) → not b ≡ false → b ≡ true
 so true h = refl
 so false h = absurd (true≢false h)
 
-pub mutable_both : (q : Passing) → is_mutable_passing q ≡ true → is_mutable q ≡ true
-mutable_both passings.Value h = h
-mutable_both passings.Shared h = h
-mutable_both passings.Mutable h = h
-
 -- an array that may be written, and is a parameter, is one by `&mut`
 pub array_param : (q : Passing) → is_writable_array (origins.Param q) ≡ true → is_mutable q ≡ true
-array_param q h = mutable_both q h
+array_param q h = h
 
 -- what stands alone
 pub alone_is : (e : TExpr) (y : Text) → alone e ≡ Some y → e ≡ variable y
@@ -226,7 +221,7 @@ module _ (p : TProgram) (i : ℕ) (x : Text) (named : slice_get p.names.nvs i �
             by origin (Names.own none is) = absurd (true≢false (sym (own_passes p f is_mutable_param scope vs same y origin none)))
             by origin (Names.given j some lent) =
                 let q' = param_passes p f is_mutable_param scope vs same y origin j some in
-                let m = through j q'.param lent q'.stands (mutable_both q'.param.passing q'.passes) in
+                let m = through j q'.param lent q'.stands q'.passes in
                 let own : own_param first (param_names f) (alone e) ≡ Some (first + j) = ap (λ a. own_param first (param_names f) (alone a)) (alone_is e y h)
                 ∙ ap (λ o. option_map (λ k. first + k) o) q'.placed in
                 let to : mutable_param p.functions v l ≡ Some (first_param p.functions v + l) = ap (λ b. cond b (Some (first_param p.functions v + l)) None) takes in
@@ -320,7 +315,7 @@ module _ (p : TProgram) (i : ℕ) (x : Text) (named : slice_get p.names.nvs i �
       deref_free : (y : Text) → origin_is is_mutable_param (variable_of p scope y) ≡ true → ((m : Through) → own_param first (param_names f) (Some y) ≡ Some (first + m.0) → ⊥)
           → Names p i passed vs y → ⊥
       deref_free y origin none (Names.own missing is) = true≢false (sym (own_passes p f is_mutable_param scope vs same y origin missing))
-      deref_free y origin none (Names.given j some lent) = unthrough is_mutable_param mutable_both y origin none j some lent
+      deref_free y origin none (Names.given j some lent) = unthrough is_mutable_param (λ q h. h) y origin none j some lent
 
       kind_spared : (k : TKind) → Unbroken p here k → Known k → KindSpared p i x passed vs k
       kind_spared (let_to m y t r) rules known = right_spared r rules.calls (second_fails false _ known.unassigned) known.names known.links

@@ -26,7 +26,7 @@ use Rattle.oc_desugar.proofs.KeptClean.{tally, first_clean, apart_of}
 use Rattle.oc_desugar.proofs.SizesKept.{unbroken_element}
 use Rattle.oc_desugar.proofs.Unbroken.{none_broken}
 use Rattle.oc_apart.specs.Apart.{HasNamesApart}
-use Rattle.oc_apart.proofs.Names.{names_are_fields}
+use Rattle.oc_items.proofs.Spelled.{all_fit}
 
 none_first : (a b : Bool) → a || b ≡ false → a ≡ false
 none_first true b h = h
@@ -162,7 +162,7 @@ names_apart N p form h =
     order_new p nothing_counted nothing_before p.order (record { sensors = omega (arith, form.declared.sensors); ports = omega (arith, form.declared.ports) }) (unbroken_element p h)
     (record { sensors = λ i x l e. absurd (omega (arith, l)); ports = λ i x l e. absurd (omega (arith, l)) }) in
     record {
-      sensors = record { fields = names_are_fields p.names.sensors form.spellable.sensors; differ = all_differ p.names.sensors new.0 };
-      ports = record { fields = names_are_fields p.names.ports form.spellable.ports; differ = all_differ p.names.ports new.1 };
-      nvs = names_are_fields p.names.nvs form.spellable.nvs;
+      sensors = record { fields = all_fit p.names.sensors form.spellable.sensors; differ = all_differ p.names.sensors new.0 };
+      ports = record { fields = all_fit p.names.ports form.spellable.ports; differ = all_differ p.names.ports new.1 };
+      nvs = all_fit p.names.nvs form.spellable.nvs;
     }

@@ -1,3 +1,2 @@
-mod Names
 mod Apart
 mod OneText

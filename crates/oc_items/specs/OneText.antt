@@ -2,8 +2,9 @@
 use Rattle.std.specs.Prelude.{ℕ, ℤ, ◌^◌, ◌<◌, ◌≡◌, ◌≢◌, ◌==◌, ◌||◌, ◌&&◌, not, Bool, true, List, [], ◌∷◌, length, sum, FitsSigned, ⊤}
 use Rattle.std.specs.Int.{w32}
 use Rattle.std.specs.List.{All, AllPairs}
+use Rattle.oc_lex.specs.declared.piece.Piece.TheVariants as piece
+use Rattle.oc_lex.specs.Pieces.{IsPiece}
 use Rattle.oc_tree.specs.Names.{NameLists, Text}
-use Rattle.oc_tree.specs.Spelling.{is_name}
 use Rattle.oc_items.specs.declared.item.Item.{Item}
 use Rattle.oc_items.specs.declared.item.Item.TheVariants as item
 use Rattle.oc_items.specs.Text.{IsNamed, tick_of, report_text, full_text, is_over}
@@ -63,4 +64,4 @@ OneReportEach = (names : NameLists) (sizes : List ℕ) (a b : List Item) (u v : 
 
 -- names of the language are fields
 abbrev pub NamesAreFields : Type 0
-NamesAreFields = (name : Text) → is_name name ≡ true → is_field name ≡ true
+NamesAreFields = (name : Text) → IsPiece piece.Name name → is_field name ≡ true

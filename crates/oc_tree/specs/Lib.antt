@@ -5,7 +5,6 @@ pub mod Nodes
 pub mod Names
 pub mod Said
 pub mod Word
-pub mod Spelling
 pub mod Numbers
 pub mod Form
 pub mod Pulls

@@ -15,7 +15,7 @@ use Rattle.oc_verify.specs.Rules.{Kinds, calls_of, code_at, main_number, own_slo
 use Rattle.oc_verify.specs.Merging.{leasts}
 use Rattle.oc_verify.specs.declared.fault.VerifyError.{VerifyError}
 use Rattle.oc_verify.specs.declared.fault.VerifyError.TheVariants as errors
-use Rattle.oc_verify.specs.Stacks.{Nodes}
+use Rattle.oc_verify.specs.Stacks.{Nodes, kind_limit}
 use Rattle.oc_verify.specs.Told.{AreIn, kind_of, pair_of}
 use Rattle.oc_verify.specs.Work.{IsWork, Marks, Todo, todo_at}
 
@@ -126,7 +126,7 @@ number_stack k = k % 4294967296
 pub record IsPassed (i : Parts) (seen : Calls) (tab : Marks) (ps : Passed) : Type 0 where
   pub many : length ps ≡ length i.functions
   pub sized : (g : ℕ) (cs : List ℕ) → slice_get ps g ≡ Some (Some cs) → length cs ≡ params_of i g
-  pub small : (g : ℕ) (cs : List ℕ) → slice_get ps g ≡ Some (Some cs) → All (λ c. c < 8589934592) cs
+  pub small : (g : ℕ) (cs : List ℕ) → slice_get ps g ≡ Some (Some cs) → All (λ c. c < kind_limit) cs
   pub suits : (h g a : ℕ) (p : Pair) → seen h a ≡ true → SeenCall i tab h g a p → (cs : List ℕ) × (slice_get ps g ≡ Some (Some cs)) × SuitAll (take (params_of i g) p.ops) (map kind_of cs)
   pub met : (g j n : ℕ) (cs : List ℕ) → slice_get ps g ≡ Some (Some cs) → level (map kind_of cs) j ≡ Some (Place n)
       → (h : ℕ) × (a : ℕ) × (p : Pair) × (seen h a ≡ true) × SeenCall i tab h g a p × (level (take (params_of i g) p.ops) j ≡ Some (Place n))
@@ -178,7 +178,7 @@ pub record Joins (params : ℕ) (old : Passed) (g : ℕ) (ops : List Kind) (new 
   pub codes : List ℕ
   pub is : new ≡ slice_set old g (Some codes)
   pub sized : length codes ≡ params
-  pub small : All (λ c. c < 8589934592) codes
+  pub small : All (λ c. c < kind_limit) codes
   pub joins : JoinsBy (slice_get old g) (take params ops) (map kind_of codes)
 
 -- a number meets a place, or memory ran out

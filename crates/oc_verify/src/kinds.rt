@@ -42,7 +42,7 @@ ghost use Rattle.oc_verify.specs.Rules.{
   params_of,
   slot_right,
 };
-ghost use Rattle.oc_verify.specs.Stacks.{stack, with_node};
+ghost use Rattle.oc_verify.specs.Stacks.{kind_limit, stack, with_node};
 ghost use Rattle.oc_verify.specs.Tables.{
   BlamesMixed,
   BlamesSlot,
@@ -81,9 +81,9 @@ use std::alloc::{AllocError, Global};
 
 /// The least of two kinds, by their numbers; none where a number meets a place.
 fn least(left: u64, right: u64) -> Option<u64>
-    requires { left < 8589934592 }
+    requires { left < kind_limit }
     ensures least { option_map kind_of result ≡ merging.least (kind_of left) (kind_of right) }
-    ensures small { IfSome result (λ c. c < 8589934592) }
+    ensures small { IfSome result (λ c. c < kind_limit) }
 {
     if (left == 0) == (right == 0) {
         Some(left.min(right))
@@ -117,11 +117,11 @@ fn topmost(alloc: Global, tops: &Stacks, count: u32, ops: u32) -> Result<Vec<u64
 fn merged(alloc: Global, tops: &Stacks, codes: &[u64], ops: u32) -> Result<Vec<u64>, VerifyError>
     requires ops { ops ≤ length tops.now }
     requires deep { length codes.now ≤ length (stack tops.now ops) }
-    requires small { All (λ c. c < 8589934592) codes.now }
+    requires small { All (λ c. c < kind_limit) codes.now }
     ensures least { IfOk result (λ c. merging.leasts (map kind_of codes.now) (kinds tops.now ops)
         ≡ Some (map kind_of c.items)) }
     ensures sized { IfOk result (λ c. length c.items ≡ length codes.now) }
-    ensures small { IfOk result (λ c. All (λ c. c < 8589934592) c.items) }
+    ensures small { IfOk result (λ c. All (λ c. c < kind_limit) c.items) }
     ensures fault { IfErr result (Mixes (map kind_of codes.now) (kinds tops.now ops)) }
 {
     let mut both = Vec::new(alloc);
@@ -160,7 +160,7 @@ fn joined(
     requires sized { (cs : List ℕ) → slice_get (passed_seen passed.now.items) callee
         ≡ Some (Some cs) → length cs ≡ params_of facts.now callee }
     requires small { (cs : List ℕ) → slice_get (passed_seen passed.now.items) callee
-        ≡ Some (Some cs) → All (λ c. c < 8589934592) cs }
+        ≡ Some (Some cs) → All (λ c. c < kind_limit) cs }
     ensures joins { IfOk result (λ c. Joins (params_of facts.now callee)
         (passed_seen passed.now.items) callee (kinds tops.now ops)
         (slice_set (passed_seen passed.now.items) callee (Some c.items))) }
@@ -195,7 +195,7 @@ fn pass(
     requires sized { (cs : List ℕ) → slice_get (passed_seen passed.old.items) callee
         ≡ Some (Some cs) → length cs ≡ params_of facts.now callee }
     requires small { (cs : List ℕ) → slice_get (passed_seen passed.old.items) callee
-        ≡ Some (Some cs) → All (λ c. c < 8589934592) cs }
+        ≡ Some (Some cs) → All (λ c. c < kind_limit) cs }
     ensures joins { OnOk result (Joins (params_of facts.now callee)
         (passed_seen passed.old.items) callee (kinds tops.now ops)
         (passed_seen passed.new.items)) }
@@ -316,12 +316,12 @@ fn codes_of(
     requires sized { (cs : List ℕ) → slice_get (passed_seen passed.now.items) function
         ≡ Some (Some cs) → length cs ≡ params_of facts.now function }
     requires small { (cs : List ℕ) → slice_get (passed_seen passed.now.items) function
-        ≡ Some (Some cs) → All (λ c. c < 8589934592) cs }
+        ≡ Some (Some cs) → All (λ c. c < kind_limit) cs }
     ensures codes { IfOk result
         (λ c. c.items ≡ codes_of facts.now (passed_seen passed.now.items) function) }
     ensures sized { IfOk result (λ c. length c.items ≡ params_of facts.now function) }
     ensures few { IfOk result (λ c. length c.items ≤ 4294967295) }
-    ensures small { IfOk result (λ c. All (λ c. c < 8589934592) c.items) }
+    ensures small { IfOk result (λ c. All (λ c. c < kind_limit) c.items) }
 {
     let params = facts.params(function);
     match &passed[function] {

@@ -21,6 +21,7 @@ ghost use Rattle.oc_verify.specs.Own.{
   slot_kind,
 };
 ghost use Rattle.oc_verify.specs.Rules.{number_slot, run, slot, slot_right};
+ghost use Rattle.oc_verify.specs.Stacks.{kind_limit};
 ghost use Rattle.oc_verify.specs.Told.{Tells, kind_of};
 ghost use Rattle.oc_verify.specs.Typing.{level};
 ghost use Rattle.oc_verify.specs.declared.kind.Kind.TheVariants as kinds;
@@ -59,6 +60,7 @@ impl<'a> Model for Slots<'a> {
     ghost use Rattle.std.specs.Prelude.{◌≡◌, ◌<◌, false, length, map};
     ghost use Rattle.std.specs.List.{All};
     ghost use Rattle.oc_verify.specs.Own.{Own, runs_of};
+    ghost use Rattle.oc_verify.specs.Stacks.{kind_limit};
     ghost use Rattle.oc_verify.specs.Told.{kind_of};
 
     ghost Value = { Own };
@@ -67,7 +69,7 @@ impl<'a> Model for Slots<'a> {
 
     ghost invariant = { λ s. (s.runs.items ≡ runs_of 0 (map kind_of s.codes.now))
         × (s.main ≡ false → length s.codes.now ≡ s.function.now.params)
-        × All (λ c. c < 8589934592) s.codes.now };
+        × All (λ c. c < kind_limit) s.codes.now };
 }
 
 impl<'a> Slots<'a> {
@@ -80,7 +82,7 @@ impl<'a> Slots<'a> {
     ) -> Result<Slots<'a>, AllocError>
         requires few { length codes.now ≤ 4294967295 }
         requires sized { main ≡ false → length codes.now ≡ function.now.params }
-        requires small { All (λ c. c < 8589934592) codes.now }
+        requires small { All (λ c. c < kind_limit) codes.now }
         ensures { IfOk result
             (λ s. s ≡ record { main = main; function = function.now; codes = codes.now }) }
     {
@@ -108,7 +110,7 @@ impl<'a> Slots<'a> {
     /// The number of the kind of a slot, where it is one.
     fn code(&self, slot: u32) -> Option<u64>
         ensures kind { option_map kind_of result ≡ slot_kind (level (own_list self.now) slot) }
-        ensures small { IfSome result (λ c. c < 8589934592) }
+        ensures small { IfSome result (λ c. c < kind_limit) }
     {
         if self.main {
             return self.in_frame(slot);
@@ -127,7 +129,7 @@ impl<'a> Slots<'a> {
     /// The number of the kind of a slot.
     pub fn kind(&self, place: u32) -> Result<u64, Fault>
         ensures exact { Tells kind_of result (slot (level (own_list self.now) place)) }
-        ensures small { IfOk result (λ c. c < 8589934592) }
+        ensures small { IfOk result (λ c. c < kind_limit) }
     {
         match self.code(place) {
             Some(code) => Ok(code),

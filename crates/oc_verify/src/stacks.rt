@@ -17,7 +17,7 @@ ghost use Rattle.std.specs.Prelude.{
   false,
   true,
 };
-ghost use Rattle.oc_verify.specs.Stacks.{stack, with_node, Grows};
+ghost use Rattle.oc_verify.specs.Stacks.{kind_limit, stack, with_node, Grows};
 ghost use Rattle.oc_verify.specs.Told.{kinds, Tells, IsTop};
 ghost use Rattle.oc_verify.specs.Rules.{number, place, closing, dropping, none_open};
 
@@ -26,6 +26,9 @@ use indexmap::IndexSet;
 use oc_io::Memory;
 use std::alloc::Global;
 use std::marker::Model;
+
+/// The numbers on a stack are below it.
+const KIND_LIMIT: u64 = 8589934592;
 
 /// Stacks of numbers below 2^33, by numbers: 0 is the empty one, and equal stacks have one number.
 #[derive(Drop)]
@@ -61,12 +64,12 @@ impl Stacks {
     /// The number of a stack with one more on top.
     pub fn push(&mut self, below: u32, top: u64) -> Result<u32, Memory>
         requires below { below ≤ length self.old }
-        requires top { top < 8589934592 }
+        requires top { top < kind_limit }
         ensures number { IfOk result (λ n. stack self.new n ≡ top ∷ stack self.old below) }
         ensures within { IfOk result (λ n. n ≤ length self.new) }
         ensures grows { OnOk result (Grows self.old self.new) }
     {
-        let index = place(&mut self.nodes, below as u64 * 8589934592 + top)?;
+        let index = place(&mut self.nodes, below as u64 * KIND_LIMIT + top)?;
         Ok(index + 1)
     }
 }
@@ -101,7 +104,7 @@ impl Stacks {
             return None;
         }
         let node = *self.nodes.get_index(number as usize - 1)?;
-        Some((node % 8589934592, (node / 8589934592) as u32))
+        Some((node % KIND_LIMIT, (node / KIND_LIMIT) as u32))
     }
 
     /// How many stacks there are but the empty one.

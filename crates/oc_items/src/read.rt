@@ -50,7 +50,7 @@ pub fn read_i32(field: &[u8]) -> Option<i32>
 }
 
 /// The bytes before the first space, and those behind it.
-fn cut(line: &[u8]) -> Option<(&[u8], &[u8])>
+fn split_at_space(line: &[u8]) -> Option<(&[u8], &[u8])>
     ensures some { IfSome result
         (λ p. (p.0.now ++ (codes " " ++ p.1.now) ≡ line.now) × (has_no_space p.0.now ≡ true)) }
     ensures none { IfNone result (has_no_space line.now ≡ true) }
@@ -102,7 +102,7 @@ fn value_behind(name: &[u8], bytes: &[u8]) -> Option<i32>
 }
 
 /// The number of the first name that stands in front of a value, and the value.
-fn named(names: &[Name], bytes: &[u8]) -> Option<(u8, i32)>
+fn read_named_value(names: &[Name], bytes: &[u8]) -> Option<(u8, i32)>
     ensures some { IfSome result (λ r. Named names.now bytes.now r.0 r.1) }
     ensures none { IfNone result ((k : ℕ) (z : ℤ) → k < 2 ^ 8 → k < length names.now
         → IsValue (name_at names.now k) bytes.now z → ⊥) }
@@ -122,7 +122,7 @@ fn read_sense(tick: u64, body: &[u8], names: &Names) -> Option<Item>
     ensures none { IfNone result (NoSense (names_view names.now) body.now) }
 {
     let rest = behind(b"sense ", body)?;
-    let (sensor, value) = named(names.sensors.as_slice(), rest)?;
+    let (sensor, value) = read_named_value(names.sensors.as_slice(), rest)?;
     Some(Item::Sense {
         tick,
         sensor,
@@ -136,7 +136,7 @@ fn read_emit(tick: u64, body: &[u8], names: &Names) -> Option<Item>
     ensures none { IfNone result (NoEmit (names_view names.now) body.now) }
 {
     let rest = behind(b"emit ", body)?;
-    let (port, value) = named(names.ports.as_slice(), rest)?;
+    let (port, value) = read_named_value(names.ports.as_slice(), rest)?;
     Some(Item::Emit { tick, port, value })
 }
 
@@ -220,7 +220,7 @@ pub fn read_item(line: &[u8], names: &Names) -> Option<Item>
     ensures some { IfSome result (λ i. Tells (names_view names.now) line.now i) }
     ensures none { IfNone result (TellsNone (names_view names.now) line.now) }
 {
-    let parts = cut(line)?;
+    let parts = split_at_space(line)?;
     let tick = read_u64(parts.0)?;
     read_body(tick, parts.1, names)
 }

@@ -8,7 +8,7 @@ use oc_tree::said::TrapKind;
 use std::alloc::{AllocError, Global};
 use std::test::Fail;
 
-fn named(alloc: Global, name: &[u8]) -> Result<Vec<Name>, AllocError>
+fn read_named_value(alloc: Global, name: &[u8]) -> Result<Vec<Name>, AllocError>
     ensures { IfOk result (λ v. length v.items ≡ 1) }
 {
     let mut names = Vec::new(alloc);
@@ -21,9 +21,9 @@ fn sample_names(alloc: Global) -> Result<Names, AllocError>
     ensures ports { IfOk result (λ n. length n.ports.items ≡ 1) }
     ensures nvs { IfOk result (λ n. length n.nvs.items ≡ 1) }
 {
-    let sensors = named(alloc, b"t")?;
-    let ports = named(alloc, b"r")?;
-    let nvs = named(alloc, b"a")?;
+    let sensors = read_named_value(alloc, b"t")?;
+    let ports = read_named_value(alloc, b"r")?;
+    let nvs = read_named_value(alloc, b"a")?;
     Ok(Names {
         sensors,
         ports,

@@ -14,7 +14,7 @@ use oc_tree::name::Name;
 use oc_tree::tree::{Arg, Call, Expr, Function, StmtKind};
 use std::alloc::{AllocError, Global};
 
-fn alone(expr: &Expr) -> Option<&Name>
+fn only_name(expr: &Expr) -> Option<&Name>
     ensures { name_seen result ≡ alone (expr_view expr.now) }
 {
     match expr {
@@ -62,7 +62,7 @@ fn add_arg(
 {
     match arg {
         Arg::Value { value } => {
-            let from = own_param(first, names, alone(value));
+            let from = own_param(first, names, only_name(value));
             add_link(from, params.mutable(callee, place), links)
         }
         Arg::Shared { .. } | Arg::Mutable { .. } => Ok(()),

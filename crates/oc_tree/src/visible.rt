@@ -41,7 +41,7 @@ fn nv_named(nvs: &[Name], name: &Name) -> Option<VarId>
 }
 
 /// The variable of a name behind a declaration of `declared` by the statement `id`.
-fn bound(known: Option<VarId>, id: StmtId, declared: &Name, name: &Name) -> Option<VarId>
+fn bind(known: Option<VarId>, id: StmtId, declared: &Name, name: &Name) -> Option<VarId>
     ensures { result ≡ bound known id declared.now name.now }
 {
     if known.is_some() {
@@ -60,7 +60,7 @@ fn known_behind(known: Option<VarId>, id: StmtId, kind: &StmtKind, name: &Name) 
 {
     match kind {
         StmtKind::Let { name: declared, .. } | StmtKind::LetArray { name: declared, .. } => {
-            bound(known, id, declared, name)
+            bind(known, id, declared, name)
         }
         StmtKind::Assign { .. }
         | StmtKind::AssignIndex { .. }
@@ -101,7 +101,7 @@ fn visible_in_kind(
             name: declared,
             body,
             ..
-        } => visible_in_block(body, bound(known, id, declared, name), s, name),
+        } => visible_in_block(body, bind(known, id, declared, name), s, name),
         StmtKind::While { body, .. } => visible_in_block(body, known, s, name),
         StmtKind::Let { .. }
         | StmtKind::LetArray { .. }

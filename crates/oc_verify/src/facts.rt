@@ -122,7 +122,7 @@ fn results(alloc: Global, image: &RawImage) -> Result<Vec<bool>, AllocError>
     Ok(results)
 }
 
-fn need(target: &Target) -> u64
+fn words_taken(target: &Target) -> u64
     ensures { result ≡ need target.now }
 {
     match *target {
@@ -137,7 +137,7 @@ fn needs(targets: &[Target]) -> u64
 {
     let mut needs = 0;
     for target in targets {
-        needs = need(target).max(needs);
+        needs = words_taken(target).max(needs);
     }
     needs
 }

@@ -97,7 +97,7 @@ pub fn judge(
             Ok((after, opens))
         }
         Instr::Call { f } => {
-            let rest = tops.without(facts.params(f as usize), ops)?;
+            let rest = tops.drop_arguments(facts.params(f as usize), ops)?;
             let after = if facts.gives(f as usize) {
                 tops.push(rest, 0)?
             } else {

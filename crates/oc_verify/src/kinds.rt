@@ -93,7 +93,12 @@ fn least(left: u64, right: u64) -> Option<u64>
 }
 
 /// The kinds of the topmost words.
-fn topmost(alloc: Global, tops: &Stacks, count: u32, ops: u32) -> Result<Vec<u64>, VerifyError>
+fn topmost_kinds(
+    alloc: Global,
+    tops: &Stacks,
+    count: u32,
+    ops: u32,
+) -> Result<Vec<u64>, VerifyError>
     requires ops { ops ≤ length tops.now }
     requires deep { count ≤ length (stack tops.now ops) }
     ensures top { IfOk result (λ c. c.items ≡ take count (stack tops.now ops)) }
@@ -114,7 +119,7 @@ fn topmost(alloc: Global, tops: &Stacks, count: u32, ops: u32) -> Result<Vec<u64
 }
 
 /// The least of these kinds and of the topmost words.
-fn merged(alloc: Global, tops: &Stacks, codes: &[u64], ops: u32) -> Result<Vec<u64>, VerifyError>
+fn merge_top(alloc: Global, tops: &Stacks, codes: &[u64], ops: u32) -> Result<Vec<u64>, VerifyError>
     requires ops { ops ≤ length tops.now }
     requires deep { length codes.now ≤ length (stack tops.now ops) }
     requires small { All (λ c. c < kind_limit) codes.now }
@@ -145,7 +150,7 @@ fn merged(alloc: Global, tops: &Stacks, codes: &[u64], ops: u32) -> Result<Vec<u
 pub type Passed = Vec<Option<Vec<u64>>>;
 
 /// The kinds of a function behind one call more.
-fn joined(
+fn join_call(
     alloc: Global,
     facts: &Facts,
     tops: &Stacks,
@@ -169,11 +174,11 @@ fn joined(
 {
     match &passed[callee] {
         Some(codes) => {
-            let both = merged(alloc, tops, codes, ops)?;
+            let both = merge_top(alloc, tops, codes, ops)?;
             Ok(both)
         }
         None => {
-            let first = topmost(alloc, tops, facts.params(callee), ops)?;
+            let first = topmost_kinds(alloc, tops, facts.params(callee), ops)?;
             Ok(first)
         }
     }
@@ -202,7 +207,7 @@ fn pass(
     ensures fault { IfErr result (MixesWith (slice_get (passed_seen passed.old.items) callee)
         (take (params_of facts.now callee) (kinds tops.now ops))) }
 {
-    let codes = joined(alloc, facts, tops, passed, callee, ops)?;
+    let codes = join_call(alloc, facts, tops, passed, callee, ops)?;
     passed[callee] = Some(codes);
     Ok(())
 }

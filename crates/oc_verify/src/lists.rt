@@ -15,7 +15,7 @@ fn targets(alloc: Global, count: u32, reader: &mut Reader) -> Result<Vec<Target>
 {
     let mut targets = Vec::new(alloc);
     for _done in 0..count {
-        let target = reader.target()?;
+        let target = reader.read_target()?;
         if targets.push(target).is_err() {
             return Err(ReadFault::Memory);
         }
@@ -37,7 +37,7 @@ fn instructions(alloc: Global, count: u32, reader: &mut Reader) -> Result<Vec<Pl
 {
     let mut code = Vec::new(alloc);
     for _done in 0..count {
-        let placed = reader.placed()?;
+        let placed = reader.read_placed()?;
         if code.push(placed).is_err() {
             return Err(ReadFault::Memory);
         }

@@ -79,7 +79,7 @@ impl<'a> Reader<'a> {
     fn bare(&mut self, instr: Instr) -> Result<Instr, ReadFault>
         ensures { reads.Reads (λ x. x) result self.new (none_at instr self.old) }
     {
-        self.unused()?;
+        self.skip_unused()?;
         Ok(instr)
     }
 
@@ -154,7 +154,7 @@ impl<'a> Reader<'a> {
     }
 
     /// An instruction with its site.
-    pub fn placed(&mut self) -> Result<Placed, ReadFault>
+    pub fn read_placed(&mut self) -> Result<Placed, ReadFault>
         ensures { reads.Reads (λ x. x) result self.new (placed_at self.old) }
     {
         let kind = self.number(1, 24)?;

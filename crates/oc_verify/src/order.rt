@@ -70,7 +70,7 @@ fn reaching(alloc: Global, reach: &Reach, function: usize) -> Result<Marks, Allo
 }
 
 /// One more, where it is marked.
-fn counted(marked: bool, count: usize) -> usize
+fn count_if(marked: bool, count: usize) -> usize
     requires { count < 9223372036854775808 }
     ensures { result ≡ one marked + count }
 {
@@ -87,7 +87,7 @@ fn count_marked(marks: &Marks, ranks: &mut [usize])
 {
     for caller in 0..ranks.len() {
         let count = ranks[caller];
-        ranks[caller] = counted(marks.has(caller), count);
+        ranks[caller] = count_if(marks.has(caller), count);
     }
 }
 

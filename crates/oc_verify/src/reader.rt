@@ -120,7 +120,7 @@ impl<'a> Reader<'a> {
 
     /// Two numbers that aren't used.
     #[tactic(auto, unfolding(crate::specs::Reading::unused_at))]
-    pub fn unused(&mut self) -> Result<(), ReadFault>
+    pub fn skip_unused(&mut self) -> Result<(), ReadFault>
         ensures { reads.Passes result self.new (unused_at self.old) }
     {
         self.number(0, 0)?;
@@ -139,7 +139,7 @@ impl<'a> Reader<'a> {
     }
 
     /// A target of a region.
-    pub fn target(&mut self) -> Result<Target, ReadFault>
+    pub fn read_target(&mut self) -> Result<Target, ReadFault>
         ensures { reads.Reads (λ t. t) result self.new (target_at self.old) }
     {
         let tag = self.number(0, 1)?;

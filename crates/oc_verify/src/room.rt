@@ -57,7 +57,7 @@ fn heights(alloc: Global, tops: &Stacks) -> Result<Vec<u32>, AllocError>
 }
 
 /// How many words a function needs at an instruction, with what it calls there.
-fn needed(facts: &Facts, bounds: &[u64], function: usize, instr: Instr, height: u32) -> u64
+fn words_needed_at(facts: &Facts, bounds: &[u64], function: usize, instr: Instr, height: u32) -> u64
     requires function { function < length facts.now.functions }
     requires sized { length bounds.now ≡ length facts.now.functions }
     requires low { (g : ℕ) → get_or bounds.now g 0 ≤ facts.now.stack }
@@ -78,7 +78,7 @@ fn needed(facts: &Facts, bounds: &[u64], function: usize, instr: Instr, height: 
 }
 
 /// How many words a function needs.
-fn bound(
+fn words_needed(
     facts: &Facts,
     table: &Table,
     heights: &[u32],
@@ -106,7 +106,7 @@ fn bound(
     for at in entry..end {
         if let Some((ops, _)) = table.cells[at] {
             let height = heights[ops as usize];
-            let here = needed(facts, bounds, function, image.code[at].instr, height);
+            let here = words_needed_at(facts, bounds, function, image.code[at].instr, height);
             if here > image.stack as u64 {
                 return Err(VerifyError::Refused { at: 0, rule: 11 });
             }
@@ -137,7 +137,7 @@ pub fn check_room(
     for rank in 0..count + 1 {
         for function in 0..count {
             if ranks[function] == rank {
-                bounds[function] = bound(facts, table, &heights, &bounds, function)?;
+                bounds[function] = words_needed(facts, table, &heights, &bounds, function)?;
             }
         }
     }

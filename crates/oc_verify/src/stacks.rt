@@ -176,7 +176,7 @@ impl Stacks {
     }
 
     /// The kinds below so many arguments.
-    pub fn without(&mut self, count: u32, ops: u32) -> Result<u32, Fault>
+    pub fn drop_arguments(&mut self, count: u32, ops: u32) -> Result<u32, Fault>
         requires { ops ≤ length self.old }
         ensures exact { Tells (λ n. kinds self.old n) result
             (dropping count (kinds self.old ops)) }

@@ -20,13 +20,13 @@ fn numbers_have_a_range(rt: HostRuntime) -> Result<(), Fail> {
 fn a_target_and_an_instruction(rt: HostRuntime) -> Result<(), Fail> {
     let bytes = b"\x01\0\0\0\x02\0\0\0\x03\0\0\0\x0b\0\0\0\x05\0\0\0\x01\0\0\0\0\0\0\0\x19\0\0\0";
     let mut reader = Reader::new(bytes);
-    assert!(rt; reader.target() == Ok(Target::Param { slot: 2, len: 3 }));
+    assert!(rt; reader.read_target() == Ok(Target::Param { slot: 2, len: 3 }));
     let placed = Placed {
         instr: Instr::Bin { op: BinOp::Sub },
         site: 5,
     };
-    assert!(rt; reader.placed() == Ok(placed));
-    assert!(rt; reader.placed() == Err(ReadFault::Bad { left: 4 }));
+    assert!(rt; reader.read_placed() == Ok(placed));
+    assert!(rt; reader.read_placed() == Err(ReadFault::Bad { left: 4 }));
     Ok(())
 }
 

@@ -10,17 +10,17 @@ pub returns-in_err-placed : goal.returns-in_err-placed
 returns-in_err-placed c =
     let l : c.args.count - c.loop-done._done ≡ suc (c.args.count - (c.loop-done._done + 1)) = omega (arith, c.loop-done-test.true) in
     let q : c.from_residual.result ≡ Err c.in_err-placed.field-0.0 = search rules in
-    subst (λ (r : Result (Vec Placed Global) ReadFault). Reads (λ v. v.items) r c.placed.new.self (many_at placed_at c.args.count c.args.reader.now)) (sym q)
+    subst (λ (r : Result (Vec Placed Global) ReadFault). Reads (λ v. v.items) r c.read_placed.new.self (many_at placed_at c.args.count c.args.reader.now)) (sym q)
     (many_faults (λ (v : Vec Placed Global). v.items) placed_at c.args.count c.args.reader.now c.loop-done.code.items (c.args.count - c.loop-done._done)
-    (c.args.count - (c.loop-done._done + 1)) c.loop-done.reader c.placed.new.self c.in_err-placed.field-0.0 l c.in_err-placed.ensures c.loop-done.invariant)
+    (c.args.count - (c.loop-done._done + 1)) c.loop-done.reader c.read_placed.new.self c.in_err-placed.field-0.0 l c.in_err-placed.ensures c.loop-done.invariant)
 
 pub loop-done-preserved : goal.loop-done-preserved
 loop-done-preserved c =
     let l : c.args.count - c.loop-done._done ≡ suc (c.args.count - (c.loop-done._done + 1)) = omega (arith, c.loop-done-test.true) in
     let items : c.push.new.self.items ≡ c.loop-done.code.items ++ c.in_ok-placed.placed ∷ [] = search rules in
-    subst (λ (xs : List Placed). IsMany placed_at c.args.count c.args.reader.now xs (c.args.count - (c.loop-done._done + 1)) c.placed.new.self) (sym items)
+    subst (λ (xs : List Placed). IsMany placed_at c.args.count c.args.reader.now xs (c.args.count - (c.loop-done._done + 1)) c.read_placed.new.self) (sym items)
     (many_more placed_at c.args.count c.args.reader.now c.loop-done.code.items (c.args.count - c.loop-done._done) (c.args.count - (c.loop-done._done + 1)) c.loop-done.reader
-    c.placed.new.self c.in_ok-placed.placed l c.in_ok-placed.ensures c.loop-done.invariant)
+    c.read_placed.new.self c.in_ok-placed.placed l c.in_ok-placed.ensures c.loop-done.invariant)
 
 pub returns : goal.returns
 returns c =

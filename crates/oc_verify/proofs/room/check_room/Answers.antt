@@ -9,11 +9,11 @@ use Rattle.oc_verify.proofs.RoomLaws.{all_bounded, all_deep, blame_deep, bounded
 use Rattle.oc_verify.proofs.room.check_room.Goals as goal
 use Rattle.oc_verify.proofs.room.check_room.Goals.{then-ranks-function+in_ok-bounds-2, else-ranks-function}
 
-pub bound-requires-clause-named : goal.bound-requires-clause-named
-bound-requires-clause-named c = c.requires.named c.loop-function.function
+pub words_needed-requires-clause-named : goal.words_needed-requires-clause-named
+words_needed-requires-clause-named c = c.requires.named c.loop-function.function
 
-pub bound-requires-clause-deep : goal.bound-requires-clause-deep
-bound-requires-clause-deep c = all_deep c.args.facts.now c.image.ensures.laid c.requires.named c.args.ranks.now c.requires.ranked (table_marks c.args.table.now)
+pub words_needed-requires-clause-deep : goal.words_needed-requires-clause-deep
+words_needed-requires-clause-deep c = all_deep c.args.facts.now c.image.ensures.laid c.requires.named c.args.ranks.now c.requires.ranked (table_marks c.args.table.now)
     c.requires.examined c.loop-function.function
 
 pub returns-in_err-bounds-2-clause-blames : goal.returns-in_err-bounds-2-clause-blames

@@ -1,6 +1,6 @@
 use Rattle.std.proofs.Common.{◌≡◌, ◌≤◌, length, take, drop}
 use Rattle.oc_verify.specs.Stacks.{stack}
-use Rattle.oc_verify.proofs.kinds.topmost.Given as goal
+use Rattle.oc_verify.proofs.kinds.topmost_kinds.Given as goal
 
 abbrev pub invariant-loop-done : goal.invariant-loop-done
 invariant-loop-done l = record {

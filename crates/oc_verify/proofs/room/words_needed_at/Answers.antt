@@ -5,7 +5,7 @@ use Rattle.oc_verify.specs.Room.{needed}
 use Rattle.oc_verify.specs.Rules.{on_function, params_of}
 use Rattle.oc_verify.specs.Verified.{frame_at}
 use Rattle.oc_verify.proofs.RoomLaws.{needed_other}
-use Rattle.oc_verify.proofs.room.needed.Goals as goal
+use Rattle.oc_verify.proofs.room.words_needed_at.Goals as goal
 
 pub params-requires : goal.params-requires
 params-requires c = (c.requires.callee c.in-Call.f c.in-Call.is).0

@@ -7,7 +7,7 @@ use Rattle.oc_verify.specs.Stacks.{stack}
 use Rattle.oc_verify.specs.Told.{kind_of, kinds}
 use Rattle.oc_verify.proofs.OrderLaws.{drop_past}
 use Rattle.oc_verify.proofs.TopLaws.{drop_next, least_done, least_next, onto}
-use Rattle.oc_verify.proofs.kinds.merged.Goals as goal
+use Rattle.oc_verify.proofs.kinds.merge_top.Goals as goal
 
 pub loop-code-preserved : goal.loop-code-preserved
 loop-code-preserved c =

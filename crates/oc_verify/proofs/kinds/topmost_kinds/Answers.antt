@@ -1,7 +1,7 @@
 use Rattle.std.proofs.Common.{rules, ◌≡◌, ◌∷◌, ◌++◌, [], ◌+◌, take, drop, sym, ◌∙◌}
 use Rattle.oc_verify.specs.Stacks.{stack}
 use Rattle.oc_verify.proofs.TopLaws.{drop_next, take_next}
-use Rattle.oc_verify.proofs.kinds.topmost.Goals as goal
+use Rattle.oc_verify.proofs.kinds.topmost_kinds.Goals as goal
 
 pub loop-done-preserved : goal.loop-done-preserved
 loop-done-preserved c =

@@ -4,7 +4,7 @@ use Rattle.oc_verify.specs.Merging.{leasts}
 use Rattle.oc_verify.specs.Stacks.{stack}
 use Rattle.oc_verify.specs.Told.{kind_of, kinds}
 use Rattle.oc_verify.proofs.TopLaws.{onto}
-use Rattle.oc_verify.proofs.kinds.merged.Given as goal
+use Rattle.oc_verify.proofs.kinds.merge_top.Given as goal
 
 abbrev pub invariant-loop-code : goal.invariant-loop-code
 invariant-loop-code l = record {

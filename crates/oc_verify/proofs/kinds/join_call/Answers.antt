@@ -8,10 +8,10 @@ use Rattle.oc_verify.specs.Stacks.{stack}
 use Rattle.oc_verify.specs.Tables.{Mixes, MixesWith, passed_seen}
 use Rattle.oc_verify.specs.Told.{kind_of, kinds}
 use Rattle.oc_verify.proofs.SeenLaws.{joins_none, joins_some, mixes_some, seen_none, seen_some}
-use Rattle.oc_verify.proofs.kinds.joined.Goals as goal
+use Rattle.oc_verify.proofs.kinds.join_call.Goals as goal
 
-pub merged-requires-clause-deep : goal.merged-requires-clause-deep
-merged-requires-clause-deep c =
+pub merge_top-requires-clause-deep : goal.merge_top-requires-clause-deep
+merge_top-requires-clause-deep c =
     let ps = c.args.passed.now.items in
     let k = c.args.callee in
     let i : slice_get ps k ≡ Some c.index.result.now = slice_get_read ps (length ps) k c.index.result.now refl c.requires.callee c.index.ensures in
@@ -21,8 +21,8 @@ merged-requires-clause-deep c =
     let l = c.requires.deep in
     omega (arith, n, m, l)
 
-pub merged-requires-clause-small : goal.merged-requires-clause-small
-merged-requires-clause-small c =
+pub merge_top-requires-clause-small : goal.merge_top-requires-clause-small
+merge_top-requires-clause-small c =
     let ps = c.args.passed.now.items in
     let k = c.args.callee in
     let i : slice_get ps k ≡ Some c.index.result.now = slice_get_read ps (length ps) k c.index.result.now refl c.requires.callee c.index.ensures in

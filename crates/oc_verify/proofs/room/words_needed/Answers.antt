@@ -4,8 +4,8 @@ use Rattle.oc_verify.specs.Told.{pair_of}
 use Rattle.oc_verify.specs.Walks.{table_marks}
 use Rattle.oc_verify.proofs.MostLaws.{IsMostBefore, blank_more, cell_read, looked, looked_call, looked_deep, looked_more, most_all}
 use Rattle.oc_verify.proofs.SeenLaws.{cell_blank}
-use Rattle.oc_verify.proofs.room.bound.Goals as goal
-use Rattle.oc_verify.proofs.room.bound.Goals.{in-Some+else-here-image, in_default}
+use Rattle.oc_verify.proofs.room.words_needed.Goals as goal
+use Rattle.oc_verify.proofs.room.words_needed.Goals.{in-Some+else-here-image, in_default}
 
 pub bounds-heights-ops : goal.bounds-heights-ops
 bounds-heights-ops c =
@@ -15,8 +15,8 @@ bounds-heights-ops c =
     let many = c.requires.many in
     omega (arith, low, many)
 
-pub needed-here-requires-clause-callee : goal.needed-here-requires-clause-callee
-needed-here-requires-clause-callee c = λ g is.
+pub words_needed_at-here-requires-clause-callee : goal.words_needed_at-here-requires-clause-callee
+words_needed_at-here-requires-clause-callee c = λ g is.
     let L = looked (parts_of c.image-image.result.now) c.args.facts.now c.image-image.ensures.image c.args.table.now c.requires.table
     c.args.function c.stretch-entry.result c.stretch-entry.ensures c.loop-at.at c.loop-at.auto.at c.loop-at-test.true c.index.result.now c.index.ensures
     c.args.heights.now c.requires.heights (c.in-Some.ops, c.in-Some.field-0-1) c.in-Some.is c.index-in-Some.result.now c.index-in-Some.ensures in
@@ -29,7 +29,7 @@ returns-then-here-image-clause-fault c =
     c.args.function c.stretch-entry.result c.stretch-entry.ensures c.loop-at.at c.loop-at.auto.at c.loop-at-test.true c.index.result.now c.index.ensures
     c.args.heights.now c.requires.heights (c.in-Some.ops, c.in-Some.field-0-1) c.in-Some.is c.index-in-Some.result.now c.index-in-Some.ensures in
     looked_deep c.args.facts.now c.args.table.now c.args.function c.loop-at.at (c.in-Some.ops, c.in-Some.field-0-1) c.index-in-Some.result.now c.args.heights.now L
-    c.args.bounds.now c.needed-here.result c.needed-here.ensures (c.image-image.result.now.stack) (ap (λ (k : Parts). k.stack) c.image-image.ensures.image) c.if-here-image.true
+    c.args.bounds.now c.words_needed_at-here.result c.words_needed_at-here.ensures (c.image-image.result.now.stack) (ap (λ (k : Parts). k.stack) c.image-image.ensures.image) c.if-here-image.true
 
 pub loop-at-preserved : goal.loop-at-preserved
 loop-at-preserved c = elim c.match-index.branch [
@@ -39,7 +39,7 @@ loop-at-preserved c = elim c.match-index.branch [
       c.args.heights.now c.requires.heights (w.in-Some.ops, w.in-Some.field-0-1) w.in-Some.is w.index-in-Some.result.now w.index-in-Some.ensures in
       subst (IsMostBefore c.args.facts.now (table_marks c.args.table.now) c.args.bounds.now c.args.function (c.loop-at.at + 1)) (sym (w.most-is ∙ w.max-most.ensures))
       (looked_more c.args.facts.now c.args.table.now c.args.function c.loop-at.at (w.in-Some.ops, w.in-Some.field-0-1) w.index-in-Some.result.now c.args.heights.now L
-      c.args.bounds.now w.needed-here.result w.needed-here.ensures (c.image-image.result.now.stack) (ap (λ (k : Parts). k.stack) c.image-image.ensures.image)
+      c.args.bounds.now w.words_needed_at-here.result w.words_needed_at-here.ensures (c.image-image.result.now.stack) (ap (λ (k : Parts). k.stack) c.image-image.ensures.image)
       w.if-here-image.false c.loop-at.most c.loop-at.invariant)
   | in_default w ↦
       let e = cell_read (parts_of c.image-image.result.now) c.args.facts.now c.image-image.ensures.image c.args.table.now c.requires.table

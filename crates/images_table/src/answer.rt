@@ -13,9 +13,7 @@ use oc_power::recorded::Recorded;
 use oc_power::supply::Supply;
 use oc_sensors::file::read_sensors;
 use oc_tree::said::TrapKind;
-use oc_verify::fault::{ImageError, VerifyError};
-use oc_verify::read::read_image;
-use oc_verify::verify::verify;
+use oc_verify::{ImageError, VerifyError, read_image, verify};
 use std::alloc::Global;
 
 /// What becomes of a file: its first bad field, a rule that it breaks, or how its run stops.

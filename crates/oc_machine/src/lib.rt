@@ -17,6 +17,6 @@ mod prepared;
 mod quiet;
 mod region;
 mod rows;
-pub mod run;
-pub mod stack;
+mod run;
+mod stack;
 pub mod stop;

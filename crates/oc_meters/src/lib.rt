@@ -10,7 +10,7 @@
 pub mod book;
 pub mod kinds;
 pub mod laws;
-pub mod line;
+mod line;
 pub mod meter;
 pub mod sink;
 #[cfg(test)]

@@ -10,6 +10,6 @@ pub mod marks;
 pub mod mentions;
 pub mod params;
 pub mod parts;
-pub mod passes;
+mod passes;
 pub mod reach;
 pub mod table;

@@ -17,9 +17,7 @@ use oc_power::power::{PowerError, read_trace};
 use oc_power::supply::Supply;
 use oc_sensors::file::{SensorError, read_sensors};
 use oc_sensors::sensors::Sensors;
-use oc_verify::fault::{ImageError, VerifyError};
-use oc_verify::read::read_image;
-use oc_verify::verify::verify;
+use oc_verify::{ImageError, VerifyError, read_image, verify};
 use std::alloc::Global;
 
 /// A newly loaded machine, and the sensors that it reads.

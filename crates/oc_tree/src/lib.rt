@@ -8,7 +8,7 @@ pub mod checked;
 pub mod laws;
 pub mod marked;
 pub mod name;
-pub mod nodes;
+mod nodes;
 mod places;
 pub mod said;
 pub mod scope;

@@ -1,26 +1,30 @@
 //! Which bytes are images, and which images are sound.
 #![tactic(auto)]
 
-pub mod declared;
-pub mod facts;
-pub mod fault;
-pub mod judge;
-pub mod kind;
-pub mod kinds;
-pub mod laws;
-pub mod layout;
-pub mod lists;
-pub mod names;
-pub mod operands;
-pub mod order;
-pub mod read;
-pub mod reader;
-pub mod room;
-pub mod slots;
-pub mod stacks;
+mod declared;
+mod facts;
+mod fault;
+mod judge;
+mod kind;
+mod kinds;
+mod laws;
+mod layout;
+mod lists;
+mod names;
+mod operands;
+mod order;
+mod read;
+mod reader;
+mod room;
+mod slots;
+mod stacks;
 #[cfg(test)]
 mod tests;
-pub mod verify;
+mod verdict;
 #[cfg(test)]
 mod verify_tests;
-pub mod walk;
+mod walk;
+
+pub use fault::{ImageError, VerifyError};
+pub use read::read_image;
+pub use verdict::verify;

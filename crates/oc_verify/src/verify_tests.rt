@@ -1,6 +1,6 @@
 use crate::fault::VerifyError;
 use crate::read::read_image;
-use crate::verify::verify;
+use crate::verdict::verify;
 use std::alloc::Global;
 use std::test::Fail;
 

@@ -3,7 +3,7 @@ use Rattle.oc_verify.specs.Typing.{Typing}
 use Rattle.oc_verify.specs.Verified.{IsVerified}
 use Rattle.oc_verify.specs.Walks.{table_marks}
 use Rattle.oc_verify.proofs.VerifiedLaws.{verified_of}
-use Rattle.oc_verify.proofs.verify.examine.Goals as goal
+use Rattle.oc_verify.proofs.verdict.examine.Goals as goal
 
 pub returns-clause-verified : goal.returns-clause-verified
 returns-clause-verified c =

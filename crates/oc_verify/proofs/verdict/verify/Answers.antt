@@ -6,7 +6,7 @@ use Rattle.oc_verify.specs.Rules.{Broken}
 use Rattle.oc_verify.proofs.Exact.{unbroken}
 use Rattle.oc_verify.proofs.Typed.{verified_sound}
 use Rattle.oc_verify.proofs.WellMade.{well_made}
-use Rattle.oc_verify.proofs.verify.verify.Goals as goal
+use Rattle.oc_verify.proofs.verdict.verify.Goals as goal
 
 pub new-requires : goal.new-requires
 new-requires c = let v = c.in-Ok.ensures.verified in well_made (parts_of c.args.raw) v.0 v.1

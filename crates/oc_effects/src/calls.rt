@@ -14,7 +14,7 @@ use oc_tree::name::Name;
 use oc_tree::tree::{Arg, Call, Expr, Param, Right, StmtKind, VarId};
 use std::alloc::{AllocError, Global};
 
-// The name that is lent where the parameter takes `&mut`.
+/// The name that is lent where the parameter takes `&mut`.
 fn lent_name(arg: &Arg) -> Option<&Name>
     ensures { name_seen result ≡ lent_name (arg_view arg.now) }
 {
@@ -28,8 +28,8 @@ fn lent_name(arg: &Arg) -> Option<&Name>
     }
 }
 
-// The variable that an argument lends to a parameter.
-fn lent(here: &Here, param: &Param, arg: &Arg) -> Option<VarId>
+/// The variable that an argument lends to a parameter.
+fn lent_variable(here: &Here, param: &Param, arg: &Arg) -> Option<VarId>
     ensures { result
         ≡ (passed here.now.known.now (placed_view here.now) param.now (arg_view arg.now)).lent }
 {
@@ -40,7 +40,8 @@ fn lent(here: &Here, param: &Param, arg: &Arg) -> Option<VarId>
     variable(here, name)
 }
 
-fn passed(alloc: Global, here: &Here, param: &Param, arg: &Arg) -> Result<Passed, AllocError>
+/// What an argument names, and what it lends to its parameter.
+fn resolve_arg(alloc: Global, here: &Here, param: &Param, arg: &Arg) -> Result<Passed, AllocError>
     ensures { IfOk result
         (λ a. passed_view a
         ≡ passed here.now.known.now (placed_view here.now) param.now (arg_view arg.now)) }
@@ -50,11 +51,12 @@ fn passed(alloc: Global, here: &Here, param: &Param, arg: &Arg) -> Result<Passed
     let named = variables(alloc, here, names.as_slice())?;
     Ok(Passed {
         named,
-        lent: lent(here, param, arg),
+        lent: lent_variable(here, param, arg),
     })
 }
 
-fn all_passed(
+/// The arguments that have a parameter, each resolved.
+fn resolve_args(
     alloc: Global,
     here: &Here,
     params: &[Param],
@@ -67,14 +69,15 @@ fn all_passed(
     let mut all = Vec::new(alloc);
     for (i, arg) in args.iter().enumerate() {
         if i < params.len() {
-            let one = passed(alloc, here, &params[i], arg)?;
+            let one = resolve_arg(alloc, here, &params[i], arg)?;
             all.push(one)?;
         }
     }
     Ok(all)
 }
 
-fn called_by(alloc: Global, here: &Here, call: &Call) -> Result<Option<Called>, AllocError>
+/// A call, where its function exists.
+fn resolve_call(alloc: Global, here: &Here, call: &Call) -> Result<Option<Called>, AllocError>
     ensures { IfOk result
         (λ c. option_map called_view c
         ≡ called_by here.now.known.now (placed_view here.now) (call_view call.now)) }
@@ -82,14 +85,14 @@ fn called_by(alloc: Global, here: &Here, call: &Call) -> Result<Option<Called>, 
     match here.known.function(&call.function) {
         Some(function) => {
             let params = here.known.params(function);
-            let args = all_passed(alloc, here, params, call.args.as_slice())?;
+            let args = resolve_args(alloc, here, params, call.args.as_slice())?;
             Ok(Some(Called { function, args }))
         }
         None => Ok(None),
     }
 }
 
-// The call that is the whole right side or the whole statement.
+/// The call that is the whole right side or the whole statement.
 fn call_of(kind: &StmtKind) -> Option<&Call>
     ensures { call_seen result ≡ call_of (kind_view kind.now) }
 {
@@ -103,14 +106,14 @@ fn call_of(kind: &StmtKind) -> Option<&Call>
 }
 
 /// The call of a statement.
-pub fn called(alloc: Global, here: &Here) -> Result<Option<Called>, AllocError>
+pub fn resolve_own_call(alloc: Global, here: &Here) -> Result<Option<Called>, AllocError>
     ensures { IfOk result
         (λ c. option_map called_view c
         ≡ option_and_then (called_by here.now.known.now (placed_view here.now))
         (call_of (kind_view here.now.kind.now))) }
 {
     match call_of(here.kind) {
-        Some(call) => called_by(alloc, here, call),
+        Some(call) => resolve_call(alloc, here, call),
         None => Ok(None),
     }
 }

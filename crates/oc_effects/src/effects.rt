@@ -20,7 +20,7 @@ use oc_tree::tree::{BlockId, Function, Param, StmtId, VarId};
 use std::alloc::{AllocError, Global};
 use std::marker::Model;
 
-// The variables that are visible in front of a function's body.
+/// The variables that are visible in front of a function's body.
 fn param_scope<'a>(alloc: Global, params: &'a [Param]) -> Result<Scope<'a>, AllocError>
     requires { length params.now < 2 ^ 32 }
     ensures { IfOk result (λ s. s ≡ param_variables 0 params.now) }
@@ -33,6 +33,7 @@ fn param_scope<'a>(alloc: Global, params: &'a [Param]) -> Result<Scope<'a>, Allo
     Ok(scope)
 }
 
+/// Adds the effects of the statements of a function.
 fn add_function<'a>(
     alloc: Global,
     known: &Known<'a>,
@@ -58,7 +59,7 @@ fn add_function<'a>(
     Ok(())
 }
 
-// Those of all functions, one after another; where those of each function begin, and the end.
+/// Those of all functions, one after another; where those of each function begin, and the end.
 fn all_effects<'a>(
     alloc: Global,
     known: &Known<'a>,
@@ -80,7 +81,7 @@ fn all_effects<'a>(
     Ok((effects, starts))
 }
 
-// Those of the function at a place.
+/// Those of the function at a place.
 fn part<'e>(effects: &'e [Effect], starts: &[usize], function: usize) -> &'e [Effect]
     requires below { function + 1 < length starts.now }
     requires order { get_or starts.now function 0 ≤ get_or starts.now (function + 1) 0 }
@@ -95,8 +96,9 @@ fn part<'e>(effects: &'e [Effect], starts: &[usize], function: usize) -> &'e [Ef
 #[derive(Drop)]
 pub struct Effects<'a> {
     checked: &'a Checked,
-    // Those of all functions, one after another; where those of each function begin, and the end.
+    /// Those of all functions, one after another.
     effects: Vec<Effect>,
+    /// Where those of each function begin, and the end.
     starts: Vec<usize>,
 }
 
@@ -176,7 +178,7 @@ impl<'a> Effects<'a> {
     }
 
     /// The effect of the statement of a number, in the function at a place.
-    pub fn numbered(&self, function: usize, s: StmtId) -> Option<&Effect>
+    pub fn find_in(&self, function: usize, s: StmtId) -> Option<&Effect>
         requires { function < length self.now.program.functions }
         ensures { effect_seen result ≡ find (is_numbered s) (effects_at self.now.program function) }
     {

@@ -11,6 +11,7 @@ use oc_tree::tree::{Param, Program, VarId};
 use std::alloc::{AllocError, Global};
 use std::marker::Model;
 
+/// The places of names.
 fn name_table<'a>(alloc: Global, names: &'a [Name]) -> Result<Table<'a>, AllocError>
     ensures { IfOk result (λ t. t ≡ names.now) }
 {
@@ -48,6 +49,7 @@ impl<'a> Model for Known<'a> {
 }
 
 impl<'a> Known<'a> {
+    /// The tables of a program.
     pub fn new(alloc: Global, program: &'a Program) -> Result<Known<'a>, AllocError>
         requires functions { length (program_view program.now).functions < 2 ^ 32 }
         requires nvs { length (program_view program.now).names.nvs < 2 ^ 32 }

@@ -9,6 +9,7 @@ use oc_tree::name::Name;
 use oc_tree::tree::{Right, StmtKind};
 use std::alloc::AllocError;
 
+/// Adds the variables in a right side that is an expression.
 fn value_names<'a>(right: &'a Right, names: &mut Vec<&'a Name>) -> Result<(), AllocError>
     ensures { OnOk result
         (names_seen names.new.items

@@ -8,6 +8,7 @@ use crate::effect::Note;
 use crate::here::{Here, variable};
 use oc_tree::tree::{Right, StmtKind, VarId};
 
+/// Whether a statement is a loop.
 pub fn is_loop(kind: &StmtKind) -> bool
     ensures { result ≡ is_loop (kind_view kind.now) }
 {
@@ -41,7 +42,7 @@ pub fn senses(kind: &StmtKind) -> bool
 }
 
 /// The variable that a statement sets.
-pub fn target(here: &Here) -> Option<VarId>
+pub fn target_of(here: &Here) -> Option<VarId>
     ensures { result
         ≡ target_of here.now.known.now (placed_view here.now) (kind_view here.now.kind.now) }
 {
@@ -58,7 +59,7 @@ pub fn target(here: &Here) -> Option<VarId>
 }
 
 /// The annotation that a statement is.
-pub fn note(here: &Here) -> Option<Note>
+pub fn note_of(here: &Here) -> Option<Note>
     ensures { result
         ≡ note_of here.now.known.now (placed_view here.now) (kind_view here.now.kind.now) }
 {

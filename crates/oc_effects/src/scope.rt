@@ -7,7 +7,7 @@ use oc_tree::tree::VarId;
 use std::alloc::{AllocError, Global};
 use std::marker::Model;
 
-// A variable with its name.
+/// A variable with its name.
 #[derive(Clone, Copy)]
 pub struct Binding<'a> {
     name: &'a [u8],
@@ -31,6 +31,7 @@ impl<'a> Model for Scope<'a> {
 }
 
 impl<'a> Scope<'a> {
+    /// One without variables.
     pub fn new(alloc: Global) -> Scope<'a>
         ensures { result ≡ [] }
     {

@@ -119,7 +119,7 @@ fn groups(alloc: Global) -> Result<Vec<(StmtId, StmtId)>, AllocError>
     Ok(groups)
 }
 
-fn checked(alloc: Global) -> Result<Checked, AllocError> {
+fn checked_example(alloc: Global) -> Result<Checked, AllocError> {
     let program = program(alloc)?;
     let groups = groups(alloc)?;
     Ok(Checked::new(program, groups))
@@ -128,7 +128,7 @@ fn checked(alloc: Global) -> Result<Checked, AllocError> {
 #[test]
 fn a_loop(rt: HostRuntime) -> Result<(), Fail> {
     let alloc = rt.alloc();
-    let checked = checked(alloc)?;
+    let checked = checked_example(alloc)?;
     let effects = Effects::new(alloc, &checked)?;
     assert_eq!(rt; effects.functions(), 1);
     for s in [1u32, 2, 3] {
@@ -149,7 +149,7 @@ fn a_loop(rt: HostRuntime) -> Result<(), Fail> {
 #[test]
 fn readers_of_a_loop(rt: HostRuntime) -> Result<(), Fail> {
     let alloc = rt.alloc();
-    let checked = checked(alloc)?;
+    let checked = checked_example(alloc)?;
     let turn = name(alloc, "i")?;
     let one = name(alloc, "a")?;
     for (s, line, block, loops) in [(1, 1, 1, 0), (2, 2, 2, 1), (3, 3, 1, 0)] {
@@ -272,7 +272,7 @@ fn put_program(alloc: Global) -> Result<Program, AllocError>
 }
 
 /// The effects of a block, where the parameters have these names.
-fn walked<'a>(
+fn walk_body<'a>(
     alloc: Global,
     program: &'a Program,
     names: (&'a Name, &'a Name),
@@ -305,7 +305,7 @@ fn a_call(rt: HostRuntime) -> Result<(), Fail> {
     let a = name(alloc, "a")?;
     let b = name(alloc, "b")?;
     let body = body(alloc)?;
-    let effects = walked(alloc, &program, (&a, &b), &body)?;
+    let effects = walk_body(alloc, &program, (&a, &b), &body)?;
     let first = VarId::Param { index: 0 };
     let second = VarId::Param { index: 1 };
     let global = VarId::Nv { index: 0 };

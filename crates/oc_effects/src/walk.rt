@@ -5,18 +5,18 @@ ghost use Rattle.oc_effects.specs.Effects.{effect_of};
 ghost use Rattle.oc_effects.specs.View.{effect_view};
 ghost use Rattle.oc_effects.specs.Walk.{block_effects, declared_by, kind_effects, placed_view, standing, stmt_effects};
 
-use crate::calls::called;
+use crate::calls::resolve_own_call;
 use crate::effect::Effect;
 use crate::here::{Here, variables};
 use crate::known::Known;
 use crate::names::source_names;
-use crate::parts::{is_loop, note, senses, target};
+use crate::parts::{is_loop, note_of, senses, target_of};
 use crate::scope::Scope;
 use oc_meaning::names::own_names;
 use oc_tree::tree::{Block, BlockId, Stmt, StmtId, StmtKind, VarId};
 use std::alloc::{AllocError, Global};
 
-// What a statement does by itself.
+/// What a statement does by itself.
 fn effect(alloc: Global, here: &Here) -> Result<Effect, AllocError>
     ensures { IfOk result
         (λ e. effect_view e ≡ effect_of here.now.known.now (placed_view here.now)) }
@@ -28,7 +28,7 @@ fn effect(alloc: Global, here: &Here) -> Result<Effect, AllocError>
     source_names(here.kind, &mut set_from)?;
     let sources = variables(alloc, here, set_from.as_slice())?;
     let around = Vec::from_slice(alloc, here.around)?;
-    let call = called(alloc, here)?;
+    let call = resolve_own_call(alloc, here)?;
     Ok(Effect {
         stmt: here.stmt,
         line: here.line,
@@ -38,14 +38,14 @@ fn effect(alloc: Global, here: &Here) -> Result<Effect, AllocError>
         declares: here.kind.declares(),
         named,
         sources,
-        target: target(here),
+        target: target_of(here),
         senses: senses(here.kind),
         call,
-        note: note(here),
+        note: note_of(here),
     })
 }
 
-// The statements around those in the blocks of a statement.
+/// The statements around those in the blocks of a statement.
 fn inside(alloc: Global, stmt: StmtId, around: &[StmtId]) -> Result<Vec<StmtId>, AllocError>
     ensures { IfOk result (λ a. a.items ≡ stmt ∷ around.now) }
 {
@@ -57,7 +57,7 @@ fn inside(alloc: Global, stmt: StmtId, around: &[StmtId]) -> Result<Vec<StmtId>,
     Ok(inner)
 }
 
-// The variable that a `let` makes visible behind it.
+/// The variable that a `let` makes visible behind it.
 fn declare<'a>(scope: &mut Scope<'a>, statement: &'a Stmt) -> Result<(), AllocError>
     ensures { OnOk result (scope.new ≡ scope.old ++ declared_by (stmt_view statement.now)) }
 {
@@ -97,6 +97,7 @@ pub fn walk_block<'a>(
     Ok(())
 }
 
+/// The same of one statement and of those inside it; a `let` in it isn't visible yet.
 #[cycle(walk)]
 fn walk_stmt<'a>(
     alloc: Global,
@@ -126,6 +127,7 @@ fn walk_stmt<'a>(
     )
 }
 
+/// The effect of a statement where it stands.
 fn own_effect<'a>(
     alloc: Global,
     known: &Known<'a>,
@@ -152,7 +154,7 @@ fn own_effect<'a>(
     effect(alloc, &here)
 }
 
-// In the blocks of a statement.
+/// The same of the statements in the blocks of a statement.
 #[cycle(walk)]
 fn walk_parts<'a>(
     alloc: Global,

@@ -46,7 +46,7 @@ fn is_loop(effects: &Effects, function: usize, s: StmtId) -> bool
     requires { function < length effects.now.program.functions }
     ensures { result ≡ is_loop_by effects.now.program function s }
 {
-    match effects.numbered(function, s) {
+    match effects.find_in(function, s) {
         Some(effect) => effect.is_loop,
         None => false,
     }

@@ -27,7 +27,7 @@ fn is_inside(body: &Body, outer: StmtId, s: StmtId) -> bool
     ensures { result
         ≡ asks_at (stands_in outer) body.now.summaries.now.program body.now.function s }
 {
-    match body.summaries.effects().numbered(body.function as usize, s) {
+    match body.summaries.effects().find_in(body.function as usize, s) {
         Some(effect) => effect.around.contains(&outer),
         None => false,
     }

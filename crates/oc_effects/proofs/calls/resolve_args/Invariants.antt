@@ -3,7 +3,7 @@ use Rattle.oc_tree.specs.View.{args_view}
 use Rattle.oc_effects.specs.Effects.{all_passed}
 use Rattle.oc_effects.specs.View.{passed_view}
 use Rattle.oc_effects.specs.Walk.{placed_view}
-use Rattle.oc_effects.proofs.calls.all_passed.Given as goal
+use Rattle.oc_effects.proofs.calls.resolve_args.Given as goal
 
 abbrev pub invariant-loop-i : goal.invariant-loop-i
 invariant-loop-i l =

@@ -2,7 +2,7 @@ use Rattle.std.proofs.Common.{map, drop}
 use Rattle.oc_effects.specs.View.{passed_view}
 use Rattle.oc_effects.specs.Walk.{placed_view}
 use Rattle.oc_effects.proofs.Passed.{passed_all}
-use Rattle.oc_effects.proofs.calls.all_passed.Goals as goal
+use Rattle.oc_effects.proofs.calls.resolve_args.Goals as goal
 
 pub returns : goal.returns
 returns c =

@@ -15,7 +15,7 @@ use oc_items::item::Item;
 use oc_judge::judge::{Verdict, judge};
 use oc_needs::required::requirements;
 use oc_needs::requirement::Requirement;
-use oc_region::infer::infer;
+use oc_region::infer;
 use oc_tree::checked::Checked;
 use oc_tree::marked::Marked;
 use oc_worked::checked;

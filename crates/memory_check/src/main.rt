@@ -33,7 +33,7 @@ use oc_power::looped::Looped;
 use oc_power::power::read_power;
 use oc_power::recorded::Recorded;
 use oc_power::supply::Supply;
-use oc_region::infer::infer;
+use oc_region::infer;
 use oc_rows::rows::Rows;
 use oc_sensors::file::read_sensors;
 use oc_top::top::ocelot;

@@ -24,7 +24,7 @@ use oc_tree::checked::Checked;
 use oc_tree::tree::StmtId;
 use std::alloc::{AllocError, Global};
 
-// Whether a block has all sites of a requirement inside, or its function is guarded.
+/// Whether a block has all sites of a requirement inside, or its function is guarded.
 fn is_met(effects: &Effects, blocks: &Blocks, unguarded: &Marks, requirement: &Requirement) -> bool
     requires function { requirement.now.function < unguarded.now.1 }
     requires unguarded { (f : ℕ) → is_in unguarded.now.0 f
@@ -36,7 +36,7 @@ fn is_met(effects: &Effects, blocks: &Blocks, unguarded: &Marks, requirement: &R
         || !unguarded.has(requirement.function as usize)
 }
 
-// The first requirement that isn't met.
+/// The first requirement that isn't met.
 fn first_open<'r>(
     effects: &Effects,
     blocks: &Blocks,
@@ -59,8 +59,8 @@ fn first_open<'r>(
     None
 }
 
-// The first site of an open requirement that no block has inside together with its input; there is
-// one.
+/// The first site of an open requirement that no block has inside together with its input; there is
+/// one.
 fn second_site(
     effects: &Effects,
     blocks: &Blocks,
@@ -79,8 +79,8 @@ fn second_site(
     }
 }
 
-// What is said of the first open requirement.
-fn opened(
+/// What is said of the first open requirement.
+fn open_verdict(
     alloc: Global,
     summaries: &Summaries,
     blocks: &Blocks,
@@ -102,7 +102,7 @@ fn opened(
     })
 }
 
-// What is said of blocks in order.
+/// What is said of blocks in order.
 fn verdict_by(
     alloc: Global,
     summaries: &Summaries,
@@ -116,13 +116,14 @@ fn verdict_by(
     let unguarded = from_main(alloc, effects, blocks)?;
     match first_open(effects, blocks, &unguarded, required) {
         Some(requirement) => {
-            let verdict = opened(alloc, summaries, blocks, requirement)?;
+            let verdict = open_verdict(alloc, summaries, blocks, requirement)?;
             Ok(verdict)
         }
         None => Ok(BlockVerdict::Covered),
     }
 }
 
+/// What is said of blocks in any order.
 fn verdict(
     alloc: Global,
     summaries: &Summaries,

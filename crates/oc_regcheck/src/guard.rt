@@ -16,7 +16,7 @@ use oc_reach::reach::Reach;
 use oc_reach::table::main_place;
 use std::alloc::{AllocError, Global};
 
-// Adds the call of a statement, if it is inside no block: from the called function to the caller.
+/// Adds the call of a statement, if it is inside no block: from the called function to the caller.
 fn add_call(
     effects: &Effects,
     blocks: &Blocks,
@@ -37,6 +37,7 @@ fn add_call(
     Ok(())
 }
 
+/// Adds the calls of statements that are inside no block.
 fn add_calls(
     effects: &Effects,
     blocks: &Blocks,
@@ -55,6 +56,7 @@ fn add_calls(
     Ok(())
 }
 
+/// The calls that are inside no block, each from the called function to the caller.
 fn open_calls(
     alloc: Global,
     effects: &Effects,
@@ -70,7 +72,7 @@ fn open_calls(
     Ok(links)
 }
 
-// The place of `main`.
+/// The place of `main`.
 fn place_of_main(effects: &Effects) -> Option<usize>
     ensures place { result ≡ function_place effects.now.program.functions main }
     ensures below { IfSome result (λ f. f < length effects.now.program.functions) }
@@ -78,7 +80,7 @@ fn place_of_main(effects: &Effects) -> Option<usize>
     main_place(effects.checked().program().functions.as_slice())
 }
 
-// Marks a function, if there is one.
+/// Marks a function, if there is one.
 fn marks_of(alloc: Global, bound: usize, function: Option<usize>) -> Result<Marks, AllocError>
     requires { IfSome function (λ f. f < bound) }
     ensures { IfOk result (λ m. m ≡ (option_to_list function, bound)) }

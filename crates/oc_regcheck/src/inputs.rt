@@ -22,7 +22,7 @@ use oc_tree::marked::Policy;
 use oc_tree::tree::{StmtId, VarId};
 use std::alloc::{AllocError, Global};
 
-// Whether these are the same sites.
+/// Whether these are the same sites.
 fn is_same(left: &[StmtId], right: &[StmtId]) -> bool
     ensures { result ≡ same_sites left.now right.now }
 {
@@ -37,7 +37,7 @@ fn is_same(left: &[StmtId], right: &[StmtId]) -> bool
     left.len() >= right.len()
 }
 
-// Whether the sites that there may be are these.
+/// Whether the sites that there may be are these.
 fn is_given(sites: &[StmtId], given: &Option<Vec<StmtId>>) -> bool
     ensures { result
         ≡ list_any (same_sites sites.now)
@@ -49,7 +49,7 @@ fn is_given(sites: &[StmtId], given: &Option<Vec<StmtId>>) -> bool
     }
 }
 
-// Adds the inputs of a way, where its sites are these.
+/// Adds the inputs of a way, where its sites are these.
 fn add_where(
     alloc: Global,
     all: &mut Vec<StmtId>,
@@ -67,7 +67,7 @@ fn add_where(
     Ok(())
 }
 
-// Adds the inputs of needed variables, where their sites with the others are these.
+/// Adds the inputs of needed variables, where their sites with the others are these.
 fn add_way(
     alloc: Global,
     all: &mut Vec<StmtId>,
@@ -87,7 +87,7 @@ fn add_way(
     Ok(())
 }
 
-// Adds the inputs at a call.
+/// Adds the inputs at a call.
 fn add_call(
     alloc: Global,
     all: &mut Vec<StmtId>,
@@ -109,7 +109,7 @@ fn add_call(
     Ok(())
 }
 
-// Adds the inputs at all calls.
+/// Adds the inputs at all calls.
 fn add_calls(
     alloc: Global,
     all: &mut Vec<StmtId>,
@@ -130,7 +130,7 @@ fn add_calls(
     Ok(())
 }
 
-// The inputs of all ways of a policy in a function.
+/// The inputs of all ways of a policy in a function.
 fn all_ways(
     alloc: Global,
     body: &Body,
@@ -155,7 +155,7 @@ fn all_ways(
     Ok(all)
 }
 
-// The inputs of a requirement by its policy.
+/// The inputs of a requirement by its policy.
 fn inputs_by(
     alloc: Global,
     summaries: &Summaries,
@@ -179,7 +179,7 @@ fn inputs_by(
     Ok(inputs)
 }
 
-// The inputs of a requirement by these policies, which are all.
+/// The inputs of a requirement by these policies, which are all.
 fn inputs_of(
     alloc: Global,
     summaries: &Summaries,
@@ -199,7 +199,7 @@ fn inputs_of(
     }
 }
 
-// The lowest of these numbers, of which there is one.
+/// The lowest of these numbers, of which there is one.
 fn lowest(mut inputs: Vec<StmtId>) -> StmtId
     requires { front (rising inputs.items) ≢ None }
     ensures { front (rising inputs.items) ≡ Some result }

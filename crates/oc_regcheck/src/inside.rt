@@ -6,7 +6,7 @@ ghost use Rattle.oc_regcheck.specs.Code.{is_at, outer, same_place, second_by, sh
 
 use crate::blocks::Blocks;
 use oc_effects::effects::Effects;
-use oc_region::places::around;
+use oc_region::statements_around;
 use oc_tree::tree::StmtId;
 
 /// The outermost block around a statement.
@@ -14,7 +14,7 @@ pub fn outer(effects: &Effects, blocks: &Blocks, s: StmtId) -> Option<StmtId>
     ensures { result ≡ outer effects.now.program (is_number_of blocks.now) s }
 {
     let mut found = None;
-    for t in around(effects, s) {
+    for t in statements_around(effects, s) {
         if blocks.has(*t) {
             found = Some(*t);
         }
@@ -22,6 +22,7 @@ pub fn outer(effects: &Effects, blocks: &Blocks, s: StmtId) -> Option<StmtId>
     found
 }
 
+/// Whether there are both blocks, and they are one.
 fn is_same(block: Option<StmtId>, other: Option<StmtId>) -> bool
     ensures { result ≡ same_place block other }
 {
@@ -31,13 +32,14 @@ fn is_same(block: Option<StmtId>, other: Option<StmtId>) -> bool
     }
 }
 
-// Whether this is the outermost block around a statement.
+/// Whether this is the outermost block around a statement.
 fn is_at(effects: &Effects, blocks: &Blocks, block: Option<StmtId>, s: StmtId) -> bool
     ensures { result ≡ is_at effects.now.program (is_number_of blocks.now) block s }
 {
     is_same(block, outer(effects, blocks, s))
 }
 
+/// Whether this is the outermost block around each of these statements.
 fn all_at(effects: &Effects, blocks: &Blocks, block: Option<StmtId>, sites: &[StmtId]) -> bool
     ensures { result
         ≡ list_all (is_at effects.now.program (is_number_of blocks.now) block) sites.now }

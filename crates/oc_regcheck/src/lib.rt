@@ -3,9 +3,12 @@
 #![tactic(auto)]
 
 mod blocks;
-pub mod check;
+mod check;
 mod guard;
 mod inputs;
 mod inside;
 pub mod laws;
-pub mod verdict;
+mod verdict;
+
+pub use check::check_blocks;
+pub use verdict::BlockVerdict;

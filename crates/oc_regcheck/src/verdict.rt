@@ -1,16 +1,20 @@
 //! What is said of blocks.
 use oc_tree::tree::StmtId;
 
-/// The blocks suffice; or they don't, and this is the first requirement that is in no block and in no
-/// guarded function: the number of its policy, the place of its function, its lowest input, and its
-/// lowest site that no block holds together with that input.
+/// Whether the blocks of a program suffice for what it requires.
 #[derive(Clone, Copy, Debug, PartialEq, Eq)]
 pub enum BlockVerdict {
+    /// They suffice.
     Covered,
+    /// They don't: the first requirement that is in no block and in no guarded function.
     Open {
+        /// The number of its policy.
         policy: u32,
+        /// The place of its function.
         function: u32,
+        /// Its lowest input.
         first: StmtId,
+        /// Its lowest site that no block holds together with that input.
         second: StmtId,
     },
 }

@@ -14,7 +14,9 @@ use std::alloc::{AllocError, Global};
 /// A range for which a policy asks, by its number.
 #[derive(Clone, Copy, Debug)]
 pub struct Ask {
+    /// The number of the policy.
     pub policy: u32,
+    /// What it asks for.
     pub range: Stretch,
 }
 

@@ -3,9 +3,12 @@
 
 mod asks;
 mod groups;
-pub mod infer;
+mod inference;
 pub mod laws;
-pub mod places;
+mod places;
 mod range;
 mod smallest;
 mod unite;
+
+pub use inference::infer;
+pub use places::statements_around;

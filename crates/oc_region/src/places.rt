@@ -21,7 +21,7 @@ pub fn is_in_block(effects: &Effects, s: StmtId, block: BlockId) -> bool
 }
 
 /// The statements around a statement, the innermost first.
-pub fn around<'a>(effects: &'a Effects, s: StmtId) -> &'a [StmtId]
+pub fn statements_around<'a>(effects: &'a Effects, s: StmtId) -> &'a [StmtId]
     ensures { result.now ≡ around (placed effects.now.program s) }
 {
     match effects.at(s) {
@@ -41,7 +41,7 @@ fn is_in(effects: &Effects, r: Stretch, s: StmtId) -> bool
 pub fn is_within(effects: &Effects, r: Stretch, s: StmtId) -> bool
     ensures { result ≡ is_within effects.now.program (stretch_view r) s }
 {
-    for t in around(effects, s) {
+    for t in statements_around(effects, s) {
         if is_in(effects, r, *t) {
             return true;
         }
@@ -63,7 +63,7 @@ pub fn in_block(effects: &Effects, block: BlockId, s: StmtId) -> Option<StmtId>
     if is_in_block(effects, s, block) {
         return Some(s);
     }
-    for t in around(effects, s) {
+    for t in statements_around(effects, s) {
         if is_in_block(effects, *t, block) {
             return Some(*t);
         }
@@ -103,7 +103,7 @@ pub fn common_block(effects: &Effects, sites: &[StmtId]) -> Option<BlockId>
     if let Some(block) = block_holding(effects, others, *first) {
         return Some(block);
     }
-    for t in around(effects, *first) {
+    for t in statements_around(effects, *first) {
         if let Some(block) = block_holding(effects, others, *t) {
             return Some(block);
         }

@@ -8,7 +8,9 @@ use oc_tree::marked::Range;
 /// A range in the function at a place.
 #[derive(Clone, Copy, Debug)]
 pub struct Stretch {
+    /// The place of the function.
     pub function: u32,
+    /// The statements, in their block.
     pub range: Range,
 }
 
@@ -20,7 +22,7 @@ pub fn shares(r: Stretch, q: Stretch) -> bool
 }
 
 /// From the first statement of both to their last.
-pub fn joined(r: Stretch, q: Stretch) -> Stretch
+pub fn join(r: Stretch, q: Stretch) -> Stretch
     ensures { stretch_view result ≡ joined (stretch_view r) (stretch_view q) }
 {
     let range = Range {

@@ -19,7 +19,7 @@ use std::marker::Model;
 #[derive(Drop)]
 pub struct Grouped<'a> {
     effects: &'a Effects<'a>,
-    // by the numbers of statements
+    /// By the numbers of statements.
     groups: Vec<Option<Group>>,
 }
 
@@ -80,7 +80,7 @@ impl<'a> Grouped<'a> {
     }
 
     /// From the first to the last of the groups in a block in which these statements stand.
-    fn spread(&self, block: BlockId, sites: &[StmtId]) -> Option<Group>
+    fn span_sites(&self, block: BlockId, sites: &[StmtId]) -> Option<Group>
         ensures { result ≡ spread (groups_in self.now.program self.now.groups block sites.now) }
     {
         let mut all = None;
@@ -98,7 +98,7 @@ impl<'a> Grouped<'a> {
             ≡ smallest self.now.program self.now.groups (requirement_view required.now) }
     {
         let block = common_block(self.effects, &required.sites)?;
-        let group = self.spread(block, &required.sites)?;
+        let group = self.span_sites(block, &required.sites)?;
         let range = Range {
             block,
             first: group.0,

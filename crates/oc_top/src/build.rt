@@ -33,7 +33,7 @@ use oc_lex::{LexError, Token, lex};
 use oc_needs::required::requirements;
 use oc_needs::requirement::Requirement;
 use oc_parse::{ParseError, parse};
-use oc_region::infer::infer;
+use oc_region::infer;
 use oc_tree::checked::Checked;
 use oc_tree::marked::Marked;
 use oc_tree::tree::Program;

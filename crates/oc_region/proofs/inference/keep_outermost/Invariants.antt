@@ -3,7 +3,7 @@ use Rattle.std.specs.Prelude.{filter, not}
 use Rattle.std.specs.List.{list_any}
 use Rattle.oc_region.specs.Regions.{is_inside, outermost}
 use Rattle.oc_region.specs.Views.{stretch_view}
-use Rattle.oc_region.proofs.infer.outermost.Given as goal
+use Rattle.oc_region.proofs.inference.keep_outermost.Given as goal
 
 abbrev pub invariant-loop-r : goal.invariant-loop-r
 invariant-loop-r l =

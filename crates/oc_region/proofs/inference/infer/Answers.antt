@@ -9,7 +9,7 @@ use Rattle.oc_region.specs.Regions.{marked, regions}
 use Rattle.oc_region.proofs.Covers.{is_met, runs_timely}
 use Rattle.oc_region.proofs.Exists.{each_smallest}
 use Rattle.oc_region.proofs.Regions.{is_marked}
-use Rattle.oc_region.proofs.infer.infer.Goals as goal
+use Rattle.oc_region.proofs.inference.infer.Goals as goal
 
 pub new-requires : goal.new-requires
 new-requires c =

@@ -1,7 +1,7 @@
 use Rattle.std.proofs.Common.{◌≡◌, ◌+◌, ◌++◌, map, drop}
 use Rattle.oc_tree.specs.Regions.{region_view}
 use Rattle.oc_region.specs.Views.{ask_view, numbered_for, stretch_view}
-use Rattle.oc_region.proofs.infer.numbered.Given as goal
+use Rattle.oc_region.proofs.inference.number_ranges.Given as goal
 
 abbrev pub invariant-loop-r : goal.invariant-loop-r
 invariant-loop-r l =

@@ -17,7 +17,7 @@ use crate::asks::{Ask, asked_ranges, asks, reasons};
 use crate::places::is_within;
 use crate::range::Stretch;
 use crate::smallest::Grouped;
-use crate::unite::{by_first, united};
+use crate::unite::{by_first, unite_all};
 use oc_effects::effects::Effects;
 use oc_io::Memory;
 use oc_needs::policy::policies;
@@ -39,8 +39,8 @@ fn is_inside_some(effects: &Effects, r: Stretch, ranges: &[Stretch]) -> bool
     false
 }
 
-/// Without the ranges inside a statement of another.
-fn outermost(
+/// The ranges that aren't inside a statement of another.
+fn keep_outermost(
     alloc: Global,
     effects: &Effects,
     ranges: &[Stretch],
@@ -80,7 +80,7 @@ fn region(
 }
 
 /// Ranges in order as regions, numbered from 1. There is no memory for more than there are numbers.
-fn numbered(
+fn number_ranges(
     alloc: Global,
     effects: &Effects,
     asks: &[Ask],
@@ -112,9 +112,9 @@ fn regions(
 {
     let grouped = Grouped::new(alloc, effects)?;
     let asks = asks(alloc, &grouped, required)?;
-    let all = united(alloc, asked_ranges(alloc, &asks)?)?;
-    let sorted = by_first(alloc, outermost(alloc, effects, &all)?)?;
-    numbered(alloc, effects, &asks, &sorted)
+    let all = unite_all(alloc, asked_ranges(alloc, &asks)?)?;
+    let sorted = by_first(alloc, keep_outermost(alloc, effects, &all)?)?;
+    number_ranges(alloc, effects, &asks, &sorted)
 }
 
 /// The policies and the regions of a program.

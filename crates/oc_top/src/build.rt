@@ -42,6 +42,7 @@ use oc_types::{RuleError, check};
 use oc_writes::writes::may_write;
 use std::alloc::Global;
 
+/// How many line feeds there are.
 fn count_feeds(bytes: &[u8]) -> usize
     ensures count { result ≡ line_feeds bytes.now }
     ensures few { result ≤ length bytes.now }
@@ -68,6 +69,7 @@ fn token_line(tokens: &[Token], token: usize) -> usize
     }
 }
 
+/// The answer to bytes that are no tokens.
 fn answer_without_tokens(source: &[u8], error: LexError) -> Answer
     requires { length source.now ≤ source_limit }
     ensures { result ≡ for_tokens source.now error }
@@ -133,7 +135,7 @@ fn program_of(alloc: Global, source: &[u8]) -> Result<Program, Answer>
 }
 
 /// The program that a source spells, where it breaks no rule.
-fn written(alloc: Global, source: &[u8]) -> Result<Written, Answer>
+fn written_of(alloc: Global, source: &[u8]) -> Result<Written, Answer>
     requires { length source.now ≤ source_limit }
     ensures accepted { IfOk result (λ w. IsAccepted source.now w) }
     ensures refused { IfErr result (λ a. IsNotBuilt source.now a) }
@@ -146,7 +148,7 @@ fn written(alloc: Global, source: &[u8]) -> Result<Written, Answer>
 }
 
 /// What the annotations of a checked program require.
-fn required(alloc: Global, checked: &Checked) -> Result<Vec<Requirement>, Memory>
+fn requirements_of(alloc: Global, checked: &Checked) -> Result<Vec<Requirement>, Memory>
     ensures { IfOk result (λ r. map requirement_view r.items ≡ requirements checked.now.program) }
 {
     let summaries = summaries(alloc, checked)?;
@@ -163,7 +165,7 @@ fn with_regions(alloc: Global, written: Written) -> Result<Marked, Memory>
         Ok(checked) => checked,
         Err((_, memory)) => return Err(memory),
     };
-    let required = required(alloc, &checked)?;
+    let required = requirements_of(alloc, &checked)?;
     match infer(alloc, checked, &required) {
         Ok(marked) => Ok(marked),
         Err((_, memory)) => Err(memory),
@@ -178,7 +180,7 @@ pub fn marked_of(alloc: Global, source: &[u8]) -> Result<Marked, Answer>
     ensures marked { IfOk result (λ m. IsMarkedOf source.now m) }
     ensures refused { IfErr result (λ a. IsNotBuilt source.now a) }
 {
-    let written = written(alloc, source)?;
+    let written = written_of(alloc, source)?;
     let marked = with_regions(alloc, written)?;
     Ok(marked)
 }

@@ -9,7 +9,7 @@ ghost use Rattle.oc_top.specs.Files.{bytes_of};
 use crate::answer::{Answer, status};
 use crate::files::Fetched;
 use crate::prepare::prepare;
-use crate::report::{flushed, report};
+use crate::report::{flush_with, report};
 use oc_drill::files::{power, sensors, source};
 use oc_drill::line::put_drill;
 use oc_io::Memory;
@@ -91,7 +91,7 @@ fn drill<O: Sink>(alloc: Global, turns: u32, supply: &mut dyn Supply, out: &mut 
         return Answer::Memory;
     };
     match put_drill(turns, measured.status, measured.lines, measured.bytes, out) {
-        Ok(()) => flushed(Answer::End, out),
+        Ok(()) => flush_with(Answer::End, out),
         Err(_) => Answer::WriteFault,
     }
 }

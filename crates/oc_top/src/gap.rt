@@ -18,19 +18,22 @@ use std::alloc::{AllocError, Global};
 /// and lines of the source.
 #[derive(Debug, Drop)]
 pub struct Gap {
+    /// What the policy is, by its variable or its number.
     pub kind: PolicyKind,
     /// The policy's function.
     pub owner: Name,
     /// The policy's variable; empty for a consistent set.
     pub variable: Name,
-    /// The lines of the two statements.
+    /// The line of the one statement.
     pub first: u32,
+    /// The line of the other.
     pub second: u32,
     /// The function in which they stand.
     pub function: Name,
 }
 
-fn named(alloc: Global, bytes: &[u8]) -> Result<Name, AllocError>
+/// A name with these bytes.
+fn make_name(alloc: Global, bytes: &[u8]) -> Result<Name, AllocError>
     ensures { IfOk result (λ n. n ≡ bytes.now) }
 {
     Ok(Name::new(Vec::from_slice(alloc, bytes)?))
@@ -51,11 +54,11 @@ pub fn gap_of(
     let program = effects.checked().program();
     Ok(Gap {
         kind: policy.kind,
-        owner: named(alloc, function_name(program, policy.function))?,
-        variable: named(alloc, policy_name(program, policy))?,
+        owner: make_name(alloc, function_name(program, policy.function))?,
+        variable: make_name(alloc, policy_name(program, policy))?,
         first: line_at(effects, first),
         second: line_at(effects, second),
-        function: named(alloc, function_name(program, function))?,
+        function: make_name(alloc, function_name(program, function))?,
     })
 }
 

@@ -8,8 +8,8 @@ ghost use Rattle.oc_top.specs.Verdict.{image_of, prints};
 
 use crate::answer::Answer;
 use crate::laws::images_are_small;
-use crate::prepare::build;
-use crate::report::flushed;
+use crate::prepare::build_image;
+use crate::report::flush_with;
 use oc_io::sink::Sink;
 use oc_isa::bytes::image_bytes;
 use oc_isa::image::Image;
@@ -23,7 +23,7 @@ fn put_image<O: Sink>(image: &Image, out: &mut O) -> Answer
     ensures count { O.faults out.old ≤ O.faults out.new }
 {
     match image_bytes(image, out) {
-        Ok(()) => flushed(Answer::End, out),
+        Ok(()) => flush_with(Answer::End, out),
         Err(_) => Answer::WriteFault,
     }
 }
@@ -36,7 +36,7 @@ pub fn print_image<O: Sink>(alloc: Global, source: &[u8], out: &mut O) -> Answer
     ensures count { O.faults out.old ≤ O.faults out.new }
 {
     images_are_small();
-    match build(alloc, source) {
+    match build_image(alloc, source) {
         Ok(image) => put_image(&image, out),
         Err(answer) => answer,
     }

@@ -12,23 +12,23 @@
 //! their lines.
 #![tactic(auto)]
 
-pub mod answer;
-pub mod audit;
-pub mod build;
-pub mod check;
-pub mod command;
-pub mod drill;
-pub mod exec;
-pub mod files;
-pub mod gap;
-pub mod image;
+mod answer;
+mod audit;
+mod build;
+mod check;
+mod command;
+mod drill;
+mod exec;
+mod files;
+mod gap;
+mod image;
 pub mod laws;
-pub mod metered;
+mod metered;
 mod names;
-pub mod prepare;
-pub mod print;
-pub mod regions;
-pub mod report;
+mod prepare;
+mod print;
+mod regions;
+mod report;
 pub mod standard;
 #[cfg(test)]
 mod tests;

@@ -10,7 +10,7 @@ use oc_tree::marked::{Policy, PolicyKind};
 use oc_tree::tree::{Block, Param, Program, StmtId, StmtKind, VarId};
 
 /// The name that a statement declares; empty where it declares none.
-fn declared(kind: &StmtKind) -> &[u8]
+fn declared_name(kind: &StmtKind) -> &[u8]
     ensures { result.now ≡ declared_name (kind_view kind.now) }
 {
     match kind {
@@ -30,6 +30,7 @@ fn declared(kind: &StmtKind) -> &[u8]
     }
 }
 
+/// The name that the statement with this number declares in the blocks of a statement.
 #[cycle(seeking_declarations)]
 fn declared_in_kind(kind: &StmtKind, s: StmtId) -> Option<&[u8]>
     ensures { option_map (λ n. n.now) result ≡ kind_names s (kind_view kind.now) }
@@ -58,13 +59,14 @@ fn declared_in_kind(kind: &StmtKind, s: StmtId) -> Option<&[u8]>
     }
 }
 
+/// The name that the statement with this number declares in a block.
 #[cycle(seeking_declarations)]
 fn declared_in_block(block: &Block, s: StmtId) -> Option<&[u8]>
     ensures { option_map (λ n. n.now) result ≡ block_names s (block_view block.now) }
 {
     for statement in &block.statements {
         if statement.id == s {
-            return Some(declared(&statement.kind));
+            return Some(declared_name(&statement.kind));
         }
         let found = declared_in_kind(&statement.kind, s);
         if found.is_some() {

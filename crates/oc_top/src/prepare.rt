@@ -72,7 +72,7 @@ impl From<VerifyError> for Answer {
 }
 
 /// The image of the program that a source spells.
-pub fn build(alloc: Global, source: &[u8]) -> Result<Image, Answer>
+pub fn build_image(alloc: Global, source: &[u8]) -> Result<Image, Answer>
     requires { length source.now ≤ source_limit }
     ensures built { IfOk result (λ i. IsBuilt source.now i) }
     ensures refused { IfErr result (λ a. IsNotBuilt source.now a) }
@@ -123,7 +123,7 @@ pub fn prepare(alloc: Global, files: &Fetched, supply: &mut dyn Supply) -> Resul
         (left supply.new)) }
     ensures refused { IfErr result (λ a. IsTurnedDown (bytes_of files.now) (plan supply.old) a) }
 {
-    let image = build(alloc, &files.source)?;
+    let image = build_image(alloc, &files.source)?;
     set_up(alloc, image, files, supply)
 }
 

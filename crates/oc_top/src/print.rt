@@ -13,9 +13,9 @@ ghost use Rattle.oc_top.specs.Verdict.{listing_of, prints, regions_of};
 
 use crate::answer::Answer;
 use crate::build::{image_of, marked_of};
-use crate::prepare::build;
+use crate::prepare::build_image;
 use crate::regions::{Details, details_of, put_regions};
-use crate::report::flushed;
+use crate::report::flush_with;
 use oc_budget::costs::budgets;
 use oc_budget::told::Budgets;
 use oc_io::sink::Sink;
@@ -58,7 +58,7 @@ fn put_told<O: Sink>(told: &Told, out: &mut O) -> Answer
     ensures count { O.faults out.old ≤ O.faults out.new }
 {
     match put_regions(&told.marked, &told.budgets, &told.details, out) {
-        Ok(()) => flushed(Answer::End, out),
+        Ok(()) => flush_with(Answer::End, out),
         Err(_) => Answer::WriteFault,
     }
 }
@@ -70,7 +70,7 @@ pub fn put_text<O: Sink>(text: &[u8], out: &mut O) -> Answer
     ensures count { O.faults out.old ≤ O.faults out.new }
 {
     match out.put(text) {
-        Ok(()) => flushed(Answer::End, out),
+        Ok(()) => flush_with(Answer::End, out),
         Err(_) => Answer::WriteFault,
     }
 }
@@ -82,7 +82,7 @@ fn put_listing<O: Sink>(image: &Image, out: &mut O) -> Answer
     ensures count { O.faults out.old ≤ O.faults out.new }
 {
     match listing(image, out) {
-        Ok(()) => flushed(Answer::End, out),
+        Ok(()) => flush_with(Answer::End, out),
         Err(_) => Answer::WriteFault,
     }
 }
@@ -108,7 +108,7 @@ pub fn print_listing<O: Sink>(alloc: Global, source: &[u8], out: &mut O) -> Answ
         (writes O.took O.held O.faults out.old out.new) result }
     ensures count { O.faults out.old ≤ O.faults out.new }
 {
-    match build(alloc, source) {
+    match build_image(alloc, source) {
         Ok(image) => put_listing(&image, out),
         Err(answer) => answer,
     }

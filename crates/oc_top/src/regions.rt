@@ -80,8 +80,8 @@ fn function_of(marked: &Marked, function: u32) -> &[u8]
     function_name(marked.checked().program(), function)
 }
 
-/// The same as a name of its own.
-fn named(alloc: Global, marked: &Marked, policy: Policy) -> Result<Name, AllocError>
+/// The name of a policy's variable, as a name of its own.
+fn name_of_policy(alloc: Global, marked: &Marked, policy: Policy) -> Result<Name, AllocError>
     ensures { IfOk result (λ n. n ≡ policy_name marked.now.program policy) }
 {
     let bytes = Vec::from_slice(alloc, policy_name(marked.checked().program(), policy))?;
@@ -95,7 +95,7 @@ fn names_of_policies(alloc: Global, marked: &Marked) -> Result<Vec<Name>, AllocE
 {
     let mut names = Vec::new(alloc);
     for policy in marked.policies() {
-        names.push(named(alloc, marked, *policy)?)?;
+        names.push(name_of_policy(alloc, marked, *policy)?)?;
     }
     Ok(names)
 }

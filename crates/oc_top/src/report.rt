@@ -41,7 +41,7 @@ fn put_nvs<O: Sink>(image: &RawImage, words: &[i32], out: &mut O) -> Result<(), 
 }
 
 /// Flushes at the end of a text. The answer stays and nothing is held back, unless that fails.
-pub fn flushed<O: Sink>(answer: Answer, out: &mut O) -> Answer
+pub fn flush_with<O: Sink>(answer: Answer, out: &mut O) -> Answer
     ensures nothing { O.took out.old [] out.new }
     ensures stays { ((result ≡ answer) × (O.held out.new ≡ []))
         ⊎ ((result ≡ Answer.WriteFault) × Rose (O.faults out.old) (O.faults out.new)) }
@@ -54,14 +54,14 @@ pub fn flushed<O: Sink>(answer: Answer, out: &mut O) -> Answer
 }
 
 /// Writes the nonvolatile variables, where the run is over.
-fn finished<O: Sink>(answer: Answer, machine: &Machine, out: &mut O) -> Answer
+fn finish_with<O: Sink>(answer: Answer, machine: &Machine, out: &mut O) -> Answer
     ensures written { IsWritten (writes O.took O.held O.faults out.old out.new)
         (says answer (nv_lines machine.now.parts.names
         (map (λ v. v.words) machine.now.parts.nv) machine.now.state.nv)) result }
     ensures count { O.faults out.old ≤ O.faults out.new }
 {
     match put_nvs(machine.image().raw(), machine.nv_words(), out) {
-        Ok(()) => flushed(answer, out),
+        Ok(()) => flush_with(answer, out),
         Err(_) => Answer::WriteFault,
     }
 }
@@ -80,10 +80,10 @@ pub fn report<O: Sink>(prepared: Prepared, supply: &mut dyn Supply, out: &mut O)
         mut sensors,
     } = prepared;
     match machine.run(&mut sensors, supply, out) {
-        Stop::End => finished(Answer::End, &machine, out),
-        Stop::Trap { .. } => finished(Answer::Trapped, &machine, out),
-        Stop::Dark => flushed(Answer::Dark, out),
-        Stop::Cut { .. } => flushed(Answer::Cut, out),
+        Stop::End => finish_with(Answer::End, &machine, out),
+        Stop::Trap { .. } => finish_with(Answer::Trapped, &machine, out),
+        Stop::Dark => flush_with(Answer::Dark, out),
+        Stop::Cut { .. } => flush_with(Answer::Cut, out),
         Stop::WriteFault => Answer::WriteFault,
     }
 }

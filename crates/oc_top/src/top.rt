@@ -28,7 +28,7 @@ use oc_power::supply::{Supply, choose};
 use std::alloc::Global;
 
 /// An answer behind which no meters write.
-fn alone<M: Meter>(answer: Answer) -> Outcome<M>
+fn without_meters<M: Meter>(answer: Answer) -> Outcome<M>
     ensures answer { result.answer ≡ answer }
     ensures untold { told_by (told_of M.kind_of M.numbers result.meters) ≡ [] }
 {
@@ -61,12 +61,12 @@ fn run<F: Shelf, O: Sink, M: Meter>(
 {
     let files = match fetch_files(alloc, words, first, SOURCE_LIMIT, shelf) {
         Ok(files) => files,
-        Err(answer) => return alone(answer),
+        Err(answer) => return without_meters(answer),
     };
     names_are_apart();
     match prepare(alloc, &files, supply) {
         Ok(prepared) => report_for(alloc, prepared, supply, out, meters),
-        Err(answer) => alone(answer),
+        Err(answer) => without_meters(answer),
     }
 }
 
@@ -120,7 +120,7 @@ fn run_by<F: Shelf, O: Sink, M: Meter>(
     let meters = wanted_meters(metered, meters);
     match choose(supplies, supply) {
         Some(supply) => run_with(alloc, words, first, shelf, out, supply, meters),
-        None => alone(Answer::Usage),
+        None => without_meters(Answer::Usage),
     }
 }
 
@@ -133,7 +133,7 @@ fn wanted_meters<M: Meter>(metered: bool, meters: Vec<M>) -> Option<Vec<M>>
 }
 
 /// Writes the regions of the source under the word at a place.
-fn regions<F: Shelf, O: Sink>(
+fn obey_regions<F: Shelf, O: Sink>(
     alloc: Global,
     words: &[String],
     first: usize,
@@ -155,7 +155,7 @@ fn regions<F: Shelf, O: Sink>(
 }
 
 /// Writes the listing of the source under the word at a place.
-fn build<F: Shelf, O: Sink>(
+fn obey_build<F: Shelf, O: Sink>(
     alloc: Global,
     words: &[String],
     first: usize,
@@ -177,7 +177,7 @@ fn build<F: Shelf, O: Sink>(
 }
 
 /// Writes the bytes of the image of the source under the word at a place.
-fn image<F: Shelf, O: Sink>(
+fn obey_image<F: Shelf, O: Sink>(
     alloc: Global,
     words: &[String],
     first: usize,
@@ -199,7 +199,7 @@ fn image<F: Shelf, O: Sink>(
 }
 
 /// Judges the blocks of the source under the word at a place.
-fn check<F: Shelf, O: Sink>(
+fn obey_check<F: Shelf, O: Sink>(
     alloc: Global,
     words: &[String],
     first: usize,
@@ -221,7 +221,7 @@ fn check<F: Shelf, O: Sink>(
 }
 
 /// Audits the report under the second word from a place, for the source under the first.
-fn audit<F: Shelf, O: Sink>(
+fn obey_audit<F: Shelf, O: Sink>(
     alloc: Global,
     words: &[String],
     first: usize,
@@ -271,13 +271,15 @@ fn obey<F: Shelf, O: Sink, M: Meter>(
         } => run_by(
             alloc, words, supply, first, metered, shelf, out, supplies, meters,
         ),
-        Command::Drill { turns } => alone(drill_by(alloc, turns, supplies, out)),
-        Command::Regions { first } => alone(regions(alloc, words, first, shelf, out)),
-        Command::Build { first } => alone(build(alloc, words, first, shelf, out)),
-        Command::Image { first } => alone(image(alloc, words, first, shelf, out)),
-        Command::Check { first } => alone(check(alloc, words, first, shelf, out)),
-        Command::Audit { first } => alone(audit(alloc, words, first, shelf, out)),
-        Command::Exec { first } => alone(exec_by(alloc, words, first, shelf, out, supplies)),
+        Command::Drill { turns } => without_meters(drill_by(alloc, turns, supplies, out)),
+        Command::Regions { first } => without_meters(obey_regions(alloc, words, first, shelf, out)),
+        Command::Build { first } => without_meters(obey_build(alloc, words, first, shelf, out)),
+        Command::Image { first } => without_meters(obey_image(alloc, words, first, shelf, out)),
+        Command::Check { first } => without_meters(obey_check(alloc, words, first, shelf, out)),
+        Command::Audit { first } => without_meters(obey_audit(alloc, words, first, shelf, out)),
+        Command::Exec { first } => without_meters(exec_by(
+            alloc, words, first, shelf, out, supplies,
+        )),
     }
 }
 
@@ -301,7 +303,7 @@ fn answer_words<F: Shelf, O: Sink, M: Meter>(
 {
     match read_command(words) {
         Some(command) => obey(alloc, words, command, shelf, out, supplies, meters),
-        None => alone(Answer::Usage),
+        None => without_meters(Answer::Usage),
     }
 }
 

@@ -25,7 +25,7 @@ pub struct Case {
 }
 
 /// A run that ends with this status and report.
-pub fn ran(
+pub fn case_of_run(
     source: &'static str,
     sensors: &'static str,
     power: &'static str,
@@ -44,7 +44,7 @@ pub fn ran(
 }
 
 /// Files that are refused with this status and line.
-pub fn refused(
+pub fn case_of_refusal(
     source: &'static str,
     sensors: &'static str,
     power: &'static str,
@@ -63,7 +63,12 @@ pub fn refused(
 }
 
 /// Words over the files of the first report.
-pub fn asked(words: &'static str, status: u8, out: &'static str, err: &'static str) -> Case {
+pub fn case_of_words(
+    words: &'static str,
+    status: u8,
+    out: &'static str,
+    err: &'static str,
+) -> Case {
     Case {
         words,
         source: SAMPLE,
@@ -83,6 +88,7 @@ pub struct Faults {
     pub lines: Vec<(u64, usize)>,
 }
 
+/// No fault at all.
 pub fn no_faults(alloc: Global) -> Faults {
     Faults {
         fetches: Vec::new(alloc),
@@ -100,7 +106,7 @@ pub struct Called {
 }
 
 /// What is written of a source.
-pub fn printed(words: &'static str, source: &'static str, out: &'static str) -> Case {
+pub fn case_of_text(words: &'static str, source: &'static str, out: &'static str) -> Case {
     Case {
         words,
         source,
@@ -112,6 +118,7 @@ pub fn printed(words: &'static str, source: &'static str, out: &'static str) -> 
     }
 }
 
+/// The words of a line.
 fn words_of(alloc: Global, line: &str) -> Result<Vec<String>, AllocError> {
     let mut words = Vec::new(alloc);
     for word in line.split(' ') {
@@ -120,6 +127,7 @@ fn words_of(alloc: Global, line: &str) -> Result<Vec<String>, AllocError> {
     Ok(words)
 }
 
+/// Calls the program with the words of a line, over these files.
 pub fn call(
     alloc: Global,
     line: &str,
@@ -161,6 +169,7 @@ pub fn call(
     Ok(Called { status, out, err })
 }
 
+/// Calls the program with what a case gives.
 pub fn call_case(alloc: Global, case: &Case, faults: Faults) -> Result<Called, Fail> {
     call(
         alloc,
@@ -173,7 +182,7 @@ pub fn call_case(alloc: Global, case: &Case, faults: Faults) -> Result<Called, F
 }
 
 /// The place of the first of these calls that ends with another status or writes other bytes.
-pub fn differing(alloc: Global, cases: &[Case]) -> Result<Option<usize>, Fail> {
+pub fn find_differing(alloc: Global, cases: &[Case]) -> Result<Option<usize>, Fail> {
     for (place, case) in cases.iter().enumerate() {
         let called = call_case(alloc, case, no_faults(alloc))?;
         let same = called.status == case.status

@@ -1,12 +1,12 @@
 //! What is said of blocks, of reports and of images that others made.
-use crate::tests::calls::{Case, asked, differing, printed, refused};
+use crate::tests::calls::{Case, case_of_refusal, case_of_text, case_of_words, find_differing};
 use crate::tests::programs::{ADDED, FRESH, IMAGE, NO_READINGS, REPORT, SAMPLE};
 use std::test::Fail;
 
 /// Verdicts on blocks: that they suffice, and what they leave open of a fresh variable and of a set.
 fn verdicts() -> [Case; 4] {
     [
-        printed(
+        case_of_text(
             "check s",
             "sensor t; port r; fn main() { atomic { let x = sense(t); Fresh(x); emit(r, x); } }",
             "safe\n",
@@ -42,7 +42,7 @@ fn verdicts() -> [Case; 4] {
 }
 
 /// An audit of a report, which the shelf holds under `h`.
-fn audited(
+fn case_of_audit(
     source: &'static str,
     report: &'static str,
     status: u8,
@@ -73,44 +73,44 @@ fn audits() -> [Case; 14] {
         "5 enter 1\n6 sense t 21\n8 use 3\n13 done 3\n14 commit 1\n16 emit r 24\n17 end\nnv n 3\n";
     let honest = "honest\n";
     [
-        audited(FRESH, whole, 0, honest, ""),
-        audited(FRESH, "", 0, honest, ""),
-        audited(FRESH, "5 enter 1\n6 sense t 21\n", 0, honest, ""),
-        audited(ADDED, kept, 0, honest, ""),
-        audited(SAMPLE, REPORT, 0, honest, ""),
-        audited(FRESH, late, 14, "", "ocelot: report breaks at item 3\n"),
-        audited(FRESH, other, 14, "", "ocelot: report breaks at item 4\n"),
-        audited(ADDED, lost, 14, "", "ocelot: report breaks at item 7\n"),
-        audited(
+        case_of_audit(FRESH, whole, 0, honest, ""),
+        case_of_audit(FRESH, "", 0, honest, ""),
+        case_of_audit(FRESH, "5 enter 1\n6 sense t 21\n", 0, honest, ""),
+        case_of_audit(ADDED, kept, 0, honest, ""),
+        case_of_audit(SAMPLE, REPORT, 0, honest, ""),
+        case_of_audit(FRESH, late, 14, "", "ocelot: report breaks at item 3\n"),
+        case_of_audit(FRESH, other, 14, "", "ocelot: report breaks at item 4\n"),
+        case_of_audit(ADDED, lost, 14, "", "ocelot: report breaks at item 7\n"),
+        case_of_audit(
             SAMPLE,
             "5 end\n",
             14,
             "",
             "ocelot: report breaks at item 1\n",
         ),
-        audited(ADDED, added, 15, "", "ocelot: bad report line 8\n"),
-        audited(
+        case_of_audit(ADDED, added, 15, "", "ocelot: bad report line 8\n"),
+        case_of_audit(
             SAMPLE,
             "1 sense q 21\n",
             15,
             "",
             "ocelot: bad report line 1\n",
         ),
-        audited(
+        case_of_audit(
             SAMPLE,
             "1 sense t 21",
             15,
             "",
             "ocelot: bad report line 2\n",
         ),
-        audited(
+        case_of_audit(
             "fn main() { let x = 1 @ 2; }",
             "",
             4,
             "",
             "ocelot: syntax error in line 1\n",
         ),
-        audited(
+        case_of_audit(
             "fn f() { f(); } fn main() { }",
             "1 sense q 21\n",
             5,
@@ -123,16 +123,16 @@ fn audits() -> [Case; 14] {
 /// Words of an audit that are none, and files that aren't there.
 fn audits_refused() -> [Case; 5] {
     [
-        asked("audit s", 1, "", "ocelot: not a command\n"),
-        asked("audit s -h", 1, "", "ocelot: not a command\n"),
-        asked("audit s h p", 1, "", "ocelot: not a command\n"),
-        asked("audit q h", 2, "", "ocelot: cannot read q\n"),
-        asked("audit s q", 2, "", "ocelot: cannot read q\n"),
+        case_of_words("audit s", 1, "", "ocelot: not a command\n"),
+        case_of_words("audit s -h", 1, "", "ocelot: not a command\n"),
+        case_of_words("audit s h p", 1, "", "ocelot: not a command\n"),
+        case_of_words("audit q h", 2, "", "ocelot: cannot read q\n"),
+        case_of_words("audit s q", 2, "", "ocelot: cannot read q\n"),
     ]
 }
 
 /// A run of what the shelf holds under `s` as an image.
-fn executed(
+fn case_of_exec(
     image: &'static str,
     power: &'static str,
     status: u8,
@@ -162,45 +162,45 @@ fn executions() -> [Case; 12] {
     let dropping =
         "OCELOT1\n\0\0\0\0\0\0\0\0\0\0\0\0\u{1}\0\0\0\u{4}\0\0\0main\0\0\0\0\0\0\0\0\0\0\0\0\0\0\0\0\0\0\0\0\u{1}\0\0\0\u{12}\0\0\0\0\0\0\0\0\0\0\0\0\0\0\0";
     [
-        executed(IMAGE, fine, 0, "1 end\n", ""),
-        executed(IMAGE, "on,off\n", 9, "0 dark\n", ""),
-        executed(longer, fine, 16, "", "ocelot: bad image at byte 72\n"),
-        executed(shorter, fine, 16, "", "ocelot: bad image at byte 68\n"),
-        executed("", fine, 16, "", "ocelot: bad image at byte 0\n"),
-        executed(dropping, fine, 17, "", refused),
-        executed(dropping, "on,of", 17, "", refused),
-        executed(IMAGE, "on,of", 7, "", "ocelot: bad row 1 in power\n"),
-        asked("exec s h", 1, "", "ocelot: not a command\n"),
-        asked("exec --supply 0 s h p", 1, "", "ocelot: not a command\n"),
-        asked("exec q h p", 2, "", "ocelot: cannot read q\n"),
-        asked("exec s h q", 2, "", "ocelot: cannot read q\n"),
+        case_of_exec(IMAGE, fine, 0, "1 end\n", ""),
+        case_of_exec(IMAGE, "on,off\n", 9, "0 dark\n", ""),
+        case_of_exec(longer, fine, 16, "", "ocelot: bad image at byte 72\n"),
+        case_of_exec(shorter, fine, 16, "", "ocelot: bad image at byte 68\n"),
+        case_of_exec("", fine, 16, "", "ocelot: bad image at byte 0\n"),
+        case_of_exec(dropping, fine, 17, "", refused),
+        case_of_exec(dropping, "on,of", 17, "", refused),
+        case_of_exec(IMAGE, "on,of", 7, "", "ocelot: bad row 1 in power\n"),
+        case_of_words("exec s h", 1, "", "ocelot: not a command\n"),
+        case_of_words("exec --supply 0 s h p", 1, "", "ocelot: not a command\n"),
+        case_of_words("exec q h p", 2, "", "ocelot: cannot read q\n"),
+        case_of_words("exec s h q", 2, "", "ocelot: cannot read q\n"),
     ]
 }
 
 #[test]
 fn each_verdict(rt: HostRuntime) -> Result<(), Fail> {
-    let differs = differing(rt.alloc(), &verdicts())?;
+    let differs = find_differing(rt.alloc(), &verdicts())?;
     assert_eq!(rt; differs, None);
     Ok(())
 }
 
 #[test]
 fn each_audit(rt: HostRuntime) -> Result<(), Fail> {
-    let differs = differing(rt.alloc(), &audits())?;
+    let differs = find_differing(rt.alloc(), &audits())?;
     assert_eq!(rt; differs, None);
     Ok(())
 }
 
 #[test]
 fn each_audit_refused(rt: HostRuntime) -> Result<(), Fail> {
-    let differs = differing(rt.alloc(), &audits_refused())?;
+    let differs = find_differing(rt.alloc(), &audits_refused())?;
     assert_eq!(rt; differs, None);
     Ok(())
 }
 
 #[test]
 fn each_execution(rt: HostRuntime) -> Result<(), Fail> {
-    let differs = differing(rt.alloc(), &executions())?;
+    let differs = find_differing(rt.alloc(), &executions())?;
     assert_eq!(rt; differs, None);
     Ok(())
 }

@@ -1,5 +1,7 @@
 //! Refusals, files that can't be read, and outputs that can't be written.
-use crate::tests::calls::{Called, Case, asked, call, call_case, no_faults, refused};
+use crate::tests::calls::{
+    Called, Case, call, call_case, case_of_refusal, case_of_words, no_faults,
+};
 use crate::tests::programs::{NO_READINGS, READINGS, REPORT, SAMPLE};
 use std::alloc::{AllocError, Global};
 use std::test::Fail;
@@ -9,95 +11,95 @@ fn refusals() -> [Case; 17] {
     let fine = "on,off\n6,0\n";
     let syntax = "ocelot: syntax error in line 1\n";
     [
-        refused("fn main() { let x = 1 @ 2; }", NO_READINGS, fine, 4, syntax),
-        refused(
+        case_of_refusal("fn main() { let x = 1 @ 2; }", NO_READINGS, fine, 4, syntax),
+        case_of_refusal(
             "fn main() { let x = 2147483648; }",
             NO_READINGS,
             fine,
             4,
             syntax,
         ),
-        refused(
+        case_of_refusal(
             "port r;\n\nfn main() { emit(r, 3x); }",
             NO_READINGS,
             fine,
             4,
             "ocelot: syntax error in line 3\n",
         ),
-        refused(
+        case_of_refusal(
             "fn main() { let x = 1 < 2 < 3; }",
             NO_READINGS,
             fine,
             4,
             "ocelot: syntax error in line 1\n",
         ),
-        refused(
+        case_of_refusal(
             "fn main() {\n    emit(r, 1);\n\n",
             NO_READINGS,
             fine,
             4,
             "ocelot: syntax error in line 2\n",
         ),
-        refused(
+        case_of_refusal(
             "",
             NO_READINGS,
             fine,
             5,
             "ocelot: rule 4 broken in line 1\n",
         ),
-        refused(
+        case_of_refusal(
             "port r;\nfn main() {\n    emit(r, x);\n    emit(s, 1 - true);\n}",
             NO_READINGS,
             fine,
             5,
             "ocelot: rule 3 broken in line 3\n",
         ),
-        refused(
+        case_of_refusal(
             SAMPLE,
             "time,sensor,value\n5,t,1\n4,t,2\n",
             fine,
             6,
             "ocelot: bad row 3 in sensors\n",
         ),
-        refused(
+        case_of_refusal(
             SAMPLE,
             "time,sensor,value\n0,q,1\n",
             fine,
             6,
             "ocelot: bad row 2 in sensors\n",
         ),
-        refused(
+        case_of_refusal(
             SAMPLE,
             "time,sensor,value\n0,t,2147483648\n",
             fine,
             6,
             "ocelot: bad row 2 in sensors\n",
         ),
-        refused(
+        case_of_refusal(
             SAMPLE,
             READINGS,
             "on,off\n6,x\n",
             7,
             "ocelot: bad row 2 in power\n",
         ),
-        refused(
+        case_of_refusal(
             SAMPLE,
             READINGS,
             "on,off\n9223372036854775807,1\n",
             7,
             "ocelot: bad row 2 in power\n",
         ),
-        refused(
+        case_of_refusal(
             SAMPLE,
             READINGS,
             "on,off\n6,0,x\n",
             7,
             "ocelot: bad row 2 in power\n",
         ),
-        refused(SAMPLE, READINGS, "on,of", 7, "ocelot: bad row 1 in power\n"),
-        asked("run s", 1, "", "ocelot: not a command\n"),
-        asked("run --supply 9 s h p", 1, "", "ocelot: not a command\n"),
-        asked("run q h p", 2, "", "ocelot: cannot read q\n"),
+        case_of_refusal(SAMPLE, READINGS, "on,of", 7, "ocelot: bad row 1 in power\n"),
+        case_of_words("run s", 1, "", "ocelot: not a command\n"),
+        case_of_words("run --supply 9 s h p", 1, "", "ocelot: not a command\n"),
+        case_of_words("run q h p", 2, "", "ocelot: cannot read q\n"),
     ]
 }
 
@@ -127,7 +129,7 @@ fn each_fetch_fails(rt: HostRuntime) -> Result<(), Fail> {
     for (number, line) in (0u64..).zip(lines) {
         let mut faults = no_faults(rt.alloc());
         faults.fetches.push(number)?;
-        let case = asked("run s h p", 2, "", line);
+        let case = case_of_words("run s h p", 2, "", line);
         let called = call_case(rt.alloc(), &case, faults)?;
         assert_eq!(rt; called.out.as_slice(), b"".as_slice());
         assert_eq!(rt; called.err.as_slice(), line.as_bytes());
@@ -140,7 +142,7 @@ fn each_fetch_fails(rt: HostRuntime) -> Result<(), Fail> {
 fn call_with_fault(alloc: Global, put: u64, taken: usize) -> Result<Called, Fail> {
     let mut faults = no_faults(alloc);
     faults.puts.push((put, taken))?;
-    let case = asked("run s h p", 0, REPORT, "");
+    let case = case_of_words("run s h p", 0, REPORT, "");
     call_case(alloc, &case, faults)
 }
 
@@ -172,7 +174,7 @@ fn each_put_fails(rt: HostRuntime) -> Result<(), Fail> {
 }
 
 /// The source with spaces up to this length.
-fn padded(alloc: Global, length: usize) -> Result<Vec<u8>, AllocError> {
+fn pad_source(alloc: Global, length: usize) -> Result<Vec<u8>, AllocError> {
     let mut source = Vec::from_slice(alloc, SAMPLE.as_bytes())?;
     for _ in SAMPLE.len()..length {
         source.push(b' ')?;
@@ -187,7 +189,7 @@ fn the_longest_source(rt: HostRuntime) -> Result<(), Fail> {
         (1_048_576, 0, REPORT, ""),
         (1_048_577, 3, "", "ocelot: too long s\n"),
     ] {
-        let source = padded(alloc, length)?;
+        let source = pad_source(alloc, length)?;
         let called = call(
             alloc,
             "run s h p",

@@ -8,11 +8,11 @@ pub returns-in-Ok-prepare-clause-comes : goal.returns-in-Ok-prepare-clause-comes
 returns-in-Ok-prepare-clause-comes g c = was_read _ _ _ _ refl _ c.in-Ok.ensures.files c.in-Ok.ensures.asked _ _ _ c.in-Ok-prepare.ensures.ready _ _ c.report_for.ensures.reported
 
 pub returns-in-Err-prepare-clause-comes : goal.returns-in-Err-prepare-clause-comes
-returns-in-Err-prepare-clause-comes g c = comes_alone _ _ _ _ c.alone-in-Err-prepare.ensures.untold c.alone-in-Err-prepare.ensures.answer
+returns-in-Err-prepare-clause-comes g c = comes_alone _ _ _ _ c.without_meters-in-Err-prepare.ensures.untold c.without_meters-in-Err-prepare.ensures.answer
     (turned_down _ _ _ _ refl _ c.in-Ok.ensures.files c.in-Ok.ensures.asked _ c.in-Err-prepare.ensures.refused (g.met.O.Sink.took_nothing _))
 
 pub returns-in-Err-clause-comes : goal.returns-in-Err-clause-comes
-returns-in-Err-clause-comes g c = comes_alone _ _ _ _ c.alone.ensures.untold c.alone.ensures.answer
+returns-in-Err-clause-comes g c = comes_alone _ _ _ _ c.without_meters.ensures.untold c.without_meters.ensures.answer
     (not_fetched _ _ refl _ c.in-Err.ensures.refused (g.met.O.Sink.took_nothing _))
 
 pub report_for-requires-clause-names : goal.report_for-requires-clause-names

@@ -20,7 +20,7 @@ returns-in-Some-clause-comes g c =
 pub returns-in-None-clause-comes : goal.returns-in-None-clause-comes
 returns-in-None-clause-comes g c =
     let words = map string_bytes c.args.words.now in
-    comes_alone _ _ _ _ c.alone.ensures.untold c.alone.ensures.answer
+    comes_alone _ _ _ _ c.without_meters.ensures.untold c.without_meters.ensures.answer
     (comes_none (call_of words _ (fetches g.F.Shelf.holds g.F.Shelf.asked g.F.Shelf.faults _ _) (writes g.O.Sink.took g.O.Sink.held g.O.Sink.faults _ _))
     (sym (run_is c.args.supplies.items (λ b. (goal.Supply-dyn g (b.vtable, b.value)).number b.value) (λ b. (goal.Supply-dyn g (b.vtable, b.value)).plan b.value)
     (readings g.M.Meter.kind_of g.M.Meter.numbers c.args.meters.items) words _ _ _ _ None

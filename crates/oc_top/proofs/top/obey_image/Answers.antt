@@ -1,6 +1,6 @@
 use Rattle.std.proofs.Common.{refl}
 use Rattle.oc_top.proofs.Asking.{image_comes, not_fetched}
-use Rattle.oc_top.proofs.top.image.Goals as goal
+use Rattle.oc_top.proofs.top.obey_image.Goals as goal
 
 pub returns-in-Ok-clause-comes : goal.returns-in-Ok-clause-comes
 returns-in-Ok-clause-comes g c = image_comes _ _ _ c.in-Ok.ensures.source c.in-Ok.ensures.asked _ refl (rw c.deref.ensures.value at c.print_image.ensures.printed)

@@ -1,6 +1,6 @@
 use Rattle.std.proofs.Common.{refl}
 use Rattle.oc_top.proofs.Asking.{auditing_comes, not_fetched}
-use Rattle.oc_top.proofs.top.audit.Goals as goal
+use Rattle.oc_top.proofs.top.obey_audit.Goals as goal
 
 pub returns-in-Ok-clause-comes : goal.returns-in-Ok-clause-comes
 returns-in-Ok-clause-comes g c = auditing_comes _ _ _ _ c.in-Ok.ensures.files c.in-Ok.ensures.asked _ refl (rw (c.deref.ensures.value, c.deref-in-Ok.ensures.value) at c.audit_report.ensures.audited)

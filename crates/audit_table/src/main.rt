@@ -18,7 +18,7 @@ use oc_needs::requirement::Requirement;
 use oc_region::infer;
 use oc_tree::checked::Checked;
 use oc_tree::marked::Marked;
-use oc_worked::checked;
+use oc_worked::check_source;
 use reports::{
     aborted, attempts, cut, fresh_source, honest, late_end, late_use, other_output, parted,
     set_source, together, twice_over,
@@ -41,7 +41,7 @@ fn without_regions(alloc: Global, checked: Checked) -> Marked
 }
 
 /// What the annotations of a program require.
-fn required(alloc: Global, checked: &Checked) -> Result<Vec<Requirement>, Memory>
+fn find_requirements(alloc: Global, checked: &Checked) -> Result<Vec<Requirement>, Memory>
     ensures { IfOk result (λ r. map requirement_view r.items ≡ requirements checked.now.program) }
 {
     let summaries = summaries(alloc, checked)?;
@@ -51,7 +51,7 @@ fn required(alloc: Global, checked: &Checked) -> Result<Vec<Requirement>, Memory
 
 /// A program with the regions that its annotations ask for.
 fn with_regions(alloc: Global, checked: Checked) -> anyhow::Result<Marked> {
-    let required = required(alloc, &checked)?;
+    let required = find_requirements(alloc, &checked)?;
     match infer(alloc, checked, &required) {
         Ok(marked) => Ok(marked),
         Err((_, memory)) => Err(memory.into()),
@@ -59,7 +59,7 @@ fn with_regions(alloc: Global, checked: Checked) -> anyhow::Result<Marked> {
 }
 
 /// Writes what is found in a report of these items and nonvolatile words.
-fn put<O: Sink>(
+fn put_verdict<O: Sink>(
     alloc: Global,
     name: &str,
     marked: &Marked,
@@ -81,9 +81,9 @@ fn put_fresh<O: Sink>(alloc: Global, out: &mut O) -> anyhow::Result<()> {
     if source.len() > 1048576 {
         return Ok(());
     }
-    let marked = without_regions(alloc, checked(alloc, source.as_bytes())?);
-    put(alloc, "fresh", &marked, &honest(), Some(&[]), out)?;
-    put(
+    let marked = without_regions(alloc, check_source(alloc, source.as_bytes())?);
+    put_verdict(alloc, "fresh", &marked, &honest_report(), Some(&[]), out)?;
+    put_verdict(
         alloc,
         "an outage before a use",
         &marked,
@@ -91,7 +91,7 @@ fn put_fresh<O: Sink>(alloc: Global, out: &mut O) -> anyhow::Result<()> {
         None,
         out,
     )?;
-    put(
+    put_verdict(
         alloc,
         "an outage in a use",
         &marked,
@@ -99,9 +99,16 @@ fn put_fresh<O: Sink>(alloc: Global, out: &mut O) -> anyhow::Result<()> {
         Some(&[]),
         out,
     )?;
-    put(alloc, "another output", &marked, &other_output(), None, out)?;
-    put(alloc, "an end without words", &marked, &honest(), None, out)?;
-    put(
+    put_verdict(alloc, "another output", &marked, &other_output(), None, out)?;
+    put_verdict(
+        alloc,
+        "an end without words",
+        &marked,
+        &honest_report(),
+        None,
+        out,
+    )?;
+    put_verdict(
         alloc,
         "more after the end",
         &marked,
@@ -109,7 +116,7 @@ fn put_fresh<O: Sink>(alloc: Global, out: &mut O) -> anyhow::Result<()> {
         Some(&[]),
         out,
     )?;
-    put(
+    put_verdict(
         alloc,
         "a mark of no region",
         &marked,
@@ -125,9 +132,16 @@ fn put_sets<O: Sink>(alloc: Global, out: &mut O) -> anyhow::Result<()> {
     if source.len() > 1048576 {
         return Ok(());
     }
-    let marked = without_regions(alloc, checked(alloc, source.as_bytes())?);
-    put(alloc, "a set", &marked, &together(), Some(&[]), out)?;
-    put(alloc, "an outage in a set", &marked, &parted(), None, out)
+    let marked = without_regions(alloc, check_source(alloc, source.as_bytes())?);
+    put_verdict(alloc, "a set", &marked, &set_report(), Some(&[]), out)?;
+    put_verdict(
+        alloc,
+        "an outage in a set",
+        &marked,
+        &outage_in_set(),
+        None,
+        out,
+    )
 }
 
 /// Reports of a program with a region.
@@ -136,18 +150,25 @@ fn put_regions<O: Sink>(alloc: Global, out: &mut O) -> anyhow::Result<()> {
     if source.len() > 1048576 {
         return Ok(());
     }
-    let marked = with_regions(alloc, checked(alloc, source.as_bytes())?)?;
-    put(alloc, "attempts", &marked, &attempts(), Some(&[]), out)?;
-    put(alloc, "an outage in a region", &marked, &cut(), None, out)?;
-    put(
+    let marked = with_regions(alloc, check_source(alloc, source.as_bytes())?)?;
+    put_verdict(alloc, "attempts", &marked, &attempts(), Some(&[]), out)?;
+    put_verdict(
         alloc,
-        "an abort of another region",
+        "an outage in a region",
         &marked,
-        &aborted(),
+        &outage_in_region(),
         None,
         out,
     )?;
-    put(alloc, "no marks", &marked, &honest(), Some(&[]), out)
+    put_verdict(
+        alloc,
+        "an abort of another region",
+        &marked,
+        &other_abort(),
+        None,
+        out,
+    )?;
+    put_verdict(alloc, "no marks", &marked, &honest_report(), Some(&[]), out)
 }
 
 fn main(rt: HostRuntime) -> anyhow::Result<()> {

@@ -12,7 +12,7 @@ pub fn set_source() -> &'static str {
 }
 
 /// An honest report of the first source, without regions.
-pub fn honest() -> [Item; 5] {
+pub fn honest_report() -> [Item; 5] {
     [
         Item::Sense {
             tick: 1,
@@ -102,7 +102,7 @@ pub fn twice_over() -> [Item; 6] {
 }
 
 /// An honest report of the second source.
-pub fn together() -> [Item; 7] {
+pub fn set_report() -> [Item; 7] {
     [
         Item::Off { tick: 1, ticks: 5 },
         Item::Sense {
@@ -127,7 +127,7 @@ pub fn together() -> [Item; 7] {
 }
 
 /// An outage between the inputs of the set.
-pub fn parted() -> [Item; 5] {
+pub fn outage_in_set() -> [Item; 5] {
     [
         Item::Sense {
             tick: 1,
@@ -182,7 +182,7 @@ pub fn attempts() -> [Item; 12] {
 }
 
 /// An outage in a region that goes on.
-pub fn cut() -> [Item; 3] {
+pub fn outage_in_region() -> [Item; 3] {
     [
         Item::Enter { tick: 1, region: 1 },
         Item::Sense {
@@ -195,7 +195,7 @@ pub fn cut() -> [Item; 3] {
 }
 
 /// An abort of another region.
-pub fn aborted() -> [Item; 3] {
+pub fn other_abort() -> [Item; 3] {
     [
         Item::Enter { tick: 1, region: 1 },
         Item::Sense {

@@ -16,7 +16,7 @@ use oc_needs::required::requirements;
 use oc_regcheck::{BlockVerdict, check_blocks};
 use oc_tree::checked::Checked;
 use oc_tree::tree::StmtId;
-use oc_worked::checked;
+use oc_worked::check_source;
 use sources::sources;
 use std::alloc::Global;
 use std::io;
@@ -51,7 +51,7 @@ fn put_checked<O: Sink>(
 {
     out.put(source)?;
     out.put(b"\n")?;
-    let checked = checked(alloc, source)?;
+    let checked = check_source(alloc, source)?;
     let summaries = summaries(alloc, &checked)?;
     let required = requirements(alloc, &checked, &summaries)?;
     let blocks = statements(alloc, &checked, &summaries, blocks)?;

@@ -10,7 +10,7 @@ use oc_meaning::trace::{Outcome, SourceTrace};
 use oc_tree::checked::Checked;
 use oc_tree::name::{Name, Names};
 use oc_tree::said::{SourceEvent, TrapKind, Visible};
-use oc_worked::checked;
+use oc_worked::check_source;
 use sources::{Worked, cases};
 use std::alloc::Global;
 use std::io;
@@ -146,7 +146,7 @@ fn put_worked<O: Sink>(alloc: Global, worked: &Worked, out: &mut O) -> anyhow::R
     let source = worked.source.as_bytes();
     if source.len() <= 1048576 {
         put_given(alloc, worked, out)?;
-        let checked = checked(alloc, source)?;
+        let checked = check_source(alloc, source)?;
         let trace = run_source(alloc, &checked, worked.samples)?;
         put_trace(alloc, &checked.program().names, &trace, out)?;
     }

@@ -13,7 +13,7 @@ use oc_io::stream::StreamSink;
 use oc_needs::required::requirements;
 use oc_needs::requirement::Requirement;
 use oc_tree::checked::Checked;
-use oc_worked::checked;
+use oc_worked::check_source;
 use sources::sources;
 use std::alloc::Global;
 use std::io;
@@ -41,7 +41,7 @@ fn put_requirements<O: Sink>(alloc: Global, source: &[u8], out: &mut O) -> anyho
 {
     out.put(source)?;
     out.put(b"\n")?;
-    let checked = checked(alloc, source)?;
+    let checked = check_source(alloc, source)?;
     let summaries = summaries(alloc, &checked)?;
     let required = requirements(alloc, &checked, &summaries)?;
     for requirement in &required {

@@ -13,8 +13,11 @@ use std::alloc::Global;
 /// the report is honest.
 #[derive(Clone, Copy, Debug, PartialEq, Eq)]
 pub enum Finding {
+    /// This is the first bad line.
     BadLine { line: u64 },
+    /// The report breaks at this item, from 1.
     Breaks { item: u64 },
+    /// The report is honest.
     Honest,
 }
 

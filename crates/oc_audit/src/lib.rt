@@ -3,6 +3,6 @@
 
 pub mod audit;
 pub mod laws;
-pub mod lines;
-pub mod report;
-pub mod words;
+mod lines;
+mod report;
+mod words;

@@ -29,8 +29,10 @@ pub struct Report {
 /// Why a report wasn't read: the first bad line, with lines numbered from 1, or want of memory.
 #[derive(Clone, Copy, Debug, PartialEq, Eq, Error)]
 pub enum ReportError {
+    /// This is the first bad line.
     #[error("bad report line {line}")]
     Line { line: u64 },
+    /// There is no memory left.
     #[error("out of memory")]
     Memory,
 }
@@ -276,7 +278,7 @@ mod tests {
     use oc_tree::name::Name;
     use std::test::Fail;
 
-    fn named(alloc: Global, bytes: &[u8]) -> Result<Vec<Name>, AllocError> {
+    fn make_names(alloc: Global, bytes: &[u8]) -> Result<Vec<Name>, AllocError> {
         let mut names = Vec::new(alloc);
         names.push(Name::new(Vec::from_slice(alloc, bytes)?))?;
         Ok(names)
@@ -298,9 +300,9 @@ mod tests {
     #[test]
     fn which_lines_may_stand(rt: HostRuntime) -> Result<(), Fail> {
         let names = Names {
-            sensors: named(rt.alloc(), b"t")?,
-            ports: named(rt.alloc(), b"r")?,
-            nvs: named(rt.alloc(), b"a")?,
+            sensors: make_names(rt.alloc(), b"t")?,
+            ports: make_names(rt.alloc(), b"r")?,
+            nvs: make_names(rt.alloc(), b"a")?,
         };
         let variables = [NvDecl {
             words: 2,

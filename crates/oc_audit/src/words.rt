@@ -8,7 +8,7 @@ use oc_tree::name::Name;
 use std::alloc::AllocError;
 
 /// The bytes up to the first space, and those from there on.
-fn cut(bytes: &[u8]) -> (&[u8], &[u8])
+fn split_word(bytes: &[u8]) -> (&[u8], &[u8])
     ensures parts { result.0.now ++ result.1.now ≡ bytes.now }
     ensures field { has_no_space result.0.now ≡ true }
     ensures tail { IsTail result.1.now }
@@ -25,7 +25,7 @@ fn next_word(bytes: &[u8]) -> Option<(i32, &[u8])>
     ensures none { IfNone result (HasNoNext bytes.now) }
 {
     let rest = behind(b" ", bytes)?;
-    let parts = cut(rest);
+    let parts = split_word(rest);
     let word = read_i32(parts.0)?;
     Some((word, parts.1))
 }

@@ -17,7 +17,7 @@ pub struct Numbers {
     pub stmt: u32,
 }
 
-// Adds the `let`s of the pulls.
+/// Adds the `let`s of the pulls.
 fn add_temporaries(
     alloc: Global,
     k: u32,
@@ -69,6 +69,7 @@ pub fn expand_block(alloc: Global, n: &mut Numbers, block: &Block) -> Result<Blo
     })
 }
 
+/// The expansion of an `else`.
 #[cycle(expand)]
 fn expand_else(
     alloc: Global,
@@ -88,6 +89,7 @@ fn expand_else(
     }
 }
 
+/// The expansion of the statements of a block.
 #[cycle(expand)]
 fn expand_stmts(
     alloc: Global,
@@ -108,7 +110,7 @@ fn expand_stmts(
     Ok(out)
 }
 
-// Adds the group of a statement.
+/// Adds the group of a statement.
 #[cycle(expand)]
 #[tactic(auto, using(crate::proofs::Lengths::length_pulled))]
 fn expand_stmt(
@@ -154,6 +156,7 @@ fn expand_stmt(
     Ok(())
 }
 
+/// What is left of a statement, whose pulls are added.
 #[cycle(expand)]
 fn expand_kind(
     alloc: Global,

@@ -7,7 +7,7 @@ use crate::pulls::own_pulls;
 use oc_tree::tree::{Block, Function, StmtId, StmtKind};
 use std::alloc::{AllocError, Global};
 
-// Adds the groups of the statements inside a statement, and answers the next number.
+/// Adds the groups of the statements inside a statement, and answers the next number.
 #[cycle(groups)]
 fn inner_groups(
     kind: &StmtKind,
@@ -35,6 +35,7 @@ fn inner_groups(
     }
 }
 
+/// Adds the groups of an `else`, and answers the next number.
 #[cycle(groups)]
 fn else_groups(
     otherwise: &Option<Block>,

@@ -23,7 +23,7 @@ pub fn temporary(alloc: Global, pull: u32) -> Result<Name, AllocError>
 
 // The steps from here to `left_expr` stay out of the frames of deep expressions.
 
-// The pull that ends here.
+/// The pull that ends here.
 #[inline(never)]
 fn pull(
     alloc: Global,
@@ -42,6 +42,7 @@ fn pull(
     Ok(Expr::Variable { name })
 }
 
+/// The pull of an input.
 #[inline(never)]
 fn pull_input(
     alloc: Global,
@@ -60,6 +61,7 @@ fn pull_input(
     pull(alloc, k, pulls, Right::Sense { sensor })
 }
 
+/// The same variable.
 #[inline(never)]
 fn variable(alloc: Global, name: &Name) -> Result<Expr, AllocError>
     ensures { IfOk result (λ r. expr_view r ≡ variable name.now) }
@@ -68,6 +70,7 @@ fn variable(alloc: Global, name: &Name) -> Result<Expr, AllocError>
     Ok(Expr::Variable { name })
 }
 
+/// The same target of a reference.
 #[inline(never)]
 fn deref(alloc: Global, name: &Name) -> Result<Expr, AllocError>
     ensures { IfOk result (λ r. expr_view r ≡ deref name.now) }
@@ -76,6 +79,7 @@ fn deref(alloc: Global, name: &Name) -> Result<Expr, AllocError>
     Ok(Expr::Deref { name })
 }
 
+/// An element of the same array.
 #[inline(never)]
 fn element(alloc: Global, array: &Name, place: Expr) -> Result<Expr, AllocError>
     ensures { IfOk result (λ r. expr_view r ≡ index array.now (expr_view place)) }
@@ -87,6 +91,7 @@ fn element(alloc: Global, array: &Name, place: Expr) -> Result<Expr, AllocError>
     })
 }
 
+/// A unary operator on what is left.
 #[inline(never)]
 fn unary(alloc: Global, op: UnaryOp, inner: Expr) -> Result<Expr, AllocError>
     ensures { IfOk result (λ r. expr_view r ≡ unary op (expr_view inner)) }
@@ -97,6 +102,7 @@ fn unary(alloc: Global, op: UnaryOp, inner: Expr) -> Result<Expr, AllocError>
     })
 }
 
+/// A binary operator on what is left of both sides.
 #[inline(never)]
 fn binary(alloc: Global, op: BinaryOp, left: Expr, right: Expr) -> Result<Expr, AllocError>
     ensures { IfOk result (λ r. expr_view r ≡ binary op (expr_view left) (expr_view right)) }
@@ -150,6 +156,7 @@ pub fn left_expr(
     }
 }
 
+/// What is left of an argument.
 #[cycle(left)]
 fn left_arg(
     alloc: Global,
@@ -183,6 +190,7 @@ fn left_arg(
     }
 }
 
+/// What is left of arguments.
 #[cycle(left)]
 #[tactic(auto, using(crate::proofs::Joins::join_args_push, crate::proofs::Joins::join_args_end))]
 fn left_args(

@@ -9,6 +9,7 @@ use crate::groups::functions_groups;
 use oc_tree::tree::{Function, Param, Program, StmtId};
 use std::alloc::{AllocError, Global};
 
+/// The same parameters.
 fn copy_params(alloc: Global, params: &[Param]) -> Result<Vec<Param>, AllocError>
     ensures { IfOk result (λ p. p.items ≡ params.now) }
 {
@@ -24,6 +25,7 @@ fn copy_params(alloc: Global, params: &[Param]) -> Result<Vec<Param>, AllocError
     Ok(copies)
 }
 
+/// The expansion of a function.
 fn expand_function(
     alloc: Global,
     n: &mut Numbers,
@@ -51,6 +53,7 @@ fn expand_function(
     })
 }
 
+/// The expansions of functions, whose numbers begin at 1.
 fn expand_functions(alloc: Global, functions: &[Function]) -> Result<Vec<Function>, AllocError>
     requires pulls { sum_by (λ f. block_pulls f.body) (map function_view functions.now) + 1
         < 2 ^ 32 }

@@ -21,6 +21,7 @@ pub fn expr_pulls(expr: &Expr) -> u32
     }
 }
 
+/// The pulls of an argument.
 #[cycle(pulls)]
 fn arg_pulls(arg: &Arg) -> u32
     requires { arg_pulls (arg_view arg.now) < 2 ^ 32 }
@@ -32,6 +33,7 @@ fn arg_pulls(arg: &Arg) -> u32
     }
 }
 
+/// The pulls of a call's arguments.
 #[cycle(pulls)]
 fn call_pulls(call: &Call) -> u32
     requires { call_pulls (call_view call.now) < 2 ^ 32 }
@@ -44,6 +46,7 @@ fn call_pulls(call: &Call) -> u32
     pulls
 }
 
+/// The pulls of a right side.
 fn right_pulls(right: &Right) -> u32
     requires { right_pulls (right_view right.now) < 2 ^ 32 }
     ensures { result ≡ right_pulls (right_view right.now) }

@@ -9,8 +9,11 @@ use oc_tree::said::TrapKind;
 /// What a set of samples amounts to: none, samples behind the same number of outages, or others.
 #[derive(Clone, Copy, Debug, PartialEq, Eq)]
 pub enum Age {
+    /// It depends on no sample.
     Never,
+    /// All its samples were taken behind so many outages.
     Once { outages: u64 },
+    /// An outage stands between two of its samples.
     Mixed,
 }
 
@@ -53,6 +56,8 @@ impl Value {
 /// A value, or the kind of the trap.
 #[derive(Clone, Copy, Debug, PartialEq, Eq)]
 pub enum Got {
+    /// It has this value.
     Value { value: Value },
+    /// Its evaluation traps.
     Traps { kind: TrapKind },
 }

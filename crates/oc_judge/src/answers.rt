@@ -7,6 +7,7 @@ ghost use Rattle.oc_judge.specs.Values.{age_view};
 use crate::age::Age;
 use oc_tree::said::{Ending, Said, Shown, TrapKind};
 
+/// Whether both kinds of a trap are the same one.
 fn is_kind(kind: TrapKind, other: TrapKind) -> bool
     ensures { result ≡ is_kind kind other }
 {
@@ -22,6 +23,7 @@ fn is_kind(kind: TrapKind, other: TrapKind) -> bool
     }
 }
 
+/// Whether both show the same.
 fn is_shown(what: Shown, other: Shown) -> bool
     ensures { result ≡ is_shown what other }
 {

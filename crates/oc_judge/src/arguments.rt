@@ -21,19 +21,23 @@ use std::collections::VecDeque;
 /// What a call passes for a parameter: a value, or a place.
 #[derive(Clone, Copy, Debug, PartialEq, Eq)]
 pub enum Passed {
+    /// The value of an expression.
     Copied { value: Value },
+    /// The place of the variable that is lent.
     Lent { place: Place },
 }
 
 /// What arguments pass, the first one first, or the kind of the trap.
 #[derive(Debug, Drop)]
 pub enum Passing {
+    /// No argument traps.
     Passes { passed: VecDeque<Passed> },
+    /// An argument traps.
     Breaks { kind: TrapKind },
 }
 
-// The reference that an argument passes on, which is just its name.
-fn passed_on(scope: &Scope, value: &Expr) -> Option<Place>
+/// The reference that an argument passes on, which is just its name.
+fn find_reference(scope: &Scope, value: &Expr) -> Option<Place>
     ensures { option_map place_view result ≡ passed_on scope.now (expr_view value.now) }
 {
     match value {
@@ -48,12 +52,13 @@ fn passed_on(scope: &Scope, value: &Expr) -> Option<Place>
     }
 }
 
-fn argument(scope: &Scope, store: &Store, arg: &Arg) -> Result<Passed, TrapKind>
+/// What one argument passes, or the kind of its trap.
+fn pass_argument(scope: &Scope, store: &Store, arg: &Arg) -> Result<Passed, TrapKind>
     ensures { (rest : runs.Passing)
         → arg_by join_ages scope.now store.now (arg_view arg.now) rest ≡ before result rest }
 {
     match arg {
-        Arg::Value { value } => match passed_on(scope, value) {
+        Arg::Value { value } => match find_reference(scope, value) {
             Some(place) => Ok(Passed::Lent { place }),
             None => match value_of(scope, store, value) {
                 Got::Value { value } => Ok(Passed::Copied { value }),
@@ -72,7 +77,7 @@ fn argument(scope: &Scope, store: &Store, arg: &Arg) -> Result<Passed, TrapKind>
 }
 
 /// What arguments pass: the first from the left that traps is the one that counts.
-pub fn args(
+pub fn pass_arguments(
     alloc: Global,
     scope: &Scope,
     store: &Store,
@@ -83,7 +88,7 @@ pub fn args(
 {
     let mut passed = VecDeque::new(alloc);
     for arg in args {
-        match argument(scope, store, arg) {
+        match pass_argument(scope, store, arg) {
             Ok(one) => passed.push_back(one)?,
             Err(kind) => return Ok(Passing::Breaks { kind }),
         }

@@ -7,7 +7,7 @@ ghost use Rattle.oc_judge.specs.Going.{call_here, function_here, passed_here};
 ghost use Rattle.oc_judge.specs.Passing.{passed_view};
 ghost use Rattle.oc_judge.specs.Stores.{completion_at};
 
-use crate::arguments::{Passed, Passing, args};
+use crate::arguments::{Passed, Passing, pass_arguments};
 use crate::calls::frame;
 use crate::frames::{Frame, Inside};
 use crate::running::Running;
@@ -46,7 +46,7 @@ pub fn begin<'a>(
     Ok(Completion::Went)
 }
 
-// A function is begun, from which calls may go so deep.
+/// A function is begun, from which calls may go so deep.
 fn begin_function<'a>(
     run: &Running<'a>,
     depth: usize,
@@ -111,7 +111,7 @@ pub fn call<'a>(
         ≡ call_here run.now (inside_view inside.entry) scope.now n (call_view call.now)
         (frames_view frames.old.items) store.old) }
 {
-    match args(run.alloc, scope, store, call.args.as_slice())? {
+    match pass_arguments(run.alloc, scope, store, call.args.as_slice())? {
         Passing::Breaks { kind } => store.trap(kind, n),
         Passing::Passes { passed } => {
             begin_call(run, inside.depth, &call.function, passed, frames, store)

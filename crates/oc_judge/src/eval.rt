@@ -16,7 +16,7 @@ use oc_tree::said::TrapKind;
 use oc_tree::tree::{BinaryOp, Expr, UnaryOp};
 
 /// A unary operator on a value.
-fn unary(op: UnaryOp, inner: Got) -> Got
+fn apply_unary_operator(op: UnaryOp, inner: Got) -> Got
     ensures { got_view result ≡ unary_value op (got_view inner) }
 {
     match inner {
@@ -31,7 +31,7 @@ fn unary(op: UnaryOp, inner: Got) -> Got
 }
 
 /// An operator on two values.
-fn operated(op: BinaryOp, left: Value, right: Value) -> Got
+fn apply_operator(op: BinaryOp, left: Value, right: Value) -> Got
     ensures { got_view result ≡ operated_by join_ages op (value_view left) (value_view right) }
 {
     match apply(op, left.number, right.number) {
@@ -59,7 +59,7 @@ fn decides(op: BinaryOp, left: i32) -> bool
 }
 
 /// The value of an operator whose left side decides.
-fn decided(left: Value) -> Value
+fn short_circuit(left: Value) -> Value
     ensures { value_view result ≡ decided (value_view left) }
 {
     Value {
@@ -69,7 +69,7 @@ fn decided(left: Value) -> Value
 }
 
 /// The value of an operator whose left side doesn't decide.
-fn joined(op: BinaryOp, left: Value, right: Got) -> Got
+fn combine_operands(op: BinaryOp, left: Value, right: Got) -> Got
     ensures { got_view result ≡ joined_by join_ages op (value_view left) (got_view right) }
 {
     match right {
@@ -80,7 +80,7 @@ fn joined(op: BinaryOp, left: Value, right: Got) -> Got
                     age: left.age.join(value.age),
                 },
             },
-            _ => operated(op, left, value),
+            _ => apply_operator(op, left, value),
         },
         Got::Traps { kind } => Got::Traps { kind },
     }
@@ -111,15 +111,15 @@ pub fn value_of(scope: &Scope, store: &Store, expr: &Expr) -> Got
             Got::Value { value } => store.element(scope.place(array), value),
             Got::Traps { kind } => Got::Traps { kind },
         },
-        Expr::Unary { op, inner } => unary(*op, value_of(scope, store, inner)),
+        Expr::Unary { op, inner } => apply_unary_operator(*op, value_of(scope, store, inner)),
         Expr::Binary { op, left, right } => match value_of(scope, store, left) {
             Got::Value { value } => {
                 if decides(*op, value.number) {
                     return Got::Value {
-                        value: decided(value),
+                        value: short_circuit(value),
                     };
                 }
-                joined(*op, value, value_of(scope, store, right))
+                combine_operands(*op, value, value_of(scope, store, right))
             }
             Got::Traps { kind } => Got::Traps { kind },
         },

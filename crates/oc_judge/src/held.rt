@@ -87,12 +87,14 @@ impl Held {
         self.age = self.age.join(age);
     }
 
+    /// All its words.
     pub fn words(&self) -> &[i32]
         ensures { result.now ≡ self.now.words }
     {
         &self.words
     }
 
+    /// The age of its samples.
     pub fn age(&self) -> Age
         ensures { age_view result ≡ self.now.samples }
     {

@@ -16,11 +16,13 @@ use std::alloc::{AllocError, Global};
 /// prefix that isn't.
 #[derive(Clone, Copy, Debug, PartialEq, Eq)]
 pub enum Verdict {
+    /// The report is honest.
     Honest,
+    /// This item, from 1, is the last of the shortest prefix that isn't.
     Breaks { item: u64 },
 }
 
-// What is found in these items.
+/// What is found in these items.
 fn find_break(run: &Running, items: &[Item], nv: Option<&[i32]>) -> Result<Verdict, AllocError>
     ensures { IfOk result
         (λ v. Finds (program_of run.now) (regions_of run.now) (option_map (λ w. w.now) nv.entry)

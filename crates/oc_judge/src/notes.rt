@@ -16,7 +16,7 @@ fn note_of(kind: &StmtKind) -> Option<i32>
     }
 }
 
-// What the statement `n` annotates, where it stands in a statement of this kind.
+/// What the statement `n` annotates, where it stands in a statement of this kind.
 #[cycle(noting)]
 fn kind_note(n: StmtId, kind: &StmtKind) -> Option<Option<i32>>
     ensures { result ≡ kind_note n (kind_view kind.now) }
@@ -36,6 +36,7 @@ fn kind_note(n: StmtId, kind: &StmtKind) -> Option<Option<i32>>
     }
 }
 
+/// What the statement `n` annotates, where it stands in an `else`.
 #[cycle(noting)]
 fn else_note(n: StmtId, otherwise: &Option<Block>) -> Option<Option<i32>>
     ensures { result ≡ else_note n (else_view otherwise.now) }
@@ -46,7 +47,7 @@ fn else_note(n: StmtId, otherwise: &Option<Block>) -> Option<Option<i32>>
     }
 }
 
-// What the statement `n` annotates, where it stands in a block.
+/// What the statement `n` annotates, where it stands in a block.
 #[cycle(noting)]
 fn block_note(n: StmtId, block: &Block) -> Option<Option<i32>>
     ensures { result ≡ block_note n (block_view block.now) }

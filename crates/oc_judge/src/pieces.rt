@@ -27,6 +27,7 @@ impl Model for Pieces {
 }
 
 impl Pieces {
+    /// No piece.
     pub fn new(alloc: Global) -> Pieces
         ensures { result ≡ [] }
     {
@@ -43,7 +44,7 @@ impl Pieces {
     {
         Ok(Pieces {
             alloc: self.alloc,
-            full: shared(self.alloc, &self.full)?,
+            full: share_pieces(self.alloc, &self.full)?,
             last: Vec::from_slice(self.alloc, &self.last)?,
         })
     }
@@ -60,7 +61,7 @@ impl Pieces {
         Ok(())
     }
 
-    // Makes a piece of the last numbers.
+    /// Makes a piece of the last numbers.
     fn seal(&mut self) -> Result<(), AllocError>
         ensures { self.new ≡ self.old }
     {
@@ -71,8 +72,8 @@ impl Pieces {
     }
 }
 
-// The same pieces.
-fn shared(alloc: Global, pieces: &[Rc<Vec<u32>>]) -> Result<Vec<Rc<Vec<u32>>>, AllocError>
+/// The same pieces.
+fn share_pieces(alloc: Global, pieces: &[Rc<Vec<u32>>]) -> Result<Vec<Rc<Vec<u32>>>, AllocError>
     ensures { IfOk result (λ v. flat_map (λ piece. piece.value.items) v.items
         ≡ flat_map (λ piece. piece.value.items) pieces.now) }
 {

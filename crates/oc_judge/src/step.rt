@@ -32,7 +32,7 @@ use oc_tree::tree::{Block, Expr, Stmt, StmtId, StmtKind};
 use std::alloc::{AllocError, Global};
 use std::rc::Rc;
 
-// These variables, and one more.
+/// These variables, and one more.
 fn with_variable<'a>(
     alloc: Global,
     scope: &Scope<'a>,
@@ -45,7 +45,7 @@ fn with_variable<'a>(
     Ok(Rc::new(alloc, more)?)
 }
 
-// The variables that are visible behind a statement of this kind, with those that follow it.
+/// The variables that are visible behind a statement of this kind, with those that follow it.
 fn grow<'a>(
     alloc: Global,
     scope: &Rc<Scope<'a>>,
@@ -97,7 +97,7 @@ fn grow<'a>(
     }
 }
 
-// The next statement, with its use, its region and the statements behind it.
+/// The next statement, with its use, its region and the statements behind it.
 fn push_statement<'a>(
     run: &Running<'a>,
     inside: Inside<'a>,
@@ -134,11 +134,11 @@ fn push_statement<'a>(
         age,
         kind,
     })?;
-    store.open(begun_by(run.regions, stmt))?;
+    store.open_region(begun_by(run.regions, stmt))?;
     Ok(Completion::Went)
 }
 
-// The statements that follow in a block.
+/// The statements that follow in a block.
 fn rest<'a>(
     run: &Running<'a>,
     inside: Inside<'a>,
@@ -160,7 +160,7 @@ fn rest<'a>(
     }
 }
 
-// A turn of a `for` with these numbers.
+/// A turn of a `for` with these numbers.
 #[tactic(auto, using(crate::proofs::Turning::turn_over, crate::proofs::Turning::turn_more))]
 fn turn<'a>(
     run: &Running<'a>,
@@ -203,7 +203,7 @@ fn turn<'a>(
     Ok(Completion::Went)
 }
 
-// The turns of the `while` `n`, of which so many are left.
+/// The turns of the `while` `n`, of which so many are left.
 fn turn_while<'a>(
     run: &Running<'a>,
     inside: Inside<'a>,
@@ -241,7 +241,7 @@ fn turn_while<'a>(
     Ok(Completion::Went)
 }
 
-// The condition of a turn of the `while` `n`, with so many turns behind it.
+/// The condition of a turn of the `while` `n`, with so many turns behind it.
 fn test<'a>(
     run: &Running<'a>,
     inside: Inside<'a>,
@@ -283,7 +283,7 @@ fn test<'a>(
     }
 }
 
-// The use of the statement `n`, which is of this kind, begins, and then its work.
+/// The use of the statement `n`, which is of this kind, begins, and then its work.
 fn use_and_work<'a>(
     run: &Running<'a>,
     inside: Inside<'a>,
@@ -311,7 +311,7 @@ fn use_and_work<'a>(
     Ok(Completion::Went)
 }
 
-// A frame, where what was before it went through.
+/// A frame, where what was before it went through.
 fn go_on<'a>(
     run: &Running<'a>,
     frame: Frame<'a>,
@@ -354,7 +354,7 @@ fn go_on<'a>(
             })
         }
         Frame::Close { region } => {
-            store.close(region)?;
+            store.close_region(region)?;
             Ok(Going::Goes {
                 completion: Completion::Went,
             })
@@ -409,7 +409,7 @@ fn go_on<'a>(
             Ok(Going::Goes { completion })
         }
         Frame::Back { value, region } => {
-            store.close(region)?;
+            store.close_region(region)?;
             Ok(Going::Goes {
                 completion: Completion::Returned { value },
             })
@@ -417,7 +417,7 @@ fn go_on<'a>(
     }
 }
 
-// A frame, where a value was returned before it.
+/// A frame, where a value was returned before it.
 fn go_back<'a>(
     run: &Running<'a>,
     frame: Frame<'a>,

@@ -32,8 +32,11 @@ pub struct Event {
 /// What came of a step: it went through, it returned a value, or the run trapped in it.
 #[derive(Clone, Copy, Debug, PartialEq, Eq)]
 pub enum Completion {
+    /// It went through.
     Went,
+    /// It returned this value.
     Returned { value: Value },
+    /// It trapped.
     Trapped,
 }
 
@@ -136,8 +139,8 @@ impl Store {
         words_of(alloc, &self.nv)
     }
 
-    // The variable at a place, where there is one.
-    fn held(&self, place: Place) -> Option<&Held>
+    /// The variable at a place, where there is one.
+    fn find_variable(&self, place: Place) -> Option<&Held>
         ensures { held_or (place_view place) (option_map (λ h. h.now) result)
             ≡ held_at self.now (place_view place) }
     {
@@ -153,7 +156,7 @@ impl Store {
     pub fn value(&self, place: Place) -> Value
         ensures { value_view result ≡ value_in (held_at self.now (place_view place)) }
     {
-        match self.held(place) {
+        match self.find_variable(place) {
             Some(held) => held.value(),
             None => absent_value(place),
         }
@@ -163,7 +166,7 @@ impl Store {
     pub fn age(&self, place: Place) -> Age
         ensures { age_view result ≡ (held_at self.now (place_view place)).samples }
     {
-        match self.held(place) {
+        match self.find_variable(place) {
             Some(held) => held.age(),
             None => Age::Never,
         }
@@ -176,7 +179,7 @@ impl Store {
             (element_of (length (held_at self.now (place_view place)).words) index.number)
             (age_view index.age) }
     {
-        match self.held(place) {
+        match self.find_variable(place) {
             Some(held) => held.element(index),
             None => absent_element(place, index),
         }
@@ -195,17 +198,17 @@ impl Store {
         }
     }
 
-    // How many words the variable at a place has.
+    /// How many words the variable at a place has.
     fn count(&self, place: Place) -> usize
         ensures { result ≡ length (held_at self.now (place_view place)).words }
     {
-        match self.held(place) {
+        match self.find_variable(place) {
             Some(held) => held.words().len(),
             None => usize::from(matches!(place, Place::Turn { .. })),
         }
     }
 
-    // Writes an element of the array at a place.
+    /// Writes an element of the array at a place.
     fn write(&mut self, place: Place, at: usize, word: i32, age: Age)
         ensures { self.new ≡ put self.old (place_view place)
             (with_element_by join_ages (held_at self.old (place_view place)) at word
@@ -258,7 +261,7 @@ impl Store {
         self.locals.truncate(locals);
     }
 
-    // Something was said.
+    /// Something was said.
     fn tell(&mut self, event: Event) -> Result<(), AllocError>
         ensures { OnOk result (self.new ≡ happened (event_view event) self.old) }
     {
@@ -314,7 +317,7 @@ impl Store {
         Ok(())
     }
 
-    // A mark is told, where no region is open around it.
+    /// A mark is told, where no region is open around it.
     fn tell_if(&mut self, outermost: bool, said: Said) -> Result<(), AllocError>
         ensures { OnOk result
             (self.new ≡ (if outermost then noted said [] self.old else self.old)) }
@@ -326,7 +329,7 @@ impl Store {
     }
 
     /// A region begins, if one does.
-    pub fn open(&mut self, region: Option<u32>) -> Result<(), AllocError>
+    pub fn open_region(&mut self, region: Option<u32>) -> Result<(), AllocError>
         ensures { OnOk result (self.new ≡ opened region self.old) }
     {
         let Some(region) = region else {
@@ -339,7 +342,7 @@ impl Store {
     }
 
     /// A region ends, if one does.
-    pub fn close(&mut self, region: Option<u32>) -> Result<(), AllocError>
+    pub fn close_region(&mut self, region: Option<u32>) -> Result<(), AllocError>
         ensures { OnOk result (self.new ≡ closed region self.old) }
     {
         let Some(region) = region else {

@@ -19,6 +19,7 @@ use oc_tree::said::{Said, Shown};
 use oc_tree::tree::{Expr, StmtId, StmtKind};
 use std::alloc::{AllocError, Global};
 
+/// Whether one of these names is that of a fresh variable.
 fn names_fresh(scope: &Scope, names: &[&Name]) -> bool
     ensures { result ≡ list_any (is_fresh scope.now) (names_seen names.now) }
 {

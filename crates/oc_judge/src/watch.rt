@@ -48,8 +48,8 @@ pub fn first_watch<'a>(run: &Running<'a>) -> Result<Watch<'a>, AllocError>
     Ok(Watch { now, saved: None })
 }
 
-// What the run does next. No tag is of an earlier instance than the last one of its set: one that
-// were is out of memory.
+/// What the run does next. No tag is of an earlier instance than the last one of its set: one that
+/// were is out of memory.
 fn next<'a>(run: &Running<'a>, way: &mut Way<'a>) -> Result<Next, AllocError>
     ensures next { IfOk result
         (λ n. IsNext (program_of run.now) (regions_of run.now) (way_view way.old)
@@ -69,7 +69,7 @@ fn next<'a>(run: &Running<'a>, way: &mut Way<'a>) -> Result<Next, AllocError>
     }
 }
 
-// The sample that the run wanted.
+/// The sample that the run wanted.
 fn give_sample<'a>(run: &Running<'a>, way: &mut Way<'a>, sensor: u8, value: i32)
     ensures { way_view way.new
         ≡ record (way_view way.old) {
@@ -86,7 +86,7 @@ fn give_sample<'a>(run: &Running<'a>, way: &mut Way<'a>, sensor: u8, value: i32)
     let _said = way.store.take_event();
 }
 
-// An input.
+/// An input.
 fn hear_input<'a>(
     run: &Running<'a>,
     watch: &mut Watch<'a>,
@@ -111,7 +111,7 @@ fn hear_input<'a>(
     }
 }
 
-// Whether an event of the source other than an input may be told now.
+/// Whether an event of the source other than an input may be told now.
 #[tactic(auto, using(crate::proofs::Hearing::store_at))]
 fn may_show(run: &Running, way: &Way, what: Shown, event: Event) -> bool
     ensures { (nv : Option (List ℤ))
@@ -125,7 +125,7 @@ fn may_show(run: &Running, way: &Way, what: Shown, event: Event) -> bool
     }
 }
 
-// An event of the source other than an input is told.
+/// An event of the source other than an input is told.
 fn show<'a>(
     run: &Running<'a>,
     way: &mut Way<'a>,
@@ -147,7 +147,7 @@ fn show<'a>(
     }
 }
 
-// An output, a use or its end, or a tag.
+/// An output, a use or its end, or a tag.
 fn hear_shown<'a>(run: &Running<'a>, watch: &mut Watch<'a>, what: Shown) -> Result<bool, AllocError>
     ensures { IfOk result
         (λ good. (nv : Option (List ℤ))
@@ -167,7 +167,7 @@ fn hear_shown<'a>(run: &Running<'a>, watch: &mut Watch<'a>, what: Shown) -> Resu
     }
 }
 
-// A region is entered: the run before it is kept.
+/// A region is entered: the run before it is kept.
 fn hear_enter<'a>(run: &Running<'a>, watch: &mut Watch<'a>, region: u32) -> Result<bool, AllocError>
     ensures { IfOk result
         (λ good. (nv : Option (List ℤ))
@@ -189,7 +189,7 @@ fn hear_enter<'a>(run: &Running<'a>, watch: &mut Watch<'a>, region: u32) -> Resu
     }
 }
 
-// A region is committed.
+/// A region is committed.
 fn hear_commit<'a>(
     run: &Running<'a>,
     watch: &mut Watch<'a>,
@@ -214,7 +214,7 @@ fn hear_commit<'a>(
     }
 }
 
-// Whether these are the nonvolatile words now.
+/// Whether these are the nonvolatile words now.
 fn has_words(alloc: Global, nv: Option<&[i32]>, way: &Way) -> Result<bool, AllocError>
     ensures { IfOk result
         (λ b. (p : TProgram) (told : Option (List ℤ))
@@ -229,7 +229,7 @@ fn has_words(alloc: Global, nv: Option<&[i32]>, way: &Way) -> Result<bool, Alloc
     }
 }
 
-// Whether the run has come to its end, of which nothing was told yet.
+/// Whether the run has come to its end, of which nothing was told yet.
 fn halts(way: &Way) -> bool
     ensures { result ≡ halts way.now }
 {
@@ -240,7 +240,7 @@ fn halts(way: &Way) -> bool
     }
 }
 
-// The end of the run.
+/// The end of the run.
 fn hear_end<'a>(
     run: &Running<'a>,
     nv: Option<&[i32]>,
@@ -273,7 +273,7 @@ fn hear_end<'a>(
     }
 }
 
-// An outage.
+/// An outage.
 fn hear_off(watch: &mut Watch) -> Result<bool, AllocError>
     ensures { IfOk result
         (λ good. (p : TProgram) (nv : Option (List ℤ))
@@ -286,7 +286,7 @@ fn hear_off(watch: &mut Watch) -> Result<bool, AllocError>
     Ok(true)
 }
 
-// A region is aborted: the run is again what it was before its `enter`.
+/// A region is aborted: the run is again what it was before its `enter`.
 fn hear_abort<'a>(watch: &mut Watch<'a>, region: u32) -> bool
     ensures { (p : TProgram) (nv : Option (List ℤ))
         → answered result watch.new ≡ aborted p nv region (watch_view watch.old).saved }

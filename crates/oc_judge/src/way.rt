@@ -42,8 +42,11 @@ pub struct Way<'a> {
 /// What a run does next: it says something, it wants a sample, or it has come to its end.
 #[derive(Clone, Copy, Debug, PartialEq, Eq)]
 pub enum Next {
+    /// It says this.
     Says { event: Event },
+    /// It asks this sensor for a sample.
     Wants { sensor: u8 },
+    /// It is at its end.
     Stands,
 }
 
@@ -61,7 +64,7 @@ pub fn copy<'a>(alloc: Global, way: &Way<'a>) -> Result<Way<'a>, AllocError>
     })
 }
 
-// `main` is begun. Calls go at most as deep as there are functions.
+/// `main` is begun. Calls go at most as deep as there are functions.
 fn begin_main<'a>(
     run: &Running<'a>,
     frames: &mut Vec<Frame<'a>>,
@@ -96,9 +99,9 @@ pub fn first_way<'a>(run: &Running<'a>) -> Result<Way<'a>, AllocError>
     })
 }
 
-// What a run does next that came to this, if that isn't a further step.
+/// What a run does next that came to this, if that isn't a further step.
 #[tactic(auto, using(crate::proofs::Advancing::says_it, crate::proofs::Advancing::goes_on))]
-fn told(going: Going, way: &mut Way) -> Option<Next>
+fn find_next(going: Going, way: &mut Way) -> Option<Next>
     ensures next { advanced result way.new
         ≡ after_step (way_view way.old)
         (step_at going (frames_view way.old.frames.items) way.old.store) }
@@ -116,7 +119,7 @@ fn told(going: Going, way: &mut Way) -> Option<Next>
     }
 }
 
-// One step of a run, and what the run does next, if that isn't a further step.
+/// One step of a run, and what the run does next, if that isn't a further step.
 #[tactic(auto, using(crate::proofs::Advancing::same_rest, crate::proofs::Advancing::stands))]
 fn advance<'a>(run: &Running<'a>, way: &mut Way<'a>) -> Result<Option<Next>, AllocError>
     ensures next { IfOk result
@@ -127,7 +130,7 @@ fn advance<'a>(run: &Running<'a>, way: &mut Way<'a>) -> Result<Option<Next>, All
     match step(run, way.completion, &mut way.frames, &mut way.store)? {
         None => Ok(Some(Next::Stands)),
         Some(going) => {
-            let next = told(going, way);
+            let next = find_next(going, way);
             Ok(next)
         }
     }

@@ -33,7 +33,7 @@ use oc_tree::tree::{Block, Expr, Right, StmtId, StmtKind};
 use std::alloc::{AllocError, Global};
 use std::rc::Rc;
 
-// A right side that is an expression of the statement `n`.
+/// A right side that is an expression of the statement `n`.
 fn evaluate(
     scope: &Scope,
     n: StmtId,
@@ -51,7 +51,7 @@ fn evaluate(
     }
 }
 
-// A right side of the statement `n`.
+/// A right side of the statement `n`.
 fn right<'a>(
     run: &Running<'a>,
     inside: Inside<'a>,
@@ -82,7 +82,7 @@ fn right<'a>(
     }
 }
 
-// The statement `n` takes the value of its right side then.
+/// The statement `n` takes the value of its right side then.
 fn push_take<'a>(
     scope: &Rc<Scope<'a>>,
     n: StmtId,
@@ -102,7 +102,7 @@ fn push_take<'a>(
     Ok(())
 }
 
-// The right side of a statement that takes its value then.
+/// The right side of a statement that takes its value then.
 fn right_to_take<'a>(
     run: &Running<'a>,
     inside: Inside<'a>,
@@ -160,7 +160,7 @@ pub fn take(
     }
 }
 
-// An `if` of the statement `n`.
+/// An `if` of the statement `n`.
 fn branch<'a>(
     run: &Running<'a>,
     inside: Inside<'a>,
@@ -192,7 +192,7 @@ fn branch<'a>(
     }
 }
 
-// An output of the statement `n`.
+/// An output of the statement `n`.
 fn emit<'a>(
     run: &Running<'a>,
     inside: Inside<'a>,
@@ -221,7 +221,7 @@ fn emit<'a>(
     }
 }
 
-// An annotation of the consistent set `id` by the statement `n`.
+/// An annotation of the consistent set `id` by the statement `n`.
 fn tag<'a>(
     run: &Running<'a>,
     inside: Inside<'a>,
@@ -242,7 +242,7 @@ fn tag<'a>(
     Ok(Completion::Went)
 }
 
-// A `return` by the statement `n`.
+/// A `return` by the statement `n`.
 fn give_back<'a>(
     run: &Running<'a>,
     inside: Inside<'a>,
@@ -272,7 +272,7 @@ fn give_back<'a>(
     }
 }
 
-// The turns of a `for`.
+/// The turns of a `for`.
 fn push_turns<'a>(
     inside: Inside<'a>,
     scope: &Rc<Scope<'a>>,
@@ -299,7 +299,7 @@ fn push_turns<'a>(
     Ok(())
 }
 
-// The turns of the `while` `n`.
+/// The turns of the `while` `n`.
 fn push_loop<'a>(
     inside: Inside<'a>,
     scope: &Rc<Scope<'a>>,
@@ -327,7 +327,7 @@ fn push_loop<'a>(
     Ok(())
 }
 
-// An array that is made.
+/// An array that is made.
 fn make_array(
     alloc: Global,
     initial: i32,

@@ -20,12 +20,14 @@ use std::collections::VecDeque;
 /// What arguments pass, the first one first, or the kind of the trap.
 #[derive(Debug, Drop)]
 pub enum Passing {
+    /// No argument traps.
     Passes { passed: VecDeque<Passed> },
+    /// An argument traps.
     Breaks { kind: TrapKind },
 }
 
-// The reference that an argument passes on, which is just its name.
-fn passed_on(scope: &Scope, value: &Expr) -> Option<Place>
+/// The reference that an argument passes on, which is just its name.
+fn find_reference(scope: &Scope, value: &Expr) -> Option<Place>
     ensures { option_map place_view result ≡ passed_on scope.now (expr_view value.now) }
 {
     match value {
@@ -40,7 +42,8 @@ fn passed_on(scope: &Scope, value: &Expr) -> Option<Place>
     }
 }
 
-fn argument(
+/// What one argument passes, or the kind of its trap.
+fn pass_argument(
     alloc: Global,
     scope: &Scope,
     store: &Store,
@@ -51,7 +54,7 @@ fn argument(
         → arg_first scope.now store.now (arg_view arg.now) rest ≡ before r rest) }
 {
     match arg {
-        Arg::Value { value } => match passed_on(scope, value) {
+        Arg::Value { value } => match find_reference(scope, value) {
             Some(place) => Ok(Ok(Passed::Lent { place })),
             None => match value_of(alloc, scope, store, value)? {
                 Got::Value { value } => Ok(Ok(Passed::Copied { value })),
@@ -70,7 +73,7 @@ fn argument(
 }
 
 /// What arguments pass: the first from the left that traps is the one that counts.
-pub fn args(
+pub fn pass_arguments(
     alloc: Global,
     scope: &Scope,
     store: &Store,
@@ -80,7 +83,7 @@ pub fn args(
 {
     let mut passed = VecDeque::new(alloc);
     for arg in args {
-        match argument(alloc, scope, store, arg)? {
+        match pass_argument(alloc, scope, store, arg)? {
             Ok(one) => passed.push_back(one)?,
             Err(kind) => return Ok(Passing::Breaks { kind }),
         }

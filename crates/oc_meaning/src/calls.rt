@@ -12,7 +12,7 @@ use oc_tree::tree::{Function, Param, Program};
 use std::alloc::{AllocError, Global};
 use std::collections::VecDeque;
 
-// What is passed for a parameter: a value makes a variable of the function's own.
+/// What is passed for a parameter: a value makes a variable of the function's own.
 fn bind<'a>(
     alloc: Global,
     scope: &mut Scope<'a>,

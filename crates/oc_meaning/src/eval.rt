@@ -14,7 +14,7 @@ use oc_tree::tree::{BinaryOp, Expr, UnaryOp};
 use std::alloc::{AllocError, Global};
 
 /// A unary operator on a value.
-fn unary(op: UnaryOp, inner: Got) -> Got
+fn apply_unary_operator(op: UnaryOp, inner: Got) -> Got
     ensures { got_view result ≡ unary_value op (got_view inner) }
 {
     match inner {
@@ -26,7 +26,7 @@ fn unary(op: UnaryOp, inner: Got) -> Got
 }
 
 /// An operator on two values.
-fn operated(op: BinaryOp, left: &Value, right: Value) -> Result<Got, AllocError>
+fn apply_operator(op: BinaryOp, left: &Value, right: Value) -> Result<Got, AllocError>
     ensures { IfOk result (λ g. got_view g ≡ operated op left.now right) }
 {
     match apply(op, left.number(), right.number()) {
@@ -54,22 +54,22 @@ fn decides(op: BinaryOp, left: i32) -> bool
 }
 
 /// The value of an operator whose left side decides.
-fn decided(left: Value) -> Value
+fn short_circuit(left: Value) -> Value
     ensures { result ≡ decided left }
 {
     Value::new((left.number() != 0) as i32, left.into_samples())
 }
 
 /// The value of an operator whose left side doesn't decide.
-fn joined(op: BinaryOp, left: &Value, right: Got) -> Result<Got, AllocError>
+fn combine_operands(op: BinaryOp, left: &Value, right: Got) -> Result<Got, AllocError>
     ensures { IfOk result (λ g. got_view g ≡ joined op left.now (got_view right)) }
 {
     match right {
         Got::Value { value } => match op {
             BinaryOp::And | BinaryOp::Or => Ok(Got::Value {
-                value: value.depending(left.samples())?,
+                value: value.depend_on(left.samples())?,
             }),
-            _ => operated(op, left, value),
+            _ => apply_operator(op, left, value),
         },
         Got::Traps { kind } => Ok(Got::Traps { kind }),
     }
@@ -93,16 +93,19 @@ pub fn value_of(alloc: Global, scope: &Scope, store: &Store, expr: &Expr) -> Res
             Got::Value { value } => store.element(scope.place(array), value),
             Got::Traps { kind } => Ok(Got::Traps { kind }),
         },
-        Expr::Unary { op, inner } => Ok(unary(*op, value_of(alloc, scope, store, inner)?)),
+        Expr::Unary { op, inner } => Ok(apply_unary_operator(
+            *op,
+            value_of(alloc, scope, store, inner)?,
+        )),
         Expr::Binary { op, left, right } => match value_of(alloc, scope, store, left)? {
             Got::Value { value } => {
                 if decides(*op, value.number()) {
                     return Ok(Got::Value {
-                        value: decided(value),
+                        value: short_circuit(value),
                     });
                 }
                 let right = value_of(alloc, scope, store, right)?;
-                joined(*op, &value, right)
+                combine_operands(*op, &value, right)
             }
             Got::Traps { kind } => Ok(Got::Traps { kind }),
         },

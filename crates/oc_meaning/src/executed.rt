@@ -25,6 +25,7 @@ impl Model for Executed {
 }
 
 impl Executed {
+    /// No block.
     pub fn none(alloc: Global) -> Executed
         ensures { result ≡ [] }
     {

@@ -73,12 +73,14 @@ impl Held {
         Ok(())
     }
 
+    /// All its words.
     pub fn words(&self) -> &[i32]
         ensures { result.now ≡ self.now.words }
     {
         &self.words
     }
 
+    /// The samples on which it depends.
     pub fn samples(&self) -> &Samples
         ensures { result.now ≡ self.now.samples }
     {

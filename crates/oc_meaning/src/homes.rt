@@ -6,6 +6,7 @@ ghost use Rattle.oc_meaning.specs.Blocks.{block_home, block_notes, else_home, el
 use oc_tree::tree::{Block, BlockId, StmtKind};
 use std::alloc::AllocError;
 
+/// The sum, unless it overflows.
 fn sum(a: usize, b: usize) -> Result<usize, AllocError>
     ensures { IfOk result (λ n. n ≡ a + b) }
 {
@@ -29,6 +30,7 @@ fn kind_notes(id: i32, kind: &StmtKind) -> Result<usize, AllocError>
     }
 }
 
+/// How many annotations of the set `id` an `else` holds.
 #[cycle(notes)]
 fn else_notes(id: i32, otherwise: &Option<Block>) -> Result<usize, AllocError>
     ensures { IfOk result (λ n. n ≡ else_notes id (else_view otherwise.now)) }
@@ -70,6 +72,7 @@ fn kind_home(id: i32, notes: usize, kind: &StmtKind) -> Result<Option<BlockId>, 
     }
 }
 
+/// The smallest block in an `else` that holds so many annotations of the set `id`.
 #[cycle(homes)]
 fn else_home(
     id: i32,

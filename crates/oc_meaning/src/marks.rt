@@ -13,11 +13,12 @@ use crate::interrupted::Interrupted;
 use crate::samples::Samples;
 use crate::scope::Scope;
 use crate::store::Store;
-use crate::uses::used;
+use crate::uses::find_use;
 use oc_tree::said::{Said, Shown};
 use oc_tree::tree::{StmtId, StmtKind};
 use std::alloc::{AllocError, Global};
 
+/// Tells the use `n`, where there is one.
 fn begin_use(uses: &Option<Samples>, n: StmtId, store: &mut Store) -> Result<(), Interrupted>
     ensures step { OnOk result (store.new ≡ begun uses.now n store.old) }
     ensures cut { OnErr result (Oldest store.new.events (begun uses.now n store.old).events) }
@@ -89,10 +90,11 @@ pub fn is_use(
 ) -> Result<bool, AllocError>
     ensures { IfOk result (λ b. b ≡ is_use (is_fresh scope.now) (kind_view kind.now)) }
 {
-    let uses = used(alloc, scope, store, kind)?;
+    let uses = find_use(alloc, scope, store, kind)?;
     Ok(uses.is_some())
 }
 
+/// The samples of a use, or none where there is no use.
 fn samples_of(alloc: Global, uses: &Option<Samples>) -> Result<Samples, AllocError>
     ensures { IfOk result (λ s. s ≡ unwrap_or uses.now []) }
 {
@@ -120,7 +122,7 @@ pub fn begin_turn(
         (Oldest store.new.events (used (is_use (is_fresh scope.now) (kind_view kind.now)) n
         (use_samples scope.now (kind_view kind.now) store.old) store.old).events) }
 {
-    let uses = used(alloc, scope, store, kind)?;
+    let uses = find_use(alloc, scope, store, kind)?;
     let taken = samples_of(alloc, &uses)?;
     let all = before.union(taken)?;
     begin_use(&uses, n, store)?;

@@ -91,6 +91,7 @@ pub fn arg_names<'a>(arg: &'a Arg, names: &mut Vec<&'a Name>) -> Result<(), Allo
     }
 }
 
+/// Adds the variables that a call's arguments name.
 #[cycle(names)]
 fn call_names<'a>(call: &'a Call, names: &mut Vec<&'a Name>) -> Result<(), AllocError>
     ensures { OnOk result
@@ -103,6 +104,7 @@ fn call_names<'a>(call: &'a Call, names: &mut Vec<&'a Name>) -> Result<(), Alloc
     Ok(())
 }
 
+/// Adds the variables that a right side names.
 fn right_names<'a>(right: &'a Right, names: &mut Vec<&'a Name>) -> Result<(), AllocError>
     ensures { OnOk result
         (names_seen names.new.items
@@ -142,6 +144,7 @@ pub fn own_names<'a>(kind: &'a StmtKind, names: &mut Vec<&'a Name>) -> Result<()
     }
 }
 
+/// Whether a statement annotates the variable of this name.
 fn is_note(name: &Name, kind: &StmtKind) -> bool
     ensures { result ≡ is_fresh_note name.now (kind_view kind.now) }
 {

@@ -25,6 +25,7 @@ use oc_tree::tree::Program;
 use std::alloc::{AllocError, Global};
 use std::collections::VecDeque;
 
+/// The store at the start.
 fn first_store<'a>(
     alloc: Global,
     program: &Program,
@@ -36,7 +37,7 @@ fn first_store<'a>(
     Store::new(alloc, program.nv.as_slice(), samples, limit)
 }
 
-// What `main` does. Calls go at most as deep as there are functions.
+/// What `main` does. Calls go at most as deep as there are functions.
 fn execute(
     alloc: Global,
     program: &Program,
@@ -66,6 +67,7 @@ fn execute(
     call_to(&run, &main, VecDeque::new(alloc), store)
 }
 
+/// Tells that the run came to its end by itself.
 fn halt(alloc: Global, store: &mut Store) -> Result<Outcome, Interrupted>
     ensures step { IfOk result (λ o. trace_at (ending_of o) store.new ≡ ended store.old) }
     ensures cut { OnErr result (Begins (in_order store.new.events) (ended store.old).events) }
@@ -75,7 +77,7 @@ fn halt(alloc: Global, store: &mut Store) -> Result<Outcome, Interrupted>
     Ok(Outcome::Ended)
 }
 
-// How a run ends that came to this.
+/// How a run ends that came to this.
 fn end(alloc: Global, completion: Completion, store: &mut Store) -> Result<Outcome, Interrupted>
     ensures step { IfOk result
         (λ o. trace_at (ending_of o) store.new ≡ trace_of (completion_at completion store.old)) }
@@ -93,8 +95,8 @@ fn end(alloc: Global, completion: Completion, store: &mut Store) -> Result<Outco
     }
 }
 
-// The run of a program with the marks of these regions. What is told begins the whole, also where it
-// is given up.
+/// The run of a program with the marks of these regions. What is told begins the whole, also where it
+/// is given up.
 fn run(
     alloc: Global,
     program: &Program,
@@ -113,6 +115,7 @@ fn run(
     Ok(outcome)
 }
 
+/// The run without regions, however much it tells.
 fn trace_source(
     alloc: Global,
     program: &Program,
@@ -136,7 +139,7 @@ pub fn run_source(alloc: Global, checked: &Checked, samples: &[i32]) -> Result<S
     }
 }
 
-// The first `limit` parts of a run with the marks of these regions.
+/// The first `limit` parts of a run with the marks of these regions.
 fn trace_marked(
     alloc: Global,
     program: &Program,
@@ -166,7 +169,7 @@ fn trace_marked(
 {
     let mut store = first_store(alloc, program, samples, limit)?;
     let ran = run(alloc, program, regions, &mut store);
-    if store.told() as u64 > limit {
+    if store.count_told() as u64 > limit {
         let trace = marked_trace(alloc, store, Outcome::Short, limit)?;
         return Ok(trace);
     }

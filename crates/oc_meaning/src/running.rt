@@ -18,6 +18,7 @@ pub struct Running<'a> {
     pub body: &'a Block,
 }
 
+/// Whether a value's number is 0.
 pub fn is_zero(value: &Value) -> bool
     ensures { result ≡ is_zero value.now.num }
 {

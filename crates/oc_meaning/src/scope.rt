@@ -39,6 +39,7 @@ impl<'a> Model for Scope<'a> {
 }
 
 impl<'a> Scope<'a> {
+    /// No variable is visible.
     pub fn new(alloc: Global) -> Scope<'a>
         ensures { result ≡ [] }
     {
@@ -85,7 +86,7 @@ impl<'a> Scope<'a> {
         self.bindings.truncate(len);
     }
 
-    // The variable of a name.
+    /// The variable of a name.
     fn binding(&self, name: &Name) -> Option<&Binding<'a>>
         ensures { found name.now (option_map (λ b. b.now) result) ≡ binding_of self.now name.now }
     {
@@ -123,7 +124,7 @@ impl<'a> Scope<'a> {
     }
 }
 
-// The last variable of a name.
+/// The last variable of a name.
 fn newest<'a, 'b>(bindings: &'b [Binding<'a>], name: &Name) -> Option<&'b Binding<'a>>
     ensures { option_map (λ b. b.now) result
         ≡ find (λ b. bytes_eq name.now b.name.now) (reverse bindings.now) }

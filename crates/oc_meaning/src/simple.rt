@@ -23,14 +23,14 @@ use crate::regions::ended_by;
 use crate::running::Running;
 use crate::scope::Scope;
 use crate::store::Store;
-use crate::uses::used;
+use crate::uses::find_use;
 use crate::value::{Got, Value};
 use oc_tree::name::Name;
 use oc_tree::said::{Said, Shown};
 use oc_tree::tree::{Expr, StmtId, StmtKind};
 use std::alloc::Global;
 
-// The value of a right side. A call without a result gives 0.
+/// The value of a right side. A call without a result gives 0.
 fn settle(alloc: Global, given: Completion) -> Result<Value, Stop>
     ensures { (go : Value → Store → Outcome) (σ : Store)
         → with_result (completion_at given σ) go ≡ settled result go σ }
@@ -263,9 +263,9 @@ pub fn return_value(
     match value_of(run.alloc, scope, store, value)? {
         Got::Traps { kind } => store.trap(kind, n),
         Got::Value { value: found } => {
-            let uses = used(run.alloc, scope, store, kind)?;
+            let uses = find_use(run.alloc, scope, store, kind)?;
             end_use(uses, n, store)?;
-            store.close(ended_by(run.regions, n))?;
+            store.close_region(ended_by(run.regions, n))?;
             Ok(Completion::Returned { value: found })
         }
     }

@@ -10,7 +10,7 @@ ghost use Rattle.oc_meaning.specs.Seen.{completion_at, passed_view};
 ghost use Rattle.oc_meaning.specs.Cuts.{Oldest, events_in};
 ghost use Rattle.oc_meaning.specs.Runs.{block_here, call_here, callee, kind_here, right_here, stmt_here, stmts_here, stmts_in};
 
-use crate::arguments::{Passing, args};
+use crate::arguments::{Passing, pass_arguments};
 use crate::calls::frame;
 use crate::completion::{Completion, Passed};
 use crate::eval::value_of;
@@ -27,15 +27,15 @@ use crate::simple::{
     tag,
 };
 use crate::store::Store;
-use crate::uses::used;
+use crate::uses::find_use;
 use crate::value::Got;
 use oc_tree::name::Name;
 use oc_tree::tree::{Block, Call, Expr, Right, Stmt, StmtId, StmtKind};
 use std::alloc::AllocError;
 use std::collections::VecDeque;
 
-// The variable that a `let` makes visible for the statements that follow it, where so many local
-// variables lived before.
+/// The variable that a `let` makes visible for the statements that follow it, where so many local
+/// variables lived before.
 fn grow<'a>(
     scope: &mut Scope<'a>,
     level: usize,
@@ -86,7 +86,7 @@ pub fn block<'a>(
     Ok(leave(locals, completion, store))
 }
 
-// The statements of a block, whose variables stay visible.
+/// The statements of a block, whose variables stay visible.
 #[cycle(run)]
 fn statements<'a>(
     run: &Running<'a>,
@@ -115,7 +115,7 @@ fn statements<'a>(
     Ok(Completion::Went)
 }
 
-// A statement with its region and its use.
+/// A statement with its region and its use.
 #[cycle(run)]
 fn statement<'a>(
     run: &Running<'a>,
@@ -133,20 +133,20 @@ fn statement<'a>(
         store.old))) }
 {
     let n = statement.id;
-    let uses = used(run.alloc, scope, store, &statement.kind)?;
-    store.open(begun_by(run.regions, n))?;
+    let uses = find_use(run.alloc, scope, store, &statement.kind)?;
+    store.open_region(begun_by(run.regions, n))?;
     begin(&statement.kind, &uses, n, store)?;
     match kind(run, scope, n, &statement.kind, store)? {
         Completion::Went => {
             end(&statement.kind, uses, n, store)?;
-            store.close(ended_by(run.regions, n))?;
+            store.close_region(ended_by(run.regions, n))?;
             Ok(Completion::Went)
         }
         other => Ok(other),
     }
 }
 
-// A statement's own work.
+/// A statement's own work.
 #[cycle(run)]
 fn kind<'a>(
     run: &Running<'a>,
@@ -229,7 +229,7 @@ fn kind<'a>(
     }
 }
 
-// The turns of a `for`.
+/// The turns of a `for`.
 #[cycle(run)]
 fn for_turns<'a>(
     run: &Running<'a>,
@@ -270,7 +270,7 @@ fn for_turns<'a>(
     Ok(Completion::Went)
 }
 
-// At most so many turns of the `while` `n`, which is of this kind.
+/// At most so many turns of the `while` `n`, which is of this kind.
 #[cycle(run)]
 fn while_turns<'a>(
     run: &Running<'a>,
@@ -316,7 +316,7 @@ fn while_turns<'a>(
     end_turns(is_use, samples, n, store)
 }
 
-// A right side of the statement `n`.
+/// A right side of the statement `n`.
 #[cycle(run)]
 fn right<'a>(
     run: &Running<'a>,
@@ -339,7 +339,7 @@ fn right<'a>(
     }
 }
 
-// A call by the statement `n`.
+/// A call by the statement `n`.
 #[cycle(run)]
 fn call<'a>(
     run: &Running<'a>,
@@ -355,7 +355,7 @@ fn call<'a>(
         (Oldest store.new.events (events_in
         (call_here run.now scope.now n store.old (call_view call.now)))) }
 {
-    match args(run.alloc, scope, store, call.args.as_slice())? {
+    match pass_arguments(run.alloc, scope, store, call.args.as_slice())? {
         Passing::Breaks { kind: trapped } => store.trap(trapped, n),
         Passing::Passes { passed } => call_to(run, &call.function, passed, store),
     }

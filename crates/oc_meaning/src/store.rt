@@ -95,14 +95,14 @@ impl<'a> Store<'a> {
     }
 
     /// How many events were told.
-    pub fn told(&self) -> usize
+    pub fn count_told(&self) -> usize
         ensures { result ≡ length self.now.events }
     {
         self.events.len()
     }
 
-    // The variable at a place, where there is one.
-    fn held(&self, place: Place) -> Option<&Held>
+    /// The variable at a place, where there is one.
+    fn find_variable(&self, place: Place) -> Option<&Held>
         ensures { held_or (place_view place) (option_map (λ h. h.now) result)
             ≡ held_at self.now (place_view place) }
     {
@@ -118,7 +118,7 @@ impl<'a> Store<'a> {
     pub fn value(&self, place: Place) -> Result<Value, AllocError>
         ensures { IfOk result (λ v. v ≡ value_in (held_at self.now (place_view place))) }
     {
-        match self.held(place) {
+        match self.find_variable(place) {
             Some(held) => held.value(),
             None => Ok(absent_value(self.alloc, place)),
         }
@@ -128,7 +128,7 @@ impl<'a> Store<'a> {
     pub fn samples(&self, place: Place) -> Result<Samples, AllocError>
         ensures { IfOk result (λ s. s ≡ (held_at self.now (place_view place)).samples) }
     {
-        match self.held(place) {
+        match self.find_variable(place) {
             Some(held) => held.samples().copy(),
             None => Ok(Samples::none(self.alloc)),
         }
@@ -142,9 +142,9 @@ impl<'a> Store<'a> {
             (element_of (length (held_at self.now (place_view place)).words) index.num)
             index.samples) }
     {
-        match self.held(place) {
+        match self.find_variable(place) {
             Some(held) => held.element(index),
-            None => absent(self.alloc, place)?.element(index),
+            None => absent_variable(self.alloc, place)?.element(index),
         }
     }
 
@@ -164,17 +164,17 @@ impl<'a> Store<'a> {
         Ok(())
     }
 
-    // How many words the variable at a place has.
+    /// How many words the variable at a place has.
     fn count(&self, place: Place) -> usize
         ensures { result ≡ length (held_at self.now (place_view place)).words }
     {
-        match self.held(place) {
+        match self.find_variable(place) {
             Some(held) => held.words().len(),
             None => usize::from(matches!(place, Place::Turn { .. })),
         }
     }
 
-    // Writes an element of the array at a place.
+    /// Writes an element of the array at a place.
     fn write(
         &mut self,
         place: Place,
@@ -298,7 +298,7 @@ impl<'a> Store<'a> {
     }
 
     /// A region begins, if one does.
-    pub fn open(&mut self, region: Option<u32>) -> Result<(), Interrupted>
+    pub fn open_region(&mut self, region: Option<u32>) -> Result<(), Interrupted>
         ensures step { OnOk result (self.new ≡ opened region self.old) }
         ensures cut { OnErr result (Oldest self.new.events (opened region self.old).events) }
     {
@@ -317,7 +317,7 @@ impl<'a> Store<'a> {
     }
 
     /// A region ends, if one does.
-    pub fn close(&mut self, region: Option<u32>) -> Result<(), Interrupted>
+    pub fn close_region(&mut self, region: Option<u32>) -> Result<(), Interrupted>
         ensures step { OnOk result (self.new ≡ closed region self.old) }
         ensures cut { OnErr result (Oldest self.new.events (closed region self.old).events) }
     {
@@ -386,7 +386,7 @@ fn first_values(alloc: Global, decls: &[NvDecl]) -> Result<Vec<Held>, AllocError
 }
 
 /// What stands for a place where no variable is.
-fn absent(alloc: Global, place: Place) -> Result<Held, AllocError>
+fn absent_variable(alloc: Global, place: Place) -> Result<Held, AllocError>
     ensures { IfOk result (λ h. h ≡ absent (place_view place)) }
 {
     match place {

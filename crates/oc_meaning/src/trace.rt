@@ -14,8 +14,11 @@ use std::alloc::{AllocError, Global};
 /// How a run came to its end: by itself, by a trap, or for want of samples.
 #[derive(Clone, Copy, Debug, PartialEq, Eq)]
 pub enum Outcome {
+    /// It came to the end of `main`.
     Ended,
+    /// It trapped.
     Trapped,
+    /// It asked for one more sample than there was.
     Short,
 }
 
@@ -51,7 +54,8 @@ enum Told {
     Nothing,
 }
 
-fn shown(what: Shown) -> Visible
+/// The event of what a program shows.
+fn convert_shown(what: Shown) -> Visible
     ensures { said_of result ≡ Said.Showed what }
 {
     match what {
@@ -62,7 +66,8 @@ fn shown(what: Shown) -> Visible
     }
 }
 
-fn ended(how: Ending) -> Visible
+/// The event of how a run ends.
+fn convert_ending(how: Ending) -> Visible
     ensures { said_of result ≡ Said.Ended how }
 {
     match how {
@@ -77,8 +82,8 @@ fn part_of(event: Event, before: u64) -> Told
 {
     let visible = match event.said {
         Said::Sensed { sensor, value } => Visible::Sense { sensor, value },
-        Said::Showed { what } => shown(what),
-        Said::Ended { how } => ended(how),
+        Said::Showed { what } => convert_shown(what),
+        Said::Ended { how } => convert_ending(how),
         Said::Entered { region } => return Told::Marked {
             mark: Mark {
                 region,
@@ -143,7 +148,7 @@ fn words_of(alloc: Global, variables: &[Held]) -> Result<Vec<i32>, AllocError>
 }
 
 /// The trace and the marks of what was noted, with the words of these variables.
-fn traced(
+fn make_trace(
     alloc: Global,
     noted: Vec<Event>,
     nv: Vec<Held>,
@@ -184,7 +189,7 @@ pub fn marked_trace(
     let (mut noted, nv) = store.into_parts();
     let whole = noted.len() as u64 <= limit;
     noted.truncate(limit as usize);
-    let (trace, marks) = traced(alloc, noted, nv, outcome)?;
+    let (trace, marks) = make_trace(alloc, noted, nv, outcome)?;
     Ok(MarkedTrace {
         trace,
         marks,
@@ -203,6 +208,6 @@ pub fn source_trace(
         (λ t. trace_view t ≡ without_marks (trace_at (ending_of outcome) store.entry)) }
 {
     let (noted, nv) = store.into_parts();
-    let (trace, _marks) = traced(alloc, noted, nv, outcome)?;
+    let (trace, _marks) = make_trace(alloc, noted, nv, outcome)?;
     Ok(trace)
 }

@@ -14,6 +14,7 @@ use oc_tree::name::Name;
 use oc_tree::tree::StmtKind;
 use std::alloc::{AllocError, Global};
 
+/// Whether one of these names is that of a fresh variable.
 fn names_fresh(scope: &Scope, names: &[&Name]) -> bool
     ensures { result ≡ list_any (is_fresh scope.now) (names_seen names.now) }
 {
@@ -59,7 +60,7 @@ fn samples_of_fresh(
 }
 
 /// The samples of the fresh variables that a statement names, where it names one.
-pub fn used(
+pub fn find_use(
     alloc: Global,
     scope: &Scope,
     store: &Store,

@@ -24,11 +24,14 @@ impl Model for Value {
 /// A value, or the kind of the trap.
 #[derive(Debug, Drop)]
 pub enum Got {
+    /// It has this value.
     Value { value: Value },
+    /// Its evaluation traps.
     Traps { kind: TrapKind },
 }
 
 impl Value {
+    /// A number with these samples.
     pub fn new(number: i32, samples: Samples) -> Value
         ensures { result ≡ record { num = number; samples = samples } }
     {
@@ -45,18 +48,21 @@ impl Value {
         }
     }
 
+    /// Its number.
     pub fn number(&self) -> i32
         ensures { result ≡ self.now.num }
     {
         self.number
     }
 
+    /// The samples on which it depends.
     pub fn samples(&self) -> &Samples
         ensures { result.now ≡ self.now.samples }
     {
         &self.samples
     }
 
+    /// Just its samples.
     pub fn into_samples(self) -> Samples
         ensures { result ≡ self.samples }
     {
@@ -64,7 +70,7 @@ impl Value {
     }
 
     /// A value that depends on these samples too.
-    pub fn depending(self, samples: &Samples) -> Result<Value, AllocError>
+    pub fn depend_on(self, samples: &Samples) -> Result<Value, AllocError>
         ensures { IfOk result (λ v. v
             ≡ record { num = self.num; samples = union samples.now self.samples }) }
     {

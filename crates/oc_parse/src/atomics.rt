@@ -12,14 +12,14 @@ use oc_lex::{Kind, Token, Word};
 use oc_tree::tree::{Block, Function, Program, StmtId, StmtKind};
 use std::alloc::{AllocError, Global};
 
-// A number further. There is no memory for more statements than there are numbers.
+/// A number further. There is no memory for more statements than there are numbers.
 fn further(number: u32, count: u32) -> Result<u32, AllocError>
     ensures { IfOk result (λ n. n ≡ number + count) }
 {
     number.checked_add(count).ok_or(AllocError)
 }
 
-// Adds the number of a statement, if it has the tree of an `if`.
+/// Adds the number of a statement, if it has the tree of an `if`.
 fn add_if(kind: &StmtKind, number: u32, ifs: &mut Vec<StmtId>) -> Result<(), AllocError>
     ensures { OnOk result (ifs.new.items ≡ ifs.old.items ++ own_if number (kind_view kind.now)) }
 {
@@ -29,7 +29,7 @@ fn add_if(kind: &StmtKind, number: u32, ifs: &mut Vec<StmtId>) -> Result<(), All
     Ok(())
 }
 
-// Adds those inside a statement, and answers the next number of the expansion.
+/// Adds those inside a statement, and answers the next number of the expansion.
 #[cycle(ifs)]
 fn kind_ifs(kind: &StmtKind, first: u32, ifs: &mut Vec<StmtId>) -> Result<u32, AllocError>
     requires { kind_nodes (kind_view kind.now) < 2 ^ 32 }
@@ -51,6 +51,7 @@ fn kind_ifs(kind: &StmtKind, first: u32, ifs: &mut Vec<StmtId>) -> Result<u32, A
     }
 }
 
+/// Adds those inside an `else`, and answers the next number of the expansion.
 #[cycle(ifs)]
 fn else_ifs(otherwise: &Option<Block>, first: u32, ifs: &mut Vec<StmtId>) -> Result<u32, AllocError>
     requires { else_nodes (else_view otherwise.now) < 2 ^ 32 }
@@ -64,6 +65,7 @@ fn else_ifs(otherwise: &Option<Block>, first: u32, ifs: &mut Vec<StmtId>) -> Res
     }
 }
 
+/// Adds those of a block, and answers the next number of the expansion.
 #[cycle(ifs)]
 fn block_ifs(block: &Block, first: u32, ifs: &mut Vec<StmtId>) -> Result<u32, AllocError>
     requires { block_nodes (block_view block.now) < 2 ^ 32 }
@@ -81,7 +83,7 @@ fn block_ifs(block: &Block, first: u32, ifs: &mut Vec<StmtId>) -> Result<u32, Al
     Ok(next)
 }
 
-// All of a program, by their numbers in the expansion.
+/// All of a program, by their numbers in the expansion.
 fn program_ifs(alloc: Global, functions: &[Function]) -> Result<Vec<StmtId>, AllocError>
     requires { sum_by (λ f. block_nodes f.body) (map function_view functions.now) < 2 ^ 32 }
     ensures { IfOk result (λ i. i.items ≡ functions_ifs_at 1 (map function_view functions.now)) }
@@ -94,7 +96,7 @@ fn program_ifs(alloc: Global, functions: &[Function]) -> Result<Vec<StmtId>, All
     Ok(ifs)
 }
 
-// Adds whether such a statement begins with `atomic`, where one begins with this token.
+/// Adds whether such a statement begins with `atomic`, where one begins with this token.
 fn add_begin(token: Token, begins: &mut Vec<bool>) -> Result<(), AllocError>
     ensures { OnOk result (begins.new.items ≡ begins.old.items ++ kind_begins token.kind) }
 {
@@ -111,6 +113,7 @@ fn add_begin(token: Token, begins: &mut Vec<bool>) -> Result<(), AllocError>
     }
 }
 
+/// For each statement that is an `if` or begins with `atomic`, whether it does.
 fn token_begins(alloc: Global, tokens: &[Token]) -> Result<Vec<bool>, AllocError>
     ensures { IfOk result (λ b. b.items ≡ flat_map token_begins tokens.now) }
 {
@@ -121,8 +124,12 @@ fn token_begins(alloc: Global, tokens: &[Token]) -> Result<Vec<bool>, AllocError
     Ok(begins)
 }
 
-// The numbers at whose places `true` stands.
-fn picked(alloc: Global, begins: &[bool], numbers: &[StmtId]) -> Result<Vec<StmtId>, AllocError>
+/// The numbers at whose places `true` stands.
+fn pick_numbers(
+    alloc: Global,
+    begins: &[bool],
+    numbers: &[StmtId],
+) -> Result<Vec<StmtId>, AllocError>
     ensures { IfOk result (λ p. p.items ≡ picked begins.now numbers.now) }
 {
     begins
@@ -146,5 +153,5 @@ pub fn atomics(
 {
     let begins = token_begins(alloc, tokens)?;
     let ifs = program_ifs(alloc, program.functions.as_slice())?;
-    picked(alloc, begins.as_slice(), ifs.as_slice())
+    pick_numbers(alloc, begins.as_slice(), ifs.as_slice())
 }

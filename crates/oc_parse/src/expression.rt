@@ -41,7 +41,7 @@ impl Reader<'_> {
             Kind::Number { value } => Ok(Expr::Number { value }),
             Kind::Name => {
                 let name = self.name_of(token)?;
-                self.named(room, operators, name)
+                self.name_expression(room, operators, name)
             }
             Kind::Word(Word::True) => Ok(Expr::Truth { value: true }),
             Kind::Word(Word::False) => Ok(Expr::Truth { value: false }),
@@ -59,8 +59,8 @@ impl Reader<'_> {
                 self.expect(Mark::CloseRound)?;
                 Ok(inner)
             }
-            Kind::Mark(Mark::Minus) => self.prefixed(room, operators, UnaryOp::Neg),
-            Kind::Mark(Mark::Not) => self.prefixed(room, operators, UnaryOp::Not),
+            Kind::Mark(Mark::Minus) => self.prefix_expression(room, operators, UnaryOp::Neg),
+            Kind::Mark(Mark::Not) => self.prefix_expression(room, operators, UnaryOp::Not),
             _ => Err(self.refuse_last()),
         }
     }
@@ -68,7 +68,7 @@ impl Reader<'_> {
     /// Takes what may follow a name: the arguments of a call or an index.
     #[cycle(expression)]
     #[tactic(auto, unfolding(oc_grammar::specs::ReadingExpressions::named_at))]
-    fn named(&mut self, room: u32, operators: &mut u32, name: Name) -> Result<Expr, Stop>
+    fn name_expression(&mut self, room: u32, operators: &mut u32, name: Name) -> Result<Expr, Stop>
         ensures exact { ReadsExpr expr_view result operators.new (left self.new)
             (named_at the_depths room name operators.old (left self.old)) }
         ensures shorter { OnOk result (length self.new.rest.now ≤ length self.old.rest.now) }
@@ -95,7 +95,12 @@ impl Reader<'_> {
     /// Takes what a prefix operator stands before.
     #[cycle(expression)]
     #[tactic(auto, unfolding(oc_grammar::specs::ReadingExpressions::prefixed_at))]
-    fn prefixed(&mut self, room: u32, operators: &mut u32, op: UnaryOp) -> Result<Expr, Stop>
+    fn prefix_expression(
+        &mut self,
+        room: u32,
+        operators: &mut u32,
+        op: UnaryOp,
+    ) -> Result<Expr, Stop>
         ensures exact { ReadsExpr expr_view result operators.new (left self.new)
             (prefix_by (prefixed_at the_depths room) op operators.old (left self.old)) }
         ensures shorter { OnOk result (length self.new.rest.now < length self.old.rest.now) }

@@ -128,7 +128,7 @@ impl Reader<'_> {
 
     /// Takes the name of a sensor or port and the `;`.
     #[tactic(auto, unfolding(oc_grammar::specs::ReadingPrograms::declared_at))]
-    fn declared(&mut self) -> Result<Name, Stop>
+    fn declared_name(&mut self) -> Result<Name, Stop>
         ensures exact { Reads (λ x. x) result (left self.new) (declared_at (left self.old)) }
         ensures shorter { OnOk result (length self.new.rest.now < length self.old.rest.now) }
     {
@@ -138,6 +138,7 @@ impl Reader<'_> {
     }
 }
 
+/// Adds the declaration of a sensor.
 fn add_sensor(program: &mut Program, line: u32, name: Name) -> Result<(), Stop>
     ensures { MatchResult result
         (λ x. program_view program.new ≡ with_sensor line name (program_view program.old))
@@ -149,6 +150,7 @@ fn add_sensor(program: &mut Program, line: u32, name: Name) -> Result<(), Stop>
     Ok(())
 }
 
+/// Adds the declaration of a port.
 fn add_port(program: &mut Program, line: u32, name: Name) -> Result<(), Stop>
     ensures { MatchResult result
         (λ x. program_view program.new ≡ with_port line name (program_view program.old))
@@ -160,6 +162,7 @@ fn add_port(program: &mut Program, line: u32, name: Name) -> Result<(), Stop>
     Ok(())
 }
 
+/// Adds the declaration of a nonvolatile variable.
 fn add_nv(program: &mut Program, line: u32, name: Name, declaration: NvDecl) -> Result<(), Stop>
     ensures { MatchResult result
         (λ x. program_view program.new ≡ with_nv line name declaration (program_view program.old))
@@ -172,6 +175,7 @@ fn add_nv(program: &mut Program, line: u32, name: Name, declaration: NvDecl) -> 
     Ok(())
 }
 
+/// Adds a function.
 fn add_function(program: &mut Program, function: Function) -> Result<(), Stop>
     ensures { MatchResult result
         (λ x. program_view program.new
@@ -223,11 +227,11 @@ impl Parser<'_> {
         let token = self.reader.next()?;
         match token.kind {
             Kind::Word(Word::Sensor) => {
-                let name = self.reader.declared()?;
+                let name = self.reader.declared_name()?;
                 add_sensor(program, token.line, name)
             }
             Kind::Word(Word::Port) => {
-                let name = self.reader.declared()?;
+                let name = self.reader.declared_name()?;
                 add_port(program, token.line, name)
             }
             Kind::Word(Word::Nonvolatile) => {

@@ -33,6 +33,7 @@ pub enum ParseError {
     /// This token passes a depth.
     #[error("the token {token} passes a depth")]
     Depth { token: usize },
+    /// There is no memory left.
     #[error("out of memory")]
     Memory,
 }
@@ -59,7 +60,7 @@ pub fn parse(alloc: Global, source: &[u8], tokens: &[Token]) -> Result<Program, 
     // passes a depth while a program begins up to and with it.
     ensures fault { Faults result (lexemes_of source.now tokens.now) }
 {
-    read(alloc, source, tokens, false)
+    parse_program(alloc, source, tokens, false)
 }
 
 /// The tree of the program that the tokens of a source spell in the grammar with `atomic`, where
@@ -83,7 +84,7 @@ pub fn parse_blocks(
         (λ r. r.1.items ≡ atomics (program_view r.0) (lexemes_in true source.now tokens.now)) }
     ensures fault { Faults result (lexemes_in true source.now tokens.now) }
 {
-    match read(alloc, source, tokens, true) {
+    match parse_program(alloc, source, tokens, true) {
         Ok(program) => match atomics(alloc, &program, tokens) {
             Ok(blocks) => Ok((program, blocks)),
             Err(_) => Err(ParseError::Memory),
@@ -92,9 +93,14 @@ pub fn parse_blocks(
     }
 }
 
-// The tree of the program that the tokens of a source spell, in the grammar with `atomic` or in the
-// one without it.
-fn read(alloc: Global, source: &[u8], tokens: &[Token], atomic: bool) -> Result<Program, ParseError>
+/// The tree of the program that the tokens of a source spell, in the grammar with `atomic` or in the
+/// one without it.
+fn parse_program(
+    alloc: Global,
+    source: &[u8],
+    tokens: &[Token],
+    atomic: bool,
+) -> Result<Program, ParseError>
     requires tokens { AreTokens source.now tokens.now }
     requires small { length source.now ≤ source_limit }
     ensures found { IfOk result
@@ -131,6 +137,7 @@ fn place(tokens: &[Token], left: usize) -> usize
     tokens.len().saturating_sub(left)
 }
 
+/// The tree of the program, or why its reading stops.
 fn whole(alloc: Global, source: &[u8], tokens: &[Token], atomic: bool) -> Result<Program, Stop>
     requires { length tokens.now ≤ source_limit }
     ensures { Whole result (program_at the_depths (lexemes_in atomic source.now tokens.now)) }

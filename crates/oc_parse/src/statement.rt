@@ -174,7 +174,7 @@ impl Parser<'_> {
             return Ok(None);
         }
         let block = if self.reader.stands(Word::If) {
-            self.chained(room)?
+            self.else_if(room)?
         } else {
             self.block(room)?
         };
@@ -183,7 +183,7 @@ impl Parser<'_> {
 
     /// Takes the `if` in front as the only statement of a block that it opens.
     #[cycle(statement)]
-    fn chained(&mut self, room: u32) -> Result<Block, Stop>
+    fn else_if(&mut self, room: u32) -> Result<Block, Stop>
         requires fits { Fits self.old }
         requires more { self.old.blocks + length self.old.reader.rest.now < 4294967295 }
         ensures exact { ReadsTo block_view result self.new

@@ -7,6 +7,7 @@ use std::alloc::{AllocError, AllocFailed};
 /// Why reading stops: memory, or the token with which so many tokens are left.
 #[derive(Clone, Copy, Debug, PartialEq, Eq)]
 pub enum Stop {
+    /// There is no memory left.
     Memory,
     /// No form goes on with the token.
     Syntax { left: usize },

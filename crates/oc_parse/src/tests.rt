@@ -16,7 +16,7 @@ fn fault(alloc: Global, source: &[u8]) -> Result<Option<ParseError>, LexError>
 }
 
 /// A text, then a piece so many times, then a text, then another piece as often, and a text.
-fn nested(alloc: Global, parts: [&str; 5], count: usize) -> Result<Vec<u8>, AllocError> {
+fn repeat_parts(alloc: Global, parts: [&str; 5], count: usize) -> Result<Vec<u8>, AllocError> {
     let mut source = Vec::new(alloc);
     source.extend_from_slice(parts[0].as_bytes())?;
     for _ in 0..count {
@@ -145,7 +145,7 @@ fn depths(rt: HostRuntime) -> Result<(), Fail> {
         ),
     ];
     for (parts, count, expected) in cases {
-        let source = nested(rt.alloc(), parts, count)?;
+        let source = repeat_parts(rt.alloc(), parts, count)?;
         assert!(rt; source.len() < 10000);
         assert_eq!(rt;
             fault(rt.alloc(), source.as_slice())?,

@@ -13,7 +13,7 @@ use std::alloc::Global;
 
 /// The checked program of a source of at most 1 MiB; what refuses the source, or want of memory, is
 /// the error.
-pub fn checked(alloc: Global, source: &[u8]) -> anyhow::Result<Checked>
+pub fn check_source(alloc: Global, source: &[u8]) -> anyhow::Result<Checked>
     requires { length source.now ≤ source_limit }
 {
     let tokens = lex(alloc, source)?;

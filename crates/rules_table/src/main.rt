@@ -18,7 +18,7 @@ use std::alloc::{AllocError, Global};
 use std::io;
 
 /// The line and the number of the rule that a source breaks.
-fn broken(alloc: Global, source: &[u8]) -> anyhow::Result<Option<(u32, u8)>>
+fn find_broken(alloc: Global, source: &[u8]) -> anyhow::Result<Option<(u32, u8)>>
     requires { length source.now ≤ source_limit }
 {
     let tokens = lex(alloc, source)?;
@@ -45,7 +45,7 @@ fn put_piece(source: &mut Vec<u8>, piece: &str, turn: u32) -> Result<(), AllocEr
 }
 
 /// A text, then a piece so many times, and a text.
-fn repeated(alloc: Global, parts: [&str; 3], count: u32) -> Result<Vec<u8>, AllocError> {
+fn repeat_piece(alloc: Global, parts: [&str; 3], count: u32) -> Result<Vec<u8>, AllocError> {
     let mut source = Vec::new(alloc);
     source.extend_from_slice(parts[0].as_bytes())?;
     for turn in 0..count {
@@ -65,7 +65,7 @@ fn is_as_expected<O: Sink>(
     if source.len() > 1_000_000 {
         return Ok(false);
     }
-    let found = broken(alloc, source)?;
+    let found = find_broken(alloc, source)?;
     if found == expected {
         return Ok(true);
     }
@@ -95,7 +95,7 @@ fn tell<O: Sink>(alloc: Global, out: &mut O) -> anyhow::Result<()> {
         .saturating_add(count_right(alloc, &of_calls_and_places(), out)?)
         .saturating_add(count_right(alloc, &of_runs_and_sizes(), out)?);
     for (parts, count, expected) in long_sources() {
-        let source = repeated(alloc, parts, count)?;
+        let source = repeat_piece(alloc, parts, count)?;
         if is_as_expected(alloc, source.as_slice(), expected, out)? {
             right = right.saturating_add(1);
         }

@@ -31,26 +31,26 @@ marked_trace-requires-2 c =
     let begins = subst (λ (s : Store). Begins (in_order σ.events) (trace_of (main_from p rs s)).events) start told in
     parts_begun p rs c.args.samples.now (in_order σ.events) begins
 
-pub returns-then-told-limit-clause-parts : goal.returns-then-told-limit-clause-parts
-returns-then-told-limit-clause-parts c =
+pub returns-then-count_told-limit-clause-parts : goal.returns-then-count_told-limit-clause-parts
+returns-then-count_told-limit-clause-parts c =
     let p = program_view c.args.program.now in
     let rs = map region_view c.args.regions.now in
     let σ = c.run-ran.new.store in
     let start : c.in_ok-store.store ≡ first_store p c.args.samples.now = c.in_ok-store.ensures in
     let told : Begins (in_order σ.events) (trace_of (main_from p rs c.in_ok-store.store)).events = c.run-ran.ensures.begins in
     let begins = subst (λ (s : Store). Begins (in_order σ.events) (trace_of (main_from p rs s)).events) start told in
-    let more : c.args.limit ≤ length σ.events = omega (arith, c.told.ensures) in
+    let more : c.args.limit ≤ length σ.events = omega (arith, c.count_told.ensures) in
     c.in_ok-trace.ensures.parts ∙ first_begun c.args.limit σ.events (marked_run p rs c.args.samples.now).events more begins
 
-pub returns-then-told-limit-clause-whole : goal.returns-then-told-limit-clause-whole
-returns-then-told-limit-clause-whole c =
+pub returns-then-count_told-limit-clause-whole : goal.returns-then-count_told-limit-clause-whole
+returns-then-count_told-limit-clause-whole c =
     let p = program_view c.args.program.now in
     let rs = map region_view c.args.regions.now in
     let σ = c.run-ran.new.store in
     let start : c.in_ok-store.store ≡ first_store p c.args.samples.now = c.in_ok-store.ensures in
     let told : Begins (in_order σ.events) (trace_of (main_from p rs c.in_ok-store.store)).events = c.run-ran.ensures.begins in
     let begins = subst (λ (s : Store). Begins (in_order σ.events) (trace_of (main_from p rs s)).events) start told in
-    let more : c.args.limit < length σ.events = omega (arith, c.told.ensures) in
+    let more : c.args.limit < length σ.events = omega (arith, c.count_told.ensures) in
     c.in_ok-trace.ensures.whole ∙ more_begun c.args.limit σ.events (marked_run p rs c.args.samples.now).events more begins
 
 pub returns-clause-whole : goal.returns-clause-whole
@@ -74,7 +74,7 @@ returns-clause-told c =
     let ending = ending_of c.in_ok-outcome.outcome in
     let started : trace_at ending σ ≡ trace_of (main_from p rs c.in_ok-store.store) = c.in_ok-outcome.ensures.runs in
     let ran : trace_at ending σ ≡ marked_run p rs c.args.samples.now = started ∙ ap (λ s. trace_of (main_from p rs s)) start in
-    let few : length σ.events ≤ c.args.limit = omega (arith, c.told.ensures) in
+    let few : length σ.events ≤ c.args.limit = omega (arith, c.count_told.ensures) in
     λ _. c.in_ok-trace-2.ensures.parts ∙ first_all c.args.limit σ.events few ∙ ap (λ t. t.events) ran
 
 pub returns-clause-source : goal.returns-clause-source

@@ -43,15 +43,15 @@ returns-in_err-end_use-in-Value-clause-cut c =
     on_err _ (returned_from τ.events g c.in-Value.found n (ended_by (map region_view c.args.run.now.regions.now) n) b samples σ found
     (in_other τ.events (ended c.in_ok-uses-in-Value.uses n σ) (done b n samples σ) told c.in_err-end_use-in-Value.ensures.cut))
 
-pub returns-in_err-close-in-Value-clause-cut : goal.returns-in_err-close-in-Value-clause-cut
-returns-in_err-close-in-Value-clause-cut c =
+pub returns-in_err-close_region-in-Value-clause-cut : goal.returns-in_err-close_region-in-Value-clause-cut
+returns-in_err-close_region-in-Value-clause-cut c =
     let σ = c.args.store.now in
     let env = c.args.scope.now in
     let n = c.args.n in
     let k = kind_view c.args.kind.now in
     let b = is_use (is_fresh env) k in
     let samples = use_samples env k σ in
-    let τ = c.close.new.self in
+    let τ = c.close_region.new.self in
     let g = value_of env σ (expr_view c.args.value.now) in
     let region = ended_by (map region_view c.args.run.now.regions.now) n in
     let found : g ≡ Val c.in-Value.found = sym c.in_ok-kind.ensures ∙ ap got_view c.in-Value.is in
@@ -59,4 +59,4 @@ returns-in_err-close-in-Value-clause-cut c =
     let over : closed c.ended_by.result c.end_use.new.store ≡ closed region (done b n samples σ) = ap (λ o. closed o c.end_use.new.store) c.ended_by.ensures ∙ ap (closed region) told in
     on_err _
     (found_from τ.events g c.in-Value.found n σ (λ v. Returned v (closed region (done b n samples σ))) found
-    (in_other τ.events (closed c.ended_by.result c.end_use.new.store) (closed region (done b n samples σ)) over c.in_err-close-in-Value.ensures.cut))
+    (in_other τ.events (closed c.ended_by.result c.end_use.new.store) (closed region (done b n samples σ)) over c.in_err-close_region-in-Value.ensures.cut))

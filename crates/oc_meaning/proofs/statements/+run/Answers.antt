@@ -472,10 +472,10 @@ statement-returns-in_default t c =
     let k = kind_view c.args.statement.now.kind in
     let samples = use_samples env k σ in
     let begins = opened (begun_by (map region_view r.regions.now) n) σ in
-    let open_is : c.open.new.self ≡ begins = c.in_ok-open.ensures.step ∙ ap (λ o. opened o σ) c.begun_by.ensures in
+    let open_is : c.open_region.new.self ≡ begins = c.in_ok-open_region.ensures.step ∙ ap (λ o. opened o σ) c.begun_by.ensures in
     let υ = used (begins_use (is_fresh env) k) n samples begins in
     let begun_is : c.begin.new.store ≡ υ =
-    c.in_ok-begin.ensures.step ∙ ap (λ u. begun_at k u n c.open.new.self) c.in_ok-uses.ensures ∙ ap (begun_at k (if is_use (is_fresh env) k then Some samples else None) n) open_is
+    c.in_ok-begin.ensures.step ∙ ap (λ u. begun_at k u n c.open_region.new.self) c.in_ok-uses.ensures ∙ ap (begun_at k (if is_use (is_fresh env) k then Some samples else None) n) open_is
     ∙ begun_if (is_fresh env) k n samples begins in
     let ends : Store → Store = λ s. closed (ended_by (map region_view r.regions.now) n) (done (ends_use (is_fresh env) k) n samples s) in
     let τ = c.kind.new.store in
@@ -494,10 +494,10 @@ statement-returns-in_err-other-clause-cut t c =
     let k = kind_view c.args.statement.now.kind in
     let samples = use_samples env k σ in
     let begins = opened (begun_by (map region_view r.regions.now) n) σ in
-    let open_is : c.open.new.self ≡ begins = c.in_ok-open.ensures.step ∙ ap (λ o. opened o σ) c.begun_by.ensures in
+    let open_is : c.open_region.new.self ≡ begins = c.in_ok-open_region.ensures.step ∙ ap (λ o. opened o σ) c.begun_by.ensures in
     let υ = used (begins_use (is_fresh env) k) n samples begins in
     let begun_is : c.begin.new.store ≡ υ =
-    c.in_ok-begin.ensures.step ∙ ap (λ u. begun_at k u n c.open.new.self) c.in_ok-uses.ensures ∙ ap (begun_at k (if is_use (is_fresh env) k then Some samples else None) n) open_is
+    c.in_ok-begin.ensures.step ∙ ap (λ u. begun_at k u n c.open_region.new.self) c.in_ok-uses.ensures ∙ ap (begun_at k (if is_use (is_fresh env) k then Some samples else None) n) open_is
     ∙ begun_if (is_fresh env) k n samples begins in
     let events = c.kind.new.store.events in
     on_err _ (behind_kind events r env n k σ (kind_here r env n k υ)
@@ -683,15 +683,15 @@ statement-returns-in_err-begin-clause-cut t c =
     let k = kind_view c.args.statement.now.kind in
     let samples = use_samples env k σ in
     let begins = opened (begun_by (map region_view r.regions.now) n) σ in
-    let open_is : c.open.new.self ≡ begins = c.in_ok-open.ensures.step ∙ ap (λ o. opened o σ) c.begun_by.ensures in
+    let open_is : c.open_region.new.self ≡ begins = c.in_ok-open_region.ensures.step ∙ ap (λ o. opened o σ) c.begun_by.ensures in
     let υ = used (begins_use (is_fresh env) k) n samples begins in
     let ω = c.begin.new.store in
-    let begun_is : begun_at k c.in_ok-uses.uses n c.open.new.self ≡ υ =
-    ap (λ u. begun_at k u n c.open.new.self) c.in_ok-uses.ensures ∙ ap (begun_at k (if is_use (is_fresh env) k then Some samples else None) n) open_is ∙ begun_if (is_fresh env) k n samples begins in
-    on_err _ (begun_stmt_from ω.events r env n k σ (in_other ω.events (begun_at k c.in_ok-uses.uses n c.open.new.self) υ begun_is c.in_err-begin.ensures.cut))
+    let begun_is : begun_at k c.in_ok-uses.uses n c.open_region.new.self ≡ υ =
+    ap (λ u. begun_at k u n c.open_region.new.self) c.in_ok-uses.ensures ∙ ap (begun_at k (if is_use (is_fresh env) k then Some samples else None) n) open_is ∙ begun_if (is_fresh env) k n samples begins in
+    on_err _ (begun_stmt_from ω.events r env n k σ (in_other ω.events (begun_at k c.in_ok-uses.uses n c.open_region.new.self) υ begun_is c.in_err-begin.ensures.cut))
 
-pub statement-returns-in_err-close-in-Went-clause-cut : goal.statement-returns-in_err-close-in-Went-clause-cut
-statement-returns-in_err-close-in-Went-clause-cut t c =
+pub statement-returns-in_err-close_region-in-Went-clause-cut : goal.statement-returns-in_err-close_region-in-Went-clause-cut
+statement-returns-in_err-close_region-in-Went-clause-cut t c =
     let r = c.args.run.now in
     let env = c.args.scope.now in
     let σ = c.args.store.now in
@@ -699,21 +699,21 @@ statement-returns-in_err-close-in-Went-clause-cut t c =
     let k = kind_view c.args.statement.now.kind in
     let samples = use_samples env k σ in
     let begins = opened (begun_by (map region_view r.regions.now) n) σ in
-    let open_is : c.open.new.self ≡ begins = c.in_ok-open.ensures.step ∙ ap (λ o. opened o σ) c.begun_by.ensures in
+    let open_is : c.open_region.new.self ≡ begins = c.in_ok-open_region.ensures.step ∙ ap (λ o. opened o σ) c.begun_by.ensures in
     let υ = used (begins_use (is_fresh env) k) n samples begins in
     let begun_is : c.begin.new.store ≡ υ =
-    c.in_ok-begin.ensures.step ∙ ap (λ u. begun_at k u n c.open.new.self) c.in_ok-uses.ensures ∙ ap (begun_at k (if is_use (is_fresh env) k then Some samples else None) n) open_is
+    c.in_ok-begin.ensures.step ∙ ap (λ u. begun_at k u n c.open_region.new.self) c.in_ok-uses.ensures ∙ ap (begun_at k (if is_use (is_fresh env) k then Some samples else None) n) open_is
     ∙ begun_if (is_fresh env) k n samples begins in
     let ends : Store → Store = λ s. closed (ended_by (map region_view r.regions.now) n) (done (ends_use (is_fresh env) k) n samples s) in
     let τ = c.kind.new.store in
     let went : kind_here r env n k υ ≡ Went τ = sym (c.in_ok-other.ensures.runs ∙ ap (kind_here r env n k) begun_is) ∙ ap (λ o. completion_at o τ) c.in-Went.is in
-    let ω = c.close.new.self in
+    let ω = c.close_region.new.self in
     let end_is : c.end.new.store ≡ done (ends_use (is_fresh env) k) n samples τ = c.in_ok-end-in-Went.ensures.step ∙ ap (λ u. ended_at k u n τ) c.in_ok-uses.ensures
     ∙ ended_if (is_fresh env) k n samples τ in
     let close_is : closed c.ended_by.result c.end.new.store ≡ ends τ = ap (λ o. closed o c.end.new.store) c.ended_by.ensures ∙ ap (closed (ended_by (map region_view r.regions.now) n)) end_is in
     on_err _
     (along_with ω.events (Went (ends τ)) (stmt_here r env n k σ) (ap (finished ends) (sym went))
-    (in_other ω.events (closed c.ended_by.result c.end.new.store) (ends τ) close_is c.in_err-close-in-Went.ensures.cut))
+    (in_other ω.events (closed c.ended_by.result c.end.new.store) (ends τ) close_is c.in_err-close_region-in-Went.ensures.cut))
 
 pub statement-returns-in_err-end-in-Went-clause-cut : goal.statement-returns-in_err-end-in-Went-clause-cut
 statement-returns-in_err-end-in-Went-clause-cut t c =
@@ -724,10 +724,10 @@ statement-returns-in_err-end-in-Went-clause-cut t c =
     let k = kind_view c.args.statement.now.kind in
     let samples = use_samples env k σ in
     let begins = opened (begun_by (map region_view r.regions.now) n) σ in
-    let open_is : c.open.new.self ≡ begins = c.in_ok-open.ensures.step ∙ ap (λ o. opened o σ) c.begun_by.ensures in
+    let open_is : c.open_region.new.self ≡ begins = c.in_ok-open_region.ensures.step ∙ ap (λ o. opened o σ) c.begun_by.ensures in
     let υ = used (begins_use (is_fresh env) k) n samples begins in
     let begun_is : c.begin.new.store ≡ υ =
-    c.in_ok-begin.ensures.step ∙ ap (λ u. begun_at k u n c.open.new.self) c.in_ok-uses.ensures ∙ ap (begun_at k (if is_use (is_fresh env) k then Some samples else None) n) open_is
+    c.in_ok-begin.ensures.step ∙ ap (λ u. begun_at k u n c.open_region.new.self) c.in_ok-uses.ensures ∙ ap (begun_at k (if is_use (is_fresh env) k then Some samples else None) n) open_is
     ∙ begun_if (is_fresh env) k n samples begins in
     let ends : Store → Store = λ s. closed (ended_by (map region_view r.regions.now) n) (done (ends_use (is_fresh env) k) n samples s) in
     let τ = c.kind.new.store in
@@ -739,16 +739,16 @@ statement-returns-in_err-end-in-Went-clause-cut t c =
     (along_with ω.events (Went (ends τ)) (stmt_here r env n k σ) (ap (finished ends) (sym went))
     (closed_from ω.events (ended_by (map region_view r.regions.now) n) over (in_other ω.events (ended_at k c.in_ok-uses.uses n τ) over end_is c.in_err-end-in-Went.ensures.cut)))
 
-pub statement-returns-in_err-open-clause-cut : goal.statement-returns-in_err-open-clause-cut
-statement-returns-in_err-open-clause-cut t c =
+pub statement-returns-in_err-open_region-clause-cut : goal.statement-returns-in_err-open_region-clause-cut
+statement-returns-in_err-open_region-clause-cut t c =
     let r = c.args.run.now in
     let env = c.args.scope.now in
     let σ = c.args.store.now in
     let n = c.args.statement.now.id in
     let k = kind_view c.args.statement.now.kind in
-    let ω = c.open.new.self in
+    let ω = c.open_region.new.self in
     let open_is : opened c.begun_by.result σ ≡ opened (begun_by (map region_view r.regions.now) n) σ = ap (λ o. opened o σ) c.begun_by.ensures in
-    on_err _ (opened_from ω.events r env n k σ (in_other ω.events (opened c.begun_by.result σ) (opened (begun_by (map region_view r.regions.now) n) σ) open_is c.in_err-open.ensures.cut))
+    on_err _ (opened_from ω.events r env n k σ (in_other ω.events (opened c.begun_by.result σ) (opened (begun_by (map region_view r.regions.now) n) σ) open_is c.in_err-open_region.ensures.cut))
 
 pub while_turns-returns-in_err-samples-clause-cut : goal.while_turns-returns-in_err-samples-clause-cut
 while_turns-returns-in_err-samples-clause-cut t c =

@@ -6,8 +6,8 @@ use Rattle.oc_meaning.specs.Traces.{AreParts}
 use Rattle.oc_meaning.proofs.Beginning.{length-in_order, parts_first}
 use Rattle.oc_meaning.proofs.trace.marked_trace.Goals as goal
 
-pub traced-requires : goal.traced-requires
-traced-requires c =
+pub make_trace-requires : goal.make_trace-requires
+make_trace-requires c =
     let n = c.args.limit in
     let noted = c.into_parts-noted.result.0.items in
     let first : map event_view c.truncate.new.self.items ≡ take n (in_order c.args.store.events) =

@@ -83,17 +83,17 @@ args-returns-clause-exact t c =
     list_closes (arg_at the_depths c.args.room) (map arg_view c.loop-args.args.items) (left c.loop-args.self) (left c.take.new.self)
     (args_at the_depths c.args.room (left c.args.self.now)) c.loop-args-test.ensures.exact c.loop-args.invariant.0
 
-pub named-returns-then-take-clause-exact : goal.named-returns-then-take-clause-exact
+pub name_expression-returns-then-take-clause-exact : goal.name_expression-returns-then-take-clause-exact
 unfolding named_at
-named-returns-then-take-clause-exact t c = rw (view_called, view_call, c.if-take.ensures.exact, c.in_ok-args.ensures.exact) refl
+name_expression-returns-then-take-clause-exact t c = rw (view_called, view_call, c.if-take.ensures.exact, c.in_ok-args.ensures.exact) refl
 
-pub prefixed-returns-clause-exact : goal.prefixed-returns-clause-exact
-prefixed-returns-clause-exact t c =
+pub prefix_expression-returns-clause-exact : goal.prefix_expression-returns-clause-exact
+prefix_expression-returns-clause-exact t c =
     let e = prefixed_is the_depths c.args.room c.args.operators.now (left c.args.self.now) (omega arith) in
     let v : c.in_ok-new.field-0.value ≡ c.in_ok-inner.inner = c.in_ok-new.ensures.ok in
     rw (view_unary, v, e, c.in_ok-inner.ensures.exact) refl
 
-pub prefixed-returns-in_err-inner-clause-exact : goal.prefixed-returns-in_err-inner-clause-exact
-prefixed-returns-in_err-inner-clause-exact t c =
+pub prefix_expression-returns-in_err-inner-clause-exact : goal.prefix_expression-returns-in_err-inner-clause-exact
+prefix_expression-returns-in_err-inner-clause-exact t c =
     let p = err_from_is_err_and c.from_residual.result c.from_residual.ensures.1 in
     rw (p.1, p.2) (prefixed_stops c.args.room c.args.op c.args.operators.now (left c.args.self.now) c.in_err-inner.field-0.0 (omega arith) c.in_err-inner.ensures.exact)

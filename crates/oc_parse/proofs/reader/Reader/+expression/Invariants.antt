@@ -9,11 +9,11 @@ use Rattle.oc_parse.proofs.reader.Reader.+expression.Given as goal
 abbrev pub decreases-unary : goal.decreases-unary
 decreases-unary l = 32 * l.room + 4
 
-abbrev pub decreases-named : goal.decreases-named
-decreases-named l = 32 * l.room + 3
+abbrev pub decreases-name_expression : goal.decreases-name_expression
+decreases-name_expression l = 32 * l.room + 3
 
-abbrev pub decreases-prefixed : goal.decreases-prefixed
-decreases-prefixed l = 32 * l.room + 2
+abbrev pub decreases-prefix_expression : goal.decreases-prefix_expression
+decreases-prefix_expression l = 32 * l.room + 2
 
 abbrev pub decreases-inner : goal.decreases-inner
 decreases-inner l = 32 * l.room + 2

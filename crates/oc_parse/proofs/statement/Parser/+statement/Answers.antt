@@ -31,19 +31,19 @@ block-returns-clause-exact t c =
     (map stmt_view c.in_ok-statements.statements.items) c.statements.new.self.statements c.statements.new.self.blocks (left c.statements.new.self.reader)
     (omega arith) c.in_ok-expect.ensures.exact c.in_ok-statements.ensures.exact)
 
-pub chained-returns-then-room-eq0-clause-exact : goal.chained-returns-then-room-eq0-clause-exact
-chained-returns-then-room-eq0-clause-exact t c =
+pub else_if-returns-then-room-eq0-clause-exact : goal.else_if-returns-then-room-eq0-clause-exact
+else_if-returns-then-room-eq0-clause-exact t c =
     rw c.too_many_chained.ensures (chained_too_deep c.args.room c.args.self.now.statements c.args.self.now.blocks (left c.args.self.now.reader)
     (length c.args.self.now.reader.rest.now) c.if-room-eq0.true (length-map c.args.self.now.reader.rest.now _))
 
-pub chained-returns-in_err-statement-clause-exact : goal.chained-returns-in_err-statement-clause-exact
-chained-returns-in_err-statement-clause-exact t c =
+pub else_if-returns-in_err-statement-clause-exact : goal.else_if-returns-in_err-statement-clause-exact
+else_if-returns-in_err-statement-clause-exact t c =
     let p = err_from_is_err_and c.from_residual.result c.from_residual.ensures.1 in
     rw (p.1, p.2) (chained_stops c.args.room c.args.self.now.statements c.args.self.now.blocks (left c.args.self.now.reader) c.in_err-statement.field-0.0
     (omega arith) c.in_err-statement.ensures.exact)
 
-pub chained-returns-clause-exact : goal.chained-returns-clause-exact
-chained-returns-clause-exact t c =
+pub else_if-returns-clause-exact : goal.else_if-returns-clause-exact
+else_if-returns-clause-exact t c =
     let e : c.push.new.self.items ≡ c.in_ok-statement.statement ∷ [] = rw (c.in_ok-push.ensures.items, c.new-statements.ensures.items) refl in
     rw (view_block, e) (chained_is c.args.room c.args.self.now.statements c.args.self.now.blocks (left c.args.self.now.reader) (stmt_view c.in_ok-statement.statement)
     c.statement.new.self.statements c.statement.new.self.blocks (left c.statement.new.self.reader) (omega arith) c.in_ok-statement.ensures.exact)

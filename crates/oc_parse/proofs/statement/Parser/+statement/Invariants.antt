@@ -30,8 +30,8 @@ decreases-atomic_statement l = 8 * l.room + 3
 abbrev pub decreases-otherwise : goal.decreases-otherwise
 decreases-otherwise l = 8 * l.room + 2
 
-abbrev pub decreases-chained : goal.decreases-chained
-decreases-chained l = 8 * l.room + 1
+abbrev pub decreases-else_if : goal.decreases-else_if
+decreases-else_if l = 8 * l.room + 1
 
 abbrev pub decreases-block : goal.decreases-block
 decreases-block l = 8 * l.room + 1

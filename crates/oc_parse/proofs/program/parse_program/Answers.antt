@@ -11,7 +11,7 @@ use Rattle.oc_grammar.proofs.LexemeLaws.{lexemes_in_form}
 use Rattle.oc_grammar.proofs.NumberLaws.{in_form}
 use Rattle.oc_parse.specs.declared.stop.Stop.TheVariants as stops
 use Rattle.oc_parse.proofs.Spelled.{only_memory, syntax_is, blocks_are, brackets_are, operators_are}
-use Rattle.oc_parse.proofs.program.read.Goals as goal
+use Rattle.oc_parse.proofs.program.parse_program.Goals as goal
 
 pub whole-requires : goal.whole-requires
 whole-requires c =

@@ -5,7 +5,7 @@ use Rattle.oc_meaning.specs.Store as meant
 use Rattle.oc_meaning.specs.Seen.{place_view}
 use Rattle.oc_meaning.specs.Stores.{held_or}
 use Rattle.oc_meaning.proofs.Levels.{held-local}
-use Rattle.oc_judge.proofs.store.Store.held.Goals as goal
+use Rattle.oc_meaning.proofs.store.Store.find_variable.Goals as goal
 
 pub returns-in-Local : goal.returns-in-Local
 returns-in-Local c =

@@ -3,7 +3,7 @@ use Rattle.oc_tree.specs.View.{args_view}
 use Rattle.oc_meaning.specs.Exec.{args_of}
 use Rattle.oc_meaning.specs.Seen.{passed_view}
 use Rattle.oc_meaning.proofs.Passings.{behind}
-use Rattle.oc_meaning.proofs.arguments.args.Given as goal
+use Rattle.oc_meaning.proofs.arguments.pass_arguments.Given as goal
 
 -- What is passed so far, with what the arguments that are left pass, is the whole.
 abbrev pub invariant-loop-arg : goal.invariant-loop-arg

@@ -1,6 +1,6 @@
 use Rattle.std.proofs.Common.{rules}
 use Rattle.oc_audit.proofs.Cut.{all_other, front_other, cut_before, tail_before}
-use Rattle.oc_audit.proofs.words.cut.Goals as goal
+use Rattle.oc_audit.proofs.words.split_word.Goals as goal
 
 pub returns-in_default-clause-field : goal.returns-in_default-clause-field
 returns-in_default-clause-field c = all_other 32 c.args.bytes.now (search rules)

@@ -7,7 +7,7 @@ use Rattle.oc_steps.specs.Ages.{join_ages}
 use Rattle.oc_steps.specs.Sets.{arg_by, args_by}
 use Rattle.oc_judge.specs.Passing.{before, passed_view}
 use Rattle.oc_judge.proofs.Passings.{arg_more}
-use Rattle.oc_judge.proofs.arguments.args.Goals as goal
+use Rattle.oc_judge.proofs.arguments.pass_arguments.Goals as goal
 
 pub returns-in-Err : goal.returns-in-Err
 returns-in-Err c =
@@ -16,7 +16,7 @@ returns-in-Err c =
     let xs = c.args.args.now in
     let i = c.loop-arg.arg-index in
     let rest = args_by join_ages env σ (args_view (drop (i + 1) xs)) in
-    let first : arg_by join_ages env σ (arg_view c.arg-item.result) rest ≡ Breaks c.in-Err.kind = c.argument.ensures rest ∙ ap (λ r. before r rest) c.in-Err.is in
+    let first : arg_by join_ages env σ (arg_view c.arg-item.result) rest ≡ Breaks c.in-Err.kind = c.pass_argument.ensures rest ∙ ap (λ r. before r rest) c.in-Err.is in
     sym (ap (behind (map passed_view c.loop-arg.passed.items)) (arg_more env σ xs i c.arg-item.result c.loop-arg-test.true c.arg-item.is ∙ first)) ∙ c.loop-arg.invariant
 
 pub loop-arg-preserved : goal.loop-arg-preserved
@@ -28,7 +28,7 @@ loop-arg-preserved c =
     let ps = map passed_view c.loop-arg.passed.items in
     let p = passed_view c.in-Ok.one in
     let rest = args_by join_ages env σ (args_view (drop (i + 1) xs)) in
-    let first : arg_by join_ages env σ (arg_view c.arg-item.result) rest ≡ passed_first p rest = c.argument.ensures rest ∙ ap (λ r. before r rest) c.in-Ok.is in
+    let first : arg_by join_ages env σ (arg_view c.arg-item.result) rest ≡ passed_first p rest = c.pass_argument.ensures rest ∙ ap (λ r. before r rest) c.in-Ok.is in
     let items : map passed_view c.push_back.new.self.items ≡ ps ++ p ∷ [] =
     ap (map passed_view) c.in_ok-push_back-in-Ok.ensures.items ∙ map-append passed_view c.loop-arg.passed.items (c.in-Ok.one ∷ []) in
     ap (λ l. behind l rest) items

@@ -5,7 +5,7 @@ use Rattle.oc_meaning.specs.Exec.{Passes, Breaks, arg_first, args_of, passed_fir
 use Rattle.oc_meaning.specs.Seen.{passed_view}
 use Rattle.oc_meaning.specs.Runs.{before}
 use Rattle.oc_meaning.proofs.Passings.{behind, behind_first, arg_more}
-use Rattle.oc_meaning.proofs.arguments.args.Goals as goal
+use Rattle.oc_meaning.proofs.arguments.pass_arguments.Goals as goal
 
 pub returns-in-Err : goal.returns-in-Err
 returns-in-Err c =

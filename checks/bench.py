@@ -100,6 +100,8 @@ WORKLOADS = [
     Workload("a thousand regions", 126, "regions"),
     Workload("regions of 8,000 usual statements", 64, "usual"),
     Listing("code of 8,000 usual statements", 64, "usual"),
+    Workload("regions of these, each function called by the next", 64, "called"),
+    Listing("code of these, each function called by the next", 64, "called"),
     Audit("a report of the greatest size, four in five attempts aborted", "attempts"),
     Audit("a report of the greatest size, sums of all samples so far", "sums"),
     Execution("an image with the greatest code", "straight"),

@@ -97,16 +97,26 @@ def regions(n):
     return "sensor s;\nport r;\n" + shown + functions + function("main", [f"f{n - 1}();"])
 
 
-def usual(n):
-    """no hard one: N functions of a hundred statements and a fresh variable, each of which calls the one before it (64)"""
+def usual_functions(n, callee):
+    """N functions of a hundred statements and a fresh variable, each of which calls what `callee` gives"""
     functions = []
     for f in range(n):
         lines = ["let x = sense(s);", "Fresh(x);", "emit(r, x);"]
         for k in range(31):
             value = "sense(s)" if k % 8 == 0 else f"n{(k + f) % 64} + {k}"
             lines += [f"let a{k} = {value};", f"n{(k * 7 + f) % 64} = a{k} * 3 + 1;", f"if a{k} > 5 {{ emit(r, a{k}); }}"]
-        functions.append(function(f"f{f}", lines + [f"f{f - 1}();"] * (f > 0)))
-    return HEAD + "".join(functions) + function("main", [f"f{n - 1}();"])
+        functions.append(function(f"f{f}", lines + [f"{g}();" for g in callee(f)]))
+    return HEAD + "".join(functions)
+
+
+def usual(n):
+    """no hard one: N functions of a hundred statements and a fresh variable, which main calls (64)"""
+    return usual_functions(n, lambda f: []) + function("main", [f"f{f}();" for f in range(n)])
+
+
+def called(n):
+    """the same, where each function calls the one before it (64)"""
+    return usual_functions(n, lambda f: [f"f{f - 1}"] * (f > 0)) + function("main", [f"f{n - 1}();"])
 
 
 def statements(n):
@@ -114,7 +124,7 @@ def statements(n):
     return "sensor s;\nfn main() {\n" + "sense(s);\n" * n + "}\n"
 
 
-KINDS = [fan, chain, tied, loops, variables, sums, pulls, references, names, regions, usual, statements]
+KINDS = [fan, chain, tied, loops, variables, sums, pulls, references, names, regions, usual, called, statements]
 
 
 def main():

@@ -9,7 +9,7 @@ ghost use Rattle.oc_types.specs.Lent.{passes};
 ghost use Rattle.oc_tree.specs.Mentions.{call_mentions};
 ghost use Rattle.oc_tree.specs.Rules.{all_lent, arg_lends, arg_meets, args_differ, args_meet, call_args, call_meets, calls_main, has_kind, lends_alone, lends_fixed, lent_is, lent_twice, mutable_meets, result_missing, shared_meets, used_calls, value_meets};
 
-use crate::operands::passed_on;
+use crate::operands::find_reference;
 use crate::scope::Scope;
 use crate::statement::Statement;
 use crate::targets::{arg_lends, is_mutable_reference};
@@ -53,9 +53,9 @@ fn value_meets<'a>(
 {
     match passing {
         Passing::Value => is_same(scalar_of(kind), type_of(top, scope, expr)),
-        Passing::Shared => has_kind(kind, passed_on(top, scope, expr)),
+        Passing::Shared => has_kind(kind, find_reference(top, scope, expr)),
         Passing::Mutable => {
-            let reference = passed_on(top, scope, expr);
+            let reference = find_reference(top, scope, expr);
             is_mutable_reference(reference) && has_kind(kind, reference)
         }
     }
@@ -198,7 +198,7 @@ pub fn lends_fixed<'a>(top: &TopLevel<'a>, scope: &Scope<'a>, statement: &Statem
 }
 
 /// The name that an argument passes by `&mut`.
-pub fn lent<'b>(param: &Param, arg: &'b Arg) -> Option<&'b Name>
+pub fn lent_name<'b>(param: &Param, arg: &'b Arg) -> Option<&'b Name>
     ensures { (test : List ℕ → Bool)
         → lent_is test param.now (arg_view arg.now) ≡ passes test result }
 {
@@ -230,7 +230,7 @@ fn all_alone(params: &[Param], args: &[Arg], call: &Call) -> bool
 {
     for (i, arg) in args.iter().enumerate() {
         match params.get(i) {
-            Some(param) => if !is_alone(lent(param, arg), call) {
+            Some(param) => if !is_alone(lent_name(param, arg), call) {
                 return false;
             },
             None => return true,

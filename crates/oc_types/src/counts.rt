@@ -121,6 +121,7 @@ impl Model for Counts {
 }
 
 impl Counts {
+    /// Nothing is counted.
     pub fn new(alloc: Global) -> Counts
         ensures counts { result ≡ nothing_counted }
         ensures small { IsSmall result }
@@ -172,6 +173,7 @@ impl Counts {
         Ok(())
     }
 
+    /// Whether a limit is passed with a nonvolatile variable that is counted.
     pub fn nv_passes(&self, before: Before, name: &Name, nv: NvDecl) -> bool
         ensures passes { result ≡ item_passes self.now before (nv_item name.now nv) }
         ensures small { result ≡ false → self.now.words ≤ 65536 }
@@ -179,6 +181,7 @@ impl Counts {
         64 <= before.nvs || 65536 < self.words
     }
 
+    /// Whether a limit is passed with the head of a function that is counted.
     pub fn function_passes(&self, before: Before, function: &Function) -> bool
         ensures passes { result
             ≡ item_passes self.now before (function_item (function_view function.now)) }
@@ -187,6 +190,7 @@ impl Counts {
         128 <= before.functions || 8 < function.params.len() || 256 < self.variables
     }
 
+    /// Whether a limit is passed with a statement that is counted.
     pub fn statement_passes(&self) -> bool
         ensures passes { result ≡ statement_passes self.now }
         ensures small { result ≡ false

@@ -10,7 +10,7 @@ ghost use Rattle.oc_tree.specs.Rules.{all_lent, callee_is, lends_apart, nv_distu
 ghost use Rattle.oc_types.specs.Lent.{passes};
 ghost use Rattle.oc_types.specs.Marks.{IsAssigning};
 
-use crate::calls::lent;
+use crate::calls::lent_name;
 use crate::statement::Statement;
 use crate::top::TopLevel;
 use oc_desugar::pulls::own_pulls;
@@ -35,7 +35,7 @@ fn all_apart(params: &[Param], args: &[Arg], kind: &StmtKind) -> bool
 {
     for (i, arg) in args.iter().enumerate() {
         match params.get(i) {
-            Some(param) => if !stands_once(lent(param, arg), kind) {
+            Some(param) => if !stands_once(lent_name(param, arg), kind) {
                 return false;
             },
             None => return true,
@@ -111,7 +111,7 @@ fn nv_disturbed(
     if statement.calls().is_empty() {
         return Ok(false);
     }
-    match top.noted(name) {
+    match top.find_marks(name) {
         Some(noted) => Ok(some_callee_assigns(top, name, &noted.assigning, statement)),
         None => {
             let marks = top.assigning(alloc, name)?;

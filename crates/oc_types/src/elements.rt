@@ -15,6 +15,10 @@ use crate::counts::Counts;
 use crate::heads::{
     declare_params, has_array_value, has_bad_param, main_head, main_missing, return_missing,
 };
+use crate::numbers::{
+    ARRAY_BY_VALUE, ARRAY_LENGTH, DECLARED_TWICE, LIMIT_PASSED, MAIN_FUNCTION, NAME_TAKEN,
+    RETURN_PLACE,
+};
 use crate::place::Place;
 use crate::scope::Scope;
 use crate::sides::has_bad_length;
@@ -38,12 +42,13 @@ fn at_line(line: u32, rule: Option<u8>) -> Option<Broken>
 /// The lowest rule that a sensor or a port breaks.
 fn name_rule(top: &TopLevel, before: Before, name: &Name, full: bool) -> Option<u8>
     ensures { result ≡ lowest
-        ((1, declared_before (program_view top.now) before name.now) ∷ (22, full) ∷ []) }
+        ((DECLARED_TWICE, declared_before (program_view top.now) before name.now)
+        ∷ (LIMIT_PASSED, full) ∷ []) }
 {
     if top.declares_before(before, name) {
-        return Some(1);
+        return Some(DECLARED_TWICE);
     }
-    if full { Some(22) } else { None }
+    if full { Some(LIMIT_PASSED) } else { None }
 }
 
 fn nv_rule(top: &TopLevel, before: Before, counts: &Counts, name: &Name, nv: NvDecl) -> Option<u8>
@@ -52,13 +57,13 @@ fn nv_rule(top: &TopLevel, before: Before, counts: &Counts, name: &Name, nv: NvD
     ensures small { result ≡ None → counts.now.words ≤ 65536 }
 {
     if top.declares_before(before, name) {
-        return Some(1);
+        return Some(DECLARED_TWICE);
     }
     if has_bad_length(nv_kind(nv)) {
-        return Some(10);
+        return Some(ARRAY_LENGTH);
     }
     if counts.nv_passes(before, name, nv) {
-        Some(22)
+        Some(LIMIT_PASSED)
     } else {
         None
     }
@@ -80,25 +85,25 @@ fn function_rule(
     ensures small { result ≡ None → counts.now.variables ≤ 256 }
 {
     if top.declares_before(before, &function.name) {
-        return Some(1);
+        return Some(DECLARED_TWICE);
     }
     if taken {
-        return Some(2);
+        return Some(NAME_TAKEN);
     }
     if main_head(function) {
-        return Some(4);
+        return Some(MAIN_FUNCTION);
     }
     if has_bad_param(function.params.as_slice()) {
-        return Some(10);
+        return Some(ARRAY_LENGTH);
     }
     if has_array_value(function.params.as_slice()) {
-        return Some(17);
+        return Some(ARRAY_BY_VALUE);
     }
     if return_missing(function) {
-        return Some(19);
+        return Some(RETURN_PLACE);
     }
     if counts.function_passes(before, function) {
-        Some(22)
+        Some(LIMIT_PASSED)
     } else {
         None
     }
@@ -251,7 +256,7 @@ fn end_rule(top: &TopLevel) -> Option<u8>
     ensures { result ≡ lowest (end_rules (program_view top.now)) }
 {
     if main_missing(top.program().functions.as_slice()) {
-        Some(4)
+        Some(MAIN_FUNCTION)
     } else {
         None
     }
@@ -281,7 +286,7 @@ fn walk_program<'a>(alloc: Global, top: &TopLevel<'a>) -> Result<Option<Broken>,
 
 /// The first element in source order that breaks a rule, with the lowest rule that it breaks.
 #[tactic(auto, using(crate::proofs::InOrder::ends_broken))]
-pub fn first_broken(alloc: Global, program: &Program) -> Result<Option<Broken>, AllocError>
+pub fn find_broken_element(alloc: Global, program: &Program) -> Result<Option<Broken>, AllocError>
     requires { program_nodes (program_view program.now) ≤ source_limit }
     ensures { IfOk result (λ r. r ≡ broken_element (program_view program.now)) }
 {

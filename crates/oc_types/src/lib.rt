@@ -9,6 +9,7 @@ mod elements;
 mod heads;
 mod known;
 mod notes;
+mod numbers;
 mod operands;
 mod place;
 mod pulls;
@@ -23,6 +24,4 @@ mod top;
 mod types;
 mod walk;
 
-pub use elements::first_broken;
 pub use rules::{RuleError, check};
-pub use sizes::broken;

@@ -70,8 +70,11 @@ fn note<'a>(
     })
 }
 
-// The statements that call functions.
-fn calling<'a>(alloc: Global, functions: &'a [Function]) -> Result<Vec<Statement<'a>>, AllocError> {
+/// The statements that call functions.
+fn collect_calling<'a>(
+    alloc: Global,
+    functions: &'a [Function],
+) -> Result<Vec<Statement<'a>>, AllocError> {
     let mut calling = Vec::new(alloc);
     for function in functions {
         let mut kinds = Vec::new(alloc);
@@ -86,14 +89,14 @@ fn calling<'a>(alloc: Global, functions: &'a [Function]) -> Result<Vec<Statement
     Ok(calling)
 }
 
-// Whether a name stands in one of these statements.
+/// Whether a name stands in one of these statements.
 fn stands_in_some(statements: &[Statement], name: &Name) -> bool {
     statements
         .iter()
         .any(|statement| own_mentions(statement.kind(), name) > 0)
 }
 
-// Marks for names that stand beside calls. Which of them are noted changes no answer.
+/// Marks for names that stand beside calls. Which of them are noted changes no answer.
 fn note_all<'a>(
     alloc: Global,
     program: &'a Program,
@@ -104,7 +107,7 @@ fn note_all<'a>(
         (λ r. All (λ n. IsNoted (program_view program.now) n.name.now n.assigning n.mentioning)
         r.items) }
 {
-    let statements = calling(alloc, program.functions.as_slice())?;
+    let statements = collect_calling(alloc, program.functions.as_slice())?;
     let mut noted = Vec::new(alloc);
     for name in program.names.nvs.as_slice() {
         if noted.len() >= MOST_NAMES {
@@ -118,6 +121,7 @@ fn note_all<'a>(
 }
 
 impl<'a> Notes<'a> {
+    /// Works out the marks of a program.
     pub fn new(alloc: Global, program: &'a Program) -> Result<Notes<'a>, AllocError>
         ensures { IfOk result (λ n. n ≡ program.now) }
     {
@@ -140,7 +144,7 @@ impl<'a> Notes<'a> {
     }
 
     /// The marks of a nonvolatile variable, where they are worked out.
-    pub fn noted(&self, name: &Name) -> Option<&Noted<'a>>
+    pub fn find_marks(&self, name: &Name) -> Option<&Noted<'a>>
         ensures { IfSome result
             (λ n. IsNoted (program_view self.now) name.now n.now.assigning n.now.mentioning) }
     {

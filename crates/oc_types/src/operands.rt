@@ -25,7 +25,7 @@ fn only_reference(variable: Option<Var>) -> Option<Var>
 }
 
 /// The reference parameter whose name the expression is.
-pub fn passed_on<'a>(top: &TopLevel<'a>, scope: &Scope<'a>, expr: &Expr) -> Option<Var>
+pub fn find_reference<'a>(top: &TopLevel<'a>, scope: &Scope<'a>, expr: &Expr) -> Option<Var>
     ensures { result ≡ passed_on (program_view top.now) scope.now (expr_view expr.now) }
 {
     match expr {
@@ -90,7 +90,7 @@ fn arg_fits<'a>(top: &TopLevel<'a>, scope: &Scope<'a>, arg: &Arg) -> bool
     ensures { result ≡ arg_fits (program_view top.now) scope.now (arg_view arg.now) }
 {
     match arg {
-        Arg::Value { value } => passed_on(top, scope, value).is_some()
+        Arg::Value { value } => find_reference(top, scope, value).is_some()
             || expr_fits(top, scope, value),
         Arg::Shared { .. } | Arg::Mutable { .. } => true,
     }

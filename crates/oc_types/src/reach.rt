@@ -56,7 +56,7 @@ fn name_exposes<'a>(
     if !is_nv(top.variable(scope, name)) {
         return Ok(false);
     }
-    match top.noted(name) {
+    match top.find_marks(name) {
         Some(noted) => Ok(noted.mentioning.has(place)),
         None => {
             let marks = top.mentioning(alloc, name)?;

@@ -8,7 +8,7 @@ ghost use Rattle.oc_tree.specs.Nodes.{program_nodes};
 ghost use Rattle.oc_tree.specs.View.{program_view};
 ghost use Rattle.oc_types.specs.Told.{Tells};
 
-use crate::sizes::broken;
+use crate::sizes::find_broken;
 use oc_tree::broken::Broken;
 use oc_tree::tree::Program;
 use oc_tree::written::Written;
@@ -22,6 +22,7 @@ pub enum RuleError {
     /// rule that it breaks.
     #[error("rule {rule} is broken in line {line}")]
     Rule { line: u32, rule: u8 },
+    /// There is no memory left.
     #[error("out of memory")]
     Memory,
 }
@@ -36,7 +37,7 @@ pub fn check(alloc: Global, program: Program) -> Result<Written, RuleError>
     // A rule that is told is the one that is broken, in its line.
     ensures told { IfErr result (λ e. Tells (broken (program_view program)) e) }
 {
-    match broken(alloc, &program) {
+    match find_broken(alloc, &program) {
         Ok(None) => Ok(Written::new(program)),
         Ok(Some(Broken { line, rule })) => Err(RuleError::Rule { line, rule }),
         Err(_) => Err(RuleError::Memory),

@@ -22,6 +22,7 @@ impl<'a> Model for Scope<'a> {
 }
 
 impl<'a> Scope<'a> {
+    /// No variable.
     pub fn new(alloc: Global) -> Scope<'a>
         ensures { result ≡ [] }
     {
@@ -30,12 +31,14 @@ impl<'a> Scope<'a> {
         }
     }
 
+    /// How many variables there are.
     pub fn len(&self) -> usize
         ensures { result ≡ length self.now }
     {
         self.variables.len()
     }
 
+    /// The variable of a name.
     pub fn get(&self, name: &Name) -> Option<Var>
         ensures { result ≡ variable_in self.now name.now }
     {
@@ -46,6 +49,7 @@ impl<'a> Scope<'a> {
         }
     }
 
+    /// Adds a variable, whose name no other has.
     pub fn declare(&mut self, name: &'a Name, variable: Var) -> Result<(), AllocError>
         requires { variable_in self.old name.now ≡ None }
         ensures { OnOk result (self.new ≡ self.old ++ (name.now, variable) ∷ []) }
@@ -54,6 +58,7 @@ impl<'a> Scope<'a> {
         Ok(())
     }
 
+    /// Leaves the first `len` variables.
     pub fn truncate(&mut self, len: usize)
         ensures { self.new ≡ take len self.old }
     {

@@ -50,6 +50,7 @@ pub fn sides_differ<'a>(top: &TopLevel<'a>, scope: &Scope<'a>, kind: &StmtKind) 
     }
 }
 
+/// Whether the condition of a statement is no truth value.
 pub fn condition_is_number<'a>(top: &TopLevel<'a>, scope: &Scope<'a>, kind: &StmtKind) -> bool
     ensures { result ≡ condition_is_number (program_view top.now) scope.now (kind_view kind.now) }
 {
@@ -67,6 +68,7 @@ fn is_bad_length(words: u32) -> bool
     words < 1 || 65536 < words
 }
 
+/// Whether it is an array of a length that none may have.
 pub fn has_bad_length(kind: ValueKind) -> bool
     ensures { result ≡ has_bad_length kind }
 {
@@ -85,6 +87,7 @@ fn written_bad_length(written: Option<ValueKind>) -> bool
     }
 }
 
+/// Whether a `let` makes or writes down an array of a length that none may have.
 pub fn let_bad_length(kind: &StmtKind) -> bool
     ensures { result ≡ let_bad_length (kind_view kind.now) }
 {
@@ -96,6 +99,7 @@ pub fn let_bad_length(kind: &StmtKind) -> bool
     }
 }
 
+/// Whether a parameter is an array by value.
 pub fn is_array_value(param: &Param) -> bool
     ensures { result ≡ is_array_value param.now }
 {

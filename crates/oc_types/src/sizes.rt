@@ -12,7 +12,8 @@ ghost use Rattle.oc_tree.specs.Stack.{stacks_to};
 ghost use Rattle.oc_tree.specs.View.{function_view, program_view};
 ghost use Rattle.oc_tree.specs.Weight.{known_of, weights_to};
 
-use crate::elements::first_broken;
+use crate::elements::find_broken_element;
+use crate::numbers::{TOO_DEEP, TOO_HEAVY};
 use oc_desugar::expand_program;
 use oc_reach::table::main_place;
 use oc_tree::broken::Broken;
@@ -70,10 +71,10 @@ fn size_rule(alloc: Global, program: &Program) -> Result<Option<u8>, AllocError>
     let (expanded, _groups) = expand_program(alloc, program)?;
     let functions = expanded.functions.as_slice();
     if is_too_heavy(alloc, functions)? {
-        return Ok(Some(23));
+        return Ok(Some(TOO_HEAVY));
     }
     if is_too_deep(alloc, functions)? {
-        return Ok(Some(24));
+        return Ok(Some(TOO_DEEP));
     }
     Ok(None)
 }
@@ -96,12 +97,12 @@ fn broken_size(alloc: Global, program: &Program) -> Result<Option<Broken>, Alloc
 
 /// The first element in source order that breaks a rule, with the lowest rule that it breaks; where
 /// there is none, the last line with the lower of the rules on weight and stack that is broken.
-pub fn broken(alloc: Global, program: &Program) -> Result<Option<Broken>, AllocError>
+pub fn find_broken(alloc: Global, program: &Program) -> Result<Option<Broken>, AllocError>
     requires form { InForm IsName (program_view program.now) }
     requires nodes { program_nodes (program_view program.now) ≤ source_limit }
     ensures { IfOk result (λ r. r ≡ broken (program_view program.now)) }
 {
-    match first_broken(alloc, program)? {
+    match find_broken_element(alloc, program)? {
         Some(broken) => Ok(Some(broken)),
         None => broken_size(alloc, program),
     }

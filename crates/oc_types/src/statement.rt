@@ -31,6 +31,7 @@ impl<'a> Model for Statement<'a> {
 }
 
 impl<'a> Statement<'a> {
+    /// A statement, whose calls are looked for.
     pub fn new(alloc: Global, kind: &'a StmtKind) -> Result<Statement<'a>, AllocError>
         ensures { IfOk result (λ s. s ≡ kind.now) }
     {
@@ -39,12 +40,14 @@ impl<'a> Statement<'a> {
         Ok(Statement { kind, calls })
     }
 
+    /// The statement itself.
     pub fn kind(&self) -> &'a StmtKind
         ensures { result.now ≡ self.now }
     {
         self.kind
     }
 
+    /// The calls in its own expressions and arguments.
     pub fn calls(&self) -> &[&'a Call]
         ensures { calls_seen result.now ≡ own_calls (kind_view self.now) }
     {

@@ -79,6 +79,7 @@ fn stands_before(place: Option<usize>, count: usize) -> bool
 }
 
 impl<'a> TopLevel<'a> {
+    /// Makes the tables of a program.
     pub fn new(alloc: Global, program: &'a Program) -> Result<TopLevel<'a>, AllocError>
         ensures { IfOk result (λ t. t ≡ program.now) }
     {
@@ -97,30 +98,35 @@ impl<'a> TopLevel<'a> {
         })
     }
 
+    /// The program.
     pub fn program(&self) -> &'a Program
         ensures { result.now ≡ self.now }
     {
         self.program
     }
 
+    /// The number of a sensor.
     pub fn sensor_place(&self, name: &Name) -> Option<usize>
         ensures { result ≡ place (program_view self.now).names.sensors name.now }
     {
         self.sensors.place(name)
     }
 
+    /// The number of a port.
     pub fn port_place(&self, name: &Name) -> Option<usize>
         ensures { result ≡ place (program_view self.now).names.ports name.now }
     {
         self.ports.place(name)
     }
 
+    /// The number of a nonvolatile variable.
     pub fn nv_place(&self, name: &Name) -> Option<usize>
         ensures { result ≡ place (program_view self.now).names.nvs name.now }
     {
         self.nvs.place(name)
     }
 
+    /// The number of the first function of a name.
     pub fn function_place(&self, name: &Name) -> Option<usize>
         ensures place { result ≡ function_place (program_view self.now).functions name.now }
         ensures below { IfSome result (λ i. i < length (program_view self.now).functions) }
@@ -156,11 +162,11 @@ impl<'a> TopLevel<'a> {
     }
 
     /// The marks of a nonvolatile variable, where they are worked out.
-    pub fn noted(&self, name: &Name) -> Option<&Noted<'a>>
+    pub fn find_marks(&self, name: &Name) -> Option<&Noted<'a>>
         ensures { IfSome result
             (λ n. IsNoted (program_view self.now) name.now n.now.assigning n.now.mentioning) }
     {
-        self.notes.noted(name)
+        self.notes.find_marks(name)
     }
 
     /// The first function of that name.

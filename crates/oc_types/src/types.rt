@@ -8,6 +8,7 @@ use crate::top::TopLevel;
 use oc_tree::scope::{Origin, Var};
 use oc_tree::tree::{BinaryOp, Call, Expr, Passing, Right, Scalar, UnaryOp, ValueKind};
 
+/// Whether a parameter is passed by reference.
 pub fn is_by_reference(passing: Passing) -> bool
     ensures { result ≡ is_by_reference passing }
 {
@@ -17,6 +18,7 @@ pub fn is_by_reference(passing: Passing) -> bool
     }
 }
 
+/// Whether a variable is a parameter by reference.
 pub fn is_reference(origin: Origin) -> bool
     ensures { result ≡ is_reference origin }
 {
@@ -26,6 +28,7 @@ pub fn is_reference(origin: Origin) -> bool
     }
 }
 
+/// The type of a value of a kind: none of an array.
 pub fn scalar_of(kind: ValueKind) -> Option<Scalar>
     ensures { result ≡ scalar_of kind }
 {
@@ -36,6 +39,7 @@ pub fn scalar_of(kind: ValueKind) -> Option<Scalar>
     }
 }
 
+/// Whether it is the kind of an array.
 pub fn is_array(kind: ValueKind) -> bool
     ensures { result ≡ is_array kind }
 {
@@ -45,6 +49,7 @@ pub fn is_array(kind: ValueKind) -> bool
     }
 }
 
+/// Whether it is the type of numbers.
 pub fn is_int(scalar: Option<Scalar>) -> bool
     ensures { result ≡ is_int scalar }
 {
@@ -54,6 +59,7 @@ pub fn is_int(scalar: Option<Scalar>) -> bool
     }
 }
 
+/// Whether it is the type of truth values.
 pub fn is_bool(scalar: Option<Scalar>) -> bool
     ensures { result ≡ is_bool scalar }
 {
@@ -74,6 +80,7 @@ pub fn is_same(left: Option<Scalar>, right: Option<Scalar>) -> bool
     }
 }
 
+/// Whether both kinds are the same one.
 pub fn is_same_kind(left: ValueKind, right: ValueKind) -> bool
     ensures { result ≡ is_same_kind left right }
 {
@@ -184,6 +191,7 @@ pub fn type_of<'a>(top: &TopLevel<'a>, scope: &Scope<'a>, expr: &Expr) -> Option
     }
 }
 
+/// The type of a right side.
 pub fn right_type<'a>(top: &TopLevel<'a>, scope: &Scope<'a>, right: &Right) -> Option<Scalar>
     ensures { result ≡ right_type (program_view top.now) scope.now (right_view right.now) }
 {

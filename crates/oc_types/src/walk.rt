@@ -17,6 +17,12 @@ use crate::calls::{args_differ, calls_main, lends_fixed, lent_twice, result_miss
 use crate::counts::Counts;
 use crate::disturbs::pulls_disturb;
 use crate::known::{own_known, takes_name};
+use crate::numbers::{
+    ANNOTATED_ELSEWHERE, ARGUMENTS_DIFFER, ARRAY_FIXED, ARRAY_LENGTH, CALLED_BACK, CONDITION_TYPE,
+    LENT_FIXED, LENT_TWICE, LIMIT_PASSED, MAIN_FUNCTION, MANY_TURNS, NAME_TAKEN, NAME_UNKNOWN,
+    NONVOLATILE_EXPOSED, OPERAND_TYPES, POINTEE_FIXED, PULL_DISTURBED, PULL_SKIPPED,
+    RESULT_MISSING, RETURN_PLACE, SIDES_DIFFER, VARIABLE_FIXED,
+};
 use crate::operands::own_fits;
 use crate::place::Place;
 use crate::pulls::own_skips;
@@ -60,70 +66,70 @@ fn statement_rule<'a>(
 {
     let kind = statement.kind();
     if takes_name(top, scope, kind) {
-        return Ok(Some(2));
+        return Ok(Some(NAME_TAKEN));
     }
     if !own_known(top, scope, kind) {
-        return Ok(Some(3));
+        return Ok(Some(NAME_UNKNOWN));
     }
     if calls_main(statement) {
-        return Ok(Some(4));
+        return Ok(Some(MAIN_FUNCTION));
     }
     if !own_fits(top, scope, kind) {
-        return Ok(Some(5));
+        return Ok(Some(OPERAND_TYPES));
     }
     if sides_differ(top, scope, kind) {
-        return Ok(Some(6));
+        return Ok(Some(SIDES_DIFFER));
     }
     if condition_is_number(top, scope, kind) {
-        return Ok(Some(7));
+        return Ok(Some(CONDITION_TYPE));
     }
     if args_differ(top, scope, statement) {
-        return Ok(Some(8));
+        return Ok(Some(ARGUMENTS_DIFFER));
     }
     if result_missing(top, statement) {
-        return Ok(Some(9));
+        return Ok(Some(RESULT_MISSING));
     }
     if let_bad_length(kind) {
-        return Ok(Some(10));
+        return Ok(Some(ARRAY_LENGTH));
     }
     if target_fixed(top, scope, kind) {
-        return Ok(Some(11));
+        return Ok(Some(VARIABLE_FIXED));
     }
     if array_fixed(top, scope, kind) {
-        return Ok(Some(12));
+        return Ok(Some(ARRAY_FIXED));
     }
     if pointee_fixed(top, scope, kind) {
-        return Ok(Some(13));
+        return Ok(Some(POINTEE_FIXED));
     }
     if lends_fixed(top, scope, statement) {
-        return Ok(Some(14));
+        return Ok(Some(LENT_FIXED));
     }
     if lent_twice(top, statement) {
-        return Ok(Some(15));
+        return Ok(Some(LENT_TWICE));
     }
     if exposes_nv(alloc, top, scope, statement)? {
-        return Ok(Some(16));
+        return Ok(Some(NONVOLATILE_EXPOSED));
     }
     if annotates_other(place, scope, kind) {
-        return Ok(Some(18));
+        return Ok(Some(ANNOTATED_ELSEWHERE));
     }
     if returns_elsewhere(top, place, scope, kind) {
-        return Ok(Some(19));
+        return Ok(Some(RETURN_PLACE));
     }
     if calls_back(top, place.number, callers, statement) {
-        return Ok(Some(20));
+        return Ok(Some(CALLED_BACK));
     }
     if has_many_turns(kind) {
-        return Ok(Some(21));
+        return Ok(Some(MANY_TURNS));
     }
     if counts.statement_passes() {
-        return Ok(Some(22));
+        return Ok(Some(LIMIT_PASSED));
     }
     if own_skips(kind) {
-        return Ok(Some(25));
+        return Ok(Some(PULL_SKIPPED));
     }
     if pulls_disturb(alloc, top, statement)? {
-        return Ok(Some(26));
+        return Ok(Some(PULL_DISTURBED));
     }
     Ok(None)
 }

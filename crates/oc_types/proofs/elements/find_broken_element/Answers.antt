@@ -3,7 +3,7 @@ use Rattle.oc_tree.specs.View.{program_view}
 use Rattle.oc_tree.specs.declared.tree.Program.{Program}
 use Rattle.oc_types.specs.Walk.{found, program_walk}
 use Rattle.oc_types.proofs.InOrder.{ends_broken}
-use Rattle.oc_types.proofs.elements.first_broken.Goals as goal
+use Rattle.oc_types.proofs.elements.find_broken_element.Goals as goal
 
 pub returns : goal.returns
 returns c =

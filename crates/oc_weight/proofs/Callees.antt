@@ -90,12 +90,12 @@ Same fs ws vs c = known_of ws (function_place fs (callee c)) ≡ known_of vs (fu
 abbrev pub KindsSame : List TFunction → (ws vs : List ℕ) → List TKind → Type 0
 KindsSame fs ws vs ks = (k : TKind) → IsOf k ks → (c : TCall) → IsOf c (own_calls k) → Same fs ws vs c
 
-at_place : (g : TFunction → ℕ) (fs : List TFunction) (u : ℕ) (f : TFunction) → slice_get fs u ≡ Some f → get_or (map g fs) u 0 ≡ g f
+pub at_place : (g : TFunction → ℕ) (fs : List TFunction) (u : ℕ) (f : TFunction) → slice_get fs u ≡ Some f → get_or (map g fs) u 0 ≡ g f
 at_place g [] u f e = absurd (none-some f e)
 at_place g (h ∷ fs) zero f e = ap g (same_Some h f e)
 at_place g (h ∷ fs) (suc u) f e = at_place g fs u f e
 
-stands : (fs : List TFunction) (u : ℕ) → u < length fs → (f : TFunction) × (slice_get fs u ≡ Some f)
+pub stands : (fs : List TFunction) (u : ℕ) → u < length fs → (f : TFunction) × (slice_get fs u ≡ Some f)
 stands [] u h = absurd (omega arith)
 stands (f ∷ fs) zero h = (f, refl)
 stands (f ∷ fs) (suc u) h = stands fs u (omega arith)
@@ -108,6 +108,15 @@ all_below : (n : ℕ) → count_below (λ x. true) n ≡ n
 all_below zero = refl
 all_below (suc n) = omega (arith, all_below n)
 
+module _ (fs : List TFunction) (step : List ℕ → TFunction → ℕ) (by_callees : (ws vs : List ℕ) (f : TFunction) → KindsSame fs ws vs (block_kinds None f.body) → step ws f ≡ step vs f) where
+  -- a function takes the same from two tables that agree on those that it calls
+  pub same_by_links : (ws vs : List ℕ) (u : ℕ) (f : TFunction) → slice_get fs u ≡ Some f → ((v : ℕ) → linked (call_links fs) u v ≡ true → get_or ws v 0 ≡ get_or vs v 0) → step ws f ≡ step vs f
+  same_by_links ws vs u f at same = by_callees ws vs f (λ k i c j. known c (in_flat own_calls (block_kinds None f.body) k c i j) (function_place fs (callee c)) refl)
+    where
+      known : (c : TCall) → IsOf c (body_calls f) → (o : Option ℕ) → function_place fs (callee c) ≡ o → known_of ws o ≡ known_of vs o
+      known c i None e = refl
+      known c i (Some v) e = same v (call_linked fs u v f c at i e)
+
 module _ (fs : List TFunction) (none_back : (u : ℕ) → calls fs u u ≡ false) (step : List ℕ → TFunction → ℕ) (to : ℕ → List ℕ)
     (no_level : to 0 ≡ []) (one_level : (d : ℕ) → to (suc d) ≡ map (step (to d)) fs)
     (by_callees : (ws vs : List ℕ) (f : TFunction) → KindsSame fs ws vs (block_kinds None f.body) → step ws f ≡ step vs f) where
@@ -119,14 +128,9 @@ module _ (fs : List TFunction) (none_back : (u : ℕ) → calls fs u u ≡ false
 
   -- a function takes the same from two tables that agree on lower ranks
   same_step : (ws vs : List ℕ) (u : ℕ) (f : TFunction) → slice_get fs u ≡ Some f → ((v : ℕ) → v < length fs → ranks v < ranks u → get_or ws v 0 ≡ get_or vs v 0) → step ws f ≡ step vs f
-  same_step ws vs u f at lower = by_callees ws vs f (λ k i c j. known c (in_flat own_calls (block_kinds None f.body) k c i j) (function_place fs (callee c)) refl)
-    where
-      known : (c : TCall) → IsOf c (body_calls f) → (o : Option ℕ) → function_place fs (callee c) ≡ o → known_of ws o ≡ known_of vs o
-      known c i None e = refl
-      known c i (Some v) e =
-          let link = call_linked fs u v f c at i e in
-          let below = (calls_within fs u v link).1 in
-          lower v below (rank_falls (call_links fs) (length fs) u v below link (none_back v))
+  same_step ws vs u f at lower = same_by_links fs step by_callees ws vs u f at (λ v link.
+      let below = (calls_within fs u v link).1 in
+      lower v below (rank_falls (call_links fs) (length fs) u v below link (none_back v)))
 
   -- one level more changes nothing, above the rank of a function
   stable : (d u : ℕ) → u < length fs → ranks u < d → get_or (to d) u 0 ≡ get_or (to (suc d)) u 0

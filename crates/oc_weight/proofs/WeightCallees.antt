@@ -1,14 +1,20 @@
 -- The weight and the stack of a function are told by what is known of its callees.
-use Rattle.std.proofs.Common.{◌≡◌, inl, inr, ℕ, suc, ◌+◌, ◌*◌, ◌++◌, false, List, [], ◌∷◌, length, map, None, refl, ap, subst}
-use Rattle.std.specs.Prelude.{max, cond, is_some}
+use Rattle.std.proofs.Common.{◌≡◌, ◌<◌, ◌≤◌, inl, inr, ℕ, suc, ◌+◌, Some, ◌*◌, ◌++◌, false, List, [], ◌∷◌, length, map, None, refl, ap, subst}
+use Rattle.std.specs.Prelude.{max, cond, is_some, slice_get}
+use Rattle.std.proofs.Math.ListN.{get_or, set}
 use Rattle.oc_tree.specs.Tree.{TCall, call, TRight, right_value, right_sense, right_call, TKind, let_to, let_array, assign, assign_index, assign_deref, if_else, for_in, while_do}
 use Rattle.oc_tree.specs.Tree.{call_only, sense_only, emit, fresh, consistent, return, TElse, no_else, else_do, stmt, TBlock, block, TStmts, no_stmts, more, TFunction, TProgram}
-use Rattle.oc_tree.specs.Calls.{expr_calls, right_calls, kind_hides, kind_kinds, else_kinds, block_kinds, stmts_kinds, calls}
+use Rattle.oc_tree.specs.Calls.{expr_calls, right_calls, kind_hides, kind_kinds, else_kinds, block_kinds, stmts_kinds, call_links, calls}
 use Rattle.oc_tree.specs.Members.{IsOf}
 use Rattle.oc_tree.specs.Expansion.{block_size, expand_functions, expansion}
 use Rattle.oc_tree.specs.Pulls.{block_pulls}
 use Rattle.oc_tree.specs.Weight.{expr_cost, args_cost, call_cost, right_cost, has_result, turns, kind_cost, else_cost, block_cost, stmts_cost, function_cost, weights_to, weights}
 use Rattle.oc_tree.specs.Stack.{args_depth, expr_depth, frame, call_depth, right_depth, kind_depth, else_depth, block_depth, stmts_depth, function_stack, stacks_to, stacks}
+use Rattle.oc_weight.specs.Capped.{capped}
+use Rattle.oc_weight.specs.Order.{IsOrder}
+use Rattle.oc_weight.proofs.CappedLaws.{function_same}
+use Rattle.oc_weight.proofs.StackLaws as StackLaws
+use Rattle.oc_weight.proofs.OrderTables.{IsWorked, one_worked, all_worked}
 use Rattle.oc_weight.proofs.Callees.{Same, KindsSame, in_left, in_right, own_call, none_hides, settles_by_callees}
 
 module _ (fs : List TFunction) (ws vs : List ℕ) where
@@ -127,6 +133,25 @@ module _ (fs : List TFunction) (none_back : (u : ℕ) → calls fs u u ≡ false
   pub stacks_settle : stacks_to fs (length fs) ≡ map (function_stack fs (stacks_to fs (length fs))) fs
   unfolding stacks_to
   stacks_settle = settles_by_callees fs none_back (function_stack fs) (stacks_to fs) refl (λ d. refl) (stack_same fs)
+
+module _ (fs : List TFunction) (order : List ℕ) (is : IsOrder (call_links fs) (length fs) order) where
+  pub weight_worked : (ws : List ℕ) (i : ℕ) (f : TFunction) → i < length order → length ws ≡ length fs → IsWorked (weights_to fs) order ws i → slice_get fs (get_or order i 0) ≡ Some f
+      → IsWorked (weights_to fs) order (set ws (get_or order i 0) (capped (function_cost fs ws f))) (i + 1)
+  unfolding weights_to
+  weight_worked = one_worked fs (function_cost fs) (weights_to fs) refl (λ d. refl) (cost_same fs) (function_same fs) order is
+
+  pub weights_worked : (ws : List ℕ) (i : ℕ) → length order ≤ i → i ≤ length order → length ws ≡ length fs → IsWorked (weights_to fs) order ws i → ws ≡ map capped (weights_to fs (length fs))
+  unfolding weights_to
+  weights_worked = all_worked fs (function_cost fs) (weights_to fs) refl (λ d. refl) (cost_same fs) (function_same fs) order is
+
+  pub stack_worked : (ws : List ℕ) (i : ℕ) (f : TFunction) → i < length order → length ws ≡ length fs → IsWorked (stacks_to fs) order ws i → slice_get fs (get_or order i 0) ≡ Some f
+      → IsWorked (stacks_to fs) order (set ws (get_or order i 0) (capped (function_stack fs ws f))) (i + 1)
+  unfolding stacks_to
+  stack_worked = one_worked fs (function_stack fs) (stacks_to fs) refl (λ d. refl) (stack_same fs) (StackLaws.function_same fs) order is
+
+  pub stacks_worked : (ws : List ℕ) (i : ℕ) → length order ≤ i → i ≤ length order → length ws ≡ length fs → IsWorked (stacks_to fs) order ws i → ws ≡ map capped (stacks_to fs (length fs))
+  unfolding stacks_to
+  stacks_worked = all_worked fs (function_stack fs) (stacks_to fs) refl (λ d. refl) (stack_same fs) (StackLaws.function_same fs) order is
 
 module _ (p : TProgram) (none_back : (u : ℕ) → calls (expansion p).functions u u ≡ false) where
   abbrev expanded : List TFunction

@@ -4,6 +4,7 @@ ghost use Rattle.oc_weight.specs.Capped.{capped, weight_cap};
 
 const CAP: u64 = 4294967297;
 
+/// The number, or the cap where it is greater.
 pub fn cap(n: u64) -> u64
     ensures value { result ≡ capped n }
     ensures small { result ≤ weight_cap }
@@ -11,6 +12,7 @@ pub fn cap(n: u64) -> u64
     if n < CAP { n } else { CAP }
 }
 
+/// The sum, or the cap.
 pub fn plus(a: u64, b: u64) -> u64
     requires a { a ≤ weight_cap }
     requires b { b ≤ weight_cap }
@@ -20,6 +22,7 @@ pub fn plus(a: u64, b: u64) -> u64
     cap(a + b)
 }
 
+/// The product, or the cap.
 pub fn times(n: u32, a: u64) -> u64
     requires { a ≤ weight_cap }
     ensures product { result ≡ capped (n * a) }
@@ -28,6 +31,7 @@ pub fn times(n: u32, a: u64) -> u64
     cap(n as u64 * a)
 }
 
+/// The greater of two numbers.
 pub fn greater(a: u64, b: u64) -> u64
     requires a { a ≤ weight_cap }
     requires b { b ≤ weight_cap }

@@ -141,7 +141,7 @@ pub fn block_cost(functions: &[Function], table: &Table, weights: &[u64], block:
     cost
 }
 
-// Both branches of an `if`, the first of which has the cost `then`.
+/// Both branches of an `if`, the first of which has the cost `then`.
 #[cycle(cost)]
 fn else_cost(
     functions: &[Function],

@@ -2,6 +2,7 @@
 //! allowed.
 #![tactic(auto)]
 
+pub mod called;
 pub mod caps;
 pub mod cost;
 pub mod laws;

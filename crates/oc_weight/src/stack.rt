@@ -124,7 +124,7 @@ fn arg_depth(arg: &Arg) -> u64
     }
 }
 
-// Each argument waits for those behind it.
+/// Each argument waits for those behind it.
 fn args_depth(args: &[Arg]) -> u64
     ensures depth { result ≡ capped (args_depth (args_view args.now)) }
     ensures small { result ≤ weight_cap }

@@ -19,13 +19,13 @@ use Rattle.oc_weight.proofs.Callees.{Same, KindsSame, in_left, in_right, own_cal
 
 module _ (fs : List TFunction) (ws vs : List ℕ) where
   -- of what is in front, and of what is behind
-  front : (xs ys : List TKind) → KindsSame fs ws vs (xs ++ ys) → KindsSame fs ws vs xs
+  pub front : (xs ys : List TKind) → KindsSame fs ws vs (xs ++ ys) → KindsSame fs ws vs xs
   front xs ys h k i = h k (in_left k xs ys i)
 
-  back : (xs ys : List TKind) → KindsSame fs ws vs (xs ++ ys) → KindsSame fs ws vs ys
+  pub back : (xs ys : List TKind) → KindsSame fs ws vs (xs ++ ys) → KindsSame fs ws vs ys
   back xs ys h k i = h k (in_right k xs ys i)
 
-  split : (k : TKind) (ss : TStmts) → KindsSame fs ws vs (kind_kinds None k ++ cond (kind_hides None k) [] (stmts_kinds None ss)) → KindsSame fs ws vs (kind_kinds None k ++ stmts_kinds None ss)
+  pub split : (k : TKind) (ss : TStmts) → KindsSame fs ws vs (kind_kinds None k ++ cond (kind_hides None k) [] (stmts_kinds None ss)) → KindsSame fs ws vs (kind_kinds None k ++ stmts_kinds None ss)
   split k ss h = subst (λ b. KindsSame fs ws vs (kind_kinds None k ++ cond b [] (stmts_kinds None ss))) (none_hides k) h
 
   -- ---- weights
@@ -39,7 +39,7 @@ module _ (fs : List TFunction) (ws vs : List ℕ) where
   right_cost_same (right_call c) h = call_cost_same c (h c (own_call c))
 
   mutual
-    kind_cost_same : (k : TKind) → KindsSame fs ws vs (kind_kinds None k) → kind_cost fs ws k ≡ kind_cost fs vs k
+    pub kind_cost_same : (k : TKind) → KindsSame fs ws vs (kind_kinds None k) → kind_cost fs ws k ≡ kind_cost fs vs k
     kind_cost_same (let_to m x t r) h = ap (λ n. n + 1) (right_cost_same r (h (let_to m x t r) (inl refl)))
     kind_cost_same (let_array m x t z n) h = refl
     kind_cost_same (assign x r) h = ap (λ n. n + 1) (right_cost_same r (h (assign x r) (inl refl)))
@@ -135,23 +135,23 @@ module _ (fs : List TFunction) (none_back : (u : ℕ) → calls fs u u ≡ false
   stacks_settle = settles_by_callees fs none_back (function_stack fs) (stacks_to fs) refl (λ d. refl) (stack_same fs)
 
 module _ (fs : List TFunction) (order : List ℕ) (is : IsOrder (call_links fs) (length fs) order) where
-  pub weight_worked : (ws : List ℕ) (i : ℕ) (f : TFunction) → i < length order → length ws ≡ length fs → IsWorked (weights_to fs) order ws i → slice_get fs (get_or order i 0) ≡ Some f
-      → IsWorked (weights_to fs) order (set ws (get_or order i 0) (capped (function_cost fs ws f))) (i + 1)
+  pub weight_worked : (ws : List ℕ) (i : ℕ) (f : TFunction) → i < length order → length ws ≡ length fs → IsWorked capped (weights_to fs) order ws i → slice_get fs (get_or order i 0) ≡ Some f
+      → IsWorked capped (weights_to fs) order (set ws (get_or order i 0) (capped (function_cost fs ws f))) (i + 1)
   unfolding weights_to
-  weight_worked = one_worked fs (function_cost fs) (weights_to fs) refl (λ d. refl) (cost_same fs) (function_same fs) order is
+  weight_worked = one_worked capped refl fs (function_cost fs) (weights_to fs) refl (λ d. refl) (cost_same fs) (function_same fs) order is
 
-  pub weights_worked : (ws : List ℕ) (i : ℕ) → length order ≤ i → i ≤ length order → length ws ≡ length fs → IsWorked (weights_to fs) order ws i → ws ≡ map capped (weights_to fs (length fs))
+  pub weights_worked : (ws : List ℕ) (i : ℕ) → length order ≤ i → i ≤ length order → length ws ≡ length fs → IsWorked capped (weights_to fs) order ws i → ws ≡ map capped (weights_to fs (length fs))
   unfolding weights_to
-  weights_worked = all_worked fs (function_cost fs) (weights_to fs) refl (λ d. refl) (cost_same fs) (function_same fs) order is
+  weights_worked = all_worked capped refl fs (function_cost fs) (weights_to fs) refl (λ d. refl) (cost_same fs) (function_same fs) order is
 
-  pub stack_worked : (ws : List ℕ) (i : ℕ) (f : TFunction) → i < length order → length ws ≡ length fs → IsWorked (stacks_to fs) order ws i → slice_get fs (get_or order i 0) ≡ Some f
-      → IsWorked (stacks_to fs) order (set ws (get_or order i 0) (capped (function_stack fs ws f))) (i + 1)
+  pub stack_worked : (ws : List ℕ) (i : ℕ) (f : TFunction) → i < length order → length ws ≡ length fs → IsWorked capped (stacks_to fs) order ws i → slice_get fs (get_or order i 0) ≡ Some f
+      → IsWorked capped (stacks_to fs) order (set ws (get_or order i 0) (capped (function_stack fs ws f))) (i + 1)
   unfolding stacks_to
-  stack_worked = one_worked fs (function_stack fs) (stacks_to fs) refl (λ d. refl) (stack_same fs) (StackLaws.function_same fs) order is
+  stack_worked = one_worked capped refl fs (function_stack fs) (stacks_to fs) refl (λ d. refl) (stack_same fs) (StackLaws.function_same fs) order is
 
-  pub stacks_worked : (ws : List ℕ) (i : ℕ) → length order ≤ i → i ≤ length order → length ws ≡ length fs → IsWorked (stacks_to fs) order ws i → ws ≡ map capped (stacks_to fs (length fs))
+  pub stacks_worked : (ws : List ℕ) (i : ℕ) → length order ≤ i → i ≤ length order → length ws ≡ length fs → IsWorked capped (stacks_to fs) order ws i → ws ≡ map capped (stacks_to fs (length fs))
   unfolding stacks_to
-  stacks_worked = all_worked fs (function_stack fs) (stacks_to fs) refl (λ d. refl) (stack_same fs) (StackLaws.function_same fs) order is
+  stacks_worked = all_worked capped refl fs (function_stack fs) (stacks_to fs) refl (λ d. refl) (stack_same fs) (StackLaws.function_same fs) order is
 
 module _ (p : TProgram) (none_back : (u : ℕ) → calls (expansion p).functions u u ≡ false) where
   abbrev expanded : List TFunction

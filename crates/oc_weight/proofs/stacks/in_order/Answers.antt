@@ -52,8 +52,8 @@ loop-i-preserved c =
     let told : capped (function_stack fs ws f) ≡ stack = ap (λ l. capped (function_stack fs l f)) (sym c.as_slice.ensures.value) ∙ sym c.function_stack-stack.ensures.stack in
     record {
       many = length-set ws c.at-place.result stack ∙ c.loop-i.invariant.many;
-      worked = subst (λ p. IsWorked (stacks_to fs) order (set ws p stack) (i + 1)) (sym c.at-place.ensures)
-          (subst (λ k. IsWorked (stacks_to fs) order (set ws place k) (i + 1)) told
+      worked = subst (λ p. IsWorked capped (stacks_to fs) order (set ws p stack) (i + 1)) (sym c.at-place.ensures)
+          (subst (λ k. IsWorked capped (stacks_to fs) order (set ws place k) (i + 1)) told
           (stack_worked fs order is ws i f h (c.loop-i.invariant.many ∙ sym n) c.loop-i.invariant.worked seen));
     }
 

@@ -1,11 +1,12 @@
 use Rattle.std.proofs.Common.{◌≡◌, length, map}
 use Rattle.oc_tree.specs.View.{function_view}
 use Rattle.oc_tree.specs.Stack.{stacks_to}
+use Rattle.oc_weight.specs.Capped.{capped}
 use Rattle.oc_weight.proofs.OrderTables.{IsWorked}
 use Rattle.oc_weight.proofs.stacks.in_order.Given as goal
 
 abbrev pub invariant-loop-i : goal.invariant-loop-i
 invariant-loop-i l = record {
   many : length l.stacks.items ≡ length l.functions;
-  worked : IsWorked (stacks_to (map function_view l.functions)) l.order.0 l.stacks.items l.i;
+  worked : IsWorked capped (stacks_to (map function_view l.functions)) l.order.0 l.stacks.items l.i;
 }

@@ -52,8 +52,8 @@ loop-i-preserved c =
     let told : capped (function_cost fs ws f) ≡ cost = ap (λ l. capped (function_cost fs l f)) (sym c.as_slice.ensures.value) ∙ sym c.function_cost-cost.ensures.cost in
     record {
       many = length-set ws c.at-place.result cost ∙ c.loop-i.invariant.many;
-      worked = subst (λ p. IsWorked (weights_to fs) order (set ws p cost) (i + 1)) (sym c.at-place.ensures)
-          (subst (λ k. IsWorked (weights_to fs) order (set ws place k) (i + 1)) told
+      worked = subst (λ p. IsWorked capped (weights_to fs) order (set ws p cost) (i + 1)) (sym c.at-place.ensures)
+          (subst (λ k. IsWorked capped (weights_to fs) order (set ws place k) (i + 1)) told
           (weight_worked fs order is ws i f h (c.loop-i.invariant.many ∙ sym n) c.loop-i.invariant.worked seen));
     }
 

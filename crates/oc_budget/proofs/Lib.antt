@@ -1,6 +1,6 @@
 pub mod TableLaws
 pub mod SpentLaws
-pub mod LevelLaws
+pub mod CalleeLaws
 pub mod ToldLaws
 mod BoundSums
 mod BoundPlain

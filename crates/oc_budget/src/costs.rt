@@ -16,7 +16,7 @@ ghost use Rattle.oc_budget.specs.View.{budgets_view};
 use crate::error::BudgetError;
 use crate::held::region_spent;
 use crate::known::Known;
-use crate::levels::all_costs;
+use crate::order::all_costs;
 use crate::sums::{fitting, greater, plus};
 use crate::told::Budgets;
 use crate::walk::known_of;

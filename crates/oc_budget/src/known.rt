@@ -1,23 +1,26 @@
 //! What is asked of a program for every statement: what functions are called, which statements use
 //! a fresh variable, and where regions begin and end.
-ghost use Rattle.std.specs.Prelude.{◌≡◌, ℕ, false, map, nat_eq, codes, IfOk};
+ghost use Rattle.std.specs.Prelude.{◌≡◌, ℕ, false, length, map, nat_eq, codes, IfOk};
 ghost use Rattle.std.specs.List.{list_any};
 ghost use Rattle.std.proofs.Math.ListN.{get_or};
 ghost use Rattle.oc_tree.specs.View.{call_view, function_view};
-ghost use Rattle.oc_tree.specs.Calls.{function_place};
-ghost use Rattle.oc_tree.specs.Marked.{is_in_region};
+ghost use Rattle.oc_tree.specs.Calls.{call_links, function_place};
+ghost use Rattle.oc_tree.specs.Marked.{IsMarked, is_in_region};
 ghost use Rattle.oc_tree.specs.Regions.{region_view};
 ghost use Rattle.oc_tree.specs.Weight.{has_result, result_at};
+ghost use Rattle.oc_weight.specs.Order.{IsOrder};
 ghost use Rattle.oc_budget.specs.Costs.{is_use};
 ghost use Rattle.oc_tree.specs.Costs.{marks_at};
 
 use crate::tables::{has, mark};
 use crate::uses::use_table;
 use oc_effects::effects::Effects;
+use oc_reach::marks::Marks;
 use oc_reach::table::{Table, function_table, main_place, result_at};
 use oc_tree::marked::{Marked, Region};
 use oc_tree::name::Name;
 use oc_tree::tree::{Call, Function, StmtId};
+use oc_weight::called::callees_first;
 use std::alloc::{AllocError, Global};
 use std::marker::Model;
 
@@ -117,6 +120,17 @@ impl<'a> Known<'a> {
         ensures { map region_view result.now ≡ self.now.regions }
     {
         self.marked.regions()
+    }
+
+    /// The functions in an order in which each comes behind those that it calls.
+    pub fn callees_first(&self, alloc: Global) -> Result<Marks, AllocError>
+        requires { IsMarked self.now }
+        ensures { IfOk result (λ m. IsOrder (call_links self.now.program.functions)
+            (length self.now.program.functions) m.0) }
+    {
+        let _marked = self.marked;
+        let order = callees_first(alloc, self.functions, &self.table)?;
+        Ok(order.unwrap())
     }
 
     /// The place of the function of a name.

@@ -7,7 +7,7 @@ mod exprs;
 mod held;
 mod known;
 pub mod laws;
-mod levels;
+mod order;
 mod sums;
 mod tables;
 pub mod told;

@@ -20,6 +20,7 @@ use crate::order::all_costs;
 use crate::sums::{fitting, greater, plus};
 use crate::told::Budgets;
 use crate::walk::known_of;
+use oc_effects::effects::Effects;
 use oc_io::Memory;
 use oc_isa::image::Image;
 use oc_tree::marked::{Marked, Region};
@@ -113,7 +114,13 @@ fn safe_for(stack: u32, budgets: &[u64]) -> Option<u64>
     }
 }
 
-fn all_told(alloc: Global, marked: &Marked, image: &Image) -> Result<Budgets, BudgetError>
+fn all_told(
+    alloc: Global,
+    marked: &Marked,
+    effects: &Effects,
+    image: &Image,
+) -> Result<Budgets, BudgetError>
+    requires same { effects.now.program ≡ marked.now.program }
     requires code { image.now
         ≡ code_of marked.now.program marked.now.regions (may_write marked.now) }
     requires marked { IsMarked marked.now }
@@ -121,7 +128,7 @@ fn all_told(alloc: Global, marked: &Marked, image: &Image) -> Result<Budgets, Bu
     // It is too large where a period that suffices has no number.
     ensures large { IfErr result (λ e. Explains e (budgets marked.now).safe) }
 {
-    let known = Known::new(alloc, marked)?;
+    let known = Known::new(alloc, marked, effects)?;
     let costs = all_costs(alloc, &known)?;
     let raw = image.raw();
     let logged = all_logged(alloc, raw.targets.as_slice())?;
@@ -136,18 +143,38 @@ fn all_told(alloc: Global, marked: &Marked, image: &Image) -> Result<Budgets, Bu
     })
 }
 
-/// The budgets of a program with regions, of which this is the image. Where the steps of a period
-/// that suffices don't fit 64 bits, it is answered as out of memory. These numbers bound every run
-/// of the image.
+/// The budgets of a program with regions, of which this is the image, by the effects of its
+/// statements. Where the steps of a period that suffices don't fit 64 bits, it is answered as out
+/// of memory. These numbers bound every run of the image.
+pub fn budgets_by(
+    alloc: Global,
+    marked: &Marked,
+    effects: &Effects,
+    image: &Image,
+) -> Result<Budgets, Memory>
+    requires same { effects.now.program ≡ marked.now.program }
+    requires code { image.now
+        ≡ code_of marked.now.program marked.now.regions (may_write marked.now) }
+    ensures told { IfOk result (λ b. budgets_view b ≡ budgets marked.now) }
+    ensures bounds { IfOk result
+        (λ b. IsBounded (device_of image.now) (bounds_of (budgets_view b))) }
+{
+    marked.checked();
+    match all_told(alloc, marked, effects, image) {
+        Ok(told) => Ok(told),
+        Err(_) => Err(Memory),
+    }
+}
+
+/// The same of a program whose effects are not at hand.
 pub fn budgets(alloc: Global, marked: &Marked, image: &Image) -> Result<Budgets, Memory>
     requires { image.now ≡ code_of marked.now.program marked.now.regions (may_write marked.now) }
     ensures told { IfOk result (λ b. budgets_view b ≡ budgets marked.now) }
     ensures bounds { IfOk result
         (λ b. IsBounded (device_of image.now) (bounds_of (budgets_view b))) }
 {
-    marked.checked();
-    match all_told(alloc, marked, image) {
-        Ok(told) => Ok(told),
+    match Effects::new(alloc, marked.checked()) {
+        Ok(effects) => budgets_by(alloc, marked, &effects, image),
         Err(_) => Err(Memory),
     }
 }

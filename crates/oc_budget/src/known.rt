@@ -30,7 +30,7 @@ pub struct Known<'a> {
     marked: &'a Marked,
     functions: &'a [Function],
     table: Table<'a>,
-    effects: Effects<'a>,
+    effects: &'a Effects<'a>,
     uses: Vec<bool>,
     begins: Vec<bool>,
     ends: Vec<bool>,
@@ -55,7 +55,7 @@ impl<'a> Model for Known<'a> {
 
     ghost invariant = { λ k. (map function_view k.functions.now ≡ k.marked.now.program.functions)
         × (k.table ≡ function_names k.marked.now.program.functions)
-        × (k.effects.program ≡ k.marked.now.program)
+        × (k.effects.now.program ≡ k.marked.now.program)
         × ((n : ℕ) → get_or k.uses.items n false ≡ is_use k.marked.now.program n)
         × ((n : ℕ) → get_or k.begins.items n false
         ≡ list_any (λ r. nat_eq r.first n) k.marked.now.regions)
@@ -88,14 +88,18 @@ fn end_table(alloc: Global, regions: &[Region]) -> Result<Vec<bool>, AllocError>
 }
 
 impl<'a> Known<'a> {
-    /// What is asked of a program with regions.
-    pub fn new(alloc: Global, marked: &'a Marked) -> Result<Known<'a>, AllocError>
+    /// What is asked of a program with regions, of whose statements these are the effects.
+    pub fn new(
+        alloc: Global,
+        marked: &'a Marked,
+        effects: &'a Effects<'a>,
+    ) -> Result<Known<'a>, AllocError>
+        requires { effects.now.program ≡ marked.now.program }
         ensures { IfOk result (λ k. k ≡ marked.now) }
     {
         let functions = marked.checked().program().functions.as_slice();
         let table = function_table(alloc, functions)?;
-        let effects = Effects::new(alloc, marked.checked())?;
-        let uses = use_table(alloc, &effects)?;
+        let uses = use_table(alloc, effects)?;
         let begins = begin_table(alloc, marked.regions())?;
         let ends = end_table(alloc, marked.regions())?;
         Ok(Known {

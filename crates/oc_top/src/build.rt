@@ -26,6 +26,7 @@ use crate::answer::Answer;
 use oc_budget::laws::budgets_bound;
 use oc_codegen::compile;
 use oc_desugar::expand;
+use oc_effects::effects::Effects;
 use oc_flow::flow::summaries;
 use oc_io::Memory;
 use oc_isa::image::Image;
@@ -39,7 +40,7 @@ use oc_tree::marked::Marked;
 use oc_tree::tree::Program;
 use oc_tree::written::Written;
 use oc_types::{RuleError, check};
-use oc_writes::writes::may_write;
+use oc_writes::writes::may_write_by;
 use std::alloc::Global;
 
 /// How many line feeds there are.
@@ -185,9 +186,10 @@ pub fn marked_of(alloc: Global, source: &[u8]) -> Result<Marked, Answer>
     Ok(marked)
 }
 
-/// The image of a marked program, with the write targets of its regions. The budgets of the program
-/// bound its runs.
-pub fn image_of(alloc: Global, marked: &Marked) -> Result<Image, Memory>
+/// The image of a marked program, with the write targets of its regions, by the effects of its
+/// statements. The budgets of the program bound its runs.
+pub fn image_by(alloc: Global, marked: &Marked, effects: &Effects) -> Result<Image, Memory>
+    requires { effects.now.program ≡ marked.now.program }
     ensures code { IfOk result (λ i. i ≡ marked_code marked.now) }
     ensures right { IfOk result
         (λ i. IsRight marked.now.program marked.now.regions (may_write marked.now)) }
@@ -196,7 +198,21 @@ pub fn image_of(alloc: Global, marked: &Marked) -> Result<Image, Memory>
 {
     budgets_bound();
     marked.checked();
-    let writes = may_write(alloc, marked)?;
+    let writes = may_write_by(alloc, marked, effects)?;
     let image = compile(alloc, marked, &writes)?;
     Ok(image)
+}
+
+/// The same of a program whose effects are not at hand.
+pub fn image_of(alloc: Global, marked: &Marked) -> Result<Image, Memory>
+    ensures code { IfOk result (λ i. i ≡ marked_code marked.now) }
+    ensures right { IfOk result
+        (λ i. IsRight marked.now.program marked.now.regions (may_write marked.now)) }
+    ensures bounded { IfOk result
+        (λ i. IsBounded (device_of i) (bounds_of (budgets marked.now))) }
+{
+    match Effects::new(alloc, marked.checked()) {
+        Ok(effects) => image_by(alloc, marked, &effects),
+        Err(_) => Err(Memory),
+    }
 }

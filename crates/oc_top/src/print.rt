@@ -12,12 +12,14 @@ ghost use Rattle.oc_top.specs.Steps.{IsNotBuilt};
 ghost use Rattle.oc_top.specs.Verdict.{listing_of, prints, regions_of};
 
 use crate::answer::Answer;
-use crate::build::{image_of, marked_of};
+use crate::build::{image_by, marked_of};
 use crate::prepare::build_image;
 use crate::regions::{Details, details_of, put_regions};
 use crate::report::flush_with;
-use oc_budget::costs::budgets;
+use oc_budget::costs::budgets_by;
 use oc_budget::told::Budgets;
+use oc_effects::effects::Effects;
+use oc_io::Memory;
 use oc_io::sink::Sink;
 use oc_isa::image::Image;
 use oc_isa::listing::listing;
@@ -32,6 +34,31 @@ pub struct Told {
     pub details: Details,
 }
 
+/// The budgets and the details of a program, by the effects of its statements.
+fn told_by(alloc: Global, marked: &Marked, effects: &Effects) -> Result<(Budgets, Details), Memory>
+    requires { effects.now.program ≡ marked.now.program }
+    ensures budgets { IfOk result (λ t. budgets_view t.0 ≡ budgets_of marked.now) }
+    ensures details { IfOk result (λ t. HasDetails marked.now t.1) }
+{
+    let image = image_by(alloc, marked, effects)?;
+    let budgets = budgets_by(alloc, marked, effects, &image)?;
+    match details_of(alloc, marked, effects) {
+        Ok(details) => Ok((budgets, details)),
+        Err(_) => Err(Memory),
+    }
+}
+
+/// The same by effects that are made once for all of them.
+fn told_of(alloc: Global, marked: &Marked) -> Result<(Budgets, Details), Memory>
+    ensures budgets { IfOk result (λ t. budgets_view t.0 ≡ budgets_of marked.now) }
+    ensures details { IfOk result (λ t. HasDetails marked.now t.1) }
+{
+    match Effects::new(alloc, marked.checked()) {
+        Ok(effects) => told_by(alloc, marked, &effects),
+        Err(_) => Err(Memory),
+    }
+}
+
 /// The regions of the program that a source spells, with their budgets.
 fn tell(alloc: Global, source: &[u8]) -> Result<Told, Answer>
     requires { length source.now ≤ source_limit }
@@ -39,9 +66,7 @@ fn tell(alloc: Global, source: &[u8]) -> Result<Told, Answer>
     ensures refused { IfErr result (λ a. IsNotBuilt source.now a) }
 {
     let marked = marked_of(alloc, source)?;
-    let image = image_of(alloc, &marked)?;
-    let budgets = budgets(alloc, &marked, &image)?;
-    let details = details_of(alloc, &marked)?;
+    let (budgets, details) = told_of(alloc, &marked)?;
     Ok(Told {
         marked,
         budgets,

@@ -62,13 +62,17 @@ fn range_of(effects: &Effects, region: &Region) -> LineRange
 }
 
 /// The lines of each region.
-fn lines_of_regions(alloc: Global, marked: &Marked) -> Result<Vec<LineRange>, AllocError>
+fn lines_of_regions(
+    alloc: Global,
+    marked: &Marked,
+    effects: &Effects,
+) -> Result<Vec<LineRange>, AllocError>
+    requires { effects.now.program ≡ marked.now.program }
     ensures { IfOk result (λ v. v.items ≡ map (range_of marked.now.program) marked.now.regions) }
 {
-    let effects = Effects::new(alloc, marked.checked())?;
     let mut lines = Vec::new(alloc);
     for region in marked.regions() {
-        lines.push(range_of(&effects, region))?;
+        lines.push(range_of(effects, region))?;
     }
     Ok(lines)
 }
@@ -100,11 +104,12 @@ fn names_of_policies(alloc: Global, marked: &Marked) -> Result<Vec<Name>, AllocE
     Ok(names)
 }
 
-/// The details of a program's regions.
-pub fn details_of(alloc: Global, marked: &Marked) -> Result<Details, AllocError>
+/// The details of a program's regions, by the effects of its statements.
+pub fn details_of(alloc: Global, marked: &Marked, effects: &Effects) -> Result<Details, AllocError>
+    requires { effects.now.program ≡ marked.now.program }
     ensures { IfOk result (λ d. HasDetails marked.now d) }
 {
-    let lines = lines_of_regions(alloc, marked)?;
+    let lines = lines_of_regions(alloc, marked, effects)?;
     let names = names_of_policies(alloc, marked)?;
     Ok(Details { lines, names })
 }

@@ -218,24 +218,40 @@ fn all_targets(
     tabled_targets(alloc, program, effects, &assigned, regions)
 }
 
-fn marked_targets(alloc: Global, marked: &Marked) -> Result<Vec<Vec<Target>>, AllocError>
+fn marked_targets(
+    alloc: Global,
+    marked: &Marked,
+    effects: &Effects,
+) -> Result<Vec<Vec<Target>>, AllocError>
+    requires { effects.now.program ≡ marked.now.program }
     ensures targets { IfOk result (λ t. map (λ v. v.items) t.items ≡ may_write marked.now) }
     ensures only { IfOk result (λ t. OnlyTargets marked.now (map (λ v. v.items) t.items)) }
 {
     let checked = marked.checked();
-    let effects = Effects::new(alloc, checked)?;
-    let targets = all_targets(alloc, checked.program(), &effects, marked.regions())?;
+    let targets = all_targets(alloc, checked.program(), effects, marked.regions())?;
     Ok(targets)
 }
 
-/// The write targets of all regions. Behind a region's statements every other nonvolatile variable
-/// is as it was.
+/// The write targets of all regions, by the effects of the program's statements. Behind a region's
+/// statements every other nonvolatile variable is as it was.
+pub fn may_write_by(alloc: Global, marked: &Marked, effects: &Effects) -> Result<WriteSets, Memory>
+    requires { effects.now.program ≡ marked.now.program }
+    ensures targets { IfOk result (λ w. w ≡ may_write marked.now) }
+    ensures only { IfOk result (λ w. OnlyTargets marked.now w) }
+{
+    match marked_targets(alloc, marked, effects) {
+        Ok(regions) => Ok(WriteSets { regions }),
+        Err(_) => Err(Memory),
+    }
+}
+
+/// The same of a program whose effects are not at hand.
 pub fn may_write(alloc: Global, marked: &Marked) -> Result<WriteSets, Memory>
     ensures targets { IfOk result (λ w. w ≡ may_write marked.now) }
     ensures only { IfOk result (λ w. OnlyTargets marked.now w) }
 {
-    match marked_targets(alloc, marked) {
-        Ok(regions) => Ok(WriteSets { regions }),
+    match Effects::new(alloc, marked.checked()) {
+        Ok(effects) => may_write_by(alloc, marked, &effects),
         Err(_) => Err(Memory),
     }
 }

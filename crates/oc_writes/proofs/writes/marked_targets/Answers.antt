@@ -7,6 +7,9 @@ use Rattle.oc_writes.proofs.KeptLaw.{only_targets}
 use Rattle.oc_writes.proofs.Same.{functions_below}
 use Rattle.oc_writes.proofs.writes.marked_targets.Goals as goal
 
+pub all_targets-requires-clause-same : goal.all_targets-requires-clause-same
+all_targets-requires-clause-same c = c.requires ∙ sym (c.program.ensures.same ∙ ap (λ (k : TChecked). k.program) c.checked-checked.ensures.same)
+
 pub all_targets-requires-clause-functions : goal.all_targets-requires-clause-functions
 all_targets-requires-clause-functions c =
     let same : program_view c.program.result.now ≡ c.args.marked.now.program = c.program.ensures.same ∙ ap (λ (k : TChecked). k.program) c.checked-checked.ensures.same in

@@ -10,7 +10,7 @@ use crate::walk::function_cost;
 use oc_reach::marks::Marks;
 use std::alloc::{AllocError, Global};
 
-// The costs, each worked out once, in an order in which those of callees come first.
+/// The costs, each worked out once, in an order in which those of callees come first.
 fn in_order(alloc: Global, known: &Known, order: &Marks) -> Result<Vec<u64>, AllocError>
     requires marked { IsMarked known.now }
     requires order { IsOrder (call_links known.now.program.functions)

@@ -15,8 +15,8 @@ use Rattle.oc_tree.proofs.Grouped.{ids, program_ids}
 use Rattle.oc_effects.specs.Effects.{TCalled, TEffect, effect_of, function_effects, effects_at}
 use Rattle.oc_flow.specs.Variables.{is_among, variables, is_variable, same_variable}
 use Rattle.oc_tree.specs.Members.{IsOf}
-use Rattle.oc_flow.specs.Flow.{chain, leads, flows_to, flows, brings, brings_at}
-use Rattle.oc_flow.specs.Known.{TKnown, Knowns, known_at, is_ready, AllKnown, known_flows, brings_seen}
+use Rattle.oc_flow.specs.Flow.{chain, leads, flows_to, flows, brings, brings_at, may_bring, may_bring_at}
+use Rattle.oc_flow.specs.Known.{TKnown, Knowns, known_at, is_ready, AllKnown, known_flows, brings_seen, may_bring_seen}
 use Rattle.oc_flow.proofs.Fixpoint.{Ranked}
 use Rattle.oc_flow.proofs.Knows.{known_brings, any_join}
 
@@ -121,6 +121,17 @@ somewhere p (f ∷ fs) b i = elim (of_join (block_placed (at_start f) f.body) (f
   | inl a ↦ (0, of_image (effect_of p) (block_placed (at_start f) f.body) b a)
   | inr a ↦ let z = somewhere p fs b a in (suc z.0, z.1)
 ]
+
+pub may_bring_asked : (p : TProgram) (groups : List Group) → IsChecked p groups → (s : ℕ) (o : Option TEffect) → o ≡ option_map (effect_of p) (placed p s)
+    → may_bring_seen o ≡ may_bring_at p s
+may_bring_asked p groups checked s o e =
+    ap may_bring_seen e ∙ go (placed p s)
+    ∙ sym (only_one s (λ b. may_bring (effect_of p b)) 1 (length (program_statements p)) (program_placed p) (program_ids p ∙ checked.form.numbered.statements))
+    ∙ sym (flat p (λ a. nat_eq a.stmt s && may_bring a) p.functions)
+  where
+    go : (q : Option Placed) → may_bring_seen (option_map (effect_of p) q) ≡ on_found (λ b. may_bring (effect_of p b)) q
+    go None = refl
+    go (Some b) = refl
 
 module _ (p : TProgram) (groups : List Group) (checked : IsChecked p groups) (r : Ranked p) (ks : Knowns) (known : AllKnown p ks) where
   ready : (f : ℕ) (a : TEffect) → IsOf a (effects_at p f) → (o : Option TCalled) → a.call ≡ o → is_ready ks o ≡ true

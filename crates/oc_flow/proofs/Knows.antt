@@ -42,6 +42,12 @@ or_false : (a : Bool) → a ≡ a || false
 or_false true = refl
 or_false false = refl
 
+and_swap : (a b : Bool) → a && b ≡ b && a
+and_swap true true = refl
+and_swap true false = refl
+and_swap false true = refl
+and_swap false false = refl
+
 -- the variables of a function are the outer ones, and the declared ones
 split : (p : TProgram) (f : ℕ) → outer_of (length p.names.nvs) (length (params_at p f)) ++ declared_of (effects_at p f) ≡ variables p f
 split p f =
@@ -187,9 +193,10 @@ module _ (p : TProgram) (r : Ranked p) (ks : Knowns) (right : Right p ks) where
       go None e h = absurd (true≢false (sym h))
       go (Some k) e h =
           let is : KnownIs p c.function k = right.each c.function k e in
-          ap (list_any (λ y. known_receives k y && ends a c y v)) is.outer
-          ∙ outer_any p c.function (λ y. known_receives k y && ends a c y v) (λ y. receives p (brings p) c.function y && ends a c y v)
-          (λ s. and_false (receives p (brings p) c.function (Declared s))) (λ y. ap (λ b. b && ends a c y v) (is.receives y))
+          ap (list_any (λ y. ends a c y v && known_receives k y)) is.outer
+          ∙ outer_any p c.function (λ y. ends a c y v && known_receives k y) (λ y. receives p (brings p) c.function y && ends a c y v)
+          (λ s. and_false (receives p (brings p) c.function (Declared s)))
+          (λ y. and_swap (ends a c y v) (known_receives k y) ∙ ap (λ b. b && ends a c y v) (is.receives y))
 
   -- what a statement brings is what is known
   pub known_brings : (f : ℕ) (a : TEffect) → IsOf a (effects_at p f) → is_ready ks a.call ≡ true → (v : VarId) → brings_known ks a v ≡ brings p a v

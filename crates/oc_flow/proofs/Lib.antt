@@ -7,5 +7,6 @@ pub mod Cells
 pub mod Added
 pub mod Built
 pub mod Knows
+pub mod Nothing
 pub mod Counts
 pub mod Asked

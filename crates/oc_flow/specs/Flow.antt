@@ -1,5 +1,5 @@
 -- The same relations as tests, where calls go no deeper than there are functions.
-use Rattle.std.specs.Prelude.{ℕ, zero, suc, Bool, false, ◌&&◌, ◌||◌, List, [], ◌∷◌, length, Option, Some, None, nat_eq}
+use Rattle.std.specs.Prelude.{ℕ, zero, suc, Bool, false, ◌&&◌, ◌||◌, List, [], ◌∷◌, length, Option, Some, None, nat_eq, is_some}
 use Rattle.std.specs.List.{list_any}
 use Rattle.oc_tree.specs.Tree.{TProgram}
 use Rattle.oc_tree.specs.declared.tree.VarId.{VarId}
@@ -74,3 +74,11 @@ brings p = brings_to p (length p.functions)
 -- the statement of a number brings input into `v`
 abbrev pub brings_at : TProgram → ℕ → VarId → Bool
 brings_at p s v = list_any (λ es. list_any (λ a. nat_eq a.stmt s && brings p a v) es) (effects p)
+
+-- only a statement that reads an input or calls a function may bring input into any variable
+abbrev pub may_bring : TEffect → Bool
+may_bring a = is_some a.call || a.senses
+
+-- the statement of a number may
+abbrev pub may_bring_at : TProgram → ℕ → Bool
+may_bring_at p s = list_any (λ es. list_any (λ a. nat_eq a.stmt s && may_bring a) es) (effects p)

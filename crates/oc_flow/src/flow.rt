@@ -15,7 +15,7 @@ use oc_io::Memory;
 use oc_tree::checked::Checked;
 use std::alloc::{AllocError, Global};
 
-fn summarized(alloc: Global, checked: &Checked) -> Result<Summaries, AllocError>
+fn summaries_of(alloc: Global, checked: &Checked) -> Result<Summaries, AllocError>
     ensures summaries { IfOk result (λ s. s ≡ checked.now) }
     ensures checked { IfOk result (λ s. IsChecked s.program s.groups) }
 {
@@ -35,7 +35,7 @@ pub fn summaries(alloc: Global, checked: &Checked) -> Result<Summaries, Memory>
         → IsOf a (effects_at s.program f)
         → Decides (brings s.program a v) (Brings s.program f a v)) }
 {
-    match summarized(alloc, checked) {
+    match summaries_of(alloc, checked) {
         Ok(summaries) => Ok(summaries),
         Err(_) => Err(Memory),
     }

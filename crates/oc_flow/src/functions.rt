@@ -9,7 +9,7 @@ ghost use Rattle.oc_flow.specs.Variables.{from};
 ghost use Rattle.oc_flow.specs.Flow.{chain};
 ghost use Rattle.oc_flow.specs.Known.{KnownBy, Learns, LearnsAll, Links, Right, declared_of, is_ready, known_at, outer_of, some_leads};
 
-use crate::inputs::received;
+use crate::inputs::which_receive;
 use crate::known::Known;
 use crate::leads::{all_known, all_leads};
 use crate::table::Table;
@@ -104,7 +104,7 @@ fn know(
 {
     let variables = variables_of(alloc, outer, effects)?;
     let table = table_of(alloc, known, effects, variables)?;
-    let received = received(alloc, &table, known, effects)?;
+    let received = which_receive(alloc, &table, known, effects)?;
     Ok(Known::new(table, outer_of(alloc, outer)?, received))
 }
 

@@ -4,7 +4,8 @@ ghost use Rattle.std.specs.List.{list_any};
 ghost use Rattle.oc_tree.specs.declared.tree.VarId.{VarId};
 ghost use Rattle.oc_effects.specs.View.{called_view, effect_view};
 ghost use Rattle.oc_flow.specs.Variables.{ends};
-ghost use Rattle.oc_flow.specs.Known.{brings_called, brings_known, known_receives, table_flows};
+ghost use Rattle.oc_flow.specs.Flow.{may_bring};
+ghost use Rattle.oc_flow.specs.Known.{bringers, brings_called, brings_known, effects_seen, known_receives, some_brings, table_flows};
 
 use crate::known::{Known, ends_at, is_variable_of};
 use crate::table::Table;
@@ -14,16 +15,16 @@ use std::alloc::{AllocError, Global};
 
 // By the input that a callee's variable receives.
 fn brings_through(callee: &Known, effect: &Effect, call: &Called, y: VarId, v: VarId) -> bool
-    ensures { result ≡ known_receives callee.now y && ends (effect_view effect.now)
-        (called_view call.now) y v }
+    ensures { result ≡ ends (effect_view effect.now) (called_view call.now) y v &&
+        known_receives callee.now y }
 {
-    callee.receives(y) && ends_at(effect, call, y, v)
+    ends_at(effect, call, y, v) && callee.receives(y)
 }
 
 fn brings_from_callee(callee: &Known, effect: &Effect, call: &Called, v: VarId) -> bool
     ensures { result ≡ list_any
-        (λ y. known_receives callee.now y && ends (effect_view effect.now) (called_view call.now) y
-        v) callee.now.outer }
+        (λ y. ends (effect_view effect.now) (called_view call.now) y v &&
+        known_receives callee.now y) callee.now.outer }
 {
     for y in callee.outer() {
         if brings_through(callee, effect, call, *y, v) {
@@ -56,27 +57,50 @@ pub fn brings(known: &[Option<Known>], effect: &Effect, v: VarId) -> bool
     }
 }
 
-fn some_brings(known: &[Option<Known>], effects: &[Effect], v: VarId) -> bool
-    ensures { result ≡ list_any (λ e. brings_known known.now e v) (map effect_view effects.now) }
+/// Whether a statement may bring input into any variable: it reads one, or it calls a function.
+pub fn may_bring(effect: &Effect) -> bool
+    ensures { result ≡ may_bring (effect_view effect.now) }
+{
+    match &effect.call {
+        Some(_call) => true,
+        None => effect.senses,
+    }
+}
+
+// The statements that may bring input.
+fn bringers<'e>(alloc: Global, effects: &'e [Effect]) -> Result<Vec<&'e Effect>, AllocError>
+    ensures { IfOk result
+        (λ r. effects_seen r.items ≡ bringers (map effect_view effects.now)) }
+{
+    let mut picked = Vec::new(alloc);
+    for effect in effects {
+        if may_bring(effect) {
+            picked.push(effect)?;
+        }
+    }
+    Ok(picked)
+}
+
+fn some_brings(known: &[Option<Known>], effects: &[&Effect], v: VarId) -> bool
+    ensures { result ≡ some_brings known.now (effects_seen effects.now) v }
 {
     for effect in effects {
-        if brings(known, effect, v) {
+        if brings(known, *effect, v) {
             return true;
         }
     }
     false
 }
 
-// The variables into which some statement brings input.
-fn brought(
+// The variables into which some of these statements bring input.
+fn variables_from(
     alloc: Global,
     known: &[Option<Known>],
-    effects: &[Effect],
+    effects: &[&Effect],
     variables: &[VarId],
 ) -> Result<Vec<VarId>, AllocError>
-    ensures { IfOk result (λ r. r.items
-        ≡ filter (λ v. list_any (λ e. brings_known known.now e v) (map effect_view effects.now))
-        variables.now) }
+    ensures { IfOk result
+        (λ r. r.items ≡ filter (some_brings known.now (effects_seen effects.now)) variables.now) }
 {
     let mut brought = Vec::new(alloc);
     for v in variables {
@@ -84,6 +108,22 @@ fn brought(
             brought.push(*v)?;
         }
     }
+    Ok(brought)
+}
+
+// The variables into which some statement brings input.
+fn input_variables(
+    alloc: Global,
+    known: &[Option<Known>],
+    effects: &[Effect],
+    variables: &[VarId],
+) -> Result<Vec<VarId>, AllocError>
+    ensures { IfOk result
+        (λ r. r.items
+        ≡ filter (some_brings known.now (map effect_view effects.now)) variables.now) }
+{
+    let picked = bringers(alloc, effects)?;
+    let brought = variables_from(alloc, known, picked.as_slice(), variables)?;
     Ok(brought)
 }
 
@@ -116,7 +156,7 @@ fn received_from(
 }
 
 /// Which variables receive input, in the order of their numbers.
-pub fn received(
+pub fn which_receive(
     alloc: Global,
     table: &Table,
     known: &[Option<Known>],
@@ -124,10 +164,10 @@ pub fn received(
 ) -> Result<Vec<bool>, AllocError>
     ensures { IfOk result (λ r. r.items
         ≡ map (λ y. list_any (λ u. table_flows table.now u y)
-        (filter (λ v. list_any (λ e. brings_known known.now e v) (map effect_view effects.now))
-        table.now.variables)) table.now.variables) }
+        (filter (some_brings known.now (map effect_view effects.now)) table.now.variables))
+        table.now.variables) }
 {
-    let from = brought(alloc, known, effects, table.variables())?;
+    let from = input_variables(alloc, known, effects, table.variables())?;
     let received = received_from(alloc, table, from.as_slice(), table.variables())?;
     Ok(received)
 }

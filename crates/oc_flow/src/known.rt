@@ -33,6 +33,7 @@ impl Model for Known {
 }
 
 impl Known {
+    /// A function with this table, these variables and what they receive.
     pub fn new(table: Table, outer: Vec<VarId>, received: Vec<bool>) -> Known
         ensures { result ≡ record
             { table = table; outer = outer.items; received = received.items } }
@@ -71,7 +72,7 @@ impl Known {
     }
 }
 
-fn lent(call: &Called, i: u32) -> Option<VarId>
+fn lent_at(call: &Called, i: u32) -> Option<VarId>
     ensures { result ≡ (arg_at (called_view call.now) i).lent }
 {
     match call.args.get(i as usize) {
@@ -86,7 +87,7 @@ pub fn end_of(effect: &Effect, call: &Called, y: VarId) -> Option<VarId>
 {
     match y {
         VarId::Nv { .. } => Some(y),
-        VarId::Param { index } => lent(call, index),
+        VarId::Param { index } => lent_at(call, index),
         VarId::Declared { .. } => None,
         VarId::Returned => effect.target,
     }

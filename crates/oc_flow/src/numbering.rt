@@ -150,6 +150,7 @@ impl Model for Numbering {
 }
 
 impl Numbering {
+    /// These variables, numbered in their order.
     pub fn new(alloc: Global, variables: Vec<VarId>) -> Result<Numbering, AllocError>
         ensures { IfOk result (λ n. n ≡ variables.items) }
     {
@@ -157,6 +158,7 @@ impl Numbering {
         Ok(Numbering { variables, numbers })
     }
 
+    /// The variables in the order of their numbers.
     pub fn variables(&self) -> &[VarId]
         ensures { result.now ≡ self.now }
     {

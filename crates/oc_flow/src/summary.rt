@@ -1,10 +1,10 @@
 //! What is known of flow and input in all functions of a program.
 ghost use Rattle.std.specs.Prelude.{◌≡◌, Option};
 ghost use Rattle.oc_tree.specs.Checked.{TChecked};
-ghost use Rattle.oc_flow.specs.Flow.{brings_at, flows};
+ghost use Rattle.oc_flow.specs.Flow.{brings_at, flows, may_bring_at};
 ghost use Rattle.oc_flow.specs.Known.{AllKnown, known_at, known_flows};
 
-use crate::inputs::brings;
+use crate::inputs::{brings, may_bring};
 use crate::known::Known;
 use oc_effects::effects::Effects;
 use oc_tree::tree::{StmtId, VarId};
@@ -74,6 +74,18 @@ impl<'a> Summaries<'a> {
         let _program = self.effects.checked().program();
         match self.effects.at(s) {
             Some(effect) => brings(self.known.as_slice(), effect, v),
+            None => false,
+        }
+    }
+
+    /// Whether a statement may bring input into any variable: it reads one, or it calls a function.
+    pub fn may_bring(&self, s: StmtId) -> bool
+        ensures { result ≡ may_bring_at self.now.program s }
+    {
+        let _known = &self.known;
+        let _program = self.effects.checked().program();
+        match self.effects.at(s) {
+            Some(effect) => may_bring(effect),
             None => false,
         }
     }

@@ -49,7 +49,7 @@ fn at(rows: &[Vec<bool>], i: usize, j: usize) -> bool
     rows[i][j]
 }
 
-fn copied(alloc: Global, row: &[bool]) -> Result<Vec<bool>, AllocError>
+fn copy_of(alloc: Global, row: &[bool]) -> Result<Vec<bool>, AllocError>
     ensures { IfOk result (λ r. r.items ≡ row.now) }
 {
     let mut copy = Vec::new(alloc);
@@ -66,14 +66,21 @@ fn set(rows: &mut Vec<Vec<bool>>, i: usize, j: usize)
     rows[i][j] = true;
 }
 
-// Sets in a row what is set in the other.
-fn join(row: &mut Vec<bool>, other: &[bool])
+// Sets in cells what is set in the others. With no branch, so that many are set at once.
+fn join(cells: &mut [bool], others: &[bool])
+    requires { length others.now ≡ length cells.old }
+    ensures { Joined others.now cells.old cells.new }
+{
+    for i in 0..others.len() {
+        cells[i] |= others[i];
+    }
+}
+
+fn join_row(row: &mut Vec<bool>, other: &[bool])
     requires { length other.now ≡ length row.old.items }
     ensures { Joined other.now row.old.items row.new.items }
 {
-    for i in 0..other.len() {
-        row[i] = row[i] || other[i];
-    }
+    join(row.as_mut_slice(), other);
 }
 
 // Sets in each row that has the number what is set in the other.
@@ -87,7 +94,7 @@ fn join_each(rows: &mut Vec<Vec<bool>>, number: usize, other: &[bool])
 {
     for i in 0..rows.len() {
         if at(rows.as_slice(), i, number) {
-            join(&mut rows[i], other);
+            join_row(&mut rows[i], other);
         }
     }
 }
@@ -101,7 +108,7 @@ fn join_through(alloc: Global, rows: &mut Vec<Vec<bool>>, number: usize) -> Resu
         (JoinedEach number (get_or (cells_of rows.old.items) number []) (cells_of rows.old.items)
         (cells_of rows.new.items)) }
 {
-    let other = copied(alloc, rows[number].as_slice())?;
+    let other = copy_of(alloc, rows[number].as_slice())?;
     join_each(rows, number, other.as_slice());
     Ok(())
 }
@@ -117,6 +124,7 @@ impl Table {
         Ok(Table { numbering, rows })
     }
 
+    /// The variables in the order of their numbers.
     pub fn variables(&self) -> &[VarId]
         ensures { result.now ≡ self.now.variables }
     {

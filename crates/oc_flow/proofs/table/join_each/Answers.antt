@@ -21,10 +21,10 @@ loop-i-preserved c =
     elim c.if-at.branch [
       | then-at w ↦
           let row = row_of now i w.index_mut.result.now w.index_mut.result.now h w.index_mut.ensures.value in
-          let e = ap (λ (v : Vec (Vec Bool Global) Global). cells_of v.items) w.rows-is ∙ row_set now i w.join.new.row in
+          let e = ap (λ (v : Vec (Vec Bool Global) Global). cells_of v.items) w.rows-is ∙ row_set now i w.join_row.new.row in
           rw add-one (subst (λ new. JoinedTo (suc i) m other old new) (sym e)
-          (joined_row i m other old (cells_of now) w.join.new.row.items (omega arith) (omega (arith, c.requires.number)) (omega (arith, c.requires.other)) c.loop-i.invariant (read ∙ w.if-at.true)
-          (subst (λ r. Joined other r w.join.new.row.items) row w.join.ensures)))
+          (joined_row i m other old (cells_of now) w.join_row.new.row.items (omega arith) (omega (arith, c.requires.number)) (omega (arith, c.requires.other)) c.loop-i.invariant (read ∙ w.if-at.true)
+          (subst (λ r. Joined other r w.join_row.new.row.items) row w.join_row.ensures)))
       | else-at w ↦
           rw add-one (subst (λ (v : Vec (Vec Bool Global) Global). JoinedTo (suc i) m other old (cells_of v.items)) (sym w.rows-is)
           (joined_not i m other old (cells_of now) c.loop-i.invariant (read ∙ w.if-at.false)))

@@ -2,7 +2,7 @@ use Rattle.std.proofs.Common.{ap, ◌∙◌, map, filter}
 use Rattle.std.specs.List.{list_any}
 use Rattle.oc_effects.specs.View.{effect_view}
 use Rattle.oc_flow.specs.Known.{table_flows, some_brings}
-use Rattle.oc_flow.proofs.inputs.received.Goals as goal
+use Rattle.oc_flow.proofs.inputs.which_receive.Goals as goal
 
 pub returns : goal.returns
 returns c =

@@ -13,3 +13,4 @@ pub mod SitesOnce
 pub mod RequiredLaw
 pub mod NeedLaw
 pub mod SiteTables
+pub mod Idle

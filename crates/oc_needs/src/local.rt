@@ -161,6 +161,9 @@ fn add_source(
         ≡ map source_view sources.old.items
         ++ source_list (source_of summaries.now.program function (effect_view effect.now))) }
 {
+    if !summaries.may_bring(effect.stmt) {
+        return Ok(());
+    }
     let brought = brought_by(alloc, summaries, effect.stmt, own)?;
     if brought.is_empty() {
         return Ok(());

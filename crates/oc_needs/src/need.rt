@@ -1,5 +1,5 @@
 //! Which variables of callers a policy needs.
-ghost use Rattle.std.specs.Prelude.{◌≡◌, ◌<◌, Some, ◌+◌, ◌++◌, true, false, [], map, filter, IfOk, OnOk};
+ghost use Rattle.std.specs.Prelude.{◌≡◌, ◌<◌, Some, ◌+◌, ◌++◌, true, false, [], map, filter, is_some, IfOk, OnOk};
 ghost use Rattle.std.specs.List.{list_any};
 ghost use Rattle.std.proofs.Math.ListN.{get_or};
 ghost use Rattle.oc_tree.specs.declared.tree.VarId.{VarId};
@@ -69,6 +69,9 @@ fn standing_for(
     ensures { IfOk result
         (λ v. v.items ≡ filter (stands_for (called_view call.now) row.now) variables.now) }
 {
+    if row.is_empty() {
+        return Ok(Vec::new(alloc));
+    }
     variables
         .iter()
         .copied()
@@ -106,6 +109,36 @@ pub fn needed_in_call(
     }
 }
 
+/// Whether a statement calls a function.
+pub fn calls(effect: &Effect) -> bool
+    ensures { result ≡ is_some (effect_view effect.now).call }
+{
+    match &effect.call {
+        Some(_call) => true,
+        None => false,
+    }
+}
+
+// Adds the variables that are needed at a statement.
+fn add_needed_in_call(
+    alloc: Global,
+    needing: &mut Vec<VarId>,
+    rows: &[Vec<VarId>],
+    variables: &[VarId],
+    effect: &Effect,
+) -> Result<(), AllocError>
+    ensures { OnOk result
+        (needing.new.items ≡ needing.old.items
+        ++ needed_in_call (rows_view rows.now) variables.now (effect_view effect.now).call) }
+{
+    if !calls(effect) {
+        return Ok(());
+    }
+    let needed = needed_in_call(alloc, rows, variables, effect)?;
+    needing.extend_from_slice(needed.as_slice())?;
+    Ok(())
+}
+
 // The variables that are needed at calls.
 fn add_needed_in_calls(
     alloc: Global,
@@ -119,8 +152,7 @@ fn add_needed_in_calls(
         ++ needed_in_calls (rows_view rows.now) variables.now (map effect_view effects.now)) }
 {
     for effect in effects {
-        let needed = needed_in_call(alloc, rows, variables, effect)?;
-        needing.extend_from_slice(needed.as_slice())?;
+        add_needed_in_call(alloc, needing, rows, variables, effect)?;
     }
     Ok(())
 }
@@ -139,7 +171,7 @@ pub fn needed_itself(alloc: Global, body: &Body, asked: &Asked) -> Result<Vec<Va
 }
 
 // The variables that need what flows into them.
-fn needing(
+fn ends_of(
     alloc: Global,
     body: &Body,
     asked: &Asked,
@@ -189,8 +221,11 @@ fn row(
         ≡ row_by body.now.summaries.now.program asked.now.policy (rows_view rows.now)
         body.now.function) }
 {
-    let ends = needing(alloc, body, asked, rows)?;
+    let ends = ends_of(alloc, body, asked, rows)?;
     let needing = ends.as_slice();
+    if needing.is_empty() {
+        return Ok(Vec::new(alloc));
+    }
     body.local
         .variables
         .iter()

@@ -15,7 +15,7 @@ use crate::asked::{Asked, spoken_of};
 use crate::lists::{add_list, with_inputs};
 use crate::local::{Body, Local, body_at, locals};
 use crate::looped::all_looped;
-use crate::need::{needed_in_call, needed_itself, needed_rows};
+use crate::need::{calls, needed_in_call, needed_itself, needed_rows};
 use crate::place::number_of;
 use crate::policy::policies;
 use crate::requirement::Requirement;
@@ -87,6 +87,28 @@ fn add_sites(lists: &mut Vec<Vec<StmtId>>, sites: Option<Vec<StmtId>>) -> Result
     }
 }
 
+// Adds the sites at a statement, if it is a call.
+fn add_call_sites(
+    alloc: Global,
+    lists: &mut Vec<Vec<StmtId>>,
+    body: &Body,
+    rows: &[Vec<VarId>],
+    effect: &Effect,
+) -> Result<(), AllocError>
+    requires { IsBody body.now }
+    ensures { OnOk result
+        (sites_view lists.new.items
+        ≡ added (call_list body.now.summaries.now.program body.now.function (rows_view rows.now)
+        (effect_view effect.now)) (sites_view lists.old.items)) }
+{
+    if !calls(effect) {
+        return Ok(());
+    }
+    let sites = call_sites(alloc, body, rows, effect)?;
+    add_sites(lists, sites)?;
+    Ok(())
+}
+
 // The sites at all calls of a function. It goes from the last to the first, as most calls then come
 // in front.
 fn call_lists(
@@ -106,8 +128,7 @@ fn call_lists(
     let count = effects.len();
     for behind in 0..count {
         let effect = &effects[count - 1 - behind];
-        let sites = call_sites(alloc, body, rows, effect)?;
-        add_sites(&mut lists, sites)?;
+        add_call_sites(alloc, &mut lists, body, rows, effect)?;
     }
     Ok(lists)
 }

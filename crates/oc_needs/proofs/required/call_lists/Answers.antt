@@ -2,7 +2,7 @@ use Rattle.std.proofs.Common.{◌≡◌, ◌-◌, ◌≤◌, ◌∙◌, ap, sym,
 use Rattle.std.proofs.lemmas.List.{drop_all}
 use Rattle.oc_effects.specs.View.{effect_view}
 use Rattle.oc_needs.specs.Requirements.{in_order}
-use Rattle.oc_needs.specs.Code.{added, call_lists}
+use Rattle.oc_needs.specs.Code.{call_lists}
 use Rattle.oc_needs.specs.CodeView.{rows_view, sites_view}
 use Rattle.oc_needs.proofs.RequiredLaw.{back_more}
 use Rattle.oc_needs.proofs.required.call_lists.Goals as goal
@@ -18,7 +18,7 @@ pub loop-behind-preserved : goal.loop-behind-preserved
 loop-behind-preserved c =
     back_more effect_view c.args.body.now.summaries.now.program c.args.body.now.function (rows_view c.args.rows.now) c.args.effects.now c.loop-behind.behind
     c.index-effects-count.result (sites_view c.loop-behind.lists.items) _ (omega arith) c.index-effects-count.is c.loop-behind.invariant
-    (c.in_ok-add_sites.ensures ∙ ap (λ ls. added ls (sites_view c.loop-behind.lists.items)) c.in_ok-sites.ensures)
+    c.in_ok-add_call_sites.ensures
 
 pub returns : goal.returns
 returns c =

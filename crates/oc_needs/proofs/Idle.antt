@@ -1,0 +1,44 @@
+-- Statements, calls and functions for which nothing is to be done.
+use Rattle.std.proofs.Common.{◌≡◌, refl, ap, ◌∙◌, ℕ, Bool, true, false, true≢false, List, [], ◌∷◌, cond, filter, Option, Some, None}
+use Rattle.std.specs.Prelude.{◌&&◌, is_some}
+use Rattle.oc_tree.specs.Tree.{TProgram}
+use Rattle.oc_tree.specs.declared.tree.VarId.{VarId}
+use Rattle.oc_effects.specs.Effects.{TCalled, TEffect, effects_at}
+use Rattle.oc_flow.specs.Variables.{variables, is_given}
+use Rattle.oc_flow.specs.Flow.{brings_at, may_bring_at}
+use Rattle.oc_flow.proofs.Nothing.{no_bringer}
+use Rattle.oc_needs.specs.Requirements.{with_inputs}
+use Rattle.oc_needs.specs.Code.{loops_by, source_of, source_list, sources, stands_for, needed_in_call, is_given_to, sites_for, call_list}
+use Rattle.oc_needs.proofs.SiteLists.{no_sites}
+
+none_kept : {A : Type 0} (t : A → Bool) (xs : List A) → ((x : A) → t x ≡ false) → filter t xs ≡ []
+none_kept t [] h = refl
+none_kept t (x ∷ xs) h = ap (λ b. cond b (x ∷ filter t xs) (filter t xs)) (h x) ∙ none_kept t xs h
+
+-- a statement that may bring no input is no source
+pub no_source : (p : TProgram) (f : ℕ) (a : TEffect) → may_bring_at p a.stmt ≡ false → source_list (source_of p f a) ≡ []
+no_source p f a h =
+    ap (λ vs. source_list (record { stmt = a.stmt; loops = loops_by p f a.around; brought = vs }))
+    (none_kept (brings_at p a.stmt) (variables p f) (λ v. no_bringer p a.stmt v h))
+
+-- where nothing is needed of a function, nothing is needed at its calls
+pub none_stand : (c : TCalled) (vs : List VarId) → filter (stands_for c []) vs ≡ []
+none_stand c vs = none_kept (stands_for c []) vs (λ v. refl)
+
+pub none_needed : (rows : List (List VarId)) (vs : List VarId) (o : Option TCalled) → is_some o ≡ false → needed_in_call rows vs o ≡ []
+none_needed rows vs None h = refl
+none_needed rows vs (Some c) h = absurd (true≢false h)
+
+-- nothing is needed of a function in which nothing needs anything
+pub none_given : (p : TProgram) (g : ℕ) (vs : List VarId) → filter (is_given_to p g []) vs ≡ []
+none_given p g vs = none_kept (is_given_to p g []) vs (λ v. nothing (is_given v))
+  where
+    nothing : (b : Bool) → b && false ≡ false
+    nothing true = refl
+    nothing false = refl
+
+-- a statement that calls nothing requires nothing
+pub none_listed : (p : TProgram) (g : ℕ) (rows : List (List VarId)) (a : TEffect) → is_some a.call ≡ false → call_list p g rows a ≡ []
+none_listed p g rows a h =
+    ap (λ vs. sites_for p g vs (a.stmt ∷ [])) (none_needed rows (variables p g) a.call h)
+    ∙ ap (λ ns. with_inputs ns (a.stmt ∷ [])) (no_sites p g (sources p g (effects_at p g)))

@@ -7,14 +7,14 @@ ghost use Rattle.oc_needs.specs.View.{requirement_view};
 
 mod reports;
 
-use oc_flow::flow::summaries;
+use oc_flow::summaries;
 use oc_io::Memory;
 use oc_io::sink::Sink;
 use oc_io::stream::StreamSink;
 use oc_items::item::Item;
 use oc_judge::judge::{Verdict, judge};
-use oc_needs::required::requirements;
 use oc_needs::requirement::Requirement;
+use oc_needs::requirements;
 use oc_region::infer;
 use oc_tree::checked::Checked;
 use oc_tree::marked::Marked;

@@ -8,11 +8,11 @@ mod blocks;
 mod sources;
 
 use blocks::statements;
-use oc_flow::flow::summaries;
+use oc_flow::summaries;
 use oc_io::Memory;
 use oc_io::sink::Sink;
 use oc_io::stream::StreamSink;
-use oc_needs::required::requirements;
+use oc_needs::requirements;
 use oc_regcheck::{BlockVerdict, check_blocks};
 use oc_tree::checked::Checked;
 use oc_tree::tree::StmtId;

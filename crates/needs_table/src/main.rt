@@ -6,12 +6,12 @@ ghost use Rattle.oc_lex.specs.Limits.{source_limit};
 
 mod sources;
 
-use oc_flow::flow::summaries;
+use oc_flow::summaries;
 use oc_io::Memory;
 use oc_io::sink::Sink;
 use oc_io::stream::StreamSink;
-use oc_needs::required::requirements;
 use oc_needs::requirement::Requirement;
+use oc_needs::requirements;
 use oc_tree::checked::Checked;
 use oc_worked::check_source;
 use sources::sources;

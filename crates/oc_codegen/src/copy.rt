@@ -2,7 +2,7 @@
 ghost use Rattle.std.specs.Prelude.{◌≡◌, map, IfOk};
 
 use oc_tree::said::Target;
-use oc_writes::writes::WriteSets;
+use oc_writes::WriteSets;
 use std::alloc::{AllocError, Global};
 
 /// What each region may overwrite.

@@ -25,7 +25,7 @@ use copy::copy_targets;
 use oc_io::Memory;
 use oc_isa::image::{Image, RawImage};
 use oc_tree::marked::Marked;
-use oc_writes::writes::WriteSets;
+use oc_writes::WriteSets;
 use program::raw_image;
 use std::alloc::{AllocError, Global};
 

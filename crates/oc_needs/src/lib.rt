@@ -9,6 +9,8 @@ mod looped;
 pub mod need;
 mod place;
 pub mod policy;
-pub mod required;
+mod required;
 pub mod requirement;
 pub mod sites;
+
+pub use required::requirements;

@@ -27,12 +27,12 @@ use oc_budget::laws::budgets_bound;
 use oc_codegen::compile;
 use oc_desugar::expand;
 use oc_effects::effects::Effects;
-use oc_flow::flow::summaries;
+use oc_flow::summaries;
 use oc_io::Memory;
 use oc_isa::image::Image;
 use oc_lex::{LexError, Token, lex};
-use oc_needs::required::requirements;
 use oc_needs::requirement::Requirement;
+use oc_needs::requirements;
 use oc_parse::{ParseError, parse};
 use oc_region::infer;
 use oc_tree::checked::Checked;
@@ -40,7 +40,7 @@ use oc_tree::marked::Marked;
 use oc_tree::tree::Program;
 use oc_tree::written::Written;
 use oc_types::{RuleError, check};
-use oc_writes::writes::may_write_by;
+use oc_writes::may_write_by;
 use std::alloc::Global;
 
 /// How many line feeds there are.

@@ -1,7 +1,6 @@
 -- What code holds of a program while it looks for targets.
-use Rattle.std.specs.Prelude.{ℕ, ◌+◌, Bool, ◌||◌, List, [], ◌∷◌, ◌++◌, map, filter, cond}
+use Rattle.std.specs.Prelude.{ℕ, ◌+◌, Bool, ◌||◌, List, [], ◌∷◌, ◌++◌, filter, cond}
 use Rattle.std.specs.List.{list_any}
-use Rattle.std.proofs.Common.{Bor}
 use Rattle.oc_tree.specs.Names.{Text}
 use Rattle.oc_tree.specs.Tree.{TProgram}
 use Rattle.oc_tree.specs.declared.tree.NvDecl.{NvDecl}
@@ -10,13 +9,8 @@ use Rattle.oc_tree.specs.declared.tree.VarId.TheVariants.{Nv, Param as AParam}
 use Rattle.oc_tree.specs.declared.said.Target.{Target}
 use Rattle.oc_tree.specs.declared.said.Target.TheVariants as targets
 use Rattle.oc_tree.specs.Marked.{TRegion, is_in_region}
-use Rattle.oc_effects.specs.declared.effect.Effect.{Effect}
 use Rattle.oc_effects.specs.Effects.{TEffect}
-use Rattle.oc_effects.specs.View.{effect_view}
 use Rattle.oc_writes.specs.Targets.{assigns, reaches, words_of}
-
-abbrev pub effects_seen : List (Bor Effect) → List TEffect
-effects_seen es = map (λ e. effect_view e.now) es
 
 -- a statement stands in a region, by its number and those around it
 abbrev pub stands_in : TProgram → TRegion → TEffect → Bool

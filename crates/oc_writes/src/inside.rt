@@ -3,7 +3,8 @@ ghost use Rattle.std.specs.Prelude.{◌≡◌, ◌<◌, length, IfOk};
 ghost use Rattle.oc_tree.specs.Regions.{region_view};
 ghost use Rattle.oc_effects.specs.View.{effect_view};
 ghost use Rattle.oc_writes.specs.Targets.{region_effects};
-ghost use Rattle.oc_writes.specs.Seen.{effects_seen, stands_in};
+ghost use Rattle.oc_flow.specs.Known.{effects_seen};
+ghost use Rattle.oc_writes.specs.Seen.{stands_in};
 
 use oc_effects::effect::Effect;
 use oc_effects::effects::Effects;

@@ -5,4 +5,6 @@ mod inside;
 mod numbers;
 mod stored;
 mod through;
-pub mod writes;
+mod writes;
+
+pub use writes::{WriteSets, may_write, may_write_by};

@@ -45,6 +45,7 @@ impl<'a> Model for Through<'a> {
 }
 
 impl<'a> Through<'a> {
+    /// What is assigned through the parameters of a program whose calls are these.
     pub fn new(
         alloc: Global,
         calls: &Calls,

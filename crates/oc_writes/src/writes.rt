@@ -8,7 +8,8 @@ ghost use Rattle.oc_tree.specs.Regions.{region_view};
 ghost use Rattle.oc_tree.specs.declared.tree.VarId.TheVariants.{Nv, Param as AParam};
 ghost use Rattle.oc_writes.specs.Targets.{assigns, may_write, region_targets, words_of};
 ghost use Rattle.oc_writes.specs.Kept.{OnlyTargets};
-ghost use Rattle.oc_writes.specs.Seen.{effects_seen, slot_targets, some_assigns, stored_from, stored_targets};
+ghost use Rattle.oc_flow.specs.Known.{effects_seen};
+ghost use Rattle.oc_writes.specs.Seen.{slot_targets, some_assigns, stored_from, stored_targets};
 
 use crate::inside::region_effects;
 use crate::numbers::behind;

@@ -4,7 +4,8 @@ use Rattle.oc_tree.specs.Regions.{region_view}
 use Rattle.oc_tree.specs.Checked.{TChecked, IsChecked}
 use Rattle.oc_effects.specs.View.{effect_view}
 use Rattle.oc_effects.specs.Effects.{effects_at}
-use Rattle.oc_writes.specs.Seen.{effects_seen, standing_in}
+use Rattle.oc_flow.specs.Known.{effects_seen}
+use Rattle.oc_writes.specs.Seen.{standing_in}
 use Rattle.oc_writes.proofs.Standing.{standing_is}
 use Rattle.oc_writes.proofs.inside.region_effects.Goals as goal
 

@@ -2,7 +2,8 @@ use Rattle.std.proofs.Common.{◌≡◌, ◌++◌, drop, map}
 use Rattle.oc_tree.specs.Regions.{region_view}
 use Rattle.oc_effects.specs.View.{effect_view}
 use Rattle.oc_effects.specs.Effects.{effects_at}
-use Rattle.oc_writes.specs.Seen.{effects_seen, standing_in}
+use Rattle.oc_flow.specs.Known.{effects_seen}
+use Rattle.oc_writes.specs.Seen.{standing_in}
 use Rattle.oc_writes.proofs.inside.region_effects.Given as goal
 
 abbrev pub invariant-loop-effect : goal.invariant-loop-effect

@@ -1,5 +1,6 @@
 use Rattle.std.proofs.Common.{◌≡◌, ◌++◌, drop}
-use Rattle.oc_writes.specs.Seen.{effects_seen, slot_targets}
+use Rattle.oc_flow.specs.Known.{effects_seen}
+use Rattle.oc_writes.specs.Seen.{slot_targets}
 use Rattle.oc_writes.proofs.writes.add_params.Given as goal
 
 abbrev pub invariant-loop-param : goal.invariant-loop-param

@@ -1,5 +1,6 @@
 use Rattle.std.proofs.Common.{◌≡◌, ◌++◌, drop}
-use Rattle.oc_writes.specs.Seen.{effects_seen, stored_targets}
+use Rattle.oc_flow.specs.Known.{effects_seen}
+use Rattle.oc_writes.specs.Seen.{stored_targets}
 use Rattle.oc_writes.proofs.writes.add_stored.Given as goal
 
 abbrev pub invariant-loop-stored : goal.invariant-loop-stored

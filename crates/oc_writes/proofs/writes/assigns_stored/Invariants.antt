@@ -1,5 +1,6 @@
 use Rattle.std.proofs.Common.{◌≡◌, drop}
-use Rattle.oc_writes.specs.Seen.{effects_seen, some_assigns}
+use Rattle.oc_flow.specs.Known.{effects_seen}
+use Rattle.oc_writes.specs.Seen.{some_assigns}
 use Rattle.oc_writes.proofs.writes.assigns_stored.Given as goal
 
 abbrev pub invariant-loop-effect : goal.invariant-loop-effect

@@ -5,7 +5,7 @@ use Rattle.oc_tree.specs.Regions.{region_view}
 use Rattle.oc_effects.specs.Effects.{params_at}
 use Rattle.oc_reach.proofs.PassLaws.{params_read}
 use Rattle.oc_writes.specs.Targets.{region_effects}
-use Rattle.oc_writes.specs.Seen.{effects_seen}
+use Rattle.oc_flow.specs.Known.{effects_seen}
 use Rattle.oc_writes.proofs.Same.{targets_made}
 use Rattle.oc_writes.proofs.writes.region_targets.Goals as goal
 

@@ -36,7 +36,7 @@ fn target_words(target: Target) -> u32
     }
 }
 
-// The words of a region's targets.
+/// The words of a region's targets.
 fn words_of(targets: &[Target]) -> u32
     requires { sum_by target_words targets.now ≤ 4294967295 }
     ensures { result ≡ sum_by target_words targets.now }
@@ -48,7 +48,7 @@ fn words_of(targets: &[Target]) -> u32
     words
 }
 
-// How many words each region logs at most.
+/// How many words each region logs at most.
 fn all_logged(alloc: Global, targets: &[Vec<Target>]) -> Result<Vec<u32>, AllocError>
     requires { All (λ v. sum_by target_words v.items ≤ 4294967295) targets.now }
     ensures { IfOk result (λ l. l.items ≡ map (λ v. sum_by target_words v.items) targets.now) }
@@ -60,7 +60,7 @@ fn all_logged(alloc: Global, targets: &[Vec<Target>]) -> Result<Vec<u32>, AllocE
     Ok(logged)
 }
 
-// The budget of a region that logs so many words.
+/// The budget of a region that logs so many words.
 #[tactic(auto, using(crate::proofs::SpentLaws::budget_is))]
 fn region_budget(known: &Known, callees: &[u64], region: &Region, words: u32) -> Option<u64>
     requires callees { callees.now ≡ costs known.now }
@@ -70,7 +70,7 @@ fn region_budget(known: &Known, callees: &[u64], region: &Region, words: u32) ->
     plus(region_spent(known, callees, region)?, 1 + words as u64)
 }
 
-// The budgets of all regions.
+/// The budgets of all regions.
 fn all_budgets(
     alloc: Global,
     known: &Known,
@@ -102,7 +102,7 @@ fn greatest(budgets: &[u64]) -> u64
     most
 }
 
-// The steps of a period that suffice, with so many words of stack.
+/// The steps of a period that suffice, with so many words of stack.
 fn safe_for(stack: u32, budgets: &[u64]) -> Option<u64>
     ensures { IsFitted result (safe_for stack budgets.now) }
 {

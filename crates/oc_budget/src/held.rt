@@ -16,7 +16,7 @@ use crate::walk::{inner_cost, probes};
 use oc_tree::marked::Region;
 use oc_tree::tree::{Block, Expr, StmtId, StmtKind};
 
-// The value that a `return` returns.
+/// The value that a `return` returns.
 fn returned(kind: &StmtKind) -> Option<&Expr>
     ensures { expr_seen result ≡ returned (kind_view kind.now) }
 {
@@ -26,7 +26,7 @@ fn returned(kind: &StmtKind) -> Option<&Expr>
     }
 }
 
-// The cost of a statement of a region.
+/// The cost of a statement of a region.
 fn held_cost(known: &Known, callees: &[u64], s: StmtId, kind: &StmtKind) -> Option<u64>
     requires { callees.now ≡ costs known.now }
     ensures { IsFitted result
@@ -39,7 +39,7 @@ fn held_cost(known: &Known, callees: &[u64], s: StmtId, kind: &StmtKind) -> Opti
     }
 }
 
-// Its cost, if it stands directly in the region.
+/// Its cost, if it stands directly in the region.
 fn own_cost(
     known: &Known,
     callees: &[u64],

@@ -63,7 +63,7 @@ impl<'a> Model for Known<'a> {
         ≡ list_any (λ r. nat_eq r.last n) k.marked.now.regions) };
 }
 
-// The table of the statements with which regions begin.
+/// The table of the statements with which regions begin.
 fn begin_table(alloc: Global, regions: &[Region]) -> Result<Vec<bool>, AllocError>
     ensures { IfOk result (λ t. (n : ℕ)
         → get_or t.items n false ≡ list_any (λ r. nat_eq r.first n) (map region_view regions.now)) }
@@ -75,7 +75,7 @@ fn begin_table(alloc: Global, regions: &[Region]) -> Result<Vec<bool>, AllocErro
     Ok(table)
 }
 
-// The table of the statements with which regions end.
+/// The table of the statements with which regions end.
 fn end_table(alloc: Global, regions: &[Region]) -> Result<Vec<bool>, AllocError>
     ensures { IfOk result (λ t. (n : ℕ)
         → get_or t.items n false ≡ list_any (λ r. nat_eq r.last n) (map region_view regions.now)) }

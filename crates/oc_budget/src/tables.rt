@@ -17,7 +17,7 @@ pub fn has(table: &[bool], s: StmtId) -> bool
     }
 }
 
-// Makes a table longer, so that it has this place.
+/// Makes a table longer, so that it has this place.
 fn reach(table: &mut Vec<bool>, place: usize) -> Result<(), AllocError>
     ensures long { OnOk result (place < length table.new.items) }
     ensures same { OnOk result

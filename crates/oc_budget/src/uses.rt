@@ -14,7 +14,7 @@ use oc_flow::numbering::is_among;
 use oc_tree::tree::VarId;
 use std::alloc::{AllocError, Global};
 
-// The variables that are annotated `Fresh` among these statements.
+/// The variables that are annotated `Fresh` among these statements.
 fn fresh_variables(alloc: Global, effects: &[Effect]) -> Result<Vec<VarId>, AllocError>
     ensures { IfOk result (λ f. (v : VarId)
         → list_any (same_variable v) f.items
@@ -40,7 +40,7 @@ fn names_fresh(fresh: &[VarId], named: &[VarId]) -> bool
     false
 }
 
-// Marks those of these statements that name one of these variables.
+/// Marks those of these statements that name one of these variables.
 fn mark_named(fresh: &[VarId], effects: &[Effect], uses: &mut Vec<bool>) -> Result<(), AllocError>
     ensures { OnOk result ((s : ℕ)
         → get_or uses.new.items s false
@@ -55,7 +55,7 @@ fn mark_named(fresh: &[VarId], effects: &[Effect], uses: &mut Vec<bool>) -> Resu
     Ok(())
 }
 
-// Marks those of a function's statements that use a fresh variable.
+/// Marks those of a function's statements that use a fresh variable.
 fn mark_uses(alloc: Global, effects: &[Effect], uses: &mut Vec<bool>) -> Result<(), AllocError>
     ensures { OnOk result ((s : ℕ)
         → get_or uses.new.items s false

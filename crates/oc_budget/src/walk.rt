@@ -47,7 +47,7 @@ fn turns(from: i32, to: i32) -> u32
     if turns < 0 { 0 } else { turns as u32 }
 }
 
-// One step where there is one.
+/// One step where there is one.
 fn one(is: bool) -> u64
     ensures { result ≡ one is }
 {
@@ -81,7 +81,7 @@ pub fn block_cost(known: &Known, costs: &[u64], block: &Block) -> Option<u64>
     Some(cost)
 }
 
-// Both branches of an `if`, the first of which has the cost `then`.
+/// Both branches of an `if`, the first of which has the cost `then`.
 #[cycle(cost)]
 fn else_cost(known: &Known, costs: &[u64], then: u64, otherwise: &Option<Block>) -> Option<u64>
     ensures { IsFitted result

@@ -95,7 +95,7 @@ fn word_of(value: bool) -> i32
     if value { 1 } else { 0 }
 }
 
-// The end of `&&`: its left side has left the test that is still open, and its right side stands.
+/// The end of `&&`: its left side has left the test that is still open, and its right side stands.
 fn close_and(code: &mut Buffer, n: u32, test: u32) -> Result<(), AllocError>
     requires test { test < length code.old }
     requires room { length code.old < 2147483646 }
@@ -109,7 +109,7 @@ fn close_and(code: &mut Buffer, n: u32, test: u32) -> Result<(), AllocError>
     code.put(n, Instr::Push { c: 0 })
 }
 
-// What stands between the sides of `||`, and the address of its jump, which is still open.
+/// What stands between the sides of `||`, and the address of its jump, which is still open.
 fn open_or(code: &mut Buffer, n: u32) -> Result<u32, AllocError>
     requires { length code.old < 2147483645 }
     ensures code { OnOk result
@@ -178,7 +178,7 @@ pub fn expr(code: &mut Buffer, scope: &Scope, n: u32, expression: &Expr) -> Resu
     }
 }
 
-// The slot of the reference that an argument passes on, which is just its name.
+/// The slot of the reference that an argument passes on, which is just its name.
 fn passed_slot(scope: &Scope, expression: &Expr) -> Option<u32>
     ensures { result ≡ passed_slot scope.now (expr_view expression.now) }
 {
@@ -193,7 +193,7 @@ fn passed_slot(scope: &Scope, expression: &Expr) -> Option<u32>
     }
 }
 
-// The code of an argument.
+/// The code of an argument.
 fn arg(code: &mut Buffer, scope: &Scope, n: u32, arg: &Arg) -> Result<(), AllocError>
     requires { HasRoom code.old (arg_code n scope.now (length code.old) (arg_view arg.now)) }
     ensures { OnOk result

@@ -29,7 +29,7 @@ use oc_weight::cost::known_of;
 use oc_weight::stacks::stacks;
 use std::alloc::{AllocError, Global};
 
-// The nonvolatile variables, from a word on. The first one is the newest.
+/// The nonvolatile variables, from a word on. The first one is the newest.
 fn declare_nvs<'a>(
     scope: &mut Scope<'a>,
     word: u32,
@@ -126,7 +126,7 @@ fn close(code: &mut Buffer, function: &Function, params: u32) -> Result<(), Allo
     code.put(0, Instr::Ret { k: params })
 }
 
-// The code of a function, behind which all variables but the nonvolatile ones are gone again.
+/// The code of a function, behind which all variables but the nonvolatile ones are gone again.
 fn function<'a>(
     alloc: Global,
     code: &mut Buffer,
@@ -191,7 +191,7 @@ fn image_nvs(alloc: Global, nv: &[NvDecl]) -> Result<Vec<ImageNv>, AllocError>
     Ok(image)
 }
 
-// The stack of `main`, of the functions of an expansion.
+/// The stack of `main`, of the functions of an expansion.
 fn main_stack(alloc: Global, functions: &[Function]) -> Result<u32, AllocError>
     requires { known_of (stacks_to (map function_view functions.now) (length functions.now))
         (function_place (map function_view functions.now) (codes "main")) ≤ 65536 }

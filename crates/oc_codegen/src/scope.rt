@@ -84,7 +84,7 @@ impl<'a> Scope<'a> {
         self.bindings.truncate(len);
     }
 
-    // The newest variable of a name.
+    /// The newest variable of a name.
     fn find(&self, name: &Name) -> Option<Variable>
         ensures slot { (found_view name.now result).slot ≡ slot_of self.now name.now }
         ensures words { (found_view name.now result).words ≡ words_of self.now name.now }

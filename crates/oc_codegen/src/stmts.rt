@@ -26,8 +26,8 @@ use oc_tree::name::Name;
 use oc_tree::tree::{Block, Expr, Stmt, StmtKind};
 use std::alloc::AllocError;
 
-// The end of the first branch of an `if` whose test is still open, where a second one follows. It
-// answers the address of the jump over that, which is still open.
+/// The end of the first branch of an `if` whose test is still open, where a second one follows. It
+/// answers the address of the jump over that, which is still open.
 fn close_then(code: &mut Buffer, n: u32, test: u32) -> Result<u32, AllocError>
     requires test { test < length code.old }
     requires room { length code.old < 2147483647 }
@@ -83,7 +83,7 @@ fn for_in<'a>(
     Ok(next)
 }
 
-// A statement's own code. It answers the slot behind those of its variables and counters.
+/// A statement's own code. It answers the slot behind those of its variables and counters.
 #[cycle(stmts)]
 fn kind<'a>(
     code: &mut Buffer,
@@ -200,7 +200,7 @@ fn kind<'a>(
     }
 }
 
-// A statement with its marks and probes, before these statements of its block.
+/// A statement with its marks and probes, before these statements of its block.
 #[cycle(stmts)]
 fn statement<'a>(
     code: &mut Buffer,

@@ -49,7 +49,7 @@ fn add_declared(variables: &mut Vec<VarId>, effects: &[Effect]) -> Result<(), Al
     Ok(())
 }
 
-// How many variables there are that a function doesn't declare, besides its result.
+/// How many variables there are that a function doesn't declare, besides its result.
 #[derive(Clone, Copy)]
 struct Outer {
     nonvolatile: u32,
@@ -153,7 +153,7 @@ fn is_known_at(known: &[Option<Known>], f: usize) -> bool
     }
 }
 
-// Gets to know a function, if its callees are known.
+/// Gets to know a function, if its callees are known.
 fn learn(
     alloc: Global,
     effects: &Effects,
@@ -174,7 +174,7 @@ fn learn(
     Ok(())
 }
 
-// Gets to know the functions of one more rank.
+/// Gets to know the functions of one more rank.
 fn learn_more(
     alloc: Global,
     effects: &Effects,

@@ -13,7 +13,7 @@ use oc_effects::effect::{Called, Effect};
 use oc_tree::tree::VarId;
 use std::alloc::{AllocError, Global};
 
-// By the input that a callee's variable receives.
+/// By the input that a callee's variable receives.
 fn brings_through(callee: &Known, effect: &Effect, call: &Called, y: VarId, v: VarId) -> bool
     ensures { result ≡ ends (effect_view effect.now) (called_view call.now) y v &&
         known_receives callee.now y }
@@ -67,7 +67,7 @@ pub fn may_bring(effect: &Effect) -> bool
     }
 }
 
-// The statements that may bring input.
+/// The statements that may bring input.
 fn bringers<'e>(alloc: Global, effects: &'e [Effect]) -> Result<Vec<&'e Effect>, AllocError>
     ensures { IfOk result
         (λ r. effects_seen r.items ≡ bringers (map effect_view effects.now)) }
@@ -92,7 +92,7 @@ fn some_brings(known: &[Option<Known>], effects: &[&Effect], v: VarId) -> bool
     false
 }
 
-// The variables into which some of these statements bring input.
+/// The variables into which some of these statements bring input.
 fn variables_from(
     alloc: Global,
     known: &[Option<Known>],
@@ -111,7 +111,7 @@ fn variables_from(
     Ok(brought)
 }
 
-// The variables into which some statement brings input.
+/// The variables into which some statement brings input.
 fn input_variables(
     alloc: Global,
     known: &[Option<Known>],
@@ -138,7 +138,7 @@ fn some_flows(table: &Table, from: &[VarId], v: VarId) -> bool
     false
 }
 
-// Which variables receive what flows from these.
+/// Which variables receive what flows from these.
 fn received_from(
     alloc: Global,
     table: &Table,

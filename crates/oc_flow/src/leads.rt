@@ -12,7 +12,7 @@ use crate::table::Table;
 use oc_effects::effect::{Called, Effect};
 use oc_tree::tree::VarId;
 
-// Lets all these variables lead to one.
+/// Lets all these variables lead to one.
 fn link_all(table: &mut Table, from: &[VarId], t: VarId)
     ensures { Adds (λ a b. is_among a from.now && same_variable b t) table.old table.new }
 {
@@ -30,7 +30,7 @@ fn link_named(table: &mut Table, call: &Called, i: u32, t: VarId)
     }
 }
 
-// Lets the variables that stand for a callee's variable lead to one.
+/// Lets the variables that stand for a callee's variable lead to one.
 fn link_begins(table: &mut Table, call: &Called, x: VarId, t: VarId)
     ensures { Adds (λ a b. begins (called_view call.now) x a && same_variable b t) table.old
         table.new }
@@ -50,14 +50,14 @@ fn value_leads(table: &mut Table, effect: &Effect)
     }
 }
 
-// Two variables of a callee.
+/// Two variables of a callee.
 #[derive(Clone, Copy)]
 struct Flow {
     from: VarId,
     to: VarId,
 }
 
-// By a callee's variables, where one flows into the other.
+/// By a callee's variables, where one flows into the other.
 fn leads_along(table: &mut Table, callee: &Known, effect: &Effect, call: &Called, flow: Flow)
     ensures { Adds (λ a b. begins (called_view call.now) flow.from a &&
         (table_flows callee.now.table flow.from flow.to && ends (effect_view effect.now)
@@ -70,7 +70,7 @@ fn leads_along(table: &mut Table, callee: &Known, effect: &Effect, call: &Called
     }
 }
 
-// By the flows of a callee's variable.
+/// By the flows of a callee's variable.
 fn leads_from(table: &mut Table, callee: &Known, effect: &Effect, call: &Called, x: VarId)
     ensures { Adds (leads_from callee.now (effect_view effect.now) (called_view call.now) x)
         table.old table.new }

@@ -21,7 +21,7 @@ pub fn is_among(v: VarId, variables: &[VarId]) -> bool
     variables.iter().any(|w| is_same(v, *w))
 }
 
-// Different variables have different slots.
+/// Different variables have different slots.
 fn slot(v: VarId) -> usize
     ensures { result ≡ slot v }
 {
@@ -33,7 +33,7 @@ fn slot(v: VarId) -> usize
     }
 }
 
-// A number as a `u32`; a list that is too long for that counts as one that there is no memory for.
+/// A number as a `u32`; a list that is too long for that counts as one that there is no memory for.
 fn short(number: usize) -> Result<u32, AllocError>
     ensures { IfOk result (λ n. n ≡ number) }
 {
@@ -43,7 +43,7 @@ fn short(number: usize) -> Result<u32, AllocError>
     }
 }
 
-// Makes room for a slot.
+/// Makes room for a slot.
 #[tactic(auto, using(crate::proofs::Numbers::entry_more))]
 fn reach(places: &mut Vec<Option<u32>>, slot: usize) -> Result<(), AllocError>
     ensures room { OnOk result (slot < length places.new.items) }
@@ -59,7 +59,7 @@ fn reach(places: &mut Vec<Option<u32>>, slot: usize) -> Result<(), AllocError>
     Ok(())
 }
 
-// The number at each slot, where there is one.
+/// The number at each slot, where there is one.
 #[derive(Drop)]
 struct Numbers {
     places: Vec<Option<u32>>,
@@ -102,7 +102,7 @@ impl Numbers {
         Ok(())
     }
 
-    // Adds a slot, unless it is there.
+    /// Adds a slot, unless it is there.
     fn add_first(&mut self, slot: usize, number: usize) -> Result<(), AllocError>
         ensures { OnOk result ((x : ℕ) (rest : Option ℕ)
             → or_else (entry_of self.new x) rest

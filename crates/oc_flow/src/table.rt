@@ -29,7 +29,7 @@ impl Model for Table {
     ghost invariant = { λ t. IsSquare (length t.numbering) (cells_of t.rows.items) };
 }
 
-// So many rows and columns, of which none is set.
+/// So many rows and columns, of which none is set.
 fn no_rows(alloc: Global, count: usize) -> Result<Vec<Vec<bool>>, AllocError>
     ensures { IfOk result (λ r. cells_of r.items ≡ replicate count (replicate count false)) }
 {
@@ -66,7 +66,7 @@ fn set(rows: &mut Vec<Vec<bool>>, i: usize, j: usize)
     rows[i][j] = true;
 }
 
-// Sets in cells what is set in the others. With no branch, so that many are set at once.
+/// Sets in cells what is set in the others. With no branch, so that many are set at once.
 fn join(cells: &mut [bool], others: &[bool])
     requires { length others.now ≡ length cells.old }
     ensures { Joined others.now cells.old cells.new }
@@ -83,7 +83,7 @@ fn join_row(row: &mut Vec<bool>, other: &[bool])
     join(row.as_mut_slice(), other);
 }
 
-// Sets in each row that has the number what is set in the other.
+/// Sets in each row that has the number what is set in the other.
 fn join_each(rows: &mut Vec<Vec<bool>>, number: usize, other: &[bool])
     requires square { IsSquare (length rows.old.items) (cells_of rows.old.items) }
     requires number { number < length rows.old.items }
@@ -99,7 +99,7 @@ fn join_each(rows: &mut Vec<Vec<bool>>, number: usize, other: &[bool])
     }
 }
 
-// Sets in each row that has the number what is set in the row of that number.
+/// Sets in each row that has the number what is set in the row of that number.
 fn join_through(alloc: Global, rows: &mut Vec<Vec<bool>>, number: usize) -> Result<(), AllocError>
     requires square { IsSquare (length rows.old.items) (cells_of rows.old.items) }
     requires number { number < length rows.old.items }
@@ -174,7 +174,7 @@ impl Table {
         }
     }
 
-    // Lets variables lead on through this one, which is in the table.
+    /// Lets variables lead on through this one, which is in the table.
     fn through(&mut self, alloc: Global, w: VarId) -> Result<(), AllocError>
         requires { is_among w self.now.variables ≡ true }
         ensures variables { self.new.variables ≡ self.old.variables }

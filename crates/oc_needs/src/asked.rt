@@ -33,7 +33,7 @@ fn variable_of(note: Note) -> VarId
     }
 }
 
-// Whether a statement is an annotation of a policy.
+/// Whether a statement is an annotation of a policy.
 fn is_note_of(kind: PolicyKind, effect: &Effect) -> bool
     ensures { result ≡ is_note_of kind (effect_view effect.now).note }
 {
@@ -43,8 +43,8 @@ fn is_note_of(kind: PolicyKind, effect: &Effect) -> bool
     }
 }
 
-// Whether a statement must be held together with the inputs: one that names a fresh variable, or an
-// annotation of a consistent set.
+/// Whether a statement must be held together with the inputs: one that names a fresh variable, or an
+/// annotation of a consistent set.
 fn is_held(kind: PolicyKind, effect: &Effect) -> bool
     ensures { result ≡ is_held kind (effect_view effect.now) }
 {
@@ -84,7 +84,7 @@ fn held_by(alloc: Global, kind: PolicyKind, effects: &[Effect]) -> Result<Vec<St
     Ok(held)
 }
 
-// The effects of a function; none where there is no such function.
+/// The effects of a function; none where there is no such function.
 fn effects_of<'e>(effects: &'e Effects, function: usize) -> &'e [Effect]
     ensures { map effect_view result.now ≡ effects_at effects.now.program function }
 {

@@ -41,7 +41,7 @@ pub struct Body<'s, 'a, 'l> {
     pub looped: &'l [Vec<StmtId>],
 }
 
-// Whether the statement of a number is a loop.
+/// Whether the statement of a number is a loop.
 fn is_loop(effects: &Effects, function: usize, s: StmtId) -> bool
     requires { function < length effects.now.program.functions }
     ensures { result ≡ is_loop_by effects.now.program function s }
@@ -52,7 +52,7 @@ fn is_loop(effects: &Effects, function: usize, s: StmtId) -> bool
     }
 }
 
-// The loops among the statements around a statement, the outermost first.
+/// The loops among the statements around a statement, the outermost first.
 fn loops_of(
     alloc: Global,
     effects: &Effects,
@@ -70,7 +70,7 @@ fn loops_of(
         .collect(alloc)
 }
 
-// The variables into which a statement brings input.
+/// The variables into which a statement brings input.
 fn brought_by(
     alloc: Global,
     summaries: &Summaries,
@@ -132,7 +132,7 @@ fn add_declared(variables: &mut Vec<VarId>, effects: &[Effect]) -> Result<(), Al
     Ok(())
 }
 
-// The variables of the function at a place.
+/// The variables of the function at a place.
 fn variables_of(alloc: Global, effects: &Effects, function: usize) -> Result<Vec<VarId>, AllocError>
     requires { function < length effects.now.program.functions }
     ensures { IfOk result (λ v. v.items ≡ variables effects.now.program function) }
@@ -145,7 +145,7 @@ fn variables_of(alloc: Global, effects: &Effects, function: usize) -> Result<Vec
     Ok(variables)
 }
 
-// Adds a statement, if it brings input into any variable.
+/// Adds a statement, if it brings input into any variable.
 fn add_source(
     alloc: Global,
     sources: &mut Vec<Source>,
@@ -219,7 +219,7 @@ pub fn locals(alloc: Global, summaries: &Summaries) -> Result<Vec<Local>, AllocE
     Ok(locals)
 }
 
-// The sites that are known of a function; none where it isn't there.
+/// The sites that are known of a function; none where it isn't there.
 fn table_at<'l>(tables: &'l [Vec<Vec<StmtId>>], function: usize) -> &'l [Vec<StmtId>]
     ensures { sites_view result.now ≡ get_or (tables_view tables.now) function [] }
 {

@@ -10,7 +10,7 @@ use oc_flow::summary::Summaries;
 use oc_tree::tree::StmtId;
 use std::alloc::{AllocError, Global};
 
-// Those of a function.
+/// Those of a function.
 fn looped_in(alloc: Global, body: &Body) -> Result<Vec<Vec<StmtId>>, AllocError>
     requires { IsBody body.now }
     ensures { IfOk result

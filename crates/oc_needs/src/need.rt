@@ -31,7 +31,7 @@ fn is_given(v: VarId) -> bool
     }
 }
 
-// Whether an argument, by its place, names a variable.
+/// Whether an argument, by its place, names a variable.
 fn is_passed(call: &Called, place: usize, u: VarId) -> bool
     ensures { result ≡ is_among u (arg_at (called_view call.now) place).named }
 {
@@ -41,7 +41,7 @@ fn is_passed(call: &Called, place: usize, u: VarId) -> bool
     }
 }
 
-// Whether the caller's variable `u` stands for the called function's variable `x`.
+/// Whether the caller's variable `u` stands for the called function's variable `x`.
 fn begins(call: &Called, x: VarId, u: VarId) -> bool
     ensures { result ≡ begins (called_view call.now) x u }
 {
@@ -52,14 +52,14 @@ fn begins(call: &Called, x: VarId, u: VarId) -> bool
     }
 }
 
-// Whether a variable stands for one of these in the function that is called.
+/// Whether a variable stands for one of these in the function that is called.
 fn stands_for(call: &Called, row: &[VarId], y: VarId) -> bool
     ensures { result ≡ stands_for (called_view call.now) row.now y }
 {
     row.iter().any(|x| begins(call, *x, y))
 }
 
-// The variables that stand for one of these in the function that is called.
+/// The variables that stand for one of these in the function that is called.
 fn standing_for(
     alloc: Global,
     call: &Called,
@@ -79,7 +79,7 @@ fn standing_for(
         .collect(alloc)
 }
 
-// The row of a function, which is empty where there is no such function.
+/// The row of a function, which is empty where there is no such function.
 fn row_at<'r>(rows: &'r [Vec<VarId>], function: usize) -> &'r [VarId]
     ensures { result.now ≡ get_or (rows_view rows.now) function [] }
 {
@@ -119,7 +119,7 @@ pub fn calls(effect: &Effect) -> bool
     }
 }
 
-// Adds the variables that are needed at a statement.
+/// Adds the variables that are needed at a statement.
 fn add_needed_in_call(
     alloc: Global,
     needing: &mut Vec<VarId>,
@@ -139,7 +139,7 @@ fn add_needed_in_call(
     Ok(())
 }
 
-// The variables that are needed at calls.
+/// The variables that are needed at calls.
 fn add_needed_in_calls(
     alloc: Global,
     needing: &mut Vec<VarId>,
@@ -170,7 +170,7 @@ pub fn needed_itself(alloc: Global, body: &Body, asked: &Asked) -> Result<Vec<Va
     Ok(Vec::new(alloc))
 }
 
-// The variables that need what flows into them.
+/// The variables that need what flows into them.
 fn ends_of(
     alloc: Global,
     body: &Body,
@@ -199,15 +199,15 @@ fn flows_to_any(body: &Body, w: VarId, needing: &[VarId]) -> bool
     needing.iter().any(|y| flows(body, w, *y))
 }
 
-// Whether a variable that is given flows into one of these.
+/// Whether a variable that is given flows into one of these.
 fn is_given_to(body: &Body, needing: &[VarId], w: VarId) -> bool
     ensures { result ≡ is_given_to body.now.summaries.now.program body.now.function needing.now w }
 {
     is_given(w) && flows_to_any(body, w, needing)
 }
 
-// The variables of a function that are needed, where those of all functions at the depth before
-// are known.
+/// The variables of a function that are needed, where those of all functions at the depth before
+/// are known.
 fn row(
     alloc: Global,
     body: &Body,
@@ -234,7 +234,7 @@ fn row(
         .collect(alloc)
 }
 
-// Whether a call is of a function whose row may have changed.
+/// Whether a call is of a function whose row may have changed.
 fn is_changed(changed: &[bool], call: &Called) -> bool
     ensures { result ≡ is_changed changed.now (Some (called_view call.now)) }
 {
@@ -264,7 +264,7 @@ fn any_changed(changed: &[bool], effects: &[Effect]) -> bool
     false
 }
 
-// Whether the row of a function is to be made anew.
+/// Whether the row of a function is to be made anew.
 fn is_stale(body: &Body, policy: Policy, changed: &[bool]) -> bool
     requires { IsBody body.now }
     ensures { result
@@ -276,7 +276,7 @@ fn is_stale(body: &Body, policy: Policy, changed: &[bool]) -> bool
     body.function == policy.function || any_changed(changed, statements)
 }
 
-// Whether two rows are the same.
+/// Whether two rows are the same.
 fn is_same_row(left: &[VarId], right: &[VarId]) -> bool
     ensures { result ≡ same_row left.now right.now }
 {
@@ -291,15 +291,15 @@ fn is_same_row(left: &[VarId], right: &[VarId]) -> bool
     left.len() >= right.len()
 }
 
-// What is needed of all functions at a depth of calls, and whose rows may differ from those of the
-// depth before.
+/// What is needed of all functions at a depth of calls, and whose rows may differ from those of the
+/// depth before.
 #[derive(Drop)]
 struct Level {
     rows: Vec<Vec<VarId>>,
     changed: Vec<bool>,
 }
 
-// The row of a function made anew, and whether it differs.
+/// The row of a function made anew, and whether it differs.
 fn made_row(
     alloc: Global,
     body: &Body,
@@ -335,7 +335,7 @@ fn kept_row(
     Ok((kept, false))
 }
 
-// The row of a function at the next depth, and whether it differs.
+/// The row of a function at the next depth, and whether it differs.
 fn next_row(
     alloc: Global,
     body: &Body,
@@ -364,7 +364,7 @@ fn next_row(
     Ok((row, differs))
 }
 
-// What nothing is needed of yet.
+/// What nothing is needed of yet.
 fn start(alloc: Global, count: usize) -> Result<Level, AllocError>
     ensures { IfOk result (λ l. level_view l ≡ start_level count) }
 {
@@ -376,7 +376,7 @@ fn start(alloc: Global, count: usize) -> Result<Level, AllocError>
     Ok(Level { rows, changed })
 }
 
-// The next depth.
+/// The next depth.
 fn next_level(
     alloc: Global,
     summaries: &Summaries,
@@ -401,7 +401,7 @@ fn next_level(
     Ok(Level { rows, changed })
 }
 
-// Whether any of these is so.
+/// Whether any of these is so.
 fn any_of(answers: &[bool]) -> bool
     ensures { result ≡ list_any (λ b. b) answers.now }
 {

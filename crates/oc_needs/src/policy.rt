@@ -46,7 +46,7 @@ fn is_seen(policy: Policy, seen: &[Policy]) -> bool
     seen.iter().any(|other| is_same_policy(policy, *other))
 }
 
-// One more policy, unless it was seen.
+/// One more policy, unless it was seen.
 fn add(seen: &mut Vec<Policy>, policy: Policy) -> Result<(), AllocError>
     ensures { OnOk result (seen.new.items ≡ each_once seen.old.items (policy ∷ [])) }
 {
@@ -57,7 +57,7 @@ fn add(seen: &mut Vec<Policy>, policy: Policy) -> Result<(), AllocError>
     Ok(())
 }
 
-// The policies of the annotations in a function.
+/// The policies of the annotations in a function.
 fn add_all(seen: &mut Vec<Policy>, function: u32, effects: &[Effect]) -> Result<(), AllocError>
     ensures { OnOk result
         (seen.new.items ≡ each_once seen.old.items
@@ -72,7 +72,7 @@ fn add_all(seen: &mut Vec<Policy>, function: u32, effects: &[Effect]) -> Result<
     Ok(())
 }
 
-// The policies of the annotations in the function at a place.
+/// The policies of the annotations in the function at a place.
 fn add_function(
     seen: &mut Vec<Policy>,
     effects: &Effects,

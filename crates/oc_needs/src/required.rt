@@ -28,7 +28,7 @@ use oc_tree::marked::Policy;
 use oc_tree::tree::{StmtId, VarId};
 use std::alloc::{AllocError, Global};
 
-// The sites that needed variables require together with other statements.
+/// The sites that needed variables require together with other statements.
 fn sites_for(
     alloc: Global,
     body: &Body,
@@ -44,7 +44,7 @@ fn sites_for(
     with_inputs(alloc, inputs, others)
 }
 
-// The sites of a policy in its own function; none in another one.
+/// The sites of a policy in its own function; none in another one.
 fn own_sites(alloc: Global, body: &Body, asked: &Asked) -> Result<Option<Vec<StmtId>>, AllocError>
     requires body { IsBody body.now }
     requires asked { IsAsked body.now.summaries.now.program asked.now }
@@ -56,7 +56,7 @@ fn own_sites(alloc: Global, body: &Body, asked: &Asked) -> Result<Option<Vec<Stm
     sites_for(alloc, body, needed.as_slice(), asked.held.as_slice())
 }
 
-// The sites at a call.
+/// The sites at a call.
 fn call_sites(
     alloc: Global,
     body: &Body,
@@ -75,7 +75,7 @@ fn call_sites(
     sites_for(alloc, body, needed.as_slice(), &call)
 }
 
-// Adds sites to lists in order, if there are any.
+/// Adds sites to lists in order, if there are any.
 fn add_sites(lists: &mut Vec<Vec<StmtId>>, sites: Option<Vec<StmtId>>) -> Result<(), AllocError>
     ensures { OnOk result
         (sites_view lists.new.items ≡ added (option_to_list (option_map (λ v. v.items) sites))
@@ -87,7 +87,7 @@ fn add_sites(lists: &mut Vec<Vec<StmtId>>, sites: Option<Vec<StmtId>>) -> Result
     }
 }
 
-// Adds the sites at a statement, if it is a call.
+/// Adds the sites at a statement, if it is a call.
 fn add_call_sites(
     alloc: Global,
     lists: &mut Vec<Vec<StmtId>>,
@@ -109,8 +109,8 @@ fn add_call_sites(
     Ok(())
 }
 
-// The sites at all calls of a function. It goes from the last to the first, as most calls then come
-// in front.
+/// The sites at all calls of a function. It goes from the last to the first, as most calls then come
+/// in front.
 fn call_lists(
     alloc: Global,
     body: &Body,
@@ -133,7 +133,7 @@ fn call_lists(
     Ok(lists)
 }
 
-// All sites of a policy in a function.
+/// All sites of a policy in a function.
 fn lists_in(
     alloc: Global,
     body: &Body,
@@ -155,7 +155,7 @@ fn lists_in(
     Ok(lists)
 }
 
-// Adds requirements of these sites.
+/// Adds requirements of these sites.
 fn add_requirements(
     required: &mut Vec<Requirement>,
     policy: u32,
@@ -177,7 +177,7 @@ fn add_requirements(
     Ok(())
 }
 
-// Adds the requirements of a policy in a function.
+/// Adds the requirements of a policy in a function.
 fn add_in_function(
     alloc: Global,
     required: &mut Vec<Requirement>,
@@ -199,7 +199,7 @@ fn add_in_function(
     Ok(())
 }
 
-// Adds the requirements of a policy.
+/// Adds the requirements of a policy.
 fn add_of_policy(
     alloc: Global,
     required: &mut Vec<Requirement>,
@@ -226,7 +226,7 @@ fn add_of_policy(
     Ok(())
 }
 
-// Adds the requirements of the policy of a number.
+/// Adds the requirements of the policy of a number.
 fn add_numbered(
     alloc: Global,
     required: &mut Vec<Requirement>,
@@ -250,7 +250,7 @@ fn add_numbered(
     Ok(())
 }
 
-// The requirements of these policies.
+/// The requirements of these policies.
 fn required_by(
     alloc: Global,
     policies: &[Policy],

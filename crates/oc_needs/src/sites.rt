@@ -21,7 +21,7 @@ pub fn flows(body: &Body, u: VarId, v: VarId) -> bool
     body.summaries.flows(body.function, u, v)
 }
 
-// Whether the statement of a number stands in the loop of a number.
+/// Whether the statement of a number stands in the loop of a number.
 fn is_inside(body: &Body, outer: StmtId, s: StmtId) -> bool
     requires { IsBody body.now }
     ensures { result
@@ -33,7 +33,7 @@ fn is_inside(body: &Body, outer: StmtId, s: StmtId) -> bool
     }
 }
 
-// Whether a variable is declared outside a loop.
+/// Whether a variable is declared outside a loop.
 fn is_outside(body: &Body, outer: StmtId, v: VarId) -> bool
     requires { IsBody body.now }
     ensures { result ≡ is_outside_by body.now.summaries.now.program body.now.function outer v }
@@ -44,14 +44,14 @@ fn is_outside(body: &Body, outer: StmtId, v: VarId) -> bool
     }
 }
 
-// Whether `w` carries what comes into `u` on to `x`.
+/// Whether `w` carries what comes into `u` on to `x`.
 fn carries(body: &Body, u: VarId, x: VarId, w: VarId) -> bool
     ensures { result ≡ carries body.now.summaries.now.program body.now.function u x w }
 {
     flows(body, u, w) && flows(body, w, x)
 }
 
-// Whether a carrier is declared outside a loop.
+/// Whether a carrier is declared outside a loop.
 fn lifts(body: &Body, u: VarId, x: VarId, outer: StmtId) -> bool
     requires { IsBody body.now }
     ensures { result ≡ lifts_by body.now.summaries.now.program body.now.function u x outer }
@@ -62,8 +62,8 @@ fn lifts(body: &Body, u: VarId, x: VarId, outer: StmtId) -> bool
         .any(|w| carries(body, u, x, *w) && is_outside(body, outer, *w))
 }
 
-// Where the input of a statement into `u` counts as taken for `x`: at the outermost loop out of which
-// a carrier comes, or at the statement itself.
+/// Where the input of a statement into `u` counts as taken for `x`: at the outermost loop out of which
+/// a carrier comes, or at the statement itself.
 fn site(body: &Body, source: &Source, u: VarId, x: VarId) -> StmtId
     requires { IsBody body.now }
     ensures { result
@@ -78,7 +78,7 @@ fn site(body: &Body, source: &Source, u: VarId, x: VarId) -> StmtId
     source.stmt
 }
 
-// Adds the sites of the input of a statement into `u` for variables into which it flows.
+/// Adds the sites of the input of a statement into `u` for variables into which it flows.
 fn add_sites_between(
     sites: &mut Vec<StmtId>,
     body: &Body,
@@ -100,7 +100,7 @@ fn add_sites_between(
     Ok(())
 }
 
-// Adds the sites of the inputs of a statement, for each of them and each variable.
+/// Adds the sites of the inputs of a statement, for each of them and each variable.
 fn add_each_site(
     sites: &mut Vec<StmtId>,
     body: &Body,
@@ -119,7 +119,7 @@ fn add_each_site(
     Ok(())
 }
 
-// Whether `u` flows into one of these.
+/// Whether `u` flows into one of these.
 fn flows_to_some(body: &Body, u: VarId, variables: &[VarId]) -> bool
     ensures { result
         ≡ flows_to_some body.now.summaries.now.program body.now.function variables.now u }
@@ -127,7 +127,7 @@ fn flows_to_some(body: &Body, u: VarId, variables: &[VarId]) -> bool
     variables.iter().any(|x| flows(body, u, *x))
 }
 
-// Whether some input of a statement flows into one of these.
+/// Whether some input of a statement flows into one of these.
 fn some_flows(body: &Body, brought: &[VarId], variables: &[VarId]) -> bool
     ensures { result
         ≡ list_any (flows_to_some body.now.summaries.now.program body.now.function variables.now)
@@ -136,7 +136,7 @@ fn some_flows(body: &Body, brought: &[VarId], variables: &[VarId]) -> bool
     brought.iter().any(|u| flows_to_some(body, *u, variables))
 }
 
-// Adds the site of the inputs of a statement in no loop, which is the statement itself.
+/// Adds the site of the inputs of a statement in no loop, which is the statement itself.
 fn add_outside(
     sites: &mut Vec<StmtId>,
     body: &Body,
@@ -157,7 +157,7 @@ fn add_outside(
     Ok(())
 }
 
-// The sites of the inputs of statements in no loop.
+/// The sites of the inputs of statements in no loop.
 fn outside_sites(
     alloc: Global,
     body: &Body,
@@ -176,7 +176,7 @@ fn outside_sites(
     Ok(sites)
 }
 
-// Adds the sites of the inputs of a statement in loops for a variable.
+/// Adds the sites of the inputs of a statement in loops for a variable.
 fn add_inside(
     sites: &mut Vec<StmtId>,
     body: &Body,
@@ -196,7 +196,7 @@ fn add_inside(
     add_each_site(sites, body, source, &variables)
 }
 
-// The sites of the inputs of statements in loops for a variable, in the order of the statements.
+/// The sites of the inputs of statements in loops for a variable, in the order of the statements.
 fn inside_sites(
     alloc: Global,
     body: &Body,
@@ -230,7 +230,7 @@ pub fn looped_sites(alloc: Global, body: &Body, x: VarId) -> Result<Vec<StmtId>,
     Ok(sites)
 }
 
-// The place of a variable among those of a function.
+/// The place of a variable among those of a function.
 fn place_of(variables: &[VarId], x: VarId) -> Option<usize>
     ensures { IfSome result (λ i. (i < length variables.now) × (get_or variables.now i x ≡ x)) }
 {
@@ -242,7 +242,7 @@ fn place_of(variables: &[VarId], x: VarId) -> Option<usize>
     None
 }
 
-// The sites at a place, where they are known.
+/// The sites at a place, where they are known.
 fn sites_at<'r>(rows: &'r [Vec<StmtId>], place: usize) -> Option<&'r [StmtId]>
     ensures { IfSome result (λ s. (place < length rows.now)
         × (s.now ≡ get_or (sites_view rows.now) place [])) }
@@ -253,7 +253,7 @@ fn sites_at<'r>(rows: &'r [Vec<StmtId>], place: usize) -> Option<&'r [StmtId]>
     }
 }
 
-// The sites of inputs in loops for a variable, where they are known.
+/// The sites of inputs in loops for a variable, where they are known.
 fn known_sites<'b>(body: &'b Body, x: VarId) -> Option<&'b [StmtId]>
     requires { IsBody body.now }
     ensures { IfSome result
@@ -271,7 +271,7 @@ fn known_sites<'b>(body: &'b Body, x: VarId) -> Option<&'b [StmtId]>
     }
 }
 
-// Adds the sites of inputs in loops for a variable.
+/// Adds the sites of inputs in loops for a variable.
 fn add_looped(
     alloc: Global,
     sites: &mut Vec<StmtId>,

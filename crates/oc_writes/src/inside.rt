@@ -11,7 +11,7 @@ use oc_effects::effects::Effects;
 use oc_tree::marked::Region;
 use std::alloc::{AllocError, Global};
 
-// Whether a statement stands in a region, or in a statement of it.
+/// Whether a statement stands in a region, or in a statement of it.
 fn stands_in(effects: &Effects, region: &Region, effect: &Effect) -> bool
     ensures { result
         ≡ stands_in effects.now.program (region_view region.now) (effect_view effect.now) }

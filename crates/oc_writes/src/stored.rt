@@ -70,8 +70,8 @@ impl<'a> Stored<'a> {
     }
 }
 
-// Adds the variables of these names and declarations, the first of which has this number and
-// begins at this word.
+/// Adds the variables of these names and declarations, the first of which has this number and
+/// begins at this word.
 fn add_stored<'a>(
     alloc: Global,
     program: &'a Program,

@@ -64,7 +64,7 @@ impl<'a> Through<'a> {
         })
     }
 
-    // Whether the parameter of a number is assigned through.
+    /// Whether the parameter of a number is assigned through.
     fn has(&self, number: usize) -> bool
         ensures { result ≡ param_assigned self.now.functions number }
     {
@@ -72,7 +72,7 @@ impl<'a> Through<'a> {
         number < self.params.count() && self.marks.has(number)
     }
 
-    // The number of a function's first parameter.
+    /// The number of a function's first parameter.
     fn first(&self, function: usize) -> usize
         ensures first { result ≡ first_param self.now.functions function }
         ensures small { result < 2 ^ 63 }
@@ -84,8 +84,8 @@ impl<'a> Through<'a> {
         }
     }
 
-    // Whether arguments, the first of which has this number among all parameters, lend the variable
-    // to a parameter that is assigned through.
+    /// Whether arguments, the first of which has this number among all parameters, lend the variable
+    /// to a parameter that is assigned through.
     fn lends(&self, first: usize, args: &[Passed], var: VarId) -> bool
         requires { first < 2 ^ 63 }
         ensures { result ≡ lends self.now first (map passed_view args.now) var }

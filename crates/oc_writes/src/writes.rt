@@ -40,7 +40,7 @@ impl Model for WriteSets {
     ghost view = { λ w. map (λ v. v.items) w.regions.items };
 }
 
-// Whether one of the statements assigns a nonvolatile variable, or calls a function that does.
+/// Whether one of the statements assigns a nonvolatile variable, or calls a function that does.
 fn assigns_stored(through: &Through, effects: &[&Effect], stored: &Stored) -> bool
     ensures { result ≡ some_assigns through.now (effects_seen effects.now) stored.now }
 {
@@ -55,7 +55,7 @@ fn assigns_stored(through: &Through, effects: &[&Effect], stored: &Stored) -> bo
     false
 }
 
-// Adds the nonvolatile variables that the statements assign.
+/// Adds the nonvolatile variables that the statements assign.
 fn add_stored(
     through: &Through,
     effects: &[&Effect],
@@ -97,7 +97,7 @@ fn words_of(kind: ValueKind) -> u32
     }
 }
 
-// Adds the parameters that the statements assign.
+/// Adds the parameters that the statements assign.
 fn add_params(
     through: &Through,
     effects: &[&Effect],

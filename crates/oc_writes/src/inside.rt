@@ -1,5 +1,7 @@
 //! The statements of a region.
-ghost use Rattle.std.specs.Prelude.{◌≡◌, ◌<◌, length, IfOk};
+ghost use Rattle.std.specs.Prelude.{◌≡◌, ◌<◌, ℕ, length, IfOk};
+ghost use Rattle.std.proofs.Math.ListN.{get_or};
+ghost use Rattle.oc_tree.specs.declared.marked.Region.{Region};
 ghost use Rattle.oc_tree.specs.Regions.{region_view};
 ghost use Rattle.oc_effects.specs.View.{effect_view};
 ghost use Rattle.oc_writes.specs.Targets.{region_effects};
@@ -45,4 +47,32 @@ pub fn region_effects<'a>(
         }
     }
     Ok(inside)
+}
+
+/// Whether one of these statements calls a function.
+fn some_calls(effects: &[&Effect]) -> bool {
+    for effect in effects {
+        if effect.call.is_some() {
+            return true;
+        }
+    }
+    false
+}
+
+/// Whether a statement of some region calls a function. No target goes by this answer.
+pub fn some_region_calls(
+    alloc: Global,
+    effects: &Effects,
+    regions: &[Region],
+) -> Result<bool, AllocError>
+    requires { (k : ℕ) (d : Region) → k < length regions.now
+        → (get_or regions.now k d).function < length effects.now.program.functions }
+{
+    for region in regions {
+        let inside = region_effects(alloc, effects, region)?;
+        if some_calls(inside.as_slice()) {
+            return Ok(true);
+        }
+    }
+    Ok(false)
 }

@@ -1,7 +1,9 @@
 //! The nonvolatile variables of a program, and which functions assign them.
-ghost use Rattle.std.specs.Prelude.{◌≡◌, ◌+◌, ◌++◌, map, length, option_map, OnOk, IfOk};
-ghost use Rattle.oc_tree.specs.View.{program_view};
+ghost use Rattle.std.specs.Prelude.{◌≡◌, ◌<◌, ◌+◌, ◌++◌, ℕ, map, length, option_map, OnOk, IfOk, IfSome};
+ghost use Rattle.oc_tree.specs.Assigned.{reaches_assign};
+ghost use Rattle.oc_tree.specs.View.{function_view, program_view};
 ghost use Rattle.oc_effects.specs.View.{called_view};
+ghost use Rattle.oc_reach.specs.Marked.{is_in};
 ghost use Rattle.oc_writes.specs.Targets.{reaches};
 ghost use Rattle.oc_writes.specs.Seen.{stored_from};
 
@@ -14,20 +16,22 @@ use oc_tree::tree::{NvDecl, Program};
 use std::alloc::{AllocError, Global};
 use std::marker::Model;
 
-/// A nonvolatile variable of a program: its number, its first word, its words and its name, with
-/// the functions that assign it, directly or through others.
+/// A nonvolatile variable of a program: its number, its first word, its words and its name. The
+/// functions that assign it, directly or through others, are at hand where they were asked for at
+/// first, else each question works them out.
 #[derive(Drop)]
-pub struct Stored<'a> {
-    program: &'a Program,
+pub struct Stored<'p, 'a> {
+    program: &'p Program,
     pub index: u32,
     pub base: u32,
     pub words: u32,
-    name: &'a Name,
-    assigning: Marks,
+    name: &'p Name,
+    assigned: &'a Assigned<'p>,
+    assigning: Option<Marks>,
 }
 
-impl<'a> Model for Stored<'a> {
-    ghost use Rattle.std.specs.Prelude.{◌≡◌, ℕ, map, length};
+impl<'p, 'a> Model for Stored<'p, 'a> {
+    ghost use Rattle.std.specs.Prelude.{◌≡◌, ℕ, map, length, IfSome};
     ghost use Rattle.std.specs.Coded.{codes};
     ghost use Rattle.oc_tree.specs.Stored.{block_code};
     ghost use Rattle.oc_tree.specs.View.{function_view, program_view};
@@ -47,40 +51,81 @@ impl<'a> Model for Stored<'a> {
       name = s.name.now;
     } };
 
-    ghost invariant = { λ s. (s.assigning.1 ≡ length s.program.now.functions.items)
-        × ((u : ℕ) → is_in s.assigning.0 u
-        ≡ reaches_assign (map function_view s.program.now.functions.items) s.name.now u) };
+    ghost invariant = { λ s. (s.assigned.now ≡ s.program.now.functions.items)
+        × IfSome s.assigning (λ m. (m.1 ≡ length s.program.now.functions.items)
+        × ((u : ℕ) → is_in m.0 u
+        ≡ reaches_assign (map function_view s.program.now.functions.items) s.name.now u)) };
 }
 
-impl<'a> Stored<'a> {
+impl<'p, 'a> Stored<'p, 'a> {
+    /// Whether a function assigns the variable, or one that it calls, directly or through others.
+    fn is_assigned_in(&self, alloc: Global, function: usize) -> Result<bool, AllocError>
+        requires { function < length self.now.program.functions }
+        ensures { IfOk result
+            (λ b. b ≡ reaches_assign self.now.program.functions self.now.name function) }
+    {
+        let _program = self.program;
+        match &self.assigning {
+            Some(assigning) => Ok(assigning.has(function)),
+            None => {
+                let assigning = self.assigned.assigning(alloc, self.name)?;
+                Ok(assigning.has(function))
+            }
+        }
+    }
+
     /// Whether the function that is called assigns the variable, or one that it calls, directly or
     /// through others.
-    pub fn is_assigned_by(&self, call: &Option<Called>) -> bool
-        ensures { result
-            ≡ reaches self.now.program (option_map called_view call.now) self.now.name }
+    pub fn is_assigned_by(&self, alloc: Global, call: &Option<Called>) -> Result<bool, AllocError>
+        ensures { IfOk result
+            (λ b. b ≡ reaches self.now.program (option_map called_view call.now) self.now.name) }
     {
         let _name = self.name;
         match call {
             Some(called) => {
                 let function = called.function as usize;
-                function < self.program.functions.len() && self.assigning.has(function)
+                if function < self.program.functions.len() {
+                    let reaches = self.is_assigned_in(alloc, function)?;
+                    Ok(reaches)
+                } else {
+                    Ok(false)
+                }
             }
-            None => false,
+            None => Ok(false),
         }
+    }
+}
+
+/// The functions that assign a variable, where they are asked for.
+fn assigning_if(
+    alloc: Global,
+    assigned: &Assigned,
+    name: &Name,
+    asked: bool,
+) -> Result<Option<Marks>, AllocError>
+    ensures { IfOk result (λ o. IfSome o (λ m. (m.1 ≡ length assigned.now)
+        × ((u : ℕ) → is_in m.0 u ≡ reaches_assign (map function_view assigned.now) name.now u))) }
+{
+    if asked {
+        let assigning = assigned.assigning(alloc, name)?;
+        Ok(Some(assigning))
+    } else {
+        Ok(None)
     }
 }
 
 /// Adds the variables of these names and declarations, the first of which has this number and
 /// begins at this word.
-fn add_stored<'a>(
+fn add_stored<'p, 'a>(
     alloc: Global,
-    program: &'a Program,
-    assigned: &Assigned,
+    program: &'p Program,
+    assigned: &'a Assigned<'p>,
+    asked: bool,
     index: u32,
     base: u32,
-    names: &'a [Name],
+    names: &'p [Name],
     nv: &[NvDecl],
-    stored: &mut Vec<Stored<'a>>,
+    stored: &mut Vec<Stored<'p, 'a>>,
 ) -> Result<(), AllocError>
     requires { assigned.now ≡ program.now.functions.items }
     ensures { OnOk result
@@ -92,30 +137,35 @@ fn add_stored<'a>(
         Some((name, names)) => match nv.split_first() {
             None => Ok(()),
             Some((first, nv)) => {
-                let assigning = assigned.assigning(alloc, name)?;
+                let assigning = assigning_if(alloc, assigned, name, asked)?;
                 stored.push(Stored {
                     program,
                     index,
                     base,
                     words: first.words,
                     name,
+                    assigned,
                     assigning,
                 })?;
                 let next = behind(index, 1)?;
                 let end = behind(base, first.words)?;
-                add_stored(alloc, program, assigned, next, end, names, nv, stored)?;
+                add_stored(
+                    alloc, program, assigned, asked, next, end, names, nv, stored,
+                )?;
                 Ok(())
             }
         },
     }
 }
 
-/// The nonvolatile variables of a program.
-pub fn all_stored<'a>(
+/// The nonvolatile variables of a program; which functions assign them is worked out at once if it
+/// is asked for.
+pub fn all_stored<'p, 'a>(
     alloc: Global,
-    program: &'a Program,
-    assigned: &Assigned,
-) -> Result<Vec<Stored<'a>>, AllocError>
+    program: &'p Program,
+    assigned: &'a Assigned<'p>,
+    asked: bool,
+) -> Result<Vec<Stored<'p, 'a>>, AllocError>
     requires { assigned.now ≡ program.now.functions.items }
     ensures { IfOk result
         (λ s. s.items
@@ -125,6 +175,16 @@ pub fn all_stored<'a>(
     let mut stored = Vec::new(alloc);
     let names = program.names.nvs.as_slice();
     let nv = program.nv.as_slice();
-    add_stored(alloc, program, assigned, 0, 0, names, nv, &mut stored)?;
+    add_stored(
+        alloc,
+        program,
+        assigned,
+        asked,
+        0,
+        0,
+        names,
+        nv,
+        &mut stored,
+    )?;
     Ok(stored)
 }

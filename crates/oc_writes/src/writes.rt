@@ -1,17 +1,18 @@
 //! Write targets.
-ghost use Rattle.std.specs.Prelude.{◌≡◌, ◌≤◌, ◌<◌, ◌-◌, ◌++◌, ℕ, [], map, length, OnOk, IfOk};
+ghost use Rattle.std.specs.Prelude.{◌≡◌, ◌≤◌, ◌<◌, ◌-◌, ◌++◌, ◌||◌, ℕ, [], map, length, OnOk, IfOk};
 ghost use Rattle.oc_tree.specs.declared.marked.Region.{Region};
 ghost use Rattle.std.specs.List.{list_any};
 ghost use Rattle.std.proofs.Math.ListN.{get_or};
 ghost use Rattle.oc_tree.specs.View.{program_view};
 ghost use Rattle.oc_tree.specs.Regions.{region_view};
 ghost use Rattle.oc_tree.specs.declared.tree.VarId.TheVariants.{Nv, Param as AParam};
-ghost use Rattle.oc_writes.specs.Targets.{assigns, may_write, region_targets, words_of};
+ghost use Rattle.oc_effects.specs.View.{effect_view};
+ghost use Rattle.oc_writes.specs.Targets.{assigns, may_write, reaches, region_targets, words_of};
 ghost use Rattle.oc_writes.specs.Kept.{OnlyTargets};
 ghost use Rattle.oc_flow.specs.Known.{effects_seen};
 ghost use Rattle.oc_writes.specs.Seen.{slot_targets, some_assigns, stored_from, stored_targets};
 
-use crate::inside::region_effects;
+use crate::inside::{region_effects, some_region_calls};
 use crate::numbers::behind;
 use crate::stored::{Stored, all_stored};
 use crate::through::Through;
@@ -40,23 +41,48 @@ impl Model for WriteSets {
     ghost view = { λ w. map (λ v. v.items) w.regions.items };
 }
 
-/// Whether one of the statements assigns a nonvolatile variable, or calls a function that does.
-fn assigns_stored(through: &Through, effects: &[&Effect], stored: &Stored) -> bool
-    ensures { result ≡ some_assigns through.now (effects_seen effects.now) stored.now }
+/// Whether a statement assigns a nonvolatile variable, or calls a function that does.
+fn assigns_it(
+    alloc: Global,
+    through: &Through,
+    effect: &Effect,
+    stored: &Stored,
+) -> Result<bool, AllocError>
+    ensures { IfOk result
+        (λ b. b ≡ (assigns through.now (Nv stored.now.index) (effect_view effect.now)
+        || reaches stored.now.program (effect_view effect.now).call stored.now.name)) }
 {
     let var = VarId::Nv {
         index: stored.index,
     };
+    if through.assigns(effect, var) {
+        return Ok(true);
+    }
+    let reaches = stored.is_assigned_by(alloc, &effect.call)?;
+    Ok(reaches)
+}
+
+/// Whether one of the statements does.
+fn assigns_stored(
+    alloc: Global,
+    through: &Through,
+    effects: &[&Effect],
+    stored: &Stored,
+) -> Result<bool, AllocError>
+    ensures { IfOk result
+        (λ b. b ≡ some_assigns through.now (effects_seen effects.now) stored.now) }
+{
     for effect in effects {
-        if through.assigns(*effect, var) || stored.is_assigned_by(&effect.call) {
-            return true;
+        if assigns_it(alloc, through, *effect, stored)? {
+            return Ok(true);
         }
     }
-    false
+    Ok(false)
 }
 
 /// Adds the nonvolatile variables that the statements assign.
 fn add_stored(
+    alloc: Global,
     through: &Through,
     effects: &[&Effect],
     all: &[Stored],
@@ -67,7 +93,7 @@ fn add_stored(
         ++ stored_targets through.now (effects_seen effects.now) all.now) }
 {
     for stored in all {
-        if assigns_stored(through, effects, stored) {
+        if assigns_stored(alloc, through, effects, stored)? {
             targets.push(Target::Nv {
                 base: stored.base,
                 len: stored.words,
@@ -141,7 +167,7 @@ fn region_targets(
     let inside = region_effects(alloc, effects, region)?;
     let function = &program.functions[region.function as usize];
     let mut targets = Vec::new(alloc);
-    add_stored(through, inside.as_slice(), stored, &mut targets)?;
+    add_stored(alloc, through, inside.as_slice(), stored, &mut targets)?;
     add_params(
         through,
         inside.as_slice(),
@@ -177,11 +203,11 @@ fn targets_of(
     Ok(all)
 }
 
-fn tabled_targets(
+fn tabled_targets<'p>(
     alloc: Global,
-    program: &Program,
+    program: &'p Program,
     effects: &Effects,
-    assigned: &Assigned,
+    assigned: &Assigned<'p>,
     regions: &[Region],
 ) -> Result<Vec<Vec<Target>>, AllocError>
     requires same { effects.now.program ≡ program_view program.now }
@@ -191,7 +217,8 @@ fn tabled_targets(
     ensures { IfOk result (λ t. map (λ v. v.items) t.items
         ≡ map (region_targets (program_view program.now)) (map region_view regions.now)) }
 {
-    let stored = all_stored(alloc, program, assigned)?;
+    let asked = some_region_calls(alloc, effects, regions)?;
+    let stored = all_stored(alloc, program, assigned, asked)?;
     let through = Through::new(alloc, assigned.calls(), program)?;
     targets_of(
         alloc,

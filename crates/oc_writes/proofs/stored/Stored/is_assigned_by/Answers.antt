@@ -1,7 +1,6 @@
-use Rattle.std.proofs.Common.{◌≡◌, ◌≤◌, length, ap, sym, ◌∙◌, nat_lt, false, arith}
+use Rattle.std.proofs.Common.{◌≤◌, length, ap, sym, ◌∙◌, arith}
 use Rattle.std.specs.Prelude.{option_map}
 use Rattle.std.proofs.lemmas.List.{length-map}
-use Rattle.std.proofs.lemmas.Bool.{le-ltb}
 use Rattle.oc_tree.specs.View.{function_view}
 use Rattle.oc_effects.specs.View.{called_view}
 use Rattle.oc_writes.specs.Targets.{reaches}
@@ -16,5 +15,4 @@ returns-else-function-len c =
     let n = ap (λ (q : TStored). length q.program.functions) c.self.view_is in
     let m = length-map c.self.inside.program.now.functions.items function_view in
     let past : length s.program.functions ≤ f = omega (arith, n, m, c.len.ensures) in
-    let no : nat_lt f c.len.result ≡ false = le-ltb f c.len.result c.if-function-len.false in
-    no ∙ sym (no_function s.program.functions s.name f past) ∙ sym (ap (λ o. reaches s.program (option_map called_view o) s.name) c.in-Some.is)
+    sym (no_function s.program.functions s.name f past) ∙ sym (ap (λ o. reaches s.program (option_map called_view o) s.name) c.in-Some.is)

@@ -20,8 +20,8 @@ use oc_tree::checked::Checked;
 use oc_tree::marked::Marked;
 use oc_worked::check_source;
 use reports::{
-    aborted, attempts, cut, fresh_source, honest, late_end, late_use, other_output, parted,
-    set_source, together, twice_over,
+    attempts, fresh_source, honest_report, late_end, late_use, other_abort, other_output,
+    outage_in_region, outage_in_set, set_report, set_source, twice_over,
 };
 use std::alloc::Global;
 use std::io;

@@ -21,7 +21,7 @@ use oc_tree::tree::{Call, Function, Param, StmtKind};
 use std::alloc::{AllocError, Global};
 use std::marker::Model;
 
-// Adds a link to each function that the calls name.
+/// Adds a link to each function that the calls name.
 fn add_links(
     table: &Table,
     caller: usize,

@@ -21,7 +21,7 @@ fn add_params<'a>(params: &'a [Param], all: &mut Vec<&'a Param>) -> Result<(), A
     Ok(())
 }
 
-// The number of each function's first parameter, and how many parameters there are.
+/// The number of each function's first parameter, and how many parameters there are.
 fn first_params(alloc: Global, functions: &[Function]) -> Result<(Vec<usize>, usize), AllocError>
     ensures firsts { IfOk result
         (λ r. r.0.items ≡ first_params 0 (map function_view functions.now)) }

@@ -72,7 +72,7 @@ impl Reach {
         self.leaders.len()
     }
 
-    // Marks what is linked to a number.
+    /// Marks what is linked to a number.
     fn mark_leaders(&self, marks: &mut Marks, number: usize) -> Result<(), AllocError>
         requires number { number < self.now.1 }
         requires bound { marks.old.1 ≡ self.now.1 }

@@ -53,7 +53,7 @@ impl<'a> Numbers<'a> {
         Ok(())
     }
 
-    // Adds a name, unless it is there.
+    /// Adds a name, unless it is there.
     fn add_first(&mut self, name: &'a Name, number: usize) -> Result<(), AllocError>
         ensures { OnOk result ((x : List ℕ) (rest : Option ℕ)
             → or_else (number_in self.new x) rest

@@ -1,6 +1,7 @@
 -- How an answer to a task comes of its steps.
-use Rattle.std.proofs.Common.{ℕ, suc, ◌≡◌, ◌≤◌, ◌⊎◌, ◌∙◌, sym, ap, refl, subst, arith, inl, inr, List, [], ◌∷◌, length, Bool, Option, Some, None, true, true≢false}
+use Rattle.std.proofs.Common.{ℕ, suc, ◌≡◌, ◌≤◌, ◌<◌, ◌⊎◌, ◌∙◌, sym, ap, refl, subst, arith, inl, inr, List, [], ◌∷◌, length, Bool, Option, Some, None, true, true≢false}
 use Rattle.oc_lex.specs.Limits.{source_limit}
+use Rattle.oc_io.specs.Held.{Held}
 use Rattle.oc_io.specs.declared.period.Period.{Period}
 use Rattle.std.specs.Prelude.{codes, option_map, if◌then◌else◌}
 use Rattle.oc_power.specs.Choice.{first_with}
@@ -21,11 +22,9 @@ use Rattle.oc_bounds.proofs.Attempting.{attempts_close}
 use Rattle.oc_bounds.proofs.Periods.{safe_ends}
 use Rattle.oc_top.specs.Meant.{program_code, program_bounds}
 use Rattle.oc_top.specs.Commands.{Plan, report, regions, listing, imaging, checking, auditing, executing, Task}
-use Rattle.oc_top.specs.Commands.{limits_of, meters_of, audit_limits, image_limit, run_limits, command_of, task_of, task_for, with_image, with_plan, plans_of}
-use Rattle.oc_top.specs.declared.command.Command.{Command}
-use Rattle.oc_top.specs.declared.command.Command.TheVariants as commands
+use Rattle.oc_top.specs.Commands.{Exec, Run, limits_of, meters_of, audit_limits, image_limit, run_limits, source_task, task_for, with_image, with_plan, plans_of, word_at}
 use Rattle.oc_tree.specs.Tree.{TProgram}
-use Rattle.oc_top.specs.Files.{Files, AreFiles, Fetches, NotFetched, listed, names_of}
+use Rattle.oc_top.specs.Files.{Files, AreFiles, Fetches, NotFetched, WereFetched, limit_at, listed, names_of}
 use Rattle.oc_top.specs.Sources.{Reading, ReadsAs, faulty, breaks}
 use Rattle.oc_top.specs.Printed.{IsPrinted, not_built, put}
 use Rattle.oc_top.specs.Judged.{IsAudited, IsChecked, honest, not_audited, not_safe, safe}
@@ -33,7 +32,9 @@ use Rattle.oc_top.specs.Judged as judged
 use Rattle.oc_top.specs.Verdict.{RunFits, Verdict, runs, is_of_run, is_refusal, refuses, prints, printed, regions_of, listing_of, image_of}
 use Rattle.oc_top.specs.Headline.{IsHonestThroughout, IsReportedRun, IsRun, program_power}
 use Rattle.oc_top.specs.Steps.{IsNotBuilt, IsReady, IsReadyFor, IsTurnedDown, by_memory, by_files}
-use Rattle.oc_top.specs.Answers.{IsVerdict, IsPrint, IsJudged, IsDone, IsDoneWhole, Writes, IsWritten, whole, in_part, Call, call_of, HasTold, IsSilent, HasFiles, AreRefused, WasDone, IsWhole, Comes}
+use Rattle.oc_top.specs.Answers.{IsVerdict, IsPrint, IsJudged, IsDone, IsDoneWhole, Writes, IsWritten, whole, in_part, Call, call_of, HasTold, IsSilent, IsUnfetched, HasFiles, AreRefused, WasDone, IsWhole, Comes}
+use Rattle.oc_top.specs.declared.command.SourceTask.{SourceTask}
+use Rattle.oc_top.specs.declared.command.SourceTask.TheVariants as tasks
 use Rattle.oc_top.specs.declared.answer.Answer.{Answer}
 use Rattle.oc_top.specs.declared.answer.Answer.TheVariants as answer
 use Rattle.oc_top.proofs.Exactly.{done_answer, whole_done}
@@ -108,52 +109,39 @@ abbrev silence : (c : Call) → c.out.took [] → IsSilent c []
 silence c t = record { unwritten = t; untold = refl }
 
 module _ (c : Call) (task : Task) (asked : c.task ≡ Some task) where
+  unfetched : (place file : ℕ) → place ≡ file → (cause : Held → (limit : ℕ) → Type 0) → place < length (limits_of task)
+      → WereFetched c.shelf.holds c.words (limits_of task) place → c.shelf.asked (names_of c.words (limits_of task) (suc place))
+      → cause (c.shelf.holds (word_at c.words place)) (limit_at (limits_of task) place) → c.out.took [] → IsUnfetched c [] file cause
+  unfetched place file e cause among before all_asked is_cause t =
+      subst (λ (k : ℕ). IsUnfetched c [] k cause) e
+      (record { task = task; is_task = asked; among = among; before = before; asked = all_asked; is_cause = is_cause; silent = silence c t })
+
   -- a file wasn't fetched
-  pub not_fetched : (end : Answer) → NotFetched c.shelf c.words task.first (limits_of task.wanted) end → c.out.took [] → Comes c [] end
-  not_fetched (answer.Unreadable word) n t = record {
-    task = task;
-    is_task = asked;
-    place = n.place;
-    among = n.among;
-    is_word = n.refused.0;
-    before = n.before;
-    asked = n.asked;
-    is_cause = n.refused.1;
-    silent = silence c t;
-  }
-  not_fetched (answer.TooLong word) n t = record {
-    task = task;
-    is_task = asked;
-    place = n.place;
-    among = n.among;
-    is_word = n.refused.0;
-    before = n.before;
-    asked = n.asked;
-    is_cause = n.refused.1;
-    silent = silence c t;
-  }
+  pub not_fetched : (end : Answer) → NotFetched c.shelf c.words (limits_of task) end → c.out.took [] → Comes c [] end
+  not_fetched (answer.Unreadable file) n t = unfetched n.place file (sym n.refused.0) _ n.among n.before n.asked n.refused.1 t
+  not_fetched (answer.TooLong file) n t = unfetched n.place file (sym n.refused.0) _ n.among n.before n.asked n.refused.1 t
   not_fetched answer.Memory n t = record { task = task; is_task = asked; count = suc n.place; few = n.among; asked = n.asked; silent = silence c t }
   not_fetched end n t = absurd n.refused
 
-  module _ (files : List (List ℕ)) (fetched : AreFiles c.shelf.holds c.words task.first (limits_of task.wanted) files)
-      (all_asked : c.shelf.asked (names_of c.words task.first (limits_of task.wanted) (length (limits_of task.wanted)))) where
+  module _ (files : List (List ℕ)) (fetched : AreFiles c.shelf.holds c.words (limits_of task) files)
+      (all_asked : c.shelf.asked (names_of c.words (limits_of task) (length (limits_of task)))) where
     abbrev has_files : HasFiles c task files
     has_files = record { is_task = asked; are_files = fetched; asked = all_asked }
 
     pub no_memory : (end : Answer) → end ≡ answer.Memory → c.out.took [] → Comes c [] end
     no_memory end e t =
         subst (λ (x : Answer). Comes c [] x) (sym e)
-        (record { task = task; is_task = asked; count = length (limits_of task.wanted); few = omega arith; asked = all_asked; silent = silence c t })
+        (record { task = task; is_task = asked; count = length (limits_of task); few = omega arith; asked = all_asked; silent = silence c t })
 
-    pub refused : (end : Answer) → is_refusal end ≡ true → IsJudged files task.wanted (refuses end) → c.out.took [] → Comes c [] end
+    pub refused : (end : Answer) → is_refusal end ≡ true → IsJudged files task (refuses end) → c.out.took [] → Comes c [] end
     refused end e j t = refusal c [] end e (record { task = task; files = files; fetched = has_files; judged = j; silent = silence c t })
 
-    -- what is wanted was done, and written in whole or in part; where it was written in whole, this is what the meters tell
-    pub was_told : (told : List ℕ) (run : Verdict) → IsDone files task.wanted run → (end : Answer) → ((end ≡ answer.WriteFault → ⊥) → IsDoneWhole files task.wanted run)
-        → ((end ≡ answer.WriteFault → ⊥) → (c.out.rose → ⊥) → HasTold run.items (meters_of task.wanted) told)
+    -- the task was done, and written in whole or in part; where it was written in whole, this is what the meters tell
+    pub was_told : (told : List ℕ) (run : Verdict) → IsDone files task run → (end : Answer) → ((end ≡ answer.WriteFault → ⊥) → IsDoneWhole files task run)
+        → ((end ≡ answer.WriteFault → ⊥) → (c.out.rose → ⊥) → HasTold run.items (meters_of task) told)
         → (end ≡ answer.WriteFault → told ≡ []) → IsWritten c.out run end → Comes c told end
     was_told told run d end all tells untold (whole e t) =
-        let of_run = ap is_of_run e ∙ done_answer files task.wanted run d in
+        let of_run = ap is_of_run e ∙ done_answer files task run d in
         let apart : end ≡ answer.WriteFault → ⊥ = λ fault. true≢false (sym of_run ∙ ap is_of_run fault) in
         whole_run c told end of_run
         (record { task = task; files = files; fetched = has_files; run = run; done = all apart; came = record { answered = e; written = t; tells = tells apart } })
@@ -162,12 +150,12 @@ module _ (c : Call) (task : Task) (asked : c.task ≡ Some task) where
         (record { task = task; files = files; fetched = has_files; run = run; done = d; came = record { written = p; untold = untold e } })
 
     -- the same without meters
-    pub was_done : (run : Verdict) → IsDoneWhole files task.wanted run → (end : Answer) → meters_of task.wanted ≡ None → IsWritten c.out run end → Comes c [] end
+    pub was_done : (run : Verdict) → IsDoneWhole files task run → (end : Answer) → meters_of task ≡ None → IsWritten c.out run end → Comes c [] end
     was_done run d end none w =
-        was_told [] run (whole_done files task.wanted run d) end (λ apart. d) (λ apart calm. subst (λ (ms : Option (List Meter)). HasTold run.items ms []) (sym none) refl) (λ e. refl) w
+        was_told [] run (whole_done files task run d) end (λ apart. d) (λ apart calm. subst (λ (ms : Option (List Meter)). HasTold run.items ms []) (sym none) refl) (λ e. refl) w
 
-module _ (c : Call) (first : ℕ) (plan : Plan) (meters : Option (List Meter)) (asked : c.task ≡ Some (record { first = first; wanted = report plan meters })) (files : Files)
-    (fetched : AreFiles c.shelf.holds c.words first (run_limits source_limit) (listed files)) (all_asked : c.shelf.asked (names_of c.words first (run_limits source_limit) 3)) where
+module _ (c : Call) (plan : Plan) (meters : Option (List Meter)) (asked : c.task ≡ Some (report plan meters)) (files : Files)
+    (fetched : AreFiles c.shelf.holds c.words (run_limits source_limit) (listed files)) (all_asked : c.shelf.asked (names_of c.words (run_limits source_limit) 3)) where
   pub turned_down : (end : Answer) → IsTurnedDown files plan end → c.out.took [] → Comes c [] end
   turned_down end (by_memory e) t = no_memory c _ asked (listed files) fetched all_asked end e t
   turned_down end (by_files reading reads is v) t = refused c _ asked (listed files) fetched all_asked end is (record { reading = reading; reads = reads; is_verdict = v }) t
@@ -183,7 +171,17 @@ module _ (c : Call) (first : ℕ) (plan : Plan) (meters : Option (List Meter)) (
         was_told c _ asked (listed files) fetched all_asked told (runs machine.parts sensors.rows left) (ready_run files plan machine sensors left ready) end
         (λ apart. reported_run files plan machine sensors left ready short (fits apart)) tells untold written
 
--- ---- texts of a source alone
+-- ---- a source alone
+
+-- the source of a task wasn't fetched
+pub source_unfetched : (c : Call) (task : SourceTask) → c.task ≡ Some (source_task task) → (end : Answer) → NotFetched c.shelf c.words (source_limit ∷ []) end → c.out.took []
+    → Comes c [] end
+source_unfetched c tasks.Regions asked end n t = not_fetched c regions asked end n t
+source_unfetched c tasks.Build asked end n t = not_fetched c listing asked end n t
+source_unfetched c tasks.Image asked end n t = not_fetched c imaging asked end n t
+source_unfetched c tasks.Check asked end n t = not_fetched c checking asked end n t
+
+-- ---- its texts
 
 -- why a source is refused is the verdict on it
 refused_by : (source : List ℕ) (text : TProgram → List ℕ) (end : Answer) → IsNotBuilt source end
@@ -193,10 +191,10 @@ refused_by source text (answer.Rule line rule) r = inr (refl, (breaks (record { 
 refused_by source text answer.Memory r = inl refl
 refused_by source text end r = absurd r
 
-module _ (c : Call) (task : Task) (asked : c.task ≡ Some task) (source : List ℕ) (fetched : AreFiles c.shelf.holds c.words task.first (limits_of task.wanted) (source ∷ []))
-    (all_asked : c.shelf.asked (names_of c.words task.first (limits_of task.wanted) (length (limits_of task.wanted)))) (text : TProgram → List ℕ)
-    (is_judged : (run : Verdict) → IsVerdict source (λ reading. printed reading text) run → IsJudged (source ∷ []) task.wanted run)
-    (is_done : (run : Verdict) → IsPrint source text run → IsDoneWhole (source ∷ []) task.wanted run) (none : meters_of task.wanted ≡ None) (end : Answer) where
+module _ (c : Call) (task : Task) (asked : c.task ≡ Some task) (source : List ℕ) (fetched : AreFiles c.shelf.holds c.words (limits_of task) (source ∷ []))
+    (all_asked : c.shelf.asked (names_of c.words (limits_of task) (length (limits_of task)))) (text : TProgram → List ℕ)
+    (is_judged : (run : Verdict) → IsVerdict source (λ reading. printed reading text) run → IsJudged (source ∷ []) task run)
+    (is_done : (run : Verdict) → IsPrint source text run → IsDoneWhole (source ∷ []) task run) (none : meters_of task ≡ None) (end : Answer) where
   -- a text of the program was printed, or the source is refused
   text_comes : IsPrinted source text c.out end → Comes c [] end
   text_comes (not_built n t) = elim (refused_by source text end n) [
@@ -205,31 +203,31 @@ module _ (c : Call) (task : Task) (asked : c.task ≡ Some task) (source : List 
   ]
   text_comes (put p reads w) = was_done c task asked (source ∷ []) fetched all_asked (prints (text p)) (is_done _ (record { written = p; spelled = reads; is_text = refl })) end none w
 
-module _ (c : Call) (first : ℕ) (source : List ℕ) (fetched : AreFiles c.shelf.holds c.words first (source_limit ∷ []) (source ∷ []))
-    (all_asked : c.shelf.asked (names_of c.words first (source_limit ∷ []) 1)) (end : Answer) where
-  pub regions_come : c.task ≡ Some (record { first = first; wanted = regions }) → IsPrinted source regions_of c.out end → Comes c [] end
+module _ (c : Call) (source : List ℕ) (fetched : AreFiles c.shelf.holds c.words (source_limit ∷ []) (source ∷ []))
+    (all_asked : c.shelf.asked (names_of c.words (source_limit ∷ []) 1)) (end : Answer) where
+  pub regions_come : c.task ≡ Some regions → IsPrinted source regions_of c.out end → Comes c [] end
   regions_come asked w = text_comes c _ asked source fetched all_asked regions_of (λ run j. j) (λ run d. d) refl end w
 
-  pub listing_comes : c.task ≡ Some (record { first = first; wanted = listing }) → IsPrinted source listing_of c.out end → Comes c [] end
+  pub listing_comes : c.task ≡ Some listing → IsPrinted source listing_of c.out end → Comes c [] end
   listing_comes asked w = text_comes c _ asked source fetched all_asked listing_of (λ run j. j) (λ run d. d) refl end w
 
-  pub image_comes : c.task ≡ Some (record { first = first; wanted = imaging }) → IsPrinted source image_of c.out end → Comes c [] end
+  pub image_comes : c.task ≡ Some imaging → IsPrinted source image_of c.out end → Comes c [] end
   image_comes asked w = text_comes c _ asked source fetched all_asked image_of (λ run j. j) (λ run d. d) refl end w
 
 -- ---- blocks
 
-module _ (c : Call) (first : ℕ) (source : List ℕ) (fetched : AreFiles c.shelf.holds c.words first (source_limit ∷ []) (source ∷ []))
-    (all_asked : c.shelf.asked (names_of c.words first (source_limit ∷ []) 1)) (end : Answer) where
-  pub checking_comes : c.task ≡ Some (record { first = first; wanted = checking }) → IsChecked source c.out end → Comes c [] end
+module _ (c : Call) (source : List ℕ) (fetched : AreFiles c.shelf.holds c.words (source_limit ∷ []) (source ∷ []))
+    (all_asked : c.shelf.asked (names_of c.words (source_limit ∷ []) 1)) (end : Answer) where
+  pub checking_comes : c.task ≡ Some checking → IsChecked source c.out end → Comes c [] end
   checking_comes asked (not_safe (inl e) t) = no_memory c _ asked (source ∷ []) fetched all_asked end e t
   checking_comes asked (not_safe (inr j) t) = refused c _ asked (source ∷ []) fetched all_asked end (check_refuses source end j) j t
   checking_comes asked (safe e w) = was_done c _ asked (source ∷ []) fetched all_asked (prints (codes "safe\n")) (record { enough = e; is_run = refl }) end refl w
 
 -- ---- audits
 
-module _ (c : Call) (first : ℕ) (source report : List ℕ) (fetched : AreFiles c.shelf.holds c.words first audit_limits (source ∷ report ∷ []))
-    (all_asked : c.shelf.asked (names_of c.words first audit_limits 2)) (end : Answer) where
-  pub auditing_comes : c.task ≡ Some (record { first = first; wanted = auditing }) → IsAudited source report c.out end → Comes c [] end
+module _ (c : Call) (source report : List ℕ) (fetched : AreFiles c.shelf.holds c.words audit_limits (source ∷ report ∷ []))
+    (all_asked : c.shelf.asked (names_of c.words audit_limits 2)) (end : Answer) where
+  pub auditing_comes : c.task ≡ Some auditing → IsAudited source report c.out end → Comes c [] end
   auditing_comes asked (not_audited n t) = elim (without_program source report end n) [
     | inl e ↦ no_memory c _ asked (source ∷ report ∷ []) fetched all_asked end e t
     | inr j ↦ refused c _ asked (source ∷ report ∷ []) fetched all_asked end (audit_refuses source report end j) j t
@@ -240,8 +238,8 @@ module _ (c : Call) (first : ℕ) (source report : List ℕ) (fetched : AreFiles
 
 -- ---- images
 
-module _ (c : Call) (first : ℕ) (plan : Plan) (asked : c.task ≡ Some (record { first = first; wanted = executing plan })) (files : Files)
-    (fetched : AreFiles c.shelf.holds c.words first (run_limits image_limit) (listed files)) (all_asked : c.shelf.asked (names_of c.words first (run_limits image_limit) 3))
+module _ (c : Call) (plan : Plan) (asked : c.task ≡ Some (executing plan)) (files : Files)
+    (fetched : AreFiles c.shelf.holds c.words (run_limits image_limit) (listed files)) (all_asked : c.shelf.asked (names_of c.words (run_limits image_limit) 3))
     (end : Answer) where
   pub not_executed : IsNotRun files plan end → c.out.took [] → Comes c [] end
   not_executed (inl e) t = no_memory c _ asked (listed files) fetched all_asked end e t
@@ -254,25 +252,17 @@ module _ (c : Call) (first : ℕ) (plan : Plan) (asked : c.task ≡ Some (record
 
 -- ---- tasks
 
-module _ {B : Type 0} (boxes : List B) (number : B → ℕ) (plan : B → Plan) (meters : List Meter) (words : List (List ℕ)) where
-  abbrev asked : Option Task
-  asked = task_of (plans_of number plan boxes) meters words
-
+module _ {B : Type 0} (boxes : List B) (number : B → ℕ) (plan : B → Plan) (meters : List Meter) (files : List (List ℕ)) where
   -- a run is asked for with the supply that was chosen, or nothing is
-  pub run_is : (supply first : ℕ) (metered : Bool) (chosen : Option (List Meter)) (box : Option B) → command_of words ≡ Some (commands.Run supply first metered)
-      → chosen ≡ (if metered then Some meters else None) → box ≡ first_with number supply boxes → with_plan first chosen (option_map plan box) ≡ asked
-  run_is supply first metered chosen box e m p =
-      sym (ap (λ (c : Option Command). task_for (plans_of number plan boxes) meters c) e
-      ∙ ap (λ (o : Option B). with_plan first (if metered then Some meters else None) (option_map plan o)) (sym p)
-      ∙ ap (λ (ms : Option (List Meter)). with_plan first ms (option_map plan box)) (sym m))
+  pub run_is : (supply : ℕ) (metered : Bool) (chosen : Option (List Meter)) (box : Option B) → chosen ≡ (if metered then Some meters else None)
+      → box ≡ first_with number supply boxes → with_plan chosen (option_map plan box) ≡ task_for (plans_of number plan boxes) meters (Run supply metered files)
+  run_is supply metered chosen box m p =
+      ap (λ (ms : Option (List Meter)). with_plan ms (option_map plan box)) m
+      ∙ ap (λ (o : Option B). with_plan (if metered then Some meters else None) (option_map plan o)) p
 
   -- the same of an image
-  pub image_is : (first : ℕ) (box : Option B) → command_of words ≡ Some (commands.Exec first) → box ≡ first_with number 0 boxes → with_image first (option_map plan box) ≡ asked
-  image_is first box e p =
-      sym (ap (λ (c : Option Command). task_for (plans_of number plan boxes) meters c) e ∙ ap (λ (o : Option B). with_image first (option_map plan o)) (sym p))
-
-  pub task_is : (command : Command) → command_of words ≡ Some command → task_for (plans_of number plan boxes) meters (Some command) ≡ asked
-  task_is command e = sym (ap (λ (c : Option Command). task_for (plans_of number plan boxes) meters c) e)
+  pub image_is : (box : Option B) → box ≡ first_with number 0 boxes → with_image (option_map plan box) ≡ task_for (plans_of number plan boxes) meters (Exec files)
+  image_is box p = ap (λ (o : Option B). with_image (option_map plan o)) p
 
 -- the same call for what is asked
 pub comes_for : (words : List (List ℕ)) (task other : Option Task) (shelf : Fetches) (out : Writes) (told : List ℕ) (end : Answer) → task ≡ other

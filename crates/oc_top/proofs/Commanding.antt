@@ -1,42 +1,32 @@
--- What commands a line of words may be.
-use Rattle.std.proofs.Common.{ℕ, ◌+◌, ◌<◌, ◌≤◌, ◌≡◌, List, [], ◌∷◌, length, arith, subst, refl, Bool, true, false, cond, Option, Some, None}
-use Rattle.std.specs.Prelude.{nat_le, ◌&&◌, codes, option_and_then}
+-- A drill that a line of words asks for has few turns.
+use Rattle.std.proofs.Common.{ℕ, ◌<◌, ◌≤◌, ◌≡◌, sym, List, [], ◌∷◌, length, arith, subst, refl, Bool, true, false, cond, map, Option, Some, None}
+use Rattle.std.specs.Prelude.{nat_le, ◌&&◌, codes, option_and_then, option_map, IfSome}
 use Rattle.std.specs.Str.{bytes_eq}
 use Rattle.std.proofs.lemmas.Bool.{leb-true, and_parts}
 use Rattle.oc_rows.specs.Numbers.{number_of}
-use Rattle.oc_top.specs.Commands.{are_files, is_file, run_with, supply_of, print_with, with_three, turns_named, turns_of, drill_with, command_of}
-use Rattle.oc_top.specs.declared.command.Command.{Command}
-use Rattle.oc_top.specs.declared.command.Command.TheVariants as commands
+use Rattle.oc_top.specs.Commands.{Audit, Command, Drill, Exec, HasFewTurns, Run, Source, command_of, command_view, drill_with, files_with, is_file, run_with, source_task_of, supply_of, turns_named, turns_of, with_both, with_meters, with_supply, with_three}
+use Rattle.oc_top.specs.declared.command.Command.{Command as Written}
+use Rattle.oc_top.specs.declared.command.SourceTask.{SourceTask}
+use Rattle.oc_top.specs.declared.command.SourceTask.TheVariants as tasks
 
--- ---- what holds of a command that is asked for
+-- ---- one command
 
--- its files' words are among so many, and a drill has at most 1000 turns
-abbrev pub Holds : ℕ → Command → Type 0
-Holds n (commands.Run supply first metered) = first + 2 < n
-Holds n (commands.Drill turns) = turns ≤ 1000
-Holds n (commands.Regions first) = first < n
-Holds n (commands.Build first) = first < n
-Holds n (commands.Image first) = first < n
-Holds n (commands.Check first) = first < n
-Holds n (commands.Audit first) = first + 1 < n
-Holds n (commands.Exec first) = first + 2 < n
+abbrev pub Fits : Option Command → Type 0
+Fits o = (command : Command) → o ≡ Some command → HasFewTurns command
 
-abbrev pub Fits : ℕ → Option Command → Type 0
-Fits n o = (command : Command) → o ≡ Some command → Holds n command
+this_one : (command : Command) → HasFewTurns command → Fits (Some command)
+this_one command h other e = let i : command ≡ other = cc in subst HasFewTurns i h
 
-this_one : (n : ℕ) (command : Command) → Holds n command → Fits n (Some command)
-this_one n command h other e = let i : command ≡ other = cc in subst (Holds n) i h
+not_none : Fits None
+not_none command e = cc e
 
-not_none : (n : ℕ) → Fits n None
-not_none n command e = cc e
+either : (b : Bool) (x y : Option Command) → Fits x → Fits y → Fits (cond b x y)
+either true x y p q = p
+either false x y p q = q
 
-either : (n : ℕ) (b : Bool) (x y : Option Command) → Fits n x → Fits n y → Fits n (cond b x y)
-either n true x y p q = p
-either n false x y p q = q
-
-run_in : (n : ℕ) (o : Option ℕ) (metered : Bool) (place : ℕ) → place + 2 < n → Fits n (run_with o metered place)
-run_in n None metered place l = not_none n
-run_in n (Some k) metered place l = this_one n (commands.Run k place metered) l
+run_in : (o : Option ℕ) (metered : Bool) (files : List (List ℕ)) → Fits (run_with o metered files)
+run_in None metered files = not_none
+run_in (Some k) metered files = this_one (Run k metered files) tt
 
 -- ---- the turns of a drill
 
@@ -55,39 +45,59 @@ turns_by : (b : Bool) (o : Option ℕ) (m : ℕ) → cond b (option_and_then tur
 turns_by true o m e = of_number o m e
 turns_by false o m e = cc e
 
-drill_in : (n : ℕ) (o : Option ℕ) → ((k : ℕ) → o ≡ Some k → k ≤ 1000) → Fits n (drill_with o)
-drill_in n None h = not_none n
-drill_in n (Some turns) h = this_one n (commands.Drill turns) (h turns refl)
+drill_in : (o : Option ℕ) → ((k : ℕ) → o ≡ Some k → k ≤ 1000) → Fits (drill_with o)
+drill_in None h = not_none
+drill_in (Some turns) h = this_one (Drill turns) (h turns refl)
 
 -- ---- all of them
 
-print_in : (n : ℕ) (word : List ℕ) → 1 < n → Fits n (print_with word)
-print_in n word l =
-    let last = cond (bytes_eq word (codes "check")) (Some (commands.Check 1)) None in
-    let last_in = either n (bytes_eq word (codes "check")) (Some (commands.Check 1)) None (this_one n (commands.Check 1) l) (not_none n) in
-    either n (bytes_eq word (codes "regions")) (Some (commands.Regions 1)) (cond (bytes_eq word (codes "build")) (Some (commands.Build 1)) last) (this_one n (commands.Regions 1) l)
-    (either n (bytes_eq word (codes "build")) (Some (commands.Build 1)) last (this_one n (commands.Build 1) l) last_in)
+with_source : (o : Option SourceTask) (source : List ℕ) → Fits (option_map (λ task. Source task source) o)
+with_source None source = not_none
+with_source (Some task) source = this_one (Source task source) tt
 
-pub commands_fit : (words : List (List ℕ)) → Fits (length words) (command_of words)
+with_files : (o : Option (List (List ℕ))) (f : List (List ℕ) → Option Command) → ((files : List (List ℕ)) → Fits (f files)) → Fits (option_and_then f o)
+with_files None f h = not_none
+with_files (Some files) f h = h files
+
+pub commands_fit : (words : List (List ℕ)) → Fits (command_of words)
 commands_fit (word ∷ other ∷ []) command e =
-    either 2 (bytes_eq word (codes "drill")) (drill_with (turns_of other)) (cond (is_file other) (print_with word) None)
-    (drill_in 2 (turns_of other) (λ k f. turns_by (nat_le (length other) 4) (number_of other) k f))
-    (either 2 (is_file other) (print_with word) None (print_in 2 word (omega arith)) (not_none 2)) command e
+    either (bytes_eq word (codes "drill")) (drill_with (turns_of other)) (cond (is_file other) (option_map (λ task. Source task other) (source_task_of word)) None)
+    (drill_in (turns_of other) (λ k f. turns_by (nat_le (length other) 4) (number_of other) k f))
+    (either (is_file other) (option_map (λ task. Source task other) (source_task_of word)) None (with_source (source_task_of word) other) not_none) command e
 commands_fit (word ∷ second ∷ third ∷ []) command e =
-    let image = cond (bytes_eq word (codes "build") && bytes_eq second (codes "--image") && is_file third) (Some (commands.Image 2)) None in
-    either 3 (bytes_eq word (codes "audit") && is_file second && is_file third) (Some (commands.Audit 1)) image (this_one 3 (commands.Audit 1) (omega arith))
-    (either 3 (bytes_eq word (codes "build") && bytes_eq second (codes "--image") && is_file third) (Some (commands.Image 2)) None (this_one 3 (commands.Image 2) (omega arith)) (not_none 3)) command e
+    let image = cond (bytes_eq word (codes "build") && bytes_eq second (codes "--image") && is_file third) (Some (Source tasks.Image third)) None in
+    either (bytes_eq word (codes "audit") && is_file second && is_file third) (Some (Audit second third)) image (this_one (Audit second third) tt)
+    (either (bytes_eq word (codes "build") && bytes_eq second (codes "--image") && is_file third) (Some (Source tasks.Image third)) None (this_one (Source tasks.Image third) tt) not_none) command e
 commands_fit (word ∷ source ∷ sensors ∷ power ∷ []) command e =
-    either 4 (are_files source sensors power) (with_three word) None
-    (either 4 (bytes_eq word (codes "run")) (run_with (Some 0) false 1) (cond (bytes_eq word (codes "exec")) (Some (commands.Exec 1)) None) (run_in 4 (Some 0) false 1 (omega arith))
-    (either 4 (bytes_eq word (codes "exec")) (Some (commands.Exec 1)) None (this_one 4 (commands.Exec 1) (omega arith)) (not_none 4))) (not_none 4) command e
+    with_files (files_with source sensors power) (with_three word)
+    (λ files. either (bytes_eq word (codes "run")) (run_with (Some 0) false files) (cond (bytes_eq word (codes "exec")) (Some (Exec files)) None) (run_in (Some 0) false files)
+    (either (bytes_eq word (codes "exec")) (Some (Exec files)) None (this_one (Exec files) tt) not_none)) command e
 commands_fit (word ∷ option ∷ source ∷ sensors ∷ power ∷ []) command e =
-    either 5 (bytes_eq word (codes "run") && bytes_eq option (codes "--meters") && are_files source sensors power) (run_with (Some 0) true 2) None
-    (run_in 5 (Some 0) true 2 (omega arith)) (not_none 5) command e
+    with_files (files_with source sensors power) (with_meters word option)
+    (λ files. either (bytes_eq word (codes "run") && bytes_eq option (codes "--meters")) (run_with (Some 0) true files) None (run_in (Some 0) true files) not_none) command e
 commands_fit (word ∷ option ∷ number ∷ source ∷ sensors ∷ power ∷ []) command e =
-    either 6 (bytes_eq word (codes "run") && bytes_eq option (codes "--supply") && are_files source sensors power) (run_with (supply_of number) false 3) None
-    (run_in 6 (supply_of number) false 3 (omega arith)) (not_none 6) command e
+    with_files (files_with source sensors power) (with_supply word option number)
+    (λ files. either (bytes_eq word (codes "run") && bytes_eq option (codes "--supply")) (run_with (supply_of number) false files) None (run_in (supply_of number) false files)
+    not_none) command e
 commands_fit (word ∷ option ∷ number ∷ meters ∷ source ∷ sensors ∷ power ∷ []) command e =
-    either 7 (bytes_eq word (codes "run") && bytes_eq option (codes "--supply") && bytes_eq meters (codes "--meters") && are_files source sensors power)
-    (run_with (supply_of number) true 4) None (run_in 7 (supply_of number) true 4 (omega arith)) (not_none 7) command e
+    with_files (files_with source sensors power) (with_both word option number meters)
+    (λ files. either (bytes_eq word (codes "run") && bytes_eq option (codes "--supply") && bytes_eq meters (codes "--meters")) (run_with (supply_of number) true files) None
+    (run_in (supply_of number) true files) not_none) command e
 commands_fit words command e = cc e
+
+-- what is read of a line of words has few turns
+pub few_turns : (o : Option Written) (words : List (List ℕ)) → option_map command_view o ≡ command_of words → IfSome o (λ c. HasFewTurns (command_view c))
+few_turns None words e = tt
+few_turns (Some c) words e = commands_fit words (command_view c) (sym e)
+
+-- ---- no command
+
+-- fewer words than two, or more than seven, are none
+pub none_of_few : {A : Type 0} (f : A → List ℕ) (words : List A) → length words < 2 → None ≡ command_of (map f words)
+none_of_few f [] l = refl
+none_of_few f (a ∷ []) l = refl
+none_of_few f (a ∷ b ∷ words) l = absurd (omega (arith, l))
+
+pub none_of_many : {A : Type 0} (f : A → List ℕ) (words : List A) → 7 < length words → None ≡ command_of (map f words)
+none_of_many f (a ∷ b ∷ c ∷ d ∷ e ∷ g ∷ h ∷ i ∷ words) l = refl
+none_of_many f words l = absurd (omega (arith, l))

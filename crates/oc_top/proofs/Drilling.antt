@@ -68,16 +68,16 @@ is_drilled turns plan sink end files status lines bytes e m w =
 
 -- ---- the call
 
-none_fetched : (c : Call) → AreFiles c.shelf.holds c.words 0 [] []
+none_fetched : (c : Call) → AreFiles c.shelf.holds c.words [] []
 none_fetched c = record { count = refl; each = λ k l. absurd (omega (arith, l)) }
 
 -- with the supply that was chosen, or none
 pub drill_comes : (c : Call) (turns : ℕ) (chosen : Option Plan) → c.task ≡ with_drill turns chosen → c.shelf.asked [] → (end : Answer)
     → IsDrilledWith turns chosen c.out end → Comes c [] end
 drill_comes c turns None asked shelf end d = subst (λ (x : Answer). Comes c [] x) (sym d.0) (comes_none c asked shelf d.1)
-drill_comes c turns (Some plan) asked shelf end (no_room e t) = no_memory c (record { first = 0; wanted = drill turns plan }) asked [] (none_fetched c) shelf end e t
+drill_comes c turns (Some plan) asked shelf end (no_room e t) = no_memory c (drill turns plan) asked [] (none_fetched c) shelf end e t
 drill_comes c turns (Some plan) asked shelf end (told run d w) =
-    was_done c (record { first = 0; wanted = drill turns plan }) asked [] (none_fetched c) shelf run d end refl w
+    was_done c (drill turns plan) asked [] (none_fetched c) shelf run d end refl w
 
 -- a drill with the first supply of its number
 module _ {B : Type 0} (boxes : List B) (number : B → ℕ) (plan : B → Plan) (turns : ℕ) (sink : Writes) (end : Answer) where

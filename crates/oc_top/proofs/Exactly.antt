@@ -1,5 +1,5 @@
 -- Answers come exactly where their causes hold.
-use Rattle.std.proofs.Common.{ℕ, suc, ◌+◌, ◌<◌, ◌≤◌, ◌≡◌, ◌==◌, ◌⊎◌, ◌∙◌, sym, ap, refl, subst, arith, inl, inr, ℤ, List, [], ◌∷◌, length, Bool, true, false, true≢false}
+use Rattle.std.proofs.Common.{ℕ, suc, ◌<◌, ◌≤◌, ◌≡◌, ◌==◌, ◌⊎◌, ◌∙◌, sym, ap, refl, subst, arith, inl, inr, ℤ, List, [], ◌∷◌, length, Bool, true, false, true≢false}
 use Rattle.std.proofs.Common.{cond, Option, Some, None}
 use Rattle.std.proofs.lemmas.Bool.{cases_order}
 use Rattle.oc_io.specs.declared.period.Period.{Period}
@@ -16,7 +16,7 @@ use Rattle.oc_isa.specs.Power.{first_world, power_run}
 use Rattle.oc_isa.specs.Table.{device_of}
 use Rattle.oc_outage.specs.Honest.{loses_checkpoint}
 use Rattle.oc_top.specs.Meant.{program_code}
-use Rattle.oc_top.specs.Commands.{Plan, Wanted, report, drill, regions, listing, imaging, checking, auditing, executing, limits_of, Task, word_at}
+use Rattle.oc_top.specs.Commands.{Plan, report, drill, regions, listing, imaging, checking, auditing, executing, limits_of, Task, word_at}
 use Rattle.oc_top.specs.Files.{Files, run_files, file_at, limit_at, IsFile, AreFiles, WereFetched, IsHeld, AreHeld, AreHeldBefore}
 use Rattle.oc_top.specs.Sources.{Reading, program}
 use Rattle.oc_top.proofs.OneReading.{one_reading}
@@ -63,7 +63,7 @@ print_answer source text run d = ap (λ (v : Verdict). is_of_run v.answer) d.is_
 print_judged : (source : List ℕ) (text : TProgram → List ℕ) (run : Verdict) → IsPrint source text run → IsVerdict source (λ reading. printed reading text) run
 print_judged source text run d = record { reading = program d.written; reads = d.spelled; is_verdict = sym d.is_text }
 
-pub done_answer : (files : List (List ℕ)) (wanted : Wanted) (run : Verdict) → IsDone files wanted run → is_of_run run.answer ≡ true
+pub done_answer : (files : List (List ℕ)) (task : Task) (run : Verdict) → IsDone files task run → is_of_run run.answer ≡ true
 done_answer files (report plan meters) run d = run_answer (run_files files) plan run d
 done_answer files (drill turns plan) run d = ap (λ (v : Verdict). is_of_run v.answer) (sym d.is_verdict)
 done_answer files regions run d = print_answer _ _ run d
@@ -74,11 +74,11 @@ done_answer files auditing run d = ap (λ (v : Verdict). is_of_run v.answer) d.i
 done_answer files (executing plan) run d = ap (λ (v : Verdict). is_of_run v.answer) d.is_run ∙ of_run d.image (history d.rows) (plan d.periods)
 
 -- what was written whole was done
-pub whole_done : (files : List (List ℕ)) (wanted : Wanted) (run : Verdict) → IsDoneWhole files wanted run → IsDone files wanted run
+pub whole_done : (files : List (List ℕ)) (task : Task) (run : Verdict) → IsDoneWhole files task run → IsDone files task run
 whole_done files (report plan meters) run d = d.is
-whole_done files wanted run d = d
+whole_done files task run d = d
 
-done_judged : (files : List (List ℕ)) (wanted : Wanted) (run : Verdict) → IsDone files wanted run → IsJudged files wanted run
+done_judged : (files : List (List ℕ)) (task : Task) (run : Verdict) → IsDone files task run → IsJudged files task run
 done_judged files (report plan meters) run d = record { reading = program d.written; reads = d.spelled; is_verdict = run_verdict (run_files files) plan run d }
 done_judged files (drill turns plan) run d = d
 done_judged files regions run d = print_judged _ _ run d
@@ -95,7 +95,7 @@ same_verdict source on a b x y = sym x.is_verdict ∙ ap on (one_reading source 
 abbrev AreWithin : List (List ℕ) → List ℕ → Type 0
 AreWithin files limits = (k : ℕ) → k < length limits → length (file_at files k) ≤ limit_at limits k
 
-one_verdict : (files : List (List ℕ)) (wanted : Wanted) → AreWithin files (limits_of wanted) → (a b : Verdict) → IsJudged files wanted a → IsJudged files wanted b → a ≡ b
+one_verdict : (files : List (List ℕ)) (task : Task) → AreWithin files (limits_of task) → (a b : Verdict) → IsJudged files task a → IsJudged files task b → a ≡ b
 one_verdict files (report plan meters) within a b x y = same_verdict _ _ a b x y
 one_verdict files (drill turns plan) within a b x y = same_verdict _ _ a b x y
 one_verdict files regions within a b x y = same_verdict _ _ a b x y
@@ -128,9 +128,9 @@ same_lists (x ∷ xs) (y ∷ ys) n h =
     ap (λ (z : List ℕ). z ∷ xs) front ∙ ap (λ (zs : List (List ℕ)). y ∷ zs) back
 
 -- files that were fetched, where these are held, are these
-pub same_files : (holds : List ℕ → Held) (words : List (List ℕ)) (first : ℕ) (limits : List ℕ) (files other : List (List ℕ)) → AreHeld holds words first limits files
-    → AreFiles holds words first limits other → other ≡ files
-same_files holds words first limits files other h f =
+pub same_files : (holds : List ℕ → Held) (words : List (List ℕ)) (limits : List ℕ) (files other : List (List ℕ)) → AreHeld holds words limits files
+    → AreFiles holds words limits other → other ≡ files
+same_files holds words limits files other h f =
     let count : length files ≡ length limits = h.count in
     same_lists other files (f.count ∙ sym count) (λ k l. let m : k < length limits = omega (arith, l, count) in gives_same _ (file_at files k) (file_at other k) (h.each k m).told (f.each k m).gives)
 
@@ -152,8 +152,8 @@ file_fits held limit bytes x e l f = let same = gives_same held bytes x e f.give
 -- an answer with its cause, by its kind
 pub data Cause (c : Call) (told : List ℕ) (end : Answer) : Type 0 where
   nothing_asked : end ≡ answer.Usage → IsNoTask c told → Cause c told end
-  unread : (word : ℕ) → end ≡ answer.Unreadable word → IsUnfetched c told word (λ held limit. c.shelf.rose ⊎ (held ≡ nothing)) → Cause c told end
-  too_long : (word : ℕ) → end ≡ answer.TooLong word → IsUnfetched c told word Longer → Cause c told end
+  unread : (file : ℕ) → end ≡ answer.Unreadable file → IsUnfetched c told file (λ held limit. c.shelf.rose ⊎ (held ≡ nothing)) → Cause c told end
+  too_long : (file : ℕ) → end ≡ answer.TooLong file → IsUnfetched c told file Longer → Cause c told end
   refused : is_refusal end ≡ true → AreRefused c told end → Cause c told end
   done : is_of_run end ≡ true → WasDone c IsDoneWhole (IsWhole c told end) → Cause c told end
   in_part : end ≡ answer.WriteFault → WasDone c IsDone (IsPart c told) → Cause c told end
@@ -161,8 +161,8 @@ pub data Cause (c : Call) (told : List ℕ) (end : Answer) : Type 0 where
 
 pub cause : (c : Call) (told : List ℕ) (end : Answer) → Comes c told end → Cause c told end
 cause c told answer.Usage w = nothing_asked refl w
-cause c told (answer.Unreadable word) w = unread word refl w
-cause c told (answer.TooLong word) w = too_long word refl w
+cause c told (answer.Unreadable file) w = unread file refl w
+cause c told (answer.TooLong file) w = too_long file refl w
 cause c told (answer.Syntax line) w = refused refl w
 cause c told (answer.Rule line rule) w = refused refl w
 cause c told (answer.BadSensors row) w = refused refl w
@@ -211,51 +211,51 @@ module _ (c : Call) (told : List ℕ) (task : Task) (asked : c.task ≡ Some tas
   the_task other e = same_task other task (sym e ∙ asked)
 
   abbrev limits : List ℕ
-  limits = limits_of task.wanted
+  limits = limits_of task
 
   -- ---- exactly
 
-  module _ (files : List (List ℕ)) (held : AreHeld c.shelf.holds c.words task.first limits files) where
-    judged_here : (other : List (List ℕ)) (run on : Verdict) → AreFiles c.shelf.holds c.words task.first limits other → IsJudged files task.wanted on
-        → IsJudged other task.wanted run → run.answer ≡ on.answer
+  module _ (files : List (List ℕ)) (held : AreHeld c.shelf.holds c.words limits files) where
+    judged_here : (other : List (List ℕ)) (run on : Verdict) → AreFiles c.shelf.holds c.words limits other → IsJudged files task on
+        → IsJudged other task run → run.answer ≡ on.answer
     judged_here other run on f j k =
-        let same : other ≡ files = same_files c.shelf.holds c.words task.first limits files other held f in
-        let here : IsJudged files task.wanted run = subst (λ (x : List (List ℕ)). IsJudged x task.wanted run) same k in
-        ap (λ (v : Verdict). v.answer) (one_verdict files task.wanted (λ n l. (held.each n l).within) run on here j)
+        let same : other ≡ files = same_files c.shelf.holds c.words limits files other held f in
+        let here : IsJudged files task run = subst (λ (x : List (List ℕ)). IsJudged x task run) same k in
+        ap (λ (v : Verdict). v.answer) (one_verdict files task (λ n l. (held.each n l).within) run on here j)
 
-    judged_same : (other : Task) (found : List (List ℕ)) (run on : Verdict) → HasFiles c other found → IsJudged files task.wanted on → IsJudged found other.wanted run
+    judged_same : (other : Task) (found : List (List ℕ)) (run on : Verdict) → HasFiles c other found → IsJudged files task on → IsJudged found other run
         → run.answer ≡ on.answer
     judged_same other found run on f j k =
         let same = the_task other f.is_task in
         judged_here found run on
-        (subst (λ (t : Task). AreFiles c.shelf.holds c.words t.first (limits_of t.wanted) found) same f.are_files) j
-        (subst (λ (t : Task). IsJudged found t.wanted run) same k)
+        (subst (λ (t : Task). AreFiles c.shelf.holds c.words (limits_of t) found) same f.are_files) j
+        (subst (λ (t : Task). IsJudged found t run) same k)
 
-    held_here : (other : Task) → c.task ≡ Some other → (place : ℕ) → place < length (limits_of other.wanted)
-        → (bytes : List ℕ) × IsHeld (c.shelf.holds (word_at c.words (other.first + place))) (limit_at (limits_of other.wanted) place) bytes
+    held_here : (other : Task) → c.task ≡ Some other → (place : ℕ) → place < length (limits_of other)
+        → (bytes : List ℕ) × IsHeld (c.shelf.holds (word_at c.words place)) (limit_at (limits_of other) place) bytes
     held_here other e place l =
         let same = the_task other e in
-        subst (λ (t : Task). place < length (limits_of t.wanted)
-        → (bytes : List ℕ) × IsHeld (c.shelf.holds (word_at c.words (t.first + place))) (limit_at (limits_of t.wanted) place) bytes) (sym same)
+        subst (λ (t : Task). place < length (limits_of t)
+        → (bytes : List ℕ) × IsHeld (c.shelf.holds (word_at c.words place)) (limit_at (limits_of t) place) bytes) (sym same)
         (λ m. (file_at files place, held.each place m)) l
 
     -- the answer of this verdict, or there was no memory
-    by_cause : (on : Verdict) → IsJudged files task.wanted on → (c.shelf.rose → ⊥) → (c.out.rose → ⊥) → (end : Answer) → Cause c told end
+    by_cause : (on : Verdict) → IsJudged files task on → (c.shelf.rose → ⊥) → (c.out.rose → ⊥) → (end : Answer) → Cause c told end
         → (end ≡ on.answer) ⊎ (end ≡ answer.Memory)
     by_cause on j calm silent end (nothing_asked e w) = cc (sym w.none ∙ asked)
-    by_cause on j calm silent end (unread word e w) =
-        let h = held_here w.task w.is_task w.place w.among in
+    by_cause on j calm silent end (unread file e w) =
+        let h = held_here w.task w.is_task file w.among in
         absurd (no_cause _ _ h.0 c.shelf.rose h.1 calm w.is_cause)
-    by_cause on j calm silent end (too_long word e w) =
-        let h = held_here w.task w.is_task w.place w.among in
+    by_cause on j calm silent end (too_long file e w) =
+        let h = held_here w.task w.is_task file w.among in
         absurd (not_longer _ _ h.0 h.1.told h.1.within w.is_cause)
     by_cause on j calm silent end (refused e w) = inl (judged_same w.task w.files (refuses end) on w.fetched j w.judged)
     by_cause on j calm silent end (done e w) = inl (w.came.answered ∙ judged_same w.task w.files w.run on w.fetched j
-        (done_judged w.files w.task.wanted w.run (whole_done w.files w.task.wanted w.run w.done)))
+        (done_judged w.files w.task w.run (whole_done w.files w.task w.run w.done)))
     by_cause on j calm silent end (in_part e w) = absurd (silent w.came.written.rose)
     by_cause on j calm silent end (no_memory e w) = inr e
 
-    pub exactly : (on : Verdict) → IsJudged files task.wanted on → (c.shelf.rose → ⊥) → (c.out.rose → ⊥) → (end : Answer) → Comes c told end
+    pub exactly : (on : Verdict) → IsJudged files task on → (c.shelf.rose → ⊥) → (c.out.rose → ⊥) → (end : Answer) → Comes c told end
         → (end ≡ on.answer) ⊎ (end ≡ answer.Memory)
     exactly on j calm silent end w = by_cause on j calm silent end (cause c told end w)
 
@@ -263,19 +263,19 @@ module _ (c : Call) (told : List ℕ) (task : Task) (asked : c.task ≡ Some tas
 
   module _ (place : ℕ) (among : place < length limits) where
     fetched_here : (other : Task) (files : List (List ℕ)) → HasFiles c other files
-        → (bytes : List ℕ) × IsFile (c.shelf.holds (word_at c.words (task.first + place))) (limit_at limits place) bytes
+        → (bytes : List ℕ) × IsFile (c.shelf.holds (word_at c.words place)) (limit_at limits place) bytes
     fetched_here other files f =
-        let are = subst (λ (t : Task). AreFiles c.shelf.holds c.words t.first (limits_of t.wanted) files) (the_task other f.is_task) f.are_files in
+        let are = subst (λ (t : Task). AreFiles c.shelf.holds c.words (limits_of t) files) (the_task other f.is_task) f.are_files in
         (file_at files place, are.each place among)
 
-    module _ (gone : c.shelf.holds (word_at c.words (task.first + place)) ≡ nothing) where
+    module _ (gone : c.shelf.holds (word_at c.words place) ≡ nothing) where
       not_gone : (other : Task) (files : List (List ℕ)) → HasFiles c other files → ⊥
       not_gone other files f = let g = fetched_here other files f in gives_something _ g.0 gone g.1.gives
 
       missing_by : (end : Answer) → Cause c told end → (status_of end ≡ 2) ⊎ ((status_of end ≡ 3) ⊎ (status_of end ≡ 11))
       missing_by end (nothing_asked e w) = cc (sym w.none ∙ asked)
-      missing_by end (unread word e w) = inl (ap status_of e)
-      missing_by end (too_long word e w) = inr (inl (ap status_of e))
+      missing_by end (unread file e w) = inl (ap status_of e)
+      missing_by end (too_long file e w) = inr (inl (ap status_of e))
       missing_by end (refused e w) = absurd (not_gone w.task w.files w.fetched)
       missing_by end (done e w) = absurd (not_gone w.task w.files w.fetched)
       missing_by end (in_part e w) = absurd (not_gone w.task w.files w.fetched)
@@ -284,30 +284,28 @@ module _ (c : Call) (told : List ℕ) (task : Task) (asked : c.task ≡ Some tas
       pub missing : (end : Answer) → Comes c told end → (status_of end ≡ 2) ⊎ ((status_of end ≡ 3) ⊎ (status_of end ≡ 11))
       missing end w = missing_by end (cause c told end w)
 
-    module _ (bytes : List ℕ) (there : c.shelf.holds (word_at c.words (task.first + place)) ≡ content bytes) (over : limit_at limits place < length bytes)
-        (before : AreHeldBefore c.shelf.holds c.words task.first limits place) (calm : c.shelf.rose → ⊥) where
+    module _ (bytes : List ℕ) (there : c.shelf.holds (word_at c.words place) ≡ content bytes) (over : limit_at limits place < length bytes)
+        (before : AreHeldBefore c.shelf.holds c.words limits place) (calm : c.shelf.rose → ⊥) where
       no_fit : (other : Task) (files : List (List ℕ)) → HasFiles c other files → ⊥
       no_fit other files f = let g = fetched_here other files f in file_fits _ _ bytes g.0 there over g.1
 
       -- where a file couldn't be read, it is none of those before this one, nor this one, nor one behind it
-      no_fault : (at : ℕ) → WereFetched c.shelf.holds c.words task.first limits at → c.shelf.rose ⊎ (c.shelf.holds (word_at c.words (task.first + at)) ≡ nothing)
+      no_fault : (at : ℕ) → WereFetched c.shelf.holds c.words limits at → c.shelf.rose ⊎ (c.shelf.holds (word_at c.words at) ≡ nothing)
           → (at ≡ place) ⊎ ((at < place) ⊎ (place < at)) → ⊥
       no_fault at were (inl f) o = calm f
-      no_fault at were (inr none) (inl here) = cc (sym there ∙ ap (λ (k : ℕ). c.shelf.holds (word_at c.words (task.first + k))) (sym here) ∙ none)
+      no_fault at were (inr none) (inl here) = cc (sym there ∙ ap (λ (k : ℕ). c.shelf.holds (word_at c.words k)) (sym here) ∙ none)
       no_fault at were (inr none) (inr (inl earlier)) = let h = before at earlier in cc (sym h.1.told ∙ none)
       no_fault at were (inr none) (inr (inr later)) = let f = were place later in file_fits _ _ bytes f.0 there over f.1
 
-      unread_here : (word : ℕ) → IsUnfetched c told word (λ held limit. c.shelf.rose ⊎ (held ≡ nothing)) → ⊥
-      unread_here word w =
+      unread_here : (file : ℕ) → IsUnfetched c told file (λ held limit. c.shelf.rose ⊎ (held ≡ nothing)) → ⊥
+      unread_here file w =
           let same = the_task w.task w.is_task in
-          no_fault w.place (subst (λ (t : Task). WereFetched c.shelf.holds c.words t.first (limits_of t.wanted) w.place) same w.before)
-          (subst (λ (t : Task). c.shelf.rose ⊎ (c.shelf.holds (word_at c.words (t.first + w.place)) ≡ nothing)) same w.is_cause)
-          (cases_order w.place place)
+          no_fault file (subst (λ (t : Task). WereFetched c.shelf.holds c.words (limits_of t) file) same w.before) w.is_cause (cases_order file place)
 
       long_by : (end : Answer) → Cause c told end → (status_of end ≡ 3) ⊎ (status_of end ≡ 11)
       long_by end (nothing_asked e w) = cc (sym w.none ∙ asked)
-      long_by end (unread word e w) = absurd (unread_here word w)
-      long_by end (too_long word e w) = inl (ap status_of e)
+      long_by end (unread file e w) = absurd (unread_here file w)
+      long_by end (too_long file e w) = inl (ap status_of e)
       long_by end (refused e w) = absurd (no_fit w.task w.files w.fetched)
       long_by end (done e w) = absurd (no_fit w.task w.files w.fetched)
       long_by end (in_part e w) = absurd (no_fit w.task w.files w.fetched)
@@ -322,8 +320,8 @@ module _ (c : Call) (told : List ℕ) where
   -- a usage is answered only where nothing is asked for, and there always
   no_task_by : (end : Answer) → Cause c told end → status_of end ≡ 1 → c.task ≡ None
   no_task_by end (nothing_asked e w) s = w.none
-  no_task_by end (unread word e w) s = absurd (other_status 2 refl (sym (ap status_of e) ∙ s))
-  no_task_by end (too_long word e w) s = absurd (other_status 3 refl (sym (ap status_of e) ∙ s))
+  no_task_by end (unread file e w) s = absurd (other_status 2 refl (sym (ap status_of e) ∙ s))
+  no_task_by end (too_long file e w) s = absurd (other_status 3 refl (sym (ap status_of e) ∙ s))
   no_task_by end (refused e w) s = absurd (other_status (status_of end) (refusal_apart end e) s)
   no_task_by end (done e w) s = absurd (other_status (status_of end) (run_apart end e) s)
   no_task_by end (in_part e w) s = absurd (other_status 10 refl (sym (ap status_of e) ∙ s))
@@ -338,8 +336,8 @@ module _ (c : Call) (told : List ℕ) where
 
     usage_by : (end : Answer) → Cause c told end → status_of end ≡ 1
     usage_by end (nothing_asked e w) = ap status_of e
-    usage_by end (unread word e w) = absurd (not_asked w.task w.is_task)
-    usage_by end (too_long word e w) = absurd (not_asked w.task w.is_task)
+    usage_by end (unread file e w) = absurd (not_asked w.task w.is_task)
+    usage_by end (too_long file e w) = absurd (not_asked w.task w.is_task)
     usage_by end (refused e w) = absurd (not_asked w.task w.fetched.is_task)
     usage_by end (done e w) = absurd (not_asked w.task w.fetched.is_task)
     usage_by end (in_part e w) = absurd (not_asked w.task w.fetched.is_task)
@@ -352,8 +350,8 @@ module _ (c : Call) (told : List ℕ) where
 
   quiet_by : (end : Answer) → Cause c told end → is_written (status_of end) ≡ false → c.out.took []
   quiet_by end (nothing_asked e w) s = w.silent.unwritten
-  quiet_by end (unread word e w) s = w.silent.unwritten
-  quiet_by end (too_long word e w) s = w.silent.unwritten
+  quiet_by end (unread file e w) s = w.silent.unwritten
+  quiet_by end (too_long file e w) s = w.silent.unwritten
   quiet_by end (refused e w) s = w.silent.unwritten
   quiet_by end (done e w) s = absurd (true≢false (sym (run_written end e) ∙ s))
   quiet_by end (in_part e w) s = absurd (true≢false (sym (ap (λ (x : Answer). is_written (status_of x)) e) ∙ s))

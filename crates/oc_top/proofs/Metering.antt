@@ -90,11 +90,11 @@ pub comes_alone : (c : Call) (told : List ℕ) (end other : Answer) → told ≡
 comes_alone c told end other none same h = subst (λ (t : List ℕ). Comes c t end) (sym none) (subst (λ (x : Answer). Comes c [] x) (sym same) h)
 
 -- a run was written, and this is what its meters tell; or there was no memory to read with
-pub was_read : (c : Call) (first : ℕ) (plan : Plan) (meters : Option (List Reading)) (asked : c.task ≡ Some (record { first = first; wanted = report plan meters })) (files : Files)
-    (fetched : AreFiles c.shelf.holds c.words first (run_limits source_limit) (listed files)) (all_asked : c.shelf.asked (names_of c.words first (run_limits source_limit) 3))
+pub was_read : (c : Call) (plan : Plan) (meters : Option (List Reading)) (asked : c.task ≡ Some (report plan meters)) (files : Files)
+    (fetched : AreFiles c.shelf.holds c.words (run_limits source_limit) (listed files)) (all_asked : c.shelf.asked (names_of c.words (run_limits source_limit) 3))
     (machine : Running) (sensors : Told) (left : List Period) (ready : IsReady files plan machine sensors left) (told : List ℕ) (end : Answer)
     → IsReported machine.parts sensors.rows left meters c.out told end → Comes c told end
-was_read c first plan meters asked files fetched all_asked machine sensors left ready told end (unread e t u) =
-    comes_alone c told end answer.Memory u e (turned_down c first plan meters asked files fetched all_asked answer.Memory (by_memory refl) t)
-was_read c first plan meters asked files fetched all_asked machine sensors left ready told end (read w fits tells untold) =
-    was_metered c first plan meters asked files fetched all_asked machine sensors left ready end w told fits tells untold
+was_read c plan meters asked files fetched all_asked machine sensors left ready told end (unread e t u) =
+    comes_alone c told end answer.Memory u e (turned_down c plan meters asked files fetched all_asked answer.Memory (by_memory refl) t)
+was_read c plan meters asked files fetched all_asked machine sensors left ready told end (read w fits tells untold) =
+    was_metered c plan meters asked files fetched all_asked machine sensors left ready end w told fits tells untold

@@ -4,17 +4,15 @@ use Rattle.std.specs.Prelude.{◌==◌, option_map, if◌then◌else◌}
 use Rattle.oc_power.specs.Cutting.{cut_rows}
 use Rattle.oc_power.specs.Looping.{looped}
 use Rattle.oc_meters.specs.Tally.{Reading, reading, readings}
-use Rattle.oc_top.specs.Commands.{Plan, Plans, command_of, plans_of, task_for, task_of, with_drill, with_image, with_plan}
-use Rattle.oc_top.specs.declared.command.Command.{Command}
-use Rattle.oc_top.specs.declared.command.Command.TheVariants as commands
+use Rattle.oc_top.specs.Commands.{Command, Drill, Exec, Plan, Plans, Run, plans_of, task_of, with_drill, with_image, with_plan}
 use Rattle.oc_top.specs.Supplies.{standard_meters, standard_plans}
 
 -- plans that give the same for each number give the same task
-same_task_for : (p q : Plans) (meters : List Reading) → ((k : ℕ) → p k ≡ q k) → (command : Option Command) → task_for p meters command ≡ task_for q meters command
+same_task_for : (p q : Plans) (meters : List Reading) → ((k : ℕ) → p k ≡ q k) → (command : Option Command) → task_of p meters command ≡ task_of q meters command
 same_task_for p q meters h None = refl
-same_task_for p q meters h (Some (commands.Run supply first metered)) = ap (λ (o : Option Plan). with_plan first (if metered then Some meters else None) o) (h supply)
-same_task_for p q meters h (Some (commands.Drill turns)) = ap (λ (o : Option Plan). with_drill turns o) (h 0)
-same_task_for p q meters h (Some (commands.Exec first)) = ap (λ (o : Option Plan). with_image first o) (h 0)
+same_task_for p q meters h (Some (Run supply metered files)) = ap (λ (o : Option Plan). with_plan (if metered then Some meters else None) o) (h supply)
+same_task_for p q meters h (Some (Drill turns)) = ap (λ (o : Option Plan). with_drill turns o) (h 0)
+same_task_for p q meters h (Some (Exec files)) = ap (λ (o : Option Plan). with_image o) (h 0)
 same_task_for p q meters h (Some other) = refl
 
 unlike : (n k : ℕ) → n < k → (n == k) ≡ false
@@ -45,10 +43,10 @@ module _ {B : Type 0} (boxes : List B) (number : B → ℕ) (plan : B → Plan) 
       ap (λ (x : ℕ). chosen x (number b) (number c) k) zero_is ∙ ap (λ (y : ℕ). chosen 0 y (number c) k) one_is ∙ ap (λ (z : ℕ). chosen 0 1 z k) two_is
       ∙ chosen_is k
 
-  pub standard_task : (meters : List Reading) (words : List (List ℕ)) → boxes ≡ a ∷ b ∷ c ∷ [] → task_of (plans_of number plan boxes) meters words ≡ task_of standard_plans meters words
-  standard_task meters words is =
-      ap (λ (bs : List B). task_of (plans_of number plan bs) meters words) is
-      ∙ same_task_for (plans_of number plan (a ∷ b ∷ c ∷ [])) standard_plans meters plans_are (command_of words)
+  pub standard_task : (meters : List Reading) (command : Option Command) → boxes ≡ a ∷ b ∷ c ∷ [] → task_of (plans_of number plan boxes) meters command ≡ task_of standard_plans meters command
+  standard_task meters command is =
+      ap (λ (bs : List B). task_of (plans_of number plan bs) meters command) is
+      ∙ same_task_for (plans_of number plan (a ∷ b ∷ c ∷ [])) standard_plans meters plans_are command
 
 -- the program's own meters, from zero on
 module _ {M : Type 0} (kind : M → ℕ) (numbers : M → List ℕ) (a b c : M) (counts : reading kind numbers a ≡ record { kind = 0; numbers = 0 ∷ 0 ∷ 0 ∷ 0 ∷ 0 ∷ [] })

@@ -22,7 +22,7 @@ use Rattle.oc_outage.proofs.Lasting.{lost_exactly, over_exactly}
 use Rattle.oc_bounds.specs.Bounds.{AreSafe}
 use Rattle.oc_top.specs.Meant.{program_code, program_bounds}
 use Rattle.oc_meters.specs.Tally.{Reading}
-use Rattle.oc_top.specs.Commands.{Plan, Wanted, report, limits_of, Task}
+use Rattle.oc_top.specs.Commands.{Plan, report, limits_of, Task}
 use Rattle.oc_top.specs.Files.{Files, AreFiles, AreHeld, run_files}
 use Rattle.oc_top.specs.Sources.{program, ReadsAs}
 use Rattle.oc_top.specs.Reports.{answer_by, answer_of, last_said}
@@ -73,8 +73,8 @@ same_periods a b e = cc
 
 -- ---- enough
 
-module _ (c : Call) (told : List ℕ) (task : Task) (asked : c.task ≡ Some task) (plan : Plan) (meters : Option (List Reading)) (is_report : task.wanted ≡ report plan meters)
-    (files : List (List ℕ)) (held : AreHeld c.shelf.holds c.words task.first (limits_of task.wanted) files)
+module _ (c : Call) (told : List ℕ) (task : Task) (asked : c.task ≡ Some task) (plan : Plan) (meters : Option (List Reading)) (is_report : task ≡ report plan meters)
+    (files : List (List ℕ)) (held : AreHeld c.shelf.holds c.words (limits_of task) files)
     (p : TProgram) (reads : ReadsAs (run_files files).source (program p)) (rows : List Row) (sensed : sensor_file p.names.sensors (run_files files).sensors ≡ sensor_rows.readings rows)
     (periods : List Period) (powered : power_file (run_files files).power ≡ power_rows.periods periods)
     (safe : AreSafe (program_bounds p) (suc (program_bounds p).total) (plan periods)) where
@@ -88,20 +88,20 @@ module _ (c : Call) (told : List ℕ) (task : Task) (asked : c.task ≡ Some tas
       (subst (λ (q : TProgram). AreSafe (program_bounds q) (suc (program_bounds q).total) (plan r.periods)) (sym written)
       (subst (λ (ps : List Period). AreSafe (program_bounds p) (suc (program_bounds p).total) (plan ps)) (sym periods_are) safe))
 
-  done_ends : (other : Task) (found : List (List ℕ)) (run : Verdict) → HasFiles c other found → IsDone found other.wanted run → (run.answer ≡ answer.End) ⊎ (run.answer ≡ answer.Trapped)
+  done_ends : (other : Task) (found : List (List ℕ)) (run : Verdict) → HasFiles c other found → IsDone found other run → (run.answer ≡ answer.End) ⊎ (run.answer ≡ answer.Trapped)
   done_ends other found run f done =
       let same = the_task c told task asked other f.is_task in
-      let are : AreFiles c.shelf.holds c.words task.first (limits_of task.wanted) found =
-      subst (λ (t : Task). AreFiles c.shelf.holds c.words t.first (limits_of t.wanted) found) same f.are_files in
-      let run_is : IsRun (run_files found) plan run = subst (λ (w : Wanted). IsDone found w run) (ap (λ (t : Task). t.wanted) same ∙ is_report) done in
-      ends found run (same_files c.shelf.holds c.words task.first (limits_of task.wanted) files found held are) run_is
+      let are : AreFiles c.shelf.holds c.words (limits_of task) found =
+      subst (λ (t : Task). AreFiles c.shelf.holds c.words (limits_of t) found) same f.are_files in
+      let run_is : IsRun (run_files found) plan run = subst (λ (t : Task). IsDone found t run) (same ∙ is_report) done in
+      ends found run (same_files c.shelf.holds c.words (limits_of task) files found held are) run_is
 
   -- the verdict on these files
   abbrev on : Verdict
   on = verdict (program p) (run_files files) plan
 
-  judged : IsJudged files task.wanted on
-  judged = subst (λ (w : Wanted). IsJudged files w on) (sym is_report) (record { reading = program p; reads = reads; is_verdict = refl })
+  judged : IsJudged files task on
+  judged = subst (λ (t : Task). IsJudged files t on) (sym is_report) (record { reading = program p; reads = reads; is_verdict = refl })
 
   of_on : is_of_run on.answer ≡ true
   of_on =
@@ -112,8 +112,8 @@ module _ (c : Call) (told : List ℕ) (task : Task) (asked : c.task ≡ Some tas
   by_answer : (end : Answer) → is_of_run end ≡ true → Comes c told end → (status_of end ≡ 0) ⊎ ((status_of end ≡ 8) ⊎ (status_of end ≡ 11))
   by_answer answer.End r w = inl refl
   by_answer answer.Trapped r w = inr (inl refl)
-  by_answer answer.Dark r w = elim (done_ends w.task w.files w.run w.fetched (whole_done w.files w.task.wanted w.run w.done)) [ inl x ↦ cc (w.came.answered ∙ x) | inr x ↦ cc (w.came.answered ∙ x) ]
-  by_answer answer.Cut r w = elim (done_ends w.task w.files w.run w.fetched (whole_done w.files w.task.wanted w.run w.done)) [ inl x ↦ cc (w.came.answered ∙ x) | inr x ↦ cc (w.came.answered ∙ x) ]
+  by_answer answer.Dark r w = elim (done_ends w.task w.files w.run w.fetched (whole_done w.files w.task w.run w.done)) [ inl x ↦ cc (w.came.answered ∙ x) | inr x ↦ cc (w.came.answered ∙ x) ]
+  by_answer answer.Cut r w = elim (done_ends w.task w.files w.run w.fetched (whole_done w.files w.task w.run w.done)) [ inl x ↦ cc (w.came.answered ∙ x) | inr x ↦ cc (w.came.answered ∙ x) ]
   by_answer end r w = cc r
 
   enough : (c.shelf.rose → ⊥) → (c.out.rose → ⊥) → (end : Answer) → Comes c told end → (status_of end ≡ 0) ⊎ ((status_of end ≡ 8) ⊎ (status_of end ≡ 11))

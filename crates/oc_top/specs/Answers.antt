@@ -1,5 +1,5 @@
 -- What is answered, and why.
-use Rattle.std.specs.Prelude.{ℕ, suc, ◌+◌, ◌<◌, ◌≤◌, ◌≡◌, ◌⊎◌, ◌==◌, ◌||◌, ◌++◌, Bool, List, [], length, codes, decimal, Option, Some, None}
+use Rattle.std.specs.Prelude.{ℕ, suc, ◌<◌, ◌≤◌, ◌≡◌, ◌⊎◌, ◌==◌, ◌||◌, ◌++◌, Bool, List, [], length, codes, decimal, Option, Some, None}
 use Rattle.oc_io.specs.Faults.{Rose}
 use Rattle.oc_io.specs.Held.{Held, nothing, Longer}
 use Rattle.oc_meters.specs.Tally.{Reading as Meter}
@@ -9,7 +9,7 @@ use Rattle.oc_items.specs.declared.item.Item.{Item}
 use Rattle.oc_tree.specs.Tree.{TProgram}
 use Rattle.oc_io.specs.Counts.{capped, line_feeds}
 use Rattle.oc_drill.specs.Drill.{drill_source, drill_sensors, drill_power, drill_line}
-use Rattle.oc_top.specs.Commands.{Plan, Wanted, report, drill, regions, listing, imaging, checking, auditing, executing, limits_of, meters_of, Task, word_at}
+use Rattle.oc_top.specs.Commands.{Command, Plan, Plans, Task, report, drill, regions, listing, imaging, checking, auditing, executing, limits_of, meters_of, named_files, task_of, word_at}
 use Rattle.oc_top.specs.Files.{Files, Fetches, AreFiles, WereFetched, file_at, limit_at, names_of, run_files}
 use Rattle.oc_top.specs.Sources.{Reading, ReadsAs, program}
 use Rattle.oc_top.specs.Verdict.{Verdict, verdict, refuses, prints, printed, regions_of, listing_of, image_of}
@@ -24,8 +24,8 @@ use Rattle.oc_top.specs.declared.answer.Answer.TheVariants as answer
 -- the status of an answer
 abbrev pub status_of : Answer → ℕ
 status_of answer.Usage = 1
-status_of (answer.Unreadable word) = 2
-status_of (answer.TooLong word) = 3
+status_of (answer.Unreadable file) = 2
+status_of (answer.TooLong file) = 3
 status_of (answer.Syntax line) = 4
 status_of (answer.Rule line rule) = 5
 status_of (answer.BadSensors row) = 6
@@ -46,11 +46,11 @@ status_of (answer.Uncovered gap) = 18
 abbrev pub is_written : ℕ → Bool
 is_written status = (status == 0) || (status == 8) || (status == 9) || (status == 10) || (status == 12)
 
--- the line of an answer on the standard error, or none
+-- the line of an answer on the standard error, or none, where these are the words of the command's files
 abbrev pub line_of : List (List ℕ) → Answer → List ℕ
 line_of words answer.Usage = codes "ocelot: not a command\n"
-line_of words (answer.Unreadable word) = codes "ocelot: cannot read " ++ (word_at words word ++ codes "\n")
-line_of words (answer.TooLong word) = codes "ocelot: too long " ++ (word_at words word ++ codes "\n")
+line_of words (answer.Unreadable file) = codes "ocelot: cannot read " ++ (word_at words file ++ codes "\n")
+line_of words (answer.TooLong file) = codes "ocelot: too long " ++ (word_at words file ++ codes "\n")
 line_of words (answer.Syntax line) = codes "ocelot: syntax error in line " ++ (decimal line ++ codes "\n")
 line_of words (answer.Rule line rule) = codes "ocelot: rule " ++ (decimal rule ++ (codes " broken in line " ++ (decimal line ++ codes "\n")))
 line_of words (answer.BadSensors row) = codes "ocelot: bad row " ++ (decimal row ++ codes " in sensors\n")
@@ -86,7 +86,7 @@ abbrev pub IsDrill : ℕ → Plan → Verdict → Type 0
 IsDrill turns plan run = IsVerdict (drill_source turns) (λ reading. prints (verdict_line turns (verdict reading (drill_files turns) plan))) run
 
 -- this is the verdict on files
-abbrev pub IsJudged : List (List ℕ) → Wanted → Verdict → Type 0
+abbrev pub IsJudged : List (List ℕ) → Task → Verdict → Type 0
 IsJudged files (report plan meters) run = IsVerdict (file_at files 0) (λ reading. verdict reading (run_files files) plan) run
 IsJudged files (drill turns plan) run = IsDrill turns plan run
 IsJudged files regions run = IsVerdict (file_at files 0) (λ reading. printed reading regions_of) run
@@ -102,8 +102,8 @@ pub record IsPrint (source : List ℕ) (text : TProgram → List ℕ) (run : Ver
   pub spelled : ReadsAs source (program written)
   pub is_text : run ≡ prints (text written)
 
--- this does what is wanted
-abbrev pub IsDone : List (List ℕ) → Wanted → Verdict → Type 0
+-- this does the task
+abbrev pub IsDone : List (List ℕ) → Task → Verdict → Type 0
 IsDone files (report plan meters) run = IsRun (run_files files) plan run
 IsDone files (drill turns plan) run = IsDrill turns plan run
 IsDone files regions run = IsPrint (file_at files 0) regions_of run
@@ -114,9 +114,9 @@ IsDone files auditing run = IsVouched (file_at files 0) (file_at files 1) run
 IsDone files (executing plan) run = IsExecuted (run_files files) plan run
 
 -- this does it, and all of it was written
-abbrev pub IsDoneWhole : List (List ℕ) → Wanted → Verdict → Type 0
+abbrev pub IsDoneWhole : List (List ℕ) → Task → Verdict → Type 0
 IsDoneWhole files (report plan meters) run = IsReportedRun (run_files files) plan run
-IsDoneWhole files wanted run = IsDone files wanted run
+IsDoneWhole files task run = IsDone files task run
 
 -- ---- what is written
 
@@ -166,7 +166,7 @@ told_by (Some meters) = meter_lines meters
 
 -- ---- calls
 
--- a call: its words, what they ask for, if anything, and what the shelf and the standard output did
+-- a call: the words of its files, its task, if any, and what the shelf and the standard output did
 pub record Call : Type 1 where
   pub words : List (List ℕ)
   pub task : Option Task
@@ -175,6 +175,10 @@ pub record Call : Type 1 where
 
 abbrev pub call_of : List (List ℕ) → Option Task → Fetches → Writes → Call
 call_of words task shelf out = record { words = words; task = task; shelf = shelf; out = out }
+
+-- the call of a command, if any, with these supplies and meters
+abbrev pub call_for : Plans → List Meter → Option Command → Fetches → Writes → Call
+call_for plans meters command shelf out = call_of (named_files command) (task_of plans meters command) shelf out
 
 -- nothing is written, and meters tell nothing
 pub record IsSilent (c : Call) (told : List ℕ) : Type 0 where
@@ -187,50 +191,48 @@ pub record IsNoTask (c : Call) (told : List ℕ) : Type 0 where
   pub asked : c.shelf.asked []
   pub silent : IsSilent c told
 
--- the files before this word were fetched, and its own wasn't, for this cause; none behind it was asked for
-pub record IsUnfetched (c : Call) (told : List ℕ) (word : ℕ) (cause : Held → (limit : ℕ) → Type 0) : Type 0 where
+-- the files before this one were fetched, and it wasn't, for this cause; none behind it was asked for
+pub record IsUnfetched (c : Call) (told : List ℕ) (file : ℕ) (cause : Held → (limit : ℕ) → Type 0) : Type 0 where
   pub task : Task
   pub is_task : c.task ≡ Some task
-  pub place : ℕ
-  pub among : place < length (limits_of task.wanted)
-  pub is_word : word ≡ task.first + place
-  pub before : WereFetched c.shelf.holds c.words task.first (limits_of task.wanted) place
-  pub asked : c.shelf.asked (names_of c.words task.first (limits_of task.wanted) (suc place))
-  pub is_cause : cause (c.shelf.holds (word_at c.words (task.first + place))) (limit_at (limits_of task.wanted) place)
+  pub among : file < length (limits_of task)
+  pub before : WereFetched c.shelf.holds c.words (limits_of task) file
+  pub asked : c.shelf.asked (names_of c.words (limits_of task) (suc file))
+  pub is_cause : cause (c.shelf.holds (word_at c.words file)) (limit_at (limits_of task) file)
   pub silent : IsSilent c told
 
 -- these are the files of what is asked for, and each was asked for once
 pub record HasFiles (c : Call) (task : Task) (files : List (List ℕ)) : Type 0 where
   pub is_task : c.task ≡ Some task
-  pub are_files : AreFiles c.shelf.holds c.words task.first (limits_of task.wanted) files
-  pub asked : c.shelf.asked (names_of c.words task.first (limits_of task.wanted) (length (limits_of task.wanted)))
+  pub are_files : AreFiles c.shelf.holds c.words (limits_of task) files
+  pub asked : c.shelf.asked (names_of c.words (limits_of task) (length (limits_of task)))
 
 -- the files were fetched, and are refused with this answer
 pub record AreRefused (c : Call) (told : List ℕ) (end : Answer) : Type 0 where
   pub task : Task
   pub files : List (List ℕ)
   pub fetched : HasFiles c task files
-  pub judged : IsJudged files task.wanted (refuses end)
+  pub judged : IsJudged files task (refuses end)
   pub silent : IsSilent c told
 
 -- the files were fetched, this was done with them, and this came of it
-pub record WasDone (c : Call) (does : List (List ℕ) → Wanted → Verdict → Type 0) (outcome : Wanted → Verdict → Type 0) : Type 0 where
+pub record WasDone (c : Call) (does : List (List ℕ) → Task → Verdict → Type 0) (outcome : Task → Verdict → Type 0) : Type 0 where
   pub task : Task
   pub files : List (List ℕ)
   pub fetched : HasFiles c task files
   pub run : Verdict
-  pub done : does files task.wanted run
-  pub came : outcome task.wanted run
+  pub done : does files task run
+  pub came : outcome task run
 
 -- all that was to be written was, and this is the answer; where no fault of the output rose, the meters were told the items
 -- of the run
-pub record IsWhole (c : Call) (told : List ℕ) (end : Answer) (wanted : Wanted) (run : Verdict) : Type 0 where
+pub record IsWhole (c : Call) (told : List ℕ) (end : Answer) (task : Task) (run : Verdict) : Type 0 where
   pub answered : end ≡ run.answer
   pub written : TookAll c.out run.text
-  pub tells : ¬ c.out.rose → HasTold run.items (meters_of wanted) told
+  pub tells : ¬ c.out.rose → HasTold run.items (meters_of task) told
 
 -- a part of it was, and the meters tell nothing
-pub record IsPart (c : Call) (told : List ℕ) (wanted : Wanted) (run : Verdict) : Type 0 where
+pub record IsPart (c : Call) (told : List ℕ) (task : Task) (run : Verdict) : Type 0 where
   pub written : TookFront c.out run.text
   pub untold : told ≡ []
 
@@ -239,16 +241,16 @@ pub record HadNoMemory (c : Call) (told : List ℕ) : Type 0 where
   pub task : Task
   pub is_task : c.task ≡ Some task
   pub count : ℕ
-  pub few : count ≤ length (limits_of task.wanted)
-  pub asked : c.shelf.asked (names_of c.words task.first (limits_of task.wanted) count)
+  pub few : count ≤ length (limits_of task)
+  pub asked : c.shelf.asked (names_of c.words (limits_of task) count)
   pub silent : IsSilent c told
 
 -- why a call has its answer, and its meters tell this, in the order of the statuses
 abbrev pub Comes : Call → (told : List ℕ) → Answer → Type 0
 Comes c told answer.End = WasDone c IsDoneWhole (IsWhole c told answer.End)
 Comes c told answer.Usage = IsNoTask c told
-Comes c told (answer.Unreadable word) = IsUnfetched c told word (λ held limit. c.shelf.rose ⊎ (held ≡ nothing))
-Comes c told (answer.TooLong word) = IsUnfetched c told word Longer
+Comes c told (answer.Unreadable file) = IsUnfetched c told file (λ held limit. c.shelf.rose ⊎ (held ≡ nothing))
+Comes c told (answer.TooLong file) = IsUnfetched c told file Longer
 Comes c told (answer.Syntax line) = AreRefused c told (answer.Syntax line)
 Comes c told (answer.Rule line rule) = AreRefused c told (answer.Rule line rule)
 Comes c told (answer.BadSensors row) = AreRefused c told (answer.BadSensors row)

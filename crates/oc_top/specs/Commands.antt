@@ -1,13 +1,16 @@
 -- The command lines.
-use Rattle.std.specs.Prelude.{ℕ, ◌==◌, ◌&&◌, Bool, true, false, not, List, [], ◌∷◌, length, get_or, codes, Option, Some, None, option_and_then, option_map, nat_le, nat_lt, if◌then◌else◌}
+use Rattle.std.specs.Prelude.{ℕ, ◌==◌, ◌&&◌, Bool, true, false, not, List, [], ◌∷◌, ◌≤◌, length, get_or, codes, Option, Some, None, option_and_then, option_map, nat_le, nat_lt, if◌then◌else◌}
 use Rattle.std.specs.Str.{bytes_eq}
 use Rattle.oc_lex.specs.Limits.{source_limit}
 use Rattle.oc_io.specs.declared.period.Period.{Period}
 use Rattle.oc_power.specs.Choice.{first_with}
 use Rattle.oc_rows.specs.Numbers.{number_of}
 use Rattle.oc_meters.specs.Tally.{Reading}
-use Rattle.oc_top.specs.declared.command.Command.{Command}
-use Rattle.oc_top.specs.declared.command.Command.TheVariants as commands
+use Rattle.oc_top.specs.declared.command.RunWords.{RunWords}
+use Rattle.oc_top.specs.declared.command.SourceTask.{SourceTask}
+use Rattle.oc_top.specs.declared.command.SourceTask.TheVariants as tasks
+use Rattle.oc_top.specs.declared.command.Command.{Command as Written}
+use Rattle.oc_top.specs.declared.command.Command.TheVariants as written
 
 -- a word may stand for a file: it isn't empty and doesn't begin with `-`
 abbrev pub is_file : List ℕ → Bool
@@ -30,58 +33,111 @@ turns_named number = if nat_le 1 number && nat_le number 1000 then Some number e
 abbrev pub turns_of : List ℕ → Option ℕ
 turns_of word = if nat_le (length word) 4 then option_and_then turns_named (number_of word) else None
 
+-- a command: a run of a source, metered or not, with the supply of this number; a drill of so many turns; what may be done
+-- with a source alone; a run of an image; or an audit of a report; each with the words of its files, in their order
+pub data Command : Type 0 where
+  Run : (supply : ℕ) → (metered : Bool) → (files : List (List ℕ)) → Command
+  Drill : (turns : ℕ) → Command
+  Source : SourceTask → (source : List ℕ) → Command
+  Exec : (files : List (List ℕ)) → Command
+  Audit : (source report : List ℕ) → Command
+
+abbrev pub words_of : RunWords → List (List ℕ)
+words_of files = files.source.now ∷ files.sensors.now ∷ files.power.now ∷ []
+
+abbrev pub command_view : Written → Command
+command_view (written.Run supply metered files) = Run supply metered (words_of files)
+command_view (written.Drill turns) = Drill turns
+command_view (written.Source task source) = Source task source.now
+command_view (written.Exec files) = Exec (words_of files)
+command_view (written.Audit source report) = Audit source.now report.now
+
+-- the words of its files
+abbrev pub files_of : Command → List (List ℕ)
+files_of (Run supply metered files) = files
+files_of (Drill turns) = []
+files_of (Source task source) = source ∷ []
+files_of (Exec files) = files
+files_of (Audit source report) = source ∷ report ∷ []
+
 abbrev pub drill_with : Option ℕ → Option Command
 drill_with None = None
-drill_with (Some turns) = Some (commands.Drill turns)
+drill_with (Some turns) = Some (Drill turns)
 
--- a run with this supply, where it has one; its files' words begin at this place
-abbrev pub run_with : Option ℕ → (metered : Bool) → ℕ → Option Command
-run_with None metered first = None
-run_with (Some supply) metered first = Some (commands.Run supply first metered)
+-- a run of these files with this supply, where it has one
+abbrev pub run_with : Option ℕ → (metered : Bool) → (files : List (List ℕ)) → Option Command
+run_with None metered files = None
+run_with (Some supply) metered files = Some (Run supply metered files)
 
-abbrev pub are_files : List ℕ → List ℕ → List ℕ → Bool
-are_files source sensors power = is_file source && is_file sensors && is_file power
+-- the words of three files, where each may stand for one
+abbrev pub files_with : List ℕ → List ℕ → List ℕ → Option (List (List ℕ))
+files_with source sensors power =
+    if is_file source && is_file sensors && is_file power then Some (source ∷ sensors ∷ power ∷ []) else None
 
--- the command of one word and a source
-abbrev pub print_with : List ℕ → Option Command
-print_with word =
-    if bytes_eq word (codes "regions") then Some (commands.Regions 1)
-    else if bytes_eq word (codes "build") then Some (commands.Build 1)
-    else if bytes_eq word (codes "check") then Some (commands.Check 1) else None
+-- what a word and a source ask for
+abbrev pub source_task_of : List ℕ → Option SourceTask
+source_task_of word =
+    if bytes_eq word (codes "regions") then Some tasks.Regions
+    else if bytes_eq word (codes "build") then Some tasks.Build
+    else if bytes_eq word (codes "check") then Some tasks.Check else None
 
 -- the command of one word and another
 abbrev pub with_one : List ℕ → List ℕ → Option Command
 with_one word other =
     if bytes_eq word (codes "drill") then drill_with (turns_of other)
-    else if is_file other then print_with word else None
+    else if is_file other then option_map (λ task. Source task other) (source_task_of word) else None
 
 -- the command of one word and two others
 abbrev pub with_two : List ℕ → List ℕ → List ℕ → Option Command
 with_two word second third =
-    if bytes_eq word (codes "audit") && is_file second && is_file third then Some (commands.Audit 1)
-    else if bytes_eq word (codes "build") && bytes_eq second (codes "--image") && is_file third then Some (commands.Image 2) else None
+    if bytes_eq word (codes "audit") && is_file second && is_file third then Some (Audit second third)
+    else if bytes_eq word (codes "build") && bytes_eq second (codes "--image") && is_file third then Some (Source tasks.Image third) else None
 
 -- the command of a word and three files
-abbrev pub with_three : List ℕ → Option Command
-with_three word =
-    if bytes_eq word (codes "run") then run_with (Some 0) false 1
-    else if bytes_eq word (codes "exec") then Some (commands.Exec 1) else None
+abbrev pub with_three : List ℕ → (files : List (List ℕ)) → Option Command
+with_three word files =
+    if bytes_eq word (codes "run") then run_with (Some 0) false files
+    else if bytes_eq word (codes "exec") then Some (Exec files) else None
+
+-- the command of two words and three files, of three, and of four
+abbrev pub with_meters : List ℕ → List ℕ → (files : List (List ℕ)) → Option Command
+with_meters word option files =
+    if bytes_eq word (codes "run") && bytes_eq option (codes "--meters") then run_with (Some 0) true files else None
+
+abbrev pub with_supply : List ℕ → List ℕ → List ℕ → (files : List (List ℕ)) → Option Command
+with_supply word option number files =
+    if bytes_eq word (codes "run") && bytes_eq option (codes "--supply") then run_with (supply_of number) false files else None
+
+abbrev pub with_both : List ℕ → List ℕ → List ℕ → List ℕ → (files : List (List ℕ)) → Option Command
+with_both word option number meters files =
+    if bytes_eq word (codes "run") && bytes_eq option (codes "--supply") && bytes_eq meters (codes "--meters")
+    then run_with (supply_of number) true files else None
 
 -- the command of a line of words
 abbrev pub command_of : List (List ℕ) → Option Command
 command_of (word ∷ other ∷ []) = with_one word other
 command_of (word ∷ second ∷ third ∷ []) = with_two word second third
-command_of (word ∷ source ∷ sensors ∷ power ∷ []) = if are_files source sensors power then with_three word else None
+command_of (word ∷ source ∷ sensors ∷ power ∷ []) = option_and_then (with_three word) (files_with source sensors power)
 command_of (word ∷ option ∷ source ∷ sensors ∷ power ∷ []) =
-    if bytes_eq word (codes "run") && bytes_eq option (codes "--meters") && are_files source sensors power
-    then run_with (Some 0) true 2 else None
+    option_and_then (with_meters word option) (files_with source sensors power)
 command_of (word ∷ option ∷ number ∷ source ∷ sensors ∷ power ∷ []) =
-    if bytes_eq word (codes "run") && bytes_eq option (codes "--supply") && are_files source sensors power
-    then run_with (supply_of number) false 3 else None
+    option_and_then (with_supply word option number) (files_with source sensors power)
 command_of (word ∷ option ∷ number ∷ meters ∷ source ∷ sensors ∷ power ∷ []) =
-    if bytes_eq word (codes "run") && bytes_eq option (codes "--supply") && bytes_eq meters (codes "--meters") && are_files source sensors power
-    then run_with (supply_of number) true 4 else None
+    option_and_then (with_both word option number meters) (files_with source sensors power)
 command_of other = None
+
+-- a drill has few turns
+abbrev pub HasFewTurns : Command → Type 0
+HasFewTurns (Drill turns) = turns ≤ 1000
+HasFewTurns command = Unit {0}
+
+-- the words of the files of a command, where there is one
+abbrev pub named_files : Option Command → List (List ℕ)
+named_files None = []
+named_files (Some command) = files_of command
+
+abbrev pub file_words : Option Written → List (List ℕ)
+file_words command = named_files (option_map command_view command)
 
 -- what a supply tells of the rows that it is fed
 abbrev pub Plan : Type 0
@@ -95,51 +151,50 @@ Plans = ℕ → Option Plan
 abbrev pub plans_of : {B : Type 0} → (B → ℕ) → (B → Plan) → List B → Plans
 plans_of number plan boxes = λ k. option_map plan (first_with number k boxes)
 
--- what is wanted: a run with a supply that tells this, and the lines of these meters, if any; the regions of a source, the
--- listing of its image, the bytes of that, a verdict on its blocks, or one on a report; a drill of so many turns, or a run of
--- an image, with a supply that tells this
-pub data Wanted : Type 0 where
-  report : Plan → Option (List Reading) → Wanted
-  drill : ℕ → Plan → Wanted
-  regions : Wanted
-  listing : Wanted
-  imaging : Wanted
-  checking : Wanted
-  auditing : Wanted
-  executing : Plan → Wanted
+-- a task: a run with a supply that tells this, and the lines of these meters, if any; the regions of a source, the listing of
+-- its image, the bytes of that, a verdict on its blocks, or one on a report; a drill of so many turns, or a run of an image,
+-- with a supply that tells this
+pub data Task : Type 0 where
+  report : Plan → Option (List Reading) → Task
+  drill : ℕ → Plan → Task
+  regions : Task
+  listing : Task
+  imaging : Task
+  checking : Task
+  auditing : Task
+  executing : Plan → Task
 
--- what is asked for, and the place of the word of its first file
-pub record Task : Type 0 where
-  pub first : ℕ
-  pub wanted : Wanted
-
-abbrev pub with_plan : ℕ → Option (List Reading) → Option Plan → Option Task
-with_plan first meters None = None
-with_plan first meters (Some plan) = Some (record { first = first; wanted = report plan meters })
+-- a run with these meters and this plan, where there is one
+abbrev pub with_plan : Option (List Reading) → Option Plan → Option Task
+with_plan meters None = None
+with_plan meters (Some plan) = Some (report plan meters)
 
 abbrev pub with_drill : ℕ → Option Plan → Option Task
 with_drill turns None = None
-with_drill turns (Some plan) = Some (record { first = 0; wanted = drill turns plan })
+with_drill turns (Some plan) = Some (drill turns plan)
 
-abbrev pub with_image : ℕ → Option Plan → Option Task
-with_image first None = None
-with_image first (Some plan) = Some (record { first = first; wanted = executing plan })
+abbrev pub with_image : Option Plan → Option Task
+with_image None = None
+with_image (Some plan) = Some (executing plan)
 
--- what is asked for, with these supplies and meters
-abbrev pub task_for : Plans → List Reading → Option Command → Option Task
-task_for plans meters None = None
-task_for plans meters (Some (commands.Run supply first metered)) = with_plan first (if metered then Some meters else None) (plans supply)
-task_for plans meters (Some (commands.Drill turns)) = with_drill turns (plans 0)
-task_for plans meters (Some (commands.Regions first)) = Some (record { first = first; wanted = regions })
-task_for plans meters (Some (commands.Build first)) = Some (record { first = first; wanted = listing })
-task_for plans meters (Some (commands.Image first)) = Some (record { first = first; wanted = imaging })
-task_for plans meters (Some (commands.Check first)) = Some (record { first = first; wanted = checking })
-task_for plans meters (Some (commands.Audit first)) = Some (record { first = first; wanted = auditing })
-task_for plans meters (Some (commands.Exec first)) = with_image first (plans 0)
+abbrev pub source_task : SourceTask → Task
+source_task tasks.Regions = regions
+source_task tasks.Build = listing
+source_task tasks.Image = imaging
+source_task tasks.Check = checking
 
--- what a line of words asks for
-abbrev pub task_of : Plans → List Reading → List (List ℕ) → Option Task
-task_of plans meters words = task_for plans meters (command_of words)
+-- what a command asks for, with these supplies and meters
+abbrev pub task_for : Plans → List Reading → Command → Option Task
+task_for plans meters (Run supply metered files) = with_plan (if metered then Some meters else None) (plans supply)
+task_for plans meters (Drill turns) = with_drill turns (plans 0)
+task_for plans meters (Source task source) = Some (source_task task)
+task_for plans meters (Audit source other) = Some auditing
+task_for plans meters (Exec files) = with_image (plans 0)
+
+-- the same where there is a command
+abbrev pub task_of : Plans → List Reading → Option Command → Option Task
+task_of plans meters None = None
+task_of plans meters (Some command) = task_for plans meters command
 
 -- how many bytes a file of rows or a report may have, and an image
 abbrev pub rows_limit : ℕ
@@ -157,7 +212,7 @@ abbrev pub audit_limits : List ℕ
 audit_limits = source_limit ∷ rows_limit ∷ []
 
 -- the limits of the files that it reads, in the order of their words
-abbrev pub limits_of : Wanted → List ℕ
+abbrev pub limits_of : Task → List ℕ
 limits_of (report plan meters) = run_limits source_limit
 limits_of (drill turns plan) = []
 limits_of regions = source_limit ∷ []
@@ -168,7 +223,7 @@ limits_of auditing = audit_limits
 limits_of (executing plan) = run_limits image_limit
 
 -- the meters whose lines are wanted, if any
-abbrev pub meters_of : Wanted → Option (List Reading)
+abbrev pub meters_of : Task → Option (List Reading)
 meters_of (report plan meters) = meters
 meters_of other = None
 

@@ -1,5 +1,5 @@
 -- The files that are read, in the order of their words.
-use Rattle.std.specs.Prelude.{ℕ, zero, suc, ◌+◌, ◌<◌, ◌≤◌, ◌≡◌, ◌⊎◌, List, [], ◌∷◌, ◌++◌, length, get_or}
+use Rattle.std.specs.Prelude.{ℕ, zero, suc, ◌<◌, ◌≤◌, ◌≡◌, ◌⊎◌, List, [], ◌∷◌, ◌++◌, length, get_or}
 use Rattle.oc_io.specs.Faults.{Rose}
 use Rattle.oc_io.specs.Held.{Held, nothing, content, Gives, Longer}
 use Rattle.oc_top.specs.Commands.{word_at}
@@ -36,30 +36,30 @@ pub record IsFile (held : Held) (limit : ℕ) (bytes : List ℕ) : Type 0 where
   pub gives : Gives held bytes
   pub within : length bytes ≤ limit
 
--- these are the files with these limits, whose words begin at a place
-pub record AreFiles (holds : List ℕ → Held) (words : List (List ℕ)) (first : ℕ) (limits : List ℕ) (files : List (List ℕ)) : Type 0 where
+-- these are the files under these words with these limits
+pub record AreFiles (holds : List ℕ → Held) (words : List (List ℕ)) (limits : List ℕ) (files : List (List ℕ)) : Type 0 where
   pub count : length files ≡ length limits
-  pub each : (k : ℕ) → k < length limits → IsFile (holds (word_at words (first + k))) (limit_at limits k) (file_at files k)
+  pub each : (k : ℕ) → k < length limits → IsFile (holds (word_at words k)) (limit_at limits k) (file_at files k)
 
 -- a shelf that tells what it holds has just these bytes under a name, no more than the limit
 pub record IsHeld (held : Held) (limit : ℕ) (bytes : List ℕ) : Type 0 where
   pub told : held ≡ content bytes
   pub within : length bytes ≤ limit
 
--- it holds these files with these limits
-pub record AreHeld (holds : List ℕ → Held) (words : List (List ℕ)) (first : ℕ) (limits : List ℕ) (files : List (List ℕ)) : Type 0 where
+-- it holds these files under these words with these limits
+pub record AreHeld (holds : List ℕ → Held) (words : List (List ℕ)) (limits : List ℕ) (files : List (List ℕ)) : Type 0 where
   pub count : length files ≡ length limits
-  pub each : (k : ℕ) → k < length limits → IsHeld (holds (word_at words (first + k))) (limit_at limits k) (file_at files k)
+  pub each : (k : ℕ) → k < length limits → IsHeld (holds (word_at words k)) (limit_at limits k) (file_at files k)
 
 -- the shelf has the files before this one, each no more than its limit
-abbrev pub AreHeldBefore : (List ℕ → Held) → List (List ℕ) → ℕ → List ℕ → ℕ → Type 0
-AreHeldBefore holds words first limits place =
-    (k : ℕ) → k < place → (bytes : List ℕ) × IsHeld (holds (word_at words (first + k))) (limit_at limits k) bytes
+abbrev pub AreHeldBefore : (List ℕ → Held) → List (List ℕ) → List ℕ → ℕ → Type 0
+AreHeldBefore holds words limits place =
+    (k : ℕ) → k < place → (bytes : List ℕ) × IsHeld (holds (word_at words k)) (limit_at limits k) bytes
 
 -- the files before this one were fetched
-abbrev pub WereFetched : (List ℕ → Held) → List (List ℕ) → ℕ → List ℕ → ℕ → Type 0
-WereFetched holds words first limits place =
-    (k : ℕ) → k < place → (bytes : List ℕ) × IsFile (holds (word_at words (first + k))) (limit_at limits k) bytes
+abbrev pub WereFetched : (List ℕ → Held) → List (List ℕ) → List ℕ → ℕ → Type 0
+WereFetched holds words limits place =
+    (k : ℕ) → k < place → (bytes : List ℕ) × IsFile (holds (word_at words k)) (limit_at limits k) bytes
 
 -- ---- fetching
 
@@ -83,22 +83,22 @@ pub record ShelfStays {F : Type 0} (holds : F → List ℕ → Held) (faults : F
   pub count : faults old ≤ faults new
 
 -- so many of the files, in the order of their words, each with its limit
-abbrev pub names_of : List (List ℕ) → ℕ → List ℕ → (count : ℕ) → List (List ℕ × ℕ)
-names_of words first limits zero = []
-names_of words first limits (suc k) = names_of words first limits k ++ (word_at words (first + k), limit_at limits k) ∷ []
+abbrev pub names_of : List (List ℕ) → List ℕ → (count : ℕ) → List (List ℕ × ℕ)
+names_of words limits zero = []
+names_of words limits (suc k) = names_of words limits k ++ (word_at words k, limit_at limits k) ∷ []
 
 -- why the file at a place wasn't fetched: the shelf's faults rose, or it tells that nothing is there; or the file is longer
 -- than its limit; or there was no memory
 abbrev pub IsRefused : Held → ℕ → ℕ → Type 0 → Answer → Type 0
-IsRefused held limit word unread (answer.Unreadable w) = (w ≡ word) × (unread ⊎ (held ≡ nothing))
-IsRefused held limit word unread (answer.TooLong w) = (w ≡ word) × Longer held limit
-IsRefused held limit word unread answer.Memory = Unit {0}
-IsRefused held limit word unread end = ⊥
+IsRefused held limit place unread (answer.Unreadable file) = (file ≡ place) × (unread ⊎ (held ≡ nothing))
+IsRefused held limit place unread (answer.TooLong file) = (file ≡ place) × Longer held limit
+IsRefused held limit place unread answer.Memory = Unit {0}
+IsRefused held limit place unread end = ⊥
 
--- one of the files, the first of which has its word at this place, wasn't fetched, and none behind it was asked for
-pub record NotFetched (shelf : Fetches) (words : List (List ℕ)) (first : ℕ) (limits : List ℕ) (end : Answer) : Type 0 where
+-- one of the files under these words wasn't fetched, and none behind it was asked for
+pub record NotFetched (shelf : Fetches) (words : List (List ℕ)) (limits : List ℕ) (end : Answer) : Type 0 where
   pub place : ℕ
   pub among : place < length limits
-  pub before : WereFetched shelf.holds words first limits place
-  pub asked : shelf.asked (names_of words first limits (suc place))
-  pub refused : IsRefused (shelf.holds (word_at words (first + place))) (limit_at limits place) (first + place) shelf.rose end
+  pub before : WereFetched shelf.holds words limits place
+  pub asked : shelf.asked (names_of words limits (suc place))
+  pub refused : IsRefused (shelf.holds (word_at words place)) (limit_at limits place) place shelf.rose end

@@ -1,5 +1,5 @@
 -- What a call does.
-use Rattle.std.specs.Prelude.{ℕ, suc, ◌+◌, ◌<◌, ◌≡◌, ◌⊎◌, ◌↔◌, ◌++◌, false, List, [], length, Option, Some, None}
+use Rattle.std.specs.Prelude.{ℕ, suc, ◌<◌, ◌≡◌, ◌⊎◌, ◌↔◌, ◌++◌, false, List, [], length, Option, Some, None}
 use Rattle.oc_io.specs.Held.{nothing, content}
 use Rattle.oc_io.specs.declared.period.Period.{Period}
 use Rattle.oc_power.specs.Power.{power_file}
@@ -29,25 +29,25 @@ pub record Works (c : Call) (err : Writes) (status : ℕ) : Type 0 where
   pub line : TookAll err (line_of c.words answer ++ told) ⊎ TookFront err (line_of c.words answer ++ told)
   -- where the files are held and no fault rose, it is the status of the verdict on them, or there was no memory
   pub exactly : (task : Task) (files : List (List ℕ)) (run : Verdict) → c.task ≡ Some task
-      → AreHeld c.shelf.holds c.words task.first (limits_of task.wanted) files → IsJudged files task.wanted run
+      → AreHeld c.shelf.holds c.words (limits_of task) files → IsJudged files task run
       → ¬ c.shelf.rose → ¬ c.out.rose
       → (status ≡ status_of run.answer) ⊎ (status ≡ 11)
   pub usage : (status ≡ 1) ↔ (c.task ≡ None)
   -- where the shelf tells that there is nothing under a file's word, the status is 2, 3 or 11
-  pub missing : (task : Task) (place : ℕ) → c.task ≡ Some task → place < length (limits_of task.wanted)
-      → c.shelf.holds (word_at c.words (task.first + place)) ≡ nothing
+  pub missing : (task : Task) (place : ℕ) → c.task ≡ Some task → place < length (limits_of task)
+      → c.shelf.holds (word_at c.words place) ≡ nothing
       → (status ≡ 2) ⊎ ((status ≡ 3) ⊎ (status ≡ 11))
   -- where the files before it are held and no fault of the shelf rose, a file that is too long gives 3, or there was no memory
-  pub long : (task : Task) (place : ℕ) (bytes : List ℕ) → c.task ≡ Some task → place < length (limits_of task.wanted)
-      → AreHeldBefore c.shelf.holds c.words task.first (limits_of task.wanted) place
-      → c.shelf.holds (word_at c.words (task.first + place)) ≡ content bytes → limit_at (limits_of task.wanted) place < length bytes
+  pub long : (task : Task) (place : ℕ) (bytes : List ℕ) → c.task ≡ Some task → place < length (limits_of task)
+      → AreHeldBefore c.shelf.holds c.words (limits_of task) place
+      → c.shelf.holds (word_at c.words place) ≡ content bytes → limit_at (limits_of task) place < length bytes
       → ¬ c.shelf.rose
       → (status ≡ 3) ⊎ (status ≡ 11)
   -- where one more of the first periods than the program's total are safe, and no fault rose, a run ends by itself, or there
   -- was no memory
   pub enough : (task : Task) (plan : Plan) (meters : Option (List Reading)) (files : List (List ℕ)) (p : TProgram) (rows : List Row) (periods : List Period)
-      → c.task ≡ Some task → task.wanted ≡ report plan meters
-      → AreHeld c.shelf.holds c.words task.first (limits_of task.wanted) files → ReadsAs (run_files files).source (program p)
+      → c.task ≡ Some task → task ≡ report plan meters
+      → AreHeld c.shelf.holds c.words (limits_of task) files → ReadsAs (run_files files).source (program p)
       → sensor_file p.names.sensors (run_files files).sensors ≡ sensor_rows.readings rows
       → power_file (run_files files).power ≡ power_rows.periods periods
       → AreSafe (program_bounds p) (suc (program_bounds p).total) (plan periods) → ¬ c.shelf.rose → ¬ c.out.rose

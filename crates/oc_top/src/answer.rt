@@ -1,12 +1,12 @@
 //! Answers, their statuses and their lines.
-ghost use Rattle.std.specs.Prelude.{◌≡◌, ◌≤◌, ◌⊎◌, ◌++◌, map, OnOk, OnErr};
-ghost use Rattle.std.specs.String.{string_bytes};
+ghost use Rattle.std.specs.Prelude.{◌≡◌, ◌≤◌, ◌⊎◌, ◌++◌, OnOk, OnErr};
 ghost use Rattle.oc_io.specs.Faults.{Rose, TookPart};
 ghost use Rattle.oc_top.specs.Answers.{TookAll, TookFront, line_of, status_of, told_by, writes};
 ghost use Rattle.oc_top.specs.Meters.{told_of};
-ghost use Rattle.oc_top.specs.Commands.{word_at};
+ghost use Rattle.oc_top.specs.Commands.{file_words, word_at};
 ghost use Rattle.oc_top.specs.declared.answer.Answer.TheVariants as answers;
 
+use crate::command::Command;
 use crate::gap::{Gap, put_gap};
 use itoa::Buffer;
 use oc_io::Memory;
@@ -16,15 +16,16 @@ use oc_meters::meter::Meter;
 use oc_meters::text::put_meters;
 use std::alloc::AllocError;
 
-/// How a call ends. A file is told by the place of its word, lines and rows count from 1.
+/// How a call ends. A file is told by its place among those of the command, from 0; lines and rows
+/// count from 1.
 #[derive(Debug, Drop)]
 pub enum Answer {
     /// The words are no command, or no supply has the number.
     Usage,
     /// The shelf couldn't read a file, or tells that it has none of this name.
-    Unreadable { word: usize },
+    Unreadable { file: usize },
     /// A file is longer than its limit.
-    TooLong { word: usize },
+    TooLong { file: usize },
     /// The source isn't tokens that spell a program within the depths.
     Syntax { line: usize },
     /// The first element of the program that breaks a rule, and the lowest rule that it breaks.
@@ -99,34 +100,41 @@ pub fn status(answer: &Answer) -> u8
     }
 }
 
-/// The bytes of the word at a place.
-fn word_bytes(words: &[String], place: usize) -> &[u8]
-    ensures { result.now ≡ word_at (map string_bytes words.now) place }
+/// The bytes of the word of a command's file, or none.
+fn word_bytes<'a>(command: Option<Command<'a>>, file: usize) -> &'a [u8]
+    ensures { result.now ≡ word_at (file_words command.entry) file }
 {
-    match words.get(place) {
-        Some(word) => word.as_str().as_bytes(),
+    match command {
+        Some(command) => command.word(file).as_bytes(),
         None => b"",
     }
 }
 
 /// Writes the line of an answer, which may be empty.
-fn put_line_of<E: Sink>(answer: Answer, words: &[String], err: &mut E) -> Result<(), SinkFault>
+fn put_line_of<E: Sink>(
+    answer: Answer,
+    command: Option<Command<'_>>,
+    err: &mut E,
+) -> Result<(), SinkFault>
     ensures ok { OnOk result
-        (E.took err.old (line_of (map string_bytes words.now) answer) err.new) }
+        (E.took err.old (line_of (file_words command.entry) answer) err.new) }
     ensures part { OnErr result
-        (TookPart E.took err.old (line_of (map string_bytes words.now) answer) err.new) }
+        (TookPart E.took err.old (line_of (file_words command.entry) answer) err.new) }
     ensures cause { OnErr result (Rose (E.faults err.old) (E.faults err.new)) }
     ensures count { E.faults err.old ≤ E.faults err.new }
 {
     let mut number = Buffer::new();
     match answer {
         Answer::Usage => put_pieces(err, &[b"ocelot: not a command\n"]),
-        Answer::Unreadable { word } => put_pieces(
+        Answer::Unreadable { file } => put_pieces(
             err,
-            &[b"ocelot: cannot read ", word_bytes(words, word), b"\n"],
+            &[b"ocelot: cannot read ", word_bytes(command, file), b"\n"],
         ),
-        Answer::TooLong { word } => {
-            put_pieces(err, &[b"ocelot: too long ", word_bytes(words, word), b"\n"])
+        Answer::TooLong { file } => {
+            put_pieces(
+                err,
+                &[b"ocelot: too long ", word_bytes(command, file), b"\n"],
+            )
         }
         Answer::Syntax { line } => {
             let line = number.format(line).as_bytes();
@@ -188,20 +196,20 @@ fn put_told<M: Meter, E: Sink>(meters: &Option<Vec<M>>, err: &mut E) -> Result<(
 /// Writes the line of an answer, and those of meters.
 fn put_all<M: Meter, E: Sink>(
     answer: Answer,
-    words: &[String],
+    command: Option<Command<'_>>,
     meters: &Option<Vec<M>>,
     err: &mut E,
 ) -> Result<(), SinkFault>
     ensures ok { OnOk result
-        (E.took err.old (line_of (map string_bytes words.now) answer
+        (E.took err.old (line_of (file_words command.entry) answer
         ++ told_by (told_of M.kind_of M.numbers meters.now)) err.new) }
     ensures part { OnErr result
-        (TookPart E.took err.old (line_of (map string_bytes words.now) answer
+        (TookPart E.took err.old (line_of (file_words command.entry) answer
         ++ told_by (told_of M.kind_of M.numbers meters.now)) err.new) }
     ensures cause { OnErr result (Rose (E.faults err.old) (E.faults err.new)) }
     ensures count { E.faults err.old ≤ E.faults err.new }
 {
-    if let Err(fault) = put_line_of(answer, words, err) {
+    if let Err(fault) = put_line_of(answer, command, err) {
         return Err(fault);
     }
     put_told(meters, err)
@@ -211,19 +219,19 @@ fn put_all<M: Meter, E: Sink>(
 /// the lines was taken.
 pub fn put_lines<M: Meter, E: Sink>(
     answer: Answer,
-    words: &[String],
+    command: Option<Command<'_>>,
     meters: &Option<Vec<M>>,
     err: &mut E,
 )
     ensures line { TookAll (writes E.took E.held E.faults err.old err.new)
-        (line_of (map string_bytes words.now) answer
+        (line_of (file_words command.entry) answer
         ++ told_by (told_of M.kind_of M.numbers meters.now))
         ⊎ TookFront (writes E.took E.held E.faults err.old err.new)
-        (line_of (map string_bytes words.now) answer
+        (line_of (file_words command.entry) answer
         ++ told_by (told_of M.kind_of M.numbers meters.now)) }
     ensures count { E.faults err.old ≤ E.faults err.new }
 {
-    match put_all(answer, words, meters, err) {
+    match put_all(answer, command, meters, err) {
         Ok(()) => {
             let _ = err.flush();
         }

@@ -1,12 +1,12 @@
 //! Fetching files.
-ghost use Rattle.std.specs.Prelude.{◌+◌, ◌<◌, [], ◌∷◌, length, map, IfOk, IfErr, OnOk};
-ghost use Rattle.std.specs.String.{string_bytes};
+ghost use Rattle.std.specs.Prelude.{[], ◌∷◌, IfOk, IfErr, OnOk};
 ghost use Rattle.oc_lex.specs.Limits.{source_limit};
 ghost use Rattle.oc_io.specs.Faults.{Rose};
-ghost use Rattle.oc_top.specs.Commands.{audit_limits, run_limits, word_at};
+ghost use Rattle.oc_top.specs.Commands.{audit_limits, run_limits, words_of};
 ghost use Rattle.oc_top.specs.Files.{AreFiles, IsFile, IsRefused, NotFetched, ShelfStays, bytes_of, fetches, listed, names_of};
 
 use crate::answer::Answer;
+use crate::command::RunWords;
 use oc_io::shelf::{Shelf, ShelfError};
 use std::alloc::Global;
 
@@ -34,58 +34,52 @@ pub struct Audited {
     pub report: Vec<u8>,
 }
 
-/// The bytes of the file under the word at a place, or the answer that there are none.
+/// The bytes of the file under a word, or the answer that there are none; the file stands at this
+/// place among those of the command.
 fn fetch_word<F: Shelf>(
     alloc: Global,
-    words: &[String],
-    word: usize,
+    word: &str,
+    place: usize,
     limit: usize,
     shelf: &mut F,
 ) -> Result<Vec<u8>, Answer>
-    requires { word < length words.now }
-    ensures file { IfOk result
-        (λ v. IsFile (F.holds shelf.old (word_at (map string_bytes words.now) word)) limit
-        v.items) }
+    ensures file { IfOk result (λ v. IsFile (F.holds shelf.old word.now) limit v.items) }
     ensures refused { IfErr result
-        (λ a. IsRefused (F.holds shelf.old (word_at (map string_bytes words.now) word)) limit word
+        (λ a. IsRefused (F.holds shelf.old word.now) limit place
         (Rose (F.faults shelf.old) (F.faults shelf.new)) a) }
-    ensures once { F.asked shelf.old ((word_at (map string_bytes words.now) word, limit) ∷ [])
-        shelf.new }
+    ensures once { F.asked shelf.old ((word.now, limit) ∷ []) shelf.new }
     ensures stays { ShelfStays F.holds F.faults shelf.old shelf.new }
 {
-    match shelf.fetch(alloc, words[word].as_str(), limit) {
+    match shelf.fetch(alloc, word, limit) {
         Ok(bytes) => Ok(bytes),
-        Err(ShelfError::Unreadable) => Err(Answer::Unreadable { word }),
-        Err(ShelfError::Absent) => Err(Answer::Unreadable { word }),
-        Err(ShelfError::TooLong { .. }) => Err(Answer::TooLong { word }),
+        Err(ShelfError::Unreadable) => Err(Answer::Unreadable { file: place }),
+        Err(ShelfError::Absent) => Err(Answer::Unreadable { file: place }),
+        Err(ShelfError::TooLong { .. }) => Err(Answer::TooLong { file: place }),
         Err(ShelfError::Memory) => Err(Answer::Memory),
     }
 }
 
-/// The three files of a run whose words begin at a place, in the order of the words, the first of
-/// them with this limit. The first that is refused decides the answer, and no later one is fetched.
+/// The three files of a run, in the order of their words, the first of them with this limit. The
+/// first that is refused decides the answer, and no later one is fetched.
 pub fn fetch_files<F: Shelf>(
     alloc: Global,
-    words: &[String],
-    first: usize,
+    words: RunWords<'_>,
     limit: usize,
     shelf: &mut F,
 ) -> Result<Fetched, Answer>
-    requires { first + 2 < length words.now }
     ensures files { IfOk result
-        (λ f. AreFiles (F.holds shelf.old) (map string_bytes words.now) first (run_limits limit)
+        (λ f. AreFiles (F.holds shelf.old) (words_of words.entry) (run_limits limit)
         (listed (bytes_of f))) }
     ensures refused { IfErr result
         (λ a. NotFetched (fetches F.holds F.asked F.faults shelf.old shelf.new)
-        (map string_bytes words.now) first (run_limits limit) a) }
+        (words_of words.entry) (run_limits limit) a) }
     ensures asked { OnOk result
-        (F.asked shelf.old (names_of (map string_bytes words.now) first (run_limits limit) 3)
-        shelf.new) }
+        (F.asked shelf.old (names_of (words_of words.entry) (run_limits limit) 3) shelf.new) }
     ensures stays { ShelfStays F.holds F.faults shelf.old shelf.new }
 {
-    let source = fetch_word(alloc, words, first, limit, shelf)?;
-    let sensors = fetch_word(alloc, words, first + 1, ROWS_LIMIT, shelf)?;
-    let power = fetch_word(alloc, words, first + 2, ROWS_LIMIT, shelf)?;
+    let source = fetch_word(alloc, words.source, 0, limit, shelf)?;
+    let sensors = fetch_word(alloc, words.sensors, 1, ROWS_LIMIT, shelf)?;
+    let power = fetch_word(alloc, words.power, 2, ROWS_LIMIT, shelf)?;
     Ok(Fetched {
         source,
         sensors,
@@ -93,50 +87,41 @@ pub fn fetch_files<F: Shelf>(
     })
 }
 
-/// The source under the word at a place.
-pub fn fetch_source<F: Shelf>(
-    alloc: Global,
-    words: &[String],
-    first: usize,
-    shelf: &mut F,
-) -> Result<Vec<u8>, Answer>
-    requires { first < length words.now }
+/// The source under a word.
+pub fn fetch_source<F: Shelf>(alloc: Global, word: &str, shelf: &mut F) -> Result<Vec<u8>, Answer>
     ensures source { IfOk result
-        (λ v. AreFiles (F.holds shelf.old) (map string_bytes words.now) first (source_limit ∷ [])
-        (v.items ∷ [])) }
+        (λ v. AreFiles (F.holds shelf.old) (word.now ∷ []) (source_limit ∷ []) (v.items ∷ [])) }
     ensures refused { IfErr result
-        (λ a. NotFetched (fetches F.holds F.asked F.faults shelf.old shelf.new)
-        (map string_bytes words.now) first (source_limit ∷ []) a) }
+        (λ a. NotFetched (fetches F.holds F.asked F.faults shelf.old shelf.new) (word.now ∷ [])
+        (source_limit ∷ []) a) }
     ensures asked { OnOk result
-        (F.asked shelf.old (names_of (map string_bytes words.now) first (source_limit ∷ []) 1)
-        shelf.new) }
+        (F.asked shelf.old (names_of (word.now ∷ []) (source_limit ∷ []) 1) shelf.new) }
     ensures stays { ShelfStays F.holds F.faults shelf.old shelf.new }
 {
-    let source = fetch_word(alloc, words, first, SOURCE_LIMIT, shelf)?;
+    let source = fetch_word(alloc, word, 0, SOURCE_LIMIT, shelf)?;
     Ok(source)
 }
 
-/// The two files of an audit, whose words begin at a place. The first that is refused decides the
+/// The two files of an audit, in the order of their words. The first that is refused decides the
 /// answer, and no later one is fetched.
 pub fn fetch_audited<F: Shelf>(
     alloc: Global,
-    words: &[String],
-    first: usize,
+    source: &str,
+    report: &str,
     shelf: &mut F,
 ) -> Result<Audited, Answer>
-    requires { first + 1 < length words.now }
     ensures files { IfOk result
-        (λ f. AreFiles (F.holds shelf.old) (map string_bytes words.now) first audit_limits
+        (λ f. AreFiles (F.holds shelf.old) (source.now ∷ report.now ∷ []) audit_limits
         (f.source.items ∷ f.report.items ∷ [])) }
     ensures refused { IfErr result
         (λ a. NotFetched (fetches F.holds F.asked F.faults shelf.old shelf.new)
-        (map string_bytes words.now) first audit_limits a) }
+        (source.now ∷ report.now ∷ []) audit_limits a) }
     ensures asked { OnOk result
-        (F.asked shelf.old (names_of (map string_bytes words.now) first audit_limits 2)
+        (F.asked shelf.old (names_of (source.now ∷ report.now ∷ []) audit_limits 2)
         shelf.new) }
     ensures stays { ShelfStays F.holds F.faults shelf.old shelf.new }
 {
-    let source = fetch_word(alloc, words, first, SOURCE_LIMIT, shelf)?;
-    let report = fetch_word(alloc, words, first + 1, ROWS_LIMIT, shelf)?;
+    let source = fetch_word(alloc, source, 0, SOURCE_LIMIT, shelf)?;
+    let report = fetch_word(alloc, report, 1, ROWS_LIMIT, shelf)?;
     Ok(Audited { source, report })
 }

@@ -4,8 +4,8 @@ ghost use Rattle.std.specs.String.{string_bytes};
 ghost use Rattle.oc_power.specs.Cutting.{cut_rows};
 ghost use Rattle.oc_power.specs.Looping.{looped};
 ghost use Rattle.oc_meters.specs.Tally.{reading};
-ghost use Rattle.oc_top.specs.Answers.{call_of, writes};
-ghost use Rattle.oc_top.specs.Commands.{task_of};
+ghost use Rattle.oc_top.specs.Answers.{call_for, writes};
+ghost use Rattle.oc_top.specs.Commands.{command_of};
 ghost use Rattle.oc_top.specs.Files.{ShelfStays, fetches};
 ghost use Rattle.oc_top.specs.Supplies.{standard_meters, standard_plans};
 ghost use Rattle.oc_top.specs.Works.{Works};
@@ -55,8 +55,8 @@ fn ocelot_with_boxes<F: Shelf, O: Sink, E: Sink>(
         ≡ record { kind = 1; numbers = 0 ∷ 0 ∷ [] } }
     requires retries { reading (λ b. kind_of b) (λ b. numbers b) retries
         ≡ record { kind = 2; numbers = 0 ∷ 0 ∷ [] } }
-    ensures works { IfOk result (λ status. Works (call_of (map string_bytes words.now)
-        (task_of standard_plans standard_meters (map string_bytes words.now))
+    ensures works { IfOk result (λ status. Works (call_for standard_plans standard_meters
+        (command_of (map string_bytes words.now))
         (fetches F.holds F.asked F.faults shelf.old shelf.new)
         (writes O.took O.held O.faults out.old out.new))
         (writes E.took E.held E.faults err.old err.new) status) }
@@ -88,8 +88,8 @@ pub fn ocelot_with_standard<F: Shelf, O: Sink, E: Sink>(
     out: &mut O,
     err: &mut E,
 ) -> Result<u8, AllocError>
-    ensures works { IfOk result (λ status. Works (call_of (map string_bytes words.now)
-        (task_of standard_plans standard_meters (map string_bytes words.now))
+    ensures works { IfOk result (λ status. Works (call_for standard_plans standard_meters
+        (command_of (map string_bytes words.now))
         (fetches F.holds F.asked F.faults shelf.old shelf.new)
         (writes O.took O.held O.faults out.old out.new))
         (writes E.took E.held E.faults err.old err.new) status) }

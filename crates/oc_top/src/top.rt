@@ -1,18 +1,17 @@
 //! The top call.
-ghost use Rattle.std.specs.Prelude.{◌≡◌, ◌≤◌, ◌+◌, ◌<◌, [], map, length, Some, if◌then◌else◌};
+ghost use Rattle.std.specs.Prelude.{◌≡◌, ◌≤◌, [], ◌∷◌, map, option_map, IfSome, Some, if◌then◌else◌};
 ghost use Rattle.std.specs.String.{string_bytes};
 ghost use Rattle.oc_meters.specs.Tally.{readings};
-ghost use Rattle.oc_top.specs.Commands.{auditing as to_audit, checking as to_check, command_of, imaging as to_image, listing as to_list, plans_of, regions as to_tell_regions, report as to_report, task_of};
-ghost use Rattle.oc_top.specs.declared.command.Command.TheVariants as commands;
+ghost use Rattle.oc_top.specs.Commands.{HasFewTurns, Run as to_run, auditing as to_audit, command_of, command_view, plans_of, report as to_report, source_task, words_of};
 ghost use Rattle.oc_top.specs.Files.{ShelfStays, fetches};
-ghost use Rattle.oc_top.specs.Answers.{Comes, call_of, told_by, writes};
+ghost use Rattle.oc_top.specs.Answers.{Comes, call_for, call_of, told_by, writes};
 ghost use Rattle.oc_top.specs.Meters.{told_of};
 ghost use Rattle.oc_top.specs.Works.{Works};
 
 use crate::answer::{Answer, put_lines, status};
 use crate::audit::audit_report;
 use crate::check::check_source;
-use crate::command::{Command, read_command};
+use crate::command::{Command, RunWords, SourceTask, read_command};
 use crate::drill::drill_by;
 use crate::exec::exec_by;
 use crate::files::{SOURCE_LIMIT, fetch_audited, fetch_files, fetch_source};
@@ -38,28 +37,24 @@ fn without_meters<M: Meter>(answer: Answer) -> Outcome<M>
     }
 }
 
-/// Runs the files whose words begin at a place, with this supply and these meters, if any.
+/// Runs the files under these words, with this supply and these meters, if any.
 fn run<F: Shelf, O: Sink, M: Meter>(
     alloc: Global,
-    words: &[String],
-    first: usize,
+    words: RunWords<'_>,
     shelf: &mut F,
     out: &mut O,
     supply: &mut dyn Supply,
     meters: Option<Vec<M>>,
 ) -> Outcome<M>
-    requires { first + 2 < length words.now }
-    ensures comes { Comes (call_of (map string_bytes words.now)
-        (Some (record {
-          first = first;
-          wanted = to_report (plan supply.old) (told_of M.kind_of M.numbers meters);
-        })) (fetches F.holds F.asked F.faults shelf.old shelf.new)
+    ensures comes { Comes (call_of (words_of words.entry)
+        (Some (to_report (plan supply.old) (told_of M.kind_of M.numbers meters)))
+        (fetches F.holds F.asked F.faults shelf.old shelf.new)
         (writes O.took O.held O.faults out.old out.new))
         (told_by (told_of M.kind_of M.numbers result.meters)) result.answer }
     ensures stays { ShelfStays F.holds F.faults shelf.old shelf.new }
     ensures count { O.faults out.old ≤ O.faults out.new }
 {
-    let files = match fetch_files(alloc, words, first, SOURCE_LIMIT, shelf) {
+    let files = match fetch_files(alloc, words, SOURCE_LIMIT, shelf) {
         Ok(files) => files,
         Err(answer) => return without_meters(answer),
     };
@@ -73,44 +68,38 @@ fn run<F: Shelf, O: Sink, M: Meter>(
 /// The same with a supply of its own.
 fn run_with<F: Shelf, O: Sink, M: Meter>(
     alloc: Global,
-    words: &[String],
-    first: usize,
+    words: RunWords<'_>,
     shelf: &mut F,
     out: &mut O,
     mut supply: Box<dyn Supply>,
     meters: Option<Vec<M>>,
 ) -> Outcome<M>
-    requires { first + 2 < length words.now }
-    ensures comes { Comes (call_of (map string_bytes words.now)
-        (Some (record {
-          first = first;
-          wanted = to_report (plan supply) (told_of M.kind_of M.numbers meters);
-        })) (fetches F.holds F.asked F.faults shelf.old shelf.new)
+    ensures comes { Comes (call_of (words_of words.entry)
+        (Some (to_report (plan supply) (told_of M.kind_of M.numbers meters)))
+        (fetches F.holds F.asked F.faults shelf.old shelf.new)
         (writes O.took O.held O.faults out.old out.new))
         (told_by (told_of M.kind_of M.numbers result.meters)) result.answer }
     ensures stays { ShelfStays F.holds F.faults shelf.old shelf.new }
     ensures count { O.faults out.old ≤ O.faults out.new }
 {
-    run(alloc, words, first, shelf, out, &mut *supply, meters)
+    run(alloc, words, shelf, out, &mut *supply, meters)
 }
 
-/// Runs the files whose words begin at a place, with the first supply that has this number, and
-/// these meters where it is metered.
+/// Runs the files under these words with the first supply that has this number, and these meters
+/// where it is metered.
 fn run_by<F: Shelf, O: Sink, M: Meter>(
     alloc: Global,
-    words: &[String],
+    words: RunWords<'_>,
     supply: u8,
-    first: usize,
     metered: bool,
     shelf: &mut F,
     out: &mut O,
     supplies: Vec<Box<dyn Supply>>,
     meters: Vec<M>,
 ) -> Outcome<M>
-    requires { command_of (map string_bytes words.now) ≡ Some (commands.Run supply first metered) }
-    ensures comes { Comes (call_of (map string_bytes words.now)
-        (task_of (plans_of (λ b. number b) (λ b. plan b) supplies.items)
-        (readings M.kind_of M.numbers meters.items) (map string_bytes words.now))
+    ensures comes { Comes (call_for (plans_of (λ b. number b) (λ b. plan b) supplies.items)
+        (readings M.kind_of M.numbers meters.items)
+        (Some (to_run supply metered (words_of words.entry)))
         (fetches F.holds F.asked F.faults shelf.old shelf.new)
         (writes O.took O.held O.faults out.old out.new))
         (told_by (told_of M.kind_of M.numbers result.meters)) result.answer }
@@ -119,7 +108,7 @@ fn run_by<F: Shelf, O: Sink, M: Meter>(
 {
     let meters = wanted_meters(metered, meters);
     match choose(supplies, supply) {
-        Some(supply) => run_with(alloc, words, first, shelf, out, supply, meters),
+        Some(supply) => run_with(alloc, words, shelf, out, supply, meters),
         None => without_meters(Answer::Usage),
     }
 }
@@ -132,111 +121,47 @@ fn wanted_meters<M: Meter>(metered: bool, meters: Vec<M>) -> Option<Vec<M>>
     if metered { Some(meters) } else { None }
 }
 
-/// Writes the regions of the source under the word at a place.
-fn obey_regions<F: Shelf, O: Sink>(
+/// Does this with the source under a word.
+fn obey_source<F: Shelf, O: Sink>(
     alloc: Global,
-    words: &[String],
-    first: usize,
+    task: SourceTask,
+    word: &str,
     shelf: &mut F,
     out: &mut O,
 ) -> Answer
-    requires { first < length words.now }
-    ensures comes { Comes (call_of (map string_bytes words.now)
-        (Some (record { first = first; wanted = to_tell_regions }))
+    ensures comes { Comes (call_of (word.now ∷ []) (Some (source_task task))
         (fetches F.holds F.asked F.faults shelf.old shelf.new)
         (writes O.took O.held O.faults out.old out.new)) [] result }
     ensures stays { ShelfStays F.holds F.faults shelf.old shelf.new }
     ensures count { O.faults out.old ≤ O.faults out.new }
 {
-    match fetch_source(alloc, words, first, shelf) {
-        Ok(source) => print_regions(alloc, &source, out),
-        Err(answer) => answer,
+    let source = match fetch_source(alloc, word, shelf) {
+        Ok(source) => source,
+        Err(answer) => return answer,
+    };
+    match task {
+        SourceTask::Regions => print_regions(alloc, &source, out),
+        SourceTask::Build => print_listing(alloc, &source, out),
+        SourceTask::Image => print_image(alloc, &source, out),
+        SourceTask::Check => check_source(alloc, &source, out),
     }
 }
 
-/// Writes the listing of the source under the word at a place.
-fn obey_build<F: Shelf, O: Sink>(
-    alloc: Global,
-    words: &[String],
-    first: usize,
-    shelf: &mut F,
-    out: &mut O,
-) -> Answer
-    requires { first < length words.now }
-    ensures comes { Comes (call_of (map string_bytes words.now)
-        (Some (record { first = first; wanted = to_list }))
-        (fetches F.holds F.asked F.faults shelf.old shelf.new)
-        (writes O.took O.held O.faults out.old out.new)) [] result }
-    ensures stays { ShelfStays F.holds F.faults shelf.old shelf.new }
-    ensures count { O.faults out.old ≤ O.faults out.new }
-{
-    match fetch_source(alloc, words, first, shelf) {
-        Ok(source) => print_listing(alloc, &source, out),
-        Err(answer) => answer,
-    }
-}
-
-/// Writes the bytes of the image of the source under the word at a place.
-fn obey_image<F: Shelf, O: Sink>(
-    alloc: Global,
-    words: &[String],
-    first: usize,
-    shelf: &mut F,
-    out: &mut O,
-) -> Answer
-    requires { first < length words.now }
-    ensures comes { Comes (call_of (map string_bytes words.now)
-        (Some (record { first = first; wanted = to_image }))
-        (fetches F.holds F.asked F.faults shelf.old shelf.new)
-        (writes O.took O.held O.faults out.old out.new)) [] result }
-    ensures stays { ShelfStays F.holds F.faults shelf.old shelf.new }
-    ensures count { O.faults out.old ≤ O.faults out.new }
-{
-    match fetch_source(alloc, words, first, shelf) {
-        Ok(source) => print_image(alloc, &source, out),
-        Err(answer) => answer,
-    }
-}
-
-/// Judges the blocks of the source under the word at a place.
-fn obey_check<F: Shelf, O: Sink>(
-    alloc: Global,
-    words: &[String],
-    first: usize,
-    shelf: &mut F,
-    out: &mut O,
-) -> Answer
-    requires { first < length words.now }
-    ensures comes { Comes (call_of (map string_bytes words.now)
-        (Some (record { first = first; wanted = to_check }))
-        (fetches F.holds F.asked F.faults shelf.old shelf.new)
-        (writes O.took O.held O.faults out.old out.new)) [] result }
-    ensures stays { ShelfStays F.holds F.faults shelf.old shelf.new }
-    ensures count { O.faults out.old ≤ O.faults out.new }
-{
-    match fetch_source(alloc, words, first, shelf) {
-        Ok(source) => check_source(alloc, &source, out),
-        Err(answer) => answer,
-    }
-}
-
-/// Audits the report under the second word from a place, for the source under the first.
+/// Audits the report under a word for the source under another.
 fn obey_audit<F: Shelf, O: Sink>(
     alloc: Global,
-    words: &[String],
-    first: usize,
+    source: &str,
+    report: &str,
     shelf: &mut F,
     out: &mut O,
 ) -> Answer
-    requires { first + 1 < length words.now }
-    ensures comes { Comes (call_of (map string_bytes words.now)
-        (Some (record { first = first; wanted = to_audit }))
+    ensures comes { Comes (call_of (source.now ∷ report.now ∷ []) (Some to_audit)
         (fetches F.holds F.asked F.faults shelf.old shelf.new)
         (writes O.took O.held O.faults out.old out.new)) [] result }
     ensures stays { ShelfStays F.holds F.faults shelf.old shelf.new }
     ensures count { O.faults out.old ≤ O.faults out.new }
 {
-    match fetch_audited(alloc, words, first, shelf) {
+    match fetch_audited(alloc, source, report, shelf) {
         Ok(files) => audit_report(alloc, &files.source, &files.report, out),
         Err(answer) => answer,
     }
@@ -246,17 +171,15 @@ fn obey_audit<F: Shelf, O: Sink>(
 /// that has the number 0.
 fn obey<F: Shelf, O: Sink, M: Meter>(
     alloc: Global,
-    words: &[String],
-    command: Command,
+    command: Command<'_>,
     shelf: &mut F,
     out: &mut O,
     supplies: Vec<Box<dyn Supply>>,
     meters: Vec<M>,
 ) -> Outcome<M>
-    requires { command_of (map string_bytes words.now) ≡ Some command }
-    ensures comes { Comes (call_of (map string_bytes words.now)
-        (task_of (plans_of (λ b. number b) (λ b. plan b) supplies.items)
-        (readings M.kind_of M.numbers meters.items) (map string_bytes words.now))
+    requires { HasFewTurns (command_view command) }
+    ensures comes { Comes (call_for (plans_of (λ b. number b) (λ b. plan b) supplies.items)
+        (readings M.kind_of M.numbers meters.items) (Some (command_view command.entry))
         (fetches F.holds F.asked F.faults shelf.old shelf.new)
         (writes O.took O.held O.faults out.old out.new))
         (told_by (told_of M.kind_of M.numbers result.meters)) result.answer }
@@ -266,43 +189,40 @@ fn obey<F: Shelf, O: Sink, M: Meter>(
     match command {
         Command::Run {
             supply,
-            first,
             metered,
-        } => run_by(
-            alloc, words, supply, first, metered, shelf, out, supplies, meters,
-        ),
+            files,
+        } => run_by(alloc, files, supply, metered, shelf, out, supplies, meters),
         Command::Drill { turns } => without_meters(drill_by(alloc, turns, supplies, out)),
-        Command::Regions { first } => without_meters(obey_regions(alloc, words, first, shelf, out)),
-        Command::Build { first } => without_meters(obey_build(alloc, words, first, shelf, out)),
-        Command::Image { first } => without_meters(obey_image(alloc, words, first, shelf, out)),
-        Command::Check { first } => without_meters(obey_check(alloc, words, first, shelf, out)),
-        Command::Audit { first } => without_meters(obey_audit(alloc, words, first, shelf, out)),
-        Command::Exec { first } => without_meters(exec_by(
-            alloc, words, first, shelf, out, supplies,
-        )),
+        Command::Source { task, source } => {
+            without_meters(obey_source(alloc, task, source, shelf, out))
+        }
+        Command::Audit { source, report } => {
+            without_meters(obey_audit(alloc, source, report, shelf, out))
+        }
+        Command::Exec { files } => without_meters(exec_by(alloc, files, shelf, out, supplies)),
     }
 }
 
-/// Does what a line of words asks for.
-fn answer_words<F: Shelf, O: Sink, M: Meter>(
+/// The same where there is a command.
+fn obey_any<F: Shelf, O: Sink, M: Meter>(
     alloc: Global,
-    words: &[String],
+    command: Option<Command<'_>>,
     shelf: &mut F,
     out: &mut O,
     supplies: Vec<Box<dyn Supply>>,
     meters: Vec<M>,
 ) -> Outcome<M>
-    ensures comes { Comes (call_of (map string_bytes words.now)
-        (task_of (plans_of (λ b. number b) (λ b. plan b) supplies.items)
-        (readings M.kind_of M.numbers meters.items) (map string_bytes words.now))
+    requires { IfSome command (λ c. HasFewTurns (command_view c)) }
+    ensures comes { Comes (call_for (plans_of (λ b. number b) (λ b. plan b) supplies.items)
+        (readings M.kind_of M.numbers meters.items) (option_map command_view command.entry)
         (fetches F.holds F.asked F.faults shelf.old shelf.new)
         (writes O.took O.held O.faults out.old out.new))
         (told_by (told_of M.kind_of M.numbers result.meters)) result.answer }
     ensures stays { ShelfStays F.holds F.faults shelf.old shelf.new }
     ensures count { O.faults out.old ≤ O.faults out.new }
 {
-    match read_command(words) {
-        Some(command) => obey(alloc, words, command, shelf, out, supplies, meters),
+    match command {
+        Some(command) => obey(alloc, command, shelf, out, supplies, meters),
         None => without_meters(Answer::Usage),
     }
 }
@@ -317,9 +237,8 @@ fn ocelot_metered<F: Shelf, O: Sink, E: Sink, M: Meter>(
     supplies: Vec<Box<dyn Supply>>,
     meters: Vec<M>,
 ) -> u8
-    ensures works { Works (call_of (map string_bytes words.now)
-        (task_of (plans_of (λ b. number b) (λ b. plan b) supplies.items)
-        (readings M.kind_of M.numbers meters.items) (map string_bytes words.now))
+    ensures works { Works (call_for (plans_of (λ b. number b) (λ b. plan b) supplies.items)
+        (readings M.kind_of M.numbers meters.items) (command_of (map string_bytes words.now))
         (fetches F.holds F.asked F.faults shelf.old shelf.new)
         (writes O.took O.held O.faults out.old out.new))
         (writes E.took E.held E.faults err.old err.new) result }
@@ -327,9 +246,10 @@ fn ocelot_metered<F: Shelf, O: Sink, E: Sink, M: Meter>(
     ensures out { O.faults out.old ≤ O.faults out.new }
     ensures err { E.faults err.old ≤ E.faults err.new }
 {
-    let outcome = answer_words(alloc, words, shelf, out, supplies, meters);
+    let command = read_command(words);
+    let outcome = obey_any(alloc, command, shelf, out, supplies, meters);
     let status = status(&outcome.answer);
-    put_lines(outcome.answer, words, &outcome.meters, err);
+    put_lines(outcome.answer, command, &outcome.meters, err);
     status
 }
 
@@ -349,9 +269,9 @@ pub fn ocelot<F: Shelf, O: Sink, E: Sink>(
     supplies: Vec<Box<dyn Supply>>,
     meters: Vec<Box<dyn Meter>>,
 ) -> u8
-    ensures works { Works (call_of (map string_bytes words.now)
-        (task_of (plans_of (λ b. number b) (λ b. plan b) supplies.items)
-        (readings (λ b. kind_of b) (λ b. numbers b) meters.items) (map string_bytes words.now))
+    ensures works { Works (call_for (plans_of (λ b. number b) (λ b. plan b) supplies.items)
+        (readings (λ b. kind_of b) (λ b. numbers b) meters.items)
+        (command_of (map string_bytes words.now))
         (fetches F.holds F.asked F.faults shelf.old shelf.new)
         (writes O.took O.held O.faults out.old out.new))
         (writes E.took E.held E.faults err.old err.new) result }

@@ -1,5 +1,12 @@
+use Rattle.std.proofs.Common.{map}
+use Rattle.std.specs.String.{string_bytes}
+use Rattle.oc_top.proofs.Commanding.{few_turns}
 use Rattle.oc_top.proofs.Working.{works}
 use Rattle.oc_top.proofs.top.ocelot_metered.Goals as goal
 
+pub obey_any-outcome-requires : goal.obey_any-outcome-requires
+obey_any-outcome-requires g c = few_turns _ (map string_bytes c.args.words.now) c.read_command-command.ensures
+
 pub returns-clause-works : goal.returns-clause-works
-returns-clause-works g c = works _ _ _ _ _ c.status-status.ensures c.answer_words-outcome.ensures.comes c.put_lines.ensures.line
+returns-clause-works g c =
+    rw (← c.read_command-command.ensures) (works _ _ _ _ _ c.status-status.ensures c.obey_any-outcome.ensures.comes c.put_lines.ensures.line)

@@ -5,11 +5,11 @@ use Rattle.oc_top.proofs.Metering.{comes_alone, was_read}
 use Rattle.oc_top.proofs.top.run.Goals as goal
 
 pub returns-in-Ok-prepare-clause-comes : goal.returns-in-Ok-prepare-clause-comes
-returns-in-Ok-prepare-clause-comes g c = was_read _ _ _ _ refl _ c.in-Ok.ensures.files c.in-Ok.ensures.asked _ _ _ c.in-Ok-prepare.ensures.ready _ _ c.report_for.ensures.reported
+returns-in-Ok-prepare-clause-comes g c = was_read _ _ _ refl _ c.in-Ok.ensures.files c.in-Ok.ensures.asked _ _ _ c.in-Ok-prepare.ensures.ready _ _ c.report_for.ensures.reported
 
 pub returns-in-Err-prepare-clause-comes : goal.returns-in-Err-prepare-clause-comes
 returns-in-Err-prepare-clause-comes g c = comes_alone _ _ _ _ c.without_meters-in-Err-prepare.ensures.untold c.without_meters-in-Err-prepare.ensures.answer
-    (turned_down _ _ _ _ refl _ c.in-Ok.ensures.files c.in-Ok.ensures.asked _ c.in-Err-prepare.ensures.refused (g.met.O.Sink.took_nothing _))
+    (turned_down _ _ _ refl _ c.in-Ok.ensures.files c.in-Ok.ensures.asked _ c.in-Err-prepare.ensures.refused (g.met.O.Sink.took_nothing _))
 
 pub returns-in-Err-clause-comes : goal.returns-in-Err-clause-comes
 returns-in-Err-clause-comes g c = comes_alone _ _ _ _ c.without_meters.ensures.untold c.without_meters.ensures.answer

@@ -1,9 +1,0 @@
-use Rattle.std.proofs.Common.{refl}
-use Rattle.oc_top.proofs.Asking.{checking_comes, not_fetched}
-use Rattle.oc_top.proofs.top.obey_check.Goals as goal
-
-pub returns-in-Ok-clause-comes : goal.returns-in-Ok-clause-comes
-returns-in-Ok-clause-comes g c = checking_comes _ _ _ c.in-Ok.ensures.source c.in-Ok.ensures.asked _ refl (rw c.deref.ensures.value at c.check_source.ensures.checked)
-
-pub returns-in-Err-clause-comes : goal.returns-in-Err-clause-comes
-returns-in-Err-clause-comes g c = not_fetched _ _ refl _ c.in-Err.ensures.refused (g.met.O.Sink.took_nothing _)

@@ -1,6 +1,10 @@
 -- The files of a drill, and its line.
 use Rattle.std.specs.Prelude.{ℕ, zero, suc, [], ◌+◌, ◌*◌, ◌%◌, ◌++◌, List, codes, decimal}
 
+-- the most turns of a drill
+abbrev pub turn_limit : ℕ
+turn_limit = 1000
+
 -- a program that adds up so many samples and shows each while it is fresh
 abbrev pub drill_source : ℕ → List ℕ
 drill_source turns = codes "sensor s; port p; nv n: i32 = 0; fn main() { for i in 0.." ++ (decimal turns ++ codes " { let x = sense(s); Fresh(x); n = n + x; emit(p, x); } }")

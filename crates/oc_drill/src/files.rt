@@ -1,7 +1,7 @@
 //! The three files.
-ghost use Rattle.std.specs.Prelude.{◌≡◌, ◌≤◌, ◌<◌, ◌++◌, length, IfOk, OnOk};
+ghost use Rattle.std.specs.Prelude.{◌≡◌, ◌≤◌, ◌<◌, ◌+◌, ◌*◌, ◌++◌, length, IfOk, OnOk};
 ghost use Rattle.std.specs.List.{flat_map};
-ghost use Rattle.oc_drill.specs.Drill.{drill_power, drill_sensors, drill_source, power_row, sensor_row};
+ghost use Rattle.oc_drill.specs.Drill.{drill_power, drill_sensors, drill_source, power_row, sensor_row, turn_limit};
 
 use itoa::Buffer;
 use std::alloc::{AllocError, Global};
@@ -22,7 +22,7 @@ fn add(text: &mut Vec<u8>, pieces: &[&[u8]]) -> Result<(), AllocError>
 
 /// Adds the row of a sample.
 fn add_sample(text: &mut Vec<u8>, place: u32) -> Result<(), AllocError>
-    requires { place < 1000 }
+    requires { place < turn_limit }
     ensures { OnOk result (text.new.items ≡ text.old.items ++ sensor_row place) }
 {
     let mut time = Buffer::new();
@@ -34,7 +34,7 @@ fn add_sample(text: &mut Vec<u8>, place: u32) -> Result<(), AllocError>
 
 /// Adds the row of a period.
 fn add_period(text: &mut Vec<u8>, place: u32) -> Result<(), AllocError>
-    requires { place < 24008 }
+    requires { place < 24 * turn_limit + 8 }
     ensures { OnOk result (text.new.items ≡ text.old.items ++ power_row place) }
 {
     let mut on = Buffer::new();
@@ -46,7 +46,7 @@ fn add_period(text: &mut Vec<u8>, place: u32) -> Result<(), AllocError>
 
 /// The source of a drill of so many turns.
 pub fn source(alloc: Global, turns: u32) -> Result<Vec<u8>, AllocError>
-    requires { turns ≤ 1000 }
+    requires { turns ≤ turn_limit }
     ensures text { IfOk result (λ v. v.items ≡ drill_source turns) }
     ensures within { IfOk result (λ v. length v.items ≤ 200) }
 {
@@ -61,7 +61,7 @@ pub fn source(alloc: Global, turns: u32) -> Result<Vec<u8>, AllocError>
 
 /// Its sensor file, which has a sample for each turn.
 pub fn sensors(alloc: Global, turns: u32) -> Result<Vec<u8>, AllocError>
-    requires { turns ≤ 1000 }
+    requires { turns ≤ turn_limit }
     ensures { IfOk result (λ v. v.items ≡ drill_sensors turns) }
 {
     let mut text = Vec::new(alloc);
@@ -74,7 +74,7 @@ pub fn sensors(alloc: Global, turns: u32) -> Result<Vec<u8>, AllocError>
 
 /// Its power file, which has 24 periods for each turn, and 8 more.
 pub fn power(alloc: Global, turns: u32) -> Result<Vec<u8>, AllocError>
-    requires { turns ≤ 1000 }
+    requires { turns ≤ turn_limit }
     ensures { IfOk result (λ v. v.items ≡ drill_power turns) }
 {
     let mut text = Vec::new(alloc);

@@ -3,6 +3,7 @@ use Rattle.std.proofs.Common.{ℕ, ◌<◌, ◌≤◌, ◌≡◌, sym, List, [],
 use Rattle.std.specs.Prelude.{nat_le, ◌&&◌, codes, option_and_then, option_map, IfSome}
 use Rattle.std.specs.Str.{bytes_eq}
 use Rattle.std.proofs.lemmas.Bool.{leb-true, and_parts}
+use Rattle.oc_drill.specs.Drill.{turn_limit}
 use Rattle.oc_rows.specs.Numbers.{number_of}
 use Rattle.oc_top.specs.Commands.{Audit, Command, Drill, Exec, HasFewTurns, Run, Source, command_of, command_view, drill_with, files_with, is_file, run_with, source_task_of, supply_of, turns_named, turns_of, with_both, with_meters, with_supply, with_three}
 use Rattle.oc_top.specs.declared.command.Command.{Command as Written}
@@ -30,22 +31,22 @@ run_in (Some k) metered files = this_one (Run k metered files) tt
 
 -- ---- the turns of a drill
 
-within_by : (b : Bool) (n m : ℕ) → (nat_le 1 n && nat_le n 1000) ≡ b → cond b (Some n) None ≡ Some m → m ≤ 1000
+within_by : (b : Bool) (n m : ℕ) → (nat_le 1 n && nat_le n turn_limit) ≡ b → cond b (Some n) None ≡ Some m → m ≤ turn_limit
 within_by true n m h e =
     let i : n ≡ m = cc in
-    let within : nat_le n 1000 ≡ true = (and_parts (nat_le 1 n) (nat_le n 1000) h).1 in
-    subst (λ (k : ℕ). k ≤ 1000) i (grind (arith, leb-true, within))
+    let within : nat_le n turn_limit ≡ true = (and_parts (nat_le 1 n) (nat_le n turn_limit) h).1 in
+    subst (λ (k : ℕ). k ≤ turn_limit) i (grind (arith, leb-true, within))
 within_by false n m h e = cc e
 
-of_number : (o : Option ℕ) (m : ℕ) → option_and_then turns_named o ≡ Some m → m ≤ 1000
+of_number : (o : Option ℕ) (m : ℕ) → option_and_then turns_named o ≡ Some m → m ≤ turn_limit
 of_number None m e = cc e
-of_number (Some n) m e = within_by (nat_le 1 n && nat_le n 1000) n m refl e
+of_number (Some n) m e = within_by (nat_le 1 n && nat_le n turn_limit) n m refl e
 
-turns_by : (b : Bool) (o : Option ℕ) (m : ℕ) → cond b (option_and_then turns_named o) None ≡ Some m → m ≤ 1000
+turns_by : (b : Bool) (o : Option ℕ) (m : ℕ) → cond b (option_and_then turns_named o) None ≡ Some m → m ≤ turn_limit
 turns_by true o m e = of_number o m e
 turns_by false o m e = cc e
 
-drill_in : (o : Option ℕ) → ((k : ℕ) → o ≡ Some k → k ≤ 1000) → Fits (drill_with o)
+drill_in : (o : Option ℕ) → ((k : ℕ) → o ≡ Some k → k ≤ turn_limit) → Fits (drill_with o)
 drill_in None h = not_none
 drill_in (Some turns) h = this_one (Drill turns) (h turns refl)
 

@@ -9,7 +9,7 @@ use Rattle.oc_items.specs.declared.item.Item.{Item}
 use Rattle.oc_tree.specs.Tree.{TProgram}
 use Rattle.oc_io.specs.Counts.{capped, line_feeds}
 use Rattle.oc_drill.specs.Drill.{drill_source, drill_sensors, drill_power, drill_line}
-use Rattle.oc_top.specs.Commands.{Command, Plan, Plans, Task, report, drill, regions, listing, imaging, checking, auditing, executing, limits_of, meters_of, named_files, task_of, word_at}
+use Rattle.oc_top.specs.Commands.{Command, Plan, Plans, Task, report, drill, regions, listing, imaging, checking, auditing, executing, limits_of, meters_of, words_if_any, task_of, word_at}
 use Rattle.oc_top.specs.Files.{Files, Fetches, AreFiles, WereFetched, file_at, limit_at, names_of, run_files}
 use Rattle.oc_top.specs.Sources.{Reading, ReadsAs, program}
 use Rattle.oc_top.specs.Verdict.{Verdict, verdict, refuses, prints, printed, regions_of, listing_of, image_of}
@@ -178,7 +178,7 @@ call_of words task shelf out = record { words = words; task = task; shelf = shel
 
 -- the call of a command, if any, with these supplies and meters
 abbrev pub call_for : Plans → List Meter → Option Command → Fetches → Writes → Call
-call_for plans meters command shelf out = call_of (named_files command) (task_of plans meters command) shelf out
+call_for plans meters command shelf out = call_of (words_if_any command) (task_of plans meters command) shelf out
 
 -- nothing is written, and meters tell nothing
 pub record IsSilent (c : Call) (told : List ℕ) : Type 0 where

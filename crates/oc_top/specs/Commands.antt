@@ -2,6 +2,7 @@
 use Rattle.std.specs.Prelude.{ℕ, ◌==◌, ◌&&◌, Bool, true, false, not, List, [], ◌∷◌, ◌≤◌, length, get_or, codes, Option, Some, None, option_and_then, option_map, nat_le, nat_lt, if◌then◌else◌}
 use Rattle.std.specs.Str.{bytes_eq}
 use Rattle.oc_lex.specs.Limits.{source_limit}
+use Rattle.oc_drill.specs.Drill.{turn_limit}
 use Rattle.oc_io.specs.declared.period.Period.{Period}
 use Rattle.oc_power.specs.Choice.{first_with}
 use Rattle.oc_rows.specs.Numbers.{number_of}
@@ -27,9 +28,9 @@ supply_of word = if nat_le (length word) 3 then option_and_then supply_named (nu
 
 -- a drill's number of turns
 abbrev pub turns_named : ℕ → Option ℕ
-turns_named number = if nat_le 1 number && nat_le number 1000 then Some number else None
+turns_named number = if nat_le 1 number && nat_le number turn_limit then Some number else None
 
--- the turns that a word spells: 1 to 4 digits, from 1 to 1000
+-- the turns that a word spells: 1 to 4 digits, from 1 to the most
 abbrev pub turns_of : List ℕ → Option ℕ
 turns_of word = if nat_le (length word) 4 then option_and_then turns_named (number_of word) else None
 
@@ -42,23 +43,24 @@ pub data Command : Type 0 where
   Exec : (files : List (List ℕ)) → Command
   Audit : (source report : List ℕ) → Command
 
-abbrev pub words_of : RunWords → List (List ℕ)
-words_of files = files.source.now ∷ files.sensors.now ∷ files.power.now ∷ []
+-- the words of a run's files, in their order
+abbrev pub run_words : RunWords → List (List ℕ)
+run_words files = files.source.now ∷ files.sensors.now ∷ files.power.now ∷ []
 
 abbrev pub command_view : Written → Command
-command_view (written.Run supply metered files) = Run supply metered (words_of files)
+command_view (written.Run supply metered files) = Run supply metered (run_words files)
 command_view (written.Drill turns) = Drill turns
 command_view (written.Source task source) = Source task source.now
-command_view (written.Exec files) = Exec (words_of files)
+command_view (written.Exec files) = Exec (run_words files)
 command_view (written.Audit source report) = Audit source.now report.now
 
--- the words of its files
-abbrev pub files_of : Command → List (List ℕ)
-files_of (Run supply metered files) = files
-files_of (Drill turns) = []
-files_of (Source task source) = source ∷ []
-files_of (Exec files) = files
-files_of (Audit source report) = source ∷ report ∷ []
+-- the words of the files of a command
+abbrev pub file_words : Command → List (List ℕ)
+file_words (Run supply metered files) = files
+file_words (Drill turns) = []
+file_words (Source task source) = source ∷ []
+file_words (Exec files) = files
+file_words (Audit source report) = source ∷ report ∷ []
 
 abbrev pub drill_with : Option ℕ → Option Command
 drill_with None = None
@@ -128,16 +130,17 @@ command_of other = None
 
 -- a drill has few turns
 abbrev pub HasFewTurns : Command → Type 0
-HasFewTurns (Drill turns) = turns ≤ 1000
+HasFewTurns (Drill turns) = turns ≤ turn_limit
 HasFewTurns command = Unit {0}
 
--- the words of the files of a command, where there is one
-abbrev pub named_files : Option Command → List (List ℕ)
-named_files None = []
-named_files (Some command) = files_of command
+-- the same where there is a command
+abbrev pub words_if_any : Option Command → List (List ℕ)
+words_if_any None = []
+words_if_any (Some command) = file_words command
 
-abbrev pub file_words : Option Written → List (List ℕ)
-file_words command = named_files (option_map command_view command)
+-- and of what a line of words was read as
+abbrev pub words_read : Option Written → List (List ℕ)
+words_read command = words_if_any (option_map command_view command)
 
 -- what a supply tells of the rows that it is fed
 abbrev pub Plan : Type 0
@@ -188,7 +191,7 @@ abbrev pub task_for : Plans → List Reading → Command → Option Task
 task_for plans meters (Run supply metered files) = with_plan (if metered then Some meters else None) (plans supply)
 task_for plans meters (Drill turns) = with_drill turns (plans 0)
 task_for plans meters (Source task source) = Some (source_task task)
-task_for plans meters (Audit source other) = Some auditing
+task_for plans meters (Audit source audited) = Some auditing
 task_for plans meters (Exec files) = with_image (plans 0)
 
 -- the same where there is a command

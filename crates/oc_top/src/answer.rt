@@ -3,7 +3,7 @@ ghost use Rattle.std.specs.Prelude.{◌≡◌, ◌≤◌, ◌⊎◌, ◌++◌, O
 ghost use Rattle.oc_io.specs.Faults.{Rose, TookPart};
 ghost use Rattle.oc_top.specs.Answers.{TookAll, TookFront, line_of, status_of, told_by, writes};
 ghost use Rattle.oc_top.specs.Meters.{told_of};
-ghost use Rattle.oc_top.specs.Commands.{file_words, word_at};
+ghost use Rattle.oc_top.specs.Commands.{words_read, word_at};
 ghost use Rattle.oc_top.specs.declared.answer.Answer.TheVariants as answers;
 
 use crate::command::Command;
@@ -102,7 +102,7 @@ pub fn status(answer: &Answer) -> u8
 
 /// The bytes of the word of a command's file, or none.
 fn word_bytes<'a>(command: Option<Command<'a>>, file: usize) -> &'a [u8]
-    ensures { result.now ≡ word_at (file_words command.entry) file }
+    ensures { result.now ≡ word_at (words_read command.entry) file }
 {
     match command {
         Some(command) => command.word(file).as_bytes(),
@@ -117,9 +117,9 @@ fn put_line_of<E: Sink>(
     err: &mut E,
 ) -> Result<(), SinkFault>
     ensures ok { OnOk result
-        (E.took err.old (line_of (file_words command.entry) answer) err.new) }
+        (E.took err.old (line_of (words_read command.entry) answer) err.new) }
     ensures part { OnErr result
-        (TookPart E.took err.old (line_of (file_words command.entry) answer) err.new) }
+        (TookPart E.took err.old (line_of (words_read command.entry) answer) err.new) }
     ensures cause { OnErr result (Rose (E.faults err.old) (E.faults err.new)) }
     ensures count { E.faults err.old ≤ E.faults err.new }
 {
@@ -201,10 +201,10 @@ fn put_all<M: Meter, E: Sink>(
     err: &mut E,
 ) -> Result<(), SinkFault>
     ensures ok { OnOk result
-        (E.took err.old (line_of (file_words command.entry) answer
+        (E.took err.old (line_of (words_read command.entry) answer
         ++ told_by (told_of M.kind_of M.numbers meters.now)) err.new) }
     ensures part { OnErr result
-        (TookPart E.took err.old (line_of (file_words command.entry) answer
+        (TookPart E.took err.old (line_of (words_read command.entry) answer
         ++ told_by (told_of M.kind_of M.numbers meters.now)) err.new) }
     ensures cause { OnErr result (Rose (E.faults err.old) (E.faults err.new)) }
     ensures count { E.faults err.old ≤ E.faults err.new }
@@ -224,10 +224,10 @@ pub fn put_lines<M: Meter, E: Sink>(
     err: &mut E,
 )
     ensures line { TookAll (writes E.took E.held E.faults err.old err.new)
-        (line_of (file_words command.entry) answer
+        (line_of (words_read command.entry) answer
         ++ told_by (told_of M.kind_of M.numbers meters.now))
         ⊎ TookFront (writes E.took E.held E.faults err.old err.new)
-        (line_of (file_words command.entry) answer
+        (line_of (words_read command.entry) answer
         ++ told_by (told_of M.kind_of M.numbers meters.now)) }
     ensures count { E.faults err.old ≤ E.faults err.new }
 {

@@ -1,8 +1,9 @@
 //! The command lines.
 ghost use Rattle.std.specs.Prelude.{◌≡◌, map, option_map};
 ghost use Rattle.std.specs.String.{string_bytes};
-ghost use Rattle.oc_top.specs.Commands.{command_of, command_view, drill_with, files_of, files_with, is_file, run_with, source_task_of, supply_of, turns_of, with_both, with_one, with_meters, with_supply, with_three, with_two, word_at, words_of};
+ghost use Rattle.oc_top.specs.Commands.{command_of, command_view, drill_with, file_words, files_with, is_file, run_with, source_task_of, supply_of, turns_of, with_both, with_one, with_meters, with_supply, with_three, with_two, word_at, run_words};
 
+use oc_drill::files::MOST_TURNS;
 use oc_rows::number::read_number;
 
 /// What may be done with a source alone.
@@ -59,7 +60,7 @@ pub enum Command<'a> {
 impl<'a> RunWords<'a> {
     /// The word at a place, or an empty one.
     fn word(&self, place: usize) -> &'a str
-        ensures { result.now ≡ word_at (words_of self.now) place }
+        ensures { result.now ≡ word_at (run_words self.now) place }
     {
         match place {
             0 => self.source,
@@ -73,7 +74,7 @@ impl<'a> RunWords<'a> {
 impl<'a> Command<'a> {
     /// The word of the file at a place, or an empty one.
     pub fn word(&self, place: usize) -> &'a str
-        ensures { result.now ≡ word_at (files_of (command_view self.now)) place }
+        ensures { result.now ≡ word_at (file_words (command_view self.now)) place }
     {
         match (self, place) {
             (Command::Run { files, .. }, _) => files.word(place),
@@ -114,7 +115,7 @@ fn read_supply(word: &str) -> Option<u8>
 /// A run of these files with the supply that a word spells.
 fn read_run<'a>(number: &str, metered: bool, files: RunWords<'a>) -> Option<Command<'a>>
     ensures { option_map command_view result
-        ≡ run_with (supply_of number.now) metered (words_of files.entry) }
+        ≡ run_with (supply_of number.now) metered (run_words files.entry) }
 {
     let supply = read_supply(number)?;
     Some(Command::Run {
@@ -132,7 +133,7 @@ fn read_turns(word: &str) -> Option<u32>
         return None;
     }
     let number = read_number(word.as_bytes())?;
-    if 1 <= number && number <= 1000 {
+    if 1 <= number && number <= MOST_TURNS as u64 {
         Some(number as u32)
     } else {
         None
@@ -200,7 +201,7 @@ fn read_two<'a>(word: &str, second: &'a str, third: &'a str) -> Option<Command<'
 
 /// The command of a word and three files.
 fn read_three<'a>(word: &str, files: RunWords<'a>) -> Option<Command<'a>>
-    ensures { option_map command_view result ≡ with_three word.now (words_of files.entry) }
+    ensures { option_map command_view result ≡ with_three word.now (run_words files.entry) }
 {
     if word == "run" {
         Some(Command::Run {
@@ -218,7 +219,7 @@ fn read_three<'a>(word: &str, files: RunWords<'a>) -> Option<Command<'a>>
 /// The command of two words and three files.
 fn read_metered<'a>(word: &str, option: &str, files: RunWords<'a>) -> Option<Command<'a>>
     ensures { option_map command_view result
-        ≡ with_meters word.now option.now (words_of files.entry) }
+        ≡ with_meters word.now option.now (run_words files.entry) }
 {
     if word == "run" && option == "--meters" {
         Some(Command::Run {
@@ -239,7 +240,7 @@ fn read_with_supply<'a>(
     files: RunWords<'a>,
 ) -> Option<Command<'a>>
     ensures { option_map command_view result
-        ≡ with_supply word.now option.now number.now (words_of files.entry) }
+        ≡ with_supply word.now option.now number.now (run_words files.entry) }
 {
     if word == "run" && option == "--supply" {
         read_run(number, false, files)
@@ -257,7 +258,7 @@ fn read_with_both<'a>(
     files: RunWords<'a>,
 ) -> Option<Command<'a>>
     ensures { option_map command_view result
-        ≡ with_both word.now option.now number.now meters.now (words_of files.entry) }
+        ≡ with_both word.now option.now number.now meters.now (run_words files.entry) }
 {
     if word == "run" && option == "--supply" && meters == "--meters" {
         read_run(number, true, files)
@@ -272,7 +273,7 @@ fn read_files<'a>(
     sensors: &'a String,
     power: &'a String,
 ) -> Option<RunWords<'a>>
-    ensures { option_map words_of result
+    ensures { option_map run_words result
         ≡ files_with (string_bytes source.now) (string_bytes sensors.now)
         (string_bytes power.now) }
 {

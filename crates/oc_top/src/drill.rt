@@ -1,5 +1,6 @@
 //! The drill: a run of files that are made in memory.
 ghost use Rattle.std.specs.Prelude.{◌≤◌, ◌≡◌, length, IfOk, option_map};
+ghost use Rattle.oc_drill.specs.Drill.{turn_limit};
 ghost use Rattle.oc_lex.specs.Limits.{source_limit};
 ghost use Rattle.oc_power.specs.Choice.{first_with};
 ghost use Rattle.oc_top.specs.Answers.{drill_files, writes};
@@ -27,7 +28,7 @@ struct Measured {
 
 /// The files of a drill of so many turns.
 fn make_files(alloc: Global, turns: u32) -> Result<Fetched, AllocError>
-    requires { turns ≤ 1000 }
+    requires { turns ≤ turn_limit }
     ensures files { IfOk result (λ f. bytes_of f ≡ drill_files turns) }
     ensures within { IfOk result (λ f. length f.source.items ≤ source_limit) }
 {
@@ -79,7 +80,7 @@ fn measure(alloc: Global, files: &Fetched, supply: &mut dyn Supply) -> Result<Me
 /// Runs the files of a drill of so many turns with this supply, and writes the line that tells its
 /// status and how many lines and bytes it would write.
 fn drill<O: Sink>(alloc: Global, turns: u32, supply: &mut dyn Supply, out: &mut O) -> Answer
-    requires { turns ≤ 1000 }
+    requires { turns ≤ turn_limit }
     ensures drilled { IsDrilled turns (plan supply.old)
         (writes O.took O.held O.faults out.old out.new) result }
     ensures count { O.faults out.old ≤ O.faults out.new }
@@ -103,7 +104,7 @@ fn drill_with<O: Sink>(
     mut supply: Box<dyn Supply>,
     out: &mut O,
 ) -> Answer
-    requires { turns ≤ 1000 }
+    requires { turns ≤ turn_limit }
     ensures drilled { IsDrilled turns (plan supply) (writes O.took O.held O.faults out.old out.new)
         result }
     ensures count { O.faults out.old ≤ O.faults out.new }
@@ -118,7 +119,7 @@ pub fn drill_by<O: Sink>(
     supplies: Vec<Box<dyn Supply>>,
     out: &mut O,
 ) -> Answer
-    requires { turns ≤ 1000 }
+    requires { turns ≤ turn_limit }
     ensures drilled { IsDrilledWith turns
         (option_map (λ b. plan b) (first_with (λ b. number b) 0 supplies.items))
         (writes O.took O.held O.faults out.old out.new) result }

@@ -1,7 +1,7 @@
 //! Runs of images.
 ghost use Rattle.std.specs.Prelude.{◌≤◌, List, [], Some};
 ghost use Rattle.oc_meters.specs.Tally.{Reading};
-ghost use Rattle.oc_top.specs.Commands.{Exec as to_execute, executing, plans_of, words_of};
+ghost use Rattle.oc_top.specs.Commands.{Exec as to_execute, executing, plans_of, run_words};
 ghost use Rattle.oc_top.specs.Files.{ShelfStays, fetches};
 ghost use Rattle.oc_top.specs.Answers.{Comes, call_for, call_of, writes};
 
@@ -23,7 +23,7 @@ fn exec<F: Shelf, O: Sink>(
     out: &mut O,
     supply: &mut dyn Supply,
 ) -> Answer
-    ensures comes { Comes (call_of (words_of words.entry) (Some (executing (plan supply.old)))
+    ensures comes { Comes (call_of (run_words words.entry) (Some (executing (plan supply.old)))
         (fetches F.holds F.asked F.faults shelf.old shelf.new)
         (writes O.took O.held O.faults out.old out.new)) [] result }
     ensures stays { ShelfStays F.holds F.faults shelf.old shelf.new }
@@ -47,7 +47,7 @@ fn exec_with<F: Shelf, O: Sink>(
     out: &mut O,
     mut supply: Box<dyn Supply>,
 ) -> Answer
-    ensures comes { Comes (call_of (words_of words.entry) (Some (executing (plan supply)))
+    ensures comes { Comes (call_of (run_words words.entry) (Some (executing (plan supply)))
         (fetches F.holds F.asked F.faults shelf.old shelf.new)
         (writes O.took O.held O.faults out.old out.new)) [] result }
     ensures stays { ShelfStays F.holds F.faults shelf.old shelf.new }
@@ -66,7 +66,7 @@ pub fn exec_by<F: Shelf, O: Sink>(
 ) -> Answer
     ensures comes { (meters : List Reading) →
         Comes (call_for (plans_of (λ b. number b) (λ b. plan b) supplies.items) meters
-        (Some (to_execute (words_of words.entry)))
+        (Some (to_execute (run_words words.entry)))
         (fetches F.holds F.asked F.faults shelf.old shelf.new)
         (writes O.took O.held O.faults out.old out.new)) [] result }
     ensures stays { ShelfStays F.holds F.faults shelf.old shelf.new }

@@ -2,7 +2,7 @@
 ghost use Rattle.std.specs.Prelude.{[], ◌∷◌, IfOk, IfErr, OnOk};
 ghost use Rattle.oc_lex.specs.Limits.{source_limit};
 ghost use Rattle.oc_io.specs.Faults.{Rose};
-ghost use Rattle.oc_top.specs.Commands.{audit_limits, run_limits, words_of};
+ghost use Rattle.oc_top.specs.Commands.{audit_limits, run_limits, run_words};
 ghost use Rattle.oc_top.specs.Files.{AreFiles, IsFile, IsRefused, NotFetched, ShelfStays, bytes_of, fetches, listed, names_of};
 
 use crate::answer::Answer;
@@ -68,13 +68,13 @@ pub fn fetch_files<F: Shelf>(
     shelf: &mut F,
 ) -> Result<Fetched, Answer>
     ensures files { IfOk result
-        (λ f. AreFiles (F.holds shelf.old) (words_of words.entry) (run_limits limit)
+        (λ f. AreFiles (F.holds shelf.old) (run_words words.entry) (run_limits limit)
         (listed (bytes_of f))) }
     ensures refused { IfErr result
         (λ a. NotFetched (fetches F.holds F.asked F.faults shelf.old shelf.new)
-        (words_of words.entry) (run_limits limit) a) }
+        (run_words words.entry) (run_limits limit) a) }
     ensures asked { OnOk result
-        (F.asked shelf.old (names_of (words_of words.entry) (run_limits limit) 3) shelf.new) }
+        (F.asked shelf.old (names_of (run_words words.entry) (run_limits limit) 3) shelf.new) }
     ensures stays { ShelfStays F.holds F.faults shelf.old shelf.new }
 {
     let source = fetch_word(alloc, words.source, 0, limit, shelf)?;

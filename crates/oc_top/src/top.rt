@@ -2,7 +2,7 @@
 ghost use Rattle.std.specs.Prelude.{◌≡◌, ◌≤◌, [], ◌∷◌, map, option_map, IfSome, Some, if◌then◌else◌};
 ghost use Rattle.std.specs.String.{string_bytes};
 ghost use Rattle.oc_meters.specs.Tally.{readings};
-ghost use Rattle.oc_top.specs.Commands.{HasFewTurns, Run as to_run, auditing as to_audit, command_of, command_view, plans_of, report as to_report, source_task, words_of};
+ghost use Rattle.oc_top.specs.Commands.{HasFewTurns, Run as to_run, auditing as to_audit, command_of, command_view, plans_of, report as to_report, source_task, run_words};
 ghost use Rattle.oc_top.specs.Files.{ShelfStays, fetches};
 ghost use Rattle.oc_top.specs.Answers.{Comes, call_for, call_of, told_by, writes};
 ghost use Rattle.oc_top.specs.Meters.{told_of};
@@ -46,7 +46,7 @@ fn run<F: Shelf, O: Sink, M: Meter>(
     supply: &mut dyn Supply,
     meters: Option<Vec<M>>,
 ) -> Outcome<M>
-    ensures comes { Comes (call_of (words_of words.entry)
+    ensures comes { Comes (call_of (run_words words.entry)
         (Some (to_report (plan supply.old) (told_of M.kind_of M.numbers meters)))
         (fetches F.holds F.asked F.faults shelf.old shelf.new)
         (writes O.took O.held O.faults out.old out.new))
@@ -74,7 +74,7 @@ fn run_with<F: Shelf, O: Sink, M: Meter>(
     mut supply: Box<dyn Supply>,
     meters: Option<Vec<M>>,
 ) -> Outcome<M>
-    ensures comes { Comes (call_of (words_of words.entry)
+    ensures comes { Comes (call_of (run_words words.entry)
         (Some (to_report (plan supply) (told_of M.kind_of M.numbers meters)))
         (fetches F.holds F.asked F.faults shelf.old shelf.new)
         (writes O.took O.held O.faults out.old out.new))
@@ -99,7 +99,7 @@ fn run_by<F: Shelf, O: Sink, M: Meter>(
 ) -> Outcome<M>
     ensures comes { Comes (call_for (plans_of (λ b. number b) (λ b. plan b) supplies.items)
         (readings M.kind_of M.numbers meters.items)
-        (Some (to_run supply metered (words_of words.entry)))
+        (Some (to_run supply metered (run_words words.entry)))
         (fetches F.holds F.asked F.faults shelf.old shelf.new)
         (writes O.took O.held O.faults out.old out.new))
         (told_by (told_of M.kind_of M.numbers result.meters)) result.answer }

@@ -1,7 +1,7 @@
 use Rattle.std.proofs.Common.{sym, None}
 use Rattle.oc_meters.specs.Tally.{readings}
 use Rattle.oc_top.specs.Answers.{call_of, writes}
-use Rattle.oc_top.specs.Commands.{words_of}
+use Rattle.oc_top.specs.Commands.{run_words}
 use Rattle.oc_top.specs.Files.{fetches}
 use Rattle.oc_top.proofs.Asking.{comes_for, comes_none, run_is}
 use Rattle.oc_top.proofs.Metering.{comes_alone}
@@ -9,14 +9,14 @@ use Rattle.oc_top.proofs.top.run_by.Goals as goal
 
 pub returns-in-Some-clause-comes : goal.returns-in-Some-clause-comes
 returns-in-Some-clause-comes g c =
-    comes_for (words_of c.args.words) _ _ (fetches g.F.Shelf.holds g.F.Shelf.asked g.F.Shelf.faults _ _) (writes g.O.Sink.took g.O.Sink.held g.O.Sink.faults _ _) _ _
+    comes_for (run_words c.args.words) _ _ (fetches g.F.Shelf.holds g.F.Shelf.asked g.F.Shelf.faults _ _) (writes g.O.Sink.took g.O.Sink.held g.O.Sink.faults _ _) _ _
     (run_is c.args.supplies.items (λ b. (goal.Supply-dyn g (b.vtable, b.value)).number b.value) (λ b. (goal.Supply-dyn g (b.vtable, b.value)).plan b.value)
-    (readings g.M.Meter.kind_of g.M.Meter.numbers c.args.meters.items) (words_of c.args.words) _ _ _ _ c.wanted_meters-meters.ensures c.in-Some.ensures) c.run_with.ensures.comes
+    (readings g.M.Meter.kind_of g.M.Meter.numbers c.args.meters.items) (run_words c.args.words) _ _ _ _ c.wanted_meters-meters.ensures c.in-Some.ensures) c.run_with.ensures.comes
 
 pub returns-in-None-clause-comes : goal.returns-in-None-clause-comes
 returns-in-None-clause-comes g c =
     comes_alone _ _ _ _ c.without_meters.ensures.untold c.without_meters.ensures.answer
-    (comes_none (call_of (words_of c.args.words) _ (fetches g.F.Shelf.holds g.F.Shelf.asked g.F.Shelf.faults _ _) (writes g.O.Sink.took g.O.Sink.held g.O.Sink.faults _ _))
+    (comes_none (call_of (run_words c.args.words) _ (fetches g.F.Shelf.holds g.F.Shelf.asked g.F.Shelf.faults _ _) (writes g.O.Sink.took g.O.Sink.held g.O.Sink.faults _ _))
     (sym (run_is c.args.supplies.items (λ b. (goal.Supply-dyn g (b.vtable, b.value)).number b.value) (λ b. (goal.Supply-dyn g (b.vtable, b.value)).plan b.value)
-    (readings g.M.Meter.kind_of g.M.Meter.numbers c.args.meters.items) (words_of c.args.words) _ _ _ None c.wanted_meters-meters.ensures c.in-None.ensures))
+    (readings g.M.Meter.kind_of g.M.Meter.numbers c.args.meters.items) (run_words c.args.words) _ _ _ None c.wanted_meters-meters.ensures c.in-None.ensures))
     (g.met.F.Shelf.asked_nothing _) (g.met.O.Sink.took_nothing _))

@@ -1,5 +1,5 @@
 -- A region of a checked program logs at most 589,824 words: the nonvolatile ones, and those of eight parameters.
-use Rattle.std.proofs.Common.{◌≡◌, ◌≤◌, ℕ, zero, suc, ◌+◌, ◌*◌, Bool, true, false, List, [], ◌∷◌, ◌++◌, length, map, cond, Some, sum_by, refl, ap, arith, All, Vec, Global}
+use Rattle.std.proofs.Common.{◌≡◌, ◌<◌, ◌≤◌, ◌^◌, ℕ, zero, suc, ◌+◌, ◌*◌, Bool, true, false, List, [], ◌∷◌, ◌++◌, length, map, cond, Some, sum_by, refl, ap, arith, All, Vec, Global}
 use Rattle.std.specs.Prelude.{slice_get, nat_lt}
 use Rattle.std.specs.List.{list_any}
 use Rattle.std.proofs.Math.ListN.{get_or}
@@ -97,7 +97,7 @@ module _ (p : TProgram) (groups : List Group) (checked : IsChecked p groups) whe
   all_few (r ∷ rs) (suc v) = all_few rs v
 
 -- the same of the targets that an image holds
-pub held_few : (m : TMarked) → IsChecked m.program m.groups → (ts : List (Vec Target Global)) → map (λ v. v.items) ts ≡ may_write m → All (λ v. sum_by target_words v.items ≤ 4294967295) ts
+pub held_few : (m : TMarked) → IsChecked m.program m.groups → (ts : List (Vec Target Global)) → map (λ v. v.items) ts ≡ may_write m → All (λ v. sum_by target_words v.items < 2 ^ 32) ts
 held_few m checked ts h i d below =
     let words = λ (v : Vec Target Global). sum_by target_words v.items in
     let own : get_or (map words ts) i 0 ≡ words (get_or ts i d) = get_or-map words ts i d 0 below in

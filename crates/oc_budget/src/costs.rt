@@ -1,5 +1,5 @@
 //! The costs of regions and of runs.
-ghost use Rattle.std.specs.Prelude.{◌≡◌, ◌≤◌, map, sum_by, IfErr, IfOk};
+ghost use Rattle.std.specs.Prelude.{◌≡◌, map, sum_by, IfErr, IfOk, ◌<◌, ◌^◌};
 ghost use Rattle.std.specs.List.{All};
 ghost use Rattle.oc_code.specs.Code.{code_of};
 ghost use Rattle.oc_tree.specs.Regions.{region_view};
@@ -38,7 +38,7 @@ fn target_words(target: Target) -> u32
 
 /// The words of a region's targets.
 fn words_of(targets: &[Target]) -> u32
-    requires { sum_by target_words targets.now ≤ 4294967295 }
+    requires { sum_by target_words targets.now < 2 ^ 32 }
     ensures { result ≡ sum_by target_words targets.now }
 {
     let mut words: u32 = 0;
@@ -50,7 +50,7 @@ fn words_of(targets: &[Target]) -> u32
 
 /// How many words each region logs at most.
 fn all_logged(alloc: Global, targets: &[Vec<Target>]) -> Result<Vec<u32>, AllocError>
-    requires { All (λ v. sum_by target_words v.items ≤ 4294967295) targets.now }
+    requires { All (λ v. sum_by target_words v.items < 2 ^ 32) targets.now }
     ensures { IfOk result (λ l. l.items ≡ map (λ v. sum_by target_words v.items) targets.now) }
 {
     let mut logged = Vec::new(alloc);

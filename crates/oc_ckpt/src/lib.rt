@@ -1,7 +1,7 @@
 //! The area where registers and the stack are saved, with its one state word.
 #![tactic(auto)]
 
-ghost use Rattle.std.specs.Prelude.{◌≡◌, ◌+◌, ◌<◌, ◌≤◌, pos, length, replicate, slice_index_or, slice_set, IfOk};
+ghost use Rattle.std.specs.Prelude.{◌≡◌, ◌+◌, ◌<◌, ◌≤◌, pos, length, replicate, slice_index_or, slice_set, IfOk, ◌^◌};
 ghost use Rattle.oc_ckpt.specs.Saving.{saved_words, save_all};
 
 use oc_io::Memory;
@@ -96,8 +96,8 @@ impl Area {
     /// Saves the program counter, the frame's place and the stack, from the first word on, and ends
     /// `Sealed`. The words past them stay.
     pub fn save_all(&mut self, pc: i32, fp: i32, stack: &[i32])
-        requires short { length stack.now ≤ 65536 }
-        requires room { length stack.now + 3 ≤ length self.old.words }
+        requires short { length stack.now < 2 ^ 31 }
+        requires room { length stack.now + HEAD ≤ length self.old.words }
         ensures value { self.new
             ≡ record {
               words = save_all (saved_words pc fp stack.now) self.old.words;

@@ -3,6 +3,7 @@ ghost use Rattle.std.specs.Prelude.{◌≡◌, ◌≤◌, ◌+◌, ◌++◌, [],
 ghost use Rattle.std.specs.List.{All};
 ghost use Rattle.oc_tree.specs.Calls.{function_place};
 ghost use Rattle.oc_tree.specs.Regions.{region_view};
+ghost use Rattle.oc_tree.specs.Sizes.{function_limit, parameter_limit, word_limit};
 ghost use Rattle.oc_tree.specs.Stack.{frame, link_words, stacks_to};
 ghost use Rattle.oc_tree.specs.View.{function_view, program_view};
 ghost use Rattle.oc_tree.specs.Weight.{known_of};
@@ -37,7 +38,7 @@ fn declare_nvs<'a>(
     nv: &[NvDecl],
 ) -> Result<(), AllocError>
     requires empty { scope.old ≡ [] }
-    requires words { word + sum_by (λ d. d.words) nv.now ≤ 65536 }
+    requires words { word + sum_by (λ d. d.words) nv.now ≤ word_limit }
     ensures { OnOk result (scope.new ≡ nv_scope word names.now nv.now) }
 {
     match names.split_first() {
@@ -89,7 +90,7 @@ fn kind_words(kind: ValueKind) -> u32
 }
 
 fn declare_params<'a>(scope: &mut Scope<'a>, params: &'a [Param]) -> Result<(), AllocError>
-    requires { length params.now ≤ 8 }
+    requires { length params.now ≤ parameter_limit }
     ensures { OnOk result (scope.new ≡ params_scope params.now 0 scope.old) }
 {
     let mut s = 0;
@@ -194,7 +195,7 @@ fn image_nvs(alloc: Global, nv: &[NvDecl]) -> Result<Vec<ImageNv>, AllocError>
 /// The stack of `main`, of the functions of an expansion.
 fn main_stack(alloc: Global, functions: &[Function]) -> Result<u32, AllocError>
     requires { known_of (stacks_to (map function_view functions.now) (length functions.now))
-        (function_place (map function_view functions.now) (codes "main")) ≤ 65536 }
+        (function_place (map function_view functions.now) (codes "main")) ≤ word_limit }
     ensures { IfOk result
         (λ s. s
         ≡ known_of (stacks_to (map function_view functions.now) (length functions.now))
@@ -214,7 +215,7 @@ pub fn raw_image(
 ) -> Result<RawImage, AllocError>
     requires formed { IsFormed (program_view program.now) (map region_view regions.now)
         (map (λ v. v.items) targets.items) }
-    requires few { length program.now.functions.items ≤ 128 }
+    requires few { length program.now.functions.items ≤ function_limit }
     requires small { All (λ f. IsSmall (function_view f)) program.now.functions.items }
     ensures { IfOk result
         (λ raw. parts_of raw

@@ -3,6 +3,7 @@ ghost use Rattle.std.specs.Prelude.{◌≡◌, ◌≤◌, ◌<◌, map, length, 
 ghost use Rattle.oc_tree.specs.Names.{names_view};
 ghost use Rattle.oc_tree.specs.View.{call_view, function_view};
 ghost use Rattle.oc_tree.specs.Regions.{region_view};
+ghost use Rattle.oc_tree.specs.Sizes.{function_limit, name_limit};
 ghost use Rattle.oc_tree.specs.Weight.{has_result};
 ghost use Rattle.oc_meaning.specs.Exec.{begun_by, ended_by, number_in};
 ghost use Rattle.oc_code.specs.Code.{function_number};
@@ -33,6 +34,7 @@ impl<'a> Model for Setting<'a> {
     ghost use Rattle.oc_tree.specs.View.{function_view};
     ghost use Rattle.oc_tree.specs.Regions.{region_view};
     ghost use Rattle.oc_tree.specs.Calls.{function_names};
+    ghost use Rattle.oc_tree.specs.Sizes.{function_limit, name_limit};
     ghost use Rattle.oc_codegen.specs.Around.{Around};
 
     ghost Value = { Around };
@@ -48,9 +50,9 @@ impl<'a> Model for Setting<'a> {
 
     ghost invariant = { λ a. (a.table
         ≡ function_names (map function_view a.program.now.functions.items))
-        × (length a.program.now.names.sensors.items ≤ 64)
-        × (length a.program.now.names.ports.items ≤ 64)
-        × (length a.program.now.functions.items ≤ 128) };
+        × (length a.program.now.names.sensors.items ≤ name_limit)
+        × (length a.program.now.names.ports.items ≤ name_limit)
+        × (length a.program.now.functions.items ≤ function_limit) };
 }
 
 impl<'a> Setting<'a> {
@@ -59,9 +61,9 @@ impl<'a> Setting<'a> {
         program: &'a Program,
         regions: &'a [Region],
     ) -> Result<Setting<'a>, AllocError>
-        requires sensors { length program.now.names.sensors.items ≤ 64 }
-        requires ports { length program.now.names.ports.items ≤ 64 }
-        requires functions { length program.now.functions.items ≤ 128 }
+        requires sensors { length program.now.names.sensors.items ≤ name_limit }
+        requires ports { length program.now.names.ports.items ≤ name_limit }
+        requires functions { length program.now.functions.items ≤ function_limit }
         ensures { IfOk result (λ s. s
             ≡ record {
               names = names_view program.now.names;

@@ -1,5 +1,5 @@
 //! From bytes to tokens.
-ghost use Rattle.std.specs.Prelude.{◌≡◌, ◌+◌, ◌≤◌, ◌<◌, ◌⊎◌, ◌++◌, List, Err, Ok, length, IfOk, IfErr, MatchResult, OnOk, MatchBool, All};
+ghost use Rattle.std.specs.Prelude.{◌≡◌, ◌+◌, ◌≤◌, ◌<◌, ◌⊎◌, ◌++◌, List, Err, Ok, length, IfOk, IfErr, MatchResult, OnOk, MatchBool, All, ◌^◌};
 ghost use Rattle.oc_lex.specs.Limits.{source_limit};
 ghost use Rattle.oc_lex.specs.Stands.{InOrder, StandsIn};
 ghost use Rattle.oc_lex.specs.Tokens.{AreTokens, HasFault, BeginsWithLetter, Reads, feeds_of, tokens_of};
@@ -127,7 +127,7 @@ fn add(
 
 /// The line after a byte in this line.
 fn line_after(line: u32, byte: u8) -> u32
-    requires { line < 2147483647 }
+    requires { line + 1 < 2 ^ 32 }
     ensures { result ≡ line + feeds_of byte }
 {
     if byte == b'\n' { line + 1 } else { line }

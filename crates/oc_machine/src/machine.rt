@@ -1,6 +1,7 @@
 //! The machine, and what it lends.
 ghost use Rattle.std.specs.Prelude.{◌≡◌, ◌≤◌, ◌<◌, ◌+◌, ◌^◌, ◌++◌, All, replicate, vec_len, sum_by, IfOk, OnOk, FitsSigned};
 ghost use Rattle.std.specs.Int.{w32};
+ghost use Rattle.oc_tree.specs.Sizes.{word_limit};
 ghost use Rattle.oc_isa.specs.Image as images;
 ghost use Rattle.oc_isa.specs.Image.{main_of, entry_of, frame_of};
 ghost use Rattle.oc_isa.specs.Table.{device_of};
@@ -84,7 +85,7 @@ fn find_main(functions: &[ImageFunction]) -> Start
 
 /// The values of the nonvolatile words at first.
 fn initial_words(alloc: Global, nv: &[ImageNv]) -> Result<Vec<i32>, Memory>
-    requires { sum_by (λ v. v.words) nv.now ≤ 65536 }
+    requires { sum_by (λ v. v.words) nv.now ≤ word_limit }
     ensures words { IfOk result (λ words. words.items ≡ images.initial_words nv.now) }
     ensures fit { IfOk result (λ words. All (FitsSigned w32) words.items) }
 {

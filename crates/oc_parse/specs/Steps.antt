@@ -1,5 +1,5 @@
 -- What the code reads, against the reading.
-use Rattle.std.specs.Prelude.{◌≡◌, ℕ, ◌+◌, ◌≤◌, length, Result, Ok, Err}
+use Rattle.std.specs.Prelude.{◌≡◌, ℕ, ◌+◌, length, Result, Ok, Err, ◌<◌, ◌^◌}
 use Rattle.oc_tree.specs.Tree.{TExpr}
 use Rattle.oc_grammar.specs.Limits.{operators_depth, brackets_depth, blocks_depth}
 use Rattle.oc_grammar.specs.Lexemes.{Lexemes, says, lexemes_in}
@@ -75,7 +75,7 @@ ReadsTo view (Err e) p read = Stopped e read
 
 -- the numbers of what may still come are below 2^32
 abbrev pub Fits : Parser → Type 0
-Fits p = (p.statements + length p.reader.rest.now ≤ 4294967295) × (p.blocks + length p.reader.rest.now ≤ 4294967295)
+Fits p = (p.statements + length p.reader.rest.now < 2 ^ 32) × (p.blocks + length p.reader.rest.now < 2 ^ 32)
 
 -- the same program is read, or reading stops with the same fault or for want of memory
 abbrev pub Whole : Result Program Stop → Result TProgram Fault → Type 0

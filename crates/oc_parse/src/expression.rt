@@ -221,7 +221,7 @@ impl Reader<'_> {
     #[cycle(expression)]
     #[tactic(auto, unfolding(oc_grammar::specs::ReadingExpressions::levels))]
     fn level(&mut self, room: u32, operators: &mut u32, level: u32) -> Result<Expr, Stop>
-        requires { level ≤ 5 }
+        requires { level ≤ ALL }
         ensures exact { ReadsExpr expr_view result operators.new (left self.new)
             (level_at the_depths level room operators.old (left self.old)) }
         ensures shorter { OnOk result (length self.new.rest.now < length self.old.rest.now) }
@@ -249,7 +249,7 @@ impl Reader<'_> {
     #[tactic(auto, unfolding(oc_grammar::specs::ReadingExpressions::levels, oc_grammar::specs::ReadingExpressions::chain))]
     fn comparison(&mut self, room: u32, operators: &mut u32) -> Result<Expr, Stop>
         ensures exact { ReadsExpr expr_view result operators.new (left self.new)
-            (level_at the_depths 3 room operators.old (left self.old)) }
+            (level_at the_depths COMPARISON room operators.old (left self.old)) }
         ensures shorter { OnOk result (length self.new.rest.now < length self.old.rest.now) }
     {
         let left = self.level(room, operators, COMPARISON - 1)?;

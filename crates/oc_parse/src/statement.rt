@@ -1,5 +1,5 @@
 //! Statements and blocks.
-ghost use Rattle.std.specs.Prelude.{◌+◌, ◌<◌, ◌≤◌, length, map, OnOk};
+ghost use Rattle.std.specs.Prelude.{◌+◌, ◌<◌, ◌≤◌, length, map, OnOk, ◌^◌};
 ghost use Rattle.oc_tree.specs.View.{block_view, else_view, kind_view, stmt_view};
 ghost use Rattle.oc_grammar.specs.Limits.{the_depths};
 ghost use Rattle.oc_grammar.specs.Lexemes.{lexeme_of};
@@ -185,7 +185,7 @@ impl Parser<'_> {
     #[cycle(statement)]
     fn else_if(&mut self, room: u32) -> Result<Block, Stop>
         requires fits { Fits self.old }
-        requires more { self.old.blocks + length self.old.reader.rest.now < 4294967295 }
+        requires more { self.old.blocks + length self.old.reader.rest.now + 1 < 2 ^ 32 }
         ensures exact { ReadsTo block_view result self.new
             (from (chained_at the_depths room) self.old) }
         ensures fits { OnOk result (Fits self.new) }

@@ -5,7 +5,7 @@ use Rattle.oc_power.specs.Cutting.{cut_rows}
 use Rattle.oc_power.specs.Looping.{looped}
 use Rattle.oc_meters.specs.Tally.{Reading, reading, readings}
 use Rattle.oc_top.specs.Commands.{Command, Drill, Exec, Plan, Plans, Run, plans_of, task_of, with_drill, with_image, with_plan}
-use Rattle.oc_top.specs.Supplies.{standard_meters, standard_plans}
+use Rattle.oc_top.specs.Supplies.{piece_limit, round_limit, standard_meters, standard_plans}
 
 -- plans that give the same for each number give the same task
 same_task_for : (p q : Plans) (meters : List Reading) → ((k : ℕ) → p k ≡ q k) → (command : Option Command) → task_of p meters command ≡ task_of q meters command
@@ -20,7 +20,7 @@ unlike n k h = grind (arith, h)
 
 module _ {B : Type 0} (boxes : List B) (number : B → ℕ) (plan : B → Plan) (a b c : B)
     (zero_is : number a ≡ 0) (one_is : number b ≡ 1) (two_is : number c ≡ 2)
-    (rows : plan a ≡ (λ rows. rows)) (rounds : plan b ≡ looped 64) (pieces : plan c ≡ cut_rows 50) where
+    (rows : plan a ≡ (λ rows. rows)) (rounds : plan b ≡ looped round_limit) (pieces : plan c ≡ cut_rows piece_limit) where
   -- the plan of the first whose test holds
   abbrev picked : (first second third : Bool) → Option Plan
   picked x y z = option_map plan (if x then Some a else if y then Some b else if z then Some c else None)

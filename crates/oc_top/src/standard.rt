@@ -7,7 +7,7 @@ ghost use Rattle.oc_meters.specs.Tally.{reading};
 ghost use Rattle.oc_top.specs.Answers.{call_for, writes};
 ghost use Rattle.oc_top.specs.Commands.{command_of};
 ghost use Rattle.oc_top.specs.Files.{ShelfStays, fetches};
-ghost use Rattle.oc_top.specs.Supplies.{standard_meters, standard_plans};
+ghost use Rattle.oc_top.specs.Supplies.{piece_limit, round_limit, standard_meters, standard_plans};
 ghost use Rattle.oc_top.specs.Works.{Works};
 
 use crate::top::ocelot;
@@ -47,8 +47,8 @@ fn ocelot_with_boxes<F: Shelf, O: Sink, E: Sink>(
     requires one { number rounds ≡ 1 }
     requires two { number pieces ≡ 2 }
     requires rows { plan rows ≡ (λ given. given) }
-    requires rounds { plan rounds ≡ looped 64 }
-    requires pieces { plan pieces ≡ cut_rows 50 }
+    requires rounds { plan rounds ≡ looped round_limit }
+    requires pieces { plan pieces ≡ cut_rows piece_limit }
     requires counts { reading (λ b. kind_of b) (λ b. numbers b) counts
         ≡ record { kind = 0; numbers = 0 ∷ 0 ∷ 0 ∷ 0 ∷ 0 ∷ [] } }
     requires offs { reading (λ b. kind_of b) (λ b. numbers b) offs

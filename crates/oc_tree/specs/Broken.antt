@@ -8,6 +8,7 @@ use Rattle.oc_tree.specs.Pulls.{own_skips}
 use Rattle.oc_tree.specs.Scope.{nv_kind, takes_param}
 use Rattle.oc_tree.specs.Elements.{Item, sensor_item, port_item, nv_item, function_item, Here, Element, declared, statement, ending, line_of, program_elements}
 use Rattle.oc_tree.specs.Limits.{Tally, nothing_counted, counted, item_passes, statement_passes}
+use Rattle.oc_tree.specs.Sizes.{weight_limit, word_limit}
 use Rattle.oc_tree.specs.Weight.{weights}
 use Rattle.oc_tree.specs.Stack.{stack_words}
 use Rattle.oc_tree.specs.Rules.{declared_before, takes_name, own_known, main_head, calls_main, main_missing, own_fits, sides_differ, condition_is_number, args_differ}
@@ -94,8 +95,8 @@ broken_element p = first_broken p nothing_counted (program_elements p)
 -- 2^32, or `main` takes more than 65,536 words of stack.
 abbrev pub size_rules : TProgram → Table
 size_rules p =
-    (23, list_any (nat_lt 4294967296) (weights p)) ∷
-    (24, nat_lt 65536 (stack_words p)) ∷ []
+    (23, list_any (nat_lt weight_limit) (weights p)) ∷
+    (24, nat_lt word_limit (stack_words p)) ∷ []
 
 abbrev pub or_size : TProgram → Option Broken → Option Broken
 or_size p (Some b) = Some b

@@ -15,6 +15,7 @@ pub mod Assigned
 pub mod Scope
 pub mod Types
 pub mod Elements
+pub mod Sizes
 pub mod Rules
 pub mod Limits
 pub mod Expansion

@@ -12,6 +12,7 @@ use Rattle.oc_tree.specs.declared.scope.Var.{Var}
 use Rattle.oc_tree.specs.Pulls.{own_pulls}
 use Rattle.oc_tree.specs.Calls.{own_calls}
 use Rattle.oc_tree.specs.Scope.{variable_in}
+use Rattle.oc_tree.specs.Sizes.{name_limit, function_limit, parameter_limit, variable_limit, statement_limit, call_limit, policy_limit, word_limit}
 use Rattle.oc_tree.specs.Elements.{Item, sensor_item, port_item, nv_item, function_item, Here, Element, declared, statement, ending}
 
 -- the nonvolatile words so far, the variables of the function so far, and the statements, calls and policies so far.
@@ -76,11 +77,13 @@ counted n (ending line) = n
 
 -- a declaration passes a limit, being one too many or bringing too much
 abbrev pub item_passes : Tally → Before → Item → Bool
-item_passes n b (sensor_item x) = nat_le 64 b.sensors
-item_passes n b (port_item x) = nat_le 64 b.ports
-item_passes n b (nv_item x d) = nat_le 64 b.nvs || nat_lt 65536 n.words
-item_passes n b (function_item f) = nat_le 128 b.functions || (nat_lt 8 (length f.params) || nat_lt 256 n.variables)
+item_passes n b (sensor_item x) = nat_le name_limit b.sensors
+item_passes n b (port_item x) = nat_le name_limit b.ports
+item_passes n b (nv_item x d) = nat_le name_limit b.nvs || nat_lt word_limit n.words
+item_passes n b (function_item f) =
+    nat_le function_limit b.functions || (nat_lt parameter_limit (length f.params) || nat_lt variable_limit n.variables)
 
 -- a statement passes a limit
 abbrev pub statement_passes : Tally → Bool
-statement_passes n = nat_lt 256 n.variables || (nat_lt 8192 n.statements || (nat_lt 1024 n.calls || nat_lt 64 (length n.policies)))
+statement_passes n =
+    nat_lt variable_limit n.variables || (nat_lt statement_limit n.statements || (nat_lt call_limit n.calls || nat_lt policy_limit (length n.policies)))

@@ -28,6 +28,7 @@ use Rattle.oc_tree.specs.Assigned.{is_mutable, reaches_assign}
 use Rattle.oc_tree.specs.Scope.{Scope, variable_in, variable_of, is_variable, is_name_of, is_taken, function_named}
 use Rattle.oc_tree.specs.Types.{is_by_reference, is_reference, is_array, scalar_of, is_int, is_bool, is_same, is_same_kind, value_type, pointed_type, has_elements, type_of, right_type, call_type}
 use Rattle.oc_tree.specs.Elements.{Here, is_end}
+use Rattle.oc_tree.specs.Sizes.{word_limit}
 
 -- ---- names
 
@@ -282,7 +283,7 @@ result_missing p k = not (list_all (λ c. is_some (call_type p c)) (used_calls k
 -- ---- arrays
 
 abbrev pub is_bad_length : ℕ → Bool
-is_bad_length n = nat_lt n 1 || nat_lt 65536 n
+is_bad_length n = nat_lt n 1 || nat_lt word_limit n
 
 abbrev pub has_bad_length : ValueKind → Bool
 has_bad_length (kinds.Array words) = is_bad_length words

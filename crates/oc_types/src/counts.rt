@@ -5,6 +5,7 @@ ghost use Rattle.oc_tree.specs.Nodes.{kind_nodes};
 ghost use Rattle.oc_tree.specs.View.{function_view, kind_view};
 ghost use Rattle.oc_tree.specs.Limits.{Tally, item_passes, nothing_counted, own_declares, policies_after, same_policy, statement_passes, with_item, with_policy, with_statement};
 ghost use Rattle.oc_tree.specs.Elements.{nv_item, function_item};
+ghost use Rattle.oc_tree.specs.Sizes.{call_limit, statement_limit, variable_limit, word_limit};
 ghost use Rattle.oc_types.specs.Standing.{here_of};
 ghost use Rattle.oc_types.specs.Small.{IsSmall};
 
@@ -176,7 +177,7 @@ impl Counts {
     /// Whether a limit is passed with a nonvolatile variable that is counted.
     pub fn nv_passes(&self, before: Before, name: &Name, nv: NvDecl) -> bool
         ensures passes { result ≡ item_passes self.now before (nv_item name.now nv) }
-        ensures small { result ≡ false → self.now.words ≤ 65536 }
+        ensures small { result ≡ false → self.now.words ≤ word_limit }
     {
         64 <= before.nvs || 65536 < self.words
     }
@@ -185,7 +186,7 @@ impl Counts {
     pub fn function_passes(&self, before: Before, function: &Function) -> bool
         ensures passes { result
             ≡ item_passes self.now before (function_item (function_view function.now)) }
-        ensures small { result ≡ false → self.now.variables ≤ 256 }
+        ensures small { result ≡ false → self.now.variables ≤ variable_limit }
     {
         128 <= before.functions || 8 < function.params.len() || 256 < self.variables
     }
@@ -194,7 +195,8 @@ impl Counts {
     pub fn statement_passes(&self) -> bool
         ensures passes { result ≡ statement_passes self.now }
         ensures small { result ≡ false
-            → (self.now.variables ≤ 256) × (self.now.statements ≤ 8192) × (self.now.calls ≤ 1024) }
+            → (self.now.variables ≤ variable_limit) × (self.now.statements ≤ statement_limit)
+            × (self.now.calls ≤ call_limit) }
     {
         256 < self.variables
             || 8192 < self.statements

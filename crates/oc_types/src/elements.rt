@@ -8,6 +8,7 @@ ghost use Rattle.oc_tree.specs.Elements.{after_item, function_item, nv_item};
 ghost use Rattle.oc_tree.specs.Limits.{Tally};
 ghost use Rattle.oc_tree.specs.Rules.{declared_before};
 ghost use Rattle.oc_tree.specs.Scope.{takes_param};
+ghost use Rattle.oc_tree.specs.Sizes.{variable_limit, word_limit};
 ghost use Rattle.oc_types.specs.Small.{IsSmall};
 ghost use Rattle.oc_types.specs.Walk.{Ends, declaration_walk, element, function_walk, item_walk, outcome, program_walk};
 
@@ -54,7 +55,7 @@ fn name_rule(top: &TopLevel, before: Before, name: &Name, full: bool) -> Option<
 fn nv_rule(top: &TopLevel, before: Before, counts: &Counts, name: &Name, nv: NvDecl) -> Option<u8>
     ensures lowest { result
         ≡ lowest (item_rules (program_view top.now) counts.now before (nv_item name.now nv)) }
-    ensures small { result ≡ None → counts.now.words ≤ 65536 }
+    ensures small { result ≡ None → counts.now.words ≤ word_limit }
 {
     if top.declares_before(before, name) {
         return Some(DECLARED_TWICE);
@@ -82,7 +83,7 @@ fn function_rule(
         ≡ lowest (item_rules (program_view top.now) counts.now before
         (function_item (function_view function.now))) }
     ensures untaken { result ≡ None → taken ≡ false }
-    ensures small { result ≡ None → counts.now.variables ≤ 256 }
+    ensures small { result ≡ None → counts.now.variables ≤ variable_limit }
 {
     if top.declares_before(before, &function.name) {
         return Some(DECLARED_TWICE);

@@ -8,6 +8,7 @@ ghost use Rattle.oc_tree.specs.Calls.{function_place};
 ghost use Rattle.oc_tree.specs.Expansion.{program_size};
 ghost use Rattle.oc_tree.specs.Form.{InForm};
 ghost use Rattle.oc_tree.specs.Nodes.{program_nodes};
+ghost use Rattle.oc_tree.specs.Sizes.{statement_limit, weight_limit, word_limit};
 ghost use Rattle.oc_tree.specs.Stack.{stacks_to};
 ghost use Rattle.oc_tree.specs.View.{function_view, program_view};
 ghost use Rattle.oc_tree.specs.Weight.{known_of, weights_to};
@@ -30,7 +31,7 @@ const GREATEST_WEIGHT: u64 = 4294967296;
 const MOST_WORDS: u64 = 65536;
 
 fn some_too_heavy(weights: &[u64]) -> bool
-    ensures { result ≡ list_any (nat_lt 4294967296) weights.now }
+    ensures { result ≡ list_any (nat_lt weight_limit) weights.now }
 {
     for weight in weights {
         if GREATEST_WEIGHT < *weight {
@@ -44,7 +45,7 @@ fn some_too_heavy(weights: &[u64]) -> bool
 #[tactic(auto, using(crate::proofs::SizeLaws::some_pass))]
 fn is_too_heavy(alloc: Global, functions: &[Function]) -> Result<bool, AllocError>
     ensures { IfOk result
-        (λ b. b ≡ list_any (nat_lt 4294967296)
+        (λ b. b ≡ list_any (nat_lt weight_limit)
         (weights_to (map function_view functions.now) (length functions.now))) }
 {
     let weights = weights(alloc, functions)?;
@@ -55,7 +56,7 @@ fn is_too_heavy(alloc: Global, functions: &[Function]) -> Result<bool, AllocErro
 #[tactic(auto, using(crate::proofs::SizeLaws::known_passes))]
 fn is_too_deep(alloc: Global, functions: &[Function]) -> Result<bool, AllocError>
     ensures { IfOk result
-        (λ b. b ≡ nat_lt 65536
+        (λ b. b ≡ nat_lt word_limit
         (known_of (stacks_to (map function_view functions.now) (length functions.now))
         (function_place (map function_view functions.now) (codes "main")))) }
 {
@@ -65,7 +66,7 @@ fn is_too_deep(alloc: Global, functions: &[Function]) -> Result<bool, AllocError
 
 /// The lowest rule on weight and stack that is broken.
 fn size_rule(alloc: Global, program: &Program) -> Result<Option<u8>, AllocError>
-    requires { program_size (program_view program.now) ≤ 8192 }
+    requires { program_size (program_view program.now) ≤ statement_limit }
     ensures { IfOk result (λ r. r ≡ lowest (size_rules (program_view program.now))) }
 {
     let (expanded, _groups) = expand_program(alloc, program)?;
@@ -80,7 +81,7 @@ fn size_rule(alloc: Global, program: &Program) -> Result<Option<u8>, AllocError>
 }
 
 fn broken_size(alloc: Global, program: &Program) -> Result<Option<Broken>, AllocError>
-    requires { program_size (program_view program.now) ≤ 8192 }
+    requires { program_size (program_view program.now) ≤ statement_limit }
     ensures { IfOk result
         (λ r. r
         ≡ or_later (program_view program.now).last_line

@@ -7,6 +7,7 @@ ghost use Rattle.oc_tree.specs.Elements.{is_end, scope_after, kind_of};
 ghost use Rattle.oc_tree.specs.Rules.{takes_name};
 ghost use Rattle.oc_tree.specs.Pulls.{own_pulls};
 ghost use Rattle.oc_tree.specs.Limits.{with_statement};
+ghost use Rattle.oc_tree.specs.Sizes.{call_limit, statement_limit, variable_limit};
 ghost use Rattle.oc_types.specs.Marks.{IsCallers};
 ghost use Rattle.oc_types.specs.Small.{IsSmall};
 ghost use Rattle.oc_types.specs.Standing.{here_of};
@@ -61,8 +62,8 @@ fn statement_rule<'a>(
         → takes_name (program_view top.now) scope.now (kind_view statement.now) ≡ false) }
     ensures small { IfOk result
         (λ r. r ≡ None
-        → (counts.now.variables ≤ 256) × (counts.now.statements ≤ 8192)
-        × (counts.now.calls ≤ 1024)) }
+        → (counts.now.variables ≤ variable_limit) × (counts.now.statements ≤ statement_limit)
+        × (counts.now.calls ≤ call_limit)) }
 {
     let kind = statement.kind();
     if takes_name(top, scope, kind) {

@@ -1,5 +1,6 @@
 //! What a file declares by names.
 ghost use Rattle.std.specs.Prelude.{◌≡◌, ◌++◌, [], ◌∷◌, map, IfOk};
+ghost use Rattle.oc_tree.specs.Sizes.{function_limit, name_limit};
 ghost use Rattle.oc_verify.specs.Reading.{
   bare_at,
   function_at,
@@ -142,7 +143,7 @@ pub fn names<'a>(
     seen: &mut Seen<'a>,
 ) -> Result<Vec<Name>, ReadFault>
     ensures read { reads.Reads (λ v. v.items) result reader.new
-        (names_at 64 bare_at seen.old reader.old) }
+        (names_at name_limit bare_at seen.old reader.old) }
     ensures seen { IfOk result (λ v. seen.new ≡ seen.old ++ v.items) }
 {
     let count = reader.number(0, 64)?;
@@ -156,7 +157,7 @@ pub fn nvs<'a>(
     seen: &mut Seen<'a>,
 ) -> Result<Vec<(Name, ImageNv)>, ReadFault>
     ensures read { reads.Reads (λ v. v.items) result reader.new
-        (names_at 64 nv_at seen.old reader.old) }
+        (names_at name_limit nv_at seen.old reader.old) }
     ensures seen { IfOk result (λ v. seen.new ≡ seen.old ++ map (λ x. x.0) v.items) }
 {
     let count = reader.number(0, 64)?;
@@ -170,7 +171,7 @@ pub fn functions<'a>(
     seen: &mut Seen<'a>,
 ) -> Result<Vec<ImageFunction>, ReadFault>
     ensures { reads.Reads (λ v. v.items) result reader.new
-        (names_at 128 function_at seen.old reader.old) }
+        (names_at function_limit function_at seen.old reader.old) }
 {
     let count = reader.number(0, 128)?;
     many_functions(alloc, count, reader, seen)

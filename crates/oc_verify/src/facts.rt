@@ -13,6 +13,7 @@ ghost use Rattle.std.specs.Prelude.{
   OnOk,
 };
 ghost use Rattle.std.proofs.Math.ListN.{get_or};
+ghost use Rattle.oc_tree.specs.Sizes.{word_limit};
 ghost use Rattle.oc_isa.specs.Image.{parts_of};
 ghost use Rattle.oc_isa.specs.declared.instr.Instr.TheVariants.{Enter};
 ghost use Rattle.oc_verify.specs.declared.fault.VerifyError.TheVariants as errors;
@@ -213,7 +214,7 @@ impl<'a> Facts<'a> {
     /// How many nonvolatile words there are.
     pub fn words(&self) -> u32
         ensures words { result ≡ nv_words self.now }
-        ensures few { result ≤ 65536 }
+        ensures few { result ≤ word_limit }
     {
         self.words
     }

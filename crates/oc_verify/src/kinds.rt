@@ -3,6 +3,7 @@ ghost use Rattle.std.specs.Prelude.{
   ◌≡◌,
   ◌≤◌,
   ◌<◌,
+  ◌^◌,
   ◌==◌,
   ℕ,
   List,
@@ -29,6 +30,7 @@ ghost use Rattle.std.specs.Prelude.{
 ghost use Rattle.std.specs.List.{All, list_any};
 ghost use Rattle.oc_isa.specs.declared.instr.Placed.{Placed};
 ghost use Rattle.oc_tree.specs.Reach.{linked};
+ghost use Rattle.oc_verify.specs.Reading.{greatest};
 ghost use Rattle.oc_verify.specs.declared.fault.VerifyError.TheVariants as errors;
 ghost use Rattle.oc_verify.specs.Blames.{Blames, BlamesIn};
 ghost use Rattle.oc_verify.specs.Facts.{IsNamed, IsRanked};
@@ -218,7 +220,7 @@ fn is_new(calls: &mut IndexSet<u64>, callee: u32, ops: u32) -> Result<bool, Veri
         (calls.new.keys ≡ with_node calls.old.keys (call_number callee ops)) }
     ensures new { IfOk result
         (λ b. b ≡ not (list_any (nat_eq (call_number callee ops)) calls.old.keys)) }
-    ensures small { ops < 4294967296 }
+    ensures small { ops < 2 ^ 32 }
     ensures fault { IfErr result (λ e. e ≡ errors.Memory) }
 {
     match calls.insert_full(callee as u64 * 4294967296 + ops as u64) {
@@ -325,7 +327,7 @@ fn codes_of(
     ensures codes { IfOk result
         (λ c. c.items ≡ codes_of facts.now (passed_seen passed.now.items) function) }
     ensures sized { IfOk result (λ c. length c.items ≡ params_of facts.now function) }
-    ensures few { IfOk result (λ c. length c.items ≤ 4294967295) }
+    ensures few { IfOk result (λ c. length c.items ≤ greatest) }
     ensures small { IfOk result (λ c. All (λ c. c < kind_limit) c.items) }
 {
     let params = facts.params(function);

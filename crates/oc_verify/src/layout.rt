@@ -1,6 +1,7 @@
 //! How functions lie in the code, and how many words, names and targets there are.
-ghost use Rattle.std.specs.Prelude.{◌≡◌, ◌≤◌, count_by, length, map, nat_lt, sum_by};
+ghost use Rattle.std.specs.Prelude.{◌≡◌, ◌≤◌, count_by, length, map, nat_lt, sum_by, ◌^◌};
 ghost use Rattle.std.specs.List.{list_all};
+ghost use Rattle.oc_tree.specs.Sizes.{name_limit};
 ghost use Rattle.oc_isa.specs.Image.{is_main, parts_of};
 ghost use Rattle.oc_verify.specs.Rules.{
   counts_fit,
@@ -15,7 +16,7 @@ use oc_isa::image::{ImageFunction, ImageNv, RawImage};
 use oc_tree::said::Target;
 
 fn rises_from(start: u64, functions: &[ImageFunction]) -> bool
-    requires { start ≤ 4294967296 }
+    requires { start ≤ 2 ^ 32 }
     ensures { result ≡ rises_from start functions.now }
 {
     let mut low = start;
@@ -90,7 +91,7 @@ pub fn is_laid_out(image: &RawImage) -> bool
 
 /// How many nonvolatile words there are.
 pub fn nv_words(nv: &[ImageNv]) -> u64
-    requires { length nv.now ≤ 64 }
+    requires { length nv.now ≤ name_limit }
     ensures { result ≡ sum_by (λ v. v.words) nv.now }
 {
     let mut words = 0;

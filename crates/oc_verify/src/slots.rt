@@ -20,6 +20,7 @@ ghost use Rattle.oc_verify.specs.Own.{
   runs_of,
   slot_kind,
 };
+ghost use Rattle.oc_verify.specs.Reading.{greatest};
 ghost use Rattle.oc_verify.specs.Rules.{number_slot, run, slot, slot_right};
 ghost use Rattle.oc_verify.specs.Stacks.{kind_limit};
 ghost use Rattle.oc_verify.specs.Told.{Tells, kind_of};
@@ -35,7 +36,7 @@ use std::marker::Model;
 
 /// How many numbers follow each other from each parameter on.
 fn runs(alloc: Global, codes: &[u64]) -> Result<Vec<u32>, AllocError>
-    requires { length codes.now ≤ 4294967295 }
+    requires { length codes.now ≤ greatest }
     ensures { IfOk result (λ r. r.items ≡ runs_of 0 (map kind_of codes.now)) }
 {
     let mut runs = Vec::new(alloc);
@@ -80,7 +81,7 @@ impl<'a> Slots<'a> {
         function: &'a ImageFunction,
         codes: &'a [u64],
     ) -> Result<Slots<'a>, AllocError>
-        requires few { length codes.now ≤ 4294967295 }
+        requires few { length codes.now ≤ greatest }
         requires sized { main ≡ false → length codes.now ≡ function.now.params }
         requires small { All (λ c. c < kind_limit) codes.now }
         ensures { IfOk result

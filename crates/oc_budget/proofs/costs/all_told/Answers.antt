@@ -1,4 +1,4 @@
-use Rattle.std.proofs.Common.{◌≡◌, ◌≤◌, All, Global, List, Vec, map, sum_by, subst, ap, sym, ◌∙◌}
+use Rattle.std.proofs.Common.{◌≡◌, ◌<◌, ◌^◌, All, Global, List, Vec, map, sum_by, subst, ap, sym, ◌∙◌}
 use Rattle.std.proofs.lemmas.Result.{err_from_is_err_and}
 use Rattle.oc_tree.specs.Stack.{stack_words}
 use Rattle.oc_tree.specs.Weight.{known_of}
@@ -25,7 +25,7 @@ all_logged-requires c =
     let m = c.args.marked.now in
     let raw = c.raw-raw.result.now in
     let targets : map (λ v. v.items) raw.targets.items ≡ may_write m = ap (λ p. p.targets) (c.raw-raw.ensures.parts ∙ c.requires.code) in
-    subst (λ (ts : List (Vec Target Global)). All (λ v. sum_by target_words v.items ≤ 4294967295) ts) (sym c.as_slice.ensures.value)
+    subst (λ (ts : List (Vec Target Global)). All (λ v. sum_by target_words v.items < 2 ^ 32) ts) (sym c.as_slice.ensures.value)
     (held_few m c.requires.marked.checked raw.targets.items targets)
 
 pub returns-in_err-regions-clause-large : goal.returns-in_err-regions-clause-large

@@ -32,7 +32,8 @@ use Rattle.oc_top.specs.Judged as judged
 use Rattle.oc_top.specs.Verdict.{RunFits, Verdict, runs, is_of_run, is_refusal, refuses, prints, printed, regions_of, listing_of, image_of}
 use Rattle.oc_top.specs.Headline.{IsHonestThroughout, IsReportedRun, IsRun, program_power}
 use Rattle.oc_top.specs.Steps.{IsNotBuilt, IsReady, IsReadyFor, IsTurnedDown, by_memory, by_files}
-use Rattle.oc_top.specs.Answers.{IsVerdict, IsPrint, IsJudged, IsDone, IsDoneWhole, Writes, IsWritten, whole, in_part, Call, call_of, HasTold, IsSilent, IsUnfetched, HasFiles, AreRefused, WasDone, IsWhole, Comes}
+use Rattle.oc_top.specs.Answers.{IsVerdict, IsPrint, IsJudged, IsDone, IsDoneWhole, Writes, IsWritten, whole, in_part}
+use Rattle.oc_top.specs.Answers.{Call, call_of, HasTold, IsSilent, IsUnfetched, HasFiles, AreRefused, WasDone, IsWhole, Comes}
 use Rattle.oc_top.specs.declared.command.SourceTask.{SourceTask}
 use Rattle.oc_top.specs.declared.command.SourceTask.TheVariants as tasks
 use Rattle.oc_top.specs.declared.answer.Answer.{Answer}

@@ -5,7 +5,9 @@ use Rattle.std.specs.Str.{bytes_eq}
 use Rattle.std.proofs.lemmas.Bool.{leb-true, and_parts}
 use Rattle.oc_drill.specs.Drill.{turn_limit}
 use Rattle.oc_rows.specs.Numbers.{number_of}
-use Rattle.oc_top.specs.Commands.{Audit, Command, Drill, Exec, HasFewTurns, Run, Source, command_of, command_view, drill_with, files_with, is_file, run_with, source_task_of, supply_of, turns_named, turns_of, with_both, with_meters, with_supply, with_three}
+use Rattle.oc_top.specs.Commands.{Audit, Command, Drill, Exec, HasFewTurns, Run, Source, command_of, command_view}
+use Rattle.oc_top.specs.Commands.{drill_with, files_with, is_file, run_with, source_task_of, supply_of, turns_named, turns_of}
+use Rattle.oc_top.specs.Commands.{with_both, with_meters, with_supply, with_three}
 use Rattle.oc_top.specs.declared.command.Command.{Command as Written}
 use Rattle.oc_top.specs.declared.command.SourceTask.{SourceTask}
 use Rattle.oc_top.specs.declared.command.SourceTask.TheVariants as tasks

@@ -23,7 +23,8 @@ use Rattle.oc_verify.specs.Work.{Marks}
 use Rattle.oc_verify.specs.Stacks.{Nodes, stack, with_node}
 use Rattle.oc_verify.specs.Told.{kind_of, kinds, pair_of}
 use Rattle.oc_verify.specs.Walks.{table_marks}
-use Rattle.oc_verify.specs.Tables.{Calls, IsPassed, with_calls, codes_by, codes_of, Passed, passed_seen, pair_in, Joins, JoinsBy, Mixes, MixesWith, SeenCall, call_number, number_callee, number_stack, was_passed}
+use Rattle.oc_verify.specs.Tables.{Calls, IsPassed, with_calls, codes_by, codes_of, Passed, passed_seen, pair_in, was_passed}
+use Rattle.oc_verify.specs.Tables.{Joins, JoinsBy, Mixes, MixesWith, SeenCall, call_number, number_callee, number_stack}
 use Rattle.oc_verify.proofs.Calls.{call_linked}
 use Rattle.oc_verify.proofs.KindLaws.{kinds_long}
 use Rattle.oc_verify.proofs.MergeLaws.{all_stay}

@@ -687,7 +687,8 @@ statement-returns-in_err-begin-clause-cut t c =
     let υ = used (begins_use (is_fresh env) k) n samples begins in
     let ω = c.begin.new.store in
     let begun_is : begun_at k c.in_ok-uses.uses n c.open_region.new.self ≡ υ =
-    ap (λ u. begun_at k u n c.open_region.new.self) c.in_ok-uses.ensures ∙ ap (begun_at k (if is_use (is_fresh env) k then Some samples else None) n) open_is ∙ begun_if (is_fresh env) k n samples begins in
+    ap (λ u. begun_at k u n c.open_region.new.self) c.in_ok-uses.ensures ∙ ap (begun_at k (if is_use (is_fresh env) k then Some samples else None) n) open_is
+    ∙ begun_if (is_fresh env) k n samples begins in
     on_err _ (begun_stmt_from ω.events r env n k σ (in_other ω.events (begun_at k c.in_ok-uses.uses n c.open_region.new.self) υ begun_is c.in_err-begin.ensures.cut))
 
 pub statement-returns-in_err-close_region-in-Went-clause-cut : goal.statement-returns-in_err-close_region-in-Went-clause-cut

@@ -1,7 +1,8 @@
 use Rattle.std.proofs.Common.{rules}
 use Rattle.std.specs.String.{string_bytes}
 use Rattle.oc_top.proofs.Commanding.{none_of_few, none_of_many}
-use Rattle.oc_top.proofs.command.read_command.Goals.{in_default-via-then-words-lt2, in_default-via-else-words-lt2+else-words-lt3+else-words-lt4+else-words-lt5+else-words-lt6+else-words-lt7+else-words-lt8}
+use Rattle.oc_top.proofs.command.read_command.Goals.{in_default-via-then-words-lt2}
+use Rattle.oc_top.proofs.command.read_command.Goals.{in_default-via-else-words-lt2+else-words-lt3+else-words-lt4+else-words-lt5+else-words-lt6+else-words-lt7+else-words-lt8}
 use Rattle.oc_top.proofs.command.read_command.Goals as goal
 
 pub returns-in_default : goal.returns-in_default

@@ -17,7 +17,8 @@ use Rattle.oc_verify.specs.Work.{Marks}
 use Rattle.oc_verify.proofs.FactLaws.{here}
 use Rattle.oc_verify.proofs.Owners.{stands}
 use Rattle.oc_verify.proofs.PassLaws.{calls_new, calls_old, calls_parts, pass_begun, passed_as}
-use Rattle.oc_verify.proofs.SeenLaws.{CallsEach, call_kept, call_passed, call_suits, calls_more, calls_on, calls_one, cell_call, joins_again, kinds_high, no_call_blank, no_call_other, none_passed, seen_long}
+use Rattle.oc_verify.proofs.SeenLaws.{CallsEach, call_kept, call_passed, call_suits, calls_more, calls_on, calls_one, cell_call}
+use Rattle.oc_verify.proofs.SeenLaws.{joins_again, kinds_high, no_call_blank, no_call_other, none_passed, seen_long}
 use Rattle.oc_verify.proofs.kinds.pass_all.Goals as goal
 use Rattle.oc_verify.proofs.kinds.pass_all.Goals.{in-Some+in-Call+in_ok-is_new+then-branch+in_ok-pass, in-Some+in-Call+in_ok-is_new+else-branch, in_default, in-Some+in_default-instr}
 

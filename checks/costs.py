@@ -1,0 +1,121 @@
+#!/usr/bin/env python3
+"""Measures what a run of the gate costs: costs.py [--out FILE] [WORD..]
+
+Runs 'rt ci WORD..' at the top of the repository and looks four times a second at the checks that are under way. Then it
+prints, as a table, the processor time (user and system) of each crate's proof, of its tests, of the check that its wrong
+bodies begin with (the seed) and of these, and the greatest memory of one check; behind it the sums and the time that went
+by. What earlier runs on this machine kept isn't done again: a whole table wants a machine on which nothing is kept, or
+the word --anew. With --out the table goes into a file as well. The status is that of 'rt ci'.
+"""
+import argparse
+import os
+import pathlib
+import re
+import subprocess
+import sys
+import time
+
+TOP = pathlib.Path(__file__).resolve().parent.parent
+KINDS = ("proof", "tests", "seed", "wrong bodies")
+TICKS = os.sysconf("SC_CLK_TCK")
+PAUSE = 0.25
+
+
+class Check:
+    """One process that checks a crate: which crate, what for, its processor time in seconds and greatest memory in MiB."""
+
+    def __init__(self, crate, kind):
+        self.crate, self.kind, self.seconds, self.memory = crate, kind, 0.0, 0
+
+
+def read(path):
+    try:
+        return path.read_text(errors="replace")
+    except OSError:
+        return ""
+
+
+def kind_of(words, folder):
+    """Returns what a check with these words, in this folder, is for."""
+    over = words[words.index("--incremental") + 1] if "--incremental" in words else ""
+    if "rt-edit" in over or "rt-edit" in folder:
+        return "seed" if over.endswith("/seed") else "wrong bodies"
+    return "tests" if "--test" in words else "proof"
+
+
+def new_check(process):
+    """Returns the check that a process makes, or None where it makes none."""
+    words = read(process / "cmdline").split("\0")
+    if not words[0].endswith("/rattle") or "--crate-name" not in words:
+        return None
+    try:
+        folder = os.readlink(process / "cwd")
+    except OSError:
+        folder = ""
+    return Check(words[words.index("--crate-name") + 1], kind_of(words, folder))
+
+
+def look(session, checks):
+    """Brings what is known of each check of this session up to date. A process is named by its number and its start."""
+    for process in pathlib.Path("/proc").iterdir():
+        fields = read(process / "stat").rpartition(")")[2].split() if process.name.isdigit() else []
+        if len(fields) < 20 or int(fields[3]) != session:
+            continue
+        name = process.name, fields[19]
+        # A process may begin as a shell and become a check.
+        check = checks.get(name) or new_check(process)
+        if check:
+            checks[name] = check
+            check.seconds = (int(fields[11]) + int(fields[12])) / TICKS
+            most = re.search(r"VmHWM:\s+(\d+)", read(process / "status"))
+            check.memory = max(check.memory, int(most[1]) // 1024 if most else 0)
+
+
+def measured(words):
+    """Runs 'rt ci' with these words, and returns its status, the seconds that went by and the checks that it made."""
+    begin, checks = time.monotonic(), {}
+    run = subprocess.Popen(["rt", "ci", *words], cwd=TOP, start_new_session=True, stdin=subprocess.DEVNULL)
+    while run.poll() is None:
+        look(run.pid, checks)
+        time.sleep(PAUSE)
+    return run.returncode, time.monotonic() - begin, checks.values()
+
+
+def cell(seconds):
+    return f"{seconds:,.0f} s" if seconds >= 0.5 else ""
+
+
+def table(checks, passed):
+    """Returns the lines of the table, crates in the order of crates.txt."""
+    rows = {}
+    for check in checks:
+        row = rows.setdefault(check.crate, dict.fromkeys(KINDS, 0.0) | {"memory": 0})
+        row[check.kind] += check.seconds
+        row["memory"] = max(row["memory"], check.memory)
+    order = re.findall(r"(?m)^(\w+)[^:\n]*:", read(TOP / "crates.txt"))
+    lines = [f"| crate | {' | '.join(KINDS)} | memory |", "|---" * (len(KINDS) + 2) + "|"]
+    for name in sorted(rows, key=lambda it: order.index(it) if it in order else len(order)):
+        row = rows[name]
+        lines.append(f"| `{name}` | {' | '.join(cell(row[kind]) for kind in KINDS)} | {row['memory']:,} MiB |")
+    sums = {kind: sum(row[kind] for row in rows.values()) for kind in KINDS}
+    most = max((row["memory"] for row in rows.values()), default=0)
+    lines.append(f"| all | {' | '.join(cell(sums[kind]) for kind in KINDS)} | {most:,} MiB |")
+    minutes = sum(sums.values()) / 60
+    lines += ["", f"{passed / 60:.0f} minutes on {len(os.sched_getaffinity(0))} processors, {minutes:.0f} minutes of processor time in checks."]
+    return lines
+
+
+def main():
+    parser = argparse.ArgumentParser(description=__doc__.splitlines()[0])
+    parser.add_argument("--out", type=pathlib.Path)
+    options, words = parser.parse_known_args()
+    status, passed, checks = measured(words)
+    text = "\n".join(table(checks, passed)) + "\n"
+    print(text, end="")
+    if options.out:
+        options.out.write_text(text)
+    return status
+
+
+if __name__ == "__main__":
+    sys.exit(main())

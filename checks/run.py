@@ -64,7 +64,7 @@ def run(program, words, folder):
             memory = int(rest[0])
     try:
         done = subprocess.run(
-            [program, *words.read_text().splitlines()],
+            [program, *words.read_bytes().splitlines()],
             cwd=folder,
             stdin=subprocess.DEVNULL,
             stdout=stdout or subprocess.PIPE,

@@ -4,8 +4,8 @@
 Of each case that runs a source over two files (see run.py) the report is written again and handed to 'audit', which
 must find it honest; and where the case has no option the source is handed to 'build --image', and 'exec' of that file
 over the same two files must write the same report with the same status. With words only the cases whose names have
-one of them. --rows takes files in JSON whose list 'cases' has words and files in place of folders. OCELOT in the
-environment stands in the place of ./ocelot. Prints what differs; ends with 1 where something does.
+one of them. --rows takes files in JSON whose list 'cases' has words and files in place of folders. The program is that
+of OCELOT in the environment, or else the built one. Prints what differs; ends with 1 where something does.
 """
 import argparse
 import json
@@ -17,15 +17,15 @@ import sys
 import tempfile
 
 import run
+from program import program
 
-PROGRAM = os.environ.get("OCELOT", str(run.TOP / "ocelot"))
 WRITTEN = (0, 8, 9, 12)
 
 
 def answer(words, folder):
     """Returns the status and both outputs of the program."""
     done = subprocess.run(
-        [PROGRAM, *words], cwd=folder, stdin=subprocess.DEVNULL, stdout=subprocess.PIPE, stderr=subprocess.PIPE, timeout=60
+        [program(), *words], cwd=folder, stdin=subprocess.DEVNULL, stdout=subprocess.PIPE, stderr=subprocess.PIPE, timeout=60
     )
     return done.returncode, done.stdout, done.stderr
 

@@ -16,8 +16,8 @@ import subprocess
 import sys
 import tempfile
 
-TOP = pathlib.Path(__file__).resolve().parent.parent
-PROGRAM = TOP / "crates/ocelot/out/ocelot"
+from program import TOP, program
+
 RUN = ("run", "source.oc", "sensors.csv", "power.csv")
 REGIONS = ("regions", "source.oc")
 SENSORS = "time,sensor,value\n0,s,1\n"
@@ -178,21 +178,19 @@ def pair(workload, before, program, seconds):
 
 def main():
     parser = argparse.ArgumentParser(description="Measures the program on workloads.")
-    parser.add_argument("--program", type=os.path.abspath)
+    parser.add_argument("--program")
     parser.add_argument("--before", type=os.path.abspath)
     parser.add_argument("--seconds", default=60, type=int)
     parser.add_argument("words", nargs="*", metavar="WORD")
     asked = parser.parse_args()
-    # The launcher builds the program where that is needed; it is measured without the launcher.
-    subprocess.run([asked.program or TOP / "ocelot", "regions", TOP / "examples/first/first.oc"], check=True, stdout=subprocess.DEVNULL)
-    program = asked.program or PROGRAM
+    tried = program(asked.program)
     heads = ["what", "N", "bytes read", "processor time", "greatest memory", "growth from N / 4"]
     if asked.before:
         heads = ["what", "N", "time before", "memory before", "time", "memory"]
     print(f"| {' | '.join(heads)} |", "|---" * len(heads) + "|", sep="\n")
     for workload in WORKLOADS:
         if not asked.words or any(word in workload.name for word in asked.words):
-            line = pair(workload, asked.before, program, asked.seconds) if asked.before else row(workload, program, asked.seconds)
+            line = pair(workload, asked.before, tried, asked.seconds) if asked.before else row(workload, tried, asked.seconds)
             if line:
                 print(line, flush=True)
 

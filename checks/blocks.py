@@ -4,22 +4,21 @@
 
 Prints the source SRC with an `atomic` block around the statements of each region that './ocelot regions SRC' lists.
 With --cases it does so with each source of a case that has regions, and says whether './ocelot check' finds each of
-the results safe; with words only those whose names have one of them. OCELOT in the environment stands in the place of
-./ocelot.
+the results safe; with words only those whose names have one of them. The program is that of OCELOT in the environment,
+or else the built one.
 
 A block ends what is declared in it, so it is made longer where need be: it begins with the `let` of what is annotated in
 it and ends with the last statement that names what is declared in it. A `return` in it becomes an assignment, and
 stands behind it.
 """
-import os
 import pathlib
 import re
 import subprocess
 import sys
 import tempfile
 
-TOP = pathlib.Path(__file__).resolve().parent.parent
-PROGRAM = os.environ.get("OCELOT", str(TOP / "ocelot"))
+from program import TOP, program
+
 TOKEN = re.compile(r"//[^\n]*|[A-Za-z_][A-Za-z0-9_]*|[0-9][0-9_]*|->|==|!=|<=|>=|&&|\|\||\.\.|\S")
 NAME = re.compile(r"[A-Za-z_]")
 REGION = re.compile(r"region \d+ \S+ (\d+)\.\.(\d+) ", re.M)
@@ -200,7 +199,7 @@ def with_blocks(source, regions):
 
 def asked(words, *files):
     """Returns the status and the output of the program."""
-    done = subprocess.run([PROGRAM, *words, *files], stdin=subprocess.DEVNULL, capture_output=True)
+    done = subprocess.run([program(), *words, *files], stdin=subprocess.DEVNULL, capture_output=True)
     return done.returncode, (done.stdout + done.stderr).decode(errors="replace")
 
 

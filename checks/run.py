@@ -10,8 +10,8 @@ the program gets, one a line; it runs in the folder of that file. Beside it stan
                          'stdout FILE' (where standard output goes) and 'memory N' (a limit of N KiB)
     NAME.drawing, .svg   what examples/timeline.py must draw of NAME.out, as text and as a picture
 
-With words only the cases run whose names have one of them. PROGRAM stands in the place of ./ocelot. Prints what
-differs; ends with 1 where something does or the program can't be built. Nothing is written but temporary files.
+With words only the cases run whose names have one of them. Without PROGRAM it is that of OCELOT in the environment, or
+else the built one. Prints what differs; ends with 1 where something does. Nothing is written but temporary files.
 """
 import argparse
 import difflib
@@ -23,7 +23,8 @@ import subprocess
 import sys
 import tempfile
 
-TOP = pathlib.Path(__file__).resolve().parent.parent
+from program import TOP, program
+
 FOLDERS = ("checks/cases", "examples")
 ENDS = ("words", "*.words")
 SECONDS = 20
@@ -50,7 +51,7 @@ def limit_memory(kibibytes):
     return lambda: resource.setrlimit(resource.RLIMIT_AS, (kibibytes * 1024,) * 2)
 
 
-def run(program, words, folder):
+def run(tried, words, folder):
     """Returns the status and both outputs of the program over a case, or None where it takes too long."""
     stdout, memory = None, None
     for kind, *rest in instructions(words):
@@ -64,7 +65,7 @@ def run(program, words, folder):
             memory = int(rest[0])
     try:
         done = subprocess.run(
-            [program, *words.read_bytes().splitlines()],
+            [tried, *words.read_bytes().splitlines()],
             cwd=folder,
             stdin=subprocess.DEVNULL,
             stdout=stdout or subprocess.PIPE,
@@ -86,13 +87,13 @@ def differences(what, got, wanted):
     return shown or [f"{what} differs in its line ends"]
 
 
-def faults(program, words):
+def faults(tried, words):
     """Returns the lines that say what is wrong with a case."""
     with tempfile.TemporaryDirectory() as temporary:
         folder = words.parent
         if any(kind == "make" for kind, *_ in instructions(words)):
             folder = pathlib.Path(shutil.copytree(folder, os.path.join(temporary, "case")))
-        got = run(program, words, folder)
+        got = run(tried, words, folder)
     if got is None:
         return [f"no answer in {SECONDS} seconds"]
     status, out, err = got
@@ -114,17 +115,15 @@ def name(words):
 
 def main():
     parser = argparse.ArgumentParser(description="Runs the program over worked cases.")
-    parser.add_argument("--program", default=TOP / "ocelot", type=os.path.abspath)
+    parser.add_argument("--program")
     parser.add_argument("words", nargs="*", metavar="WORD")
     asked = parser.parse_args()
-    first = [asked.program, "regions", TOP / "examples/first/first.oc"]
-    if subprocess.run(first, stdin=subprocess.DEVNULL, stdout=subprocess.DEVNULL).returncode != 0:
-        sys.exit("checks: there is no program to run")
+    tried = program(asked.program)
     cases = sorted(path for folder in FOLDERS for end in ENDS for path in (TOP / folder).rglob(end) if path.is_file())
     cases = [case for case in cases if not asked.words or any(word in name(case) for word in asked.words)]
     failed = 0
     for case in cases:
-        found = faults(asked.program, case)
+        found = faults(tried, case)
         failed += bool(found)
         for line in [f"{name(case)}: differs"] * bool(found) + [f"    {line}" for line in found]:
             print(line)

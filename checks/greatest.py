@@ -7,13 +7,13 @@ status and the texts that are worked out below, and never with 'out of memory'. 
 names have one of them. Prints what differs, and ends with 1 where something does.
 """
 import argparse
-import os
 import pathlib
 import subprocess
 import sys
 import tempfile
 
-TOP = pathlib.Path(__file__).resolve().parent.parent
+from program import TOP, program
+
 SECONDS = 60
 MEBIBYTE = 1 << 20
 NO_ROWS = "time,sensor,value\n"
@@ -122,13 +122,13 @@ CALLS = [
 
 def main():
     parser = argparse.ArgumentParser(description="Runs each command at a size near its limit.")
-    parser.add_argument("--program", type=os.path.abspath, default=os.environ.get("OCELOT", TOP / "ocelot"))
+    parser.add_argument("--program")
     parser.add_argument("words", nargs="*", metavar="WORD")
     asked = parser.parse_args()
-    wrong = 0
+    wrong, tried = 0, program(asked.program)
     calls = [call for call in CALLS if not asked.words or any(word in call.name for word in asked.words)]
     for call in calls:
-        told = call.differences(asked.program)
+        told = call.differences(tried)
         for it in told:
             print(f"greatest: {call.name}: {it}")
         wrong += bool(told)

@@ -19,24 +19,18 @@ class Failed(Exception):
     """A program could not be built; with the last lines of what was said."""
 
 
-def write(name, *lines):
+def write(*lines):
     """Writes lines on standard error, whatever becomes of it."""
     with contextlib.suppress(OSError):
-        os.write(2, b"".join(os.fsencode(f"{name}: {line}\n") for line in lines))
-
-
-def end(status):
-    """Ends at once."""
-    sys.stdout.flush()
-    sys.exit(status)
+        os.write(2, b"".join(os.fsencode(f"{line}\n") for line in lines))
 
 
 def answer_at_once(asked):
     """Ends where no program is needed to answer."""
     if answer := words.answer(asked):
         status, line = answer
-        write("ocelot", line)
-        end(status)
+        write(f"ocelot: {line}")
+        sys.exit(status)
 
 
 def look_for_kit():
@@ -70,8 +64,7 @@ def make(script, place, build, say):
     except KeyboardInterrupt:
         sys.exit(128 + signal.SIGINT)
     except (Failed, OSError) as fault:
-        for line in fault.args if isinstance(fault, Failed) else [str(fault)]:
-            os.write(2, os.fsencode(f"{line}\n"))
+        write(*(fault.args if isinstance(fault, Failed) else [fault]))
         say("the program could not be built, so nothing was run")
         sys.exit(NO_ANSWER)
 
@@ -81,7 +74,7 @@ def prepare(script, place, build, say):
     asked = sys.argv[1:]
     if asked == ["--help"]:
         print(words.table(), end="")
-        end(0)
+        sys.exit(0)
     if not place.is_current():
         answer_at_once(asked)
         make(script, place, build, say)

@@ -29,7 +29,8 @@ def answer_at_once(asked):
     """Ends where no program is needed to answer."""
     if answer := words.answer(asked):
         status, line = answer
-        write(f"ocelot: {line}")
+        if line is not None:
+            write(f"ocelot: {line}")
         sys.exit(status)
 
 

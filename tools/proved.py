@@ -27,7 +27,11 @@ def number_in(path, pattern):
 
 
 def jobs():
-    """Returns how many crates are proved side by side: one a processor, where memory holds 2.5 GB for each and 1 GB more."""
+    """Returns how many crates are proved side by side: RT_JOBS, or one a processor where memory holds 2.5 GB for each and
+    1 GB more."""
+    asked = os.environ.get("RT_JOBS", "")
+    if asked.isdigit() and int(asked):
+        return int(asked)
     processors = len(os.sched_getaffinity(0))
     quota, period = number_in(GROUP / "cpu.max", r"^(\d+)"), number_in(GROUP / "cpu.max", r" (\d+)")
     if quota and period:

@@ -38,9 +38,10 @@ def files(words):
 
 
 def answer(words):
-    """Returns the status and the line of the program, where the words or the first files decide; else None."""
+    """Returns the status and the line of the program, if any, where the words or the first files decide; else None."""
     if any("\udc80" <= character <= "\udcff" for word in words for character in word):
-        return None
+        # A word that isn't UTF-8.
+        return 1, None
     named = files(words)
     if named is None:
         return 1, "not a command"

@@ -145,8 +145,8 @@ pub fn outage_in_set() -> [Item; 5] {
     ]
 }
 
-/// An attempt that is aborted in the middle, and one that is committed.
-pub fn attempts() -> [Item; 12] {
+/// A report of the first source with a region.
+pub fn region_report() -> [Item; 2] {
     [
         Item::Enter { tick: 1, region: 1 },
         Item::Sense {
@@ -154,55 +154,5 @@ pub fn attempts() -> [Item; 12] {
             sensor: 0,
             value: 21,
         },
-        Item::Use { tick: 3, stmt: 3 },
-        Item::Abort { tick: 9, region: 1 },
-        Item::Off { tick: 9, ticks: 5 },
-        Item::Enter {
-            tick: 10,
-            region: 1,
-        },
-        Item::Sense {
-            tick: 11,
-            sensor: 0,
-            value: 22,
-        },
-        Item::Use { tick: 12, stmt: 3 },
-        Item::Emit {
-            tick: 13,
-            port: 0,
-            value: 22,
-        },
-        Item::Done { tick: 14, stmt: 3 },
-        Item::Commit {
-            tick: 15,
-            region: 1,
-        },
-        Item::End { tick: 16 },
-    ]
-}
-
-/// An outage in a region that goes on.
-pub fn outage_in_region() -> [Item; 3] {
-    [
-        Item::Enter { tick: 1, region: 1 },
-        Item::Sense {
-            tick: 2,
-            sensor: 0,
-            value: 21,
-        },
-        Item::Off { tick: 3, ticks: 5 },
-    ]
-}
-
-/// An abort of another region.
-pub fn other_abort() -> [Item; 3] {
-    [
-        Item::Enter { tick: 1, region: 1 },
-        Item::Sense {
-            tick: 2,
-            sensor: 0,
-            value: 21,
-        },
-        Item::Abort { tick: 3, region: 2 },
     ]
 }

@@ -1,6 +1,6 @@
-//! Calls each function that takes memory, with enough of it, and writes what came: a body that always
-//! answers that there is no memory meets its contract, and shows only so. What isn't called by itself
-//! (`Machine::load`) is called by the top call, which is asked with each supply, and at last with none.
+//! Calls functions that take memory, with enough of it, and writes what came: a body that always answers
+//! that there is no memory meets its contract, and shows only so. What isn't called here, as
+//! `Machine::load`, is called by the tables of outages and of images, and by the program itself.
 #![tactic(auto)]
 
 ghost use Rattle.std.specs.Prelude.{◌≤◌, ◌≡◌, length, map, IfOk};
@@ -36,7 +36,6 @@ use oc_power::supply::Supply;
 use oc_region::infer;
 use oc_rows::rows::Rows;
 use oc_sensors::file::read_sensors;
-use oc_top::top::ocelot;
 use oc_tree::checked::Checked;
 use oc_tree::marked::Marked;
 use oc_tree::name::Name;
@@ -46,9 +45,6 @@ use oc_writes::may_write;
 use std::alloc::{AllocError, Global};
 use std::io;
 
-/// Takes a sample and emits it.
-const SOURCE: &[u8] = b"sensor t; port r; fn main() { let x = sense(t); emit(r, x); }";
-
 /// Takes a sample that is to be fresh, keeps it and emits it.
 const FRESH: &[u8] =
     b"sensor t; port r; nv n: i32 = 0; fn main() { let x = sense(t); Fresh(x); n = x; emit(r, n); emit(r, x); }";
@@ -56,9 +52,6 @@ const FRESH: &[u8] =
 const SENSORS: &[u8] = b"time,sensor,value\n0,t,21\n";
 
 const POWER: &[u8] = b"on,off\n7,4\n3,1\n0,2\n";
-
-/// A report of the first program.
-const REPORT: &[u8] = b"1 sense t 21\n4 emit r 21\n5 end\n";
 
 /// Writes that a call gave its result.
 fn fine<O: Sink>(call: &str, out: &mut O) -> anyhow::Result<()> {
@@ -184,16 +177,11 @@ fn power<O: Sink>(alloc: Global, out: &mut O) -> anyhow::Result<()> {
     put_told(alloc, &mut Cutter::new(alloc, 3), &periods, out)
 }
 
-/// A shelf in memory that holds the files of a run, and a report.
+/// A shelf in memory that holds a sensor file.
 fn shelf(alloc: Global) -> Result<MemoryShelf, AllocError> {
-    let files = [("s", SOURCE), ("h", SENSORS), ("p", POWER), ("r", REPORT)];
+    let bytes = Vec::from_slice(alloc, SENSORS)?;
     let mut held = Vec::new(alloc);
-    for (name, bytes) in files {
-        held.push((
-            String::from_str(alloc, name)?,
-            Vec::from_slice(alloc, bytes)?,
-        ))?;
-    }
+    held.push((String::from_str(alloc, "h")?, bytes))?;
     Ok(MemoryShelf::new(held, Vec::new(alloc)))
 }
 
@@ -202,65 +190,6 @@ fn sink<O: Sink>(alloc: Global, out: &mut O) -> anyhow::Result<()> {
     let mut sink = MemorySink::new(alloc, 100, Vec::new(alloc))?;
     fine("MemorySink::new", &mut sink)?;
     out.put(sink.bytes())?;
-    Ok(())
-}
-
-/// Writes what the top call answers and writes for a line of words, with these supplies.
-fn put_called<O: Sink>(
-    alloc: Global,
-    line: &str,
-    supplies: Vec<Box<dyn Supply>>,
-    out: &mut O,
-) -> anyhow::Result<()> {
-    let mut words = Vec::new(alloc);
-    for word in line.split(' ') {
-        words.push(String::from_str(alloc, word)?)?;
-    }
-    let mut shelf = shelf(alloc)?;
-    let mut report = MemorySink::new(alloc, 1000, Vec::new(alloc))?;
-    let mut errors = MemorySink::new(alloc, 1000, Vec::new(alloc))?;
-    let status = ocelot(
-        alloc,
-        &words,
-        &mut shelf,
-        &mut report,
-        &mut errors,
-        supplies,
-        Vec::new(alloc),
-    );
-    let head = format!(in alloc; "{line}: status {status}\n")?;
-    out.put(head.as_bytes())?;
-    out.put(report.bytes())?;
-    out.put(errors.bytes())?;
-    Ok(())
-}
-
-/// Writes what the top call answers and writes for a line of words, with a supply of each kind.
-fn put_supplied<O: Sink>(alloc: Global, line: &str, out: &mut O) -> anyhow::Result<()> {
-    let mut supplies: Vec<Box<dyn Supply>> = Vec::new(alloc);
-    supplies.push(Box::new(alloc, Recorded::new(alloc))?)?;
-    supplies.push(Box::new(alloc, Looped::new(alloc, 64))?)?;
-    supplies.push(Box::new(alloc, Cutter::new(alloc, 3))?)?;
-    put_called(alloc, line, supplies, out)
-}
-
-/// The top call with each supply, with words of other commands, and with no supply.
-fn top<O: Sink>(alloc: Global, out: &mut O) -> anyhow::Result<()> {
-    let runs = [
-        "run s h p",
-        "run --supply 0 s h p",
-        "run --supply 1 s h p",
-        "run --supply 2 s h p",
-    ];
-    for line in runs {
-        put_supplied(alloc, line, out)?;
-    }
-    for line in ["drill 2", "check s", "audit s r"] {
-        put_supplied(alloc, line, out)?;
-    }
-    for line in runs {
-        put_called(alloc, line, Vec::new(alloc), out)?;
-    }
     Ok(())
 }
 
@@ -296,7 +225,6 @@ fn main(rt: HostRuntime) -> anyhow::Result<()> {
     put_held(alloc, "absent", &mut disk, &mut out)?;
     put_held(alloc, "h", &mut shelf(alloc)?, &mut out)?;
     put_held(alloc, "absent", &mut shelf(alloc)?, &mut out)?;
-    top(alloc, &mut out)?;
     out.flush()?;
     Ok(())
 }

@@ -57,35 +57,3 @@ pub fn take_words(
     }
     Ok(left.is_empty())
 }
-
-#[cfg(test)]
-mod tests {
-    use super::*;
-    use std::test::Fail;
-
-    #[test]
-    fn words_of_a_line(rt: HostRuntime) -> Result<(), Fail> {
-        let name = Name::new(Vec::from_slice(rt.alloc(), b"a")?);
-        let mut words = Vec::new(rt.alloc());
-        assert!(rt; take_words(&name, 2, b"nv a 3 -4", &mut words)?);
-        assert_eq!(rt; words.as_slice(), [3, -4].as_slice());
-        let bad = [
-            "nv a 3",
-            "nv a 3 -4 5",
-            "nv a 3  -4",
-            "nv a 3 -4 ",
-            "nv a 03 -4",
-            "nv a 3 2147483648",
-            "nv b 3 -4",
-            "nva 3 -4",
-        ];
-        for line in bad {
-            assert!(rt;
-                !take_words(&name, 2, line.as_bytes(), &mut words)?,
-                "{line}"
-            );
-        }
-        assert!(rt; take_words(&name, 0, b"nv a", &mut words)?);
-        Ok(())
-    }
-}

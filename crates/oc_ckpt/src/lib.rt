@@ -113,36 +113,3 @@ impl Area {
         self.state = AreaState::Sealed;
     }
 }
-
-#[cfg(test)]
-mod tests {
-    use super::*;
-    use std::test::Fail;
-
-    #[test]
-    fn a_save_keeps_the_words_past_it(rt: HostRuntime) -> Result<(), Fail> {
-        let cases: [(&[i32], [i32; 6]); 3] = [
-            (&[], [7, -1, 0, 9, 9, 9]),
-            (&[4], [7, -1, 1, 4, 9, 9]),
-            (&[4, 5, 6], [7, -1, 3, 4, 5, 6]),
-        ];
-        for (stack, after) in cases {
-            let mut area = Area::new(rt.alloc(), after.len())?;
-            assert_eq!(rt; area.state(), AreaState::Fresh);
-            assert!(rt; area.len() == after.len() && stack.len() <= 3);
-            for at in 0..after.len() {
-                assert!(rt; area.len() == after.len() && area.word(at) == 0);
-                area.put_word(at, 9);
-            }
-            area.seal(AreaState::Armed);
-            assert!(rt; area.len() == after.len() && area.state() == AreaState::Armed);
-            area.save_all(7, -1, stack);
-            assert_eq!(rt; area.state(), AreaState::Sealed);
-            for (at, word) in after.iter().enumerate() {
-                assert!(rt; at < area.len());
-                assert_eq!(rt; area.word(at), *word, "the word at {at}");
-            }
-        }
-        Ok(())
-    }
-}

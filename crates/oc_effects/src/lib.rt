@@ -10,6 +10,4 @@ mod known;
 mod names;
 mod parts;
 mod scope;
-#[cfg(test)]
-mod tests;
 mod walk;

@@ -6,4 +6,3 @@ pub mod Run
 pub mod Power
 pub mod Listing
 pub mod Bytes
-pub mod Worked

@@ -7,5 +7,3 @@ pub mod image;
 pub mod instr;
 pub mod listing;
 pub mod phase;
-#[cfg(test)]
-mod tests;

@@ -8,6 +8,4 @@
 pub mod item;
 pub mod laws;
 pub mod read;
-#[cfg(test)]
-mod tests;
 pub mod text;

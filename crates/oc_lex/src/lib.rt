@@ -9,8 +9,6 @@ mod lexer;
 mod literal;
 mod mark;
 mod piece;
-#[cfg(test)]
-mod tests;
 mod token;
 mod word;
 

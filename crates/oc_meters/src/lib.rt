@@ -13,6 +13,4 @@ pub mod laws;
 mod line;
 pub mod meter;
 pub mod sink;
-#[cfg(test)]
-mod tests;
 pub mod text;

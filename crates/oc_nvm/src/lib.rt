@@ -62,26 +62,3 @@ impl Nvm {
         &self.words
     }
 }
-
-#[cfg(test)]
-mod tests {
-    use super::*;
-    use std::test::Fail;
-
-    #[test]
-    fn a_write_changes_one_word(rt: HostRuntime) -> Result<(), Fail> {
-        let cases: [(u32, i32, [i32; 3]); 3] = [
-            (0, 5, [5, 20, 30]),
-            (2, i32::MIN, [10, 20, i32::MIN]),
-            (1, 0, [10, 0, 30]),
-        ];
-        for (addr, word, after) in cases {
-            let mut nvm = Nvm::new(rt.alloc(), &[10, 20, 30])?;
-            assert!(rt; (addr as usize) < nvm.len());
-            nvm.write(addr, word);
-            assert_eq!(rt; nvm.read(addr), word);
-            assert_eq!(rt; nvm.words(), &after[..]);
-        }
-        Ok(())
-    }
-}

@@ -10,7 +10,5 @@ mod reader;
 mod simple;
 mod statement;
 mod stop;
-#[cfg(test)]
-mod tests;
 
 pub use program::{ParseError, parse, parse_blocks};

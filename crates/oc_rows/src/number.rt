@@ -24,28 +24,3 @@ pub fn read_number(bytes: &[u8]) -> Option<u64>
     }
     if number < LIMIT { Some(number) } else { None }
 }
-
-#[cfg(test)]
-mod tests {
-    use super::*;
-
-    #[test]
-    fn reads_plain_digits(rt: HostRuntime) {
-        let cases = [
-            ("0", Some(0)),
-            ("0000000000000000021", Some(21)),
-            ("9223372036854775807", Some(9223372036854775807)),
-            ("9223372036854775808", None),
-            ("9999999999999999999", None),
-            ("00000000000000000021", None),
-            ("", None),
-            ("-1", None),
-            ("+1", None),
-            (" 1", None),
-            ("1x", None),
-        ];
-        for (text, number) in cases {
-            assert_eq!(rt; read_number(text.as_bytes()), number, "at {text}");
-        }
-    }
-}

@@ -30,6 +30,4 @@ mod print;
 mod regions;
 mod report;
 pub mod standard;
-#[cfg(test)]
-mod tests;
 pub mod top;

@@ -1,6 +1,5 @@
 pub mod ReachLaws
 pub mod Worked
-pub mod WorkedChecked
 pub mod Few
 pub mod Maps
 pub mod Resolved

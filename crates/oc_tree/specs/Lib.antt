@@ -31,4 +31,3 @@ pub mod Checked
 pub mod Marked
 pub mod Regions
 pub mod Members
-pub mod Example

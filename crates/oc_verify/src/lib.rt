@@ -18,11 +18,7 @@ mod reader;
 mod room;
 mod slots;
 mod stacks;
-#[cfg(test)]
-mod tests;
 mod verdict;
-#[cfg(test)]
-mod verify_tests;
 mod walk;
 
 pub use fault::{ImageError, VerifyError};

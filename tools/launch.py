@@ -55,8 +55,6 @@ def in_turn(script, say):
 
 def make(script, place, build, say):
     """Builds the program unless another call has meanwhile, and ends with 70 where it can't be built."""
-    for number in (signal.SIGTERM, signal.SIGHUP):
-        signal.signal(number, lambda number, _: sys.exit(128 + number))
     try:
         with in_turn(script, say):
             if not place.is_current():
@@ -73,6 +71,8 @@ def make(script, place, build, say):
 def prepare(script, place, build, say):
     """Returns the words of this call, once there is a current program at a place. Ends where no program is needed."""
     asked = sys.argv[1:]
+    for number in (signal.SIGTERM, signal.SIGHUP):
+        signal.signal(number, lambda number, _: sys.exit(128 + number))
     if asked == ["--help"]:
         print(words.table(), end="")
         sys.exit(0)

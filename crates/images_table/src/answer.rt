@@ -16,12 +16,13 @@ use oc_tree::said::TrapKind;
 use oc_verify::{ImageError, VerifyError, read_image, verify};
 use std::alloc::Global;
 
-/// What becomes of a file: its first bad field, a rule that it breaks, or how its run stops.
+/// What becomes of a file: its first bad field, a rule that it breaks, or the place of the way in which
+/// its run stops.
 #[derive(Clone, Copy, PartialEq, Eq)]
 pub enum Answer {
     Bad { at: usize },
     Refused { rule: u8 },
-    Ran { stop: Stop },
+    Ran { stop: usize },
 }
 
 impl Answer {
@@ -37,7 +38,7 @@ impl Answer {
                 out.put(text.as_bytes())?;
             }
             Answer::Ran { stop } => {
-                let name = STOPS.get(stop_number(stop)).unwrap_or(&"");
+                let name = STOPS.get(stop).unwrap_or(&"");
                 out.put(name.as_bytes())?;
             }
         }
@@ -49,7 +50,7 @@ impl Answer {
 pub const STOPS: [&str; 6] = ["end", "zero", "index", "dark", "fault", "cut"];
 
 /// The place of the way in which a run stops.
-pub fn stop_number(stop: Stop) -> usize {
+fn stop_number(stop: Stop) -> usize {
     match stop {
         Stop::End => 0,
         Stop::Trap {
@@ -100,7 +101,7 @@ pub fn answer_to<O: Sink>(alloc: Global, bytes: &[u8], report: &mut O) -> anyhow
     };
     match verify(alloc, raw) {
         Ok(image) => Ok(Answer::Ran {
-            stop: run(alloc, image, report)?,
+            stop: stop_number(run(alloc, image, report)?),
         }),
         Err((_, VerifyError::Refused { rule, .. })) => Ok(Answer::Refused { rule }),
         Err((_, VerifyError::Memory)) => Err(Memory.into()),

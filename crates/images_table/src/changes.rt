@@ -1,6 +1,6 @@
 //! Files that are cut and changed.
 
-use crate::answer::{Answer, STOPS, answer_to, report_sink, stop_number};
+use crate::answer::{Answer, STOPS, answer_to, report_sink};
 use oc_io::sink::Sink;
 use std::alloc::Global;
 
@@ -32,7 +32,7 @@ impl Totals {
         match answer {
             Answer::Bad { .. } => self.bad = self.bad.saturating_add(1),
             Answer::Refused { rule } => add(&mut self.refused, rule as usize),
-            Answer::Ran { stop } => add(&mut self.ran, stop_number(stop)),
+            Answer::Ran { stop } => add(&mut self.ran, stop),
         }
     }
 

@@ -11,7 +11,7 @@ use std::alloc::Global;
 
 /// What an audit of a file finds: its first bad line, the item at which its report breaks, or that
 /// the report is honest.
-#[derive(Clone, Copy, Debug, PartialEq, Eq)]
+#[derive(Clone, Copy)]
 pub enum Finding {
     /// This is the first bad line.
     BadLine { line: u64 },

@@ -20,14 +20,14 @@ use std::marker::Model;
 use thiserror::Error;
 
 /// What was reported: items and, where they are over, the words of the nonvolatile variables.
-#[derive(Debug, Drop)]
+#[derive(Drop)]
 pub struct Report {
     pub items: Vec<Item>,
     pub nv: Option<Vec<i32>>,
 }
 
 /// Why a report wasn't read: the first bad line, with lines numbered from 1, or want of memory.
-#[derive(Clone, Copy, Debug, PartialEq, Eq, Error)]
+#[derive(Clone, Copy, Debug, Error)]
 pub enum ReportError {
     /// This is the first bad line.
     #[error("bad report line {line}")]

@@ -6,7 +6,7 @@ use std::alloc::{AllocError, AllocFailed};
 
 /// Memory is wanting, or one of the budgets doesn't fit 64 bits: a region inside a loop of no turns,
 /// whose body no rule bounds, may have such a one.
-#[derive(Clone, Copy, Debug, PartialEq, Eq)]
+#[derive(Clone, Copy)]
 pub enum BudgetError {
     Memory,
     TooLarge,

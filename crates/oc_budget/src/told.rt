@@ -2,7 +2,7 @@
 /// For each region its budget, in steps behind its `enter`, and how many words it logs at most;
 /// how many instructions a run takes at most; and how many steps a period needs so that each
 /// further one makes headway.
-#[derive(Debug, Drop)]
+#[derive(Drop)]
 pub struct Budgets {
     pub regions: Vec<u64>,
     pub logged: Vec<u32>,

@@ -17,7 +17,7 @@ use std::alloc::AllocError;
 
 /// Which sides an operator evaluates: both, or the right one only where the left one is true, or
 /// false.
-#[derive(Clone, Copy, Debug, PartialEq, Eq)]
+#[derive(Clone, Copy)]
 enum Sides {
     Both { op: BinOp },
     FirstTrue,

@@ -9,7 +9,7 @@ use std::marker::Model;
 
 /// The first slot of a variable of the frame; the slot with the address of one that was passed by
 /// reference; the first nonvolatile word of a variable; and what a name has that isn't visible.
-#[derive(Clone, Copy, Debug, PartialEq, Eq)]
+#[derive(Clone, Copy)]
 pub enum Slot {
     InFrame { s: u32 },
     ByAddress { s: u32 },
@@ -19,7 +19,7 @@ pub enum Slot {
 
 /// Where a variable is, how many words it has, whether a statement may write it, and whether it is
 /// annotated `Fresh`.
-#[derive(Clone, Copy, Debug, PartialEq, Eq)]
+#[derive(Clone, Copy)]
 pub struct Variable {
     pub slot: Slot,
     pub words: u32,

@@ -4,7 +4,7 @@ use oc_tree::tree::{BlockId, StmtId, VarId};
 use std::marker::Model;
 
 /// An argument: the variables that it names, and the one that it lends by `&mut`.
-#[derive(Debug, Drop)]
+#[derive(Drop)]
 pub struct Passed {
     /// What it names.
     pub named: Vec<VarId>,
@@ -13,7 +13,7 @@ pub struct Passed {
 }
 
 /// A call: the place of the called function, and the arguments.
-#[derive(Debug, Drop)]
+#[derive(Drop)]
 pub struct Called {
     /// The place of the function among all.
     pub function: u32,
@@ -22,7 +22,7 @@ pub struct Called {
 }
 
 /// An annotation: a variable is fresh, or it belongs to the consistent set of this number.
-#[derive(Clone, Copy, Debug, PartialEq, Eq)]
+#[derive(Clone, Copy)]
 pub enum Note {
     /// `Fresh(var);`
     Fresh { var: VarId },
@@ -31,7 +31,7 @@ pub enum Note {
 }
 
 /// What a statement does by itself, without the statements inside it.
-#[derive(Debug, Drop)]
+#[derive(Drop)]
 pub struct Effect {
     /// Its number.
     pub stmt: StmtId,

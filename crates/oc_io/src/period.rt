@@ -2,7 +2,7 @@
 
 /// So many machine steps, then so many ticks without power. Where it is `cut`, the low-power
 /// checkpoint at the end of its steps doesn't complete.
-#[derive(Clone, Copy, Debug, PartialEq, Eq)]
+#[derive(Clone, Copy)]
 pub struct Period {
     pub on: u64,
     pub off: u64,

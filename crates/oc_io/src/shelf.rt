@@ -6,7 +6,7 @@ use std::alloc::Global;
 use thiserror::Error;
 
 /// Why a file wasn't fetched.
-#[derive(Clone, Copy, Debug, PartialEq, Eq, Error)]
+#[derive(Clone, Copy, Debug, Error)]
 pub enum ShelfError {
     /// A fault was counted in this call.
     #[error("the file can't be read")]

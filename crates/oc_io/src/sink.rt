@@ -6,7 +6,7 @@ ghost use Rattle.oc_io.specs.Faults.{Rose, TookPart};
 use thiserror::Error;
 
 /// A sink couldn't take all the bytes.
-#[derive(Clone, Copy, Debug, PartialEq, Eq, Error)]
+#[derive(Clone, Copy, Debug, Error)]
 #[error("the bytes can't be written")]
 pub struct SinkFault;
 

@@ -8,7 +8,7 @@ use oc_tree::said::Target;
 use std::marker::Model;
 
 /// A nonvolatile variable of an image: so many words, each with this value at first.
-#[derive(Clone, Copy, Debug, PartialEq, Eq)]
+#[derive(Clone, Copy)]
 pub struct ImageNv {
     pub words: u32,
     pub initial: i32,
@@ -16,7 +16,7 @@ pub struct ImageNv {
 
 /// A function of an image: the address of its first instruction, how many parameters it has, and
 /// how many stack words its frame has.
-#[derive(Debug, Drop)]
+#[derive(Drop)]
 pub struct ImageFunction {
     pub name: Name,
     pub entry: u32,
@@ -27,7 +27,7 @@ pub struct ImageFunction {
 /// The parts of an image, whatever they are. `targets` has what each region may overwrite, region
 /// `r` at place `r - 1`; `nv` has an entry for each nonvolatile name; `stack` is how many words the
 /// stack has.
-#[derive(Debug, Drop)]
+#[derive(Drop)]
 pub struct RawImage {
     pub names: Names,
     pub functions: Vec<ImageFunction>,
@@ -39,7 +39,7 @@ pub struct RawImage {
 
 /// An image: what its instructions name exists, and just one function is named `main`. That no run
 /// meets an undefined step is no part of the type.
-#[derive(Debug, Drop)]
+#[derive(Drop)]
 pub struct Image {
     raw: RawImage,
 }

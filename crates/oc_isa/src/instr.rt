@@ -2,7 +2,7 @@
 use oc_tree::tree::UnaryOp;
 
 /// Operators on two words. `Div` and `Rem` trap where the second is 0.
-#[derive(Clone, Copy, Debug, PartialEq, Eq)]
+#[derive(Clone, Copy)]
 pub enum BinOp {
     Add,
     Sub,
@@ -18,7 +18,7 @@ pub enum BinOp {
 }
 
 /// What a probe reports of a statement.
-#[derive(Clone, Copy, Debug, PartialEq, Eq)]
+#[derive(Clone, Copy)]
 pub enum ProbeKind {
     Use,
     Done,
@@ -27,7 +27,7 @@ pub enum ProbeKind {
 
 /// An instruction. `s` is a slot of the frame (of `Sense`: a sensor), `a` a nonvolatile word, `t` an
 /// address of the code, `f` a function, `k` a number of parameters, `p` a port, `r` a region from 1.
-#[derive(Clone, Copy, Debug, PartialEq, Eq)]
+#[derive(Clone, Copy)]
 pub enum Instr {
     /// Pushes `c`.
     Push { c: i32 },
@@ -80,7 +80,7 @@ pub enum Instr {
 }
 
 /// An instruction, and the statement that it belongs to (0 for the closing `ret` or `halt`).
-#[derive(Clone, Copy, Debug, PartialEq, Eq)]
+#[derive(Clone, Copy)]
 pub struct Placed {
     pub instr: Instr,
     pub site: u32,

@@ -3,7 +3,7 @@
 use oc_tree::said::Ending;
 
 /// What is under way.
-#[derive(Clone, Copy, Debug, PartialEq, Eq)]
+#[derive(Clone, Copy)]
 pub enum Phase {
     /// Boot has made no step yet.
     Waking,

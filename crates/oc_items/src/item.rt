@@ -4,7 +4,7 @@ use oc_tree::said::TrapKind;
 /// What a run says, with the tick at which it says it. Sensors and ports are numbered from 0 in the
 /// order of their declarations, statements and regions from 1. `Off` tells for how many ticks there
 /// was no power.
-#[derive(Clone, Copy, Debug, PartialEq, Eq)]
+#[derive(Clone, Copy)]
 pub enum Item {
     Sense {
         tick: u64,

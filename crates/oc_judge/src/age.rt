@@ -7,7 +7,7 @@ ghost use Rattle.oc_meaning.specs.Store.{plain};
 use oc_tree::said::TrapKind;
 
 /// What a set of samples amounts to: none, samples behind the same number of outages, or others.
-#[derive(Clone, Copy, Debug, PartialEq, Eq)]
+#[derive(Clone, Copy)]
 pub enum Age {
     /// It depends on no sample.
     Never,
@@ -35,7 +35,7 @@ impl Age {
 }
 
 /// A number, and the age of the samples on which it depends.
-#[derive(Clone, Copy, Debug, PartialEq, Eq)]
+#[derive(Clone, Copy)]
 pub struct Value {
     pub number: i32,
     pub age: Age,
@@ -54,7 +54,7 @@ impl Value {
 }
 
 /// A value, or the kind of the trap.
-#[derive(Clone, Copy, Debug, PartialEq, Eq)]
+#[derive(Clone, Copy)]
 pub enum Got {
     /// It has this value.
     Value { value: Value },

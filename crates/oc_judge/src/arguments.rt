@@ -19,7 +19,7 @@ use std::alloc::{AllocError, Global};
 use std::collections::VecDeque;
 
 /// What a call passes for a parameter: a value, or a place.
-#[derive(Clone, Copy, Debug, PartialEq, Eq)]
+#[derive(Clone, Copy)]
 pub enum Passed {
     /// The value of an expression.
     Copied { value: Value },
@@ -28,7 +28,7 @@ pub enum Passed {
 }
 
 /// What arguments pass, the first one first, or the kind of the trap.
-#[derive(Debug, Drop)]
+#[derive(Drop)]
 pub enum Passing {
     /// No argument traps.
     Passes { passed: VecDeque<Passed> },

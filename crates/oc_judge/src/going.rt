@@ -2,7 +2,7 @@
 use crate::store::Completion;
 
 /// What a step comes to: the run goes on with this, or a sample of a sensor is wanted.
-#[derive(Clone, Copy, Debug, PartialEq, Eq)]
+#[derive(Clone, Copy)]
 pub enum Going {
     /// It came to this.
     Goes { completion: Completion },

@@ -13,7 +13,7 @@ use std::alloc::{AllocError, Global};
 use std::marker::Model;
 
 /// The words of an array, or the one word of a scalar, and one age.
-#[derive(Debug, Drop)]
+#[derive(Drop)]
 pub struct Held {
     words: Vec<i32>,
     age: Age,

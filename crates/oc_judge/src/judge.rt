@@ -14,7 +14,7 @@ use std::alloc::{AllocError, Global};
 
 /// What an audit finds: the report is honest, or this item, from 1, is the last of the shortest
 /// prefix that isn't.
-#[derive(Clone, Copy, Debug, PartialEq, Eq)]
+#[derive(Clone, Copy)]
 pub enum Verdict {
     /// The report is honest.
     Honest,

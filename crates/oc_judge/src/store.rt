@@ -22,7 +22,7 @@ use std::marker::Model;
 
 /// Something that was said, with the age of the samples on which it depends. `instance` numbers the
 /// execution of a consistent set's block, and is 0 for all but a tag.
-#[derive(Clone, Copy, Debug, PartialEq, Eq)]
+#[derive(Clone, Copy)]
 pub struct Event {
     pub said: Said,
     pub age: Age,
@@ -30,7 +30,7 @@ pub struct Event {
 }
 
 /// What came of a step: it went through, it returned a value, or the run trapped in it.
-#[derive(Clone, Copy, Debug, PartialEq, Eq)]
+#[derive(Clone, Copy)]
 pub enum Completion {
     /// It went through.
     Went,

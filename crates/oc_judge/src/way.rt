@@ -20,7 +20,7 @@ use std::collections::VecDeque;
 
 /// The last tag of a consistent set, which is told by its function and its number: the execution of
 /// the set's block that it belongs to, and the age of the samples of all its tags in there.
-#[derive(Clone, Copy, Debug, PartialEq, Eq)]
+#[derive(Clone, Copy)]
 pub struct Instance {
     pub set: (usize, i32),
     pub number: u32,
@@ -40,7 +40,7 @@ pub struct Way<'a> {
 }
 
 /// What a run does next: it says something, it wants a sample, or it has come to its end.
-#[derive(Clone, Copy, Debug, PartialEq, Eq)]
+#[derive(Clone, Copy)]
 pub enum Next {
     /// It says this.
     Says { event: Event },

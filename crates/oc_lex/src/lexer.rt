@@ -16,7 +16,7 @@ use std::alloc::{AllocFailed, Global};
 use thiserror::Error;
 
 /// Why a source has no tokens: its first fault from the left, at the place of a byte.
-#[derive(Clone, Copy, Debug, PartialEq, Eq, Error)]
+#[derive(Clone, Copy, Debug, Error)]
 pub enum LexError {
     /// No token begins with this byte.
     #[error("no token begins with the byte at {at}")]

@@ -9,7 +9,7 @@ use crate::mark::{double, single};
 use crate::token::Mark;
 
 /// What a source is made of. A name may be one of the words.
-#[derive(Clone, Copy, Debug, PartialEq, Eq)]
+#[derive(Clone, Copy)]
 pub enum Piece {
     Blank,
     Comment,

@@ -1,7 +1,7 @@
 //! What tokens are.
 
 /// A token: what it is, and where it stands in its source.
-#[derive(Clone, Copy, Debug, PartialEq, Eq)]
+#[derive(Clone, Copy)]
 pub struct Token {
     pub kind: Kind,
     /// The place of its first byte.
@@ -13,7 +13,7 @@ pub struct Token {
 }
 
 /// A name's bytes are those from its token's start to its end.
-#[derive(Clone, Copy, Debug, PartialEq, Eq)]
+#[derive(Clone, Copy)]
 pub enum Kind {
     Name,
     Number { value: i32 },
@@ -22,7 +22,7 @@ pub enum Kind {
 }
 
 /// The words that are no names.
-#[derive(Clone, Copy, Debug, PartialEq, Eq)]
+#[derive(Clone, Copy, PartialEq, Eq)]
 pub enum Word {
     Sensor,
     Port,
@@ -55,7 +55,7 @@ pub enum Word {
 }
 
 /// The marks.
-#[derive(Clone, Copy, Debug, PartialEq, Eq)]
+#[derive(Clone, Copy, PartialEq, Eq)]
 pub enum Mark {
     /// `(`
     OpenRound,

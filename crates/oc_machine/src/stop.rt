@@ -2,7 +2,7 @@
 use oc_tree::said::TrapKind;
 
 /// How a run stops.
-#[derive(Clone, Copy, Debug, PartialEq, Eq)]
+#[derive(Clone, Copy)]
 pub enum Stop {
     /// The program ended.
     End,

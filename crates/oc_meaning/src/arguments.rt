@@ -18,7 +18,7 @@ use std::alloc::{AllocError, Global};
 use std::collections::VecDeque;
 
 /// What arguments pass, the first one first, or the kind of the trap.
-#[derive(Debug, Drop)]
+#[derive(Drop)]
 pub enum Passing {
     /// No argument traps.
     Passes { passed: VecDeque<Passed> },

@@ -3,7 +3,7 @@ use crate::place::Place;
 use crate::value::Value;
 
 /// Why a run stops before its end: it trapped, or no sample is left.
-#[derive(Clone, Copy, Debug, PartialEq, Eq)]
+#[derive(Clone, Copy)]
 pub enum Stop {
     /// It trapped.
     Trapped,
@@ -12,7 +12,7 @@ pub enum Stop {
 }
 
 /// What came of a statement: it went through, it returned a value, or the run stopped in it.
-#[derive(Debug, Drop)]
+#[derive(Drop)]
 pub enum Completion {
     /// It went through.
     Went,
@@ -23,7 +23,7 @@ pub enum Completion {
 }
 
 /// What a call passes for a parameter: a value, or a place.
-#[derive(Debug, Drop)]
+#[derive(Drop)]
 pub enum Passed {
     /// The value of an expression.
     Copied { value: Value },

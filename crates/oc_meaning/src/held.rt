@@ -12,7 +12,7 @@ use std::alloc::{AllocError, Global};
 use std::marker::Model;
 
 /// The words of an array, or the one word of a scalar, and one set of samples.
-#[derive(Debug, Drop)]
+#[derive(Drop)]
 pub struct Held {
     words: Vec<i32>,
     samples: Samples,

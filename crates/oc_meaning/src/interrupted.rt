@@ -2,7 +2,7 @@
 use std::alloc::AllocError;
 
 /// There was no memory, or more was told than was asked for.
-#[derive(Clone, Copy, Debug, PartialEq, Eq)]
+#[derive(Clone, Copy)]
 pub enum Interrupted {
     /// There was no memory.
     Memory,

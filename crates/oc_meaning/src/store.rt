@@ -22,7 +22,7 @@ use std::marker::Model;
 
 /// Something that happened, with the samples on which it depends. `instance` numbers the execution of
 /// a consistent set's block, and is 0 for all but a tag.
-#[derive(Debug, Drop)]
+#[derive(Drop)]
 pub struct Event {
     pub said: Said,
     pub samples: Samples,

@@ -12,7 +12,7 @@ use oc_tree::said::{Ending, Said, Shown, SourceEvent, Visible};
 use std::alloc::{AllocError, Global};
 
 /// How a run came to its end: by itself, by a trap, or for want of samples.
-#[derive(Clone, Copy, Debug, PartialEq, Eq)]
+#[derive(Clone, Copy)]
 pub enum Outcome {
     /// It came to the end of `main`.
     Ended,
@@ -23,7 +23,7 @@ pub enum Outcome {
 }
 
 /// The events of the source in order, how the run ended, and the nonvolatile words at that moment.
-#[derive(Debug, Drop)]
+#[derive(Drop)]
 pub struct SourceTrace {
     pub events: Vec<SourceEvent>,
     pub outcome: Outcome,
@@ -31,7 +31,7 @@ pub struct SourceTrace {
 }
 
 /// The begin or the end of a region, with so many events of the source before it.
-#[derive(Clone, Copy, Debug, PartialEq, Eq)]
+#[derive(Clone, Copy)]
 pub struct Mark {
     pub region: u32,
     pub enter: bool,
@@ -39,7 +39,7 @@ pub struct Mark {
 }
 
 /// A run with the marks of its regions, as far as it is told: `whole` says that it has no more parts.
-#[derive(Debug, Drop)]
+#[derive(Drop)]
 pub struct MarkedTrace {
     pub trace: SourceTrace,
     pub marks: Vec<Mark>,
@@ -47,7 +47,7 @@ pub struct MarkedTrace {
 }
 
 /// What something that was noted is in a trace.
-#[derive(Debug, Drop)]
+#[derive(Drop)]
 enum Told {
     Source { event: SourceEvent },
     Marked { mark: Mark },

@@ -9,7 +9,7 @@ use std::alloc::{AllocError, Global};
 use std::marker::Model;
 
 /// A number, and the samples on which it depends.
-#[derive(Debug, Drop)]
+#[derive(Drop)]
 pub struct Value {
     number: i32,
     samples: Samples,
@@ -22,7 +22,7 @@ impl Model for Value {
 }
 
 /// A value, or the kind of the trap.
-#[derive(Debug, Drop)]
+#[derive(Drop)]
 pub enum Got {
     /// It has this value.
     Value { value: Value },

@@ -17,7 +17,7 @@ use std::alloc::{AllocError, Global};
 
 /// A policy, the variables of its annotations, and the statements that must be held together with
 /// their inputs.
-#[derive(Debug, Drop)]
+#[derive(Drop)]
 pub struct Asked {
     pub policy: Policy,
     pub annotated: Vec<VarId>,

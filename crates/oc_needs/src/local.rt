@@ -17,7 +17,7 @@ use oc_tree::tree::{StmtId, VarId};
 use std::alloc::{AllocError, Global};
 
 /// A statement that brings input into variables, with the loops around it, the outermost first.
-#[derive(Debug, Drop)]
+#[derive(Drop)]
 pub struct Source {
     pub stmt: StmtId,
     pub loops: Vec<StmtId>,
@@ -25,7 +25,7 @@ pub struct Source {
 }
 
 /// The variables of a function, and the statements that bring input into any of them.
-#[derive(Debug, Drop)]
+#[derive(Drop)]
 pub struct Local {
     pub variables: Vec<VarId>,
     pub sources: Vec<Source>,

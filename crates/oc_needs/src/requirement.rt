@@ -3,7 +3,7 @@ use oc_tree::tree::StmtId;
 
 /// Statements of a function that must lie in one region: the number of the policy that asks for it,
 /// the place of the function, and the numbers of the statements, which rise.
-#[derive(Debug, Drop)]
+#[derive(Drop)]
 pub struct Requirement {
     pub policy: u32,
     pub function: u32,

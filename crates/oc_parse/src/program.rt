@@ -25,7 +25,7 @@ use std::alloc::Global;
 use thiserror::Error;
 
 /// Why tokens spell no program within the depths.
-#[derive(Clone, Copy, Debug, PartialEq, Eq, Error)]
+#[derive(Clone, Copy, Debug, Error)]
 pub enum ParseError {
     /// No program goes on with this token, or with the end where it is the number of tokens.
     #[error("no program goes on at the token {token}")]

@@ -5,7 +5,7 @@ ghost use Rattle.oc_parse.specs.declared.stop.Stop.TheVariants.{Memory};
 use std::alloc::{AllocError, AllocFailed};
 
 /// Why reading stops: memory, or the token with which so many tokens are left.
-#[derive(Clone, Copy, Debug, PartialEq, Eq)]
+#[derive(Clone, Copy)]
 pub enum Stop {
     /// There is no memory left.
     Memory,

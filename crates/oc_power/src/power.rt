@@ -13,7 +13,7 @@ use std::alloc::Global;
 use thiserror::Error;
 
 /// What is wrong with a row.
-#[derive(Clone, Copy, Debug, PartialEq, Eq, Error)]
+#[derive(Clone, Copy, Debug, Error)]
 pub enum PowerWhat {
     #[error("the header is not `on,off`")]
     Header,
@@ -28,7 +28,7 @@ pub enum PowerWhat {
 }
 
 /// Why a power file wasn't read: the first bad row, with rows numbered from 1, or want of memory.
-#[derive(Clone, Copy, Debug, PartialEq, Eq, Error)]
+#[derive(Clone, Copy, Debug, Error)]
 pub enum PowerError {
     #[error("row {row}: {what}")]
     Row { row: u64, what: PowerWhat },

@@ -15,7 +15,7 @@ const HALF: u64 = 1 << 32;
 
 /// A period whose numbers have at most 32 bits each, as nearly all have, or the place of another
 /// one.
-#[derive(Clone, Copy, Debug, PartialEq, Eq)]
+#[derive(Clone, Copy)]
 pub enum Entry {
     /// A period that isn't cut.
     Whole { on: u32, off: u32 },

@@ -2,7 +2,7 @@
 use oc_tree::tree::StmtId;
 
 /// Whether the blocks of a program suffice for what it requires.
-#[derive(Clone, Copy, Debug, PartialEq, Eq)]
+#[derive(Clone, Copy)]
 pub enum BlockVerdict {
     /// They suffice.
     Covered,

@@ -12,7 +12,7 @@ use oc_needs::requirement::Requirement;
 use std::alloc::{AllocError, Global};
 
 /// A range for which a policy asks, by its number.
-#[derive(Clone, Copy, Debug)]
+#[derive(Clone, Copy)]
 pub struct Ask {
     /// The number of the policy.
     pub policy: u32,

@@ -6,7 +6,7 @@ ghost use Rattle.oc_region.specs.Views.{stretch_view};
 use oc_tree::marked::Range;
 
 /// A range in the function at a place.
-#[derive(Clone, Copy, Debug)]
+#[derive(Clone, Copy)]
 pub struct Stretch {
     /// The place of the function.
     pub function: u32,

@@ -13,7 +13,7 @@ use std::alloc::{AllocFailed, Global};
 use thiserror::Error;
 
 /// What is wrong with a row.
-#[derive(Clone, Copy, Debug, PartialEq, Eq, Error)]
+#[derive(Clone, Copy, Debug, Error)]
 pub enum SensorWhat {
     #[error("the header is not `time,sensor,value`")]
     Header,
@@ -30,7 +30,7 @@ pub enum SensorWhat {
 }
 
 /// Why a sensor file wasn't read: the first bad row, with rows numbered from 1, or want of memory.
-#[derive(Clone, Copy, Debug, PartialEq, Eq, Error)]
+#[derive(Clone, Copy, Debug, Error)]
 pub enum SensorError {
     #[error("row {row}: {what}")]
     Row { row: u64, what: SensorWhat },

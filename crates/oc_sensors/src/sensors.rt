@@ -8,7 +8,7 @@ use std::alloc::Global;
 use std::marker::Model;
 
 /// From this time on a sensor shows this value. Sensors go by their places among the names.
-#[derive(Clone, Copy, Debug, PartialEq, Eq)]
+#[derive(Clone, Copy)]
 pub struct Row {
     pub time: u64,
     pub sensor: u32,

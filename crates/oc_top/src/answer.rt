@@ -18,7 +18,7 @@ use std::alloc::AllocError;
 
 /// How a call ends. A file is told by its place among those of the command, from 0; lines and rows
 /// count from 1.
-#[derive(Debug, Drop)]
+#[derive(Drop)]
 pub enum Answer {
     /// The words are no command, or no supply has the number.
     Usage,

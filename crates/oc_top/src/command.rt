@@ -7,7 +7,7 @@ use oc_drill::files::MOST_TURNS;
 use oc_rows::number::read_number;
 
 /// What may be done with a source alone.
-#[derive(Clone, Copy, Debug, PartialEq, Eq)]
+#[derive(Clone, Copy)]
 pub enum SourceTask {
     /// To write its regions.
     Regions,
@@ -20,7 +20,7 @@ pub enum SourceTask {
 }
 
 /// The words of a run's files. An image may stand in the place of the source.
-#[derive(Clone, Copy, Debug, PartialEq, Eq)]
+#[derive(Clone, Copy)]
 pub struct RunWords<'a> {
     pub source: &'a str,
     pub sensors: &'a str,
@@ -28,7 +28,7 @@ pub struct RunWords<'a> {
 }
 
 /// What a line of words asks for, with the words of its files.
-#[derive(Clone, Copy, Debug, PartialEq, Eq)]
+#[derive(Clone, Copy)]
 pub enum Command<'a> {
     /// To run a source with the supply of this number. Where it is metered, the meters write their
     /// lines.

@@ -19,7 +19,7 @@ use oc_power::supply::{Supply, choose};
 use std::alloc::{AllocError, Global};
 
 /// The status of a run, and how many lines and bytes it writes.
-#[derive(Clone, Copy, Debug)]
+#[derive(Clone, Copy)]
 struct Measured {
     status: u8,
     lines: u64,

@@ -16,7 +16,7 @@ use std::alloc::{AllocError, Global};
 
 /// Two statements that a policy needs inside one block, where no block has both inside, by the names
 /// and lines of the source.
-#[derive(Debug, Drop)]
+#[derive(Drop)]
 pub struct Gap {
     /// What the policy is, by its variable or its number.
     pub kind: PolicyKind,

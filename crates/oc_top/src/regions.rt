@@ -19,7 +19,7 @@ use oc_tree::tree::StmtId;
 use std::alloc::{AllocError, Global};
 
 /// The lines of the source in which a region begins and ends.
-#[derive(Clone, Copy, Debug, PartialEq, Eq)]
+#[derive(Clone, Copy)]
 pub struct LineRange {
     pub first: u32,
     pub last: u32,
@@ -35,7 +35,7 @@ struct Numbers {
 
 /// What is written of a program's regions besides what they have themselves: the lines of each, and
 /// for each policy the name of its variable, which is empty for a consistent set.
-#[derive(Debug, Drop)]
+#[derive(Drop)]
 pub struct Details {
     pub lines: Vec<LineRange>,
     pub names: Vec<Name>,

@@ -1,7 +1,7 @@
 //! The declarations before one.
 
 /// How many declarations of each kind stand before a declaration.
-#[derive(Clone, Copy, Debug, PartialEq, Eq)]
+#[derive(Clone, Copy)]
 pub struct Before {
     pub sensors: usize,
     pub ports: usize,

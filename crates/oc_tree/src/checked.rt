@@ -12,7 +12,7 @@ use std::marker::Model;
 
 /// A program without inputs and calls inside expressions, which is in form and breaks no rule, with
 /// its groups: each is the numbers of its first and its last statement.
-#[derive(Debug, Drop)]
+#[derive(Drop)]
 pub struct Checked {
     program: Program,
     groups: Vec<(StmtId, StmtId)>,

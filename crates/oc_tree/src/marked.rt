@@ -9,21 +9,21 @@ use std::marker::Model;
 
 /// What a policy asks for: that a variable is fresh, or that the inputs of the annotations with
 /// this number are consistent.
-#[derive(Clone, Copy, Debug, PartialEq, Eq)]
+#[derive(Clone, Copy)]
 pub enum PolicyKind {
     Fresh { var: VarId },
     Consistent { id: i32 },
 }
 
 /// A policy of a function, which is told by its place.
-#[derive(Clone, Copy, Debug, PartialEq, Eq)]
+#[derive(Clone, Copy)]
 pub struct Policy {
     pub function: u32,
     pub kind: PolicyKind,
 }
 
 /// Statements that follow each other directly in a block, by the first and the last of them.
-#[derive(Clone, Copy, Debug, PartialEq, Eq)]
+#[derive(Clone, Copy)]
 pub struct Range {
     pub block: BlockId,
     pub first: StmtId,
@@ -32,7 +32,7 @@ pub struct Range {
 
 /// An atomic region: its number from 1, the place of its function, its statements, and the numbers
 /// of the policies that ask for it, from 0.
-#[derive(Debug, Drop)]
+#[derive(Drop)]
 pub struct Region {
     pub id: u32,
     pub function: u32,
@@ -42,7 +42,7 @@ pub struct Region {
 
 /// A checked program with its policies and its regions. Regions are numbered by their first
 /// statements, share no statement, and stand in no statement of one another.
-#[derive(Debug, Drop)]
+#[derive(Drop)]
 pub struct Marked {
     checked: Checked,
     policies: Vec<Policy>,

@@ -8,7 +8,7 @@ use std::alloc::{AllocError, Global};
 use std::marker::Model;
 
 /// A name, which contracts see as its bytes.
-#[derive(Debug, Drop)]
+#[derive(Drop)]
 pub struct Name {
     bytes: Vec<u8>,
 }
@@ -60,7 +60,7 @@ impl Name {
 
 /// The names of a program's sensors, ports and nonvolatile variables, each kind in the order of
 /// its declarations.
-#[derive(Debug, Drop)]
+#[derive(Drop)]
 pub struct Names {
     pub sensors: Vec<Name>,
     pub ports: Vec<Name>,

@@ -3,7 +3,7 @@ use crate::tree::{BlockId, Passing, StmtId, ValueKind};
 
 /// How a variable came to be: by the `let` with this number, directly in this block, by a `for`,
 /// as a parameter, or as a nonvolatile variable.
-#[derive(Clone, Copy, Debug, PartialEq, Eq)]
+#[derive(Clone, Copy)]
 pub enum Origin {
     Let {
         mutable: bool,
@@ -18,7 +18,7 @@ pub enum Origin {
 }
 
 /// A variable. A reference has the kind of what it refers to.
-#[derive(Clone, Copy, Debug, PartialEq, Eq)]
+#[derive(Clone, Copy)]
 pub struct Var {
     pub origin: Origin,
     pub kind: ValueKind,
@@ -26,7 +26,7 @@ pub struct Var {
 
 /// What an annotation asks for, as the limits count it: that the variable of this `let` is fresh, or
 /// that the inputs of this function's annotations with this number are consistent.
-#[derive(Clone, Copy, Debug, PartialEq, Eq)]
+#[derive(Clone, Copy)]
 pub enum Annotated {
     Fresh { stmt: StmtId },
     Consistent { function: usize, id: i32 },

@@ -15,7 +15,7 @@ pub type BlockId = u32;
 
 /// A variable of a function: a nonvolatile one by its place among the names, a parameter by its
 /// place, a `let` or `for` variable by its statement, or the function's result.
-#[derive(Clone, Copy, Debug, PartialEq, Eq)]
+#[derive(Clone, Copy, PartialEq, Eq)]
 pub enum VarId {
     Nv { index: u32 },
     Param { index: u32 },
@@ -24,14 +24,14 @@ pub enum VarId {
 }
 
 /// An operator before its operand.
-#[derive(Clone, Copy, Debug, PartialEq, Eq)]
+#[derive(Clone, Copy)]
 pub enum UnaryOp {
     Neg,
     Not,
 }
 
 /// An operator between its operands. `Div` and `Rem` round towards 0.
-#[derive(Clone, Copy, Debug, PartialEq, Eq)]
+#[derive(Clone, Copy)]
 pub enum BinaryOp {
     Or,
     And,
@@ -49,14 +49,14 @@ pub enum BinaryOp {
 }
 
 /// The type of a value of one word.
-#[derive(Clone, Copy, Debug, PartialEq, Eq)]
+#[derive(Clone, Copy)]
 pub enum Scalar {
     Int,
     Bool,
 }
 
 /// How a parameter is passed: by value, by `&` or by `&mut`.
-#[derive(Clone, Copy, Debug, PartialEq, Eq)]
+#[derive(Clone, Copy)]
 pub enum Passing {
     Value,
     Shared,
@@ -76,7 +76,7 @@ impl Passing {
 }
 
 /// The type of a variable: a number, a truth value, or an array of so many numbers.
-#[derive(Clone, Copy, Debug, PartialEq, Eq)]
+#[derive(Clone, Copy)]
 pub enum ValueKind {
     Int,
     Bool,
@@ -85,7 +85,7 @@ pub enum ValueKind {
 
 /// An expression. A right side that is just an input or a call is no expression: see [`Right`].
 #[cycle(expression)]
-#[derive(Debug, Drop)]
+#[derive(Drop)]
 pub enum Expr {
     /// A number, as `21`.
     Number {
@@ -131,7 +131,7 @@ pub enum Expr {
 
 /// An argument: a value, or a variable by reference.
 #[cycle(expression)]
-#[derive(Debug, Drop)]
+#[derive(Drop)]
 pub enum Arg {
     Value { value: Expr },
     Shared { name: Name },
@@ -140,14 +140,14 @@ pub enum Arg {
 
 /// A call of a function by its name.
 #[cycle(expression)]
-#[derive(Debug, Drop)]
+#[derive(Drop)]
 pub struct Call {
     pub function: Name,
     pub args: Vec<Arg>,
 }
 
 /// The right side of a `let` or an assignment.
-#[derive(Debug, Drop)]
+#[derive(Drop)]
 pub enum Right {
     Value { value: Expr },
     Sense { sensor: Name },
@@ -156,7 +156,7 @@ pub enum Right {
 
 /// What a statement does.
 #[cycle(tree)]
-#[derive(Debug, Drop)]
+#[derive(Drop)]
 pub enum StmtKind {
     /// `let x: T = right;`, where `mut` and the type may stand or not.
     Let {
@@ -250,7 +250,7 @@ impl StmtKind {
 
 /// A statement, with the line of its first token.
 #[cycle(tree)]
-#[derive(Debug, Drop)]
+#[derive(Drop)]
 pub struct Stmt {
     pub id: StmtId,
     pub line: u32,
@@ -259,14 +259,14 @@ pub struct Stmt {
 
 /// The statements between two braces.
 #[cycle(tree)]
-#[derive(Debug, Drop)]
+#[derive(Drop)]
 pub struct Block {
     pub id: BlockId,
     pub statements: Vec<Stmt>,
 }
 
 /// A parameter of a function.
-#[derive(Debug, Drop)]
+#[derive(Drop)]
 pub struct Param {
     pub name: Name,
     pub passing: Passing,
@@ -274,7 +274,7 @@ pub struct Param {
 }
 
 /// A function, with the line of its `fn`.
-#[derive(Debug, Drop)]
+#[derive(Drop)]
 pub struct Function {
     pub name: Name,
     pub line: u32,
@@ -284,7 +284,7 @@ pub struct Function {
 }
 
 /// A nonvolatile variable: so many words with this initial value. One that is no array has 1 word.
-#[derive(Clone, Copy, Debug, PartialEq, Eq)]
+#[derive(Clone, Copy)]
 pub struct NvDecl {
     pub words: u32,
     pub array: bool,
@@ -292,7 +292,7 @@ pub struct NvDecl {
 }
 
 /// What is declared at the top level.
-#[derive(Clone, Copy, Debug, PartialEq, Eq)]
+#[derive(Clone, Copy)]
 pub enum DeclKind {
     Sensor,
     Port,
@@ -301,7 +301,7 @@ pub enum DeclKind {
 }
 
 /// A declaration at the top level, with the line of its first token.
-#[derive(Clone, Copy, Debug, PartialEq, Eq)]
+#[derive(Clone, Copy)]
 pub struct Decl {
     pub kind: DeclKind,
     pub line: u32,
@@ -309,7 +309,7 @@ pub struct Decl {
 
 /// A whole source. `order` has all declarations in source order, so that it and the lists together
 /// give the order across kinds; `last_line` is the line of the last token, or 1 where there is none.
-#[derive(Debug, Drop)]
+#[derive(Drop)]
 pub struct Program {
     pub names: Names,
     pub nv: Vec<NvDecl>,

@@ -7,7 +7,7 @@ use crate::tree::Program;
 use std::marker::Model;
 
 /// A program as it is written, which is in form and breaks no rule.
-#[derive(Debug, Drop)]
+#[derive(Drop)]
 pub struct Written {
     program: Program,
 }

@@ -5,7 +5,7 @@ pub mod laws;
 pub mod log;
 
 /// A nonvolatile word as it was before it was first written.
-#[derive(Clone, Copy, Debug, PartialEq, Eq)]
+#[derive(Clone, Copy)]
 pub struct Entry {
     pub addr: u32,
     pub old: i32,

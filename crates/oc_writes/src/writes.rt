@@ -27,7 +27,7 @@ use std::alloc::{AllocError, Global};
 use std::marker::Model;
 
 /// What each region of a program may overwrite, which contracts see as a list for each.
-#[derive(Debug, Drop)]
+#[derive(Drop)]
 pub struct WriteSets {
     regions: Vec<Vec<Target>>,
 }

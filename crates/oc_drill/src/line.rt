@@ -1,5 +1,5 @@
 //! The line of a drill.
-ghost use Rattle.std.specs.Prelude.{◌≤◌, OnOk, OnErr};
+ghost use Rattle.std.specs.Prelude.{◌≡◌, ◌≤◌, OnOk, OnErr};
 ghost use Rattle.oc_io.specs.Faults.{Rose, TookPart};
 ghost use Rattle.oc_drill.specs.Drill.{drill_line};
 
@@ -19,6 +19,7 @@ pub fn put_drill<O: Sink>(
     ensures ok { OnOk result (O.took out.old (drill_line turns status lines bytes) out.new) }
     ensures part { OnErr result
         (TookPart O.took out.old (drill_line turns status lines bytes) out.new) }
+    ensures calm { OnOk result (O.faults out.new ≡ O.faults out.old) }
     ensures cause { OnErr result (Rose (O.faults out.old) (O.faults out.new)) }
     ensures count { O.faults out.old ≤ O.faults out.new }
 {

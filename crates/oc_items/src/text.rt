@@ -29,6 +29,7 @@ fn put_number<O: Sink>(tick: u64, word: &[u8], number: u64, sink: &mut O) -> Res
     ensures part { OnErr result
         (TookPart O.took sink.old (decimal tick ++ (word.now ++ (decimal number ++ codes "\n")))
         sink.new) }
+    ensures calm { OnOk result (O.faults sink.new ≡ O.faults sink.old) }
     ensures cause { OnErr result (Rose (O.faults sink.old) (O.faults sink.new)) }
     ensures count { O.faults sink.old ≤ O.faults sink.new }
 {
@@ -54,6 +55,7 @@ fn put_value<O: Sink>(
         (TookPart O.took sink.old (decimal tick
         ++ (word.now ++ (name.now ++ (codes " " ++ (signed_decimal value ++ codes "\n")))))
         sink.new) }
+    ensures calm { OnOk result (O.faults sink.new ≡ O.faults sink.old) }
     ensures cause { OnErr result (Rose (O.faults sink.old) (O.faults sink.new)) }
     ensures count { O.faults sink.old ≤ O.faults sink.new }
 {
@@ -70,6 +72,7 @@ fn put_value<O: Sink>(
 fn put_end<O: Sink>(tick: u64, word: &[u8], sink: &mut O) -> Result<(), SinkFault>
     ensures ok { OnOk result (O.took sink.old (decimal tick ++ word.now) sink.new) }
     ensures part { OnErr result (TookPart O.took sink.old (decimal tick ++ word.now) sink.new) }
+    ensures calm { OnOk result (O.faults sink.new ≡ O.faults sink.old) }
     ensures cause { OnErr result (Rose (O.faults sink.old) (O.faults sink.new)) }
     ensures count { O.faults sink.old ≤ O.faults sink.new }
 {
@@ -85,6 +88,7 @@ pub fn put_item<O: Sink>(item: &Item, names: &Names, sink: &mut O) -> Result<(),
         (O.took sink.old (item_line (names_view names.now) item.now) sink.new) }
     ensures part { OnErr result
         (TookPart O.took sink.old (item_line (names_view names.now) item.now) sink.new) }
+    ensures calm { OnOk result (O.faults sink.new ≡ O.faults sink.old) }
     ensures cause { OnErr result (Rose (O.faults sink.old) (O.faults sink.new)) }
     ensures count { O.faults sink.old ≤ O.faults sink.new }
 {
@@ -128,6 +132,7 @@ pub fn put_item<O: Sink>(item: &Item, names: &Names, sink: &mut O) -> Result<(),
 fn put_word<O: Sink>(word: &i32, sink: &mut O) -> Result<(), SinkFault>
     ensures ok { OnOk result (O.took sink.old (word_field word.now) sink.new) }
     ensures part { OnErr result (TookPart O.took sink.old (word_field word.now) sink.new) }
+    ensures calm { OnOk result (O.faults sink.new ≡ O.faults sink.old) }
     ensures cause { OnErr result (Rose (O.faults sink.old) (O.faults sink.new)) }
     ensures count { O.faults sink.old ≤ O.faults sink.new }
 {
@@ -140,6 +145,7 @@ fn put_words<O: Sink>(name: &[u8], words: &[i32], sink: &mut O) -> Result<(), Si
     ensures ok { OnOk result (O.took sink.old (words_line name.now words.now) sink.new) }
     ensures part { OnErr result
         (TookPart O.took sink.old (words_line name.now words.now) sink.new) }
+    ensures calm { OnOk result (O.faults sink.new ≡ O.faults sink.old) }
     ensures cause { OnErr result (Rose (O.faults sink.old) (O.faults sink.new)) }
     ensures count { O.faults sink.old ≤ O.faults sink.new }
 {
@@ -167,6 +173,7 @@ pub fn put_nv<O: Sink>(
         (O.took sink.old (nv_line (names_view names.now) name words.now) sink.new) }
     ensures part { OnErr result
         (TookPart O.took sink.old (nv_line (names_view names.now) name words.now) sink.new) }
+    ensures calm { OnOk result (O.faults sink.new ≡ O.faults sink.old) }
     ensures cause { OnErr result (Rose (O.faults sink.old) (O.faults sink.new)) }
     ensures count { O.faults sink.old ≤ O.faults sink.new }
 {

@@ -32,6 +32,7 @@ impl<'a, O: Sink, M: Meter> MeterSink<'a, O, M> {
 impl<O: Sink, M: Meter> Sink for MeterSink<'_, O, M> {
     ghost use Rattle.std.specs.Prelude.{◌≡◌, false};
     ghost use Rattle.std.proofs.Common.{refl, ◌∙◌};
+    ghost use Rattle.oc_meters.specs.Passing.{faults_by};
     ghost use Rattle.oc_meters.specs.Reads.{page};
     ghost use Rattle.oc_meters.specs.Taken.{Took, took_nothing, took_both};
 
@@ -45,7 +46,7 @@ impl<O: Sink, M: Meter> Sink for MeterSink<'_, O, M> {
 
     ghost held = { λ s. O.held s.inner.now };
 
-    ghost faults = { λ s. O.faults s.inner.now };
+    ghost faults = { λ s. faults_by s.failed };
 
     fn put(&mut self, bytes: &[u8]) -> Result<(), SinkFault> {
         match self.inner.put(bytes) {

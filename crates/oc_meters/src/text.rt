@@ -34,6 +34,7 @@ fn width(kind: u8) -> u8
 fn put_number<E: Sink>(number: u64, err: &mut E) -> Result<(), SinkFault>
     ensures ok { OnOk result (E.took err.old (number_field number) err.new) }
     ensures part { OnErr result (TookPart E.took err.old (number_field number) err.new) }
+    ensures calm { OnOk result (E.faults err.new ≡ E.faults err.old) }
     ensures cause { OnErr result (Rose (E.faults err.old) (E.faults err.new)) }
     ensures count { E.faults err.old ≤ E.faults err.new }
 {
@@ -47,6 +48,7 @@ fn put_meter<M: Meter, E: Sink>(meter: &M, err: &mut E) -> Result<(), SinkFault>
         (E.took err.old (meter_line (reading M.kind_of M.numbers meter.now)) err.new) }
     ensures part { OnErr result
         (TookPart E.took err.old (meter_line (reading M.kind_of M.numbers meter.now)) err.new) }
+    ensures calm { OnOk result (E.faults err.new ≡ E.faults err.old) }
     ensures cause { OnErr result (Rose (E.faults err.old) (E.faults err.new)) }
     ensures count { E.faults err.old ≤ E.faults err.new }
 {
@@ -68,6 +70,7 @@ pub fn put_meters<M: Meter, E: Sink>(meters: &[M], err: &mut E) -> Result<(), Si
         (E.took err.old (meter_lines (readings M.kind_of M.numbers meters.now)) err.new) }
     ensures part { OnErr result
         (TookPart E.took err.old (meter_lines (readings M.kind_of M.numbers meters.now)) err.new) }
+    ensures calm { OnOk result (E.faults err.new ≡ E.faults err.old) }
     ensures cause { OnErr result (Rose (E.faults err.old) (E.faults err.new)) }
     ensures count { E.faults err.old ≤ E.faults err.new }
 {

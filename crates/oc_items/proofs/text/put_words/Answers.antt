@@ -1,4 +1,4 @@
-use Rattle.std.proofs.Common.{arith, codes, []}
+use Rattle.std.proofs.Common.{◌∙◌, codes, []}
 use Rattle.std.proofs.lemmas.Result.{on_err_weaker}
 use Rattle.oc_io.proofs.Going.{stop}
 use Rattle.oc_io.proofs.Each.{each_on, each_stop, each_done}
@@ -17,7 +17,7 @@ returns-in-Err-put_word-clause-part g c =
 
 pub loop-word-preserved : goal.loop-word-preserved
 loop-word-preserved g c = record {
-  count = omega arith;
+  calm = c.in_default-put_word.ensures.calm ∙ c.loop-word.invariant.calm;
   going = each_on g.O.Sink.took g.met.O.Sink.took_both _ _ _ words_fields word_field words_fields-cons c.args.words.now _ _ _ c.loop-word-test.true c.loop-word.invariant.going
       c.in_default-put_word.ensures.ok;
 }

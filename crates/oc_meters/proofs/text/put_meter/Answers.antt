@@ -1,4 +1,4 @@
-use Rattle.std.proofs.Common.{◌<◌, ◌≤◌, [], length, codes, arith}
+use Rattle.std.proofs.Common.{◌∙◌, ◌<◌, ◌≤◌, [], length, codes, arith}
 use Rattle.std.proofs.lemmas.Result.{on_err_weaker}
 use Rattle.oc_io.proofs.Going.{stop}
 use Rattle.oc_io.proofs.Each.{each_on, each_stop, each_done}
@@ -23,7 +23,7 @@ loop-place-preserved g c =
     let count = rw c.kind-kind.ensures.kind at c.width-place-end.ensures in
     let among : c.loop-place.place < length (g.M.Meter.numbers c.args.meter.now) = omega (arith, c.loop-place-test.true, count, c.kind-kind.ensures.width) in
     record {
-      count = omega arith;
+      calm = c.in_default-put_number.ensures.calm ∙ c.loop-place.invariant.calm;
       going = each_on g.E.Sink.took g.met.E.Sink.took_both _ _ _ number_fields number_field number_fields-cons (g.M.Meter.numbers c.args.meter.now) _ 0 _ among c.loop-place.invariant.going
           (rw c.number.ensures at c.in_default-put_number.ensures.ok);
     }

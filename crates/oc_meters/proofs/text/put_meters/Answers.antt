@@ -1,4 +1,4 @@
-use Rattle.std.proofs.Common.{get_or, arith, rules}
+use Rattle.std.proofs.Common.{◌∙◌, get_or, rules}
 use Rattle.oc_io.specs.Faults.{TookPart}
 use Rattle.oc_io.proofs.Each.{each_on, each_stop}
 use Rattle.oc_meters.specs.Lines.{meter_line}
@@ -19,7 +19,7 @@ loop-meter-preserved g c =
     let ok : g.E.Sink.took c.loop-meter.err (meter_line (reading g.M.Meter.kind_of g.M.Meter.numbers (get_or c.args.meters.now c.loop-meter.meter-index c.meter-item.result)))
     c.put_meter.new.err = search rules in
     record {
-      count = omega arith;
+      calm = c.in_default.ensures.calm ∙ c.loop-meter.invariant.calm;
       going = each_on g.E.Sink.took g.met.E.Sink.took_both _ _ _ (lines_of g.M.Meter.kind_of g.M.Meter.numbers) (λ m. meter_line (reading g.M.Meter.kind_of g.M.Meter.numbers m))
           (lines_of-cons g.M.Meter.kind_of g.M.Meter.numbers)
           c.args.meters.now _ c.meter-item.result _ c.loop-meter-test.true c.loop-meter.invariant.going ok;

@@ -59,7 +59,7 @@ def content(value):
 def folders(names, words):
     """Yields each case: its name, its words, and a folder of its own with its files."""
     for path in sorted(path for top in run.FOLDERS for end in run.ENDS for path in (run.TOP / top).rglob(end)):
-        said = path.read_text().splitlines()
+        said = path.read_text(errors="surrogateescape").splitlines()
         if said[:1] != ["run"] or len(said) < 4 or run.instructions(path):
             continue
         if not words or any(word in run.name(path) for word in words):

@@ -40,7 +40,9 @@ def outside(results):
     """Says how many of the outages that do harm lie outside of inferred regions."""
     harm = "".join(letter for fact in results.facts for letter in fact["strip"] if letter not in "nN")
     out = sum(letter.islower() for letter in harm)
-    return f"All {len(harm)} that did harm lie in inferred regions." if not out else f"Of {len(harm)} that did harm {out} lie outside of inferred regions."
+    if out:
+        return f"Of {len(harm)} that did harm {out} lie outside of inferred regions."
+    return f"All {len(harm)} that did harm lie in inferred regions."
 
 
 def foretold(results):
@@ -58,25 +60,30 @@ def inside(results):
         within = [letter for letter in fact["strip"] if letter.isupper()]
         shares[fact["app"]] = sum(letter != "N" for letter in within) / max(1, len(within))
     said = ", ".join(f"{100 * share:.0f} % in `{app}`" for app, share in shares.items())
-    return f"Of the steps in inferred regions an outage does harm behind {said}: the rest are waits and work before the first reading or behind the last one."
+    rest = "the rest are waits and work before the first reading or behind the last one"
+    return f"Of the steps in inferred regions an outage does harm behind {said}: {rest}."
 
 
 def turns(results):
     """Says in which applications turns aren't enough."""
     refused = [f"`{fact['app']}`" for fact in results.facts if fact["check_turns"] != "safe"]
-    broken = {app: pagetables.added([row for row in results.sums if row["version"] == "turns" and row["app"] == app])["broken"] for app in results.apps}
+    by_hand = [row for row in results.sums if row["version"] == "turns"]
+    broken = {app: sum(row["broken"] for row in by_hand if row["app"] == app) for app in results.apps}
     total = sum(broken.values())
     if not total:
         return "Turns break nothing here."
     where = listed([f"`{app}`" for app in results.apps if broken[app]])
-    return f"Turns by hand break in {total} runs, of {where}: readings are taken outside of the main loop there too, and `check` refuses {listed(refused)}."
+    why = f"readings are taken outside of the main loop there too, and `check` refuses {listed(refused)}"
+    return f"Turns by hand break in {total} runs, of {where}: {why}."
 
 
 def cheaper(results):
     """Says where a turn as one region costs less than the inferred regions."""
     costs = [(app, *(more(results.of(app, version, 0, "none")) for version in ("ocelot", "turns"))) for app in results.apps]
     found = [f"`{app}` ({signed(small)} against {signed(turn)})" for app, small, turn in costs if turn < small - 0.0005]
-    return f"The inferred ones cost more than each turn as one region in {listed(found)}." if found else "Here they cost as much as whole turns at most."
+    if not found:
+        return "Here they cost as much as whole turns at most."
+    return f"The inferred ones cost more than each turn as one region in {listed(found)}."
 
 
 def numbers(results):
@@ -98,7 +105,8 @@ def page(results, template):
         "plainest": pagetables.plainest(results), "breaks": pagetables.breaks(results), "judged": pagetables.judged(results),
         "continuous": pagetables.continuous(results), "harvest_tight": pagetables.harvested(results, "tight"),
         "harvest_roomy": pagetables.harvested(results, "roomy"), "bounds": pagetables.bounds(results), "written": pagetables.written(results),
-        "code": pagetables.code(results), "filtered": pagetables.filtered(results, "tire"), "outside": outside(results), "foretold": foretold(results),
+        "code": pagetables.code(results), "filtered": pagetables.filtered(results, "tire"),
+        "outside": outside(results), "foretold": foretold(results),
         "inside": inside(results), "turns": turns(results), "cheaper": cheaper(results),
     }  # fmt: skip
     return template.format(**filled, **numbers(results))

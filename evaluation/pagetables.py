@@ -65,7 +65,8 @@ def signed(share):
 def plainest(results):
     """For each application: where power may fail without harm, what breaks without regions and with them, and the price."""
     heads = [
-        "application", "steps of a run", "behind which power may fail without harm", "runs that break, plain", "with regions", "steps more for regions"
+        "application", "steps of a run", "behind which power may fail without harm",
+        "runs that break, plain", "with regions", "steps more for regions",
     ]  # fmt: skip
     rows = []
     for fact in results.facts:
@@ -125,7 +126,9 @@ def harvested(results, charge):
         for version, sums in found.items():
             share = "" if sums["ended"] == sums["runs"] else f" ({percent(sums['ended'], sums['runs'])})"
             row.append((signed(more(sums)) if ends(sums) else "-") + share)
-        rows.append(row + [" / ".join(column(found[version], found["plain"], what) for version in VERSIONS[1:]) for what in ("time", "again", "lost")])
+        for what in ("time", "again", "lost"):
+            row.append(" / ".join(column(found[version], found["plain"], what) for version in VERSIONS[1:]))
+        rows.append(row)
     heads = [
         "application", "outages, plain", *(f"steps: {version}" for version in VERSIONS),
         "time by plain's", "steps in broken attempts", "outputs of these a run",
@@ -173,7 +176,8 @@ def written(results):
     rows = []
     for fact in results.facts:
         checks = " / ".join(fact[f"check_{what}"] for what in ("regions", "turns", "plain"))
-        rows.append([fact[key] for key in "app lines annotations regions region_lines".split()] + [2 * fact["blocks"], fact["reasons"], fact["logged"], checks])
+        sizes = [fact[key] for key in "app lines annotations regions region_lines".split()]
+        rows.append([*sizes, 2 * fact["blocks"], fact["reasons"], fact["logged"], checks])
     heads = [
         "application", "lines", "annotations", "regions", "lines in them", "braces by hand", "reasons", "words logged",
         "`check` of these blocks / of turns / of none",
@@ -190,9 +194,9 @@ def code(results):
 
 
 def filtered(results, app):
-    """By the length of periods: how many runs of an application end, how many sets count, attempts and outages."""
+    """By the length of periods: how many runs of an application end, how many sets count, and attempts broken off."""
     rows = []
-    for row in results.by[app, "ocelot", 1, "constant"]:
-        plain = next(one for one in results.by[app, "plain", 1, "constant"] if one["length"] == row["length"])
-        rows.append([row["length"], f"{row['ended']} of {row['runs']}", row["sets"], plain["sets"], row["aborts"]])
+    for row, plain in zip(results.by[app, "ocelot", 1, "constant"], results.by[app, "plain", 1, "constant"]):
+        if row["ended"] + plain["ended"]:
+            rows.append([row["length"], f"{row['ended']} of {row['runs']}", row["sets"], plain["sets"], row["aborts"]])
     return table(["steps in a period", "runs that end", "sets that count", "the same, plain", "attempts broken off"], rows)

@@ -24,7 +24,7 @@ use Rattle.oc_outage.proofs.Resting.{ticks_on-over, power_fails-over, through-ov
 use Rattle.oc_outage.proofs.Restored.{restored_one, all_restored}
 use Rattle.oc_bounds.specs.Bounds.{Bounds, Leaves, IsBounded}
 use Rattle.oc_bounds.specs.Attempts.{Closes, AttemptsClose, steps_after}
-use Rattle.oc_bounds.specs.Headway.{Count, untried, counted}
+use Rattle.oc_outage.specs.Kept.{Count, untried, counted}
 use Rattle.oc_bounds.proofs.Unlogged.{unlogged, none_logged}
 use Rattle.oc_bounds.proofs.Ahead.{taking, IsOpen, IsEntering, IsUndone, Stands, Ahead, Moves, over, gains, nears}
 use Rattle.oc_bounds.proofs.Moving.{step_moves}

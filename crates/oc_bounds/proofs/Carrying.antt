@@ -20,7 +20,8 @@ use Rattle.oc_outage.proofs.Facts.{state_at, regs_at}
 use Rattle.oc_outage.proofs.Resting.{ticks_on-over, power_fails-over, through-over}
 use Rattle.oc_outage.proofs.Words.{length-words_of, all_saved, length-save_all}
 use Rattle.oc_bounds.specs.Bounds.{Bounds, Leaves, IsBrief, AreLong}
-use Rattle.oc_bounds.specs.Headway.{Count, untried, Takes, AddUp, counted, count_ticks, kept_on}
+use Rattle.oc_outage.specs.Kept.{Count, untried, counted, count_ticks, kept_on}
+use Rattle.oc_bounds.specs.Headway.{Takes, AddUp}
 use Rattle.oc_bounds.proofs.Ahead.{taking, takes_fits, takes_some, IsStored, IsEntry, Stands, Ahead, Moves, over, gains, nears}
 use Rattle.oc_bounds.proofs.Moving.{step_moves}
 

@@ -19,12 +19,14 @@ use Rattle.oc_isa.specs.Power.{State, running, quietly, in_area, words_of, word_
 use Rattle.oc_isa.specs.Power.{entry_at, run_next, step_in}
 use Rattle.oc_outage.specs.Honest.{IsFit}
 use Rattle.oc_outage.proofs.Facts.{state_at, regs_at}
+use Rattle.oc_outage.proofs.Inside.{undoes_write}
 use Rattle.oc_outage.proofs.Undone.{undo-set, undo-last, undo-entry_at, EntryNumber, entry_number}
 use Rattle.oc_outage.proofs.Words.{IsSaved, length-words_of, held-saved, one_saved}
 use Rattle.oc_outage.proofs.Restored.{restored_one, none_restored, more_restored, all_restored}
 use Rattle.oc_bounds.specs.Bounds.{Bounds, Leaves, is_listed}
-use Rattle.oc_bounds.specs.Headway.{Count, Takes, takes_one, count_write, count_entry, count_commit, count_next, count_entering, counted}
-use Rattle.oc_bounds.proofs.Unlogged.{unlogged, none_logged, logged_one, undoes_write, asked}
+use Rattle.oc_outage.specs.Kept.{Count, takes_one, count_write, count_entry, count_commit, count_next, count_entering, counted}
+use Rattle.oc_bounds.specs.Headway.{Takes}
+use Rattle.oc_bounds.proofs.Unlogged.{unlogged, none_logged, logged_one, asked}
 use Rattle.oc_bounds.proofs.Leaving.{leaving}
 use Rattle.oc_bounds.proofs.Ahead.{taking, takes_fits, takes_some, IsOpen, IsEntering, IsRestoring, IsEntry, IsWaking, IsUndoing, IsUndone, IsRunning}
 use Rattle.oc_bounds.proofs.Ahead.{OnArmed, Stands, Moves, over, gains, nears}

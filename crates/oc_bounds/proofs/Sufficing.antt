@@ -43,4 +43,5 @@ module _ (d : Device) (b : Bounds) where
 
     pub run_ends : (periods : List Period) → Suffice d b periods → RunEnds d h periods
     run_ends periods (inl safe) = long_ends periods (fewer_long (least d b) b.safe b.total periods (least_safe d b) safe)
-    run_ends periods (inr e) = steps_end periods e.work (takes_whole d b e.most e.work (λ r c i. e.few r) e.half bounded) e.steps
+    run_ends periods (inr (inl long)) = long_ends periods long
+    run_ends periods (inr (inr e)) = steps_end periods e.work (takes_whole d b e.most e.work (λ r c i. e.few r) e.half bounded) e.steps

@@ -1,93 +1,16 @@
 -- How far a period of power carries a run, at least: in instructions that are kept, and in steps.
 use Rattle.std.specs.Prelude.{◌≡◌, ◌≤◌, ◌<◌, ◌⊎◌, ℕ, zero, suc, ◌+◌, ◌*◌, ◌-◌, ℤ, max, nat_lt}
-use Rattle.std.specs.Prelude.{List, [], ◌∷◌, ◌++◌, length, Option, Some, None}
+use Rattle.std.specs.Prelude.{List, [], ◌∷◌, ◌++◌, length}
 use Rattle.std.specs.Prelude.{Bool, false, if◌then◌else◌}
 use Rattle.oc_io.specs.declared.period.Period.{Period}
 use Rattle.oc_tree.specs.declared.said.Ending.{Ending}
-use Rattle.oc_isa.specs.declared.phase.Phase.{Phase}
-use Rattle.oc_isa.specs.declared.phase.Phase.TheVariants.{Running, Entering, Over}
-use Rattle.oc_isa.specs.Next.{Regs, Next, Goes, Senses, Enters, Commits, Ends, Stuck}
+use Rattle.oc_isa.specs.declared.phase.Phase.TheVariants.{Over}
+use Rattle.oc_isa.specs.Next.{Next, Goes, Senses, Enters, Commits, Ends, Stuck}
 use Rattle.oc_isa.specs.Next.{Device, written}
 use Rattle.oc_isa.specs.Run.{Core, core_at}
-use Rattle.oc_isa.specs.Power.{State, World, words_of, to_log, next_at, is_over}
-use Rattle.oc_isa.specs.Power.{tick_on, one_period, first_world, power_run}
-use Rattle.oc_bounds.specs.Bounds.{Bounds, Claim, AreSafe, sampled, opens, goes_on_commit}
-
--- Instructions
-
--- how many instructions are kept, whatever comes, and how many an attempt that is under way took
-pub record Count : Type 0 where
-  pub kept : ℕ
-  pub tried : ℕ
-
--- so many are kept, and none is tried
-abbrev pub untried : (kept : ℕ) → Count
-untried kept = record { kept = kept; tried = 0 }
-
--- one instruction more: outside of regions it is kept, in an attempt it is tried
-abbrev pub takes_one : (depth : ℕ) → Count → Count
-takes_one zero c = untried (suc c.kept)
-takes_one (suc k) c = record { kept = c.kept; tried = suc c.tried }
-
--- one instruction more, with which the attempt is kept
-abbrev pub closes : Count → Count
-closes c = untried (suc (c.kept + c.tried))
-
--- a step that logs a word is no instruction
-abbrev pub count_write : (logs : Option ℕ) → (depth : ℕ) → Count → Count
-count_write (Some addr) depth c = c
-count_write None depth c = takes_one depth c
-
--- of the steps of an outermost `enter` the last one, which arms, is the instruction, and it is kept
-abbrev pub count_entry : (done : ℕ) → Regs → Count → Count
-count_entry done to c = if nat_lt done (length (words_of to)) then c else takes_one 0 c
-
--- an `enter` at this depth begins
-abbrev pub count_enter : (depth : ℕ) → Regs → Count → Count
-count_enter zero to c = count_entry 0 to c
-count_enter (suc k) to c = takes_one (suc k) c
-
--- the outermost `commit` keeps the attempt; one at depth 0 is undefined
-abbrev pub count_commit : (depth : ℕ) → Count → Count
-count_commit zero c = c
-count_commit (suc zero) c = closes c
-count_commit (suc (suc k)) c = takes_one (suc k) c
-
--- a step at an instruction that does this
-abbrev pub count_next : Next → State → Count → Count
-count_next (Goes to w shown) s c = count_write (to_log s.depth w s.log) s.depth c
-count_next (Senses x to) s c = takes_one s.depth c
-count_next (Enters r to) s c = count_enter s.depth to c
-count_next (Commits r to) s c = count_commit s.depth c
-count_next (Ends how) s c = closes c
-count_next Stuck s c = c
-
--- a step of an outermost `enter` that is under way
-abbrev pub count_entering : (done : ℕ) → Next → Count → Count
-count_entering done (Enters r to) c = count_entry done to c
-count_entering done n c = c
-
--- the count after a step at this state: those of a boot are no instructions
-abbrev pub counted : Device → Phase → State → Count → Count
-counted d Running s c = count_next (next_at d s) s c
-counted d (Entering done) s c = count_entering done (next_at d s) c
-counted d phase s c = c
-
--- the count after so many steps under power
-abbrev pub count_ticks : Device → (ℕ → ℕ → ℤ) → ℕ → World → Count → Count
-count_ticks d h zero w c = c
-count_ticks d h (suc n) w c = count_ticks d h n (tick_on d h w) (counted d w.state.phase w.state c)
-
--- how many instructions are kept behind these periods, of which `kept` were before them: an outage
--- breaks an attempt off, and nothing of it is kept
-abbrev pub kept_on : Device → (ℕ → ℕ → ℤ) → List Period → World → (kept : ℕ) → ℕ
-kept_on d h [] w kept = kept
-kept_on d h (p ∷ periods) w kept =
-    kept_on d h periods (one_period d h p w) (count_ticks d h p.on w (untried kept)).kept
-
--- how many instructions a run has kept behind its first periods, which are these
-abbrev pub kept_after : Device → (ℕ → ℕ → ℤ) → List Period → ℕ
-kept_after d h periods = kept_on d h periods (first_world d) 0
+use Rattle.oc_isa.specs.Power.{is_over, power_run}
+use Rattle.oc_outage.specs.Kept.{kept_after}
+use Rattle.oc_bounds.specs.Bounds.{Bounds, Claim, AreLong, AreSafe, sampled, opens, goes_on_commit}
 
 -- Steps
 
@@ -148,10 +71,12 @@ pub record HaveEnough (d : Device) (b : Bounds) (periods : List Period) : Type 0
   pub half : b.total * two_steps d b most ≤ 2 * work
   pub steps : AddUp (least d b) work periods
 
--- periods suffice for the end of a run: one more of the first ones than its total are safe, or they
--- have steps enough
+-- periods suffice for the end of a run: one more of the first ones than its total are safe, or as
+-- many as its total have the least number of steps, or they have steps enough
 abbrev pub Suffice : Device → Bounds → List Period → Type 0
-Suffice d b periods = AreSafe b (suc b.total) periods ⊎ HaveEnough d b periods
+Suffice d b periods =
+    AreSafe b (suc b.total) periods
+    ⊎ (AreLong (least d b) b.total periods ⊎ HaveEnough d b periods)
 
 -- Laws of runs
 

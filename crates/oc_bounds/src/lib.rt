@@ -8,12 +8,13 @@ ghost use Rattle.oc_isa.specs.Next.{Device};
 ghost use Rattle.oc_isa.specs.Power.{power_run};
 ghost use Rattle.oc_isa.specs.Run.{start_of};
 ghost use Rattle.oc_outage.specs.Honest.{IsFit};
-ghost use Rattle.oc_bounds.specs.Bounds.{Bounds, IsBounded, AreLong};
+ghost use Rattle.oc_bounds.specs.Bounds.{Bounds, IsBounded};
 ghost use Rattle.oc_bounds.specs.Attempts.{AttemptsClose};
 ghost use Rattle.oc_bounds.specs.Headway.{AddUp, PeriodsKeep, RunEnds, Suffice, Takes, least};
 
-/// A run ends where its first periods are safe, one more of them than it has instructions, or have
-/// enough steps by the numbers that are printed.
+/// A run ends where one more of its first periods than it has instructions are safe, where as many
+/// as it has instructions have the least number of steps, or where the first ones have steps enough
+/// by the numbers that are printed.
 pub fn progress()
     ensures { (d : Device) (b : Bounds) (h : ℕ → ℕ → ℤ) (periods : List Period) → IsFit d
         → IsBounded d b → ((sensor tick : ℕ) → is_word (h sensor tick) ≡ true) →
@@ -29,15 +30,11 @@ pub fn attempts()
 {}
 
 /// A period that has the least number of steps keeps at least one further instruction of the run,
-/// whatever the periods before it are, or the run is over behind it. So as many such periods as a
-/// run has instructions are its end. A safe period has that number.
+/// whatever the periods before it are, or the run is over behind it. A safe period has that number.
 pub fn headway()
     ensures keeps { (d : Device) (b : Bounds) (h : ℕ → ℕ → ℤ) (periods : List Period) → IsFit d
         → IsBounded d b → ((sensor tick : ℕ) → is_word (h sensor tick) ≡ true) →
         PeriodsKeep d b h periods }
-    ensures ends { (d : Device) (b : Bounds) (h : ℕ → ℕ → ℤ) (periods : List Period) → IsFit d
-        → IsBounded d b → ((sensor tick : ℕ) → is_word (h sensor tick) ≡ true) →
-        AreLong (least d b) b.total periods → RunEnds d h periods }
     ensures safe { (d : Device) (b : Bounds) → least d b ≤ b.safe }
 {}
 

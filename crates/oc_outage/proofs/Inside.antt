@@ -58,7 +58,8 @@ module _ (d : Device) (h : ℕ → ℕ → ℤ) (report : List Told) (c : Count)
   abbrev tally : ℕ
   tally = c.kept + c.tried
 
-  write_goes : (to : Regs) (w : Option Write) (v : Option Shown) → d.next (regs_at pc fp stack) nv ≡ Goes to w v → to_log (suc depth) w log ≡ None → Stays d h report (takes_one (suc depth) c) made t (goes None to w v here)
+  write_goes : (to : Regs) (w : Option Write) (v : Option Shown) → d.next (regs_at pc fp stack) nv ≡ Goes to w v → to_log (suc depth) w log ≡ None
+      → Stays d h report (takes_one (suc depth) c) made t (goes None to w v here)
   write_goes to w None e log_none =
       let s = g.attempt in (
         record {
@@ -120,7 +121,8 @@ module _ (d : Device) (h : ℕ → ℕ → ℤ) (report : List Told) (c : Count)
         sized,
       )
 
-  armed_senses : (x : ℕ) (to : Regs) → is_word (h x t) ≡ true → d.next (regs_at pc fp stack) nv ≡ Senses x to → Stays d h report (takes_one (suc depth) c) made t (run_next (λ s. h s t) (Senses x to) here)
+  armed_senses : (x : ℕ) (to : Regs) → is_word (h x t) ≡ true → d.next (regs_at pc fp stack) nv ≡ Senses x to
+      → Stays d h report (takes_one (suc depth) c) made t (run_next (λ s. h s t) (Senses x to) here)
   armed_senses x to word e =
       let s = g.attempt in
       let core = core_at (pushed to (h x t)) (suc depth) nv in
@@ -197,7 +199,8 @@ module _ (d : Device) (h : ℕ → ℕ → ℤ) (report : List Told) (c : Count)
 -- one step inside a region
 module _ (d : Device) (h : ℕ → ℕ → ℤ) (words_of_h : (s t : ℕ) → is_word (h s t) ≡ true) (report : List Told) (c : Count) (made t pc fp : ℕ) (stack : List ℤ) (depth : ℕ) (nv : List ℤ)
     (log : List Entry) (words : List ℤ) (a : AreHonest d h made report) (sized : length words ≡ 3 + d.room) (g : IsRunning d report c made (regs_at pc fp stack) (suc depth) nv log words) where
-  armed_by : (x : Next) → d.next (regs_at pc fp stack) nv ≡ x → Stays d h report (count_next x (state_at Running pc fp (suc depth) stack nv log Armed words) c) made t (run_next (λ s. h s t) x (state_at Running pc fp (suc depth) stack nv log Armed words))
+  armed_by : (x : Next) → d.next (regs_at pc fp stack) nv ≡ x
+      → Stays d h report (count_next x (state_at Running pc fp (suc depth) stack nv log Armed words) c) made t (run_next (λ s. h s t) x (state_at Running pc fp (suc depth) stack nv log Armed words))
   armed_by (Goes to w v) e = goes_by d h report c made t pc fp stack depth nv log words a sized g to w v (to_log (suc depth) w log) e refl
   armed_by (Senses x to) e = armed_senses d h report c made t pc fp stack depth nv log words a sized g x to (words_of_h x t) e
   armed_by (Enters q to) e = armed_enters d h report c made t pc fp stack depth nv log words a sized g q to e
@@ -208,5 +211,6 @@ module _ (d : Device) (h : ℕ → ℕ → ℤ) (words_of_h : (s t : ℕ) → is
       (ended_whole d report made t (c.kept + c.tried) core how s.at s.within e, ended_honest d report made t (c.kept + c.tried) core how s.at s.within e h a, sized)
   armed_by Stuck e = let s = g.attempt in absurd (continues.stuck_never d _ _ (c.kept + c.tried) (core_at (regs_at pc fp stack) (suc depth) nv) s.at e)
 
-  pub armed_keeps : Stays d h report (count_next (d.next (regs_at pc fp stack) nv) (state_at Running pc fp (suc depth) stack nv log Armed words) c) made t (run_next (λ s. h s t) (d.next (regs_at pc fp stack) nv) (state_at Running pc fp (suc depth) stack nv log Armed words))
+  pub armed_keeps : Stays d h report (count_next (d.next (regs_at pc fp stack) nv) (state_at Running pc fp (suc depth) stack nv log Armed words) c) made t
+      (run_next (λ s. h s t) (d.next (regs_at pc fp stack) nv) (state_at Running pc fp (suc depth) stack nv log Armed words))
   armed_keeps = armed_by (d.next (regs_at pc fp stack) nv) refl

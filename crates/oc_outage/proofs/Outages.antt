@@ -81,7 +81,8 @@ module _ (d : Device) (h : ℕ → ℕ → ℤ) (report : List Told) (c : Count)
   lost regs s = record { regs = regs; settled = settled_off d report c.kept made t off regs nv s }
 
   -- power fails outside a region, and the checkpoint is cut or complete
-  fails_open : (cut : Bool) (pc fp : ℕ) → IsSettled d report c.kept made (regs_at pc fp stack) nv → log ≡ [] → IsGood d h (untried c.kept) made (after cut (state_at Running pc fp 0 stack nv log Open words))
+  fails_open : (cut : Bool) (pc fp : ℕ) → IsSettled d report c.kept made (regs_at pc fp stack) nv → log ≡ []
+      → IsGood d h (untried c.kept) made (after cut (state_at Running pc fp 0 stack nv log Open words))
   fails_open true pc fp s y = record { holds = lost (regs_at pc fp stack) s; honest = off_honest d h report made t off a s.closed; sized = sized }
   fails_open false pc fp s y = let c = checkpointed d report c.kept made t off (regs_at pc fp stack) nv words s sized in
       record { holds = (c.0, y); honest = off_honest d h report made t off a s.closed; sized = c.1 }

@@ -141,5 +141,6 @@ module _ (d : Device) (h : ℕ → ℕ → ℤ) (fit : IsFit d) (words_of_h : (s
   open_by Stuck s y e = absurd (continues.stuck_never d _ _ c.kept (core_at (regs_at pc fp stack) 0 nv) s.at e)
 
   pub open_keeps : IsSettled d report c.kept made (regs_at pc fp stack) nv → log ≡ []
-      → Stays d h report (count_next (d.next (regs_at pc fp stack) nv) (state_at Running pc fp 0 stack nv log Open words) c) made t (run_next (λ s. h s t) (d.next (regs_at pc fp stack) nv) (state_at Running pc fp 0 stack nv log Open words))
+      → Stays d h report (count_next (d.next (regs_at pc fp stack) nv) (state_at Running pc fp 0 stack nv log Open words) c) made t
+      (run_next (λ s. h s t) (d.next (regs_at pc fp stack) nv) (state_at Running pc fp 0 stack nv log Open words))
   open_keeps s y = open_by (d.next (regs_at pc fp stack) nv) s y refl

@@ -1,6 +1,8 @@
--- How many instructions of a run are kept, whenever power fails, and where the run without outages stands behind them.
-use Rattle.std.specs.Prelude.{◌≡◌, ℕ, zero, suc, ◌+◌, ℤ, List, [], ◌∷◌, ◌++◌, length, reverse, take, drop}
-use Rattle.std.specs.Prelude.{Option, Some, None, if◌then◌else◌, nat_lt}
+-- How many instructions of a run are kept, whenever power fails, and where the run without outages
+-- stands behind them.
+use Rattle.std.specs.Prelude.{◌≡◌, ℕ, zero, suc, ◌+◌, ℤ, nat_lt}
+use Rattle.std.specs.Prelude.{List, [], ◌∷◌, ◌++◌, length, reverse, take, drop}
+use Rattle.std.specs.Prelude.{Option, Some, None, if◌then◌else◌}
 use Rattle.oc_io.specs.declared.period.Period.{Period}
 use Rattle.oc_tree.specs.Said.{Told}
 use Rattle.oc_tree.specs.declared.said.Said.{Said}
@@ -100,7 +102,7 @@ kept_after d h periods = kept_on d h periods (first_world d) 0
 
 -- What the count means
 
--- the registers and the stack that the area holds: pc, fp, sp, then the stack from its first word on
+-- the registers and the stack that the area holds: pc, fp, sp, then the stack from its first word
 abbrev pub held_regs : List ℤ → Regs
 held_regs words = record {
   pc = number_of (word_of words 0);
@@ -126,9 +128,11 @@ said_up_to d area s report = marked report
 abbrev pub StandsAfter : Device → Phase → (n : ℕ) → State → List Told → Type 0
 StandsAfter d (Over how) n s report = IsWhole d n report s.nv
 StandsAfter d Lost n s report =
-    (regs : Regs) × (continuous_run d (kept_samples report) n ≡ stops (core_at regs 0 s.nv) (marked report))
+    (regs : Regs)
+    × (continuous_run d (kept_samples report) n ≡ stops (core_at regs 0 s.nv) (marked report))
 StandsAfter d phase n s report =
-    continuous_run d (kept_samples report) n ≡ stops (goes_on_at d s.area s) (said_up_to d s.area s report)
+    continuous_run d (kept_samples report) n
+    ≡ stops (goes_on_at d s.area s) (said_up_to d s.area s report)
 
 -- behind these periods of power so many instructions are kept as are counted
 abbrev pub CountIsKept : Device → (ℕ → ℕ → ℤ) → List Period → Type 0

@@ -3,20 +3,21 @@
 
 Its lines about three examples must be those below, which were worked out by hand. Of each example that runs with
 status 0 or 8, so many rows of the least length, of the length that is safe, of twice and of five times that must end
-it by itself. With words only the examples whose names have one of them. OCELOT in the environment stands in the place
-of ./ocelot. Prints what differs; ends with 1 where something does.
+it by itself. With words only the examples whose names have one of them. The program is that of OCELOT in the
+environment, or else the built one. Prints what differs; ends with 1 where something does.
 """
-import os
 import pathlib
 import subprocess
 import sys
 import tempfile
 
-TOP = pathlib.Path(__file__).resolve().parent.parent
+sys.dont_write_bytecode = True
+
+from program import TOP, program
+
 sys.path.insert(0, str(TOP / "examples"))
 import periods
 
-PROGRAM = os.path.abspath(os.environ.get("OCELOT", TOP / "ocelot"))
 ENDED = (0, 8)
 # the stack has 12 words, the budgets are 7 and 12: 12 + 5 + 12 is less than 2 * 12 + 9; 264 * 17 / 2 is 2,244
 GREENHOUSE = "total 264\nsafe 45\nstack 12\nleast 33\nwork 2244\n"
@@ -54,19 +55,19 @@ def runs(words):
         said = path.read_text().splitlines()
         if said[:1] == ["run"] and (not words or any(word in str(path) for word in words)):
             source, sensors = (path.with_name(name) for name in said[-3:-1])
-            if answer([PROGRAM, "regions", source])[0] == 0:
+            if answer([program(), "regions", source])[0] == 0:
                 yield source, sensors
 
 
 def faults_of_runs(found, folder):
     """Yields those of these runs that don't end within the periods that suffice."""
     for source, sensors in found.items():
-        numbers = periods.Numbers(answer([PROGRAM, "regions", source])[1])
+        numbers = periods.Numbers(answer([program(), "regions", source])[1])
         for steps in (numbers.least, numbers.safe, 2 * numbers.safe, 5 * numbers.safe):
             count = numbers.periods(steps)
             rows = folder / "power.csv"
             rows.write_text("on,off\n" + f"{steps},100\n" * count)
-            status, _ = answer([PROGRAM, "run", source, sensors, rows])
+            status, _ = answer([program(), "run", source, sensors, rows])
             if status not in ENDED:
                 yield f"{source.relative_to(TOP)}: {count} periods of {steps} steps end with status {status}"
 

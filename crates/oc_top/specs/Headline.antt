@@ -54,11 +54,12 @@ pub record IsHonestThroughout (p : TProgram) (h : ℕ → ℕ → ℤ) (report :
 abbrev pub program_power : TProgram → List Row → List Period → World
 program_power p rows periods = power_run (device_of (program_code p)) (history rows) periods
 
--- a run of the program that a source spells, over what the sensors showed and the periods that the supply told: its answer
--- and its text are those of the report, and the report is honest. An attempt of a region that begins with its budget of steps
--- left in its period is closed before any outage, by its commit or a trap. Each period with the least number of steps keeps one
--- more instruction of the run without outages, or the run is over behind it; and where the periods suffice, by the numbers that
--- are shown with the regions, the run ends
+-- a run of the program that a source spells, over what the sensors showed and the periods that the
+-- supply told: its answer and its text are those of the report, and the report is honest. An attempt
+-- of a region that begins with its budget of steps left in its period is closed before any outage, by
+-- its commit or a trap. Each period with the least number of steps keeps one more instruction of the
+-- run without outages, or the run is over behind it; and where the periods suffice, by the numbers
+-- that are shown with the regions, the run ends
 pub record IsRun (files : Files) (plan : Plan) (run : Verdict) : Type 0 where
   pub written : TProgram
   pub spelled : ReadsAs files.source (program written)
@@ -69,9 +70,12 @@ pub record IsRun (files : Files) (plan : Plan) (run : Verdict) : Type 0 where
   pub is_run : run ≡ runs (program_code written) rows (plan periods)
   pub honest : IsHonestThroughout written (history rows) (program_power written rows (plan periods)).report (program_power written rows (plan periods)).state.nv
   pub attempts : AttemptsClose (program_bounds written) (plan periods) (program_power written rows (plan periods)).report
-  pub headway : PeriodsKeep (device_of (program_code written)) (program_bounds written) (history rows) (plan periods)
-  pub counts : (before : List Period) → CountIsKept (device_of (program_code written)) (history rows) before
-  pub ends : Suffice (device_of (program_code written)) (program_bounds written) (plan periods) → RunEnds (device_of (program_code written)) (history rows) (plan periods)
+  pub headway : PeriodsKeep (device_of (program_code written)) (program_bounds written) (history rows)
+      (plan periods)
+  pub counts : (before : List Period)
+      → CountIsKept (device_of (program_code written)) (history rows) before
+  pub ends : Suffice (device_of (program_code written)) (program_bounds written) (plan periods)
+      → RunEnds (device_of (program_code written)) (history rows) (plan periods)
 
 -- such a run whose report was written whole: its source isn't longer than one that is read, and its items and the nonvolatile
 -- words that it leaves fit their types

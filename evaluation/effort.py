@@ -1,4 +1,6 @@
 """What is known of an application besides its runs: what was written, how tight its numbers are, how many of its steps are exposed."""
+import subprocess
+
 import judge
 import runs
 import world
@@ -66,6 +68,14 @@ def bounds(app, scale):
     yield {"app": app.name} | {f"least_{version}": least(app, version) for version in VERSIONS}
 
 
+def suffice(app):
+    """Returns what examples/periods.py says: from which length on a period carries a run, and how many of `safe` steps suffice."""
+    script = runs.HERE.parent / "examples" / "periods.py"
+    said = subprocess.run([script, app.path, str(app.safe)], check=True, stdout=subprocess.PIPE, text=True).stdout
+    numbers = dict(line.rsplit(" ", 1) for line in said.splitlines())
+    return {"carries": int(numbers["least"]), "suffice": int(numbers["periods that suffice"])}
+
+
 def periods_used(app, scale):
     """Returns how many periods of `safe` steps a run took at most."""
     power = app.power([(app.safe, world.APART)] * min(app.total + 1, 20_000))
@@ -107,5 +117,5 @@ def effort(app, scale):
         "budgets": " ".join(f"{region[1]}:{region[-1]}" for region in app.regions),
         "logged": sum(int(region[7]) for region in app.regions),
         "code_plain": sizes["plain"], "code_ocelot": sizes["ocelot"], "code_probes": len(Image(app.data).code),
-        "periods": periods_used(app, scale), "most": most_instructions(app, scale),
+        **suffice(app), "periods": periods_used(app, scale), "most": most_instructions(app, scale),
     }  # fmt: skip

@@ -95,6 +95,8 @@ def numbers(results):
         "tried": f"{sum(fact['tried'] for fact in facts):,}",
         "tight": between([row["broken"] / row["runs"] for row in tight]), "exposed": between([row["broken"] / row["runs"] for row in one]),
         "stacks": max(fact["stack"] for fact in facts), "slack": times([fact["safe"] / fact["least_ocelot"] for fact in facts]),
+        "carries": times([fact["carries"] / fact["least_ocelot"] for fact in facts]),
+        "suffice": times([fact["suffice"] / fact["periods"] for fact in facts]),
         "periods": times([(fact["total"] + 1) / fact["periods"] for fact in facts]),
     }  # fmt: skip
 

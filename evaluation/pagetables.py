@@ -161,12 +161,13 @@ def bounds(results):
         longest = dict(pairs(fact["longest"]))
         budgets = ", ".join(f"{steps} ({longest.get(region, 'never outermost')})" for region, steps in pairs(fact["budgets"]))
         rows.append([
-            fact["app"], fact["stack"], budgets, f"{fact['total']} ({fact['most']})", f"{fact['safe']} ({fact['least_ocelot']})",
-            f"{fact['total'] + 1} ({fact['periods']})", fact["least_plain"], fact["least_turns"], fact["least_whole"],
+            fact["app"], fact["stack"], budgets, f"{fact['total']} ({fact['most']})",
+            fact["safe"], f"{fact['carries']} ({fact['least_ocelot']})", f"{fact['suffice']} ({fact['periods']})",
+            fact["least_plain"], fact["least_turns"], fact["least_whole"],
         ])  # fmt: skip
     heads = [
-        "application", "stack words", "budgets (longest attempt)", "`total` (most instructions)", "`safe` (least period)",
-        "`total` + 1 periods (most taken)", "least period: plain", "turns", "whole",
+        "application", "stack words", "budgets (longest attempt)", "`total` (most instructions)", "`safe`",
+        "`least` (least period found)", "periods of `safe` steps that suffice (most taken)", "least period found: plain", "turns", "whole",
     ]  # fmt: skip
     return table(heads, rows)
 

@@ -39,7 +39,7 @@ none_second false b h = h
 -- ---- lists of names
 
 -- the first of a name stands where one of it stands, or before
-place_below : (n : ℕ) (xs : List Text) (i : ℕ) (x : Text) → slice_get xs i ≡ Some x → (k : ℕ) × (place_from n xs x ≡ Some k) × (k ≤ n + i)
+pub place_below : (n : ℕ) (xs : List Text) (i : ℕ) (x : Text) → slice_get xs i ≡ Some x → (k : ℕ) × (place_from n xs x ≡ Some k) × (k ≤ n + i)
 place_below n [] zero x e = absurd (none-some x e)
 place_below n [] (suc i) x e = absurd (none-some x e)
 place_below n (y ∷ ys) zero x e =

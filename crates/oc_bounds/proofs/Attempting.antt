@@ -21,14 +21,15 @@ use Rattle.oc_outage.specs.Honest.{IsFit}
 use Rattle.oc_outage.proofs.Facts.{state_at, regs_at}
 use Rattle.oc_outage.proofs.Going.{onto, world_at, through-onto}
 use Rattle.oc_outage.proofs.Resting.{ticks_on-over, power_fails-over, through-over}
-use Rattle.oc_outage.proofs.Words.{length-words_of}
+use Rattle.oc_outage.proofs.Restored.{restored_one, all_restored}
 use Rattle.oc_bounds.specs.Bounds.{Bounds, Leaves, IsBounded}
 use Rattle.oc_bounds.specs.Attempts.{Closes, AttemptsClose, steps_after}
+use Rattle.oc_outage.specs.Kept.{Count, untried, counted}
 use Rattle.oc_bounds.proofs.Unlogged.{unlogged, none_logged}
-use Rattle.oc_outage.proofs.Restored.{restored_one, all_restored}
-use Rattle.oc_bounds.proofs.Needs.{need_at, stepping, IsOpen, IsEntering, IsUndone, Needs, Due, Comes, over, gains, nears}
-use Rattle.oc_bounds.proofs.Steps.{step_comes}
-use Rattle.oc_bounds.proofs.Periods.{Fine, stopped, owes, not_over, not_lost, fails_any, first_due}
+use Rattle.oc_bounds.proofs.Ahead.{taking, IsOpen, IsEntering, IsUndone, Stands, Ahead, Moves, over, gains, nears}
+use Rattle.oc_bounds.proofs.Moving.{step_moves}
+use Rattle.oc_bounds.proofs.Carrying.{not_over, not_lost, fails_any, first_at}
+use Rattle.oc_bounds.proofs.Pricing.{some_work, some_takes}
 use Rattle.oc_bounds.proofs.Closing.{rest_of, rest_after, closes_in}
 
 module _ (d : Device) (b : Bounds) where
@@ -57,15 +58,15 @@ module _ (d : Device) (b : Bounds) where
   begins_shown None s = tt
   begins_shown (Some v) s = tt
 
-  module _ (fit : IsFit d) (sample : ℕ → ℤ) (stack nv : List ℤ) (log : List Entry) (words : List ℤ) (n k pc fp : ℕ) where
-    enter_by : (phase : Phase) (depth done : ℕ) (more : Bool) (en : IsEntering d b n k done (regs_at pc fp stack) nv log words) → nat_lt done (length (words_of en.to)) ≡ more → Says
+  module _ (total : ℕ) (sample : ℕ → ℤ) (stack nv : List ℤ) (log : List Entry) (words : List ℤ) (left t : ℕ) (c : Count) (pc fp : ℕ) where
+    enter_by : (phase : Phase) (depth done : ℕ) (more : Bool) (en : IsEntering d b total left t c done (regs_at pc fp stack) nv log words) → nat_lt done (length (words_of en.to)) ≡ more → Says
         (if more
         then quietly (record (state_at phase pc fp depth stack nv log Open words) { phase = Entering (suc done); words = slice_set words done (word_of (words_of en.to) done) })
         else record { state = in_area (running (state_at phase pc fp depth stack nv log Open words) en.to 1) Armed; said = Some (Entered en.number) })
     enter_by phase depth done true en q = tt
     enter_by phase depth done false en q =
-        let s = stepping d b n (core_at (regs_at pc fp stack) 0 nv) (Enters en.number en.to) en.next en.lasts in
-        let brief = s.next.0 in
+        let s = taking d b en.n left (core_at (regs_at pc fp stack) 0 nv) (Enters en.number en.to) en.next en.takes in
+        let brief = s.next.1 in
         let z : unlogged brief.words [] ≤ b.logged en.number = omega (arith, none_logged brief.words, brief.few) in
         record {
           pc = en.to.pc;
@@ -82,20 +83,19 @@ module _ (d : Device) (b : Bounds) where
               subst (λ l. unlogged brief.words l ≤ b.logged en.number) (sym en.empty) z;
         }
 
-    enter_says : (phase : Phase) (depth done : ℕ) (en : IsEntering d b n k done (regs_at pc fp stack) nv log words)
+    enter_says : (phase : Phase) (depth done : ℕ) (en : IsEntering d b total left t c done (regs_at pc fp stack) nv log words)
         → Says (enter done en.number en.to (state_at phase pc fp depth stack nv log Open words))
     enter_says phase depth done en = enter_by phase depth done (nat_lt done (length (words_of en.to))) en refl
 
-    enter_on_says : (depth done : ℕ) (en : IsEntering d b n k done (regs_at pc fp stack) nv log words)
+    enter_on_says : (depth done : ℕ) (en : IsEntering d b total left t c done (regs_at pc fp stack) nv log words)
         → Says (enter_on done (d.next (regs_at pc fp stack) nv) (state_at (Entering done) pc fp depth stack nv log Open words))
     enter_on_says depth done en = subst (λ x. Says (enter_on done x (state_at (Entering done) pc fp depth stack nv log Open words))) (sym en.next) (enter_says (Entering done) depth done en)
 
-    open_by : (x : Next) → IsOpen d b n k (regs_at pc fp stack) nv log → d.next (regs_at pc fp stack) nv ≡ x → Says (run_next sample x (state_at Running pc fp 0 stack nv log Open words))
+    open_by : (x : Next) → IsOpen d b total left t c (regs_at pc fp stack) nv log → d.next (regs_at pc fp stack) nv ≡ x → Says (run_next sample x (state_at Running pc fp 0 stack nv log Open words))
     open_by (Goes to w v) o e = begins_shown v _
     open_by (Senses x to) o e = tt
-    open_by (Enters r to) o e =
-        let due : need_at (Enters r to) ≤ k = subst (λ x. need_at x ≤ k) e o.due in
-        enter_says Running 0 0 (record { lasts = o.lasts; number = r; to = to; next = e; empty = o.empty; upto = omega arith; saved = refl; due = omega (arith, due, length-words_of to) })
+    open_by (Enters r to) o e = enter_says Running 0 0
+        (record { n = o.n; tied = o.tied; takes = o.takes; number = r; to = to; next = e; empty = o.empty; upto = omega arith; saved = refl; due = omega (arith, o.due) })
     open_by (Commits r to) o e = tt
     open_by (Ends how) o e = tt
     open_by Stuck o e = tt
@@ -106,7 +106,7 @@ module _ (d : Device) (b : Bounds) where
     restores_sealed done depth true = tt
     restores_sealed done depth false = tt
 
-    restores_armed : (done depth : ℕ) (more : Bool) → IsUndone d b n k done pc fp stack nv log words → nat_lt done (held words) ≡ more
+    restores_armed : (done depth : ℕ) (more : Bool) → IsUndone d b total left t c done pc fp stack nv log words → nat_lt done (held words) ≡ more
         → Says (if more then restored_one d done (state_at (Restoring done) pc fp depth stack nv log Armed words) else resume d Armed (state_at (Restoring done) pc fp depth stack nv log Armed words))
     restores_armed done depth true r q = tt
     restores_armed done depth false r q =
@@ -134,7 +134,7 @@ module _ (d : Device) (b : Bounds) where
     armed_by deep (Ends how) = tt
     armed_by deep Stuck = tt
 
-    says : (area : AreaState) (phase : Phase) (depth : ℕ) → Needs d b area phase depth n k (state_at phase pc fp depth stack nv log area words)
+    says : (area : AreaState) (phase : Phase) (depth : ℕ) → Stands d b total area phase depth left t c (state_at phase pc fp depth stack nv log area words)
         → Says (step_in d sample phase (state_at phase pc fp depth stack nv log area words))
     says Fresh Waking depth s = tt
     says Fresh (Undoing j) depth s = absurd s
@@ -181,28 +181,38 @@ module _ (b : Bounds) (left : ℕ → ℕ) where
   one_of [] rest tick r a le = a.0 le
   one_of (i ∷ before) rest tick r a le = one_of before rest tick r a.1 le
 
-module _ (d : Device) (b : Bounds) (h : ℕ → ℕ → ℤ) (fit : IsFit d) (low : d.room + 6 ≤ b.safe) (words_of_h : (s t : ℕ) → is_word (h s t) ≡ true) (left : ℕ → ℕ) where
-  alive_by : (phase : Phase) (area : AreaState) (depth n k : ℕ) (s : State) → Needs d b area phase depth n k s → is_over phase ≡ false
-  alive_by Waking area depth n k s g = refl
-  alive_by (Undoing j) area depth n k s g = refl
-  alive_by (Restoring j) area depth n k s g = refl
-  alive_by Running area depth n k s g = refl
-  alive_by (Entering j) area depth n k s g = refl
-  alive_by (Over how) area depth n k s g = absurd (not_over d b h fit low words_of_h area how depth n k s g)
-  alive_by Lost area depth n k s g = absurd (not_lost d b h fit low words_of_h area depth n k s g)
+-- a state that is over, or stands somewhere in the run
+data Fine (d : Device) (b : Bounds) (total : ℕ) (s : State) : Type 0 where
+  stopped : is_over s.phase ≡ true → Fine d b total s
+  awake : (k t : ℕ) (c : Count) → Ahead d b total k t c s → Fine d b total s
+
+module _ (d : Device) (b : Bounds) (total : ℕ) (h : ℕ → ℕ → ℤ) (fit : IsFit d) (words_of_h : (s t : ℕ) → is_word (h s t) ≡ true) (left : ℕ → ℕ) where
+  alive_by : (phase : Phase) (area : AreaState) (depth k u : ℕ) (c : Count) (s : State) → Stands d b total area phase depth k u c s → is_over phase ≡ false
+  alive_by Waking area depth k u c s g = refl
+  alive_by (Undoing j) area depth k u c s g = refl
+  alive_by (Restoring j) area depth k u c s g = refl
+  alive_by Running area depth k u c s g = refl
+  alive_by (Entering j) area depth k u c s g = refl
+  alive_by (Over how) area depth k u c s g = absurd (not_over d b total k u c area how depth s g)
+  alive_by Lost area depth k u c s g = absurd (not_lost d b total k u c area depth s g)
 
   -- what is left of a run that is over
   over_rest : (p : Period) (periods : List Period) (j : ℕ) (w : World) → is_over w.state.phase ≡ true → rest_of d h p periods j w ≡ w
   over_rest p periods j w e = ap (λ v. through d h periods (power_fails d p v)) (ticks_on-over w e d h j) ∙ ap (through d h periods) (power_fails-over w e d p) ∙ through-over w e d h periods
 
-  fine_after : (n k : ℕ) (s : State) → Comes d b n k 1 s → Fine d b s
-  fine_after n k s (over how e) = stopped (ap is_over e)
-  fine_after n k s (gains m l lt g) = owes m l g
-  fine_after n k s (nears l le g) = owes n l g
+  fine_after : (k u : ℕ) (c e : Count) (s : State) → Moves d b total k u 1 c e s → Fine d b total s
+  fine_after k u c e s (over how x) = stopped (ap is_over x)
+  fine_after k u c e s (gains less v le due more g) = awake less v e g
+  fine_after k u c e s (nears v due same g) = awake k v e g
+
+  fine_failed : (cut o : Bool) (k u : ℕ) (c : Count) (s : State) → Ahead d b total k u c s → is_over (fail_in d cut s.phase s).state.phase ≡ o → Fine d b total (fail_in d cut s.phase s).state
+  fine_failed cut true k u c s g e = stopped e
+  fine_failed cut false k u c s g e = awake k (5 + d.room + k) (untried c.kept)
+      (fails_any d b total k u s.pc s.fp s.depth c s.stack s.nv s.log s.words g.sized cut s.area s.phase s.depth g.stands e)
 
   -- of the rest of a run from here
   abbrev Behind : List Period → Type 0
-  Behind periods = (from : ℕ) (s : State) → Fine d b s → ((i : ℕ) → from ≤ i → left i ≡ steps_after from periods i) → AllClose b left (through d h periods (world_at from s [])).report
+  Behind periods = (from : ℕ) (s : State) → Fine d b total s → ((i : ℕ) → from ≤ i → left i ≡ steps_after from periods i) → AllClose b left (through d h periods (world_at from s [])).report
 
   all_behind : (t : ℕ) (said : Option Said) (is : List Told) → ((r : ℕ) → said ≡ Some (Entered r) → b.spent r + b.logged r ≤ left t → Closes is) → AllClose b left is
       → AllClose b left (told [] t said ++ is)
@@ -245,17 +255,16 @@ module _ (d : Device) (b : Bounds) (h : ℕ → ℕ → ℤ) (fit : IsFit d) (lo
     fail_says Lost s r e = absurd (cc)
 
     -- the period is over
-    ends_here : (t n k : ℕ) (s : State) → Due d b n k s → ((i : ℕ) → t + p.off ≤ i → left i ≡ steps_after (t + p.off) periods i) → Rest 0 t s
-    ends_here t n k s g later =
+    ends_here : (t k u : ℕ) (c : Count) (s : State) → Ahead d b total k u c s → ((i : ℕ) → t + p.off ≤ i → left i ≡ steps_after (t + p.off) periods i) → Rest 0 t s
+    ends_here t k u c s g later =
         let w = world_at t s [] in
         let r = fail_in d p.cut s.phase s in
         let v = world_at (t + p.off) r.state [] in
         let pre = told [] t r.said ++ told [] t (Some (Off p.off)) in
-        let is_failed : power_fails d p w ≡ failed w p.off r = ap (λ x. if x then w else failed w p.off r) (alive_by s.phase s.area s.depth n k s g.needs) in
+        let is_failed : power_fails d p w ≡ failed w p.off r = ap (λ x. if x then w else failed w p.off r) (alive_by s.phase s.area s.depth k u c s g.stands) in
         let split : failed w p.off r ≡ onto pre v = ap (world_at (t + p.off) r.state) (joined t r.said) in
         let whole : rest_of d h p periods 0 w ≡ onto pre (through d h periods v) = ap (through d h periods) (is_failed ∙ split) ∙ through-onto pre d h periods v in
-        let fine = fails_any d b low n k s.pc s.fp s.depth s.stack s.nv s.log s.words g.sized p.cut s.area s.phase s.depth g.needs in
-        let a = behind (t + p.off) r.state fine later in
+        let a = behind (t + p.off) r.state (fine_failed p.cut (is_over r.state.phase) k u c s g refl) later in
         subst (λ (x : World). AllClose b left x.report) (sym whole)
         (subst (λ l. AllClose b left l) (sym (append_assoc (told [] t r.said) (told [] t (Some (Off p.off))) (through d h periods v).report))
         (all_behind t r.said _ (λ q e. absurd (fail_says s.phase s q e)) (tt, a)))
@@ -267,20 +276,20 @@ module _ (d : Device) (b : Bounds) (h : ℕ → ℕ → ℤ) (fit : IsFit d) (lo
     abbrev Lefts : ℕ → ℕ → Type 0
     Lefts j t = ((i : ℕ) → t ≤ i → i < t + j → left i ≡ t + j - suc i) × ((i : ℕ) → t + j + p.off ≤ i → left i ≡ steps_after (t + j + p.off) periods i)
 
-    ticks_close : (j t : ℕ) (s : State) → Fine d b s → Lefts j t → Rest j t s
+    ticks_close : (j t : ℕ) (s : State) → Fine d b total s → Lefts j t → Rest j t s
     ticks_close j t s (stopped e) l = subst (λ (x : World). AllClose b left x.report) (sym (over_rest p periods j (world_at t s []) e)) tt
-    ticks_close zero t s (owes n k g) l =
+    ticks_close zero t s (awake k u c g) l =
         let e : t + 0 ≡ t = omega arith in
-        ends_here t n k s g (subst (λ u. (i : ℕ) → u + p.off ≤ i → left i ≡ steps_after (u + p.off) periods i) e l.1)
-    ticks_close (suc j) t s (owes n k g) l =
+        ends_here t k u c s g (subst (λ u. (i : ℕ) → u + p.off ≤ i → left i ≡ steps_after (u + p.off) periods i) e l.1)
+    ticks_close (suc j) t s (awake k u c g) l =
         let w = world_at t s [] in
         let r = step d (λ x. h x t) s in
-        let is_ticked : tick_on d h w ≡ ticked w r = ap (λ x. if x then w else ticked w r) (alive_by s.phase s.area s.depth n k s g.needs) in
+        let is_ticked : tick_on d h w ≡ ticked w r = ap (λ x. if x then w else ticked w r) (alive_by s.phase s.area s.depth k u c s g.stands) in
         let e : suc t + j ≡ t + suc j = omega arith in
         let here : left t ≡ j = l.0 t (omega arith) (omega arith) ∙ (omega arith) in
-        let comes = step_comes d b fit (λ x. h x t) (λ x. words_of_h x t) s.stack s.nv s.log s.words g.sized n k s.pc s.fp s.area s.phase s.depth g.needs in
-        let began = says d b fit (λ x. h x t) s.stack s.nv s.log s.words n k s.pc s.fp s.area s.phase s.depth g.needs in
-        let rest = ticks_close j (suc t) r.state (fine_after n k r.state comes) (
+        let moves = step_moves d b total fit (λ x. h x t) (λ x. words_of_h x t) s.stack s.nv s.log s.words g.sized k u c s.pc s.fp s.area s.phase s.depth g.stands in
+        let began = says d b total (λ x. h x t) s.stack s.nv s.log s.words k u c s.pc s.fp s.area s.phase s.depth g.stands in
+        let rest = ticks_close j (suc t) r.state (fine_after k u c (counted d s.phase s c) r.state moves) (
           subst (λ u. (i : ℕ) → suc t ≤ i → i < u → left i ≡ u - suc i) (sym e) (λ i a b. l.0 i (omega (arith, a)) b),
           subst
               (λ u. (i : ℕ) → u + p.off ≤ i → left i ≡ steps_after (u + p.off) periods i) (sym e) l.1,
@@ -305,4 +314,7 @@ pub attempts_close : (d : Device) (b : Bounds) (h : ℕ → ℕ → ℤ) (period
 attempts_close d b h periods fit q words before rest tick r e le =
     one_of b (steps_after 0 periods) before rest tick r
     (subst (λ l. AllClose b (steps_after 0 periods) l) (sym e)
-    (all_close d b h fit q.safe words (steps_after 0 periods) periods 0 (first_state d) (owes b.total b.safe (first_due d b h fit q.safe words q)) (λ i a. refl))) le
+    (all_close d b b.total h fit words (steps_after 0 periods) periods 0 (first_state d) first (λ i a. refl))) le
+  where
+    first : Fine d b b.total (first_state d)
+    first = awake (some_work d b) (5 + d.room + some_work d b) (untried 0) (first_at d b b.total h fit words (some_work d b) (some_takes d b q))

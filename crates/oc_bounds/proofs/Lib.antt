@@ -1,7 +1,10 @@
 pub mod Unlogged
-pub mod Needs
-pub mod Steps
-pub mod Periods
+pub mod Leaving
+pub mod Ahead
+pub mod Moving
+pub mod Carrying
+pub mod Pricing
+pub mod Sufficing
 pub mod Closing
 pub mod Attempting
 pub mod Lists

@@ -263,7 +263,6 @@ module _ (m : TMarked) (is : IsMarked m) where
 pub all_bound : BudgetsBound
 all_bound m is = bound m is
 
--- so what is told of a program bounds the runs of an image that is its code
-pub bound_by : (m : TMarked) (image : Parts) (told : TBudgets) → IsMarked m → image ≡ code_of m.program m.regions (may_write m) → told ≡ budgets m → IsBounded (device_of image) (bounds_of told)
-bound_by m image told is same e = subst (λ i. IsBounded (device_of i) (bounds_of told)) (sym same)
-    (subst (λ t. IsBounded (device_of (code_of m.program m.regions (may_write m))) (bounds_of t)) (sym e) (bound m is))
+-- and those of an image that is its code
+pub bound_by : (m : TMarked) (image : Parts) → IsMarked m → image ≡ code_of m.program m.regions (may_write m) → IsBounded (device_of image) (bounds_of (budgets m))
+bound_by m image is same = subst (λ i. IsBounded (device_of i) (bounds_of (budgets m))) (sym same) (bound m is)

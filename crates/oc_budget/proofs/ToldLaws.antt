@@ -5,7 +5,7 @@ use Rattle.oc_tree.specs.Marked.{TMarked, TRegion}
 use Rattle.oc_tree.specs.Tree.{TProgram}
 use Rattle.oc_tree.specs.declared.said.Target.{Target}
 use Rattle.oc_writes.specs.Targets.{may_write, region_targets}
-use Rattle.oc_budget.specs.Budgets.{TBudgets, budget, budgets, logged, safe_for, target_words}
+use Rattle.oc_budget.specs.Budgets.{TBudgets, budget, limited, limited_budgets, logged, safe_for, target_words}
 use Rattle.oc_budget.specs.Costs.{total}
 
 words_same : (p : TProgram) (rs : List TRegion) → map (sum_by target_words) (map (region_targets p) rs) ≡ map (logged p) rs
@@ -23,10 +23,11 @@ logged_is m ts h = words_held ts ∙ (ap (map (sum_by target_words)) h ∙ words
 abbrev told : List ℕ → List ℕ → ℕ → ℕ → TBudgets
 told rs ls t s = record { regions = rs; logged = ls; total = t; safe = s }
 
-pub told_is : (m : TMarked) (rs ls : List ℕ) (t s : ℕ) → rs ≡ map (budget m) m.regions → ls ≡ map (logged m.program) m.regions → t ≡ total m
-    → s ≡ safe_for (stack_words m.program) (map (budget m) m.regions) → told rs ls t s ≡ budgets m
+pub told_is : (m : TMarked) (rs ls : List ℕ) (t s : ℕ) → rs ≡ map limited (map (budget m) m.regions) → ls ≡ map (logged m.program) m.regions → t ≡ total m
+    → s ≡ limited (safe_for (stack_words m.program) (map (budget m) m.regions)) → told rs ls t s ≡ limited_budgets m
 told_is m rs ls t s a b e f =
+    let bs = map limited (map (budget m) m.regions) in
     ap (λ x. told x ls t s) a
-    ∙ (ap (λ x. told (map (budget m) m.regions) x t s) b
-    ∙ (ap (λ x. told (map (budget m) m.regions) (map (logged m.program) m.regions) x s) e
-    ∙ ap (told (map (budget m) m.regions) (map (logged m.program) m.regions) (total m)) f))
+    ∙ (ap (λ x. told bs x t s) b
+    ∙ (ap (λ x. told bs (map (logged m.program) m.regions) x s) e
+    ∙ ap (told bs (map (logged m.program) m.regions) (total m)) f))

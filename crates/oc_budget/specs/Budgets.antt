@@ -1,5 +1,5 @@
 -- Budgets: how many steps an execution of a region takes at most, and how long periods must be.
-use Rattle.std.specs.Prelude.{ℕ, ◌+◌, ◌*◌, List, [], ◌∷◌, map, max, filter, sum_by}
+use Rattle.std.specs.Prelude.{ℕ, ◌+◌, ◌*◌, List, [], ◌∷◌, map, max, min, filter, sum_by}
 use Rattle.oc_tree.specs.Tree.{TKind, return, TProgram}
 use Rattle.oc_tree.specs.declared.said.Target.{Target}
 use Rattle.oc_tree.specs.declared.said.Target.TheVariants as targets
@@ -56,4 +56,22 @@ budgets m = record {
   logged = map (logged m.program) m.regions;
   total = total m;
   safe = safe_for (stack_words m.program) (map (budget m) m.regions);
+}
+
+-- ---- as numbers of 64 bits
+
+abbrev pub budget_limit : ℕ
+budget_limit = 18446744073709551615
+
+-- a number, or the limit where it is greater
+abbrev pub limited : ℕ → ℕ
+limited n = min n budget_limit
+
+-- What is told in 64 bits: of each budget, and of what suffices, no more than the limit. The other numbers fit.
+abbrev pub limited_budgets : TMarked → TBudgets
+limited_budgets m = record {
+  regions = map limited (budgets m).regions;
+  logged = (budgets m).logged;
+  total = (budgets m).total;
+  safe = limited (budgets m).safe;
 }

@@ -1,5 +1,5 @@
 //! The costs of regions and of runs.
-ghost use Rattle.std.specs.Prelude.{◌≡◌, map, sum_by, IfErr, IfOk, ◌<◌, ◌^◌};
+ghost use Rattle.std.specs.Prelude.{◌≡◌, map, sum_by, IfOk, ◌<◌, ◌^◌};
 ghost use Rattle.std.specs.List.{All};
 ghost use Rattle.oc_code.specs.Code.{code_of};
 ghost use Rattle.oc_tree.specs.Regions.{region_view};
@@ -8,16 +8,15 @@ ghost use Rattle.oc_bounds.specs.Bounds.{IsBounded};
 ghost use Rattle.oc_isa.specs.Table.{device_of};
 ghost use Rattle.oc_writes.specs.Targets.{may_write};
 ghost use Rattle.oc_budget.specs.Bounding.{bounds_of};
-ghost use Rattle.oc_budget.specs.Budgets.{budget, budgets, greatest, logged, safe_for, target_words};
+ghost use Rattle.oc_budget.specs.Budgets.{budget, budgets, greatest, limited, limited_budgets, logged, safe_for, target_words};
 ghost use Rattle.oc_budget.specs.Costs.{costs};
-ghost use Rattle.oc_budget.specs.Fitting.{Explains, IsFitted};
+ghost use Rattle.oc_budget.specs.Fitting.{IsFitted};
 ghost use Rattle.oc_budget.specs.View.{budgets_view};
 
-use crate::error::BudgetError;
 use crate::held::region_spent;
 use crate::known::Known;
 use crate::order::all_costs;
-use crate::sums::{fitting, greater, plus};
+use crate::sums::{greater, plus};
 use crate::told::Budgets;
 use crate::walk::known_of;
 use oc_effects::effects::Effects;
@@ -60,14 +59,23 @@ fn all_logged(alloc: Global, targets: &[Vec<Target>]) -> Result<Vec<u32>, AllocE
     Ok(logged)
 }
 
-/// The budget of a region that logs so many words.
+/// The cost of a region that logs so many words.
 #[tactic(auto, using(crate::proofs::SpentLaws::budget_is))]
-fn region_budget(known: &Known, callees: &[u64], region: &Region, words: u32) -> Option<u64>
+fn region_cost(known: &Known, callees: &[u64], region: &Region, words: u32) -> Option<u64>
     requires callees { callees.now ≡ costs known.now }
     requires words { words ≡ logged known.now.program (region_view region.now) }
     ensures { IsFitted result (budget known.now (region_view region.now)) }
 {
     plus(region_spent(known, callees, region)?, 1 + words as u64)
+}
+
+/// The budget of a region that logs so many words.
+fn region_budget(known: &Known, callees: &[u64], region: &Region, words: u32) -> u64
+    requires callees { callees.now ≡ costs known.now }
+    requires words { words ≡ logged known.now.program (region_view region.now) }
+    ensures { result ≡ limited (budget known.now (region_view region.now)) }
+{
+    region_cost(known, callees, region, words).unwrap_or(u64::MAX)
 }
 
 /// The budgets of all regions.
@@ -76,18 +84,16 @@ fn all_budgets(
     known: &Known,
     callees: &[u64],
     words: &[u32],
-) -> Result<Vec<u64>, BudgetError>
+) -> Result<Vec<u64>, AllocError>
     requires callees { callees.now ≡ costs known.now }
     requires words { words.now ≡ map (logged known.now.program) known.now.regions }
-    ensures budgets { IfOk result (λ b. b.items ≡ map (budget known.now) known.now.regions) }
-    ensures large { IfErr result
-        (λ e. Explains e (greatest 0 (map (budget known.now) known.now.regions))) }
+    ensures { IfOk result
+        (λ b. b.items ≡ map limited (map (budget known.now) known.now.regions)) }
 {
     let mut budgets = Vec::new(alloc);
     let regions = known.regions();
     for (i, region) in regions.iter().enumerate() {
-        let budget = fitting(region_budget(known, callees, region, words[i]))?;
-        budgets.push(budget)?;
+        budgets.push(region_budget(known, callees, region, words[i]))?;
     }
     Ok(budgets)
 }
@@ -103,14 +109,14 @@ fn greatest(budgets: &[u64]) -> u64
 }
 
 /// The steps of a period that suffice, with so many words of stack.
-fn safe_for(stack: u32, budgets: &[u64]) -> Option<u64>
-    ensures { IsFitted result (safe_for stack budgets.now) }
+fn safe_for(stack: u32, budgets: &[u64]) -> u64
+    ensures { result ≡ limited (safe_for stack budgets.now) }
 {
     let words = stack as u64;
     if budgets.is_empty() {
-        Some(words + 6)
+        words + 6
     } else {
-        plus(2 * words + 9, greatest(budgets))
+        plus(2 * words + 9, greatest(budgets)).unwrap_or(u64::MAX)
     }
 }
 
@@ -119,14 +125,12 @@ fn all_told(
     marked: &Marked,
     effects: &Effects,
     image: &Image,
-) -> Result<Budgets, BudgetError>
+) -> Result<Budgets, AllocError>
     requires same { effects.now.program ≡ marked.now.program }
     requires code { image.now
         ≡ code_of marked.now.program marked.now.regions (may_write marked.now) }
     requires marked { IsMarked marked.now }
-    ensures told { IfOk result (λ b. budgets_view b ≡ budgets marked.now) }
-    // It is too large where a period that suffices has no number.
-    ensures large { IfErr result (λ e. Explains e (budgets marked.now).safe) }
+    ensures { IfOk result (λ b. budgets_view b ≡ limited_budgets marked.now) }
 {
     let known = Known::new(alloc, marked, effects)?;
     let costs = all_costs(alloc, &known)?;
@@ -134,7 +138,7 @@ fn all_told(
     let logged = all_logged(alloc, raw.targets.as_slice())?;
     let regions = all_budgets(alloc, &known, costs.as_slice(), logged.as_slice())?;
     let total = known_of(costs.as_slice(), known.main_place());
-    let safe = fitting(safe_for(raw.stack, regions.as_slice()))?;
+    let safe = safe_for(raw.stack, regions.as_slice());
     Ok(Budgets {
         regions,
         logged,
@@ -144,8 +148,8 @@ fn all_told(
 }
 
 /// The budgets of a program with regions, of which this is the image, by the effects of its
-/// statements. Where the steps of a period that suffices don't fit 64 bits, it is answered as out
-/// of memory. These numbers bound every run of the image.
+/// statements. Where a budget, or the steps of a period that suffice, don't fit 64 bits, the
+/// greatest number that does is told. The sums themselves bound every run of the image.
 pub fn budgets_by(
     alloc: Global,
     marked: &Marked,
@@ -155,9 +159,9 @@ pub fn budgets_by(
     requires same { effects.now.program ≡ marked.now.program }
     requires code { image.now
         ≡ code_of marked.now.program marked.now.regions (may_write marked.now) }
-    ensures told { IfOk result (λ b. budgets_view b ≡ budgets marked.now) }
+    ensures told { IfOk result (λ b. budgets_view b ≡ limited_budgets marked.now) }
     ensures bounds { IfOk result
-        (λ b. IsBounded (device_of image.now) (bounds_of (budgets_view b))) }
+        (λ _. IsBounded (device_of image.now) (bounds_of (budgets marked.now))) }
 {
     marked.checked();
     match all_told(alloc, marked, effects, image) {
@@ -169,9 +173,9 @@ pub fn budgets_by(
 /// The same of a program whose effects are not at hand.
 pub fn budgets(alloc: Global, marked: &Marked, image: &Image) -> Result<Budgets, Memory>
     requires { image.now ≡ code_of marked.now.program marked.now.regions (may_write marked.now) }
-    ensures told { IfOk result (λ b. budgets_view b ≡ budgets marked.now) }
+    ensures told { IfOk result (λ b. budgets_view b ≡ limited_budgets marked.now) }
     ensures bounds { IfOk result
-        (λ b. IsBounded (device_of image.now) (bounds_of (budgets_view b))) }
+        (λ _. IsBounded (device_of image.now) (bounds_of (budgets marked.now))) }
 {
     match Effects::new(alloc, marked.checked()) {
         Ok(effects) => budgets_by(alloc, marked, &effects, image),

@@ -2,7 +2,6 @@
 #![tactic(auto)]
 
 pub mod costs;
-pub mod error;
 mod exprs;
 mod held;
 mod known;

@@ -113,6 +113,7 @@ fn bytes_of(number: u32) -> [u8; 4]
 fn put_number<O: Sink>(number: u32, sink: &mut O) -> Result<(), SinkFault>
     ensures ok { OnOk result (O.took sink.old (number_bytes number) sink.new) }
     ensures part { OnErr result (TookPart O.took sink.old (number_bytes number) sink.new) }
+    ensures calm { OnOk result (O.faults sink.new ≡ O.faults sink.old) }
     ensures cause { OnErr result (Rose (O.faults sink.old) (O.faults sink.new)) }
     ensures count { O.faults sink.old ≤ O.faults sink.new }
 {
@@ -124,6 +125,7 @@ fn put_name<O: Sink>(name: &Name, sink: &mut O) -> Result<(), SinkFault>
     requires { IsFew name.now }
     ensures ok { OnOk result (O.took sink.old (name_bytes name.now) sink.new) }
     ensures part { OnErr result (TookPart O.took sink.old (name_bytes name.now) sink.new) }
+    ensures calm { OnOk result (O.faults sink.new ≡ O.faults sink.old) }
     ensures cause { OnErr result (Rose (O.faults sink.old) (O.faults sink.new)) }
     ensures count { O.faults sink.old ≤ O.faults sink.new }
 {
@@ -140,6 +142,7 @@ fn put_nv<O: Sink>(name: &Name, nv: &ImageNv, sink: &mut O) -> Result<(), SinkFa
     ensures part { OnErr result (TookPart O.took sink.old
         (name_bytes name.now ++ (number_bytes nv.now.words ++ word_bytes nv.now.initial))
         sink.new) }
+    ensures calm { OnOk result (O.faults sink.new ≡ O.faults sink.old) }
     ensures cause { OnErr result (Rose (O.faults sink.old) (O.faults sink.new)) }
     ensures count { O.faults sink.old ≤ O.faults sink.new }
 {
@@ -160,6 +163,7 @@ fn put_function<O: Sink>(function: &ImageFunction, sink: &mut O) -> Result<(), S
     requires { IsFew function.now.name }
     ensures ok { OnOk result (O.took sink.old (function_bytes function.now) sink.new) }
     ensures part { OnErr result (TookPart O.took sink.old (function_bytes function.now) sink.new) }
+    ensures calm { OnOk result (O.faults sink.new ≡ O.faults sink.old) }
     ensures cause { OnErr result (Rose (O.faults sink.old) (O.faults sink.new)) }
     ensures count { O.faults sink.old ≤ O.faults sink.new }
 {
@@ -180,6 +184,7 @@ fn put_function<O: Sink>(function: &ImageFunction, sink: &mut O) -> Result<(), S
 fn put_target<O: Sink>(target: &Target, sink: &mut O) -> Result<(), SinkFault>
     ensures ok { OnOk result (O.took sink.old (target_bytes target.now) sink.new) }
     ensures part { OnErr result (TookPart O.took sink.old (target_bytes target.now) sink.new) }
+    ensures calm { OnOk result (O.faults sink.new ≡ O.faults sink.old) }
     ensures cause { OnErr result (Rose (O.faults sink.old) (O.faults sink.new)) }
     ensures count { O.faults sink.old ≤ O.faults sink.new }
 {
@@ -194,6 +199,7 @@ fn put_target<O: Sink>(target: &Target, sink: &mut O) -> Result<(), SinkFault>
 fn put_placed<O: Sink>(placed: &Placed, sink: &mut O) -> Result<(), SinkFault>
     ensures ok { OnOk result (O.took sink.old (placed_bytes placed.now) sink.new) }
     ensures part { OnErr result (TookPart O.took sink.old (placed_bytes placed.now) sink.new) }
+    ensures calm { OnOk result (O.faults sink.new ≡ O.faults sink.old) }
     ensures cause { OnErr result (Rose (O.faults sink.old) (O.faults sink.new)) }
     ensures count { O.faults sink.old ≤ O.faults sink.new }
 {
@@ -216,6 +222,7 @@ fn put_names<O: Sink>(names: &[Name], sink: &mut O) -> Result<(), SinkFault>
     ensures ok { OnOk result (O.took sink.old (list_bytes name_bytes names.now) sink.new) }
     ensures part { OnErr result
         (TookPart O.took sink.old (list_bytes name_bytes names.now) sink.new) }
+    ensures calm { OnOk result (O.faults sink.new ≡ O.faults sink.old) }
     ensures cause { OnErr result (Rose (O.faults sink.old) (O.faults sink.new)) }
     ensures count { O.faults sink.old ≤ O.faults sink.new }
 {
@@ -238,6 +245,7 @@ fn put_nvs<O: Sink>(names: &[Name], nvs: &[ImageNv], sink: &mut O) -> Result<(),
     ensures ok { OnOk result (O.took sink.old (all_nvs_bytes names.now nvs.now) sink.new) }
     ensures part { OnErr result
         (TookPart O.took sink.old (all_nvs_bytes names.now nvs.now) sink.new) }
+    ensures calm { OnOk result (O.faults sink.new ≡ O.faults sink.old) }
     ensures cause { OnErr result (Rose (O.faults sink.old) (O.faults sink.new)) }
     ensures count { O.faults sink.old ≤ O.faults sink.new }
 {
@@ -259,6 +267,7 @@ fn put_functions<O: Sink>(functions: &[ImageFunction], sink: &mut O) -> Result<(
     ensures ok { OnOk result (O.took sink.old (list_bytes function_bytes functions.now) sink.new) }
     ensures part { OnErr result
         (TookPart O.took sink.old (list_bytes function_bytes functions.now) sink.new) }
+    ensures calm { OnOk result (O.faults sink.new ≡ O.faults sink.old) }
     ensures cause { OnErr result (Rose (O.faults sink.old) (O.faults sink.new)) }
     ensures count { O.faults sink.old ≤ O.faults sink.new }
 {
@@ -279,6 +288,7 @@ fn put_region<O: Sink>(targets: &[Target], sink: &mut O) -> Result<(), SinkFault
     ensures ok { OnOk result (O.took sink.old (list_bytes target_bytes targets.now) sink.new) }
     ensures part { OnErr result
         (TookPart O.took sink.old (list_bytes target_bytes targets.now) sink.new) }
+    ensures calm { OnOk result (O.faults sink.new ≡ O.faults sink.old) }
     ensures cause { OnErr result (Rose (O.faults sink.old) (O.faults sink.new)) }
     ensures count { O.faults sink.old ≤ O.faults sink.new }
 {
@@ -301,6 +311,7 @@ fn put_regions<O: Sink>(regions: &[Vec<Target>], sink: &mut O) -> Result<(), Sin
         (list_bytes (list_bytes target_bytes) (map (λ v. v.items) regions.now)) sink.new) }
     ensures part { OnErr result (TookPart O.took sink.old
         (list_bytes (list_bytes target_bytes) (map (λ v. v.items) regions.now)) sink.new) }
+    ensures calm { OnOk result (O.faults sink.new ≡ O.faults sink.old) }
     ensures cause { OnErr result (Rose (O.faults sink.old) (O.faults sink.new)) }
     ensures count { O.faults sink.old ≤ O.faults sink.new }
 {
@@ -321,6 +332,7 @@ fn put_code<O: Sink>(code: &[Placed], sink: &mut O) -> Result<(), SinkFault>
     ensures ok { OnOk result (O.took sink.old (list_bytes placed_bytes code.now) sink.new) }
     ensures part { OnErr result
         (TookPart O.took sink.old (list_bytes placed_bytes code.now) sink.new) }
+    ensures calm { OnOk result (O.faults sink.new ≡ O.faults sink.old) }
     ensures cause { OnErr result (Rose (O.faults sink.old) (O.faults sink.new)) }
     ensures count { O.faults sink.old ≤ O.faults sink.new }
 {
@@ -342,6 +354,7 @@ fn put_parts<O: Sink>(image: &RawImage, sink: &mut O) -> Result<(), SinkFault>
     ensures ok { OnOk result (O.took sink.old (files.image_bytes (parts_of image.now)) sink.new) }
     ensures part { OnErr result
         (TookPart O.took sink.old (files.image_bytes (parts_of image.now)) sink.new) }
+    ensures calm { OnOk result (O.faults sink.new ≡ O.faults sink.old) }
     ensures cause { OnErr result (Rose (O.faults sink.old) (O.faults sink.new)) }
     ensures count { O.faults sink.old ≤ O.faults sink.new }
 {
@@ -374,6 +387,7 @@ pub fn image_bytes<O: Sink>(image: &Image, sink: &mut O) -> Result<(), SinkFault
     requires { IsSmall image.now }
     ensures ok { OnOk result (O.took sink.old (files.image_bytes image.now) sink.new) }
     ensures part { OnErr result (TookPart O.took sink.old (files.image_bytes image.now) sink.new) }
+    ensures calm { OnOk result (O.faults sink.new ≡ O.faults sink.old) }
     ensures cause { OnErr result (Rose (O.faults sink.old) (O.faults sink.new)) }
     ensures count { O.faults sink.old ≤ O.faults sink.new }
 {

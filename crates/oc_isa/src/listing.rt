@@ -72,6 +72,7 @@ fn put_field<O: Sink>(word: &[u8], field: &[u8], sink: &mut O) -> Result<(), Sin
     ensures ok { OnOk result (O.took sink.old (word.now ++ (field.now ++ codes "\n")) sink.new) }
     ensures part { OnErr result
         (TookPart O.took sink.old (word.now ++ (field.now ++ codes "\n")) sink.new) }
+    ensures calm { OnOk result (O.faults sink.new ≡ O.faults sink.old) }
     ensures cause { OnErr result (Rose (O.faults sink.old) (O.faults sink.new)) }
     ensures count { O.faults sink.old ≤ O.faults sink.new }
 {
@@ -84,6 +85,7 @@ fn put_number<O: Sink>(word: &[u8], number: u32, sink: &mut O) -> Result<(), Sin
         (O.took sink.old (word.now ++ (decimal number ++ codes "\n")) sink.new) }
     ensures part { OnErr result
         (TookPart O.took sink.old (word.now ++ (decimal number ++ codes "\n")) sink.new) }
+    ensures calm { OnOk result (O.faults sink.new ≡ O.faults sink.old) }
     ensures cause { OnErr result (Rose (O.faults sink.old) (O.faults sink.new)) }
     ensures count { O.faults sink.old ≤ O.faults sink.new }
 {
@@ -98,6 +100,7 @@ fn put_push<O: Sink>(number: i32, sink: &mut O) -> Result<(), SinkFault>
     ensures part { OnErr result
         (TookPart O.took sink.old (codes " push " ++ (signed_decimal number ++ codes "\n"))
         sink.new) }
+    ensures calm { OnOk result (O.faults sink.new ≡ O.faults sink.old) }
     ensures cause { OnErr result (Rose (O.faults sink.old) (O.faults sink.new)) }
     ensures count { O.faults sink.old ≤ O.faults sink.new }
 {
@@ -113,6 +116,7 @@ fn put_probe<O: Sink>(kind: ProbeKind, number: u32, sink: &mut O) -> Result<(), 
     ensures part { OnErr result
         (TookPart O.took sink.old (codes " probe "
         ++ (probe_word kind ++ (codes " " ++ (decimal number ++ codes "\n")))) sink.new) }
+    ensures calm { OnOk result (O.faults sink.new ≡ O.faults sink.old) }
     ensures cause { OnErr result (Rose (O.faults sink.old) (O.faults sink.new)) }
     ensures count { O.faults sink.old ≤ O.faults sink.new }
 {
@@ -128,6 +132,7 @@ fn put_instr<O: Sink>(instr: &Instr, image: &RawImage, sink: &mut O) -> Result<(
         (O.took sink.old (further (fields_of (parts_of image.now) instr.now)) sink.new) }
     ensures part { OnErr result
         (TookPart O.took sink.old (further (fields_of (parts_of image.now) instr.now)) sink.new) }
+    ensures calm { OnOk result (O.faults sink.new ≡ O.faults sink.old) }
     ensures cause { OnErr result (Rose (O.faults sink.old) (O.faults sink.new)) }
     ensures count { O.faults sink.old ≤ O.faults sink.new }
 {
@@ -165,6 +170,7 @@ fn put_front<O: Sink>(address: usize, site: u32, sink: &mut O) -> Result<(), Sin
         (O.took sink.old (decimal address ++ (codes " " ++ decimal site)) sink.new) }
     ensures part { OnErr result
         (TookPart O.took sink.old (decimal address ++ (codes " " ++ decimal site)) sink.new) }
+    ensures calm { OnOk result (O.faults sink.new ≡ O.faults sink.old) }
     ensures cause { OnErr result (Rose (O.faults sink.old) (O.faults sink.new)) }
     ensures count { O.faults sink.old ≤ O.faults sink.new }
 {
@@ -187,6 +193,7 @@ fn put_placed<O: Sink>(
         (O.took sink.old (code_line (parts_of image.now) address placed.now) sink.new) }
     ensures part { OnErr result
         (TookPart O.took sink.old (code_line (parts_of image.now) address placed.now) sink.new) }
+    ensures calm { OnOk result (O.faults sink.new ≡ O.faults sink.old) }
     ensures cause { OnErr result (Rose (O.faults sink.old) (O.faults sink.new)) }
     ensures count { O.faults sink.old ≤ O.faults sink.new }
 {
@@ -204,6 +211,7 @@ fn put_code<O: Sink>(image: &RawImage, sink: &mut O) -> Result<(), SinkFault>
     ensures part { OnErr result
         (TookPart O.took sink.old (code_lines (parts_of image.now) 0 (parts_of image.now).code)
         sink.new) }
+    ensures calm { OnOk result (O.faults sink.new ≡ O.faults sink.old) }
     ensures cause { OnErr result (Rose (O.faults sink.old) (O.faults sink.new)) }
     ensures count { O.faults sink.old ≤ O.faults sink.new }
 {
@@ -231,6 +239,7 @@ fn put_place<O: Sink>(
         (TookPart O.took sink.old (codes "log "
         ++ (decimal region ++ (kind.now
         ++ (decimal place ++ (codes " " ++ (decimal len ++ codes "\n")))))) sink.new) }
+    ensures calm { OnOk result (O.faults sink.new ≡ O.faults sink.old) }
     ensures cause { OnErr result (Rose (O.faults sink.old) (O.faults sink.new)) }
     ensures count { O.faults sink.old ≤ O.faults sink.new }
 {
@@ -248,6 +257,7 @@ fn put_target<O: Sink>(region: usize, target: &Target, sink: &mut O) -> Result<(
     ensures ok { OnOk result (O.took sink.old (target_line region target.now) sink.new) }
     ensures part { OnErr result
         (TookPart O.took sink.old (target_line region target.now) sink.new) }
+    ensures calm { OnOk result (O.faults sink.new ≡ O.faults sink.old) }
     ensures cause { OnErr result (Rose (O.faults sink.old) (O.faults sink.new)) }
     ensures count { O.faults sink.old ≤ O.faults sink.new }
 {
@@ -262,6 +272,7 @@ fn put_region<O: Sink>(region: usize, targets: &[Target], sink: &mut O) -> Resul
     ensures ok { OnOk result (O.took sink.old (region_lines region targets.now) sink.new) }
     ensures part { OnErr result
         (TookPart O.took sink.old (region_lines region targets.now) sink.new) }
+    ensures calm { OnOk result (O.faults sink.new ≡ O.faults sink.old) }
     ensures cause { OnErr result (Rose (O.faults sink.old) (O.faults sink.new)) }
     ensures count { O.faults sink.old ≤ O.faults sink.new }
 {
@@ -279,6 +290,7 @@ fn put_targets<O: Sink>(regions: &[Vec<Target>], sink: &mut O) -> Result<(), Sin
         (O.took sink.old (target_lines 1 (map (λ v. v.items) regions.now)) sink.new) }
     ensures part { OnErr result
         (TookPart O.took sink.old (target_lines 1 (map (λ v. v.items) regions.now)) sink.new) }
+    ensures calm { OnOk result (O.faults sink.new ≡ O.faults sink.old) }
     ensures cause { OnErr result (Rose (O.faults sink.old) (O.faults sink.new)) }
     ensures count { O.faults sink.old ≤ O.faults sink.new }
 {
@@ -294,6 +306,7 @@ fn put_targets<O: Sink>(regions: &[Vec<Target>], sink: &mut O) -> Result<(), Sin
 fn put_function<O: Sink>(function: &ImageFunction, sink: &mut O) -> Result<(), SinkFault>
     ensures ok { OnOk result (O.took sink.old (function_line function.now) sink.new) }
     ensures part { OnErr result (TookPart O.took sink.old (function_line function.now) sink.new) }
+    ensures calm { OnOk result (O.faults sink.new ≡ O.faults sink.old) }
     ensures cause { OnErr result (Rose (O.faults sink.old) (O.faults sink.new)) }
     ensures count { O.faults sink.old ≤ O.faults sink.new }
 {
@@ -320,6 +333,7 @@ fn put_function<O: Sink>(function: &ImageFunction, sink: &mut O) -> Result<(), S
 fn put_functions<O: Sink>(functions: &[ImageFunction], sink: &mut O) -> Result<(), SinkFault>
     ensures ok { OnOk result (O.took sink.old (function_lines functions.now) sink.new) }
     ensures part { OnErr result (TookPart O.took sink.old (function_lines functions.now) sink.new) }
+    ensures calm { OnOk result (O.faults sink.new ≡ O.faults sink.old) }
     ensures cause { OnErr result (Rose (O.faults sink.old) (O.faults sink.new)) }
     ensures count { O.faults sink.old ≤ O.faults sink.new }
 {
@@ -336,6 +350,7 @@ fn put_functions<O: Sink>(functions: &[ImageFunction], sink: &mut O) -> Result<(
 pub fn listing<O: Sink>(image: &Image, sink: &mut O) -> Result<(), SinkFault>
     ensures ok { OnOk result (O.took sink.old (listing_text image.now) sink.new) }
     ensures part { OnErr result (TookPart O.took sink.old (listing_text image.now) sink.new) }
+    ensures calm { OnOk result (O.faults sink.new ≡ O.faults sink.old) }
     ensures cause { OnErr result (Rose (O.faults sink.old) (O.faults sink.new)) }
     ensures count { O.faults sink.old ≤ O.faults sink.new }
 {

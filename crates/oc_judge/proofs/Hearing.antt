@@ -2,6 +2,7 @@
 use Rattle.std.proofs.Common.{◌≡◌, refl, sym, ap, ◌∙◌, subst, ℕ, ℤ, ◌+◌, suc, ◌<◌, ◌≤◌, arith, Bool, true, false, ◌&&◌, List, length, map, drop, get_or, Option, Some, None}
 use Rattle.std.proofs.lemmas.Bool.{and_from}
 use Rattle.std.proofs.lemmas.List.{drop_more, drop_all}
+use Rattle.oc_tree.specs.Form.{Numbered}
 use Rattle.oc_tree.specs.Tree.{TProgram}
 use Rattle.oc_tree.specs.Marked.{TRegion}
 use Rattle.oc_tree.specs.declared.said.Ending.{Ending}
@@ -16,14 +17,14 @@ use Rattle.oc_meaning.specs.Exec.{Outcome}
 use Rattle.oc_meaning.specs.Run.{words_of}
 use Rattle.oc_steps.specs.Steps.{Frame}
 use Rattle.oc_steps.specs.Auditing.{Finds, all, breaks, goes, IsHeard, first_watch}
-use Rattle.oc_steps.specs.Fold.{Rises, Says, Stands, Watch, Way, at_end, has_words, if_so, is_said, may_show, on_next, steps_on, with_shown, words}
+use Rattle.oc_steps.specs.Fold.{Says, Stands, Watch, Way, at_end, has_words, if_so, is_said, may_show, on_next, steps_on, with_shown, words}
 use Rattle.oc_steps.specs.Heard.{store_in}
 use Rattle.oc_steps.specs.Watching.{IsMade, IsTelling}
 use Rattle.oc_steps.proofs.Auditing.{finds_right}
 use Rattle.oc_judge.specs.Stores.{completion_at}
 use Rattle.oc_judge.specs.Verdicts.{IsVerdict, found, reported}
 use Rattle.oc_judge.specs.Watches.{IsTold, answered, halts_at, watch_view}
-use Rattle.oc_judge.specs.Ways.{IsNext, KeepsRest}
+use Rattle.oc_judge.specs.Ways.{Comes, KeepsRest}
 use Rattle.oc_judge.specs.declared.store.Completion.{Completion}
 use Rattle.oc_judge.specs.declared.store.Completion.TheVariants as completions
 use Rattle.oc_judge.specs.declared.watch.Watch.{Watch as Watching}
@@ -47,32 +48,21 @@ pub first_false : (a b : Bool) → a ≡ false → a && b ≡ false
 first_false a b h = ap (λ x. x && b) h
 
 module _ (p : TProgram) (rs : List TRegion) (nv : Option (List ℤ)) where
-  -- an event of the source that may be told
-  pub shown_yes : (w : Watch) (a : Shown) (e : Event) (now later : Way) → IsNext p rs w.now (Says e now) → is_said e.said (Showed a) ≡ true → may_show p nv now a e ≡ true
-      → later ≡ with_shown p nv now a e → IsTold p rs nv w (Showed a) (Some (record w { now = later }))
-  shown_yes w a e now later h k m s = record {
-    next = Says e now;
-    comes = h;
-    made = tt;
-    answer = ap (λ v. Some (record w { now = v })) s
-        ∙ sym (ap (λ b. if_so p nv b (record w { now = with_shown p nv now a e })) (and_from (is_said e.said (Showed a)) (may_show p nv now a e) k m));
-  }
-
-  pub shown_no : (w : Watch) (a : Shown) (e : Event) (now : Way) → IsNext p rs w.now (Says e now) → is_said e.said (Showed a) && may_show p nv now a e ≡ false
-      → IsTold p rs nv w (Showed a) None
-  shown_no w a e now h k = record {
-    next = Says e now;
-    comes = h;
-    made = tt;
-    answer = sym (ap (λ b. if_so p nv b (record w { now = with_shown p nv now a e })) k);
-  }
+  -- an event of the source that may be told, or not
+  pub shown : (w : Watch) (a : Shown) (e : Event) (now : Way) (after : Watching) (b : Bool) → Comes p rs w.now (Says e now) → b ≡ is_said e.said (Showed a) && may_show p nv now a e
+      → (b ≡ true → watch_view after ≡ record w { now = with_shown p nv now a e }) → IsTold p rs nv w (Showed a) (answered b after)
+  shown w a e now after b h k s = record { next = Says e now; comes = h; made = tt; answer = by b s ∙ ap (λ b. if_so p nv b (record w { now = with_shown p nv now a e })) k }
+    where
+      by : (b : Bool) → (b ≡ true → watch_view after ≡ record w { now = with_shown p nv now a e }) → answered b after ≡ if_so p nv b (record w { now = with_shown p nv now a e })
+      by true s = ap Some (s refl)
+      by false s = refl
 
   words_at : (now : Way) (c : Completion) (σ : Store) → now.out ≡ completion_at c σ → (b : Bool) → b ≡ has_words p nv nv (words_of σ.nv) → has_words p nv nv (words p nv now.out) ≡ b
   words_at now c σ o b e =
       ap (λ q. has_words p nv nv (words_of (store_in q).nv)) o ∙ ap (λ s. has_words p nv nv (words_of s.nv)) (store_at c σ) ∙ sym e
 
   -- a trap
-  pub ended_yes : (w : Watch) (how : Ending) (e : Event) (now : Way) (c : Completion) (σ : Store) → now.out ≡ completion_at c σ → IsNext p rs w.now (Says e now)
+  pub ended_yes : (w : Watch) (how : Ending) (e : Event) (now : Way) (c : Completion) (σ : Store) → now.out ≡ completion_at c σ → Comes p rs w.now (Says e now)
       → is_said e.said (Ended how) ≡ true → true ≡ has_words p nv nv (words_of σ.nv) → IsTold p rs nv w (Ended how) (Some (record w { now = record now { over = true } }))
   ended_yes w how e now c σ o h k m = record {
     next = Says e now;
@@ -82,7 +72,7 @@ module _ (p : TProgram) (rs : List TRegion) (nv : Option (List ℤ)) where
         (and_from (is_said e.said (Ended how)) (has_words p nv nv (words p nv now.out)) k (words_at now c σ o true m)));
   }
 
-  pub ended_other : (w : Watch) (how : Ending) (e : Event) (now : Way) → IsNext p rs w.now (Says e now) → is_said e.said (Ended how) ≡ false → IsTold p rs nv w (Ended how) None
+  pub ended_other : (w : Watch) (how : Ending) (e : Event) (now : Way) → Comes p rs w.now (Says e now) → is_said e.said (Ended how) ≡ false → IsTold p rs nv w (Ended how) None
   ended_other w how e now h k = record {
     next = Says e now;
     comes = h;
@@ -90,7 +80,7 @@ module _ (p : TProgram) (rs : List TRegion) (nv : Option (List ℤ)) where
     answer = sym (ap (λ b. if_so p nv b (record w { now = record now { over = true } })) (first_false (is_said e.said (Ended how)) (has_words p nv nv (words p nv now.out)) k));
   }
 
-  pub ended_no : (w : Watch) (how : Ending) (e : Event) (now : Way) (c : Completion) (σ : Store) → now.out ≡ completion_at c σ → IsNext p rs w.now (Says e now)
+  pub ended_no : (w : Watch) (how : Ending) (e : Event) (now : Way) (c : Completion) (σ : Store) → now.out ≡ completion_at c σ → Comes p rs w.now (Says e now)
       → false ≡ has_words p nv nv (words_of σ.nv) → IsTold p rs nv w (Ended how) None
   ended_no w how e now c σ o h m = record {
     next = Says e now;
@@ -110,7 +100,7 @@ module _ (p : TProgram) (rs : List TRegion) (nv : Option (List ℤ)) where
       by (completions.Returned v) = refl
       by completions.Trapped = refl
 
-  pub halted_yes : (w : Watch) (now : Way) (c : Completion) (σ : Store) → now.out ≡ completion_at c σ → IsNext p rs w.now (Stands now) → true ≡ halts_at c now.over
+  pub halted_yes : (w : Watch) (now : Way) (c : Completion) (σ : Store) → now.out ≡ completion_at c σ → Comes p rs w.now (Stands now) → true ≡ halts_at c now.over
       → true ≡ has_words p nv nv (words_of σ.nv) → IsTold p rs nv w (Ended Halted) (Some (record w { now = record now { over = true } }))
   halted_yes w now c σ o h k m = record {
     next = Stands now;
@@ -119,7 +109,7 @@ module _ (p : TProgram) (rs : List TRegion) (nv : Option (List ℤ)) where
     answer = sym (at_went w now c σ true o (sym (and_from (halts_at c now.over) (has_words p nv nv (words_of σ.nv)) (sym k) (sym m))));
   }
 
-  pub halted_not : (w : Watch) (now : Way) (c : Completion) (σ : Store) → now.out ≡ completion_at c σ → IsNext p rs w.now (Stands now) → false ≡ halts_at c now.over
+  pub halted_not : (w : Watch) (now : Way) (c : Completion) (σ : Store) → now.out ≡ completion_at c σ → Comes p rs w.now (Stands now) → false ≡ halts_at c now.over
       → IsTold p rs nv w (Ended Halted) None
   halted_not w now c σ o h k = record {
     next = Stands now;
@@ -128,7 +118,7 @@ module _ (p : TProgram) (rs : List TRegion) (nv : Option (List ℤ)) where
     answer = sym (at_went w now c σ false o (sym (first_false (halts_at c now.over) (has_words p nv nv (words_of σ.nv)) (sym k))));
   }
 
-  pub halted_no : (w : Watch) (now : Way) (c : Completion) (σ : Store) → now.out ≡ completion_at c σ → IsNext p rs w.now (Stands now) → false ≡ has_words p nv nv (words_of σ.nv)
+  pub halted_no : (w : Watch) (now : Way) (c : Completion) (σ : Store) → now.out ≡ completion_at c σ → Comes p rs w.now (Stands now) → false ≡ has_words p nv nv (words_of σ.nv)
       → IsTold p rs nv w (Ended Halted) None
   halted_no w now c σ o h m = record {
     next = Stands now;
@@ -139,10 +129,10 @@ module _ (p : TProgram) (rs : List TRegion) (nv : Option (List ℤ)) where
 
   -- what is told is heard
   pub heard : (w : Watch) (s : Said) (a : Option Watch) → IsTold p rs nv w s a
-      → (n : ℕ) × IsMade (steps_on p rs n w.now) × Rises p (steps_on p rs n w.now) × (a ≡ on_next p nv rs w s (steps_on p rs n w.now))
+      → (n : ℕ) × IsMade (steps_on p rs n w.now) × (a ≡ on_next p nv rs w s (steps_on p rs n w.now))
   heard w s a h =
-      let q = subst (λ q. IsMade q × Rises p q × (a ≡ on_next p nv rs w s q)) (sym h.comes.0.1) (h.made, h.comes.1, h.answer) in
-      (h.comes.0.0, q.0, q.1, q.2)
+      let q = subst (λ q. IsMade q × (a ≡ on_next p nv rs w s q)) (sym h.comes.1) (h.made, h.answer) in
+      (h.comes.0, q.0, q.1)
 
   telling : (w : Watch) (s : Said) (a : Option Watch) → IsTelling s → IsTold p rs nv w s a → IsHeard p rs nv w s a
   telling w (Sensed z v) a t h = heard w (Sensed z v) a h
@@ -186,7 +176,7 @@ module _ (p : TProgram) (rs : List TRegion) (nv : Option (List ℤ)) where
   ends items R w i h inv = inv None (subst (λ l. Finds p rs nv w (map told_of l) (i + 1) None) (sym (drop_all i items h)) all)
 
 -- what is found is so
-pub verdict : (p : TProgram) (rs : List TRegion) (items : List Item) (nv : Option (List ℤ)) (v : Verdict)
+pub verdict : (p : TProgram) (rs : List TRegion) (items : List Item) (nv : Option (List ℤ)) (v : Verdict) → Numbered p
     → Finds p rs nv (first_watch p rs) (map told_of items) 1 (found v) → IsVerdict p rs (reported items nv) v
-verdict p rs items nv verdicts.Honest f = finds_right p rs (reported items nv) None f
-verdict p rs items nv (verdicts.Breaks n) f = finds_right p rs (reported items nv) (Some n) f
+verdict p rs items nv verdicts.Honest numbered f = finds_right p rs (reported items nv) None numbered f
+verdict p rs items nv (verdicts.Breaks n) numbered f = finds_right p rs (reported items nv) (Some n) numbered f

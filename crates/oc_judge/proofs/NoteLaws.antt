@@ -10,9 +10,9 @@ use Rattle.oc_tree.specs.Numbers.{block_statements}
 use Rattle.oc_tree.specs.Places.{Place, Placed, behind, in_branch, in_loop, at_start, kind_placed, else_placed, block_placed, stmts_placed, placed}
 use Rattle.oc_tree.specs.Marked.{function_of}
 use Rattle.oc_tree.proofs.Maps.{map_or, map_cond}
-use Rattle.oc_tree.proofs.Grouped.{ids, functions_ids}
+use Rattle.oc_tree.proofs.Grouped.{ids}
 use Rattle.oc_honest.specs.Timely.{set_in, set_at, set_of}
-use Rattle.oc_judge.proofs.Puts.{position_first, position_later}
+use Rattle.oc_steps.proofs.Homes.{body_ids, position_first, position_later}
 use Rattle.oc_judge.specs.Notes.{note_of, kind_note, else_note, block_note, stmts_note, set_or, set_from}
 
 module _ (n : ℕ) where
@@ -66,13 +66,6 @@ module _ (n : ℕ) where
           → (b || list_any (λ m. m == n) (ids ps)) ≡ is_there (cond b (Some a) (find (λ a. a.id == n) ps))
       by true h = refl
       by false h = h
-
-  append-none : {A : Type 0} (xs : List A) → xs ++ [] ≡ xs
-  append-none [] = refl
-  append-none (x ∷ xs) = ap (λ l. x ∷ l) (append-none xs)
-
-  body_ids : (f : TFunction) → ids (block_placed (at_start f) f.body) ≡ block_statements f.body
-  body_ids f = sym (ap ids (append-none (block_placed (at_start f) f.body))) ∙ functions_ids (f ∷ []) ∙ append-none (block_statements f.body)
 
   has_it : (f : TFunction) → has f ≡ is_there (find (λ a. a.id == n) (block_placed (at_start f) f.body))
   has_it f = sym (ap (list_any (λ m. m == n)) (body_ids f)) ∙ there (block_placed (at_start f) f.body)

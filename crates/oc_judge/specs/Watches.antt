@@ -6,7 +6,7 @@ use Rattle.oc_tree.specs.declared.said.Said.{Said}
 use Rattle.oc_steps.specs.Fold as fold
 use Rattle.oc_steps.specs.Fold.{on_next}
 use Rattle.oc_steps.specs.Watching.{IsMade}
-use Rattle.oc_judge.specs.Ways.{IsNext, way_view}
+use Rattle.oc_judge.specs.Ways.{Comes, way_view}
 use Rattle.oc_judge.specs.declared.store.Completion.{Completion}
 use Rattle.oc_judge.specs.declared.store.Completion.TheVariants as completions
 use Rattle.oc_judge.specs.declared.way.Way.{Way}
@@ -37,6 +37,6 @@ module _ (p : TProgram) (regions : List TRegion) (nv : Option (List ℤ)) where
   -- this is the answer to an item that says what a run tells
   pub record IsTold (w : fold.Watch) (s : Said) (a : Option fold.Watch) : Type 0 where
     pub next : fold.Next
-    pub comes : IsNext p regions w.now next
+    pub comes : Comes p regions w.now next
     pub made : IsMade next
     pub answer : a ≡ on_next p nv regions w s next

@@ -3,7 +3,7 @@ use Rattle.std.specs.Prelude.{◌≡◌, ℕ, List, map, Option, Some, None}
 use Rattle.oc_tree.specs.Tree.{TProgram}
 use Rattle.oc_tree.specs.Marked.{TRegion}
 use Rattle.oc_steps.specs.Fold as fold
-use Rattle.oc_steps.specs.Fold.{Rises, steps_on}
+use Rattle.oc_steps.specs.Fold.{steps_on}
 use Rattle.oc_judge.specs.Values.{age_view}
 use Rattle.oc_judge.specs.Stores.{completion_at, event_view}
 use Rattle.oc_judge.specs.Frames.{frames_view}
@@ -49,7 +49,3 @@ module _ (p : TProgram) (regions : List TRegion) where
   -- some steps on, it does this next
   abbrev pub Comes : fold.Way → fold.Next → Type 0
   Comes before next = (n : ℕ) × (steps_on p regions n before ≡ next)
-
-  -- and that is no tag of an earlier instance
-  abbrev pub IsNext : fold.Way → fold.Next → Type 0
-  IsNext before next = Comes before next × Rises p next

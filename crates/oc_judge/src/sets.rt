@@ -1,19 +1,13 @@
 //! Consistent sets.
-ghost use Rattle.std.specs.Prelude.{◌≡◌, ◌<◌, find, length, option_map, position, IfSome, OnOk};
-ghost use Rattle.oc_tree.specs.View.{program_view};
-ghost use Rattle.oc_steps.specs.Fold.{falls, is_one, is_set, may_tag, put_instance, tag_age, with_tag};
-ghost use Rattle.oc_honest.specs.Timely.{set_of};
+ghost use Rattle.std.specs.Prelude.{◌≡◌, ◌<◌, find, length, option_map, position, vec_len, vec_capacity, IfSome};
+ghost use Rattle.oc_steps.specs.Fold.{is_one, is_set, may_tag, put_instance, tag_age, with_tag};
 ghost use Rattle.oc_judge.specs.Stores.{event_view};
 ghost use Rattle.oc_judge.specs.Values.{age_view};
 ghost use Rattle.oc_judge.specs.Ways.{instance_view, sets_view};
 
 use crate::age::Age;
-use crate::notes::set_of;
 use crate::store::Event;
 use crate::way::Instance;
-use oc_tree::said::{Said, Shown};
-use oc_tree::tree::{Program, StmtId};
-use std::alloc::AllocError;
 
 /// Whether an instance is one of this set.
 fn is_set(set: (usize, i32), instance: Instance) -> bool
@@ -32,26 +26,6 @@ fn last_of(sets: &[Instance], set: (usize, i32)) -> Option<Instance>
         }
     }
     None
-}
-
-/// Whether a tag is of an earlier instance than the last one of its set.
-pub fn falls(program: &Program, sets: &[Instance], event: Event) -> bool
-    ensures { result
-        ≡ falls (program_view program.now) event.said (event_view event) (sets_view sets.now) }
-{
-    let Said::Showed {
-        what: Shown::Tagged { stmt },
-    } = event.said
-    else {
-        return false;
-    };
-    let Some(set) = set_of(program, stmt) else {
-        return false;
-    };
-    match last_of(sets, set) {
-        None => false,
-        Some(last) => event.instance < last.number,
-    }
 }
 
 /// The age of a set's instance with that of a tag.
@@ -99,43 +73,32 @@ fn place_of(set: (usize, i32), sets: &[Instance]) -> Option<usize>
     sets.iter().position(|instance| is_set(set, *instance))
 }
 
-/// Puts the last instance of a set.
-fn put(set: (usize, i32), last: Instance, sets: &mut Vec<Instance>) -> Result<(), AllocError>
-    ensures { OnOk result
-        (sets_view sets.new.items
-        ≡ put_instance set (instance_view last) (sets_view sets.old.items)) }
+/// Puts the last instance of a set, where there is room for one more set.
+fn put(set: (usize, i32), last: Instance, sets: &mut Vec<Instance>)
+    requires { vec_len sets.old < vec_capacity sets.old }
+    ensures { sets_view sets.new.items
+        ≡ put_instance set (instance_view last) (sets_view sets.old.items) }
 {
     match place_of(set, sets) {
-        Some(place) => {
-            sets[place] = last;
-            Ok(())
-        }
+        Some(place) => sets[place] = last,
         None => {
-            sets.push(last)?;
-            Ok(())
+            let _ = sets.push(last);
         }
     }
 }
 
-/// A tag of this set is told.
-pub fn tell_tag(
-    set: Option<(usize, i32)>,
-    event: Event,
-    sets: &mut Vec<Instance>,
-) -> Result<(), AllocError>
-    ensures { OnOk result
-        (sets_view sets.new.items ≡ with_tag set (event_view event) (sets_view sets.old.items)) }
+/// A tag of this set is told, where there is room for one more set.
+pub fn tell_tag(set: Option<(usize, i32)>, event: Event, sets: &mut Vec<Instance>)
+    requires { vec_len sets.old < vec_capacity sets.old }
+    ensures { sets_view sets.new.items
+        ≡ with_tag set (event_view event) (sets_view sets.old.items) }
 {
-    match set {
-        None => Ok(()),
-        Some(set) => {
-            let last = Instance {
-                set,
-                number: event.instance,
-                age: tag_age(set, event, sets),
-            };
-            put(set, last, sets)?;
-            Ok(())
-        }
+    if let Some(set) = set {
+        let last = Instance {
+            set,
+            number: event.instance,
+            age: tag_age(set, event, sets),
+        };
+        put(set, last, sets);
     }
 }

@@ -1,24 +1,24 @@
 //! What the audit answers to an item.
-ghost use Rattle.std.specs.Prelude.{◌≡◌, ℤ, List, Option, option_map, IfOk, OnOk};
+ghost use Rattle.std.specs.Prelude.{◌≡◌, ◌<◌, ◌&&◌, ℤ, true, List, Option, option_map, vec_len, vec_capacity, IfOk, OnOk};
 ghost use Rattle.oc_tree.specs.declared.said.Said.TheVariants.{Committed, Ended, Entered, Sensed, Showed};
 ghost use Rattle.oc_tree.specs.Tree.{TProgram};
 ghost use Rattle.oc_items.specs.Told.{told_of};
 ghost use Rattle.oc_meaning.specs.Run.{words_of};
 ghost use Rattle.oc_steps.specs.Ages.{join_ages};
 ghost use Rattle.oc_steps.specs.Auditing.{IsHeard, first_watch};
-ghost use Rattle.oc_steps.specs.Fold.{aborted, has_words, may_show, off, with_shown};
+ghost use Rattle.oc_steps.specs.Fold.{aborted, has_words, is_said, may_show, off, with_shown};
 ghost use Rattle.oc_steps.specs.Heard.{cleared};
 ghost use Rattle.oc_steps.specs.Steps.{sensed};
 ghost use Rattle.oc_judge.specs.Going.{program_of, regions_of};
 ghost use Rattle.oc_judge.specs.Stores.{event_view};
 ghost use Rattle.oc_judge.specs.Watches.{IsTold, answered, halts, watch_view};
-ghost use Rattle.oc_judge.specs.Ways.{IsNext, KeepsRest, next_view, way_view};
+ghost use Rattle.oc_judge.specs.Ways.{way_view};
 
 use crate::age::{Age, Value};
 use crate::answers::{are_words, is_new, says_committed, says_ended, says_entered, says_shown};
 use crate::notes::set_of;
 use crate::running::Running;
-use crate::sets::{falls, may_tag, tell_tag};
+use crate::sets::{may_tag, tell_tag};
 use crate::store::{Completion, Event};
 use crate::way::{Next, Way, copy, first_way, go};
 use oc_items::item::Item;
@@ -46,27 +46,6 @@ pub fn first_watch<'a>(run: &Running<'a>) -> Result<Watch<'a>, AllocError>
 {
     let now = first_way(run)?;
     Ok(Watch { now, saved: None })
-}
-
-/// What the run does next. No tag is of an earlier instance than the last one of its set: one that
-/// were is out of memory.
-fn next<'a>(run: &Running<'a>, way: &mut Way<'a>) -> Result<Next, AllocError>
-    ensures next { IfOk result
-        (λ n. IsNext (program_of run.now) (regions_of run.now) (way_view way.old)
-        (next_view n way.new)) }
-    ensures kept { IfOk result (λ n. KeepsRest (way_view way.old) (way_view way.new)) }
-{
-    let next = go(run, way)?;
-    match next {
-        Next::Says { event } => {
-            if falls(run.program, &way.sets, event) {
-                return Err(AllocError);
-            }
-            Ok(Next::Says { event })
-        }
-        Next::Wants { sensor } => Ok(Next::Wants { sensor }),
-        Next::Stands => Ok(Next::Stands),
-    }
 }
 
 /// The sample that the run wanted.
@@ -98,7 +77,7 @@ fn hear_input<'a>(
         → IsTold (program_of run.now) (regions_of run.now) nv (watch_view watch.old)
         (Sensed sensor value) (answered good watch.new)) }
 {
-    match next(run, &mut watch.now)? {
+    match go(run, &mut watch.now)? {
         Next::Says { .. } => Ok(false),
         Next::Wants { sensor: wanted } => {
             if sensor != wanted {
@@ -125,26 +104,46 @@ fn may_show(run: &Running, way: &Way, what: Shown, event: Event) -> bool
     }
 }
 
-/// An event of the source other than an input is told.
-fn show<'a>(
-    run: &Running<'a>,
-    way: &mut Way<'a>,
-    what: Shown,
-    event: Event,
-) -> Result<(), AllocError>
-    ensures { OnOk result ((nv : Option (List ℤ))
+/// An event of the source other than an input is told, where there is room for one more set.
+fn show<'a>(run: &Running<'a>, way: &mut Way<'a>, what: Shown, event: Event)
+    requires { vec_len way.old.sets < vec_capacity way.old.sets }
+    ensures { (nv : Option (List ℤ))
         → way_view way.new
-        ≡ with_shown (program_of run.now) nv (way_view way.old) what (event_view event)) }
+        ≡ with_shown (program_of run.now) nv (way_view way.old) what (event_view event) }
 {
     match what {
-        Shown::Emitted { .. } => Ok(()),
-        Shown::Used { .. } => Ok(()),
-        Shown::Finished { .. } => Ok(()),
-        Shown::Tagged { stmt } => {
-            tell_tag(set_of(run.program, stmt), event, &mut way.sets)?;
-            Ok(())
-        }
+        Shown::Emitted { .. } => {}
+        Shown::Used { .. } => {}
+        Shown::Finished { .. } => {}
+        Shown::Tagged { stmt } => tell_tag(set_of(run.program, stmt), event, &mut way.sets),
     }
+}
+
+/// Makes room for one more set.
+fn make_room(way: &mut Way) -> Result<(), AllocError>
+    ensures same { OnOk result (way_view way.new ≡ way_view way.old) }
+    ensures room { OnOk result (vec_len way.new.sets < vec_capacity way.new.sets) }
+{
+    way.sets.reserve(1)?;
+    Ok(())
+}
+
+/// Whether an event is an output, a use or its end, or a tag that may be told; it is told then. It
+/// wants no memory, since there is room for one more set.
+fn tell_shown<'a>(run: &Running<'a>, way: &mut Way<'a>, what: Shown, event: Event) -> bool
+    requires { vec_len way.old.sets < vec_capacity way.old.sets }
+    ensures right { (nv : Option (List ℤ)) → result
+        ≡ is_said event.said (Showed what)
+        && may_show (program_of run.now) nv (way_view way.old) what (event_view event) }
+    ensures told { result ≡ true
+        → (nv : Option (List ℤ)) → way_view way.new
+        ≡ with_shown (program_of run.now) nv (way_view way.old) what (event_view event) }
+{
+    if says_shown(event.said, what) && may_show(run, way, what, event) {
+        show(run, way, what, event);
+        return true;
+    }
+    false
 }
 
 /// An output, a use or its end, or a tag.
@@ -154,13 +153,10 @@ fn hear_shown<'a>(run: &Running<'a>, watch: &mut Watch<'a>, what: Shown) -> Resu
         → IsTold (program_of run.now) (regions_of run.now) nv (watch_view watch.old)
         (Showed what) (answered good watch.new)) }
 {
-    match next(run, &mut watch.now)? {
+    match go(run, &mut watch.now)? {
         Next::Says { event } => {
-            if says_shown(event.said, what) && may_show(run, &watch.now, what, event) {
-                show(run, &mut watch.now, what, event)?;
-                return Ok(true);
-            }
-            Ok(false)
+            make_room(&mut watch.now)?;
+            Ok(tell_shown(run, &mut watch.now, what, event))
         }
         Next::Wants { .. } => Ok(false),
         Next::Stands => Ok(false),
@@ -175,7 +171,7 @@ fn hear_enter<'a>(run: &Running<'a>, watch: &mut Watch<'a>, region: u32) -> Resu
         (Entered region) (answered good watch.new)) }
 {
     let way = copy(run.alloc, &watch.now)?;
-    match next(run, &mut watch.now)? {
+    match go(run, &mut watch.now)? {
         Next::Says { event } => {
             if !says_entered(event.said, region) {
                 return Ok(false);
@@ -200,7 +196,7 @@ fn hear_commit<'a>(
         → IsTold (program_of run.now) (regions_of run.now) nv (watch_view watch.old)
         (Committed region) (answered good watch.new)) }
 {
-    match next(run, &mut watch.now)? {
+    match go(run, &mut watch.now)? {
         Next::Says { event } => {
             if !says_committed(event.said, region) {
                 return Ok(false);
@@ -251,7 +247,7 @@ fn hear_end<'a>(
         (λ good. IsTold (program_of run.now) (regions_of run.now) (option_map (λ w. w.now) nv.entry)
         (watch_view watch.old) (Ended how) (answered good watch.new)) }
 {
-    match next(run, &mut watch.now)? {
+    match go(run, &mut watch.now)? {
         Next::Says { event } => {
             if says_ended(event.said, how) && has_words(run.alloc, nv, &watch.now)? {
                 watch.now.over = true;

@@ -1,5 +1,5 @@
 -- What was told of a run that was given up begins the whole.
-use Rattle.std.proofs.Common.{◌≡◌, refl, ap, sym, ◌∙◌, ℕ, ℤ, ◌+◌, ◌≤◌, ◌<◌, nat_le, List, [], ◌∷◌, ◌++◌, length, take, drop, subst, append_assoc, length-append, arith}
+use Rattle.std.proofs.Common.{◌≡◌, refl, ap, sym, ◌∙◌, ℕ, ℤ, ◌+◌, ◌≤◌, ◌<◌, nat_le, false, List, [], ◌∷◌, ◌++◌, length, take, drop, subst, append_assoc, length-append, arith}
 use Rattle.std.proofs.lemmas.List.{append-nil, take_all, take-append-drop, take-append-le}
 use Rattle.std.proofs.lemmas.Bool.{lt-leb}
 use Rattle.oc_tree.specs.Tree.{TProgram}
@@ -43,10 +43,10 @@ pub first_begun : (limit : ℕ) (es all : List Event) → limit ≤ length es �
 first_begun limit es all h b =
     sym (ap (take limit) b.is ∙ take-append-le limit (in_order es) b.rest (omega (arith, h, length-in_order es)))
 
-pub more_begun : (limit : ℕ) (es all : List Event) → limit < length es → Begins (in_order es) all → nat_le (length es) limit ≡ nat_le (length all) limit
+pub more_begun : (limit : ℕ) (es all : List Event) → limit < length es → Begins (in_order es) all → nat_le (length all) limit ≡ false
 more_begun limit es all h b =
     let many : length all ≡ length (in_order es) + length b.rest = ap length b.is ∙ length-append (in_order es) b.rest in
-    lt-leb (length es) limit h ∙ sym (lt-leb (length all) limit (omega (arith, h, many, length-in_order es)))
+    lt-leb (length all) limit (omega (arith, h, many, length-in_order es))
 
 -- what begins a run's parts are parts
 pub parts_begun : (p : TProgram) (rs : List TRegion) (samples : List ℤ) (es : List Event) → Begins es (marked_run p rs samples).events → AreParts es

@@ -15,7 +15,7 @@ use crate::running::Running;
 use crate::samples::Samples;
 use crate::statements::call_to;
 use crate::store::Store;
-use crate::trace::{MarkedTrace, Outcome, SourceTrace, marked_trace, source_trace};
+use crate::trace::{MarkedTrace, Outcome, SourceTrace, cut_trace, source_trace, whole_trace};
 use oc_io::Memory;
 use oc_tree::checked::Checked;
 use oc_tree::marked::{Marked, Region};
@@ -165,23 +165,23 @@ fn trace_marked(
         (λ t. t.whole ≡ true
         → trace_view t.trace ≡ source_run (program_view program.now) samples.now) }
     ensures short { IfOk result (λ t. t.whole ≡ false → ending_of t.trace.outcome ≡ AtShort) }
+    ensures words { IfOk result (λ t. t.whole ≡ false → t.trace.nv.items ≡ []) }
     ensures rises { IfOk result (λ t. Rises 0 t.marks.items (length t.trace.events.items)) }
 {
     let mut store = first_store(alloc, program, samples, limit)?;
     let ran = run(alloc, program, regions, &mut store);
     if store.count_told() as u64 > limit {
-        let trace = marked_trace(alloc, store, Outcome::Short, limit)?;
+        let trace = cut_trace(alloc, store, limit)?;
         return Ok(trace);
     }
     let outcome = ran?;
-    let trace = marked_trace(alloc, store, outcome, limit)?;
+    let trace = whole_trace(alloc, store, outcome)?;
     Ok(trace)
 }
 
 /// The first `limit` parts of the run of a marked program over a list of samples: the events of the
 /// source, and the marks of the regions. It is `whole` where the run has no more parts: then its trace
-/// is the source's run. Else its outcome is `Short`, and its nonvolatile words are those at the moment
-/// at which the part behind the first `limit` was told.
+/// is the source's run. Else its outcome is `Short`, and it has no nonvolatile words.
 pub fn run_marked(
     alloc: Global,
     marked: &Marked,
@@ -201,6 +201,7 @@ pub fn run_marked(
     ensures source { IfOk result
         (λ t. t.whole ≡ true → trace_view t.trace ≡ source_run marked.now.program samples.now) }
     ensures short { IfOk result (λ t. t.whole ≡ false → ending_of t.trace.outcome ≡ AtShort) }
+    ensures words { IfOk result (λ t. t.whole ≡ false → t.trace.nv.items ≡ []) }
     ensures rises { IfOk result (λ t. Rises 0 t.marks.items (length t.trace.events.items)) }
 {
     let program = marked.checked().program();

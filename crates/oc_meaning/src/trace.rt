@@ -1,6 +1,6 @@
 //! What a run told, once it is over.
-ghost use Rattle.std.specs.Prelude.{◌≡◌, length, map, nat_le, take, true, IfOk, OnOk};
-ghost use Rattle.oc_meaning.specs.Run.{in_order, trace_at, words_of};
+ghost use Rattle.std.specs.Prelude.{◌≡◌, ◌<◌, [], length, map, take, true, false, IfOk, OnOk};
+ghost use Rattle.oc_meaning.specs.Run.{AtShort, in_order, trace_at, words_of};
 ghost use Rattle.oc_meaning.specs.Unmarked.{without_marks};
 ghost use Rattle.oc_meaning.specs.Stores.{event_view};
 ghost use Rattle.oc_meaning.specs.Telling.{Adds, IsPart, Tells};
@@ -39,6 +39,7 @@ pub struct Mark {
 }
 
 /// A run with the marks of its regions, as far as it is told: `whole` says that it has no more parts.
+/// Where it has, the run is cut: its outcome is `Short`, and it has no nonvolatile words.
 #[derive(Drop)]
 pub struct MarkedTrace {
     pub trace: SourceTrace,
@@ -170,30 +171,41 @@ fn make_trace(
     Ok((trace, marks))
 }
 
-/// The first `limit` parts that a run told with the marks of its regions.
-pub fn marked_trace(
-    alloc: Global,
-    store: Store,
-    outcome: Outcome,
-    limit: u64,
-) -> Result<MarkedTrace, AllocError>
-    requires { AreParts (in_order store.events) }
+/// The first `limit` parts of a run with the marks of its regions that told more than these.
+pub fn cut_trace(alloc: Global, store: Store, limit: u64) -> Result<MarkedTrace, AllocError>
+    requires parts { AreParts (in_order store.events) }
+    requires more { limit < length store.events }
     ensures parts { IfOk result (λ t. parts t ≡ take limit (in_order store.entry.events)) }
-    ensures whole { IfOk result (λ t. t.whole ≡ nat_le (length store.entry.events) limit) }
-    ensures source { IfOk result
-        (λ t. t.whole ≡ true
-        → trace_view t.trace ≡ without_marks (trace_at (ending_of outcome) store.entry)) }
-    ensures outcome { IfOk result (λ t. t.trace.outcome ≡ outcome) }
+    ensures cut { IfOk result (λ t. t.whole ≡ false) }
+    ensures short { IfOk result (λ t. ending_of t.trace.outcome ≡ AtShort) }
+    ensures words { IfOk result (λ t. t.trace.nv.items ≡ []) }
     ensures rises { IfOk result (λ t. Rises 0 t.marks.items (length t.trace.events.items)) }
 {
-    let (mut noted, nv) = store.into_parts();
-    let whole = noted.len() as u64 <= limit;
+    let (mut noted, _nv) = store.into_parts();
     noted.truncate(limit as usize);
+    let (trace, marks) = make_trace(alloc, noted, Vec::new(alloc), Outcome::Short)?;
+    Ok(MarkedTrace {
+        trace,
+        marks,
+        whole: false,
+    })
+}
+
+/// All that a run told with the marks of its regions.
+pub fn whole_trace(alloc: Global, store: Store, outcome: Outcome) -> Result<MarkedTrace, AllocError>
+    requires { AreParts (in_order store.events) }
+    ensures parts { IfOk result (λ t. parts t ≡ in_order store.entry.events) }
+    ensures whole { IfOk result (λ t. t.whole ≡ true) }
+    ensures source { IfOk result
+        (λ t. trace_view t.trace ≡ without_marks (trace_at (ending_of outcome) store.entry)) }
+    ensures rises { IfOk result (λ t. Rises 0 t.marks.items (length t.trace.events.items)) }
+{
+    let (noted, nv) = store.into_parts();
     let (trace, marks) = make_trace(alloc, noted, nv, outcome)?;
     Ok(MarkedTrace {
         trace,
         marks,
-        whole,
+        whole: true,
     })
 }
 

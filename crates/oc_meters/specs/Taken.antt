@@ -20,7 +20,13 @@ takes_both names a b c [] y p q = subst (λ (s : Page). TakesBytes names s y c) 
 takes_both names a b c (byte ∷ x) y p q = (p.0, p.1, takes_both names p.0 b c x y p.2 q)
 
 pub took_nothing : (failed : Bool) (faults : ℕ) (names : Names) (s : Page) → Took failed failed faults faults names names s [] s
-took_nothing failed faults names s = record { marks = marks_nothing failed faults; names = refl; taken = λ e. refl; front = record { front = []; back = []; split = refl; taken = refl }; quiet = λ e. refl }
+took_nothing failed faults names s = record {
+  marks = marks_nothing failed faults;
+  names = refl;
+  taken = λ e. refl;
+  front = record { front = []; back = []; split = refl; taken = refl };
+  quiet = λ e. refl;
+}
 
 -- a front part of the first bytes was taken, all of them where no call has failed by then, and then one of those behind them
 front_both : (names : NameLists) (failed : Bool) (a b c : Page) (x y : List ℕ) → TookPart (TakesBytes names) a x b → (failed ≡ false → TakesBytes names a x b)

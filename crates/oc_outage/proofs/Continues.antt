@@ -29,7 +29,7 @@ at_start d s = record {
 
 module _ (d : Device) where
   -- a run over these samples goes on from there
-  run-from : (samples : List ℤ) (out : List Said) (m : ℕ) (c : Core) → IsAt d samples out m c → (n : ℕ) → m ≤ n → continuous_run d samples n ≡ run_on d (n - m) [] c out
+  pub run-from : (samples : List ℤ) (out : List Said) (m : ℕ) (c : Core) → IsAt d samples out m c → (n : ℕ) → m ≤ n → continuous_run d samples n ≡ run_on d (n - m) [] c out
   run-from samples out m c a n le =
       let e : n ≡ m + (n - m) = omega arith in
       ap (λ k. run_on d k samples (start_of d) []) e ∙ ap (λ l. run_on d (m + (n - m)) l (start_of d) []) (sym (append-nil samples)) ∙ a.by (n - m) []

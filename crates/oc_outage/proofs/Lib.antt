@@ -10,6 +10,7 @@ pub mod Inside
 pub mod Restored
 pub mod Booting
 pub mod Outages
+pub mod Standing
 pub mod Runs
 pub mod Lasting
 pub mod Enters

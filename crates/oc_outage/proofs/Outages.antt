@@ -1,5 +1,5 @@
 -- An outage keeps the facts.
-use Rattle.std.proofs.Common.{◌≡◌, ℕ, zero, suc, ◌+◌, ℤ, List, [], ◌∷◌, ◌++◌, length, sym, ap, ◌∙◌, subst, arith, Bool, true, false}
+use Rattle.std.proofs.Common.{◌≡◌, ℕ, zero, suc, ◌+◌, ℤ, List, [], ◌∷◌, ◌++◌, length, refl, sym, ap, ◌∙◌, subst, arith, Bool, true, false}
 use Rattle.oc_io.specs.declared.period.Period.{Period}
 use Rattle.oc_tree.specs.Said.{Told}
 use Rattle.oc_tree.specs.declared.said.Said.TheVariants.{Entered, Aborted, Off}
@@ -14,9 +14,10 @@ use Rattle.oc_isa.specs.Run.{core_at, continuous_run}
 use Rattle.oc_isa.specs.Power.{State, World, words_of, word_of, number_of, power_fails}
 use Rattle.oc_items.specs.Erase.{erase, without_offs, without_marks, samples_of, HasNoOffInside}
 use Rattle.oc_items.specs.Reports.{IsPrefixOf}
+use Rattle.oc_outage.specs.Kept.{Count, untried}
 use Rattle.oc_outage.proofs.Continues.{IsAt, fits}
 use Rattle.oc_outage.proofs.Erasing.{item, erase-attempt}
-use Rattle.oc_outage.proofs.Facts.{state_at, regs_at, IsSettled, IsEntry, IsAttempt, IsSealed, IsWaking, IsRunning, Holds, AreHonest, IsGood}
+use Rattle.oc_outage.proofs.Facts.{state_at, regs_at, IsSettled, IsEntry, IsAttempt, IsSealed, IsWaking, IsRunning, IsLost, Holds, AreHonest, IsGood}
 use Rattle.oc_outage.proofs.Going.{world_at}
 use Rattle.oc_outage.proofs.Growing.{inside, read_more}
 use Rattle.oc_outage.proofs.Inside.{parts_more}
@@ -24,21 +25,20 @@ use Rattle.oc_outage.proofs.Reports.{honest_all, honest_more, off_honest, settle
 use Rattle.oc_outage.proofs.Words.{length-words_of, saved_word, all_saved, length-save_all}
 
 -- an attempt is aborted
-module _ (d : Device) (report : List Told) (made t r : ℕ) (saved regs : Regs) (depth : ℕ) (nv : List ℤ) (log : List Entry) (s : IsAttempt d report made r saved regs depth nv log) where
+module _ (d : Device) (report : List Told) (c : Count) (made t r : ℕ) (saved regs : Regs) (depth : ℕ) (nv : List ℤ) (log : List Entry) (s : IsAttempt d report c made r saved regs depth nv log) where
   erase-aborted : erase (report ++ item t (Aborted r) ∷ []) ≡ erase s.before
   erase-aborted = ap erase (parts_more report s.before s.body (item s.tick (Entered r)) (item t (Aborted r)) s.parts) ∙ erase-attempt t r s.tick s.before s.body s.plain
 
   -- and the entry is there again
-  aborted_entry : IsEntry d (report ++ item t (Aborted r) ∷ []) made r saved nv log
+  aborted_entry : IsEntry d (report ++ item t (Aborted r) ∷ []) c.kept made r saved nv log
   aborted_entry =
       let e = s.entry in
       let g = sym erase-aborted in
       record {
-        m = e.m;
         within = e.within;
         entry_nv = e.entry_nv;
         undoes = e.undoes;
-        at = subst (λ l. IsAt d (samples_of (without_marks (without_offs l))) (without_offs l ++ Entered r ∷ []) e.m (core_at saved 1 e.entry_nv)) g e.at;
+        at = subst (λ l. IsAt d (samples_of (without_marks (without_offs l))) (without_offs l ++ Entered r ∷ []) c.kept (core_at saved 1 e.entry_nv)) g e.at;
         closed = subst (λ l. inside false l ≡ false) g e.closed;
       }
 
@@ -55,56 +55,62 @@ module _ (d : Device) (report : List Told) (made t r : ℕ) (saved regs : Regs) 
         read = read_more h report t (Aborted r) whole.read tt;
       })
 
-module _ (d : Device) (report : List Told) (made t off : ℕ) where
-  sealed_off : (nv words : List ℤ) → IsSealed d report made nv words → IsSealed d (report ++ item t (Off off) ∷ []) made nv words
-  sealed_off nv words s = record { saved = s.saved; is_saved = s.is_saved; settled = settled_off d report made t off s.saved nv s.settled }
-
-  waking_off : (nv : List ℤ) (log : List Entry) (words : List ℤ) → IsWaking d report made nv log words → IsWaking d (report ++ item t (Off off) ∷ []) made nv log words
-  waking_off nv log words s = record { region = s.region; entry = entry_off d report made t off s.region.number s.region.saved nv log s.entry }
+module _ (d : Device) (report : List Told) (k made t off : ℕ) where
+  sealed_off : (nv words : List ℤ) → IsSealed d report k made nv words → IsSealed d (report ++ item t (Off off) ∷ []) k made nv words
+  sealed_off nv words s = record { saved = s.saved; is_saved = s.is_saved; settled = settled_off d report k made t off s.saved nv s.settled }
 
   -- the low-power checkpoint
-  checkpointed : (regs : Regs) (nv words : List ℤ) → IsSettled d report made regs nv → length words ≡ 3 + d.room
-      → IsSealed d (report ++ item t (Off off) ∷ []) made nv (save_all (words_of regs) words) × (length (save_all (words_of regs) words) ≡ 3 + d.room)
+  checkpointed : (regs : Regs) (nv words : List ℤ) → IsSettled d report k made regs nv → length words ≡ 3 + d.room
+      → IsSealed d (report ++ item t (Off off) ∷ []) k made nv (save_all (words_of regs) words) × (length (save_all (words_of regs) words) ≡ 3 + d.room)
   checkpointed regs nv words s z =
-      let f = fits d _ _ s.m (core_at regs 0 nv) s.at in
+      let f = fits d _ _ k (core_at regs 0 nv) s.at in
       let n = length-words_of regs in
-      (record { saved = regs; is_saved = all_saved regs words; settled = settled_off d report made t off regs nv s }, length-save_all (words_of regs) words (omega arith) ∙ z)
+      (record { saved = regs; is_saved = all_saved regs words; settled = settled_off d report k made t off regs nv s }, length-save_all (words_of regs) words (omega arith) ∙ z)
 
-module _ (d : Device) (h : ℕ → ℕ → ℤ) (report : List Told) (made t on off : ℕ) (stack nv : List ℤ) (log : List Entry) (words : List ℤ) (a : AreHonest d h made report)
+-- of the boot of an attempt, or of an attempt that was aborted, nothing is tried
+module _ (d : Device) (report : List Told) (c : Count) (made t off : ℕ) where
+  waking_off : (nv : List ℤ) (log : List Entry) (words : List ℤ) → IsWaking d report c made nv log words → IsWaking d (report ++ item t (Off off) ∷ []) (untried c.kept) made nv log words
+  waking_off nv log words s = record { region = s.region; entry = entry_off d report c.kept made t off s.region.number s.region.saved nv log s.entry; none = refl }
+
+module _ (d : Device) (h : ℕ → ℕ → ℤ) (report : List Told) (c : Count) (made t on off : ℕ) (stack nv : List ℤ) (log : List Entry) (words : List ℤ) (a : AreHonest d h made report)
     (sized : length words ≡ 3 + d.room) where
   abbrev after : Bool → State → World
   after cut s = power_fails d (record { on = on; off = off; cut = cut }) (world_at t s report)
 
+  lost : (regs : Regs) → IsSettled d report c.kept made regs nv → IsLost d (report ++ item t (Off off) ∷ []) c.kept made nv
+  lost regs s = record { regs = regs; settled = settled_off d report c.kept made t off regs nv s }
+
   -- power fails outside a region, and the checkpoint is cut or complete
-  fails_open : (cut : Bool) (pc fp : ℕ) → IsSettled d report made (regs_at pc fp stack) nv → log ≡ [] → IsGood d h made (after cut (state_at Running pc fp 0 stack nv log Open words))
-  fails_open true pc fp s y = record { holds = tt; honest = off_honest d h report made t off a s.closed; sized = sized }
-  fails_open false pc fp s y = let c = checkpointed d report made t off (regs_at pc fp stack) nv words s sized in
+  fails_open : (cut : Bool) (pc fp : ℕ) → IsSettled d report c.kept made (regs_at pc fp stack) nv → log ≡ []
+      → IsGood d h (untried c.kept) made (after cut (state_at Running pc fp 0 stack nv log Open words))
+  fails_open true pc fp s y = record { holds = lost (regs_at pc fp stack) s; honest = off_honest d h report made t off a s.closed; sized = sized }
+  fails_open false pc fp s y = let c = checkpointed d report c.kept made t off (regs_at pc fp stack) nv words s sized in
       record { holds = (c.0, y); honest = off_honest d h report made t off a s.closed; sized = c.1 }
 
-  fails_entering : (cut : Bool) (k pc fp depth : ℕ) → IsSettled d report made (regs_at pc fp stack) nv → log ≡ []
-      → IsGood d h made (after cut (state_at (Entering k) pc fp depth stack nv log Open words))
-  fails_entering true k pc fp depth s y = record { holds = tt; honest = off_honest d h report made t off a s.closed; sized = sized }
-  fails_entering false k pc fp depth s y = let c = checkpointed d report made t off (regs_at pc fp stack) nv words s sized in
+  fails_entering : (cut : Bool) (k pc fp depth : ℕ) → IsSettled d report c.kept made (regs_at pc fp stack) nv → log ≡ []
+      → IsGood d h (untried c.kept) made (after cut (state_at (Entering k) pc fp depth stack nv log Open words))
+  fails_entering true k pc fp depth s y = record { holds = lost (regs_at pc fp stack) s; honest = off_honest d h report made t off a s.closed; sized = sized }
+  fails_entering false k pc fp depth s y = let c = checkpointed d report c.kept made t off (regs_at pc fp stack) nv words s sized in
       record { holds = (c.0, y); honest = off_honest d h report made t off a s.closed; sized = c.1 }
 
   -- power fails in a region
-  fails_armed : (cut : Bool) (pc fp depth : ℕ) → IsRunning d report made (regs_at pc fp stack) (suc depth) nv log words
-      → IsGood d h made (after cut (state_at Running pc fp (suc depth) stack nv log Armed words))
+  fails_armed : (cut : Bool) (pc fp depth : ℕ) → IsRunning d report c made (regs_at pc fp stack) (suc depth) nv log words
+      → IsGood d h (untried c.kept) made (after cut (state_at Running pc fp (suc depth) stack nv log Armed words))
   fails_armed cut pc fp depth w =
       let r = w.region.number in
       let saved = w.region.saved in
-      let entry = aborted_entry d report made t r saved (regs_at pc fp stack) (suc depth) nv log w.attempt in
+      let entry = aborted_entry d report c made t r saved (regs_at pc fp stack) (suc depth) nv log w.attempt in
       let n : d.region (number_of (word_of words 0)) ≡ r = ap (λ x. d.region (number_of x)) (saved_word words saved 0 w.region.is_saved (omega arith)) ∙ w.region.found in
-      subst (λ q. IsGood d h made (world_at (t + off) (state_at Waking 0 0 0 [] nv log Armed words) ((report ++ item t (Aborted q) ∷ []) ++ item t (Off off) ∷ []))) (sym n)
+      subst (λ q. IsGood d h (untried c.kept) made (world_at (t + off) (state_at Waking 0 0 0 [] nv log Armed words) ((report ++ item t (Aborted q) ∷ []) ++ item t (Off off) ∷ []))) (sym n)
       (record {
-        holds = record { region = w.region; entry = entry_off d (report ++ item t (Aborted r) ∷ []) made t off r saved nv log entry };
-        honest = off_honest d h (report ++ item t (Aborted r) ∷ []) made t off (aborted_honest d report made t r saved (regs_at pc fp stack) (suc depth) nv log w.attempt h a) entry.closed;
+        holds = record { region = w.region; entry = entry_off d (report ++ item t (Aborted r) ∷ []) c.kept made t off r saved nv log entry; none = refl };
+        honest = off_honest d h (report ++ item t (Aborted r) ∷ []) made t off (aborted_honest d report c made t r saved (regs_at pc fp stack) (suc depth) nv log w.attempt h a) entry.closed;
         sized = sized;
       })
 
-  fails_by : (cut : Bool) (area : AreaState) (phase : Phase) (pc fp depth : ℕ) → Holds d area phase depth (state_at phase pc fp depth stack nv log area words) report made
-      → IsGood d h made (after cut (state_at phase pc fp depth stack nv log area words))
-  fails_by cut Fresh Waking pc fp depth s = record { holds = (settled_off d report made t off d.start nv s.0, s.1); honest = off_honest d h report made t off a s.0.closed; sized = sized }
+  fails_by : (cut : Bool) (area : AreaState) (phase : Phase) (pc fp depth : ℕ) → Holds d area phase depth (state_at phase pc fp depth stack nv log area words) report c made
+      → IsGood d h (untried c.kept) made (after cut (state_at phase pc fp depth stack nv log area words))
+  fails_by cut Fresh Waking pc fp depth s = record { holds = (settled_off d report c.kept made t off d.start nv s.0, s.1); honest = off_honest d h report made t off a s.0.closed; sized = sized }
   fails_by cut Fresh (Undoing k) pc fp depth s = absurd s
   fails_by cut Fresh (Restoring k) pc fp depth s = absurd s
   fails_by cut Fresh Running pc fp depth s = absurd s
@@ -118,20 +124,20 @@ module _ (d : Device) (h : ℕ → ℕ → ℤ) (report : List Told) (made t on 
   fails_by cut Open Running pc fp (suc depth) s = absurd s
   fails_by cut Open (Entering k) pc fp depth s = fails_entering cut k pc fp depth s.settled s.empty
   fails_by cut Open (Over how) pc fp depth s = record { holds = s; honest = a; sized = sized }
-  fails_by cut Open Lost pc fp depth s = record { holds = tt; honest = a; sized = sized }
-  fails_by cut Sealed Waking pc fp depth s = record { holds = (sealed_off d report made t off nv words s.0, s.1); honest = off_honest d h report made t off a s.0.settled.closed; sized = sized }
+  fails_by cut Open Lost pc fp depth s = record { holds = s; honest = a; sized = sized }
+  fails_by cut Sealed Waking pc fp depth s = record { holds = (sealed_off d report c.kept made t off nv words s.0, s.1); honest = off_honest d h report made t off a s.0.settled.closed; sized = sized }
   fails_by cut Sealed (Undoing k) pc fp depth s = absurd s
   fails_by cut Sealed (Restoring k) pc fp depth s =
-      record { holds = (sealed_off d report made t off nv words s.0.sealed, s.1); honest = off_honest d h report made t off a s.0.sealed.settled.closed; sized = sized }
+      record { holds = (sealed_off d report c.kept made t off nv words s.0.sealed, s.1); honest = off_honest d h report made t off a s.0.sealed.settled.closed; sized = sized }
   fails_by cut Sealed Running pc fp depth s = absurd s
   fails_by cut Sealed (Entering k) pc fp depth s = absurd s
   fails_by cut Sealed (Over how) pc fp depth s = absurd s
   fails_by cut Sealed Lost pc fp depth s = absurd s
-  fails_by cut Armed Waking pc fp depth s = record { holds = waking_off d report made t off nv log words s; honest = off_honest d h report made t off a s.entry.closed; sized = sized }
+  fails_by cut Armed Waking pc fp depth s = record { holds = waking_off d report c made t off nv log words s; honest = off_honest d h report made t off a s.entry.closed; sized = sized }
   fails_by cut Armed (Undoing k) pc fp depth s =
-      record { holds = waking_off d report made t off nv log words s.waking; honest = off_honest d h report made t off a s.waking.entry.closed; sized = sized }
+      record { holds = waking_off d report c made t off nv log words s.waking; honest = off_honest d h report made t off a s.waking.entry.closed; sized = sized }
   fails_by cut Armed (Restoring k) pc fp depth s =
-      record { holds = waking_off d report made t off nv log words s.waking; honest = off_honest d h report made t off a s.waking.entry.closed; sized = sized }
+      record { holds = waking_off d report c made t off nv log words s.waking; honest = off_honest d h report made t off a s.waking.entry.closed; sized = sized }
   fails_by cut Armed Running pc fp zero s = absurd s
   fails_by cut Armed Running pc fp (suc depth) s = fails_armed cut pc fp depth s
   fails_by cut Armed (Entering k) pc fp depth s = absurd s
@@ -139,6 +145,6 @@ module _ (d : Device) (h : ℕ → ℕ → ℤ) (report : List Told) (made t on 
   fails_by cut Armed Lost pc fp depth s = absurd s
 
 module _ (d : Device) (h : ℕ → ℕ → ℤ) where
-  pub outage_keeps : (made : ℕ) (p : Period) (w : World) → IsGood d h made w → IsGood d h made (power_fails d p w)
-  outage_keeps made p w g = fails_by d h w.report made w.tick p.on p.off w.state.stack w.state.nv w.state.log w.state.words g.honest g.sized p.cut w.state.area w.state.phase
+  pub outage_keeps : (c : Count) (made : ℕ) (p : Period) (w : World) → IsGood d h c made w → IsGood d h (untried c.kept) made (power_fails d p w)
+  outage_keeps c made p w g = fails_by d h w.report c made w.tick p.on p.off w.state.stack w.state.nv w.state.log w.state.words g.honest g.sized p.cut w.state.area w.state.phase
       w.state.pc w.state.fp w.state.depth g.holds

@@ -20,6 +20,7 @@ ghost use Rattle.oc_isa.specs.Power.{World, is_over, ticks_on, power_fails, one_
 ghost use Rattle.oc_isa.specs.Table.{device_of};
 ghost use Rattle.oc_items.specs.Erase.{Tells, erase, kept_samples, marked};
 ghost use Rattle.oc_outage.specs.Honest.{IsFit, IsHonest, IsWhole, IsLeft, IsSaidBy, all_on, loses_checkpoint, begun};
+ghost use Rattle.oc_outage.specs.Kept.{CountIsKept};
 ghost use Rattle.oc_items.specs.Reports.{EndsWith};
 
 /// Every prefix of the report of a run over any periods of power is honest: without its aborted
@@ -47,6 +48,15 @@ pub fn ended()
         IsWhole d (all_on periods) (power_run d h periods).report (power_run d h periods).state.nv }
     ensures last { (report : List Told) (how : Ending) → EndsWith report (Ended how) →
         (before : List Said) × (marked report ≡ before ++ Ended how ∷ []) }
+{}
+
+/// What is counted as kept is just that. Behind any periods the run without outages over the kept
+/// samples has said what is kept of the report after as many instructions as are counted, and
+/// stands where the run goes on once power is back; or it has ended with the last of them.
+pub fn counts()
+    ensures { (d : Device) (h : ℕ → ℕ → ℤ) (periods : List Period) →
+        IsFit d → IsSound d → ((sensor tick : ℕ) → is_word (h sensor tick) ≡ true) →
+        CountIsKept d h periods }
 {}
 
 /// How a run is left, whatever the image: it ended by itself, and how, exactly where that is its

@@ -6,6 +6,7 @@ use Rattle.std.specs.Prelude.{◌==◌, ◌&&◌, not, if◌then◌else◌}
 use Rattle.std.specs.Ordering.{int_eq}
 use Rattle.std.proofs.lemmas.Bool.Decides.{Decides-int_eq}
 use Rattle.std.proofs.lemmas.List.{map-append}
+use Rattle.oc_tree.specs.Form.{Numbered}
 use Rattle.oc_tree.specs.Tree.{TProgram}
 use Rattle.oc_tree.specs.Marked.{TRegion}
 use Rattle.oc_tree.specs.Said.{Told}
@@ -36,13 +37,17 @@ use Rattle.oc_honest.specs.Honest.{IsWhole, IsHonestSoFar}
 use Rattle.oc_steps.specs.Erasing.{item, last_mark}
 use Rattle.oc_steps.specs.Freshness.{AreNumbered}
 use Rattle.oc_steps.specs.Little.{IsNoInput, IsNoEnd}
-use Rattle.oc_steps.specs.Fold.{Instance, Way, Watch, Next, Says, Wants, Stands, Went_on, Rises, steps_on, is_new, is_said, is_shown, is_kind, are_words, has_words, words, outages}
-use Rattle.oc_steps.specs.Fold.{may_show, with_shown, may_tag, with_tag, falls, falls_at, at_end, on_event, on_want, on_end, on_next}
-use Rattle.oc_steps.specs.Watching.{samples_in, offs_in, offs_before, lives_of, IsSeen, IsGoing, Follows, IsWay, IsSaved, IsWatch, IsAnswer, IsMade, IsTelling, TellsRight}
+use Rattle.oc_steps.specs.Fold.{Instance, Way, Watch, Next, Says, Wants, Stands, Went_on, steps_on, is_new, is_said, is_shown, is_kind, are_words, has_words, words, outages}
+use Rattle.oc_steps.specs.Fold.{may_show, with_shown, may_tag, with_tag, falls_at, at_end, on_event, on_want, on_end, on_next}
+use Rattle.oc_steps.specs.Counting.{times, AreCounted}
+use Rattle.oc_steps.specs.Watching.{samples_in, offs_in, offs_before, lives_of, IsSeen, IsGoing, Follows, IsWay, IsSaved, IsWatch, IsAnswer, IsMade, IsTelling, NoneFalls, TellsRight}
 use Rattle.oc_steps.proofs.Aging.{senses_age}
 use Rattle.oc_steps.proofs.Telling.{hears, over_always}
 use Rattle.oc_steps.proofs.Adding.{last_mark-more, saved_more, offs_before-more}
-use Rattle.oc_steps.proofs.Onward.{Same, IsLast, cleared_aged, Saying, Wanting, Standing, Leads, onward, stays}
+use Rattle.oc_steps.proofs.Onward.{Same, IsLast, cleared_aged, Saying, Wanting, Standing, Leads, nothing_said, onward, stays}
+use Rattle.oc_steps.proofs.Homes.{body_noted}
+use Rattle.oc_steps.proofs.Counting.{IsTagOf}
+use Rattle.oc_steps.proofs.Rising.{StaysCounted, counted_on, falls_not, rises, tag_counted}
 use Rattle.oc_steps.proofs.Using.{not_input, get_first, get_last, length-last, timely_more, numbered_more, no_tags, seen_more, use_timely, use_late, use_below, input_numbered}
 use Rattle.oc_steps.proofs.Using.{input_timely, input_seen}
 use Rattle.oc_steps.proofs.Together.{tag_timely, tag_seen, tag_apart}
@@ -269,7 +274,7 @@ module _ (p : TProgram) (regions : List TRegion) (nv : Option (List ℤ)) (q : L
         (tells : map (λ x. x.said) es ≡ without_offs (erase q ++ item t (Ended how) ∷ []))
         (lived : AreTimely p (lived_from 0 (erase q ++ item t (Ended how) ∷ []) (unmarked es)))
         (past : List Event) (fs : List Frame) (o : Outcome) (now : Way) (follows : Follows p regions V T C past fs o now.frames now.out)
-        (over : step p regions union suc fs o ≡ Over) (same : Same w.now now) where
+        (over : step p regions union suc fs o ≡ Over) (same : Same w.now now) (counted : AreCounted p now.sets now.frames (store_in now.out).blocks) where
       run_now : marked_run p regions (kept_samples (with (Ended how))) ≡ record { events = es; ending = ending; nv = ws }
       run_now =
           ap (λ l. marked_run p regions (samples_in l)) (added p regions nv q t (Ended how) tt)
@@ -300,14 +305,15 @@ module _ (p : TProgram) (regions : List TRegion) (nv : Option (List ℤ)) (q : L
             record {
               now = way_more p regions nv q t (Ended how) tt V T past fs o (record now { over = true }) (samples_same p regions nv q t (Ended how) tt tt)
                   (table_same p regions nv q t (Ended how) tt tt) follows
-                  (k.now.inside ∙ sym same.inside) (λ d. absurd (cc (d))) (λ d x. ap said_in (run x) ∙ tells) (λ d. over);
+                  (k.now.inside ∙ sym same.inside) (λ d. absurd (cc (d))) (λ d x. ap said_in (run x) ∙ tells) (λ d. over) counted;
               saved = saved_more t (Ended how) p regions q tt w.saved k.saved;
             },
           )
 
     -- ---- it says something
 
-    module _ (e : Event) (now : Way) (y : Saying p regions V T C k.now.past w.now e now) where
+    module _ (e : Event) (now : Way) (y : Saying p regions V T C k.now.past w.now e now) (counted : AreCounted p now.sets now.frames (store_in now.out).blocks)
+        (tag : IsTagOf p (store_in now.out).blocks e) where
       abbrev past' : List Event
       past' = y.event ∷ k.now.past
 
@@ -360,14 +366,14 @@ module _ (p : TProgram) (regions : List TRegion) (nv : Option (List ℤ)) (q : L
         back = timely_back p regions nv q t s l V (in_order past') begun vs tells
 
         way : (sets : List Instance) (inside : Bool) → inside_after w.now.inside s ≡ inside → (all' : List Lived) → lives_of (erase q ++ item t s ∷ []) past' ≡ all'
-            → AreNumbered all' T → IsSeen p all' T sets
+            → AreNumbered all' T → IsSeen p all' T sets → AreCounted p sets now.frames (store_in now.out).blocks
             → IsWay p regions (erase (with s)) (record { frames = now.frames; out = now.out; sets = sets; inside = inside; over = now.over })
-        way sets inside i all' as' n m =
+        way sets inside i all' as' n m c =
             way_more p regions nv q t s l V T past' y.fs y.o (record { frames = now.frames; out = now.out; sets = sets; inside = inside; over = now.over }) vs ts y.follows
             (ap (λ b. inside_after b s) k.now.inside ∙ i)
             (λ d. going_more p regions nv q t s l T past' sets all' tells ts as' n m)
             (λ d. absurd (let no : true ≡ false = sym d ∙ now_off in cc (no)))
-            (λ d. absurd (let no : true ≡ false = sym d ∙ now_off in cc (no)))
+            (λ d. absurd (let no : true ≡ false = sym d ∙ now_off in cc (no))) c
 
         -- a mark
         mark : ((es : List Event) → lives s C es (λ m fs. []) ≡ []) → ((how : Ending) → s ≡ Ended how → ⊥) → (inside : Bool) → inside_after w.now.inside s ≡ inside
@@ -376,7 +382,7 @@ module _ (p : TProgram) (regions : List TRegion) (nv : Option (List ℤ)) (q : L
             let same_lives : lives_of (erase q ++ item t s ∷ []) past' ≡ all =
             lives_more p regions t s (erase q) y.event (in_order k.now.past) g.said ∙ ap (λ z. all ++ z) (none (unmarked (y.event ∷ []))) ∙ append-nil all in (
               honest (subst (AreTimely p) (sym same_lives) timely) n,
-              record { now = way now.sets inside i all same_lives g.numbered seen; saved = m },
+              record { now = way now.sets inside i all same_lives g.numbered seen counted; saved = m },
             )
 
       entered : (r : ℕ) (b : Bool) → is_said e.said (Entered r) ≡ b
@@ -397,12 +403,12 @@ module _ (p : TProgram) (regions : List TRegion) (nv : Option (List ℤ)) (q : L
         lived : lives_of (erase q ++ item t (Showed a) ∷ []) past' ≡ all ++ u0 ∷ []
         lived = one_lived (Showed a) y.event (ap is_mark (sym same)) (λ es. refl)
 
-        shown : (sets : List Instance) → AreTimely p (all ++ u0 ∷ []) → IsSeen p (all ++ u0 ∷ []) T sets
+        shown : (sets : List Instance) → AreTimely p (all ++ u0 ∷ []) → IsSeen p (all ++ u0 ∷ []) T sets → AreCounted p sets now.frames (store_in now.out).blocks
             → IsAnswer p regions nv (with (Showed a)) (Some (record w { now = record now { sets = sets } }))
-        shown sets m n = (
+        shown sets m n c = (
           honest (Showed a) tt same (subst (AreTimely p) (sym lived) m) (λ how d. absurd (cc (d))),
           record {
-            now = way (Showed a) tt same sets now.inside (sym y.same.inside) (all ++ u0 ∷ []) lived (numbered_more p all T now.sets g.numbered timely seen u0 silent) n;
+            now = way (Showed a) tt same sets now.inside (sym y.same.inside) (all ++ u0 ∷ []) lived (numbered_more p all T now.sets g.numbered timely seen u0 silent) n c;
             saved = saved_more t (Showed a) p regions q tt w.saved k.saved;
           },
         )
@@ -416,7 +422,7 @@ module _ (p : TProgram) (regions : List TRegion) (nv : Option (List ℤ)) (q : L
         plain no_use no_tag =
             shown now.sets
             (timely_more p all T now.sets g.numbered timely seen u0 silent (λ us. absurd (no_use us)) (no_tags p all T now.sets g.numbered timely seen u0 silent no_tag))
-            (seen_more p all T now.sets g.numbered timely seen u0 silent no_tag (λ j us. absurd (no_use us)))
+            (seen_more p all T now.sets g.numbered timely seen u0 silent no_tag (λ j us. absurd (no_use us))) counted
 
         age : HasAge T y.event.samples e.samples
         age before m = ap (λ z. z.samples) (y.age before m)
@@ -432,23 +438,26 @@ module _ (p : TProgram) (regions : List TRegion) (nv : Option (List ℤ)) (q : L
                 (use_timely p all T now.sets g.numbered timely seen u0 silent us e.samples C refl age m
                 (no_tags p all T now.sets g.numbered timely seen u0 silent (λ n set d s. absurd (no_tag n d))))
                 (seen_more p all T now.sets g.numbered timely seen u0 silent (λ n set d s. absurd (no_tag n d))
-                (λ j x s. use_below p all T now.sets g.numbered timely seen u0 silent us e.samples C refl age m j s))
+                (λ j x s. use_below p all T now.sets g.numbered timely seen u0 silent us e.samples C refl age m j s)) counted
             by false m = late (use_late p all T now.sets g.numbered timely seen u0 silent us e.samples C refl age m)
 
-      tagged : (n : ℕ) → Showed (Tagged n) ≡ y.event.said → falls p e.said e now.sets ≡ false → (o : Option (ℕ × ℤ)) → set_of p n ≡ o → (c : Bool) → may_tag o e now.sets ≡ c
+      tagged : (n : ℕ) → Showed (Tagged n) ≡ y.event.said → (o : Option (ℕ × ℤ)) → set_of p n ≡ o → (c : Bool) → may_tag o e now.sets ≡ c
           → IsAnswer p regions nv (with (Showed (Tagged n))) (if c then Some (record w { now = record now { sets = with_tag o e now.sets } }) else None)
-      tagged n same rises None so true m =
+      tagged n same None so true m =
           plain (Tagged n) same (λ us. subst IsUse (sym same) us)
           (λ n' set d s.
           let x : Showed (Tagged n) ≡ Showed (Tagged n') = same ∙ d in
           let nn : n ≡ n' = cc (x) in
           let no : None ≡ Some set = sym so ∙ ap (set_of p) nn ∙ s in
           absurd (cc (no)))
-      tagged n same rises None so false m = absurd (cc (m))
-      tagged n same rises (Some set) so c m = by c m
+      tagged n same None so false m = absurd (cc (m))
+      tagged n same (Some set) so c m = by c m
         where
+          of_now : e.instance ≡ times p set (store_in now.out).blocks
+          of_now = tag n set (sym (same ∙ heard)) so
+
           later : falls_at (Some set) e now.sets ≡ false
-          later = subst (λ o. falls_at o e now.sets ≡ false) so (subst (λ z. falls p z e now.sets ≡ false) (sym (same ∙ heard)) rises)
+          later = falls_not p now.sets now.frames (store_in now.out).blocks counted e set of_now
 
           instance : e.instance ≡ y.event.instance
           instance = sym (ap (λ z. z.instance) (y.age known knows))
@@ -459,13 +468,14 @@ module _ (p : TProgram) (regions : List TRegion) (nv : Option (List ℤ)) (q : L
               shown (Tagged n) same (with_tag (Some set) e now.sets)
               (tag_timely p all T now.sets g.numbered timely seen u0 n set (sym same) so e (age (Tagged n) same) instance later m)
               (tag_seen p all T now.sets g.numbered timely seen u0 n set (sym same) so e (age (Tagged n) same) instance later m)
+              (tag_counted p now.sets now.frames (store_in now.out).blocks counted e set of_now)
           by false m =
               late (Tagged n) same (tag_apart p all T now.sets g.numbered timely seen u0 n set (sym same) so e (age (Tagged n) same) instance later m)
 
-      showed : falls p e.said e now.sets ≡ false → (a : Shown) (b c : Bool) → is_said e.said (Showed a) ≡ b → may_show p nv now a e ≡ c
+      showed : (a : Shown) (b c : Bool) → is_said e.said (Showed a) ≡ b → may_show p nv now a e ≡ c
           → IsAnswer p regions nv (with (Showed a)) (if b && c then Some (record w { now = with_shown p nv now a e }) else None)
-      showed rises a false c f m = other (Showed a) tt (differs (Showed a) tt f)
-      showed rises a true c f m = by a (sym (heard ∙ one_showed e.said a f)) c m
+      showed a false c f m = other (Showed a) tt (differs (Showed a) tt f)
+      showed a true c f m = by a (sym (heard ∙ one_showed e.said a f)) c m
         where
           by : (a : Shown) → Showed a ≡ y.event.said → (c : Bool) → may_show p nv now a e ≡ c
               → IsAnswer p regions nv (with (Showed a)) (if c then Some (record w { now = with_shown p nv now a e }) else None)
@@ -474,7 +484,7 @@ module _ (p : TProgram) (regions : List TRegion) (nv : Option (List ℤ)) (q : L
           by (Emitted r z) same false m = absurd (cc (m))
           by (Used n) same c m = uses (Used n) same (subst IsUse same tt) (λ n' d. let x : Showed (Used n) ≡ Showed (Tagged n') = same ∙ d in absurd (cc (x))) c m
           by (Finished n) same c m = uses (Finished n) same (subst IsUse same tt) (λ n' d. let x : Showed (Finished n) ≡ Showed (Tagged n') = same ∙ d in absurd (cc (x))) c m
-          by (Tagged n) same c m = tagged n same rises (set_of p n) refl c m
+          by (Tagged n) same c m = tagged n same (set_of p n) refl c m
 
       -- a trap
       ended : (how : Ending) (b c : Bool) → is_said e.said (Ended how) ≡ b → has_words p nv nv (words p nv now.out) ≡ c
@@ -485,7 +495,8 @@ module _ (p : TProgram) (regions : List TRegion) (nv : Option (List ℤ)) (q : L
           by : Ended how ≡ y.event.said → IsLast y.event y.o → IsAnswer p regions nv (with (Ended how)) (if c then Some (record w { now = record now { over = true } }) else None)
           by same (inl n) = absurd (subst IsNoEnd (sym same) n)
           by same (inr stop) =
-              finish how (in_order past') AtTrap (words_of stop.0.nv) run (λ d. absurd (cc (d))) (tells (Ended how) tt same) lived past' y.fs y.o now y.follows over y.same nv refl (words p nv now.out)
+              finish how (in_order past') AtTrap (words_of stop.0.nv) run (λ d. absurd (cc (d))) (tells (Ended how) tt same) lived past' y.fs y.o now y.follows over y.same counted nv refl
+              (words p nv now.out)
               (ap (λ o. words_of (store_in o).nv) (sym (y.follows.out_age known knows)) ∙ left_words known C y.o ∙ ap (λ o. words_of (store_in o).nv) stop.1) c m
             where
               over : step p regions union suc y.fs y.o ≡ Over
@@ -505,19 +516,19 @@ module _ (p : TProgram) (regions : List TRegion) (nv : Option (List ℤ)) (q : L
                   (timely_more p all T now.sets g.numbered timely seen u0 silent (λ us. absurd (subst IsUse (sym same) us))
                   (no_tags p all T now.sets g.numbered timely seen u0 silent (λ n set d s. let x : Ended how ≡ Showed (Tagged n) = same ∙ d in absurd (cc (x)))))
 
-      says : (s : Said) → IsTelling s → falls p e.said e now.sets ≡ false → IsAnswer p regions nv (with s) (on_event p nv w s e now)
-      says (Entered r) l rises = entered r (is_said e.said (Entered r)) refl
-      says (Committed r) l rises = committed r (is_said e.said (Committed r)) refl
-      says (Showed a) l rises = showed rises a (is_said e.said (Showed a)) (may_show p nv now a e) refl refl
-      says (Ended how) l rises = ended how (is_said e.said (Ended how)) (has_words p nv nv (words p nv now.out)) refl refl
-      says (Sensed a z) l rises = other (Sensed a z) tt (λ d. subst IsNoInput (sym d) y.no_input)
-      says (Aborted r) l rises = absurd l
-      says (Off m) l rises = absurd l
-      says Dark l rises = absurd l
+      says : (s : Said) → IsTelling s → IsAnswer p regions nv (with s) (on_event p nv w s e now)
+      says (Entered r) l = entered r (is_said e.said (Entered r)) refl
+      says (Committed r) l = committed r (is_said e.said (Committed r)) refl
+      says (Showed a) l = showed a (is_said e.said (Showed a)) (may_show p nv now a e) refl refl
+      says (Ended how) l = ended how (is_said e.said (Ended how)) (has_words p nv nv (words p nv now.out)) refl refl
+      says (Sensed a z) l = other (Sensed a z) tt (λ d. subst IsNoInput (sym d) y.no_input)
+      says (Aborted r) l = absurd l
+      says (Off m) l = absurd l
+      says Dark l = absurd l
 
     -- ---- it wants a sample
 
-    module _ (sensor : ℕ) (gs : List Frame) (τ : Store) (y : Wanting p regions V T C k.now.past w.now sensor gs τ) where
+    module _ (sensor : ℕ) (gs : List Frame) (τ : Store) (y : Wanting p regions V T C k.now.past w.now sensor gs τ) (counted : AreCounted p w.now.sets gs τ.blocks) where
       short : (s : Said) → IsTelling s → IsNoInput s → IsHonestSoFar p regions nv (with s) → ⊥
       short s l n z =
           let run = (hears.is_short p regions V k.now.past y.fs y.after y.o sensor y.σ y.under y.asks).0 in
@@ -590,7 +601,7 @@ module _ (p : TProgram) (regions : List TRegion) (nv : Option (List ℤ)) (q : L
                 (λ d. going_more p regions nv q t (Sensed a z) tt T' past_in w.now.sets (all ++ u_in ∷ []) tells ts lived
                 (input_numbered p all T w.now.sets g.numbered timely g.seen u_in C is_input refl) (input_seen p all T w.now.sets g.numbered timely g.seen u_in C is_input refl))
                 (λ d. absurd (let no : true ≡ false = sym d ∙ off in cc (no)))
-                (λ d. absurd (let no : true ≡ false = sym d ∙ off in cc (no)));
+                (λ d. absurd (let no : true ≡ false = sym d ∙ off in cc (no))) counted;
             saved = saved_more t (Sensed a z) p regions q tt w.saved k.saved;
           },
         )
@@ -621,7 +632,7 @@ module _ (p : TProgram) (regions : List TRegion) (nv : Option (List ℤ)) (q : L
 
     -- ---- it stands at its end
 
-    module _ (now : Way) (y : Standing p regions V T C k.now.past w.now now) where
+    module _ (now : Way) (y : Standing p regions V T C k.now.past w.now now) (counted : AreCounted p now.sets now.frames (store_in now.out).blocks) where
       -- what the run is, where it went through
       at_went : (σ : Store) → σ.events ≡ [] → (x : List ℤ)
           → (trace_of (with_more k.now.past x (Went σ))) ≡ record { events = in_order k.now.past ++ halted ∷ []; ending = AtEnd; nv = words_of σ.nv }
@@ -667,7 +678,8 @@ module _ (p : TProgram) (regions : List TRegion) (nv : Option (List ℤ)) (q : L
           → IsAnswer p regions nv (with (Ended Halted)) (if has_words p nv nv (words_of (map (aged_held known) σ.nv)) then Some (record w { now = record now { over = true } }) else None)
       told_end σ n r =
           finish Halted (in_order k.now.past ++ halted ∷ []) AtEnd (words_of σ.nv) (λ x. r x ∙ at_went σ n x) (λ d. absurd (cc (d))) tells lived
-          k.now.past y.fs y.o now y.follows y.over y.same nv refl (words_of (map (aged_held known) σ.nv)) (words_aged known σ.nv) (has_words p nv nv (words_of (map (aged_held known) σ.nv))) refl
+          k.now.past y.fs y.o now y.follows y.over y.same counted nv refl
+          (words_of (map (aged_held known) σ.nv)) (words_aged known σ.nv) (has_words p nv nv (words_of (map (aged_held known) σ.nv))) refl
         where
           tells : map (λ x. x.said) (in_order k.now.past ++ halted ∷ []) ≡ without_offs (erase q ++ item t (Ended Halted) ∷ [])
           tells =
@@ -704,18 +716,29 @@ module _ (p : TProgram) (regions : List TRegion) (nv : Option (List ℤ)) (q : L
       stands (Off m) l = absurd l
       stands Dark l = absurd l
 
+-- where a run under way is counted, so is what it does next
+next_counted : (p : TProgram) (regions : List TRegion) (q : List Told) (w : Watch) (n : ℕ) (numbered : Numbered p) → IsWatch p regions q w
+    → StaysCounted p regions (body_noted p numbered) w.now.sets (steps_on p regions n w.now)
+next_counted p regions q w n numbered k =
+    counted_on p regions (body_noted p numbered) n w.now k.now.counted
+    (nothing_said p regions (samples_in (erase q)) (offs_before 0 (erase q)) (offs_in 0 (erase q)) k.now.past k.now.fs k.now.o w.now k.now.follows)
+
+pub none_falls : NoneFalls
+none_falls p regions q w n numbered k = rises p regions (body_noted p numbered) w.now.sets (steps_on p regions n w.now) (next_counted p regions q w n numbered k)
+
 pub tells_right : TellsRight
-tells_right p regions nv q t s w n h k l made rises = by w.now.over refl
+tells_right p regions nv q t s w n numbered h k l made = by w.now.over refl
   where
-    go : w.now.over ≡ false → (x : Next) → Leads p regions (samples_in (erase q)) (offs_before 0 (erase q)) (offs_in 0 (erase q)) k.now.past w.now x → IsMade x → Rises p x
-        → IsAnswer p regions nv (q ++ item t s ∷ []) (on_next p nv regions w s x)
-    go o (Went_on now) y m r = absurd m
-    go o (Stands now) y m r = stands p regions nv q t w h k o now y s l
-    go o (Wants a gs τ) y m r = wants p regions nv q t w h k o a gs τ y s l
-    go o (Says e now) y m r = says p regions nv q t w h k o e now y s l r
+    go : w.now.over ≡ false → (x : Next) → Leads p regions (samples_in (erase q)) (offs_before 0 (erase q)) (offs_in 0 (erase q)) k.now.past w.now x → IsMade x
+        → StaysCounted p regions (body_noted p numbered) w.now.sets x → IsAnswer p regions nv (q ++ item t s ∷ []) (on_next p nv regions w s x)
+    go o (Went_on now) y m c = absurd m
+    go o (Stands now) y m c = stands p regions nv q t w h k o now y c s l
+    go o (Wants a gs τ) y m c = wants p regions nv q t w h k o a gs τ y c s l
+    go o (Says e now) y m c = says p regions nv q t w h k o e now y c.0 c.1 s l
 
     by : (b : Bool) → w.now.over ≡ b → IsAnswer p regions nv (q ++ item t s ∷ []) (on_next p nv regions w s (steps_on p regions n w.now))
     by true o = over_right p regions nv q t w h k s l n o
     by false o =
         go o (steps_on p regions n w.now)
-        (onward p regions (samples_in (erase q)) (offs_before 0 (erase q)) (offs_in 0 (erase q)) n k.now.past k.now.fs k.now.o w.now k.now.follows) made rises
+        (onward p regions (samples_in (erase q)) (offs_before 0 (erase q)) (offs_in 0 (erase q)) n k.now.past k.now.fs k.now.o w.now k.now.follows) made
+        (next_counted p regions q w n numbered k)

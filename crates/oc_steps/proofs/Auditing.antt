@@ -1,6 +1,8 @@
 -- The audit of a report, item by item.
 use Rattle.std.proofs.Common.{◌≡◌, ℕ, suc, ℤ, List, [], ◌∷◌, ◌++◌, length, map, Option, Some, None, refl, sym, ap, ◌∙◌, subst, inl, inr, ⊎_elim, append-nil, append_assoc, arith}
 use Rattle.std.specs.Prelude.{◌⊎◌, codes}
+use Rattle.std.proofs.lemmas.Option.{none-some}
+use Rattle.oc_tree.specs.Form.{Numbered}
 use Rattle.oc_tree.specs.Tree.{TProgram}
 use Rattle.oc_tree.specs.declared.tree.NvDecl.{NvDecl}
 use Rattle.oc_tree.specs.Marked.{TRegion}
@@ -25,6 +27,8 @@ use Rattle.oc_steps.specs.Watching.{IsSeen, IsWay, IsWatch, IsAnswer, AllHonest}
 use Rattle.oc_steps.specs.Auditing.{IsHeard, Finds, all, breaks, goes, first_watch, Judges, HearsRight, FindsRight}
 use Rattle.oc_steps.proofs.Aging.{passed_to_aged}
 use Rattle.oc_steps.proofs.Little.{passed_little}
+use Rattle.oc_steps.proofs.Homes.{body_noted}
+use Rattle.oc_steps.proofs.Counting.{Counts, passed_counts}
 use Rattle.oc_steps.proofs.Onward.{taken_of, is_cleared}
 use Rattle.oc_steps.proofs.Starting.{starts_right}
 use Rattle.oc_steps.proofs.Resting.{rests_right}
@@ -34,7 +38,7 @@ use Rattle.oc_steps.proofs.Answering.{tells_right}
 -- ---- one item
 
 pub hears_right : HearsRight
-hears_right p regions nv q i w a h k e = by i.tick i.said e
+hears_right p regions nv q i w a numbered h k e = by i.tick i.said e
   where
     so : IsHonestSoFar p regions nv q
     so = h q [] (append-nil q)
@@ -43,11 +47,11 @@ hears_right p regions nv q i w a h k e = by i.tick i.said e
     by t (Off m) e = subst (IsAnswer p regions nv (q ++ item t (Off m) ∷ [])) (sym e) (rests_right.offs p regions nv q t m w so k)
     by t Dark e = subst (IsAnswer p regions nv (q ++ item t Dark ∷ [])) (sym e) (rests_right.dark p regions nv q t w so k)
     by t (Aborted r) e = subst (IsAnswer p regions nv (q ++ item t (Aborted r) ∷ [])) (sym e) (aborts_right p regions nv q t r w h k)
-    by t (Sensed b z) e = subst (IsAnswer p regions nv (q ++ item t (Sensed b z) ∷ [])) (sym e.3) (tells_right p regions nv q t (Sensed b z) w e.0 so k tt e.1 e.2)
-    by t (Showed b) e = subst (IsAnswer p regions nv (q ++ item t (Showed b) ∷ [])) (sym e.3) (tells_right p regions nv q t (Showed b) w e.0 so k tt e.1 e.2)
-    by t (Entered r) e = subst (IsAnswer p regions nv (q ++ item t (Entered r) ∷ [])) (sym e.3) (tells_right p regions nv q t (Entered r) w e.0 so k tt e.1 e.2)
-    by t (Committed r) e = subst (IsAnswer p regions nv (q ++ item t (Committed r) ∷ [])) (sym e.3) (tells_right p regions nv q t (Committed r) w e.0 so k tt e.1 e.2)
-    by t (Ended b) e = subst (IsAnswer p regions nv (q ++ item t (Ended b) ∷ [])) (sym e.3) (tells_right p regions nv q t (Ended b) w e.0 so k tt e.1 e.2)
+    by t (Sensed b z) e = subst (IsAnswer p regions nv (q ++ item t (Sensed b z) ∷ [])) (sym e.2) (tells_right p regions nv q t (Sensed b z) w e.0 numbered so k tt e.1)
+    by t (Showed b) e = subst (IsAnswer p regions nv (q ++ item t (Showed b) ∷ [])) (sym e.2) (tells_right p regions nv q t (Showed b) w e.0 numbered so k tt e.1)
+    by t (Entered r) e = subst (IsAnswer p regions nv (q ++ item t (Entered r) ∷ [])) (sym e.2) (tells_right p regions nv q t (Entered r) w e.0 numbered so k tt e.1)
+    by t (Committed r) e = subst (IsAnswer p regions nv (q ++ item t (Committed r) ∷ [])) (sym e.2) (tells_right p regions nv q t (Committed r) w e.0 numbered so k tt e.1)
+    by t (Ended b) e = subst (IsAnswer p regions nv (q ++ item t (Ended b) ∷ [])) (sym e.2) (tells_right p regions nv q t (Ended b) w e.0 numbered so k tt e.1)
 
 -- ---- before the first item
 
@@ -55,7 +59,7 @@ first_aged : (before : ℕ → ℕ) (ds : List NvDecl) → map (aged_held before
 first_aged before [] = refl
 first_aged before (d ∷ ds) = ap (λ l. array_of d.initial d.words ∷ l) (first_aged before ds)
 
-module _ (p : TProgram) (regions : List TRegion) where
+module _ (p : TProgram) (regions : List TRegion) (numbered : Numbered p) where
   full : Step
   full = step_passed p regions union suc (suc (length p.functions)) (codes "main") [] [] (first_store p [])
 
@@ -70,8 +74,8 @@ module _ (p : TProgram) (regions : List TRegion) where
     one = λ k i f. absurd (cc (f));
   }
 
-  from : (b a : Step) → Starts p regions b → Little 0 b → ((before : ℕ → ℕ) → a ≡ aged_step before 0 b) → IsWay p regions [] (start p regions [] a)
-  from (Goes fs o) (Goes gs u) st l k = record {
+  from : (b a : Step) → Starts p regions b → Little 0 b → ((before : ℕ → ℕ) → a ≡ aged_step before 0 b) → Counts p [] a → IsWay p regions [] (start p regions [] a)
+  from (Goes fs o) (Goes gs u) st l k c = record {
     past = [];
     fs = fs;
     o = o;
@@ -85,11 +89,12 @@ module _ (p : TProgram) (regions : List TRegion) where
     going = λ d. record { said = refl; numbered = no_events; seen = nothing_seen };
     whole = λ d. absurd (cc (d));
     stands = λ d. absurd (cc (d));
+    counted = record { noted = c.0; last = λ s i f. absurd (none-some i f) };
   }
-  from (Goes fs o) (Asks s gs τ) st l k = absurd (cc (k (λ j. j)))
-  from (Goes fs o) Over st l k = absurd (cc (k (λ j. j)))
-  from (Asks s fs σ) a st l k = absurd st
-  from Over a st l k = absurd st
+  from (Goes fs o) (Asks s gs τ) st l k c = absurd (cc (k (λ j. j)))
+  from (Goes fs o) Over st l k c = absurd (cc (k (λ j. j)))
+  from (Asks s fs σ) a st l k c = absurd st
+  from Over a st l k c = absurd st
 
   watches_first : IsWatch p regions [] (first_watch p regions)
   watches_first = record {
@@ -98,7 +103,8 @@ module _ (p : TProgram) (regions : List TRegion) where
         (passed_little 0 p regions (suc (length p.functions)) (codes "main") [] [] (first_store p []) (refl, refl))
         (λ before.
         ap (λ l. step_passed p regions join_ages (λ n. n) (suc (length p.functions)) (codes "main") [] [] (record (first_store p []) { nv = l })) (sym (first_aged before p.nv))
-        ∙ passed_to_aged before 0 p regions (suc (length p.functions)) (codes "main") [] [] (first_store p []));
+        ∙ passed_to_aged before 0 p regions (suc (length p.functions)) (codes "main") [] [] (first_store p []))
+        (passed_counts p [] join_ages (λ n. n) regions (body_noted p numbered) (suc (length p.functions)) (codes "main") [] [] (first_store p []) tt (refl, refl));
     saved = λ r e. absurd (cc (e));
   }
 
@@ -152,11 +158,11 @@ module _ (p : TProgram) (regions : List TRegion) where
       split = s;
       number = m;
       honest = h;
-      broken = hears_right p regions r.nv q i w None h k e;
+      broken = hears_right p regions r.nv q i w None numbered h k e;
     }
     finds_from (goes {w = w} {now = now} {i = i} {is = is} {n = n} {v = v} e f) q s m h k =
-        let a = hears_right p regions r.nv q i w (Some now) h k e in
+        let a = hears_right p regions r.nv q i w (Some now) numbered h k e in
         finds_from f (q ++ i ∷ []) (append_assoc q (i ∷ []) is ∙ s) (ap suc m ∙ ap suc (sym (length-more q i))) (honest_all r.nv q i h a.0) a.1
 
 pub finds_right : FindsRight
-finds_right p regions r v f = finds_from p regions r f [] refl refl (empty_honest p regions r.nv) (watches_first p regions)
+finds_right p regions r v numbered f = finds_from p regions numbered r f [] refl refl (empty_honest p regions numbered r.nv) (watches_first p regions numbered)

@@ -12,6 +12,9 @@ pub mod Little
 pub mod Onward
 pub mod Using
 pub mod Together
+pub mod Homes
+pub mod Counting
+pub mod Rising
 pub mod Lives
 pub mod Answering
 pub mod Starting

@@ -19,7 +19,8 @@ use Rattle.oc_items.specs.Erase.{erase, without_offs, without_mark, without_mark
 use Rattle.oc_items.specs.Reports.{IsPrefixOf}
 use Rattle.oc_honest.specs.Timely.{Lived, lived_from, AreTimely}
 use Rattle.oc_steps.specs.Steps.{Frame, Over, step}
-use Rattle.oc_steps.specs.Heard.{Under, told}
+use Rattle.oc_steps.specs.Counting.{AreCounted}
+use Rattle.oc_steps.specs.Heard.{Under, told, store_in}
 use Rattle.oc_honest.specs.Honest.{IsWhole, IsHonestSoFar}
 use Rattle.oc_steps.specs.Erasing.{item, IsNoAbort}
 use Rattle.oc_steps.specs.Freshness.{AreNumbered}
@@ -166,8 +167,9 @@ module _ (p : TProgram) (regions : List TRegion) where
         → (w.over ≡ false → IsGoing p (erase q ++ end) past' w.sets)
         → (w.over ≡ true → (x : List ℤ) → said_in (marked_run p regions (v' ++ x)) ≡ without_offs (erase q ++ end))
         → (w.over ≡ true → step p regions union suc fs' o' ≡ Over)
+        → AreCounted p w.sets w.frames (store_in w.out).blocks
         → IsWay p regions (erase (q ++ end)) w
-    way_more v' table' past' fs' o' w vs ts f i g over stands =
+    way_more v' table' past' fs' o' w vs ts f i g over stands counted =
         subst (λ l. IsWay p regions l w) (sym added) (record {
           past = past';
           fs = fs';
@@ -179,6 +181,7 @@ module _ (p : TProgram) (regions : List TRegion) where
           going = g;
           whole = λ b x. subst (λ l. said_in (marked_run p regions (l ++ x)) ≡ without_offs (erase q ++ end)) (sym vs) (over b x);
           stands = stands;
+          counted = counted;
         })
 
     -- what it tells is numbered and seen

@@ -113,6 +113,10 @@ module _ (p : TProgram) (regions : List TRegion) (v : List ℤ) (table : List �
   first_agrees j l = refl
 
   module _ (past : List Event) (fs : List Frame) (o : Outcome) (w : Way) (f : Follows p regions v table c past fs o w.frames w.out) where
+    -- nothing that was said is left in it
+    pub nothing_said : events_in w.out ≡ []
+    nothing_said = ap events_in (sym (f.out_age first first_agrees)) ∙ events_aged first c o ∙ ap (map (aged_event first)) f.under.none
+
     meets : (before : ℕ → ℕ) → Agrees table before → step p regions join_ages (λ n. n) w.frames w.out ≡ aged_step before c (step p regions union suc fs o)
     meets before a =
         ap (λ l. step p regions join_ages (λ n. n) l w.out) (sym (f.frames_age before a))

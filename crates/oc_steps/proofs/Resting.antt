@@ -14,7 +14,8 @@ use Rattle.oc_items.specs.Erase.{erase, without_offs, without_marks, samples_of,
 use Rattle.oc_steps.specs.Ages.{aged_outcome}
 use Rattle.oc_steps.specs.AgesTell.{Agrees}
 use Rattle.oc_steps.specs.Erasing.{item, IsNoAbort}
-use Rattle.oc_steps.specs.Heard.{Under}
+use Rattle.oc_steps.specs.Counting.{AreCounted}
+use Rattle.oc_steps.specs.Heard.{Under, store_in}
 use Rattle.oc_steps.specs.Freshness.{AreNumbered}
 use Rattle.oc_meaning.specs.Unmarked.{unmarked}
 use Rattle.oc_items.specs.Reports.{IsPrefixOf}
@@ -111,9 +112,9 @@ module _ (t : ℕ) (s : Said) (k : IsQuiet s) where
       whole = λ how x. absurd ((quiet_adds s k).1 how (ends_so t s q x.0 x.1 (Ended how) x.2));
     }
 
-    way : (w : Way) (out' : Outcome) → ((before : ℕ → ℕ) (o : Outcome) → aged_outcome before (offs_in 0 (erase q)) o ≡ w.out
+    way : (w : Way) (out' : Outcome) → (store_in out').blocks ≡ (store_in w.out).blocks → ((before : ℕ → ℕ) (o : Outcome) → aged_outcome before (offs_in 0 (erase q)) o ≡ w.out
         → aged_outcome before (off_more s (offs_in 0 (erase q))) o ≡ out') → IsWay p regions (erase q) w → IsWay p regions (erase q ++ end) (record w { out = out' })
-    way w out' f h = record {
+    way w out' b f h = record {
       past = h.past;
       fs = h.fs;
       o = h.o;
@@ -127,6 +128,7 @@ module _ (t : ℕ) (s : Said) (k : IsQuiet s) where
       going = λ o. going (h.going o);
       whole = λ o v. subst (λ l. said_in (marked_run p regions (samples_of (without_marks l) ++ v)) ≡ l) (sym (same_said (erase q))) (h.whole o v);
       stands = h.stands;
+      counted = subst (AreCounted p w.sets w.frames) (sym b) h.counted;
     }
       where
         same : lived_from 0 (erase q ++ end) (unmarked (in_order h.past)) ≡ lives_of (erase q) h.past
@@ -139,6 +141,11 @@ module _ (t : ℕ) (s : Said) (k : IsQuiet s) where
           seen = subst (λ l. IsSeen p l (offs_before 0 (erase q ++ end)) w.sets) (sym same) (subst (λ l. IsSeen p (lives_of (erase q) h.past) l w.sets) (sym (same_before (erase q))) g.seen);
         }
 
+same_blocks : (o : Outcome) → (store_in (one_more o)).blocks ≡ (store_in o).blocks
+same_blocks (Went σ) = refl
+same_blocks (Returned v σ) = refl
+same_blocks (Stopped s σ) = refl
+
 as_many : (before : ℕ → ℕ) (n : ℕ) (o : Outcome) → aged_outcome before (suc n) o ≡ one_more (aged_outcome before n o)
 as_many before n (Went σ) = refl
 as_many before n (Returned v σ) = refl
@@ -149,7 +156,7 @@ module _ (p : TProgram) (regions : List TRegion) (nv : Option (List ℤ)) (q : L
   dark w h k = (
     honest t Dark tt p regions nv q h tt,
     record {
-      now = subst (λ l. IsWay p regions l w.now) (sym (added t Dark tt q)) (way t Dark tt p regions nv q w.now w.now.out (λ before o e. e) k.now);
+      now = subst (λ l. IsWay p regions l w.now) (sym (added t Dark tt q)) (way t Dark tt p regions nv q w.now w.now.out refl (λ before o e. e) k.now);
       saved = saved_more t Dark p regions q tt w.saved k.saved;
     },
   )
@@ -161,7 +168,7 @@ module _ (p : TProgram) (regions : List TRegion) (nv : Option (List ℤ)) (q : L
         honest t (Off m) tt p regions nv q h (subst IsOutside (sym i) tt),
         record {
           now = subst (λ l. IsWay p regions l (record w.now { out = one_more w.now.out })) (sym (added t (Off m) tt q))
-              (way t (Off m) tt p regions nv q w.now (one_more w.now.out) (λ before o e. as_many before (offs_in 0 (erase q)) o ∙ ap one_more e) k.now);
+              (way t (Off m) tt p regions nv q w.now (one_more w.now.out) (same_blocks w.now.out) (λ before o e. as_many before (offs_in 0 (erase q)) o ∙ ap one_more e) k.now);
           saved = saved_more t (Off m) p regions q tt w.saved k.saved;
         },
       )

@@ -101,7 +101,7 @@ is_own k i e =
     let own : is_set i.set i ≡ true = ap (λ b. b && int_eq i.set.1 i.set.1) (eq-eqb i.set.0 i.set.0 refl) ∙ int_same i.set.1 in
     subst (λ s. is_set s i ≡ true) e own
 
-find_put : (k : ℕ × ℤ) (new : Instance) (is : List Instance) → new.set ≡ k → find (is_set k) (put_instance k new is) ≡ Some new
+pub find_put : (k : ℕ × ℤ) (new : Instance) (is : List Instance) → new.set ≡ k → find (is_set k) (put_instance k new is) ≡ Some new
 find_put k new [] e = ap (λ b. if b then Some new else None) (is_own k new e)
 find_put k new (i ∷ is) e = by (is_set k i) refl (find_put k new is e)
   where
@@ -110,7 +110,7 @@ find_put k new (i ∷ is) e = by (is_set k i) refl (find_put k new is e)
     by false h ih = ap (λ b. if b then Some i else find (is_set k) (put_instance k new is)) h ∙ ih
 
 -- another set keeps its entry
-find_other : (k j : ℕ × ℤ) (new : Instance) (is : List Instance) → new.set ≡ k → (j ≡ k → ⊥) → find (is_set j) (put_instance k new is) ≡ find (is_set j) is
+pub find_other : (k j : ℕ × ℤ) (new : Instance) (is : List Instance) → new.set ≡ k → (j ≡ k → ⊥) → find (is_set j) (put_instance k new is) ≡ find (is_set j) is
 find_other k j new is e d = go is
   where
     other : (i : Instance) → i.set ≡ k → is_set j i ≡ false
@@ -130,7 +130,7 @@ find_other k j new is e d = go is
         by false h ih = ap (λ o. if is_set j i then Some i else o) ih
 
 -- one set or another
-same_set : (j k : ℕ × ℤ) → (j ≡ k) ⊎ (j ≡ k → ⊥)
+pub same_set : (j k : ℕ × ℤ) → (j ≡ k) ⊎ (j ≡ k → ⊥)
 same_set j k = by (is_set k i) refl
   where
     i : Instance

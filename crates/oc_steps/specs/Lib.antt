@@ -5,6 +5,7 @@ pub mod Ages
 pub mod Heard
 pub mod Hearing
 pub mod Fold
+pub mod Counting
 pub mod Erasing
 pub mod AgesTell
 pub mod Watching

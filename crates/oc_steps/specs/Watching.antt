@@ -1,5 +1,6 @@
 -- What the audit's state has to do with the items so far, and what an item does to it.
 use Rattle.std.specs.Prelude.{◌≡◌, ◌≢◌, ◌<◌, ◌≤◌, ℕ, suc, ℤ, Bool, true, false, List, [], ◌∷◌, ◌++◌, length, map, find, get_or, Option, Some, None}
+use Rattle.oc_tree.specs.Form.{Numbered}
 use Rattle.oc_tree.specs.Tree.{TProgram}
 use Rattle.oc_tree.specs.Marked.{TRegion}
 use Rattle.oc_tree.specs.Said.{Told}
@@ -21,6 +22,7 @@ use Rattle.oc_honest.specs.Timely.{Lived, lived_from, IsUse, set_of}
 use Rattle.oc_meaning.specs.Unmarked.{unmarked}
 use Rattle.oc_steps.specs.Freshness.{AreNumbered}
 use Rattle.oc_steps.specs.Erasing.{item, last_mark, AreUnmarked}
+use Rattle.oc_steps.specs.Counting.{AreCounted}
 use Rattle.oc_tree.specs.Members.{IsOf}
 
 abbrev pub off_more : Said → ℕ → ℕ
@@ -108,6 +110,7 @@ pub record IsWay (p : TProgram) (regions : List TRegion) (e : List Told) (w : Wa
   pub going : w.over ≡ false → IsGoing p e past w.sets
   pub whole : w.over ≡ true → (t : List ℤ) → said_in (marked_run p regions (samples_in e ++ t)) ≡ without_offs e
   pub stands : w.over ≡ true → step p regions union suc fs o ≡ Over
+  pub counted : AreCounted p w.sets w.frames (store_in w.out).blocks
 
 -- the run before the last `enter`, where no mark stands behind it
 abbrev pub IsSaved : TProgram → List TRegion → List Told → Option (ℕ × Way) → Type 0
@@ -143,8 +146,12 @@ IsTelling (Off ticks) = ⊥
 IsTelling Dark = ⊥
 IsTelling s = Unit {0}
 
+-- what a run tells next is no tag of an earlier instance than the last one of its set
+abbrev pub NoneFalls : Type 0
+NoneFalls = (p : TProgram) (regions : List TRegion) (q : List Told) (w : Watch) (n : ℕ) → Numbered p → IsWatch p regions q w → Rises p (steps_on p regions n w.now)
+
 -- the answer to an item that a run tells, where this is what it does next
 abbrev pub TellsRight : Type 0
-TellsRight = (p : TProgram) (regions : List TRegion) (nv : Option (List ℤ)) (q : List Told) (t : ℕ) (s : Said) (w : Watch) (n : ℕ)
-    → IsHonestSoFar p regions nv q → IsWatch p regions q w → IsTelling s → IsMade (steps_on p regions n w.now) → Rises p (steps_on p regions n w.now)
+TellsRight = (p : TProgram) (regions : List TRegion) (nv : Option (List ℤ)) (q : List Told) (t : ℕ) (s : Said) (w : Watch) (n : ℕ) → Numbered p
+    → IsHonestSoFar p regions nv q → IsWatch p regions q w → IsTelling s → IsMade (steps_on p regions n w.now)
     → IsAnswer p regions nv (q ++ item t s ∷ []) (on_next p nv regions w s (steps_on p regions n w.now))

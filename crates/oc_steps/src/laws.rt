@@ -9,7 +9,7 @@ ghost use Rattle.oc_steps.specs.Hearing.{Hears};
 ghost use Rattle.oc_steps.specs.Little.{SaysLittle};
 ghost use Rattle.oc_steps.specs.Resting.{RestsRight};
 ghost use Rattle.oc_steps.specs.Starting.{StartsRight};
-ghost use Rattle.oc_steps.specs.Watching.{AbortsRight, TellsRight};
+ghost use Rattle.oc_steps.specs.Watching.{AbortsRight, NoneFalls, TellsRight};
 
 /// The first frames are those of the run.
 pub fn starts_right()
@@ -60,6 +60,12 @@ pub fn aborts_right()
 /// The answers to `off` and `dark` are those of the definition.
 pub fn rests_right()
     ensures { RestsRight }
+{}
+
+/// Instances are counted: no tag that a run tells is of an earlier instance than the last one of its
+/// set.
+pub fn none_falls()
+    ensures { NoneFalls }
 {}
 
 /// The answer to any other item is that of the definition.

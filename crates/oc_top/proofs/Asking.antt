@@ -13,13 +13,13 @@ use Rattle.oc_isa.specs.Image.{Parts}
 use Rattle.oc_isa.specs.Power.{power_run}
 use Rattle.oc_isa.specs.Table.{device_of}
 use Rattle.oc_machine.specs.Kept.{Running}
-use Rattle.oc_isa.specs.declared.phase.Phase.TheVariants.{Over}
-use Rattle.oc_tree.specs.declared.said.Ending.{Ending}
+use Rattle.oc_outage.specs.Kept.{CountIsKept}
 use Rattle.oc_outage.proofs.Enters.{device_fit}
-use Rattle.oc_bounds.specs.Bounds.{AreSafe}
+use Rattle.oc_outage.proofs.Runs.{count_is_kept}
 use Rattle.oc_bounds.specs.Attempts.{AttemptsClose}
 use Rattle.oc_bounds.proofs.Attempting.{attempts_close}
-use Rattle.oc_bounds.proofs.Periods.{safe_ends}
+use Rattle.oc_bounds.specs.Headway.{PeriodsKeep, RunEnds, Suffice}
+use Rattle.oc_bounds.proofs.Sufficing.{periods_keep, run_ends}
 use Rattle.oc_top.specs.Meant.{program_code, program_bounds}
 use Rattle.oc_top.specs.Commands.{Plan, report, regions, listing, imaging, checking, auditing, executing, Task}
 use Rattle.oc_top.specs.Commands.{Exec, Run, limits_of, meters_of, audit_limits, image_limit, run_limits, source_task, task_for, with_image, with_plan, plans_of, word_at}
@@ -55,7 +55,8 @@ ready_run files plan machine sensors left r =
     let bounds = program_bounds b.written in
     let fit = device_fit machine.parts in
     let attempts = attempts_close (device_of machine.parts) bounds (history sensors.rows) left fit b.bounded r.can_run.words in
-    let ends = safe_ends (device_of machine.parts) bounds (history sensors.rows) fit b.bounded.safe r.can_run.words left b.bounded in
+    let keeps = periods_keep (device_of machine.parts) bounds (history sensors.rows) fit b.bounded r.can_run.words left in
+    let ends = run_ends (device_of machine.parts) bounds (history sensors.rows) fit b.bounded r.can_run.words left in
     record {
       written = b.written;
       spelled = b.reads;
@@ -70,8 +71,12 @@ ready_run files plan machine sensors left r =
           (power_run (device_of i) (history sensors.rows) left).state.nv) b.is_code honest);
       attempts = subst (λ (ps : List Period). AttemptsClose bounds ps (program_power b.written sensors.rows ps).report) r.planned
           (subst (λ (i : Parts). AttemptsClose bounds left (power_run (device_of i) (history sensors.rows) left).report) b.is_code attempts);
-      ends = subst (λ (ps : List Period). AreSafe bounds (suc bounds.total) ps → (how : Ending) × ((program_power b.written sensors.rows ps).state.phase ≡ Over how)) r.planned
-          (subst (λ (i : Parts). AreSafe bounds (suc bounds.total) left → (how : Ending) × ((power_run (device_of i) (history sensors.rows) left).state.phase ≡ Over how)) b.is_code ends);
+      headway = subst (λ (ps : List Period). PeriodsKeep (device_of (program_code b.written)) bounds (history sensors.rows) ps) r.planned
+          (subst (λ (i : Parts). PeriodsKeep (device_of i) bounds (history sensors.rows) left) b.is_code keeps);
+      counts = subst (λ (i : Parts). (before : List Period) → CountIsKept (device_of i) (history sensors.rows) before) b.is_code
+          (λ before. count_is_kept (device_of machine.parts) (history sensors.rows) fit r.can_run.words before r.can_run.sound);
+      ends = subst (λ (ps : List Period). Suffice (device_of (program_code b.written)) bounds ps → RunEnds (device_of (program_code b.written)) (history sensors.rows) ps) r.planned
+          (subst (λ (i : Parts). Suffice (device_of i) bounds left → RunEnds (device_of i) (history sensors.rows) left) b.is_code ends);
     }
 
 -- where it fits its types and is written whole, it is the run of a report

@@ -23,7 +23,7 @@ use Rattle.oc_top.specs.Sources.{Reading, ReadsIn, faulty, breaks, program}
 use Rattle.oc_top.specs.Steps.{IsNotRead}
 use Rattle.oc_top.specs.Verdict.{Verdict, is_refusal, refuses}
 use Rattle.oc_top.specs.Gaps.{gap_of}
-use Rattle.oc_top.specs.Checked.{AcceptsBlocks, AreEnough, IsCheck, IsEnough, IsSafe, IsSaid, no_program, broken_rule, judged}
+use Rattle.oc_top.specs.Checked.{AcceptsBlocks, AreEnough, AreJudged, IsCheck, IsEnough, IsSafe, IsSaid, no_program, broken_rule, judged}
 use Rattle.oc_top.specs.Judged.{IsCheckedOf, IsNotSafe, IsOpenFor}
 use Rattle.oc_top.proofs.OneReading.{one_reading_in, same_line, same_rule, same_tree}
 use Rattle.oc_top.specs.declared.answer.Answer.{Answer}
@@ -48,8 +48,8 @@ module _ (source : List ℕ) (c : TChecked) (blocks : List ℕ) (is : IsCheckedO
   pub not_enough : (end : Answer) → IsOpenFor c.program blocks end → IsNotSafe source end
   not_enough end (inl e) = inl e
   not_enough end (inr o) =
-      let found : (v : BlockVerdict) × IsVerdict (expansion is.written) blocks v × IsSaid (expansion is.written) v (refuses end) =
-      subst (λ (x : TChecked). (v : BlockVerdict) × IsVerdict x.program blocks v × IsSaid x.program v (refuses end)) is.is_checked o in
+      let found : (v : BlockVerdict) × AreJudged (expansion is.written) blocks v × IsSaid (expansion is.written) v (refuses end) =
+      subst (λ (x : TChecked). (v : BlockVerdict) × AreJudged x.program blocks v × IsSaid x.program v (refuses end)) is.is_checked o in
       inr (judged is.written blocks is.accepted found.0 found.1 found.2)
 
   pub not_enough_in : {X : Type 0} (r : Result X Answer) → IfErr r (IsOpenFor c.program blocks) → IfErr r (IsNotSafe source)
@@ -120,13 +120,15 @@ module _ (source : List ℕ) where
   one_check run other (judged p blocks a v is s) (no_program n b f) = let h = one (program p) (faulty n) (plain source p blocks a) b in cc h
   one_check run other (judged p blocks a v is s) (broken_rule d b f) = let h = one (program p) (breaks d) (plain source p blocks a) b in cc h
   one_check run other (judged p blocks a v is s) (judged q others b w js t) =
-      same_judged p q blocks others v w run other (same_tree p q (one (program p) (program q) (plain source p blocks a) (plain source q others b))) a b is js s t
+      same_judged p q blocks others v w run other (same_tree p q (one (program p) (program q) (plain source p blocks a) (plain source q others b))) a b is.verdict js.verdict s t
 
 -- ---- what the answers are
 
 -- blocks that suffice are the verdict on their source
 pub safe_check : (source : List ℕ) (run : Verdict) → IsSafe source run → IsCheck source run
-safe_check source run s = judged s.enough.written s.enough.blocks s.enough.accepted Covered s.enough.enough.verdict s.is_run
+safe_check source run s =
+    let enough = s.enough.enough in
+    judged s.enough.written s.enough.blocks s.enough.accepted Covered (record { verdict = enough.verdict; exact = enough.covered }) s.is_run
 
 said_refuses : (p : TProgram) (v : BlockVerdict) (end : Answer) → IsSaid p v (refuses end) → is_refusal end ≡ true
 said_refuses p Covered end s = let e : [] ≡ codes "safe\n" = ap (λ (v : Verdict). v.text) s in cc e

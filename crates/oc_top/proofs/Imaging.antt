@@ -1,5 +1,5 @@
 -- The image of a source is small enough for a file.
-use Rattle.std.proofs.Common.{◌≡◌, ◌<◌, ◌≤◌, ◌^◌, ℕ, ◌+◌, List, [], ◌∷◌, length, suc, refl, ap, subst, sym, arith, All}
+use Rattle.std.proofs.Common.{◌<◌, ◌≤◌, ◌^◌, ℕ, ◌+◌, List, [], ◌∷◌, length, subst, sym, arith, All}
 use Rattle.std.proofs.Math.ListN.{get_or}
 use Rattle.std.proofs.lemmas.List.{length-map}
 use Rattle.std.proofs.lemmas.List.Elements.{All-nil, All-cons, All-head, All-tail, All-map}
@@ -20,6 +20,7 @@ use Rattle.oc_formed.proofs.Amounts.{few_functions, few_nvs}
 use Rattle.oc_formed.proofs.Declared.{AllWithin, all_within}
 use Rattle.oc_formed.proofs.Mains.{head_fine}
 use Rattle.oc_writes.specs.Targets.{region_targets}
+use Rattle.oc_builds.proofs.Placing.{as_many}
 use Rattle.oc_top.specs.Meant.{program_marked, program_code}
 use Rattle.oc_top.specs.Sources.{ReadsAs, program}
 use Rattle.oc_top.specs.Steps.{IsBuilt}
@@ -29,13 +30,8 @@ use Rattle.oc_top.proofs.FewTargets.{few_regions, few_targets}
 use Rattle.oc_top.proofs.ShortNames.{HasShortNames, short_names}
 
 module _ (q : TProgram) (rs : List TRegion) where
-  -- an image has a function for each of a program's
-  as_many : (at : ℕ) (fs : List TFunction) → length (image_functions q rs at fs) ≡ length fs
-  as_many at [] = refl
-  as_many at (f ∷ fs) = ap suc (as_many (at + length (function_code q rs at f)) fs)
-
-  -- with its name, which the expansion keeps
-  same_names : (P : Text → Type 0) (k i at : ℕ) (fs : List TFunction) → All (λ f. P f.name) fs → All (λ f. P f.name) (image_functions q rs at (expand_functions k i fs))
+  -- the functions of an image have the names of a program's, which the expansion keeps
+  pub same_names : (P : Text → Type 0) (k i at : ℕ) (fs : List TFunction) → All (λ f. P f.name) fs → All (λ f. P f.name) (image_functions q rs at (expand_functions k i fs))
   same_names P k i at [] h = All-nil (λ f. P f.name)
   same_names P k i at (f ∷ fs) h =
       let g = expand_function k i f in

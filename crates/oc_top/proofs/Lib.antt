@@ -28,5 +28,6 @@ pub mod Imaging
 pub mod Auditing
 pub mod Checking
 pub mod Executing
+pub mod Admitting
 pub mod Lengths
 pub mod Vouching

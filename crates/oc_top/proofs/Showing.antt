@@ -9,7 +9,7 @@ use Rattle.oc_tree.specs.Marked.{TRegion, TMarked}
 use Rattle.oc_tree.specs.Regions.{region_view}
 use Rattle.oc_tree.specs.declared.marked.Region.{Region}
 use Rattle.oc_budget.specs.declared.told.Budgets.{Budgets}
-use Rattle.oc_budget.specs.Budgets.{TBudgets, budgets, budget, logged}
+use Rattle.oc_budget.specs.Budgets.{TBudgets, budget, limited, limited_budgets, logged}
 use Rattle.oc_budget.specs.View.{budgets_view}
 use Rattle.oc_top.specs.RegionLines.{function_name, lines_of, reason_lines, regions_text, region_lines, total_lines}
 use Rattle.oc_top.specs.RegionDetails.{HasDetails, lines_with, numbers_at, range_of, region_fields}
@@ -57,18 +57,18 @@ module _ (m : TMarked) (b : Budgets) (d : Details) (has : HasDetails m d) where
       let found : region_view x ≡ get_or m.regions i (region_view x) = seen_at region_view items i x (region_view x) l e ∙ ap (λ (rs : List TRegion). get_or rs i (region_view x)) is in
       ap (lines_with m (region_view x)) same ∙ lines_are i (region_view x) within found ∙ ap (λ (y : Region). lines_of m (budgets_view b) i (region_view y)) e
 
-module _ (m : TMarked) (b : Budgets) (told : budgets_view b ≡ budgets m) where
+module _ (m : TMarked) (b : Budgets) (told : budgets_view b ≡ limited_budgets m) where
   pub logged_count : length b.logged.items ≡ length m.regions
   logged_count = ap (λ (t : TBudgets). length t.logged) told ∙ length-map m.regions (logged m.program)
 
   pub budget_count : length b.regions.items ≡ length m.regions
-  budget_count = ap (λ (t : TBudgets). length t.regions) told ∙ length-map m.regions (budget m)
+  budget_count = ap (λ (t : TBudgets). length t.regions) told ∙ length-map (map (budget m) m.regions) limited ∙ length-map m.regions (budget m)
 
   -- ---- the whole text
 
-  whole_text : region_lines m (budgets_view b) 0 m.regions ++ total_lines b.total b.safe ≡ regions_text m (budgets m)
+  whole_text : region_lines m (budgets_view b) 0 m.regions ++ total_lines b.total b.safe ≡ regions_text m (limited_budgets m)
   whole_text = ap (regions_text m) told
 
   pub text_part : {S : Type 0} (took : S → List ℕ → S → Type 0) (both : Both took) (x y z : S) → took x (region_lines m (budgets_view b) 0 m.regions) y
-      → TookPart took y (total_lines b.total b.safe) z → TookPart took x (regions_text m (budgets m)) z
-  text_part took both x y z p q = ends_part took both x y z (total_lines b.total b.safe) (regions_text m (budgets m)) (after_front took x y _ _ _ whole_text p) q
+      → TookPart took y (total_lines b.total b.safe) z → TookPart took x (regions_text m (limited_budgets m)) z
+  text_part took both x y z p q = ends_part took both x y z (total_lines b.total b.safe) (regions_text m (limited_budgets m)) (after_front took x y _ _ _ whole_text p) q

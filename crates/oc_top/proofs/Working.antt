@@ -1,5 +1,5 @@
 -- What a call does, from its answer and that answer's cause; and where its periods suffice a run ends by itself.
-use Rattle.std.proofs.Common.{ℕ, suc, ◌≡◌, ◌⊎◌, ◌∙◌, sym, ap, refl, subst, inl, inr, ℤ, List, [], ◌∷◌, ◌++◌, Bool, true, false, Option, Some}
+use Rattle.std.proofs.Common.{ℕ, ◌≡◌, ◌⊎◌, ◌∙◌, sym, ap, refl, subst, inl, inr, ℤ, List, [], ◌∷◌, ◌++◌, Bool, true, false, Option, Some}
 use Rattle.std.specs.Prelude.{if◌then◌else◌}
 use Rattle.oc_io.specs.declared.period.Period.{Period}
 use Rattle.oc_power.specs.Power.{Power, power_file}
@@ -19,7 +19,7 @@ use Rattle.oc_isa.specs.Table.{device_of}
 use Rattle.oc_isa.specs.declared.phase.Phase.TheVariants.{Over}
 use Rattle.oc_outage.specs.Honest.{loses_checkpoint}
 use Rattle.oc_outage.proofs.Lasting.{lost_exactly, over_exactly}
-use Rattle.oc_bounds.specs.Bounds.{AreSafe}
+use Rattle.oc_bounds.specs.Headway.{Suffice}
 use Rattle.oc_top.specs.Meant.{program_code, program_bounds}
 use Rattle.oc_meters.specs.Tally.{Reading}
 use Rattle.oc_top.specs.Commands.{Plan, report, limits_of, Task}
@@ -61,10 +61,10 @@ by_ending : (how : Ending) → (answer_by (Some (Ended how)) ≡ answer.End) ⊎
 by_ending Halted = inl refl
 by_ending (Trapped kind stmt) = inr refl
 
-run_ends : (files : Files) (plan : Plan) (run : Verdict) (r : IsRun files plan run) → AreSafe (program_bounds r.written) (suc (program_bounds r.written).total) (plan r.periods)
+run_ends : (files : Files) (plan : Plan) (run : Verdict) (r : IsRun files plan run) → Suffice (device_of (program_code r.written)) (program_bounds r.written) (plan r.periods)
     → (run.answer ≡ answer.End) ⊎ (run.answer ≡ answer.Trapped)
-run_ends files plan run r safe =
-    let over = r.ends safe in
+run_ends files plan run r suffice =
+    let over = r.ends suffice in
     let e : run.answer ≡ answer_by (Some (Ended over.0)) = ap (λ (v : Verdict). v.answer) r.is_run ∙ answer_over (program_code r.written) (history r.rows) (plan r.periods) over.0 over.1 in
     elim (by_ending over.0) [ inl x ↦ inl (e ∙ x) | inr x ↦ inr (e ∙ x) ]
 
@@ -77,7 +77,7 @@ module _ (c : Call) (told : List ℕ) (task : Task) (asked : c.task ≡ Some tas
     (files : List (List ℕ)) (held : AreHeld c.shelf.holds c.words (limits_of task) files)
     (p : TProgram) (reads : ReadsAs (run_files files).source (program p)) (rows : List Row) (sensed : sensor_file p.names.sensors (run_files files).sensors ≡ sensor_rows.readings rows)
     (periods : List Period) (powered : power_file (run_files files).power ≡ power_rows.periods periods)
-    (safe : AreSafe (program_bounds p) (suc (program_bounds p).total) (plan periods)) where
+    (suffice : Suffice (device_of (program_code p)) (program_bounds p) (plan periods)) where
   -- a run of these files ends by itself
   ends : (found : List (List ℕ)) (run : Verdict) → found ≡ files → IsRun (run_files found) plan run → (run.answer ≡ answer.End) ⊎ (run.answer ≡ answer.Trapped)
   ends found run there r =
@@ -85,8 +85,8 @@ module _ (c : Call) (told : List ℕ) (task : Task) (asked : c.task ≡ Some tas
       (one_reading (run_files files).source (program r.written) (program p) (subst (λ (f : List (List ℕ)). ReadsAs (run_files f).source (program r.written)) there r.spelled) reads) in
       let periods_are = same_periods r.periods periods (sym r.powered ∙ ap (λ (f : List (List ℕ)). power_file (run_files f).power) there ∙ powered) in
       run_ends (run_files found) plan run r
-      (subst (λ (q : TProgram). AreSafe (program_bounds q) (suc (program_bounds q).total) (plan r.periods)) (sym written)
-      (subst (λ (ps : List Period). AreSafe (program_bounds p) (suc (program_bounds p).total) (plan ps)) (sym periods_are) safe))
+      (subst (λ (q : TProgram). Suffice (device_of (program_code q)) (program_bounds q) (plan r.periods)) (sym written)
+      (subst (λ (ps : List Period). Suffice (device_of (program_code p)) (program_bounds p) (plan ps)) (sym periods_are) suffice))
 
   done_ends : (other : Task) (found : List (List ℕ)) (run : Verdict) → HasFiles c other found → IsDone found other run → (run.answer ≡ answer.End) ⊎ (run.answer ≡ answer.Trapped)
   done_ends other found run f done =
@@ -138,8 +138,8 @@ module _ (c : Call) (err : Writes) (told : List ℕ) (status : ℕ) (end : Answe
     usage = (λ e. no_task c told end comes (sym is ∙ e), λ none. is ∙ usage c told none end comes);
     missing = λ task place asked among gone. subst (λ (n : ℕ). (n ≡ 2) ⊎ ((n ≡ 3) ⊎ (n ≡ 11))) (sym is) (missing c told task asked place among gone end comes);
     long = λ task place bytes asked among before there over calm. subst (λ (n : ℕ). (n ≡ 3) ⊎ (n ≡ 11)) (sym is) (long c told task asked place among bytes there over before calm end comes);
-    enough = λ task plan meters files p rows periods asked is_report held reads sensed powered safe calm silent.
+    enough = λ task plan meters files p rows periods asked is_report held reads sensed powered suffice calm silent.
         subst (λ (n : ℕ). (n ≡ 0) ⊎ ((n ≡ 8) ⊎ (n ≡ 11))) (sym is)
-        (enough c told task asked plan meters is_report files held p reads rows sensed periods powered safe calm silent end comes);
+        (enough c told task asked plan meters is_report files held p reads rows sensed periods powered suffice calm silent end comes);
     quiet = λ e. quiet c told end comes (ap is_written (sym is) ∙ e);
   }

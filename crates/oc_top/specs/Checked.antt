@@ -15,7 +15,7 @@ use Rattle.oc_parse.specs.Atomics.{atomics}
 use Rattle.oc_needs.specs.Policies.{policies}
 use Rattle.oc_honest.specs.Timely.{RunsAreTimely}
 use Rattle.oc_regcheck.specs.BlockMarks.{blocks_marked}
-use Rattle.oc_regcheck.specs.Enough.{AreCovered, IsVerdict}
+use Rattle.oc_regcheck.specs.Enough.{AreCovered, IsVerdict, Tells}
 use Rattle.oc_regcheck.specs.declared.verdict.BlockVerdict.{BlockVerdict}
 use Rattle.oc_regcheck.specs.declared.verdict.BlockVerdict.TheVariants.{Covered, Open}
 use Rattle.oc_top.specs.Sources.{ReadsIn, faulty, breaks}
@@ -36,6 +36,12 @@ pub record AcceptsBlocks (source : List ℕ) (p : TProgram) (blocks : List ℕ) 
   pub spelled : SpellsBlocks source p blocks
   pub unbroken : broken p ≡ None
 
+-- this is the verdict on blocks of a checked program, and it is `Covered` exactly where each requirement is covered by one of
+-- them or its function is guarded
+pub record AreJudged (p : TProgram) (blocks : List ℕ) (v : BlockVerdict) : Type 0 where
+  pub verdict : IsVerdict p blocks v
+  pub exact : Tells p blocks v
+
 -- what is answered and written where the blocks have this verdict
 abbrev pub IsSaid : TProgram → BlockVerdict → Verdict → Type 0
 IsSaid p Covered run = run ≡ prints (codes "safe\n")
@@ -46,7 +52,7 @@ IsSaid p (Open policy function first second) run = (q : Policy) × (slice_get (p
 pub data IsCheck (source : List ℕ) (run : Verdict) : Type 0 where
   no_program : (line : ℕ) → ReadsIn true source (faulty line) → run ≡ refuses (answer.Syntax line) → IsCheck source run
   broken_rule : (b : Broken) → ReadsIn true source (breaks b) → run ≡ refuses (answer.Rule b.line b.rule) → IsCheck source run
-  judged : (p : TProgram) (blocks : List ℕ) → AcceptsBlocks source p blocks → (v : BlockVerdict) → IsVerdict (expansion p) blocks v → IsSaid (expansion p) v run
+  judged : (p : TProgram) (blocks : List ℕ) → AcceptsBlocks source p blocks → (v : BlockVerdict) → AreJudged (expansion p) blocks v → IsSaid (expansion p) v run
       → IsCheck source run
 
 -- the expansion of a program with its groups

@@ -1,5 +1,5 @@
 -- What the report of a run keeps, whenever power fails.
-use Rattle.std.specs.Prelude.{ℕ, suc, ℤ, ◌≡◌, ◌≤◌, List, [], ◌++◌, length, map, Some, None, if◌then◌else◌}
+use Rattle.std.specs.Prelude.{ℕ, ℤ, ◌≡◌, ◌≤◌, List, [], ◌++◌, length, map, Some, None, if◌then◌else◌}
 use Rattle.oc_lex.specs.Limits.{source_limit}
 use Rattle.oc_io.specs.declared.period.Period.{Period}
 use Rattle.oc_power.specs.Power.{power_file}
@@ -14,7 +14,6 @@ use Rattle.oc_tree.specs.declared.said.Ending.{Ending}
 use Rattle.oc_tree.specs.declared.said.Said.TheVariants.{Ended}
 use Rattle.oc_isa.specs.Power.{World, power_run}
 use Rattle.oc_isa.specs.Table.{device_of}
-use Rattle.oc_isa.specs.declared.phase.Phase.TheVariants.{Over}
 use Rattle.oc_items.specs.Erase.{kept, kept_samples}
 use Rattle.oc_tree.specs.Expansion.{expansion}
 use Rattle.oc_items.specs.Reports.{IsPrefixOf, EndsWith}
@@ -22,8 +21,9 @@ use Rattle.oc_items.specs.Text.{is_over}
 use Rattle.oc_items.specs.Told.{item_of}
 use Rattle.oc_honest.specs.Honest.{TReport, IsHonest}
 use Rattle.oc_outage.specs.Honest.{AreRead}
-use Rattle.oc_bounds.specs.Bounds.{AreSafe}
+use Rattle.oc_outage.specs.Kept.{CountIsKept}
 use Rattle.oc_bounds.specs.Attempts.{AttemptsClose}
+use Rattle.oc_bounds.specs.Headway.{PeriodsKeep, RunEnds, Suffice}
 use Rattle.oc_top.specs.Meant.{program_marked, program_code, program_bounds, program_run, plain_run, plain_said}
 use Rattle.oc_top.specs.Commands.{Plan}
 use Rattle.oc_top.specs.Files.{Files}
@@ -54,10 +54,12 @@ pub record IsHonestThroughout (p : TProgram) (h : ℕ → ℕ → ℤ) (report :
 abbrev pub program_power : TProgram → List Row → List Period → World
 program_power p rows periods = power_run (device_of (program_code p)) (history rows) periods
 
--- a run of the program that a source spells, over what the sensors showed and the periods that the supply told:
--- its answer and its text are those of the report, and the report is honest. An attempt of a region that begins with its budget of
--- steps left in its period is closed before any outage, by its commit or a trap; and where one more of the first periods than the
--- program's total are safe, the run ends
+-- a run of the program that a source spells, over what the sensors showed and the periods that the
+-- supply told: its answer and its text are those of the report, and the report is honest. An attempt
+-- of a region that begins with its budget of steps left in its period is closed before any outage, by
+-- its commit or a trap. Each period with the least number of steps keeps one more instruction of the
+-- run without outages, or the run is over behind it; and where the periods suffice, by the numbers
+-- that are shown with the regions, the run ends
 pub record IsRun (files : Files) (plan : Plan) (run : Verdict) : Type 0 where
   pub written : TProgram
   pub spelled : ReadsAs files.source (program written)
@@ -68,7 +70,12 @@ pub record IsRun (files : Files) (plan : Plan) (run : Verdict) : Type 0 where
   pub is_run : run ≡ runs (program_code written) rows (plan periods)
   pub honest : IsHonestThroughout written (history rows) (program_power written rows (plan periods)).report (program_power written rows (plan periods)).state.nv
   pub attempts : AttemptsClose (program_bounds written) (plan periods) (program_power written rows (plan periods)).report
-  pub ends : AreSafe (program_bounds written) (suc (program_bounds written).total) (plan periods) → (how : Ending) × ((program_power written rows (plan periods)).state.phase ≡ Over how)
+  pub headway : PeriodsKeep (device_of (program_code written)) (program_bounds written) (history rows)
+      (plan periods)
+  pub counts : (before : List Period)
+      → CountIsKept (device_of (program_code written)) (history rows) before
+  pub ends : Suffice (device_of (program_code written)) (program_bounds written) (plan periods)
+      → RunEnds (device_of (program_code written)) (history rows) (plan periods)
 
 -- such a run whose report was written whole: its source isn't longer than one that is read, and its items and the nonvolatile
 -- words that it leaves fit their types

@@ -2,12 +2,11 @@
 use Rattle.std.specs.Prelude.{ℕ, ◌≡◌, ◌⊎◌, List, [], codes}
 use Rattle.oc_tree.specs.Tree.{TProgram}
 use Rattle.oc_tree.specs.Checked.{TChecked}
-use Rattle.oc_regcheck.specs.Enough.{IsVerdict}
 use Rattle.oc_regcheck.specs.declared.verdict.BlockVerdict.{BlockVerdict}
 use Rattle.oc_top.specs.Verdict.{prints, refuses}
 use Rattle.oc_audit.specs.declared.audit.Finding.{Finding}
 use Rattle.oc_audit.specs.declared.audit.Finding.TheVariants.{Honest}
-use Rattle.oc_top.specs.Checked.{AcceptsBlocks, AreEnough, IsCheck, IsSaid, checked_of}
+use Rattle.oc_top.specs.Checked.{AcceptsBlocks, AreEnough, AreJudged, IsCheck, IsSaid, checked_of}
 use Rattle.oc_top.specs.Audited.{IsFound, said_of}
 use Rattle.oc_top.specs.Steps.{IsNotBuilt}
 use Rattle.oc_top.specs.Answers.{Writes, IsWritten}
@@ -22,7 +21,7 @@ pub record IsCheckedOf (source : List ℕ) (c : TChecked) (blocks : List ℕ) : 
 
 -- the answer where the blocks don't suffice, or there was no memory
 abbrev pub IsOpenFor : TProgram → List ℕ → Answer → Type 0
-IsOpenFor p blocks end = (end ≡ answer.Memory) ⊎ ((v : BlockVerdict) × IsVerdict p blocks v × IsSaid p v (refuses end))
+IsOpenFor p blocks end = (end ≡ answer.Memory) ⊎ ((v : BlockVerdict) × AreJudged p blocks v × IsSaid p v (refuses end))
 
 -- the source is refused with this answer, or there was no memory
 abbrev pub IsNotSafe : List ℕ → Answer → Type 0

@@ -14,6 +14,7 @@ pub mod Works
 pub mod Supplies
 pub mod Steps
 pub mod SmallImages
+pub mod BuiltImages
 pub mod RegionLines
 pub mod DeclaredNames
 pub mod RegionDetails

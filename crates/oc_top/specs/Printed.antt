@@ -1,7 +1,7 @@
 -- How a text of a source's program comes to be written.
 use Rattle.std.specs.Prelude.{ℕ, ◌≡◌, List, []}
 use Rattle.oc_tree.specs.Tree.{TProgram}
-use Rattle.oc_budget.specs.Budgets.{budgets}
+use Rattle.oc_budget.specs.Budgets.{limited_budgets}
 use Rattle.oc_budget.specs.View.{budgets_view}
 use Rattle.oc_top.specs.Sources.{ReadsAs, program}
 use Rattle.oc_top.specs.Verdict.{prints}
@@ -14,7 +14,7 @@ use Rattle.oc_top.specs.declared.answer.Answer.{Answer}
 -- the regions of the program that a source spells, with all that is written of them
 pub record Tells (source : List ℕ) (t : Told) : Type 0 where
   pub marked : IsMarkedOf source t.marked
-  pub budgets : budgets_view t.budgets ≡ budgets t.marked
+  pub budgets : budgets_view t.budgets ≡ limited_budgets t.marked
   pub details : HasDetails t.marked t.details
 
 -- the source is refused with this answer, or there was no memory, and the sink takes nothing; or this text of its program is

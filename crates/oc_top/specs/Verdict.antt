@@ -18,7 +18,7 @@ use Rattle.oc_items.specs.OneText.{IsItem}
 use Rattle.oc_items.specs.Reading.{place_of}
 use Rattle.oc_items.specs.Told.{item_of}
 use Rattle.oc_items.specs.declared.item.Item.{Item}
-use Rattle.oc_budget.specs.Budgets.{budgets}
+use Rattle.oc_budget.specs.Budgets.{limited_budgets}
 use Rattle.oc_top.specs.Meant.{program_marked, program_code}
 use Rattle.oc_top.specs.RegionLines.{regions_text}
 use Rattle.oc_top.specs.Commands.{Plan}
@@ -98,9 +98,9 @@ verdict (program p) files plan = with_parts (program_code p) files plan
 
 -- ---- texts of programs
 
--- the regions of a program, with their budgets
+-- the regions of a program, with their budgets in 64 bits
 abbrev pub regions_of : TProgram → List ℕ
-regions_of p = regions_text (program_marked p) (budgets (program_marked p))
+regions_of p = regions_text (program_marked p) (limited_budgets (program_marked p))
 
 -- the listing of its image
 abbrev pub listing_of : TProgram → List ℕ

@@ -1,5 +1,5 @@
 -- What a call does.
-use Rattle.std.specs.Prelude.{ℕ, suc, ◌<◌, ◌≡◌, ◌⊎◌, ◌↔◌, ◌++◌, false, List, [], length, Option, Some, None}
+use Rattle.std.specs.Prelude.{ℕ, ◌<◌, ◌≡◌, ◌⊎◌, ◌↔◌, ◌++◌, false, List, [], length, Option, Some, None}
 use Rattle.oc_io.specs.Held.{nothing, content}
 use Rattle.oc_io.specs.declared.period.Period.{Period}
 use Rattle.oc_power.specs.Power.{power_file}
@@ -9,8 +9,9 @@ use Rattle.oc_sensors.specs.File.{sensor_file}
 use Rattle.oc_sensors.specs.File as sensor_rows
 use Rattle.oc_meters.specs.Tally.{Reading}
 use Rattle.oc_tree.specs.Tree.{TProgram}
-use Rattle.oc_bounds.specs.Bounds.{AreSafe}
-use Rattle.oc_top.specs.Meant.{program_bounds}
+use Rattle.oc_bounds.specs.Headway.{Suffice}
+use Rattle.oc_isa.specs.Table.{device_of}
+use Rattle.oc_top.specs.Meant.{program_bounds, program_code}
 use Rattle.oc_top.specs.Commands.{Plan, Task, report, limits_of, word_at}
 use Rattle.oc_top.specs.Files.{AreHeld, AreHeldBefore, limit_at, run_files}
 use Rattle.oc_top.specs.Sources.{ReadsAs, program}
@@ -43,14 +44,14 @@ pub record Works (c : Call) (err : Writes) (status : ℕ) : Type 0 where
       → c.shelf.holds (word_at c.words place) ≡ content bytes → limit_at (limits_of task) place < length bytes
       → ¬ c.shelf.rose
       → (status ≡ 3) ⊎ (status ≡ 11)
-  -- where one more of the first periods than the program's total are safe, and no fault rose, a run ends by itself, or there
-  -- was no memory
+  -- where the periods suffice, by the numbers that are shown with the program's regions, and no fault rose, a run ends by
+  -- itself, or there was no memory
   pub enough : (task : Task) (plan : Plan) (meters : Option (List Reading)) (files : List (List ℕ)) (p : TProgram) (rows : List Row) (periods : List Period)
       → c.task ≡ Some task → task ≡ report plan meters
       → AreHeld c.shelf.holds c.words (limits_of task) files → ReadsAs (run_files files).source (program p)
       → sensor_file p.names.sensors (run_files files).sensors ≡ sensor_rows.readings rows
       → power_file (run_files files).power ≡ power_rows.periods periods
-      → AreSafe (program_bounds p) (suc (program_bounds p).total) (plan periods) → ¬ c.shelf.rose → ¬ c.out.rose
+      → Suffice (device_of (program_code p)) (program_bounds p) (plan periods) → ¬ c.shelf.rose → ¬ c.out.rose
       → (status ≡ 0) ⊎ ((status ≡ 8) ⊎ (status ≡ 11))
   -- with a status of no text, nothing was written
   pub quiet : is_written status ≡ false → c.out.took []

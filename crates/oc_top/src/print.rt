@@ -1,7 +1,7 @@
 //! Texts of a program: its regions, and the listing of its image.
 ghost use Rattle.std.specs.Prelude.{◌≡◌, ◌≤◌, length, IfOk, IfErr};
 ghost use Rattle.oc_isa.specs.Listing.{listing_text};
-ghost use Rattle.oc_budget.specs.Budgets.{budgets as budgets_of};
+ghost use Rattle.oc_budget.specs.Budgets.{limited_budgets};
 ghost use Rattle.oc_budget.specs.View.{budgets_view};
 ghost use Rattle.oc_lex.specs.Limits.{source_limit};
 ghost use Rattle.oc_top.specs.Answers.{IsWritten, writes};
@@ -37,7 +37,7 @@ pub struct Told {
 /// The budgets and the details of a program, by the effects of its statements.
 fn told_by(alloc: Global, marked: &Marked, effects: &Effects) -> Result<(Budgets, Details), Memory>
     requires { effects.now.program ≡ marked.now.program }
-    ensures budgets { IfOk result (λ t. budgets_view t.0 ≡ budgets_of marked.now) }
+    ensures budgets { IfOk result (λ t. budgets_view t.0 ≡ limited_budgets marked.now) }
     ensures details { IfOk result (λ t. HasDetails marked.now t.1) }
 {
     let image = image_by(alloc, marked, effects)?;
@@ -50,7 +50,7 @@ fn told_by(alloc: Global, marked: &Marked, effects: &Effects) -> Result<(Budgets
 
 /// The same by effects that are made once for all of them.
 fn told_of(alloc: Global, marked: &Marked) -> Result<(Budgets, Details), Memory>
-    ensures budgets { IfOk result (λ t. budgets_view t.0 ≡ budgets_of marked.now) }
+    ensures budgets { IfOk result (λ t. budgets_view t.0 ≡ limited_budgets marked.now) }
     ensures details { IfOk result (λ t. HasDetails marked.now t.1) }
 {
     match Effects::new(alloc, marked.checked()) {
@@ -76,10 +76,10 @@ fn tell(alloc: Global, source: &[u8]) -> Result<Told, Answer>
 
 /// Writes the regions of a program.
 fn put_told<O: Sink>(told: &Told, out: &mut O) -> Answer
-    requires budgets { budgets_view told.now.budgets ≡ budgets_of told.now.marked }
+    requires budgets { budgets_view told.now.budgets ≡ limited_budgets told.now.marked }
     requires details { HasDetails told.now.marked told.now.details }
     ensures written { IsWritten (writes O.took O.held O.faults out.old out.new)
-        (prints (regions_text told.now.marked (budgets_of told.now.marked))) result }
+        (prints (regions_text told.now.marked (limited_budgets told.now.marked))) result }
     ensures count { O.faults out.old ≤ O.faults out.new }
 {
     match put_regions(&told.marked, &told.budgets, &told.details, out) {

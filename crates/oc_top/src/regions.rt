@@ -2,7 +2,7 @@
 ghost use Rattle.std.specs.Prelude.{◌≡◌, ◌≤◌, ◌<◌, length, map, IfOk, OnOk, OnErr};
 ghost use Rattle.oc_io.specs.Faults.{Rose, TookPart};
 ghost use Rattle.oc_tree.specs.Regions.{region_view};
-ghost use Rattle.oc_budget.specs.Budgets.{budgets as budgets_of};
+ghost use Rattle.oc_budget.specs.Budgets.{limited_budgets};
 ghost use Rattle.oc_budget.specs.View.{budgets_view};
 ghost use Rattle.oc_top.specs.RegionDetails.{HasDetails, consistent_line, lines_with, numbers_at, policy_fields, policy_name, range_of, region_fields};
 ghost use Rattle.oc_top.specs.RegionLines.{function_name, line_at, reason_line, reason_lines, region_lines, regions_text, total_lines};
@@ -294,7 +294,7 @@ fn put_all<O: Sink>(
     details: &Details,
     sink: &mut O,
 ) -> Result<(), SinkFault>
-    requires budgets { budgets_view budgets.now ≡ budgets_of marked.now }
+    requires budgets { budgets_view budgets.now ≡ limited_budgets marked.now }
     requires details { HasDetails marked.now details.now }
     ensures ok { OnOk result
         (O.took sink.old (region_lines marked.now (budgets_view budgets.now) 0 marked.now.regions)
@@ -337,12 +337,12 @@ pub fn put_regions<O: Sink>(
     details: &Details,
     sink: &mut O,
 ) -> Result<(), SinkFault>
-    requires budgets { budgets_view budgets.now ≡ budgets_of marked.now }
+    requires budgets { budgets_view budgets.now ≡ limited_budgets marked.now }
     requires details { HasDetails marked.now details.now }
     ensures ok { OnOk result
-        (O.took sink.old (regions_text marked.now (budgets_of marked.now)) sink.new) }
+        (O.took sink.old (regions_text marked.now (limited_budgets marked.now)) sink.new) }
     ensures part { OnErr result
-        (TookPart O.took sink.old (regions_text marked.now (budgets_of marked.now)) sink.new) }
+        (TookPart O.took sink.old (regions_text marked.now (limited_budgets marked.now)) sink.new) }
     ensures cause { OnErr result (Rose (O.faults sink.old) (O.faults sink.new)) }
     ensures count { O.faults sink.old ≤ O.faults sink.new }
 {

@@ -1,4 +1,4 @@
-use Rattle.std.proofs.Common.{arith, refl}
+use Rattle.std.proofs.Common.{◌∙◌, refl}
 use Rattle.std.specs.List.{flat_map}
 use Rattle.oc_io.proofs.Going.{begin, finish}
 use Rattle.oc_io.proofs.Each.{each_on, each_stop, each_done}
@@ -7,12 +7,12 @@ use Rattle.oc_isa.proofs.Fields.{behind_first}
 use Rattle.oc_isa.proofs.bytes.put_code.Goals as goal
 
 pub loop-placed-init : goal.loop-placed-init
-loop-placed-init g c = record { count = omega arith; going = begin g.O.Sink.took g.met.O.Sink.took_nothing _ _ }
+loop-placed-init g c = record { calm = refl; going = begin g.O.Sink.took g.met.O.Sink.took_nothing _ _ }
 
 pub loop-placed-preserved : goal.loop-placed-preserved
 loop-placed-preserved g c =
     record {
-      count = omega arith;
+      calm = c.in_default-put_placed.ensures.calm ∙ c.loop-placed.invariant.calm;
       going = each_on g.O.Sink.took g.met.O.Sink.took_both _ _ _ (flat_map placed_bytes) placed_bytes (λ x xs. refl) c.args.code.now _ _ _ c.loop-placed-test.true
           c.loop-placed.invariant.going c.in_default-put_placed.ensures.ok;
     }

@@ -1,4 +1,4 @@
-use Rattle.std.proofs.Common.{arith, refl, subst}
+use Rattle.std.proofs.Common.{◌∙◌, refl, subst}
 use Rattle.std.specs.List.{flat_map}
 use Rattle.oc_io.specs.Faults.{TookPart}
 use Rattle.oc_io.proofs.Going.{begin, finish}
@@ -9,13 +9,13 @@ use Rattle.oc_isa.proofs.Fields.{behind_first}
 use Rattle.oc_isa.proofs.bytes.put_functions.Goals as goal
 
 pub loop-function-init : goal.loop-function-init
-loop-function-init g c = record { count = omega arith; going = begin g.O.Sink.took g.met.O.Sink.took_nothing _ _ }
+loop-function-init g c = record { calm = refl; going = begin g.O.Sink.took g.met.O.Sink.took_nothing _ _ }
 
 pub loop-function-preserved : goal.loop-function-preserved
 loop-function-preserved g c =
     let put = subst (λ (f : ImageFunction). g.O.Sink.took c.loop-function.sink (function_bytes f) c.put_function.new.sink) c.function-item.is c.in_default-put_function.ensures.ok in
     record {
-      count = omega arith;
+      calm = c.in_default-put_function.ensures.calm ∙ c.loop-function.invariant.calm;
       going = each_on g.O.Sink.took g.met.O.Sink.took_both _ _ _ (flat_map function_bytes) function_bytes (λ x xs. refl) c.args.functions.now _ c.function-item.result _
           c.loop-function-test.true c.loop-function.invariant.going put;
     }

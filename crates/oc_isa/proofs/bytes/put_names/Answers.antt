@@ -1,4 +1,4 @@
-use Rattle.std.proofs.Common.{arith, refl, subst}
+use Rattle.std.proofs.Common.{◌∙◌, refl, subst}
 use Rattle.std.specs.List.{flat_map}
 use Rattle.oc_io.specs.Faults.{TookPart}
 use Rattle.oc_io.proofs.Going.{begin, finish}
@@ -9,13 +9,13 @@ use Rattle.oc_isa.proofs.Fields.{behind_first}
 use Rattle.oc_isa.proofs.bytes.put_names.Goals as goal
 
 pub loop-name-init : goal.loop-name-init
-loop-name-init g c = record { count = omega arith; going = begin g.O.Sink.took g.met.O.Sink.took_nothing _ _ }
+loop-name-init g c = record { calm = refl; going = begin g.O.Sink.took g.met.O.Sink.took_nothing _ _ }
 
 pub loop-name-preserved : goal.loop-name-preserved
 loop-name-preserved g c =
     let put = subst (λ (f : Text). g.O.Sink.took c.loop-name.sink (name_bytes f) c.put_name.new.sink) c.name-item.is c.in_default-put_name.ensures.ok in
     record {
-      count = omega arith;
+      calm = c.in_default-put_name.ensures.calm ∙ c.loop-name.invariant.calm;
       going = each_on g.O.Sink.took g.met.O.Sink.took_both _ _ _ (flat_map name_bytes) name_bytes (λ x xs. refl) c.args.names.now _ c.name-item.result _ c.loop-name-test.true
           c.loop-name.invariant.going put;
     }

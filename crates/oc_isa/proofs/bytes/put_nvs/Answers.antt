@@ -1,4 +1,4 @@
-use Rattle.std.proofs.Common.{rules, arith, get_or, subst}
+use Rattle.std.proofs.Common.{refl, ◌∙◌, rules, get_or, subst}
 use Rattle.std.specs.Prelude.{pos}
 use Rattle.oc_io.specs.Faults.{TookPart}
 use Rattle.oc_io.proofs.Going.{Going, begin, go_on, stop, finish}
@@ -11,7 +11,7 @@ none : ImageNv
 none = record { words = 0; initial = pos 0 }
 
 pub loop-place-init : goal.loop-place-init
-loop-place-init g c = record { count = omega arith; going = begin g.O.Sink.took g.met.O.Sink.took_nothing _ _ }
+loop-place-init g c = record { calm = refl; going = begin g.O.Sink.took g.met.O.Sink.took_nothing _ _ }
 
 pub loop-place-preserved : goal.loop-place-preserved
 unfolding number_bytes none
@@ -20,7 +20,7 @@ loop-place-preserved g c =
     let still = subst (λ (rest : Bytes). Going g.O.Sink.took c.put_number.new.sink c.loop-place.sink rest (nvs_bytes c.args.names.now c.args.nvs.now)) more c.loop-place.invariant.going in
     let put : g.O.Sink.took c.loop-place.sink (nv_bytes (get_or c.args.names.now c.loop-place.place c.index-names-place.result) (get_or c.args.nvs.now c.loop-place.place none))
     c.put_nv.new.sink = search rules in
-    record { count = omega arith; going = go_on g.O.Sink.took g.met.O.Sink.took_both _ _ _ _ _ _ still put }
+    record { calm = c.in_default-put_nv.ensures.calm ∙ c.loop-place.invariant.calm; going = go_on g.O.Sink.took g.met.O.Sink.took_both _ _ _ _ _ _ still put }
 
 pub returns-in-Err-put_nv-clause-part : goal.returns-in-Err-put_nv-clause-part
 unfolding number_bytes none

@@ -1,4 +1,4 @@
-use Rattle.std.proofs.Common.{arith, refl}
+use Rattle.std.proofs.Common.{◌∙◌, refl}
 use Rattle.std.specs.List.{flat_map}
 use Rattle.oc_io.proofs.Going.{begin, finish}
 use Rattle.oc_io.proofs.Each.{each_on, each_stop, each_done}
@@ -7,12 +7,12 @@ use Rattle.oc_isa.proofs.Fields.{behind_first}
 use Rattle.oc_isa.proofs.bytes.put_region.Goals as goal
 
 pub loop-target-init : goal.loop-target-init
-loop-target-init g c = record { count = omega arith; going = begin g.O.Sink.took g.met.O.Sink.took_nothing _ _ }
+loop-target-init g c = record { calm = refl; going = begin g.O.Sink.took g.met.O.Sink.took_nothing _ _ }
 
 pub loop-target-preserved : goal.loop-target-preserved
 loop-target-preserved g c =
     record {
-      count = omega arith;
+      calm = c.in_default-put_target.ensures.calm ∙ c.loop-target.invariant.calm;
       going = each_on g.O.Sink.took g.met.O.Sink.took_both _ _ _ (flat_map target_bytes) target_bytes (λ x xs. refl) c.args.targets.now _ _ _ c.loop-target-test.true
           c.loop-target.invariant.going c.in_default-put_target.ensures.ok;
     }

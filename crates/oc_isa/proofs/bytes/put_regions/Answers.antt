@@ -1,4 +1,4 @@
-use Rattle.std.proofs.Common.{ℕ, arith, refl, ap, map, subst, sym, ◌∙◌}
+use Rattle.std.proofs.Common.{ℕ, refl, ap, map, subst, sym, ◌∙◌}
 use Rattle.std.proofs.lemmas.List.{length-map}
 use Rattle.std.specs.List.{flat_map}
 use Rattle.oc_io.specs.Faults.{TookPart}
@@ -9,14 +9,14 @@ use Rattle.oc_isa.proofs.Fields.{behind_first}
 use Rattle.oc_isa.proofs.bytes.put_regions.Goals as goal
 
 pub loop-targets-init : goal.loop-targets-init
-loop-targets-init g c = record { count = omega arith; going = begin g.O.Sink.took g.met.O.Sink.took_nothing _ _ }
+loop-targets-init g c = record { calm = refl; going = begin g.O.Sink.took g.met.O.Sink.took_nothing _ _ }
 
 pub loop-targets-preserved : goal.loop-targets-preserved
 loop-targets-preserved g c =
     let is_part = ap (λ ts. list_bytes target_bytes ts) c.deref.ensures.value ∙ ap (λ v. list_bytes target_bytes v.items) c.targets-item.is in
     let put = subst (λ (part : Bytes). g.O.Sink.took c.loop-targets.sink part c.put_region.new.sink) is_part c.in_default-put_region.ensures.ok in
     record {
-      count = omega arith;
+      calm = c.in_default-put_region.ensures.calm ∙ c.loop-targets.invariant.calm;
       going = each_on g.O.Sink.took g.met.O.Sink.took_both _ _ _ (λ xs. flat_map (list_bytes target_bytes) (map (λ v. v.items) xs)) (λ v. list_bytes target_bytes v.items) (λ x xs. refl)
           c.args.regions.now _ c.targets-item.result _ c.loop-targets-test.true c.loop-targets.invariant.going put;
     }

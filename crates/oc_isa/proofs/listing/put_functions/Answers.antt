@@ -1,4 +1,4 @@
-use Rattle.std.proofs.Common.{arith, refl, subst}
+use Rattle.std.proofs.Common.{◌∙◌, refl, subst}
 use Rattle.oc_io.specs.Faults.{TookPart}
 use Rattle.oc_io.proofs.Going.{begin, finish}
 use Rattle.oc_io.proofs.Each.{each_on, each_stop, each_done}
@@ -7,13 +7,13 @@ use Rattle.oc_isa.specs.Listing.{function_line, function_lines}
 use Rattle.oc_isa.proofs.listing.put_functions.Goals as goal
 
 pub loop-function-init : goal.loop-function-init
-loop-function-init g c = record { count = omega arith; going = begin g.O.Sink.took g.met.O.Sink.took_nothing _ _ }
+loop-function-init g c = record { calm = refl; going = begin g.O.Sink.took g.met.O.Sink.took_nothing _ _ }
 
 pub loop-function-preserved : goal.loop-function-preserved
 loop-function-preserved g c =
     let put = subst (λ (f : ImageFunction). g.O.Sink.took c.loop-function.sink (function_line f) c.put_function.new.sink) c.function-item.is c.in_default.ensures.ok in
     record {
-      count = omega arith;
+      calm = c.in_default.ensures.calm ∙ c.loop-function.invariant.calm;
       going = each_on g.O.Sink.took g.met.O.Sink.took_both _ _ _ function_lines function_line (λ x xs. refl) c.args.functions.now _ c.function-item.result _
           c.loop-function-test.true c.loop-function.invariant.going put;
     }

@@ -1,15 +1,15 @@
-use Rattle.std.proofs.Common.{arith, refl}
+use Rattle.std.proofs.Common.{◌∙◌, refl}
 use Rattle.oc_io.proofs.Going.{begin, finish}
 use Rattle.oc_io.proofs.Each.{each_on, each_stop, each_done}
 use Rattle.oc_isa.specs.Listing.{region_lines, target_line}
 use Rattle.oc_isa.proofs.listing.put_region.Goals as goal
 
 pub loop-target-init : goal.loop-target-init
-loop-target-init g c = record { count = omega arith; going = begin g.O.Sink.took g.met.O.Sink.took_nothing _ _ }
+loop-target-init g c = record { calm = refl; going = begin g.O.Sink.took g.met.O.Sink.took_nothing _ _ }
 
 pub loop-target-preserved : goal.loop-target-preserved
 loop-target-preserved g c = record {
-  count = omega arith;
+  calm = c.in_default.ensures.calm ∙ c.loop-target.invariant.calm;
   going = each_on g.O.Sink.took g.met.O.Sink.took_both _ _ _ (region_lines c.args.region) (target_line c.args.region) (λ x xs. refl) c.args.targets.now _ _ _
       c.loop-target-test.true c.loop-target.invariant.going c.in_default.ensures.ok;
 }

@@ -17,6 +17,6 @@ returns-in-Ok c =
     let items = map told_of c.args.items.now in
     let p : q ≡ m.program = c.program.ensures.same ∙ ap (λ x. x.program) c.checked.ensures.same in
     let rs : ss ≡ m.regions = c.regions.ensures in
-    verdict m.program m.regions c.args.items.now nv c.in-Ok.verdict
+    verdict m.program m.regions c.args.items.now nv c.in-Ok.verdict c.checked.ensures.marked.checked.form.numbered
     (subst (λ x. Finds x m.regions nv (first_watch x m.regions) items 1 (found c.in-Ok.verdict)) p
     (subst (λ x. Finds q x nv (first_watch q x) items 1 (found c.in-Ok.verdict)) rs c.in-Ok.ensures))

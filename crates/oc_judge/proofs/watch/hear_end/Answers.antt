@@ -4,7 +4,7 @@ use Rattle.oc_tree.specs.declared.said.Said.TheVariants.{Ended}
 use Rattle.oc_judge.specs.Going.{program_of, regions_of}
 use Rattle.oc_judge.specs.Stores.{event_view}
 use Rattle.oc_judge.specs.Watches.{IsTold, answered, watch_view}
-use Rattle.oc_judge.specs.Ways.{IsNext, next_view, way_view}
+use Rattle.oc_judge.specs.Ways.{Comes, next_view, way_view}
 use Rattle.oc_judge.specs.declared.way.Next.TheVariants as nexts
 use Rattle.oc_judge.proofs.Hearing.{ended_no, ended_other, ended_yes, halted_no, halted_not, halted_yes}
 use Rattle.oc_judge.proofs.watch.hear_end.Goals.{else-says_ended-via-then-says_ended+in_ok-has_words-in-Says+else-branch, else-says_ended-via-else-says_ended}
@@ -17,8 +17,8 @@ returns-then-branch c =
     let rs = regions_of c.args.run.now in
     let nv = option_map {T = Bor (List ℤ)} {U = List ℤ} (λ w. w.now) c.args.nv in
     let w = watch_view c.args.watch.now in
-    let v = c.next.new.way in
-    let comes : IsNext p rs w.now (next_view (nexts.Says c.in-Says.event) v) = subst (λ n. IsNext p rs w.now (next_view n v)) c.in-Says.is c.in_ok-event.ensures.next in
+    let v = c.go.new.way in
+    let comes : Comes p rs w.now (next_view (nexts.Says c.in-Says.event) v) = subst (λ n. Comes p rs w.now (next_view n v)) c.in-Says.is c.in_ok-event.ensures.next in
     ended_yes p rs nv w c.args.how (event_view c.in-Says.event) (way_view v) v.completion v.store refl comes
     (sym c.says_ended.ensures ∙ c.if-says_ended.true) (sym c.if-branch.true ∙ c.in_ok-has_words-in-Says.ensures p nv)
 
@@ -28,9 +28,9 @@ returns-else-says_ended c =
     let rs = regions_of c.args.run.now in
     let nv = option_map {T = Bor (List ℤ)} {U = List ℤ} (λ w. w.now) c.args.nv in
     let w = watch_view c.args.watch.now in
-    let v = c.next.new.way in
+    let v = c.go.new.way in
     let e = event_view c.in-Says.event in
-    let comes : IsNext p rs w.now (next_view (nexts.Says c.in-Says.event) v) = subst (λ n. IsNext p rs w.now (next_view n v)) c.in-Says.is c.in_ok-event.ensures.next in
+    let comes : Comes p rs w.now (next_view (nexts.Says c.in-Says.event) v) = subst (λ n. Comes p rs w.now (next_view n v)) c.in-Says.is c.in_ok-event.ensures.next in
     elim c.else-says_ended.branch [
       | else-says_ended-via-then-says_ended+in_ok-has_words-in-Says+else-branch b ↦
           ended_no p rs nv w c.args.how e (way_view v) v.completion v.store refl comes (sym b.if-branch.false ∙ b.in_ok-has_words-in-Says.ensures p nv)
@@ -43,8 +43,8 @@ returns-then-branch-2 c =
     let rs = regions_of c.args.run.now in
     let nv = option_map {T = Bor (List ℤ)} {U = List ℤ} (λ w. w.now) c.args.nv in
     let w = watch_view c.args.watch.now in
-    let v = c.next.new.way in
-    let comes : IsNext p rs w.now (next_view nexts.Stands v) = subst (λ n. IsNext p rs w.now (next_view n v)) c.in-Stands.is c.in_ok-event.ensures.next in
+    let v = c.go.new.way in
+    let comes : Comes p rs w.now (next_view nexts.Stands v) = subst (λ n. Comes p rs w.now (next_view n v)) c.in-Stands.is c.in_ok-event.ensures.next in
     subst (λ h. IsTold p rs nv w (Ended h) (answered true (record c.args.watch.now { now = record v { over = true } }))) (sym c.in-Halted.is)
     (halted_yes p rs nv w (way_view v) v.completion v.store refl comes (sym c.if-halts.true ∙ c.halts.ensures) (sym c.if-branch-2.true ∙ c.in_ok-has_words-in-Halted.ensures p nv))
 
@@ -54,8 +54,8 @@ returns-else-halts c =
     let rs = regions_of c.args.run.now in
     let nv = option_map {T = Bor (List ℤ)} {U = List ℤ} (λ w. w.now) c.args.nv in
     let w = watch_view c.args.watch.now in
-    let v = c.next.new.way in
-    let comes : IsNext p rs w.now (next_view nexts.Stands v) = subst (λ n. IsNext p rs w.now (next_view n v)) c.in-Stands.is c.in_ok-event.ensures.next in
+    let v = c.go.new.way in
+    let comes : Comes p rs w.now (next_view nexts.Stands v) = subst (λ n. Comes p rs w.now (next_view n v)) c.in-Stands.is c.in_ok-event.ensures.next in
     subst (λ h. IsTold p rs nv w (Ended h) None) (sym c.in-Halted.is)
     (elim c.else-halts.branch [
       | else-halts-via-then-halts+in_ok-has_words-in-Halted+else-branch-2 b ↦

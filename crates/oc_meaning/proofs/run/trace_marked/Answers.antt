@@ -1,4 +1,4 @@
-use Rattle.std.proofs.Common.{◌≡◌, ◌≤◌, ◌<◌, ap, sym, ◌∙◌, subst, length, map, nat_le, arith}
+use Rattle.std.proofs.Common.{◌≡◌, ◌≤◌, ◌<◌, ap, sym, ◌∙◌, subst, length, map, take, le-leb, arith}
 use Rattle.oc_tree.specs.View.{program_view}
 use Rattle.oc_tree.specs.Regions.{region_view}
 use Rattle.oc_meaning.specs.Store.{Store}
@@ -11,8 +11,8 @@ use Rattle.oc_meaning.specs.Traces.{ending_of}
 use Rattle.oc_meaning.proofs.Beginning.{first_all, first_begun, length-in_order, more_begun, parts_begun}
 use Rattle.oc_meaning.proofs.run.trace_marked.Goals as goal
 
-pub marked_trace-requires : goal.marked_trace-requires
-marked_trace-requires c =
+pub cut_trace-requires-clause-parts : goal.cut_trace-requires-clause-parts
+cut_trace-requires-clause-parts c =
     let p = program_view c.args.program.now in
     let rs = map region_view c.args.regions.now in
     let σ = c.run-ran.new.store in
@@ -21,8 +21,8 @@ marked_trace-requires c =
     let begins = subst (λ (s : Store). Begins (in_order σ.events) (trace_of (main_from p rs s)).events) start told in
     parts_begun p rs c.args.samples.now (in_order σ.events) begins
 
-pub marked_trace-requires-2 : goal.marked_trace-requires-2
-marked_trace-requires-2 c =
+pub whole_trace-requires : goal.whole_trace-requires
+whole_trace-requires c =
     let p = program_view c.args.program.now in
     let rs = map region_view c.args.regions.now in
     let σ = c.run-ran.new.store in
@@ -51,7 +51,7 @@ returns-then-count_told-limit-clause-whole c =
     let told : Begins (in_order σ.events) (trace_of (main_from p rs c.in_ok-store.store)).events = c.run-ran.ensures.begins in
     let begins = subst (λ (s : Store). Begins (in_order σ.events) (trace_of (main_from p rs s)).events) start told in
     let more : c.args.limit < length σ.events = omega (arith, c.count_told.ensures) in
-    c.in_ok-trace.ensures.whole ∙ more_begun c.args.limit σ.events (marked_run p rs c.args.samples.now).events more begins
+    c.in_ok-trace.ensures.cut ∙ sym (more_begun c.args.limit σ.events (marked_run p rs c.args.samples.now).events more begins)
 
 pub returns-clause-whole : goal.returns-clause-whole
 returns-clause-whole c =
@@ -62,11 +62,12 @@ returns-clause-whole c =
     let ending = ending_of c.in_ok-outcome.outcome in
     let started : trace_at ending σ ≡ trace_of (main_from p rs c.in_ok-store.store) = c.in_ok-outcome.ensures.runs in
     let ran : trace_at ending σ ≡ marked_run p rs c.args.samples.now = started ∙ ap (λ s. trace_of (main_from p rs s)) start in
+    let many : length (marked_run p rs c.args.samples.now).events ≡ length σ.events = sym (sym (length-in_order σ.events) ∙ ap (λ t. length t.events) ran) in
     c.in_ok-trace-2.ensures.whole
-    ∙ ap (λ n. nat_le n c.args.limit) (sym (length-in_order σ.events) ∙ ap (λ t. length t.events) ran)
+    ∙ sym (le-leb (length (marked_run p rs c.args.samples.now).events) c.args.limit (omega (arith, many, c.count_told.ensures)))
 
-pub returns-clause-told : goal.returns-clause-told
-returns-clause-told c =
+pub returns-clause-parts : goal.returns-clause-parts
+returns-clause-parts c =
     let p = program_view c.args.program.now in
     let rs = map region_view c.args.regions.now in
     let σ = c.run-ran.new.store in
@@ -75,15 +76,24 @@ returns-clause-told c =
     let started : trace_at ending σ ≡ trace_of (main_from p rs c.in_ok-store.store) = c.in_ok-outcome.ensures.runs in
     let ran : trace_at ending σ ≡ marked_run p rs c.args.samples.now = started ∙ ap (λ s. trace_of (main_from p rs s)) start in
     let few : length σ.events ≤ c.args.limit = omega (arith, c.count_told.ensures) in
-    λ _. c.in_ok-trace-2.ensures.parts ∙ first_all c.args.limit σ.events few ∙ ap (λ t. t.events) ran
+    c.in_ok-trace-2.ensures.parts ∙ sym (first_all c.args.limit σ.events few) ∙ ap (λ t. take c.args.limit t.events) ran
+
+pub returns-clause-told : goal.returns-clause-told
+returns-clause-told c =
+    let p = program_view c.args.program.now in
+    let rs = map region_view c.args.regions.now in
+    let start : c.in_ok-store.store ≡ first_store p c.args.samples.now = c.in_ok-store.ensures in
+    let ending = ending_of c.in_ok-outcome.outcome in
+    let started : trace_at ending c.run-ran.new.store ≡ trace_of (main_from p rs c.in_ok-store.store) = c.in_ok-outcome.ensures.runs in
+    let ran : trace_at ending c.run-ran.new.store ≡ marked_run p rs c.args.samples.now = started ∙ ap (λ s. trace_of (main_from p rs s)) start in
+    λ _. c.in_ok-trace-2.ensures.parts ∙ ap (λ t. t.events) ran
 
 pub returns-clause-source : goal.returns-clause-source
 returns-clause-source c =
     let p = program_view c.args.program.now in
     let rs = map region_view c.args.regions.now in
-    let σ = c.run-ran.new.store in
     let start : c.in_ok-store.store ≡ first_store p c.args.samples.now = c.in_ok-store.ensures in
     let ending = ending_of c.in_ok-outcome.outcome in
-    let started : trace_at ending σ ≡ trace_of (main_from p rs c.in_ok-store.store) = c.in_ok-outcome.ensures.runs in
-    let ran : trace_at ending σ ≡ marked_run p rs c.args.samples.now = started ∙ ap (λ s. trace_of (main_from p rs s)) start in
-    λ whole. c.in_ok-trace-2.ensures.source whole ∙ ap without_marks ran ∙ only_tell p rs c.args.samples.now
+    let started : trace_at ending c.run-ran.new.store ≡ trace_of (main_from p rs c.in_ok-store.store) = c.in_ok-outcome.ensures.runs in
+    let ran : trace_at ending c.run-ran.new.store ≡ marked_run p rs c.args.samples.now = started ∙ ap (λ s. trace_of (main_from p rs s)) start in
+    λ _. c.in_ok-trace-2.ensures.source ∙ ap without_marks ran ∙ only_tell p rs c.args.samples.now

@@ -1,10 +1,10 @@
-use Rattle.std.proofs.Common.{rules, ◌≡◌, ap, sym, ◌∙◌, subst, length, map, nat_le, take}
-use Rattle.std.proofs.lemmas.List.{length-map, take-map}
+use Rattle.std.proofs.Common.{◌≡◌, ap, sym, ◌∙◌, subst, map, take}
+use Rattle.std.proofs.lemmas.List.{take-map}
 use Rattle.oc_meaning.specs.Run.{in_order}
 use Rattle.oc_meaning.specs.Stores.{event_view}
 use Rattle.oc_meaning.specs.Traces.{AreParts}
-use Rattle.oc_meaning.proofs.Beginning.{length-in_order, parts_first}
-use Rattle.oc_meaning.proofs.trace.marked_trace.Goals as goal
+use Rattle.oc_meaning.proofs.Beginning.{parts_first}
+use Rattle.oc_meaning.proofs.trace.cut_trace.Goals as goal
 
 pub make_trace-requires : goal.make_trace-requires
 make_trace-requires c =
@@ -12,7 +12,7 @@ make_trace-requires c =
     let noted = c.into_parts-noted.result.0.items in
     let first : map event_view c.truncate.new.self.items ≡ take n (in_order c.args.store.events) =
     ap (map event_view) c.truncate.ensures.items ∙ sym (take-map event_view n noted) ∙ ap (take n) c.into_parts-noted.ensures.events in
-    subst AreParts (sym first) (parts_first n (in_order c.args.store.events) c.requires)
+    subst AreParts (sym first) (parts_first n (in_order c.args.store.events) c.requires.parts)
 
 pub returns-clause-parts : goal.returns-clause-parts
 returns-clause-parts c =
@@ -20,10 +20,3 @@ returns-clause-parts c =
     let noted = c.into_parts-noted.result.0.items in
     c.in_ok-trace.ensures.events.parts
     ∙ ap (map event_view) c.truncate.ensures.items ∙ sym (take-map event_view n noted) ∙ ap (take n) c.into_parts-noted.ensures.events
-
-pub returns-clause-whole : goal.returns-clause-whole
-returns-clause-whole c =
-    let noted = c.into_parts-noted.result.0.items in
-    let many : c.len.result ≡ length noted = search rules in
-    ap (λ n. nat_le n c.args.limit)
-    (many ∙ sym (length-map noted event_view) ∙ ap length c.into_parts-noted.ensures.events ∙ length-in_order c.args.store.events)

@@ -1,0 +1,93 @@
+-- How far a period of power carries a run, at least: in instructions that are kept, and in steps.
+use Rattle.std.specs.Prelude.{◌≡◌, ◌≤◌, ◌<◌, ◌⊎◌, ℕ, zero, suc, ◌+◌, ◌*◌, ◌-◌, ℤ, max, nat_lt}
+use Rattle.std.specs.Prelude.{List, [], ◌∷◌, ◌++◌, length}
+use Rattle.std.specs.Prelude.{Bool, false, if◌then◌else◌}
+use Rattle.oc_io.specs.declared.period.Period.{Period}
+use Rattle.oc_tree.specs.declared.said.Ending.{Ending}
+use Rattle.oc_isa.specs.declared.phase.Phase.TheVariants.{Over}
+use Rattle.oc_isa.specs.Next.{Next, Goes, Senses, Enters, Commits, Ends, Stuck}
+use Rattle.oc_isa.specs.Next.{Device, written}
+use Rattle.oc_isa.specs.Run.{Core, core_at}
+use Rattle.oc_isa.specs.Power.{is_over, power_run}
+use Rattle.oc_outage.specs.Kept.{kept_after}
+use Rattle.oc_bounds.specs.Bounds.{Bounds, Claim, AreLong, AreSafe, sampled, opens, goes_on_commit}
+
+-- Steps
+
+-- the steps of an `enter` of region r at this depth. The outermost one saves registers and a stack,
+-- and arms; the steps in which its region may log are counted here too
+abbrev pub enter_steps : Device → Bounds → (depth r : ℕ) → ℕ
+enter_steps d b zero r = 4 + d.room + b.logged r
+enter_steps d b (suc k) r = 1
+
+-- an instruction has its steps among the t that are left, and a run goes on with the others
+abbrev pub takes_next : Device → Bounds → Next → Core → (t : ℕ) → (ℕ → Claim) → Type 0
+takes_next d b (Goes to w shown) c t go = (1 ≤ t) × go (t - 1) (core_at to c.depth (written w c.nv))
+takes_next d b (Senses s to) c t go = (1 ≤ t) × sampled to c (go (t - 1))
+takes_next d b (Enters r to) c t go =
+    let inside = core_at to (suc c.depth) c.nv in
+    let steps = enter_steps d b c.depth r in
+    (steps ≤ t) × opens d b c.depth r inside × go (t - steps) inside
+takes_next d b (Commits r to) c t go = (1 ≤ t) × goes_on_commit c.depth to c (go (t - 1))
+takes_next d b (Ends how) c t go = 1 ≤ t
+takes_next d b Stuck c t go = ⊥
+
+-- from here a run without outages is over within n instructions, which take t steps at most; it
+-- meets no undefined step, and each region that it enters stays within its bounds
+abbrev pub Takes : Device → Bounds → (n t : ℕ) → Core → Type 0
+Takes d b zero t c = ⊥
+Takes d b (suc n) t c =
+    (length c.regs.stack ≤ d.room) × takes_next d b (d.next c.regs c.nv) c t (Takes d b n)
+
+-- no region is entered: where one is, `safe` has room for two stacks more
+abbrev pub is_plain : Device → Bounds → Bool
+is_plain d b = nat_lt b.safe (2 * d.room + 9)
+
+-- the fewest steps with which a period is sure to carry a run further: those of a boot with a full
+-- stack and of what comes next, an instruction, the entry of a region, or an attempt with all that
+-- it logs
+abbrev pub least : Device → Bounds → ℕ
+least d b = if is_plain d b then b.safe else max (2 * d.room + 9) (b.safe - (d.room + 4))
+
+-- the steps of two instructions, with those of an entry and of so many words that are logged: a
+-- region has two at least, its `enter` and its `commit`
+abbrev pub two_steps : Device → Bounds → (most : ℕ) → ℕ
+two_steps d b most = if is_plain d b then 2 else 5 + d.room + most
+
+-- the steps that periods have from the number `low` on, with that one, add up to so many, and no
+-- period that is needed for it loses a checkpoint
+abbrev pub AddUp : (low steps : ℕ) → List Period → Type 0
+AddUp low zero periods = Unit {0}
+AddUp low (suc n) [] = ⊥
+AddUp low (suc n) (p ∷ periods) = (p.cut ≡ false) × AddUp low (suc n - (suc p.on - low)) periods
+
+-- periods have enough steps for the end of a run, by the numbers that are printed. No region logs
+-- more words than `most`; `work` is half of what two instructions take, for each instruction of the
+-- total; and the steps that the first periods have from the least number on add up to it
+pub record HaveEnough (d : Device) (b : Bounds) (periods : List Period) : Type 0 where
+  pub most : ℕ
+  pub few : (r : ℕ) → b.logged r ≤ most
+  pub work : ℕ
+  pub half : b.total * two_steps d b most ≤ 2 * work
+  pub steps : AddUp (least d b) work periods
+
+-- periods suffice for the end of a run: one more of the first ones than its total are safe, or as
+-- many as its total have the least number of steps, or they have steps enough
+abbrev pub Suffice : Device → Bounds → List Period → Type 0
+Suffice d b periods =
+    AreSafe b (suc b.total) periods
+    ⊎ (AreLong (least d b) b.total periods ⊎ HaveEnough d b periods)
+
+-- Laws of runs
+
+-- a run over these periods ends by itself
+abbrev pub RunEnds : Device → (ℕ → ℕ → ℤ) → List Period → Type 0
+RunEnds d h periods = (how : Ending) × ((power_run d h periods).state.phase ≡ Over how)
+
+-- each period that has the least number of steps keeps one instruction more at least, whatever the
+-- periods before it are, or the run is over behind it
+abbrev pub PeriodsKeep : Device → Bounds → (ℕ → ℕ → ℤ) → List Period → Type 0
+PeriodsKeep d b h periods =
+    (before rest : List Period) (p : Period) → before ++ p ∷ rest ≡ periods → least d b ≤ p.on
+    → is_over (power_run d h (before ++ p ∷ [])).state.phase ≡ false
+    → kept_after d h before < kept_after d h (before ++ p ∷ [])

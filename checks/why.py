@@ -4,7 +4,8 @@
 For each source of a case or an example that has regions, and for random ones, the smallest ranges around the sites that
 it prints for a region must make up just that region, its reasons must be those that are listed, and each policy that no
 region has must be named as one that binds nothing. These ranges are found by the reader of statements of blocks.py and
-not by that of the examples; and the lines that both and 'regions' know of statements must be the same. With words only
+not by that of the examples; and the lines that both and 'regions' know of statements must be the same. Where a file
+NAME.why stands beside NAME.oc, the lines must be those, and so with NAME.lines and --lines. With words only
 the sources whose names have one of them, and no random ones; with a folder the files in it. The program is that of
 OCELOT in the environment, or else the built one. Prints what differs; ends with 1 where something does.
 """
@@ -115,9 +116,18 @@ def policies_of(source):
     return found
 
 
+def faults_of_files(path):
+    """Yields where the lines aren't those of the files beside a source."""
+    for end, printed in (("why", why.explained), ("lines", why.numbered)):
+        kept = path.with_suffix(f".{end}")
+        if kept.exists() and kept.read_text().splitlines() != printed(path):
+            yield f"the lines aren't those of {kept.name}"
+
+
 def faults(path):
     """Yields what is wrong with what is printed of a source that is accepted."""
     source = path.read_text(encoding="latin-1")
+    yield from faults_of_files(path)
     tree = Tree(source)
     try:
         lines = why.explained(path)

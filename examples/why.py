@@ -103,7 +103,7 @@ def explained(source):
     regions = listed(asked("regions", source, (0,)))
     lines, idle = reasons(read(source), regions)
     told = [line for region in regions for line in [region.line, *lines[region]]]
-    return told + [line for policy in idle for line in unbound(policy)]
+    return (told or ["no annotation asks for a region"]) + [line for policy in idle for line in unbound(policy)]
 
 
 def numbered(source):
@@ -115,6 +115,9 @@ def numbered(source):
 
 def main():
     words = sys.argv[1:]
+    if words in (["--help"], ["-h"]):
+        print(__doc__, end="")
+        return
     lines = words[:1] == ["--lines"]
     if len(words) != 1 + lines or words[-1].startswith("-"):
         sys.exit(__doc__)

@@ -52,7 +52,7 @@ class Writer:
                 own.append(name)
                 visible.append(name)
             elif kind < 6:
-                note = self.random.choice(["Fresh({})", "Consistent({}, 1)", "Consistent({}, 2)"])
+                note = self.random.choice(["Fresh({})", "Fresh({})", "Consistent({}, 1)", "Consistent({}, 2)"])
                 self.lines.append(f"{pad}{note.format(self.random.choice(own))};")
             elif kind == 6:
                 target = self.random.choice([*(x for x in visible if x in self.changing), "n", "m[2]"])
@@ -78,6 +78,9 @@ class Writer:
         self.changing = set()
         self.lines.append(f"fn {name}({parameters}){' -> i32' * result} {{")
         visible = ["a"] if parameters.startswith("a: i32") else ["b"] if parameters else []
+        taken = [called for called, lends in self.functions if not lends]
+        if visible and taken:
+            self.lines.append(f"    emit(p, {self.random.choice(taken)}({visible[0]}));")
         self.statements(1, visible, 2)
         if parameters.startswith("r"):
             self.lines.append(f"    *r = {self.value(visible)} + *r;")
@@ -85,12 +88,17 @@ class Writer:
         self.lines.append("}\n")
 
     def program(self):
+        texts = []
         for number in range(self.random.randrange(1, 4)):
             lends = self.random.random() < 0.4
             self.function(f"f{number}", "r: &mut i32, b: i32" if lends else "a: i32", True)
             self.functions.append((f"f{number}", lends))
+            texts.append(self.lines)
+            self.lines = []
         self.function("main", "", False)
-        return HEAD + "\n".join(self.lines)
+        texts.append(self.lines)
+        self.random.shuffle(texts)
+        return HEAD + "\n".join(line for lines in texts for line in lines)
 
 
 def source(seed):

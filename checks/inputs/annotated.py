@@ -81,6 +81,9 @@ class Writer:
         taken = [called for called, lends in self.functions if not lends]
         if visible and taken:
             self.lines.append(f"    emit(p, {self.random.choice(taken)}({visible[0]}));")
+        if visible and self.random.random() < 0.3:
+            name = self.name()
+            self.lines.append(f"    let {name} = {visible[0]} + 1;\n    Fresh({name});\n    emit(p, {name});")
         self.statements(1, visible, 2)
         if parameters.startswith("r"):
             self.lines.append(f"    *r = {self.value(visible)} + *r;")
@@ -89,7 +92,7 @@ class Writer:
 
     def program(self):
         texts = []
-        for number in range(self.random.randrange(1, 4)):
+        for number in range(self.random.randrange(1, 6)):
             lends = self.random.random() < 0.4
             self.function(f"f{number}", "r: &mut i32, b: i32" if lends else "a: i32", True)
             self.functions.append((f"f{number}", lends))

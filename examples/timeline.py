@@ -277,7 +277,8 @@ def put_periods(rows, scale):
             rows.put(right, right + scale.gap(*outage), lambda a, b: f'<line class="off" x1="{a:.1f}" y1="39" x2="{b:.1f}" y2="39"/>')
             rows.say(right, f"off {outage[1]}", 34, 12)
             # Where both ticks have no room above the period, the last one stands below.
-            has_room = right - left >= LETTER * (len(str(start)) + len(str(end))) + 8
+            begin = max([left, *(cut for cut in rows.cuts if cut < right)])
+            has_room = right - begin >= LETTER * (len(str(start)) + len(str(end))) + 8
             rows.say(right, str(end), *(24, -7 * len(str(end))) if has_room else (55, 4))
 
 

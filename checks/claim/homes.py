@@ -12,7 +12,7 @@ HOMES = {
     "p06": "oc_items/Erase.HasNoOffInside",
     "p07": "oc_honest/Timely.IsTimely",
     "p08": "oc_honest/Honest.IsWhole",
-    "p09": "oc_bounds/Bounds.AreSafe",
+    "p09": "oc_bounds/Headway.Suffice oc_bounds/Headway.PeriodsKeep oc_bounds/Attempts.AttemptsClose oc_outage/Kept.CountIsKept",
     "p10": "oc_top/Audited.IsAudit oc_top/Audited.IsVouched oc_top/Headline.IsReportedRun",
     "p11": "oc_top/Images.IsExecution oc_top/Images.IsExecuted oc_top/Verdict.image_of",
     "lex": "oc_lex/Tokens.AreTokens oc_lex/Tokens.HasFault",

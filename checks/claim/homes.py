@@ -30,5 +30,6 @@ HOMES = {
     "compile": "oc_code/Code.code_of",
     "read_image": "oc_verify/Reading.AreImage oc_verify/Rules.Broken",
     "read_sensors": "oc_sensors/File.sensor_file oc_power/Power.power_file oc_sensors/History.history",
-    "run": "oc_isa/Power.power_run oc_isa/Table.device_of oc_isa/Power.one_period oc_isa/Power.ticks_on oc_isa/Power.first_world",
+    "run": "oc_isa/Power.power_run oc_isa/Table.device_of oc_isa/Power.one_period oc_isa/Power.ticks_on oc_isa/Power.first_world "
+           "oc_isa/Power.tick_on oc_isa/Run.continuous_run",
 }

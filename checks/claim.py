@@ -10,7 +10,7 @@ all pages, but keep none. --selftest reads a small made-up repository with each 
 a word rests on, as in 'claim.py --rests oc_top/Headline.IsRun'.
 
 Ends with 1 at a word that can't be placed, a field that no page means, a link that leads nowhere, a file that is too
-large, and a count that isn't true.
+large, a count that isn't true, and a name in docs/PROVED.md or docs/TRUSTED.md that nothing has.
 """
 import pathlib
 import sys
@@ -19,6 +19,7 @@ sys.dont_write_bytecode = True
 
 from claim import selftest
 from claim.counts import compared
+from claim.documents import lost_names
 from claim.files import faults_of, files_of, write
 from claim.laws import laws_of
 from claim.order import reading_order
@@ -35,7 +36,7 @@ def made(out=None, is_written=False):
     pages = list(claim.pages.values())
     laws_of(claim.repository, pages)
     files = files_of(claim)
-    told = list(faults_of(files))
+    told = [*faults_of(files), *lost_names(TOP)]
     if out:
         write(files, out)
     else:

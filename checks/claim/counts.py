@@ -1,6 +1,4 @@
 """The counts that the documents have: behind each promise of the README, and as a table in docs/PROVED.md."""
-import re
-
 from claim.markup import count
 from claim.promises import COUNT, PROMISE
 from claim.text import Unplaced

@@ -11,8 +11,6 @@ PLAIN = set("→ : = λ Type record where let in elim as _ [ ] | ↦ ← do pub 
 BUILT_IN = set("Unit tt ⊥ ¬ × absurd".split())
 # A proof in a definition: no promise speaks of one, and a word that uses one is named by none.
 TACTICS = set("omega arith rw grind search simp cc Prim".split())
-# Types that Rust has without an import.
-RUST_TYPES = set("Vec Option Result Box String Some None Ok Err".split())
 
 
 def find(source, name):

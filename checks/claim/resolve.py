@@ -13,6 +13,8 @@ from claim.words import Lib, Member, Word
 IMPL = re.compile(r"^impl(?:<[^>]*>)? (?:[\w<>:, ]+ for )?(\w+)[^{]*", re.M)
 TYPE_PARAMETER = re.compile(r"[<,]\s*([A-Z])\b\s*[:,>]")
 PARAMETER = re.compile(r"[(,]\s*(?:mut )?(\w+)\s*:(?!:)\s*((?:[^,()<]|<[^()]*?>|\([^()]*\))+)")
+# Types that Rust has without an import.
+RUST_TYPES = ("Vec", "Option", "Result", "Box", "String", "Some", "None", "Ok", "Err")
 # Names of Rust that say nothing which a reader would look up.
 PASSED_BY = ("Self", "Model", "Value", "Drop", "Copy", "Sized", "Send")
 
@@ -179,7 +181,7 @@ class Definition(Terms):
             target = self.source.repository.place(*self.source.imports[name])
             if not isinstance(target, (Word, Lib)):
                 self.source.fail(at, f"can't place {name!r} in {self.word.name}")
-        if target is None and name in ("Vec", "Option", "Result", "Box", "String", "Some", "None", "Ok", "Err"):
+        if target is None and name in RUST_TYPES:
             target = Lib(name, "std")
         if target is not None:
             self.word.links.append((at, at + len(name), target))

@@ -4,6 +4,7 @@ import shutil
 import tempfile
 
 from claim.counts import compared
+from claim.documents import lost_names
 from claim.files import faults_of, files_of
 from claim.laws import laws_of
 from claim.pages import Claim, closure
@@ -72,6 +73,8 @@ REFUSED = [
      "no page hands over to the stage by_row"),
     (POINTS, "abbrev pub total : Points → ℕ\ntotal ps", "abbrev pub totals : Points → ℕ\ntotals ps", "imports total, which isn't there"),
     (TOP, "pub counts : (ps : base.Points)", "pub counts : (n : ℕ)", "can't place 'ps' in Works"),
+    ("docs/PROVED.md", "`Reader::count`", "`Reader::tally`", "docs/PROVED.md says that `Reader::tally` carries something"),
+    ("docs/TRUSTED.md", "| nothing |", "| the case `none` |", "docs/TRUSTED.md names `none`, which is no case"),
     ("docs/PROVED.md", "<!-- end of the counts -->\n", "", "docs/PROVED.md lacks the line <!-- end of the counts -->"),
 ]
 
@@ -170,6 +173,6 @@ def told_of(file, old, new, homes=HOMES):
         try:
             claim, _ = made(top, homes)
             differ = compared(top, list(claim.pages.values()), False)
-            return "differs" if "README.md" in differ else ""
+            return "\n".join(lost_names(top)) or ("differs" if "README.md" in differ else "")
         except Unplaced as fault:
             return str(fault)

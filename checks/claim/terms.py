@@ -1,8 +1,7 @@
 """Terms: what each word in one stands for, and the shape of what it gives."""
-from claim.names import PLAIN, TACTICS, find, find_ghost, is_infix, library
-from claim.shapes import (Shape, constructor_shape, field_of, fill, library_shape, looks_in, match, member_shape,
-                          modelled, shape_of, signature_shape)
-from claim.text import flat, is_access, place_of, split_at
+from claim.names import PLAIN, TACTICS, find, find_ghost, is_infix
+from claim.shapes import Shape, constructor_shape, field_of, fill, library_shape, match, shape_of, signature_shape
+from claim.text import is_access, place_of, split_at
 from claim.words import Lib, Member, Source, Variants, Word
 
 # Lower-case constructors of the library: in a pattern they aren't bound.
@@ -210,9 +209,7 @@ class Terms:
         return shape
 
     def type_shape(self, tokens, env):
-        """The shape of a type in a term, where none of its words is bound."""
-        if any(t.kind == "word" and t.text in env for t in flat(tokens)):
-            tokens = [t for t in tokens if not t.is_word("→")] if len(tokens) == 1 else tokens
+        """The shape of a type in a term; a name that is bound has none."""
         return shape_of(tokens, lambda name: None if name in env else find(self.source, name))
 
     # ---- patterns

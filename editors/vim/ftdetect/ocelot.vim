@@ -1,0 +1,2 @@
+" Sources of Ocelot.
+autocmd BufNewFile,BufRead *.oc setfiletype ocelot

@@ -4,7 +4,7 @@
 Runs the applications of examples/applications in four versions over supplies of power and sensors that change in time
 (runs.py), judges each report (judge.py) and has it audited. Writes each run into results/, sums of them into summary.csv
 and what is known of each application into applications.csv, all beside this script; page.py makes the page of these two.
-That takes about ten minutes on four free processors. All follows from seeds, so what is written is the same each time.
+That takes eight minutes of processor time, some two on four free processors. All follows from seeds, so what is written is the same each time.
 
 With --small it measures a little of two applications in some 15 seconds, and writes nothing.
 

@@ -41,7 +41,8 @@ def made(out=None, is_written=False):
         write(files, out)
     else:
         differ = compared(TOP, pages, is_written)
-        told += [f"the counts in {name} aren't those of now; checks/claim.py --write mends it" for name in differ if not is_written]
+        if not is_written:
+            told += [f"the counts in {name} aren't those of now; checks/claim.py --write mends it" for name in differ]
     if not told:
         below = {key: word for page in pages if page.is_promise for key, word in page.all.items()}
         print(f"claim: {len(files)} pages; all promises rest on {len(below):,} definitions of "

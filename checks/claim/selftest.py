@@ -71,9 +71,10 @@ REFUSED = [
     ("README.md", "(`comes`)", "(`comes`; `IsDone`: `rest`)", "no page means more of oc_top/specs/Works.antt:IsDone"),
     ("README.md", "\n\n## More", "\n| `by_row` | a row | [P](crates/oc_base/specs/Points.antt) |\n\n## More",
      "no page hands over to the stage by_row"),
-    (POINTS, "abbrev pub total : Points → ℕ\ntotal ps", "abbrev pub totals : Points → ℕ\ntotals ps", "imports total, which isn't there"),
+    (POINTS, "abbrev pub total : Points → ℕ\ntotal ps", "abbrev pub totals : Points → ℕ\ntotals ps",
+     "imports total, which isn't there"),
     (TOP, "pub counts : (ps : base.Points)", "pub counts : (n : ℕ)", "can't place 'ps' in Works"),
-    ("docs/PROVED.md", "`Reader::count`", "`Reader::tally`", "docs/PROVED.md says that `Reader::tally` carries something"),
+    ("docs/PROVED.md", "`Reader::count`", "`Reader::tally`", "says that `Reader::tally` carries something"),
     ("docs/TRUSTED.md", "| nothing |", "| the case `none` |", "docs/TRUSTED.md names `none`, which is no case"),
     ("docs/PROVED.md", "<!-- end of the counts -->\n", "", "docs/PROVED.md lacks the line <!-- end of the counts -->"),
 ]

@@ -77,7 +77,8 @@ def library_page(used):
     rows = "".join(f"<tr id=\"{escaped(name)}\"><td><code>{escaped(shown(name))}</code><td>{prose(meaning)}</tr>"
                    for name, (meaning, _) in library().items() if name in used)
     return document("Words of the library", "<main class=w><nav><a href=index.html>The claim</a></nav>"
-                    "<h1>Words of the library</h1><p class=l>What the kit's own library defines, and the language has built in.</p>"
+                    "<h1>Words of the library</h1><p class=l>What the kit's own library defines, and what the language has "
+                    "built in.</p>"
                     f"<table class=b>{rows}</table></main>")
 
 

@@ -3,6 +3,7 @@ use Rattle.std.specs.Prelude.{ℕ, zero, suc, ◌+◌, List, [], ◌∷◌, ◌+
 use Rattle.oc_base.specs.declared.kind.Kind.{Kind}
 use Rattle.oc_base.specs.declared.kind.Kind.TheVariants.{Plain}
 use Rattle.oc_base.specs.declared.kind.Kind.TheVariants as kinds
+use Rattle.oc_base.specs.declared.kind.Kind.TheOpen.{Kind-F}
 use Rattle.oc_base.specs.declared.Top.{Top}
 
 -- how many words
@@ -57,6 +58,11 @@ text t = codes "-- no \"comment\"" ++ tail t
   where
     tail : Top → List ℕ
     tail words = []
+
+-- one layer of a type of Rust
+abbrev pub layer : Kind-F → ℕ
+layer Kind-F.Plain = 0
+layer (Kind-F.Sized n) = n
 
 -- a name that is bound hides a definition
 abbrev pub hidden : ℕ → ℕ

@@ -53,6 +53,32 @@ module _ (shift : ℕ) where
 abbrev pub by_module : Point → ℕ
 by_module p = (moved 2 p).x
 
+-- a function type with a name of its own
+abbrev pub Walk : Type 0
+Walk = Point → Other → ℕ
+
+abbrev pub by_abbreviation : ℕ → Walk
+by_abbreviation n p o = p.x + o.x.y
+
+abbrev pub nested : Point → Other
+nested p = record { x = record { x = p.y; y = 0 }; others = [] }
+
+abbrev pub by_where : Other → ℕ
+by_where o = inner (o.x)
+  where
+    inner : Point → ℕ
+    inner p = p.x
+
+module _ (most : ℕ) where
+  abbrev mutual
+    pub even : Points → ℕ
+    even [] = most
+    even (p ∷ ps) = p.x + odd ps
+
+    pub odd : Points → ℕ
+    odd [] = 0
+    odd (p ∷ ps) = p.y + even ps
+
 pub record Counts (ps : Points) (n : ℕ) : Type 0 where
   pub all : total ps ≡ n
   pub each : (p : Point) → p.x ≤ n

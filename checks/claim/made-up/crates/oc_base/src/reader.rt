@@ -12,7 +12,7 @@ pub enum ReadError {
 }
 
 pub struct Reader {
-    rows: Vec<Row>,
+    pub(crate) rows: Vec<Row>,
 }
 
 impl Model for Reader {

@@ -96,10 +96,20 @@ OTHER_HOMES = [
 ]
 
 
+def lay(top):
+    """Lays the made-up repository out in a new folder. Here its sources have '.text' behind their names, since the kit
+    wants no source outside of the crates."""
+    shutil.copytree(MADE_UP, top)
+    for path in sorted(top.rglob("*.text")):
+        path.rename(path.with_suffix(""))
+
+
 def faults():
     """Returns what isn't as it must be."""
-    repository = Repository(MADE_UP)
-    told = [*wrong_words(repository), *wrong_pages(), *wrong_refusals()]
+    with tempfile.TemporaryDirectory() as folder:
+        top = pathlib.Path(folder) / "top"
+        lay(top)
+        told = [*wrong_words(Repository(top)), *wrong_pages(top), *wrong_refusals()]
     if not told:
         print(f"claim: the made-up repository is read, and {len(REFUSED)} edits of it are refused")
     return told
@@ -132,9 +142,9 @@ def made(top, homes=HOMES):
     return claim, files_of(claim)
 
 
-def wrong_pages():
+def wrong_pages(top):
     """Yields what isn't as it must be of the pages."""
-    claim, files = made(MADE_UP)
+    claim, files = made(top)
     roots = {name: [word.name + (f": {' '.join(fields)}" if fields else "") for word, fields in page.roots]
              for name, page in claim.pages.items()}
     if roots != {"p01": ["ocelot()", "Works: comes answer ends counts"], "read": ["read()", "count()"],
@@ -174,7 +184,7 @@ def told_of(file, old, new, homes=HOMES):
     """Returns what is said of the made-up repository with an edit."""
     with tempfile.TemporaryDirectory() as folder:
         top = pathlib.Path(folder) / "top"
-        shutil.copytree(MADE_UP, top)
+        lay(top)
         text = (top / file).read_text()
         if text.count(old) != 1:
             return f"{old!r} stands there {text.count(old)} times"

@@ -131,8 +131,8 @@ module _ (p : TProgram) (rs : List TRegion) (nv : Option (List ℤ)) where
   pub heard : (w : Watch) (s : Said) (a : Option Watch) → IsTold p rs nv w s a
       → (n : ℕ) × IsMade (steps_on p rs n w.now) × (a ≡ on_next p nv rs w s (steps_on p rs n w.now))
   heard w s a h =
-      let q = subst (λ q. IsMade q × (a ≡ on_next p nv rs w s q)) (sym h.comes.1) (h.made, h.answer) in
-      (h.comes.0, q.0, q.1)
+      let q = subst (λ q. IsMade q × (a ≡ on_next p nv rs w s q)) (sym h.comes.is) (h.made, h.answer) in
+      (h.comes.steps, q.0, q.1)
 
   telling : (w : Watch) (s : Said) (a : Option Watch) → IsTelling s → IsTold p rs nv w s a → IsHeard p rs nv w s a
   telling w (Sensed z v) a t h = heard w (Sensed z v) a h

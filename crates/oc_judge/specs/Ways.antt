@@ -47,5 +47,6 @@ pub record KeepsRest (before now : fold.Way) : Type 0 where
 
 module _ (p : TProgram) (regions : List TRegion) where
   -- some steps on, it does this next
-  abbrev pub Comes : fold.Way → fold.Next → Type 0
-  Comes before next = (n : ℕ) × (steps_on p regions n before ≡ next)
+  pub record Comes (before : fold.Way) (next : fold.Next) : Type 0 where
+    pub steps : ℕ
+    pub is : steps_on p regions steps before ≡ next

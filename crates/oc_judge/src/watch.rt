@@ -139,11 +139,14 @@ fn tell_shown<'a>(run: &Running<'a>, way: &mut Way<'a>, what: Shown, event: Even
         → (nv : Option (List ℤ)) → way_view way.new
         ≡ with_shown (program_of run.now) nv (way_view way.old) what (event_view event) }
 {
-    if says_shown(event.said, what) && may_show(run, way, what, event) {
-        show(run, way, what, event);
-        return true;
+    if !says_shown(event.said, what) {
+        return false;
     }
-    false
+    if !may_show(run, way, what, event) {
+        return false;
+    }
+    show(run, way, what, event);
+    true
 }
 
 /// An output, a use or its end, or a tag.

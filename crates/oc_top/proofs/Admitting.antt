@@ -79,7 +79,9 @@ module _ (law : BuiltImagesAreAdmitted) (source image sensors power : List ℕ) 
   as_image : (meters : Option (List Meter)) (run : Verdict) → IsJudged (source ∷ sensors ∷ power ∷ []) (report plan meters) run → IsExecution files plan run
   as_image meters run j =
       let same : j.reading ≡ program i.written = one_reading source j.reading (program i.written) j.reads i.reads in
-      executed (program_code i.written) admitted (sym j.is_verdict ∙ ap (λ r. verdict r files plan) same)
+      let as_run : verdict j.reading (run_files (source ∷ sensors ∷ power ∷ [])) plan ≡ with_parts (program_code i.written) files plan =
+      ap (λ r. verdict r (run_files (source ∷ sensors ∷ power ∷ [])) plan) same in
+      executed (program_code i.written) admitted (sym j.is_verdict ∙ as_run)
 
 pub built_images_run : BuiltImagesAreAdmitted → BuiltImagesRun
 built_images_run law source image sensors power plan meters run small printed =

@@ -144,7 +144,7 @@ module _ (c : Call) (task : Task) (asked : c.task ≡ Some task) where
 
     -- the task was done, and written in whole or in part; where it was written in whole, this is what the meters tell
     pub was_told : (told : List ℕ) (run : Verdict) → IsDone files task run → (end : Answer) → ((end ≡ answer.WriteFault → ⊥) → IsDoneWhole files task run)
-        → ((end ≡ answer.WriteFault → ⊥) → (c.out.rose → ⊥) → HasTold run.items (meters_of task) told)
+        → ((end ≡ answer.WriteFault → ⊥) → HasTold run.items (meters_of task) told)
         → (end ≡ answer.WriteFault → told ≡ []) → IsWritten c.out run end → Comes c told end
     was_told told run d end all tells untold (whole e t) =
         let of_run = ap is_of_run e ∙ done_answer files task run d in
@@ -158,7 +158,7 @@ module _ (c : Call) (task : Task) (asked : c.task ≡ Some task) where
     -- the same without meters
     pub was_done : (run : Verdict) → IsDoneWhole files task run → (end : Answer) → meters_of task ≡ None → IsWritten c.out run end → Comes c [] end
     was_done run d end none w =
-        was_told [] run (whole_done files task run d) end (λ apart. d) (λ apart calm. subst (λ (ms : Option (List Meter)). HasTold run.items ms []) (sym none) refl) (λ e. refl) w
+        was_told [] run (whole_done files task run d) end (λ apart. d) (λ apart. subst (λ (ms : Option (List Meter)). HasTold run.items ms []) (sym none) refl) (λ e. refl) w
 
 module _ (c : Call) (plan : Plan) (meters : Option (List Meter)) (asked : c.task ≡ Some (report plan meters)) (files : Files)
     (fetched : AreFiles c.shelf.holds c.words (run_limits source_limit) (listed files)) (all_asked : c.shelf.asked (names_of c.words (run_limits source_limit) 3)) where
@@ -170,7 +170,7 @@ module _ (c : Call) (plan : Plan) (meters : Option (List Meter)) (asked : c.task
       (written : IsWritten c.out (runs machine.parts sensors.rows left) end) where
     -- a run was written, and this is what the meters tell of it
     pub was_metered : (told : List ℕ) → ((end ≡ answer.WriteFault → ⊥) → RunFits machine.parts sensors.rows left)
-        → ((end ≡ answer.WriteFault → ⊥) → (c.out.rose → ⊥) → HasTold (runs machine.parts sensors.rows left).items meters told)
+        → ((end ≡ answer.WriteFault → ⊥) → HasTold (runs machine.parts sensors.rows left).items meters told)
         → (end ≡ answer.WriteFault → told ≡ []) → Comes c told end
     was_metered told fits tells untold =
         let short : length files.source ≤ source_limit = (fetched.each 0 (omega arith)).within in

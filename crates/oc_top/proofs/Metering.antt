@@ -1,5 +1,5 @@
 -- What meters were told of a report that was written through their sink.
-use Rattle.std.proofs.Common.{ℕ, ◌≡◌, ◌∙◌, sym, ap, refl, subst, List, [], map, Bool, true, false, Option, Some, None}
+use Rattle.std.proofs.Common.{ℕ, ◌≡◌, ◌≤◌, ◌∙◌, sym, ap, refl, subst, arith, List, [], map, Bool, true, false, Option, Some, None}
 use Rattle.oc_lex.specs.Limits.{source_limit}
 use Rattle.oc_io.specs.Faults.{Rose}
 use Rattle.oc_tree.specs.Names.{NameLists, names_view}
@@ -9,6 +9,7 @@ use Rattle.oc_meters.specs.Reads.{Page, TakesBytes, page}
 use Rattle.oc_meters.specs.ReadBack.{ReportIsRead, begun, tell_items}
 use Rattle.oc_meters.specs.Lines.{meter_lines}
 use Rattle.oc_apart.specs.Apart.{HasNamesApart}
+use Rattle.oc_meters.specs.Passing.{faults_by}
 use Rattle.oc_meters.specs.Taken.{Took}
 use Rattle.oc_top.specs.Verdict.{RunFits, Verdict, runs}
 use Rattle.oc_top.specs.Answers.{Call, Comes, IsWritten, Writes, in_part, told_by, whole}
@@ -27,13 +28,27 @@ use Rattle.oc_top.specs.declared.answer.Answer.{Answer}
 use Rattle.oc_top.specs.declared.answer.Answer.TheVariants as answer
 use Rattle.oc_top.proofs.Asking.{turned_down, was_metered}
 
+-- where its own count stays none has failed, and where that rises one has
+unfailed : (after : Bool) → faults_by after ≡ 0 → after ≡ false
+unfailed true e = absurd (omega (arith, e))
+unfailed false e = refl
+
+failed : (after : Bool) → Rose 0 (faults_by after) → after ≡ true
+failed true e = refl
+failed false e = absurd (omega (arith, e))
+
 -- what a sink round another one took, taken apart
-module _ (same_inner same_book : Type 0) (took rest : List ℕ → Type 0) (held : List ℕ) (rose : Type 0) (run : Verdict) (end : Answer) where
+module _ (same_inner same_book : Type 0) (took : List ℕ → Type 0) (held : List ℕ) (before after : Bool) (m n : ℕ) (a b : Names) (old new : Page) (run : Verdict) (end : Answer) where
   abbrev round : Writes
-  round = record { took = λ x. same_inner × same_book × took x × rest x; held = held; rose = rose }
+  round = record {
+    took = λ x. same_inner × same_book × took x × Took before after m n a b old x new;
+    held = held;
+    rose = Rose (faults_by before) (faults_by after);
+    calm = faults_by after ≡ faults_by before;
+  }
 
   abbrev inner : Writes
-  inner = record { took = took; held = held; rose = rose }
+  inner = record { took = took; held = held; rose = Rose m n; calm = n ≡ m }
 
   pub inner_same : IsWritten round run end → same_inner
   inner_same (whole e t) = t.taken.0
@@ -43,19 +58,25 @@ module _ (same_inner same_book : Type 0) (took rest : List ℕ → Type 0) (held
   book_same (whole e t) = t.taken.1
   book_same (in_part e p) = p.taken.1
 
-  pub inner_written : IsWritten round run end → IsWritten inner run end
-  inner_written (whole e t) = whole e (record { taken = t.taken.2; written = t.written })
-  inner_written (in_part e p) = in_part e (record { rose = p.rose; front = p.front; back = p.back; split = p.split; taken = p.taken.2 })
+  pub inner_count : IsWritten round run end → m ≤ n
+  inner_count (whole e t) = t.taken.3.marks.count
+  inner_count (in_part e p) = p.taken.3.marks.count
 
-  pub all_read : IsWritten round run end → (rose → ⊥) → rest run.text
-  all_read (whole e t) calm = t.taken.3
-  all_read (in_part e p) calm = absurd (calm p.rose)
+  -- no call had failed before
+  module _ (fresh : before ≡ false) where
+    still : faults_by after ≡ faults_by before → after ≡ false
+    still calm = unfailed after (calm ∙ ap faults_by fresh)
 
--- where no call had failed and no fault rose, the book took all bytes
-pub book_took : (before after : Bool) (m n : ℕ) (a b : Names) (old : Page) (text : List ℕ) (new : Page) → before ≡ false → Took before after m n a b old text new → (Rose m n → ⊥)
-    → TakesBytes (names_view a) old text new
-book_took before true m n a b old text new e t calm = absurd (calm (t.marks.rose e refl))
-book_took before false m n a b old text new e t calm = t.taken refl
+    pub inner_written : IsWritten round run end → IsWritten inner run end
+    inner_written (whole e t) = whole e (record { taken = t.taken.2; written = t.written; calm = t.taken.3.marks.calm (still t.calm) })
+    inner_written (in_part e p) =
+        let now : after ≡ true = failed after (subst (λ (k : Bool). Rose (faults_by k) (faults_by after)) fresh p.rose) in
+        in_part e (record { rose = p.taken.3.marks.rose fresh now; front = p.front; back = p.back; split = p.split; taken = p.taken.2 })
+
+    -- where the text was written whole, the book took all of it
+    pub all_read : (end ≡ answer.WriteFault → ⊥) → IsWritten round run end → TakesBytes (names_view a) old run.text new
+    all_read apart (whole e t) = t.taken.3.taken (still t.calm)
+    all_read apart (in_part e p) = absurd (apart e)
 
 -- what meters that read the text of a run tell is what they tell of its items
 module _ (report_is_read : ReportIsRead) (parts : Parts) (rows : List Row) (periods : List Period) (apart : HasNamesApart parts.names) where
@@ -71,10 +92,10 @@ module _ (report_is_read : ReportIsRead) (parts : Parts) (rows : List Row) (peri
       apart.sensors apart.ports apart.nvs fits.each fits.places here)
 
   pub was_reported : (sink : Writes) (end : Answer) (names : NameLists) (old new : Page) (meters : List Reading) (told : Option (List Reading)) → IsWritten sink reported end
-      → ((end ≡ answer.WriteFault → ⊥) → RunFits parts rows periods) → ((sink.rose → ⊥) → TakesBytes names old reported.text new) → names ≡ parts.names → old ≡ begun meters
+      → ((end ≡ answer.WriteFault → ⊥) → RunFits parts rows periods) → ((end ≡ answer.WriteFault → ⊥) → TakesBytes names old reported.text new) → names ≡ parts.names → old ≡ begun meters
       → ((end ≡ answer.WriteFault → ⊥) → told ≡ Some new.readings) → (end ≡ answer.WriteFault → told ≡ None) → IsReported parts rows periods (Some meters) sink (told_by told) end
   was_reported sink end names old new meters told w fits takes same is_begun kept none =
-      read w fits (λ whole calm. ap told_by (kept whole) ∙ ap meter_lines (told_items names old new meters (fits whole) (takes calm) same is_begun)) (λ e. ap told_by (none e))
+      read w fits (λ whole. ap told_by (kept whole) ∙ ap meter_lines (told_items names old new meters (fits whole) (takes whole) same is_begun)) (λ e. ap told_by (none e))
 
 pub reported_as : (parts : Parts) (rows : List Row) (periods : List Period) (meters : Option (List Reading)) (sink : Writes) (told : List ℕ) (end other : Answer) → other ≡ end
     → IsReported parts rows periods meters sink told end → IsReported parts rows periods meters sink told other

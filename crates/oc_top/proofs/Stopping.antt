@@ -133,29 +133,29 @@ module _ {S : Type 0} (took : S → List ℕ → S → Type 0) (held : S → Lis
   as_run a c x end e w = same_written _ _ (runs parts rows periods) end (e ∙ sym (answer_is parts (history rows) periods))
       (ap (λ (z : Answer). text ++ cond (is_over_with parts (history rows) periods z) (variables parts (history rows) periods) []) e ∙ sym (text_is parts (history rows) periods)) w
 
-  pub ended_written : (a b c : S) (count : ℕ) (end : Answer) → stops.End ≡ stop_of count run.state.phase → faults a ≤ faults b → took a text b
+  pub ended_written : (a b c : S) (count : ℕ) (end : Answer) → stops.End ≡ stop_of count run.state.phase → faults b ≡ faults a → took a text b
       → IsWritten (writes took held faults b c) (says answer.End (variables parts (history rows) periods)) end
       → IsWritten (writes took held faults a c) (runs parts rows periods) end
-  ended_written a b c count end e le t w = as_run a c answer.End end (stopped_at stops.End count e) (written_after took held faults both a b c text _ end le t w)
+  ended_written a b c count end e calm t w = as_run a c answer.End end (stopped_at stops.End count e) (written_after took held faults both a b c text _ end calm t w)
 
-  pub trapped_written : (a b c : S) (count : ℕ) (end : Answer) (kind : TrapKind) (site : ℕ) → stops.Trap kind site ≡ stop_of count run.state.phase → faults a ≤ faults b → took a text b
+  pub trapped_written : (a b c : S) (count : ℕ) (end : Answer) (kind : TrapKind) (site : ℕ) → stops.Trap kind site ≡ stop_of count run.state.phase → faults b ≡ faults a → took a text b
       → IsWritten (writes took held faults b c) (says answer.Trapped (variables parts (history rows) periods)) end
       → IsWritten (writes took held faults a c) (runs parts rows periods) end
-  trapped_written a b c count end kind site e le t w = as_run a c answer.Trapped end (stopped_at (stops.Trap kind site) count e) (written_after took held faults both a b c text _ end le t w)
+  trapped_written a b c count end kind site e calm t w = as_run a c answer.Trapped end (stopped_at (stops.Trap kind site) count e) (written_after took held faults both a b c text _ end calm t w)
 
   flushed_run : (a b c : S) (x end : Answer) → x ≡ answer_at parts (history rows) periods run.state.phase → is_over_with parts (history rows) periods x ≡ false
-      → faults a ≤ faults b → took a text b → took b [] c → Stays x end (held c) (Rose (faults b) (faults c)) → IsWritten (writes took held faults a c) (runs parts rows periods) end
-  flushed_run a b c x end e no_more le t n s =
+      → faults b ≡ faults a → took a text b → took b [] c → Stays x end (held c) (faults b) (faults c) → IsWritten (writes took held faults a c) (runs parts rows periods) end
+  flushed_run a b c x end e no_more calm t n s =
       let whole_text : text ≡ text ++ cond (is_over_with parts (history rows) periods x) (variables parts (history rows) periods) [] = rw no_more (sym (append-nil text)) in
       as_run a c x end e (subst (λ (u : List ℕ). IsWritten (writes took held faults a c) (says x u) end) whole_text
-      (flushed_written took held faults both a b c x end text le t n s))
+      (flushed_written took held faults both a b c x end text calm t n s))
 
-  pub dark_written : (a b c : S) (count : ℕ) (end : Answer) → stops.Dark ≡ stop_of count run.state.phase → faults a ≤ faults b → took a text b → took b [] c
-      → Stays answer.Dark end (held c) (Rose (faults b) (faults c)) → IsWritten (writes took held faults a c) (runs parts rows periods) end
+  pub dark_written : (a b c : S) (count : ℕ) (end : Answer) → stops.Dark ≡ stop_of count run.state.phase → faults b ≡ faults a → took a text b → took b [] c
+      → Stays answer.Dark end (held c) (faults b) (faults c) → IsWritten (writes took held faults a c) (runs parts rows periods) end
   dark_written a b c count end e = flushed_run a b c answer.Dark end (stopped_at stops.Dark count e) refl
 
-  pub cut_written : (a b c : S) (count period : ℕ) (end : Answer) → stops.Cut period ≡ stop_of count run.state.phase → faults a ≤ faults b → took a text b → took b [] c
-      → Stays answer.Cut end (held c) (Rose (faults b) (faults c)) → IsWritten (writes took held faults a c) (runs parts rows periods) end
+  pub cut_written : (a b c : S) (count period : ℕ) (end : Answer) → stops.Cut period ≡ stop_of count run.state.phase → faults b ≡ faults a → took a text b → took b [] c
+      → Stays answer.Cut end (held c) (faults b) (faults c) → IsWritten (writes took held faults a c) (runs parts rows periods) end
   cut_written a b c count period end e = flushed_run a b c answer.Cut end (stopped_at (stops.Cut period) count e) refl
 
   abbrev rest : List ℕ

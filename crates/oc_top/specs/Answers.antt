@@ -120,11 +120,12 @@ IsDoneWhole files task run = IsDone files task run
 
 -- ---- what is written
 
--- what a sink did in a call: which bytes it took, which of them it still holds back, and whether its faults rose
+-- what a sink did in a call: which bytes it took, which of them it still holds back, and whether its faults rose or stayed
 pub record Writes : Type 1 where
   pub took : List ℕ → Type 0
   pub held : List ℕ
   pub rose : Type 0
+  pub calm : Type 0
 
 -- what a sink did from one state to another
 abbrev pub writes : {S : Type 0} → (S → List ℕ → S → Type 0) → (S → List ℕ) → (S → ℕ) → S → S → Writes
@@ -132,12 +133,14 @@ writes took held faults old new = record {
   took = λ text. took old text new;
   held = held new;
   rose = Rose (faults old) (faults new);
+  calm = faults new ≡ faults old;
 }
 
--- the sink took all of a text, and holds nothing back
+-- the sink took all of a text with no fault, and holds nothing back
 pub record TookAll (sink : Writes) (text : List ℕ) : Type 0 where
   pub taken : sink.took text
   pub written : sink.held ≡ []
+  pub calm : sink.calm
 
 -- its faults rose, and it took a front part of the text
 pub record TookFront (sink : Writes) (text : List ℕ) : Type 0 where
@@ -224,12 +227,11 @@ pub record WasDone (c : Call) (does : List (List ℕ) → Task → Verdict → T
   pub done : does files task run
   pub came : outcome task run
 
--- all that was to be written was, and this is the answer; where no fault of the output rose, the meters were told the items
--- of the run
+-- all that was to be written was, and this is the answer; the meters were told the items of the run
 pub record IsWhole (c : Call) (told : List ℕ) (end : Answer) (task : Task) (run : Verdict) : Type 0 where
   pub answered : end ≡ run.answer
   pub written : TookAll c.out run.text
-  pub tells : ¬ c.out.rose → HasTold run.items (meters_of task) told
+  pub tells : HasTold run.items (meters_of task) told
 
 -- a part of it was, and the meters tell nothing
 pub record IsPart (c : Call) (told : List ℕ) (task : Task) (run : Verdict) : Type 0 where

@@ -16,14 +16,14 @@ use Rattle.oc_top.specs.declared.answer.Answer.TheVariants as answer
 abbrev pub told_of : {M : Type 0} → (M → ℕ) → (M → List ℕ) → Option (Vec M) → Option (List Reading)
 told_of kind numbers meters = option_map (λ v. readings kind numbers v.items) meters
 
--- where no fault rose, the text was read from one page to another
-pub record IsRead (rose : Type 0) (names : NameLists) (old : Page) (text : List ℕ) (new : Page) : Type 0 where
-  pub takes : (rose → ⊥) → TakesBytes names old text new
+-- where the answer is that of a text which was written whole, it was read from one page to another
+pub record IsRead (end : Answer) (names : NameLists) (old : Page) (text : List ℕ) (new : Page) : Type 0 where
+  pub takes : (end ≡ answer.WriteFault → ⊥) → TakesBytes names old text new
 
 -- there was no memory to read with, or a run was written that fits its types where it was written whole, and this is what
 -- meters tell that began so
 pub data IsReported (parts : Parts) (rows : List Row) (periods : List Period) (meters : Option (List Reading)) (sink : Writes) (told : List ℕ) (end : Answer) : Type 0 where
   unread : end ≡ answer.Memory → sink.took [] → told ≡ [] → IsReported parts rows periods meters sink told end
   read : IsWritten sink (runs parts rows periods) end → ((end ≡ answer.WriteFault → ⊥) → RunFits parts rows periods)
-      → ((end ≡ answer.WriteFault → ⊥) → (sink.rose → ⊥) → HasTold (runs parts rows periods).items meters told) → (end ≡ answer.WriteFault → told ≡ [])
+      → ((end ≡ answer.WriteFault → ⊥) → HasTold (runs parts rows periods).items meters told) → (end ≡ answer.WriteFault → told ≡ [])
       → IsReported parts rows periods meters sink told end

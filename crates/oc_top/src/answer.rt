@@ -120,6 +120,7 @@ fn put_line_of<E: Sink>(
         (E.took err.old (line_of (words_read command.entry) answer) err.new) }
     ensures part { OnErr result
         (TookPart E.took err.old (line_of (words_read command.entry) answer) err.new) }
+    ensures calm { OnOk result (E.faults err.new ≡ E.faults err.old) }
     ensures cause { OnErr result (Rose (E.faults err.old) (E.faults err.new)) }
     ensures count { E.faults err.old ≤ E.faults err.new }
 {
@@ -184,6 +185,7 @@ fn put_told<M: Meter, E: Sink>(meters: &Option<Vec<M>>, err: &mut E) -> Result<(
         (E.took err.old (told_by (told_of M.kind_of M.numbers meters.now)) err.new) }
     ensures part { OnErr result
         (TookPart E.took err.old (told_by (told_of M.kind_of M.numbers meters.now)) err.new) }
+    ensures calm { OnOk result (E.faults err.new ≡ E.faults err.old) }
     ensures cause { OnErr result (Rose (E.faults err.old) (E.faults err.new)) }
     ensures count { E.faults err.old ≤ E.faults err.new }
 {
@@ -206,6 +208,7 @@ fn put_all<M: Meter, E: Sink>(
     ensures part { OnErr result
         (TookPart E.took err.old (line_of (words_read command.entry) answer
         ++ told_by (told_of M.kind_of M.numbers meters.now)) err.new) }
+    ensures calm { OnOk result (E.faults err.new ≡ E.faults err.old) }
     ensures cause { OnErr result (Rose (E.faults err.old) (E.faults err.new)) }
     ensures count { E.faults err.old ≤ E.faults err.new }
 {

@@ -66,6 +66,7 @@ pub fn gap_of(
 pub fn put_gap<E: Sink>(gap: &Gap, sink: &mut E) -> Result<(), SinkFault>
     ensures ok { OnOk result (E.took sink.old (gap_line gap.now) sink.new) }
     ensures part { OnErr result (TookPart E.took sink.old (gap_line gap.now) sink.new) }
+    ensures calm { OnOk result (E.faults sink.new ≡ E.faults sink.old) }
     ensures cause { OnErr result (Rose (E.faults sink.old) (E.faults sink.new)) }
     ensures count { E.faults sink.old ≤ E.faults sink.new }
 {

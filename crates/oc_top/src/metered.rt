@@ -1,6 +1,5 @@
 //! Runs that meters are told of.
 ghost use Rattle.std.specs.Prelude.{◌≡◌, ◌≤◌, false, None, Some};
-ghost use Rattle.oc_io.specs.Faults.{Rose};
 ghost use Rattle.oc_tree.specs.Names.{names_view};
 ghost use Rattle.oc_apart.specs.Apart.{HasNamesApart};
 ghost use Rattle.oc_meters.specs.Reads.{page};
@@ -41,8 +40,7 @@ fn report_round<O: Sink, M: Meter>(
     ensures written { IsWritten
         (writes O.took O.held O.faults sink.old.inner.now sink.new.inner.now)
         (runs prepared.machine.parts prepared.sensors.rows (left supply.old)) result }
-    ensures read { IsRead (Rose (O.faults sink.old.inner.now) (O.faults sink.new.inner.now))
-        (names_view sink.old.book.now.names)
+    ensures read { IsRead result (names_view sink.old.book.now.names)
         (page M.kind_of M.numbers sink.old.book.now.line.bytes sink.old.book.now.meters.items)
         (runs prepared.machine.parts prepared.sensors.rows (left supply.old)).text
         (page M.kind_of M.numbers sink.new.book.now.line.bytes sink.new.book.now.meters.items) }
@@ -63,8 +61,7 @@ fn report_booked<O: Sink, M: Meter>(
     requires { CanRun prepared.machine prepared.sensors (left supply.old) }
     ensures written { IsWritten (writes O.took O.held O.faults out.old out.new)
         (runs prepared.machine.parts prepared.sensors.rows (left supply.old)) result }
-    ensures read { IsRead (Rose (O.faults out.old) (O.faults out.new))
-        (names_view book.old.names)
+    ensures read { IsRead result (names_view book.old.names)
         (page M.kind_of M.numbers book.old.line.bytes book.old.meters.items)
         (runs prepared.machine.parts prepared.sensors.rows (left supply.old)).text
         (page M.kind_of M.numbers book.new.line.bytes book.new.meters.items) }

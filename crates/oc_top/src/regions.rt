@@ -126,6 +126,7 @@ fn put_region<O: Sink>(
     ensures part { OnErr result
         (TookPart O.took sink.old (region_fields (region_view region.now) function.now numbers)
         sink.new) }
+    ensures calm { OnOk result (O.faults sink.new ≡ O.faults sink.old) }
     ensures cause { OnErr result (Rose (O.faults sink.old) (O.faults sink.new)) }
     ensures count { O.faults sink.old ≤ O.faults sink.new }
 {
@@ -165,6 +166,7 @@ fn put_consistent<O: Sink>(function: &[u8], id: i32, sink: &mut O) -> Result<(),
     ensures ok { OnOk result (O.took sink.old (consistent_line function.now id) sink.new) }
     ensures part { OnErr result
         (TookPart O.took sink.old (consistent_line function.now id) sink.new) }
+    ensures calm { OnOk result (O.faults sink.new ≡ O.faults sink.old) }
     ensures cause { OnErr result (Rose (O.faults sink.old) (O.faults sink.new)) }
     ensures count { O.faults sink.old ≤ O.faults sink.new }
 {
@@ -192,6 +194,7 @@ fn put_policy<O: Sink>(
         (O.took sink.old (policy_fields kind function.now variable.now) sink.new) }
     ensures part { OnErr result
         (TookPart O.took sink.old (policy_fields kind function.now variable.now) sink.new) }
+    ensures calm { OnOk result (O.faults sink.new ≡ O.faults sink.old) }
     ensures cause { OnErr result (Rose (O.faults sink.old) (O.faults sink.new)) }
     ensures count { O.faults sink.old ≤ O.faults sink.new }
 {
@@ -214,6 +217,7 @@ fn put_reason<O: Sink>(
     ensures ok { OnOk result (O.took sink.old (reason_line marked.now reason) sink.new) }
     ensures part { OnErr result
         (TookPart O.took sink.old (reason_line marked.now reason) sink.new) }
+    ensures calm { OnOk result (O.faults sink.new ≡ O.faults sink.old) }
     ensures cause { OnErr result (Rose (O.faults sink.old) (O.faults sink.new)) }
     ensures count { O.faults sink.old ≤ O.faults sink.new }
 {
@@ -238,6 +242,7 @@ fn put_reasons<O: Sink>(
     ensures ok { OnOk result (O.took sink.old (reason_lines marked.now reasons.now) sink.new) }
     ensures part { OnErr result
         (TookPart O.took sink.old (reason_lines marked.now reasons.now) sink.new) }
+    ensures calm { OnOk result (O.faults sink.new ≡ O.faults sink.old) }
     ensures cause { OnErr result (Rose (O.faults sink.old) (O.faults sink.new)) }
     ensures count { O.faults sink.old ≤ O.faults sink.new }
 {
@@ -277,6 +282,7 @@ fn put_lines<O: Sink>(
     ensures part { OnErr result
         (TookPart O.took sink.old (lines_with marked.now (region_view region.now) numbers)
         sink.new) }
+    ensures calm { OnOk result (O.faults sink.new ≡ O.faults sink.old) }
     ensures cause { OnErr result (Rose (O.faults sink.old) (O.faults sink.new)) }
     ensures count { O.faults sink.old ≤ O.faults sink.new }
 {
@@ -302,6 +308,7 @@ fn put_all<O: Sink>(
     ensures part { OnErr result
         (TookPart O.took sink.old
         (region_lines marked.now (budgets_view budgets.now) 0 marked.now.regions) sink.new) }
+    ensures calm { OnOk result (O.faults sink.new ≡ O.faults sink.old) }
     ensures cause { OnErr result (Rose (O.faults sink.old) (O.faults sink.new)) }
     ensures count { O.faults sink.old ≤ O.faults sink.new }
 {
@@ -318,6 +325,7 @@ fn put_all<O: Sink>(
 fn put_totals<O: Sink>(total: u64, safe: u64, sink: &mut O) -> Result<(), SinkFault>
     ensures ok { OnOk result (O.took sink.old (total_lines total safe) sink.new) }
     ensures part { OnErr result (TookPart O.took sink.old (total_lines total safe) sink.new) }
+    ensures calm { OnOk result (O.faults sink.new ≡ O.faults sink.old) }
     ensures cause { OnErr result (Rose (O.faults sink.old) (O.faults sink.new)) }
     ensures count { O.faults sink.old ≤ O.faults sink.new }
 {
@@ -343,6 +351,7 @@ pub fn put_regions<O: Sink>(
         (O.took sink.old (regions_text marked.now (limited_budgets marked.now)) sink.new) }
     ensures part { OnErr result
         (TookPart O.took sink.old (regions_text marked.now (limited_budgets marked.now)) sink.new) }
+    ensures calm { OnOk result (O.faults sink.new ≡ O.faults sink.old) }
     ensures cause { OnErr result (Rose (O.faults sink.old) (O.faults sink.new)) }
     ensures count { O.faults sink.old ≤ O.faults sink.new }
 {

@@ -26,6 +26,7 @@ fn put_nvs<O: Sink>(image: &RawImage, words: &[i32], out: &mut O) -> Result<(), 
         (TookPart O.took out.old
         (nv_lines (parts_of image.now).names (map (λ v. v.words) (parts_of image.now).nv) words.now)
         out.new) }
+    ensures calm { OnOk result (O.faults out.new ≡ O.faults out.old) }
     ensures cause { OnErr result (Rose (O.faults out.old) (O.faults out.new)) }
     ensures count { O.faults out.old ≤ O.faults out.new }
 {
@@ -43,7 +44,8 @@ fn put_nvs<O: Sink>(image: &RawImage, words: &[i32], out: &mut O) -> Result<(), 
 /// Flushes at the end of a text. The answer stays and nothing is held back, unless that fails.
 pub fn flush_with<O: Sink>(answer: Answer, out: &mut O) -> Answer
     ensures nothing { O.took out.old [] out.new }
-    ensures stays { ((result ≡ answer) × (O.held out.new ≡ []))
+    ensures stays { ((result ≡ answer) × (O.held out.new ≡ [])
+        × (O.faults out.new ≡ O.faults out.old))
         ⊎ ((result ≡ Answer.WriteFault) × Rose (O.faults out.old) (O.faults out.new)) }
     ensures count { O.faults out.old ≤ O.faults out.new }
 {

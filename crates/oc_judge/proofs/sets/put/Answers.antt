@@ -1,5 +1,5 @@
-use Rattle.std.proofs.Common.{◌≡◌, sym, ap, ◌∙◌, Some, None}
-use Rattle.std.specs.Prelude.{position}
+use Rattle.std.proofs.Common.{◌≡◌, sym, ap, ◌∙◌, [], ◌∷◌, ◌++◌, Some, None}
+use Rattle.std.specs.Prelude.{position, if◌then◌else◌}
 use Rattle.oc_steps.specs.Fold.{is_set}
 use Rattle.oc_judge.specs.Ways.{instance_view, sets_view}
 use Rattle.oc_judge.proofs.Puts.{put_at, put_by}
@@ -12,9 +12,9 @@ returns-in-Some c =
     sym c.in-Some.is ∙ c.place_of.ensures.place ∙ ap (position (λ i. is_set c.args.set (instance_view i))) c.deref.ensures.value in
     ap (λ o. sets_view (put_at o c.args.last xs)) at ∙ put_by c.args.set c.args.last xs
 
-pub returns-in_ok-push-in-None : goal.returns-in_ok-push-in-None
-returns-in_ok-push-in-None c =
+pub returns-in-None : goal.returns-in-None
+returns-in-None c =
     let xs = c.args.sets.now.items in
     let at : None ≡ position (λ i. is_set c.args.set (instance_view i)) xs =
     sym c.in-None.is ∙ c.place_of.ensures.place ∙ ap (position (λ i. is_set c.args.set (instance_view i))) c.deref.ensures.value in
-    ap sets_view c.in_ok-push-in-None.ensures.items ∙ ap (λ o. sets_view (put_at o c.args.last xs)) at ∙ put_by c.args.set c.args.last xs
+    ap sets_view (c.push.ensures.items ∙ ap (λ b. if b then xs ++ c.args.last ∷ [] else xs) (c.push.ensures.succeeds c.requires)) ∙ ap (λ o. sets_view (put_at o c.args.last xs)) at ∙ put_by c.args.set c.args.last xs

@@ -1,4 +1,4 @@
-use Rattle.std.proofs.Common.{List, map, arith, refl, subst}
+use Rattle.std.proofs.Common.{◌∙◌, List, map, refl, subst}
 use Rattle.oc_io.specs.Faults.{TookPart}
 use Rattle.oc_isa.proofs.Counted.{counted_on, counted_stop}
 use Rattle.oc_tree.specs.Regions.{region_view}
@@ -15,7 +15,7 @@ loop-place-preserved g c =
     let is_part = part_is m c.args.budgets.now c.args.details.now c.requires.details c.regions-region-items.result.now c.regions-region-items.ensures c.loop-place.place
     c.region-item.result c.numbers_at-numbers.result c.loop-place-test.true c.region-item.is c.numbers_at-numbers.ensures in
     record {
-      count = omega arith;
+      calm = c.in_default.ensures.calm ∙ c.loop-place.invariant.calm;
       going = counted_on g.O.Sink.took g.met.O.Sink.took_both _ _ _ (λ n xs. region_lines m b n (map region_view xs)) (λ n x. lines_of m b n (region_view x)) (λ n x xs. refl)
           c.regions-region-items.result.now _ _ c.region-item.result _ _ c.loop-place-test.true is_part c.loop-place.invariant.going c.in_default.ensures.ok;
     }

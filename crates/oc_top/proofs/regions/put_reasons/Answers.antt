@@ -1,15 +1,15 @@
-use Rattle.std.proofs.Common.{arith, refl}
+use Rattle.std.proofs.Common.{◌∙◌, refl}
 use Rattle.oc_io.proofs.Going.{begin, finish}
 use Rattle.oc_io.proofs.Each.{each_on, each_stop, each_done}
 use Rattle.oc_top.specs.RegionLines.{reason_line, reason_lines}
 use Rattle.oc_top.proofs.regions.put_reasons.Goals as goal
 
 pub loop-reason-init : goal.loop-reason-init
-loop-reason-init g c = record { count = omega arith; going = begin g.O.Sink.took g.met.O.Sink.took_nothing _ _ }
+loop-reason-init g c = record { calm = refl; going = begin g.O.Sink.took g.met.O.Sink.took_nothing _ _ }
 
 pub loop-reason-preserved : goal.loop-reason-preserved
 loop-reason-preserved g c = record {
-  count = omega arith;
+  calm = c.in_default.ensures.calm ∙ c.loop-reason.invariant.calm;
   going = each_on g.O.Sink.took g.met.O.Sink.took_both _ _ _ (reason_lines c.args.marked.now) (reason_line c.args.marked.now) (λ x xs. refl) c.args.reasons.now _ 0 _
       c.loop-reason-test.true c.loop-reason.invariant.going c.in_default.ensures.ok;
 }

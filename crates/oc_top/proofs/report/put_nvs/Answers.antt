@@ -1,17 +1,17 @@
-use Rattle.std.proofs.Common.{arith}
+use Rattle.std.proofs.Common.{refl, ◌∙◌}
 use Rattle.oc_io.proofs.Going.{begin}
 use Rattle.oc_top.proofs.Variables.{variable_on, variable_stop}
 use Rattle.oc_top.proofs.report.put_nvs.Goals as goal
 
 pub loop-place-init : goal.loop-place-init
-loop-place-init g c = record { count = omega arith; going = begin g.O.Sink.took g.met.O.Sink.took_nothing _ _ }
+loop-place-init g c = record { calm = refl; going = begin g.O.Sink.took g.met.O.Sink.took_nothing _ _ }
 
 pub loop-place-preserved : goal.loop-place-preserved
 loop-place-preserved g c =
     let among = rw c.deref-nv-items.ensures.value at c.loop-place-test.true in
     let size = rw c.deref-nv-items.ensures.value at c.min.ensures in
     record {
-      count = omega arith;
+      calm = c.in_default.ensures.calm ∙ c.loop-place.invariant.calm;
       going = variable_on g.O.Sink.took g.met.O.Sink.took_both _ _ _ _ _ _ _ _ _ _ _ _ among c.requires.each_nv size c.split_at.ensures.front c.split_at.ensures.back
           c.loop-place.invariant.going c.in_default.ensures.ok;
     }

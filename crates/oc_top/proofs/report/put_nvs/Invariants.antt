@@ -1,4 +1,4 @@
-use Rattle.std.proofs.Common.{◌≤◌, map}
+use Rattle.std.proofs.Common.{◌≡◌, map}
 use Rattle.oc_io.proofs.Going.{Going}
 use Rattle.oc_items.specs.Text.{words_lines}
 use Rattle.oc_top.proofs.Variables.{lines_from}
@@ -6,7 +6,7 @@ use Rattle.oc_top.proofs.report.put_nvs.Given as goal
 
 abbrev pub invariant-loop-place : goal.invariant-loop-place
 invariant-loop-place g l = record {
-  count : g.O.Sink.faults l.initial.out ≤ g.O.Sink.faults l.out;
+  calm : g.O.Sink.faults l.out ≡ g.O.Sink.faults l.initial.out;
   going : Going g.O.Sink.took l.initial.out l.out (lines_from l.image.names.nvs.items l.image.nv.items l.place l.rest)
       (words_lines l.image.names.nvs.items (map (λ v. v.words) l.image.nv.items) l.initial.words);
 }

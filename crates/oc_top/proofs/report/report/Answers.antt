@@ -7,26 +7,26 @@ returns-in-End-clause-written g c =
     let machine = c.args.prepared.machine in let at = c.args.supply.now in
     let written = rw (c.in-End.ensures.answers.kept) at c.finish_with.ensures.written in
     ended_written g.O.Sink.took g.O.Sink.held g.O.Sink.faults g.met.O.Sink.took_both machine.parts c.args.prepared.sensors.rows ((goal.Supply-dyn g at).left at.1) _ _ _ _ _
-    c.in-End.ensures.answers.how c.run.ensures.count c.in-End.ensures.answers.text written
+    c.in-End.ensures.answers.how c.in-End.ensures.answers.calm c.in-End.ensures.answers.text written
 
 pub returns-in-Trap-clause-written : goal.returns-in-Trap-clause-written
 returns-in-Trap-clause-written g c =
     let machine = c.args.prepared.machine in let at = c.args.supply.now in
     let written = rw (c.in-Trap.ensures.answers.kept) at c.finish_with-in-Trap.ensures.written in
     trapped_written g.O.Sink.took g.O.Sink.held g.O.Sink.faults g.met.O.Sink.took_both machine.parts c.args.prepared.sensors.rows ((goal.Supply-dyn g at).left at.1) _ _ _ _ _ _ _
-    c.in-Trap.ensures.answers.how c.run.ensures.count c.in-Trap.ensures.answers.text written
+    c.in-Trap.ensures.answers.how c.in-Trap.ensures.answers.calm c.in-Trap.ensures.answers.text written
 
 pub returns-in-Dark-clause-written : goal.returns-in-Dark-clause-written
 returns-in-Dark-clause-written g c =
     let machine = c.args.prepared.machine in let at = c.args.supply.now in
     dark_written g.O.Sink.took g.O.Sink.held g.O.Sink.faults g.met.O.Sink.took_both machine.parts c.args.prepared.sensors.rows ((goal.Supply-dyn g at).left at.1) _ _ _ _ _
-    c.in-Dark.ensures.answers.how c.run.ensures.count c.in-Dark.ensures.answers.text c.flush_with.ensures.nothing c.flush_with.ensures.stays
+    c.in-Dark.ensures.answers.how c.in-Dark.ensures.answers.calm c.in-Dark.ensures.answers.text c.flush_with.ensures.nothing c.flush_with.ensures.stays
 
 pub returns-in-Cut-clause-written : goal.returns-in-Cut-clause-written
 returns-in-Cut-clause-written g c =
     let machine = c.args.prepared.machine in let at = c.args.supply.now in
     cut_written g.O.Sink.took g.O.Sink.held g.O.Sink.faults g.met.O.Sink.took_both machine.parts c.args.prepared.sensors.rows ((goal.Supply-dyn g at).left at.1) _ _ _ _ _ _
-    c.in-Cut.ensures.answers.how c.run.ensures.count c.in-Cut.ensures.answers.text c.flush_with-in-Cut.ensures.nothing c.flush_with-in-Cut.ensures.stays
+    c.in-Cut.ensures.answers.how c.in-Cut.ensures.answers.calm c.in-Cut.ensures.answers.text c.flush_with-in-Cut.ensures.nothing c.flush_with-in-Cut.ensures.stays
 
 pub returns-clause-written : goal.returns-clause-written
 returns-clause-written g c =

@@ -1,0 +1,83 @@
+#!/usr/bin/env python3
+"""The claim, to click through: claim.py DIR | --check | --write | --selftest | --rests WORD
+
+Writes pages into the folder DIR: for each promise of the README, and for each stage of its table, the clause as it stands
+in the source, and below it each word that it rests on, once, with its definition. Nothing need be built: it reads
+crates/*/specs and, of crates/*/src, the types, traits and contracts that definitions name.
+
+--check says whether the counts in README.md and docs/PROVED.md are those of now, and --write puts them there; both make
+all pages, but keep none. --selftest reads a small made-up repository with each form of the language. --rests prints what
+a word rests on, as in 'claim.py --rests oc_top/Headline.IsRun'.
+
+Ends with 1 at a word that can't be placed, a field that no page means, a link that leads nowhere, a file that is too
+large, a count that isn't true, and a name in docs/PROVED.md or docs/TRUSTED.md that nothing has.
+"""
+import pathlib
+import sys
+
+sys.dont_write_bytecode = True
+
+from claim import selftest
+from claim.counts import compared
+from claim.documents import lost_names
+from claim.files import faults_of, files_of, write
+from claim.laws import laws_of
+from claim.order import reading_order
+from claim.pages import Claim, closure
+from claim.repository import Repository
+from claim.text import Unplaced
+
+TOP = pathlib.Path(__file__).resolve().parent.parent
+
+
+def made(out=None, is_written=False):
+    """Makes all pages, writes them where they are wanted, and returns what is wrong with them, or with the counts."""
+    claim = Claim(Repository(TOP))
+    pages = list(claim.pages.values())
+    laws_of(claim.repository, pages)
+    files = files_of(claim)
+    told = [*faults_of(files), *lost_names(TOP)]
+    if out:
+        write(files, out)
+    else:
+        differ = compared(TOP, pages, is_written)
+        told += [f"the counts in {name} aren't those of now; checks/claim.py --write mends it" for name in differ if not is_written]
+    if not told:
+        below = {key: word for page in pages if page.is_promise for key, word in page.all.items()}
+        print(f"claim: {len(files)} pages; all promises rest on {len(below):,} definitions of "
+              f"{sum(word.lines() for word in below.values()):,} lines")
+    return told
+
+
+def print_rests(spec):
+    """Prints what a word rests on, with the lines of each."""
+    root = (Repository(TOP).word(spec), ())
+    words = reading_order([root], closure([root]).values())
+    print(*(f"{word.lines():4} {word.place} {word.name}" for word in words), sep="\n")
+    print(f"{len(words)} definitions of {sum(word.lines() for word in words)} lines")
+
+
+def main():
+    try:
+        match sys.argv[1:]:
+            case ["--check"]:
+                told = made()
+            case ["--write"]:
+                told = made(is_written=True)
+            case ["--selftest"]:
+                told = selftest.faults()
+            case ["--rests", spec]:
+                told = print_rests(spec)
+            case [out] if not out.startswith("-"):
+                told = made(pathlib.Path(out))
+            case _:
+                sys.exit(__doc__.split("\n", 1)[0])
+    except Unplaced as fault:
+        told = str(fault).splitlines()
+    for line in told or ():
+        print(f"claim: {line}")
+    return 1 if told else 0
+
+
+if __name__ == "__main__":
+    sys.exit(main())

@@ -3,11 +3,12 @@
 
 The commands and the statuses of docs/ocelot.1 are those of docs/USING.md, and its version is that of CHANGELOG.md; with
 --write the page is written anew. The commands of README.md's table must be the same ones, and each must be one that the
-launchers know. Prints what differs; ends with 1 where something does.
+launchers know. What the pages quote of files must stand in these. Prints what differs; ends with 1 where something does.
 """
 import difflib
 import re
 import sys
+import textwrap
 
 sys.dont_write_bytecode = True
 
@@ -18,6 +19,12 @@ PAGE = TOP / "docs/ocelot.1"
 USING = (TOP / "docs/USING.md").read_text()
 COMMAND = re.compile(r"^    \./ocelot (\w+)((?: \S+)*?) {2,}(.+)$", re.M)
 STATUS = re.compile(r"^\| (\d+) \|(.*)\| (.+) \|$", re.M)
+# The whole of a file, or so many lines of it, stands in a page as lines that are set in.
+QUOTED = [
+    ("docs/USING.md", "examples/pump/fresh.why", None),
+    ("docs/USING.md", "examples/alarm/alarm.lines", 3),
+    ("docs/USING.md", "examples/harvest/power.csv", None),
+]
 HEAD = """.\\" Written by checks/manual.py from docs/USING.md.
 .TH OCELOT 1 "{date}" "Ocelot {version}" "User Commands"
 .SH NAME
@@ -86,6 +93,9 @@ def main():
     readme = set(re.findall(r"`\./ocelot ([^`]+)`", re.search(r"## Commands\n(.*?)\n## ", (TOP / "README.md").read_text(), re.S)[1]))
     told += [f"{command} stands in one table of commands alone" for command in sorted(listed ^ readme)]
     told += [f"{command} is no command" for command in sorted(listed) if words.files(command.replace(" K", " 1").replace(" N", " 5").split()) is None]
+    for name, file, lines in QUOTED:
+        quoted = textwrap.indent("\n".join((TOP / file).read_text().splitlines()[:lines]), "    ")
+        told += [] if quoted in (TOP / name).read_text() else [f"{name} doesn't quote {file}"]
     print(*told, f"manual: {len(listed)} commands, {len(STATUS.findall(USING))} statuses, {len(told)} faults", sep="\n")
     return 1 if told or not listed else 0
 

@@ -29,7 +29,6 @@ import why
 RANDOM = 100
 SITE = re.compile(r"    line (\d+) +statement (\d+) ")
 REGION = re.compile(r"region \d+ (\S+) (\d+)\.\.(\d+) lines (\d+)\.\.(\d+) ")
-NOTE = re.compile(r"\b(Fresh|Consistent)\s*\(")
 
 
 class Tree:
@@ -37,17 +36,16 @@ class Tree:
 
     def __init__(self, source):
         lists = [found for found, _ in blocks.Reader(source).program()]
-        starts = [(statement, at, place) for at, found in enumerate(lists) for place, statement in enumerate(found)]
-        self.lists = lists
-        self.places = {number: (at, place) for s, at, place in starts for number in range(s.first, s.number + 1)}
-        self.lines = {number: source.count("\n", 0, s.start) + 1 for s, _, _ in starts for number in range(s.first, s.number + 1)}
+        self.lists, self.all = lists, [(s, at, place) for at, found in enumerate(lists) for place, s in enumerate(found)]
+        self.places = {number: (at, place) for s, at, place in self.all for number in range(s.first, s.number + 1)}
+        self.lines = {number: source.count("\n", 0, s.start) + 1 for s, _, _ in self.all for number in range(s.first, s.number + 1)}
 
     def ways(self, number):
         """Returns the list and the place in it of a statement and of each one around it, the innermost first."""
         at, place = self.places[number]
-        found, inner = [(at, place)], self.lists[at][place]
-        around = [(s.start, other, p) for other, list_ in enumerate(self.lists) for p, s in enumerate(list_) if s.start < inner.start and inner.end <= s.end and s is not inner]
-        return found + [(other, p) for _, other, p in sorted(around, reverse=True)]
+        inner = self.lists[at][place]
+        around = [(s.start, *where) for s, *where in self.all if s.start < inner.start and inner.end <= s.end]
+        return [(at, place), *((at, place) for _, at, place in sorted(around, reverse=True))]
 
     def smallest(self, numbers):
         """Returns the first and the last number of the smallest range that holds these statements."""
@@ -59,22 +57,18 @@ class Tree:
 
 def united(tree, ranges):
     """Returns the one range that these make up, as the rules say, or None where they make up several."""
-    done = False
-    while not done:
-        done = True
-        for one in ranges:
-            for other in ranges:
-                if one is not other and one[0] == other[0] and one[1] <= other[2] and other[1] <= one[2]:
-                    ranges = [r for r in ranges if r is not one and r is not other] + [(one[0], min(one[1], other[1]), max(one[2], other[2]))]
-                    done = False
-                    break
-            if not done:
-                break
-    outer = [r for r in ranges if not any(is_inside(tree, r, other) for other in ranges if other is not r)]
+    joined = []
+    for at, first, last in sorted(ranges):
+        if joined and joined[-1][0] == at and first <= joined[-1][2]:
+            joined[-1] = (at, joined[-1][1], max(last, joined[-1][2]))
+        else:
+            joined.append((at, first, last))
+    outer = [r for r in joined if not any(is_inside(tree, r, other) for other in joined if other is not r)]
     return outer[0] if len(outer) == 1 else None
 
 
 def is_inside(tree, inner, outer):
+    """Says whether a range lies inside a statement of another one."""
     return any(at == outer[0] and outer[1] <= tree.lists[at][place].number <= outer[2] for at, place in tree.ways(inner[1])[1:])
 
 
@@ -106,13 +100,19 @@ def faults_of_region(tree, line, tied):
         yield f"{first}..{last} have other lines than {lines}"
 
 
+def all_statements(source):
+    return [s for function in statements.Reader(source).functions.values() for s in function.statements]
+
+
 def policies_of(source):
-    """Returns the policies of a source, by its functions alone."""
-    found = set()
+    """Returns what the annotations of a source ask for, each with their lines."""
+    found = {}
     for function in statements.Reader(source).functions.values():
         for s in function.statements:
             if s.note:
-                found.add(f"{s.note[0]} {function.name} {s.note[1].name if s.note[0] == 'fresh' else int(s.note[2].replace('_', ''))}")
+                kind, variable, *number = s.note
+                name = f"{kind} {function.name} {int(number[0].replace('_', '')) if number else variable.name}"
+                found.setdefault(name, []).append(s.line)
     return found
 
 
@@ -141,11 +141,11 @@ def faults(path):
     for line, tied in parts(lines):
         yield from faults_of_region(tree, line, tied)
     reasons = {line for line in printed if line.startswith(("fresh ", "consistent "))}
-    idle = [line for line in lines if line.startswith("binds nothing: line ")]
-    if len(policies_of(source) - reasons) > len(idle) or (idle and policies_of(source) <= reasons):
-        yield f"{len(idle)} annotations bind nothing, and no region has {sorted(policies_of(source) - reasons)}"
-    numbers = {statement.number: statement.line for function in statements.Reader(source).functions.values() for statement in function.statements}
-    if numbers != tree.lines:
+    wanted = sorted(line for policy, lines_of in policies_of(source).items() if policy not in reasons for line in lines_of)
+    idle = sorted(int(line.split()[3]) for line in lines if line.startswith("binds nothing: line "))
+    if idle != wanted:
+        yield f"the annotations of lines {idle} are said to bind nothing, and no region has those of lines {wanted}"
+    if {s.number: s.line for s in all_statements(source)} != tree.lines:
         yield "the two readers of statements don't agree"
 
 

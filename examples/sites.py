@@ -15,7 +15,7 @@ class Analysis:
     def __init__(self, program):
         self.functions = program.functions
         self.nonvolatile = list(program.nonvolatile.values())
-        self.known_steps, self.known_reach, self.known_brought = {}, {}, {}
+        self.known_steps, self.known_reach, self.known_brought, self.known_inputs = {}, {}, {}, {}
 
     def variables(self, function):
         return [*self.nonvolatile, *function.variables()]
@@ -110,7 +110,12 @@ class Analysis:
 
     def inputs(self, function, variable):
         """Returns the sites of the inputs that go into a variable, in its function."""
-        found = []
+        key = function.name, variable
+        if key not in self.known_inputs:
+            self.known_inputs[key] = list(self.found_inputs(function, variable))
+        return self.known_inputs[key]
+
+    def found_inputs(self, function, variable):
         for statement in function.statements:
             sites = {}
             for first, words in self.brought(statement).items():
@@ -119,8 +124,7 @@ class Analysis:
                     way = f"{words}: {self.chain(function, first, variable)}"
                     whole = f"carries from turn to turn what line {statement.line} brings, which {way}"
                     sites.setdefault(loop or statement, whole if loop else way)
-            found += [Site(statement, words) for statement, words in sites.items()]
-        return found
+            yield from (Site(statement, words) for statement, words in sites.items())
 
 
 class Policy:

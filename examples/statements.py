@@ -130,7 +130,8 @@ class Reader:
         self.at += head not in BLOCKS
         first, end = self.tokens[start].start(), self.tokens[self.at - (head not in BLOCKS)].end()
         line = self.source.count("\n", 0, first) + 1
-        made = Statement(line, " ".join(self.source[first:end].split()), block, around)
+        text = " ".join(re.sub("//[^\n]*", "", self.source[first:end]).split())
+        made = Statement(line, text, block, around)
         made.first = self.number + 1
         self.fill(made, words, scope)
         self.add(made)

@@ -192,6 +192,10 @@ class Rows:
         self.shown = [[] for _ in self.cuts[1:]]
         self.width = LEFT + PAST + max(b - a for a, b in zip(self.cuts, self.cuts[1:]))
 
+    def between(self, left, right):
+        """Returns where rows begin between two places."""
+        return self.cuts[bisect.bisect_right(self.cuts, left) : bisect.bisect_left(self.cuts, right, hi=len(self.cuts) - 1)]
+
     def put(self, left, right, draw):
         """Puts into each row the part of something between two places, which `draw` draws at its own two there."""
         first = max(bisect.bisect_right(self.cuts, left) - 1, 0)
@@ -271,13 +275,13 @@ def put_periods(rows, scale):
     for (start, end), outage in zip(scale.periods(), [*scale.outages, None]):
         left, right = scale.at(start, behind=True), scale.at(end)
         rows.put(left, right, box(30, "on"))
-        for place in [left, *(cut for cut in rows.cuts[:-1] if left < cut < right)]:
+        for place in [left, *rows.between(left, right)]:
             rows.say(place, str(start + round((place - left) / scale.tick)), 24, 0)
         if outage:
             rows.put(right, right + scale.gap(*outage), lambda a, b: f'<line class="off" x1="{a:.1f}" y1="39" x2="{b:.1f}" y2="39"/>')
             rows.say(right, f"off {outage[1]}", 34, 12)
             # Where both ticks have no room above the period, the last one stands below.
-            begin = max([left, *(cut for cut in rows.cuts if cut < right)])
+            begin = max([left, *rows.between(left, right)])
             has_room = right - begin >= LETTER * (len(str(start)) + len(str(end))) + 8
             rows.say(right, str(end), *(24, -7 * len(str(end))) if has_room else (55, 4))
 

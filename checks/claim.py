@@ -22,6 +22,7 @@ from claim.counts import compared
 from claim.documents import lost_names
 from claim.files import faults_of, files_of, write
 from claim.laws import laws_of
+from claim.markup import count
 from claim.order import reading_order
 from claim.pages import Claim, closure
 from claim.repository import Repository
@@ -41,11 +42,14 @@ def made(out=None, is_written=False):
         write(files, out)
     else:
         differ = compared(TOP, pages, is_written)
-        told += [f"the counts in {name} aren't those of now; checks/claim.py --write mends it" for name in differ if not is_written]
+        if not is_written:
+            told += [f"the counts in {name} aren't those of now; checks/claim.py --write mends it" for name in differ]
     if not told:
         below = {key: word for page in pages if page.is_promise for key, word in page.all.items()}
+        loose = sum(len(word.loose) for page in pages for word in page.words)
         print(f"claim: {len(files)} pages; all promises rest on {len(below):,} definitions of "
-              f"{sum(word.lines() for word in below.values()):,} lines")
+              f"{sum(word.lines() for word in below.values()):,} lines"
+              + (f"; {count(loose, 'field')} of no known record, not linked" if loose else ""))
     return told
 
 

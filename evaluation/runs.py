@@ -39,10 +39,10 @@ WRITTEN = (0, 8, 9)
 class Scale:
     """How much is measured: sensor files, steps behind which power fails, seeds of each length and traces of power."""
 
-    sensors: int = 10
-    steps: int = 400
-    seeds: int = 3
-    traces: int = 30
+    sensors: int = 6
+    steps: int = 300
+    seeds: int = 2
+    traces: int = 10
 
 
 SMALL = Scale(sensors=1, steps=40, seeds=0, traces=1)

@@ -9,7 +9,8 @@ BEGIN, END = "<!-- begin of the counts by checks/claim.py -->\n", "<!-- end of t
 def table(pages):
     """Returns the table of all pages."""
     promises = {key: word for page in pages if page.is_promise for key, word in page.all.items()}
-    rows = [f"| {title(page)} | {len(page.words):,} | {page.lines():,} | {len(page.all):,} | {page.all_lines():,} |" for page in pages]
+    rows = [f"| {title(page)} | {len(page.words):,} | {page.lines():,} | {len(page.all):,} | {page.all_lines():,} |"
+            for page in pages]
     lines = sum(word.lines() for word in promises.values())
     return "\n".join(["| page | definitions on it | lines on it | definitions with all below | lines with all below |",
                       "|---|---|---|---|---|", *rows, f"| all promises | | | {len(promises):,} | {lines:,} |", ""])

@@ -1,4 +1,4 @@
-"""Names in the documents: what carries a clause in docs/PROVED.md, and what shows a premise in docs/TRUSTED.md, must be there."""
+"""Names in the documents: what carries a clause in docs/PROVED.md, and what shows a premise in docs/TRUSTED.md."""
 import re
 
 CODE = re.compile(r"`([^`]+)`")

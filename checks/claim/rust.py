@@ -6,6 +6,7 @@ from claim.words import Word
 
 RUST = re.compile(r'(?P<blank>\s+|//[^\n]*)|(?P<string>b?"(?:\\.|[^"\\])*")|(?P<char>b?\'(?:\\.|[^\'\\])\'|\'[a-z_]+)'
                   r"|(?P<word>[A-Za-z_][A-Za-z_0-9]*)|(?P<mark>::|->|=>|.)")
+PUB = r"(?:pub(?:\(\w+\))? )?"
 CLAUSE = re.compile(r"^\s*(requires|ensures)\s*(\w*)\s*\{", re.M)
 ISLAND = re.compile(r"\b(?:requires|ensures)(?: \w+\*?)?\s*\{|\bghost \w+\s*[:=]\s*\{")
 FUNCTION = re.compile(r"^( *)pub fn (\w+)", re.M)
@@ -69,12 +70,12 @@ def rust_item(source, name):
     """Returns a declared type or trait as a word, with its `impl Model`, which says as what contracts see it."""
     if name in source.words:
         return source.words[name]
-    m = re.search(rf"^(?:pub )?(struct|enum|trait|type|const) {re.escape(name)}\b", source.text, re.M)
+    m = re.search(rf"^{PUB}(struct|enum|trait|type|const) {re.escape(name)}\b", source.text, re.M)
     if m is None:
         return None
     word = Word("rust " + m[1], name, source, m.start(), doc_above(source.text, m.start()))
     word.spans = [(m.start(), end_of_item(source.text, m.start()))]
-    for v in re.finditer(r"^\s+(?:pub )?(?:ghost )?(\w+)(?=\s*[:({,])", source.text[slice(*word.spans[0])], re.M):
+    for v in re.finditer(rf"^\s+{PUB}(?:ghost )?(\w+)(?=\s*[:({{,])", source.text[slice(*word.spans[0])], re.M):
         word.members.setdefault(v[1], m.start() + v.start(1))
     model = re.search(rf"^impl(?:<[^>]*>)? Model for {re.escape(name)}\b", source.text, re.M)
     if model:

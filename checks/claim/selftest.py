@@ -26,14 +26,17 @@ RESTS = {
     "oc_base/Forms.hidden": "hidden",
     "oc_base/Forms.Deep": "Deep Forest Tree",
     "oc_base/Points.by_rust": "Cell Name Row by_rust",
+    "oc_base/Forms.layer": "Kind Name layer",
     "oc_base/Points.by_module": "Point by_module moved",
+    "oc_base/Points.even": "Point Points even odd",
+    "oc_top/Counted.IsCounted": "IsCounted Point Points",
     "oc_base/reader.rt()read": "Cell MOST Name Point ReadError Reader Row Shelf point_of read()",
     "oc_base/reader.rt()count": "Counts Point Points count() total",
 }
 # How many lines it has, without comments.
 LINES = {
     "oc_base/Forms.forest_sum": 5, "oc_base/Points.moved": 4, "oc_base/Points.Point": 2, "oc_base/Forms.text": 5,
-    "oc_base/Forms.Deep": 4, "oc_top/Works.IsDone": 4, "oc_base/reader.rt()read": 5,
+    "oc_base/Forms.Deep": 4, "oc_top/Works.IsDone": 4, "oc_base/Points.even": 3, "oc_base/reader.rt()read": 5,
 }
 # Which fields stand in it, in their order, and whose they are.
 FIELDS = {
@@ -47,6 +50,10 @@ FIELDS = {
     "oc_base/Points.by_let": "Other.x Point.y",
     "oc_base/Points.moved": "Point.x Point.x",
     "oc_base/Points.twice": "Point.y",
+    "oc_base/Points.by_abbreviation": "Point.x Other.x Point.y",
+    "oc_base/Points.nested": "Other.x Point.x Point.y Point.y Other.others",
+    "oc_base/Points.by_where": "Other.x Point.x",
+    "oc_base/Points.odd": "Point.y",
     "oc_base/Points.by_module": "Point.x",
     "oc_base/reader.rt()read": "Row.cells Shelf.holds ReadError.Memory",
     "oc_base/reader.rt()count": "Point.x",
@@ -59,7 +66,7 @@ REFUSED = [
     (FORMS, "length_of [] = 0", "length [] = 0", "a clause of no definition above: 'length [] = 0'"),
     (FORMS, "abbrev pub hidden :", "abbrev pub words :", "words is defined twice"),
     (FORMS, "  leaf : (n", "  leaf (n", "neither a field nor a constructor"),
-    (FORMS, "pub data Deep (t : Tree) : ℕ → Type 0 where", "pub data Deep (t : Tree) : ℕ → Type 0", "data Deep without where"),
+    (FORMS, "(t : Tree) : ℕ → Type 0 where", "(t : Tree) : ℕ → Type 0", "data Deep without where"),
     ("README.md", "`whole`", "`hole`", "IsDone lacks hole"),
     ("README.md", "(`comes`)", "(`coms`)", "README.md names `coms`, which is no clause"),
     ("README.md", "`counted_once`", "`counted_twice`", "README.md names `counted_twice`, which is no clause"),
@@ -71,9 +78,11 @@ REFUSED = [
     ("README.md", "(`comes`)", "(`comes`; `IsDone`: `rest`)", "no page means more of oc_top/specs/Works.antt:IsDone"),
     ("README.md", "\n\n## More", "\n| `by_row` | a row | [P](crates/oc_base/specs/Points.antt) |\n\n## More",
      "no page hands over to the stage by_row"),
-    (POINTS, "abbrev pub total : Points → ℕ\ntotal ps", "abbrev pub totals : Points → ℕ\ntotals ps", "imports total, which isn't there"),
+    (POINTS, "abbrev pub total : Points → ℕ\ntotal ps", "abbrev pub totals : Points → ℕ\ntotals ps",
+     "imports total, which isn't there"),
+    ("crates/oc_top/src/top.rt", "kind: &Kind", "kind: &Kinds", "top.rt:7: can't place 'Kinds' in ocelot()"),
     (TOP, "pub counts : (ps : base.Points)", "pub counts : (n : ℕ)", "can't place 'ps' in Works"),
-    ("docs/PROVED.md", "`Reader::count`", "`Reader::tally`", "docs/PROVED.md says that `Reader::tally` carries something"),
+    ("docs/PROVED.md", "`Reader::count`", "`Reader::tally`", "says that `Reader::tally` carries something"),
     ("docs/TRUSTED.md", "| nothing |", "| the case `none` |", "docs/TRUSTED.md names `none`, which is no case"),
     ("docs/PROVED.md", "<!-- end of the counts -->\n", "", "docs/PROVED.md lacks the line <!-- end of the counts -->"),
 ]
@@ -87,10 +96,20 @@ OTHER_HOMES = [
 ]
 
 
+def lay(top):
+    """Lays the made-up repository out in a new folder. Here its sources have '.text' behind their names, since the kit
+    wants no source outside of the crates."""
+    shutil.copytree(MADE_UP, top)
+    for path in sorted(top.rglob("*.text")):
+        path.rename(path.with_suffix(""))
+
+
 def faults():
     """Returns what isn't as it must be."""
-    repository = Repository(MADE_UP)
-    told = [*wrong_words(repository), *wrong_pages(), *wrong_refusals()]
+    with tempfile.TemporaryDirectory() as folder:
+        top = pathlib.Path(folder) / "top"
+        lay(top)
+        told = [*wrong_words(Repository(top)), *wrong_pages(top), *wrong_refusals()]
     if not told:
         print(f"claim: the made-up repository is read, and {len(REFUSED)} edits of it are refused")
     return told
@@ -123,9 +142,9 @@ def made(top, homes=HOMES):
     return claim, files_of(claim)
 
 
-def wrong_pages():
+def wrong_pages(top):
     """Yields what isn't as it must be of the pages."""
-    claim, files = made(MADE_UP)
+    claim, files = made(top)
     roots = {name: [word.name + (f": {' '.join(fields)}" if fields else "") for word, fields in page.roots]
              for name, page in claim.pages.items()}
     if roots != {"p01": ["ocelot()", "Works: comes answer ends counts"], "read": ["read()", "count()"],
@@ -165,7 +184,7 @@ def told_of(file, old, new, homes=HOMES):
     """Returns what is said of the made-up repository with an edit."""
     with tempfile.TemporaryDirectory() as folder:
         top = pathlib.Path(folder) / "top"
-        shutil.copytree(MADE_UP, top)
+        lay(top)
         text = (top / file).read_text()
         if text.count(old) != 1:
             return f"{old!r} stands there {text.count(old)} times"

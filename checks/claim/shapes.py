@@ -153,7 +153,7 @@ def rust_fields(text, source):
     for k, part in enumerate(parts_of(re.sub(r"//[^\n]*|#\[[^\]]*\]", "", text))):
         name, colon, kind = part.strip().partition(":")
         key, kind = (name.split()[-1], kind) if colon and not kind.startswith(":") else (str(k), part)
-        found[key] = rust_shape(re.sub(r"^\s*pub ", "", kind), source)
+        found[key] = rust_shape(re.sub(r"^\s*pub(\(\w+\))? ", "", kind), source)
     return found
 
 

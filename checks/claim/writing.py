@@ -63,8 +63,8 @@ class Writer:
     def definition(self, word, users):
         """A definition with its comment, its place, its text, and what uses it."""
         used = ", ".join(self.link(user, user.name) for user in users)
-        return (f"<section id={quoted(word.anchor)}><h3><a href={quoted('#' + fragment(word.anchor))}>{escaped(word.name)}</a>"
-                f"<small>{escaped(word.place)}</small></h3>{paragraphs(word.comment)}{self.code(word)}"
+        head = f"<a href={quoted('#' + fragment(word.anchor))}>{escaped(word.name)}</a><small>{escaped(word.place)}</small>"
+        return (f"<section id={quoted(word.anchor)}><h3>{head}</h3>{paragraphs(word.comment)}{self.code(word)}"
                 + (f"<p class=u>used by {used}</p>" if used else "") + "</section>")
 
     def code(self, word):
@@ -113,13 +113,15 @@ class Writer:
             for crate, words in groups:
                 here = [word for word in words if page.parts[word.key] == part]
                 if here and crate:
-                    lines = sum(word.lines() for word in here)
-                    body.append(f"<h2 id={crate}>{crate} <small>{count(len(here), 'definition')}, {count(lines, 'line')}</small></h2>")
+                    lines = count(sum(word.lines() for word in here), "line")
+                    body.append(f"<h2 id={crate}>{crate} <small>{count(len(here), 'definition')}, {lines}</small></h2>")
                 body += [self.definition(word, users[word.key]) for word in here]
             body += self.laws()
             if part < last:
-                body.append(f"<p class=l><a href={part_file(page, part + 1)}>What this rests on goes on in part {part + 2}</a></p>")
-            yield part_file(page, part), document(f"{page.title} – the claim", f"<main>{''.join(body)}</main>{self.contents(groups)}")
+                body.append(f"<p class=l><a href={part_file(page, part + 1)}>What this rests on goes on in part {part + 2}"
+                            "</a></p>")
+            body = f"<main>{''.join(body)}</main>{self.contents(groups)}"
+            yield part_file(page, part), document(f"{page.title} – the claim", body)
 
     def laws(self):
         """Laws about the words of the page, with words of their own: they are no part of what is to be read."""
@@ -149,8 +151,9 @@ class Writer:
         rows = "".join(f"<li><a href={name}.html>{escaped(full_title(page))}</a>, by "
                        + ", ".join(f"<code>{self.link(word, word.name)}</code>" for word in words[name]) + "</li>"
                        for name, page in self.pages.items() if name in words)
-        return (f"<p>What stands on other pages is only named here. With all of that, it rests on <b>{len(self.page.all):,}</b> "
-                f"definitions of <b>{self.page.all_lines():,}</b> lines:</p><ul class=h>{rows}</ul>")
+        return ("<p>What stands on other pages is only named here. With all of that, it rests on "
+                f"<b>{len(self.page.all):,}</b> definitions of <b>{self.page.all_lines():,}</b> lines:</p>"
+                f"<ul class=h>{rows}</ul>")
 
     def contents(self, groups):
         """The list of words at the side, of the part that is shown."""
@@ -190,7 +193,8 @@ def parted(page):
     """Says in which part of its page each word stands, by what its text with its links takes."""
     begun, parts, part, size = [word for word, _ in page.roots], {}, 0, 12_000
     for word in begun + [word for word in page.words if word not in begun] + law_words(page):
-        takes = 280 + len((word.text() + "".join(word.comment)).encode()) + 32 * len(links_of(word)) + 50 * len(list(targets(word)))
+        text = word.text() + "".join(word.comment)
+        takes = 280 + len(text.encode()) + 32 * len(links_of(word)) + 50 * len(list(targets(word)))
         if size + takes > PART:
             part, size = part + 1, 12_000
         size += takes

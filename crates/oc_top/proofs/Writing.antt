@@ -19,7 +19,6 @@ module _ {S : Type 0} (took : S → List ℕ → S → Type 0) (held : S → Lis
   pub front_of : (a b : S) (text : List ℕ) → Rose (faults a) (faults b) → TookPart took a text b → TookFront (writes took held faults a b) text
   front_of a b text rose p = record { rose = rose; front = p.front; back = p.back; split = p.split; taken = p.taken }
 
-
 module _ {S : Type 0} (took : S → List ℕ → S → Type 0) (held : S → List ℕ) (faults : S → ℕ) (both : Both took) where
   -- a text was taken and then flushed
   pub flushed_all : (a b c : S) (text : List ℕ) → faults b ≡ faults a → took a text b → took b [] c → held c ≡ [] → faults c ≡ faults b → TookAll (writes took held faults a c) text

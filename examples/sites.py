@@ -38,12 +38,12 @@ class Analysis:
     def steps(self, function):
         """Returns for each variable of a function those to which one step leads."""
         if function.name not in self.known_steps:
-            found = collections.defaultdict(list)
+            found = collections.defaultdict(dict)
             for statement in function.statements:
                 for source in statement.sources if statement.target else []:
-                    found[source].append(statement.target)
+                    found[source][statement.target] = None
                 for source, target in self.steps_of_call(statement):
-                    found[source].append(target)
+                    found[source][target] = None
             self.known_steps[function.name] = found
         return self.known_steps[function.name]
 
@@ -102,8 +102,9 @@ class Analysis:
 
     def loop_of(self, function, statement, first, last):
         """Returns the outermost loop out of which an input is carried, if there is one."""
-        carriers = [w for w in self.reach(function, first) if last in self.reach(function, w)]
-        for loop in reversed([outer for outer in statement.around if outer.is_loop]):
+        loops = [outer for outer in reversed(statement.around) if outer.is_loop]
+        carriers = [w for w in self.reach(function, first) if last in self.reach(function, w)] if loops else []
+        for loop in loops:
             if any(w.declared is None or loop not in w.declared.around for w in carriers):
                 return loop
         return None
@@ -119,11 +120,12 @@ class Analysis:
         for statement in function.statements:
             sites = {}
             for first, words in self.brought(statement).items():
-                if variable in self.reach(function, first):
-                    loop = self.loop_of(function, statement, first, variable)
+                if variable not in self.reach(function, first):
+                    continue
+                loop = self.loop_of(function, statement, first, variable)
+                if (loop or statement) not in sites:
                     way = f"{words}: {self.chain(function, first, variable)}"
-                    whole = f"carries from turn to turn what line {statement.line} brings, which {way}"
-                    sites.setdefault(loop or statement, whole if loop else way)
+                    sites[loop or statement] = f"carries from turn to turn what line {statement.line} brings, which {way}" if loop else way
             yield from (Site(statement, words) for statement, words in sites.items())
 
 

@@ -34,6 +34,7 @@ CHECKS = (
     ("claim.py", "--selftest"),
     ("claim.py", "--check"),
     ("../evaluation/measure.py", "--small"),
+    ("../evaluation/page.py", "--compare"),
 )
 
 

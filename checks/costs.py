@@ -56,7 +56,7 @@ def new_check(process):
 
 
 def look(session, checks):
-    """Brings what is known of each check of this session up to date. A process is named by its number and its start."""
+    """Brings what is known of each check that this run makes up to date. A process is named by its number and its start."""
     for process in pathlib.Path("/proc").iterdir():
         fields = read(process / "stat").rpartition(")")[2].split() if process.name.isdigit() else []
         if len(fields) < 20 or int(fields[3]) != session:

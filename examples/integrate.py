@@ -6,7 +6,6 @@ nothing (examples/why.py); and each log NAME.*.log, from a device, must be hones
 last line are gone. With --accept the files NAME.regions are written anew, to be looked at and checked in. Prints one line
 for each thing that isn't so, and ends with 1 then. OCELOT in the environment stands in the place of ./ocelot.
 """
-import os
 import pathlib
 import subprocess
 import sys
@@ -14,8 +13,7 @@ import tempfile
 
 sys.dont_write_bytecode = True
 
-TOP = pathlib.Path(__file__).resolve().parent.parent
-PROGRAM = os.environ.get("OCELOT", str(TOP / "ocelot"))
+from caller import TOP, ocelot
 
 
 def answer(*words):
@@ -27,7 +25,7 @@ def answer(*words):
 def faults_of_regions(source, accept):
     """Yields what is wrong with a source and its regions."""
     kept = source.with_suffix(".regions")
-    status, printed, told = answer(PROGRAM, "regions", source)
+    status, printed, told = answer(ocelot(), "regions", source)
     if status:
         yield f"{source}: status {status}, {told}"
         return
@@ -47,7 +45,7 @@ def faults_of_log(source, log):
     with tempfile.NamedTemporaryFile() as report:
         report.write(text[: text.rfind(b"\n") + 1])
         report.flush()
-        status, _, told = answer(PROGRAM, "audit", source, report.name)
+        status, _, told = answer(ocelot(), "audit", source, report.name)
     if status:
         yield f"{log}: status {status}, {told}"
 

@@ -5,13 +5,13 @@ SRC is a source and ON the number of steps of each period, as in rows `ON,OFF` o
 complete. Goes by what './ocelot regions SRC' prints; OCELOT in the environment stands in the place of ./ocelot. That
 so many periods suffice, whatever the sensors show, is proved (docs/ANALYSIS.md, 'How many periods suffice').
 """
-import os
-import pathlib
 import subprocess
 import sys
 
-TOP = pathlib.Path(__file__).resolve().parent.parent
-PROGRAM = os.environ.get("OCELOT", str(TOP / "ocelot"))
+sys.dont_write_bytecode = True
+
+from caller import ocelot
+
 LARGEST = 2**64 - 1
 
 
@@ -63,7 +63,7 @@ def shown(numbers, steps):
 def main():
     if len(sys.argv) != 3 or not sys.argv[2].isascii() or not sys.argv[2].isdigit():
         sys.exit(__doc__)
-    done = subprocess.run([PROGRAM, "regions", sys.argv[1]], stdin=subprocess.DEVNULL, stdout=subprocess.PIPE, encoding="ascii")
+    done = subprocess.run([ocelot(), "regions", sys.argv[1]], stdin=subprocess.DEVNULL, stdout=subprocess.PIPE, encoding="ascii")
     if done.returncode:
         sys.exit(done.returncode)
     numbers = Numbers(done.stdout)

@@ -8,18 +8,16 @@ way to the one that is annotated, uses, annotations, calls, and loops that carry
 regions stands each annotation that binds nothing. With --lines all statements of SRC are listed instead, each with its
 number and its line. OCELOT in the environment stands in the place of ./ocelot.
 """
-import os
 import pathlib
 import subprocess
 import sys
 
 sys.dont_write_bytecode = True
 
+from caller import ocelot
 from sites import Analysis, policies, requirements
 from statements import Reader
 
-TOP = pathlib.Path(__file__).resolve().parent.parent
-PROGRAM = os.environ.get("OCELOT", str(TOP / "ocelot"))
 NOT_COVERED = 18
 
 
@@ -34,7 +32,7 @@ class Region:
 
 def asked(command, source, accepted):
     """Returns what the program prints of a source, and ends as the program does where it refuses it."""
-    done = subprocess.run([PROGRAM, command, source], stdin=subprocess.DEVNULL, stdout=subprocess.PIPE, stderr=subprocess.PIPE, encoding="utf-8", errors="replace")
+    done = subprocess.run([ocelot(), command, source], stdin=subprocess.DEVNULL, stdout=subprocess.PIPE, stderr=subprocess.PIPE, encoding="utf-8", errors="replace")
     if done.returncode not in accepted:
         sys.stderr.write(done.stderr)
         sys.exit(done.returncode)

@@ -9,6 +9,7 @@ regions stands each annotation that binds nothing. With --lines all statements o
 number and its line. OCELOT in the environment stands in the place of ./ocelot.
 """
 import pathlib
+import signal
 import subprocess
 import sys
 
@@ -112,6 +113,8 @@ def numbered(source):
 
 
 def main():
+    # Where what reads this stops, this stops.
+    signal.signal(signal.SIGPIPE, signal.SIG_DFL)
     words = sys.argv[1:]
     if words in (["--help"], ["-h"]):
         print(__doc__, end="")

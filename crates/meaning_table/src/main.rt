@@ -3,10 +3,10 @@
 
 mod sources;
 
+use oc_interpreter::run::run_source;
+use oc_interpreter::trace::{Outcome, SourceTrace};
 use oc_io::sink::Sink;
 use oc_io::stream::StreamSink;
-use oc_meaning::run::run_source;
-use oc_meaning::trace::{Outcome, SourceTrace};
 use oc_tree::checked::Checked;
 use oc_tree::name::{Name, Names};
 use oc_tree::said::{SourceEvent, TrapKind, Visible};

@@ -5,6 +5,7 @@ pub mod Named
 pub mod Cut
 pub mod OneWay
 pub mod Apart
+pub mod OneText
 pub mod Program
 pub mod OneFinding
 pub mod HonestTexts

@@ -4,8 +4,8 @@ use Rattle.std.proofs.lemmas.List.{length-map}
 use Rattle.oc_tree.specs.Tree.{TProgram}
 use Rattle.oc_tree.specs.Checked.{Group, IsChecked}
 use Rattle.oc_items.proofs.Spelled.{all_fit}
-use Rattle.oc_formed.proofs.Declared.{AllWithin, all_within}
-use Rattle.oc_formed.proofs.Amounts as amounts
+use Rattle.oc_checked.proofs.Declared.{AllWithin, all_within}
+use Rattle.oc_checked.proofs.Amounts as amounts
 use Rattle.oc_audit.specs.Taking.{AreNames}
 
 pub are_names : (p : TProgram) (groups : List Group) → IsChecked p groups → AreNames p.names (map (λ d. d.words) p.nv)

@@ -6,6 +6,6 @@ use Rattle.oc_audit.specs.declared.report.ReportError.{ReportError}
 use Rattle.oc_audit.specs.declared.report.ReportError.TheVariants as error
 
 -- an error names the first bad line, or comes of want of memory
-abbrev pub Explains : NameLists → List ℕ → List ℕ → ReportError → Type 0
-Explains names sizes bytes (error.Line n) = IsBadLine names sizes bytes n
-Explains names sizes bytes error.Memory = ⊤
+abbrev pub ExplainsReport : NameLists → List ℕ → List ℕ → ReportError → Type 0
+ExplainsReport names sizes bytes (error.Line n) = IsBadLine names sizes bytes n
+ExplainsReport names sizes bytes error.Memory = ⊤

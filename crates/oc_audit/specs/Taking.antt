@@ -16,25 +16,27 @@ pub record Taken : Type 0 where
   pub next : ℕ
   pub words : List ℤ
 
--- an item's line is taken
+-- the line of one more item is taken
 pub record TakesItem (names : NameLists) (s : Taken) (line : List ℕ) (t : Taken) : Type 0 where
   pub item : Item
   pub has : HasLine names line item
   pub none : s.next ≡ 0
   pub is : t ≡ record s { items = s.items ++ item ∷ [] }
 
--- the line of the next variable is taken
-pub record TakesWords (names : NameLists) (sizes : List ℕ) (s : Taken) (line : List ℕ) (t : Taken) : Type 0 where
+-- the line of the next nonvolatile variable is taken
+pub record TakesWords
+    (names : NameLists) (sizes : List ℕ) (s : Taken) (line : List ℕ) (t : Taken) : Type 0 where
   pub words : List ℤ
   pub over : is_over s.items ≡ true
   pub there : s.next < length names.nvs
   pub has : IsWordsLine (name_at names.nvs s.next) (get_or sizes s.next 0) line words
   pub is : t ≡ record { items = s.items; next = suc s.next; words = s.words ++ words }
 
--- it is no line that may stand here
+-- a line is none that may stand behind what was read
 pub record TakesNone (names : NameLists) (sizes : List ℕ) (s : Taken) (line : List ℕ) : Type 0 where
   pub no_item : s.next ≡ 0 → TellsNone names line
-  pub no_words : is_over s.items ≡ true → s.next < length names.nvs → (words : List ℤ) → IsWordsLine (name_at names.nvs s.next) (get_or sizes s.next 0) line words → ⊥
+  pub no_words : is_over s.items ≡ true → s.next < length names.nvs → (words : List ℤ)
+      → IsWordsLine (name_at names.nvs s.next) (get_or sizes s.next 0) line words → ⊥
 
 -- what a line does to what was read: it is taken, or may not stand here
 abbrev pub Takes : NameLists → List ℕ → Taken → List ℕ → Bool → Taken → Type 0
@@ -45,9 +47,11 @@ Takes names sizes s line false t = TakesNone names sizes s line
 abbrev pub has_no_feed : List ℕ → Bool
 has_no_feed bytes = list_all (λ b. not (b == 10)) bytes
 
--- these lines spell what was read
-pub record IsRead (names : NameLists) (sizes : List ℕ) (done : List (List ℕ)) (s : Taken) : Type 0 where
-  pub text : report_text names s.items ++ words_lines (take s.next names.nvs) sizes s.words ≡ flat_map ended done
+-- these lines spell what was read of a report
+pub record IsRead
+    (names : NameLists) (sizes : List ℕ) (done : List (List ℕ)) (s : Taken) : Type 0 where
+  pub text : report_text names s.items
+      ++ words_lines (take s.next names.nvs) sizes s.words ≡ flat_map ended done
   pub each : All (IsItem names) s.items
   pub fit : All (FitsSigned w32) s.words
   pub many : length s.words ≡ sum (take s.next sizes)
@@ -55,7 +59,8 @@ pub record IsRead (names : NameLists) (sizes : List ℕ) (done : List (List ℕ)
   pub over : (s.next ≡ 0) ⊎ (is_over s.items ≡ true)
 
 -- n lines of these bytes were read, and the rest is left
-pub record Stands (names : NameLists) (sizes : List ℕ) (bytes : List ℕ) (n : ℕ) (rest : List ℕ) (s : Taken) : Type 0 where
+pub record Stands (names : NameLists)
+    (sizes : List ℕ) (bytes : List ℕ) (n : ℕ) (rest : List ℕ) (s : Taken) : Type 0 where
   pub done : List (List ℕ)
   pub number : n ≡ length done
   pub short : n + length rest ≤ length bytes
@@ -81,4 +86,5 @@ GivesItem names s line false t = (s.next ≡ 0 → TellsNone names line) × (t �
 abbrev pub GivesLine : NameLists → List ℕ → Taken → List ℕ → Bool → Taken → Type 0
 GivesLine names sizes s line true t = TakesWords names sizes s line t
 GivesLine names sizes s line false t =
-    is_over s.items ≡ true → s.next < length names.nvs → (words : List ℤ) → IsWordsLine (name_at names.nvs s.next) (get_or sizes s.next 0) line words → ⊥
+    is_over s.items ≡ true → s.next < length names.nvs → (words : List ℤ)
+    → IsWordsLine (name_at names.nvs s.next) (get_or sizes s.next 0) line words → ⊥

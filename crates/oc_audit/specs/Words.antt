@@ -35,9 +35,11 @@ pub record ReadsOn (bytes : List ℕ) (old now : List ℤ) (n : ℕ) (left : Lis
   pub many : length words ≡ n
   pub fit : All (FitsSigned w32) words
   pub spelled : spaced words ++ left ≡ bytes
-  pub only : (us : List ℤ) → All (FitsSigned w32) us → spaced us ≡ bytes → (more : List ℤ) × (us ≡ words ++ more) × (spaced more ≡ left)
+  pub only : (us : List ℤ) → All (FitsSigned w32) us
+      → spaced us ≡ bytes → (more : List ℤ) × (us ≡ words ++ more) × (spaced more ≡ left)
 
 -- the words of the line stand behind the old ones; or it is no line of this name and so many words
 abbrev pub GivesWords : List ℕ → ℕ → List ℕ → List ℤ → Bool → List ℤ → Type 0
-GivesWords name count line old true now = (words : List ℤ) × IsWordsLine name count line words × (now ≡ old ++ words)
+GivesWords name count line old true now =
+    (words : List ℤ) × IsWordsLine name count line words × (now ≡ old ++ words)
 GivesWords name count line old false now = (words : List ℤ) → IsWordsLine name count line words → ⊥

@@ -1,4 +1,6 @@
 //! Laws: a function does nothing, and its contract says the law.
+ghost use Rattle.oc_audit.specs.Apart.{CheckedNamesAreApart, NamesAreApart};
+ghost use Rattle.oc_audit.specs.Apart.{ProgramsHaveOneReport, ProgramsHaveOneText};
 ghost use Rattle.oc_audit.specs.Findings.{HonestTexts, OneFinding};
 ghost use Rattle.oc_audit.specs.Laws.{FilesReadOneWay, LinesRead, OneReportEach, ProgramsReadBack, TextsReadBack};
 
@@ -17,7 +19,8 @@ pub fn texts_read_back()
     ensures { TextsReadBack }
 {}
 
-/// The same under the names of a checked program; so bytes spell one report of it at most.
+/// The text of a report under the names of a checked program is read back as that report and no
+/// other; so bytes spell one report of it at most.
 pub fn programs_read_back()
     ensures back { ProgramsReadBack }
     ensures one { OneReportEach }
@@ -31,4 +34,22 @@ pub fn one_finding()
 /// The text of an honest report is found to be honest and nothing else.
 pub fn honest_texts()
     ensures { HonestTexts }
+{}
+
+/// No two sensors of an accepted program have the same name, and no two ports; and no byte of its
+/// names is a space or a line feed.
+pub fn names_are_apart()
+    ensures written { NamesAreApart }
+    ensures checked { CheckedNamesAreApart }
+{}
+
+/// Two lists of items of an accepted program with the same text are equal.
+pub fn programs_have_one_text()
+    ensures { ProgramsHaveOneText }
+{}
+
+/// Two whole reports of an accepted program with the same text are equal; the words of its
+/// nonvolatile variables follow where the items are over.
+pub fn programs_have_one_report()
+    ensures { ProgramsHaveOneReport }
 {}

@@ -3,7 +3,7 @@ ghost use Rattle.std.specs.Prelude.{◌≡◌, ◌<◌, true, [], length, map, o
 ghost use Rattle.oc_tree.specs.Names.{names_view};
 ghost use Rattle.oc_items.specs.Text.{ends, is_over};
 ghost use Rattle.oc_audit.specs.Taking.{AreNames, GivesItem, GivesLine, Stands, Takes, has_no_feed};
-ghost use Rattle.oc_audit.specs.Errors.{Explains};
+ghost use Rattle.oc_audit.specs.Errors.{ExplainsReport};
 ghost use Rattle.oc_audit.specs.Files.{IsBadLine, IsReportFile};
 ghost use Rattle.oc_audit.specs.declared.report.ReportError.TheVariants as error;
 
@@ -160,7 +160,7 @@ fn take_lines<'a>(
     requires named { AreNames (names_view names.now) (map (λ d. d.words) variables.now) }
     ensures ok { IfOk result (λ r. Stands (names_view names.now) (map (λ d. d.words) variables.now)
         bytes.now r.0 r.1.now read.new × (has_no_feed r.1.now ≡ true)) }
-    ensures line { IfErr result (λ e. Explains (names_view names.now)
+    ensures line { IfErr result (λ e. ExplainsReport (names_view names.now)
         (map (λ d. d.words) variables.now) bytes.now e) }
 {
     let mut rest = bytes;
@@ -191,7 +191,7 @@ fn judge_last(
     requires named { AreNames (names_view names.now) (map (λ d. d.words) variables.now) }
     ensures ok { IfOk result (λ n. IsBadLine (names_view names.now)
         (map (λ d. d.words) variables.now) bytes.now n) }
-    ensures line { IfErr result (λ e. Explains (names_view names.now)
+    ensures line { IfErr result (λ e. ExplainsReport (names_view names.now)
         (map (λ d. d.words) variables.now) bytes.now e) }
 {
     if take_line(names, variables, read, rest)? {
@@ -215,7 +215,7 @@ fn finish(
     ensures ok { IfOk result (λ r. IsReportFile (names_view names.now)
         (map (λ d. d.words) variables.now) bytes.now r.items.items
         (option_map (λ w. w.items) r.nv)) }
-    ensures line { IfErr result (λ e. Explains (names_view names.now)
+    ensures line { IfErr result (λ e. ExplainsReport (names_view names.now)
         (map (λ d. d.words) variables.now) bytes.now e) }
 {
     if !are_over(&read.items) {
@@ -244,7 +244,7 @@ fn read_named(
     ensures ok { IfOk result (λ r. IsReportFile (names_view names.now)
         (map (λ d. d.words) variables.now) bytes.now r.items.items
         (option_map (λ w. w.items) r.nv)) }
-    ensures line { IfErr result (λ e. Explains (names_view names.now)
+    ensures line { IfErr result (λ e. ExplainsReport (names_view names.now)
         (map (λ d. d.words) variables.now) bytes.now e) }
 {
     let mut read = Reading {
@@ -265,7 +265,7 @@ pub fn read_report(alloc: Global, bytes: &[u8], program: &Checked) -> Result<Rep
     ensures ok { IfOk result (λ r. IsReportFile program.now.program.names
         (map (λ d. d.words) program.now.program.nv) bytes.now r.items.items
         (option_map (λ w. w.items) r.nv)) }
-    ensures line { IfErr result (λ e. Explains program.now.program.names
+    ensures line { IfErr result (λ e. ExplainsReport program.now.program.names
         (map (λ d. d.words) program.now.program.nv) bytes.now e) }
 {
     let tree = program.program();

@@ -16,7 +16,7 @@ use Rattle.oc_isa.specs.declared.phase.Phase.TheVariants.{Waking, Undoing, Resto
 use Rattle.oc_isa.specs.Next.{Regs, Write, Next, Goes, Senses, Enters, Commits, Ends, Stuck, Device}
 use Rattle.oc_isa.specs.Run.{core_at}
 use Rattle.oc_isa.specs.Power.{State, Stepped, World, is_over, quietly, running, in_area, words_of, word_of, held, resume, enter, enter_on, commits, goes, to_log, run_next, step}
-use Rattle.oc_isa.specs.Power.{step_in, told, ticked, tick_on, fail_in, abort_of, failed, power_fails, through, shown_of, first_state, power_run}
+use Rattle.oc_isa.specs.Power.{step_in, with_said, ticked, tick_on, fail_in, abort_of, failed, power_fails, through, shown_of, first_state, power_run}
 use Rattle.oc_outage.specs.Honest.{IsFit}
 use Rattle.oc_outage.proofs.Facts.{state_at, regs_at}
 use Rattle.oc_outage.proofs.Going.{onto, world_at, through-onto}
@@ -29,7 +29,6 @@ use Rattle.oc_bounds.proofs.Unlogged.{unlogged, none_logged}
 use Rattle.oc_bounds.proofs.Ahead.{taking, IsOpen, IsEntering, IsUndone, Stands, Ahead, Moves, over, gains, nears}
 use Rattle.oc_bounds.proofs.Moving.{step_moves}
 use Rattle.oc_bounds.proofs.Carrying.{not_over, not_lost, fails_any, first_at}
-use Rattle.oc_bounds.proofs.Pricing.{some_work, some_takes}
 use Rattle.oc_bounds.proofs.Closing.{rest_of, rest_after, closes_in}
 
 module _ (d : Device) (b : Bounds) where
@@ -215,7 +214,7 @@ module _ (d : Device) (b : Bounds) (total : ℕ) (h : ℕ → ℕ → ℤ) (fit 
   Behind periods = (from : ℕ) (s : State) → Fine d b total s → ((i : ℕ) → from ≤ i → left i ≡ steps_after from periods i) → AllClose b left (through d h periods (world_at from s [])).report
 
   all_behind : (t : ℕ) (said : Option Said) (is : List Told) → ((r : ℕ) → said ≡ Some (Entered r) → b.spent r + b.logged r ≤ left t → Closes is) → AllClose b left is
-      → AllClose b left (told [] t said ++ is)
+      → AllClose b left (with_said [] t said ++ is)
   all_behind t None is f a = a
   all_behind t (Some (Sensed x v)) is f a = (tt, a)
   all_behind t (Some (Showed v)) is f a = (tt, a)
@@ -260,16 +259,16 @@ module _ (d : Device) (b : Bounds) (total : ℕ) (h : ℕ → ℕ → ℤ) (fit 
         let w = world_at t s [] in
         let r = fail_in d p.cut s.phase s in
         let v = world_at (t + p.off) r.state [] in
-        let pre = told [] t r.said ++ told [] t (Some (Off p.off)) in
+        let pre = with_said [] t r.said ++ with_said [] t (Some (Off p.off)) in
         let is_failed : power_fails d p w ≡ failed w p.off r = ap (λ x. if x then w else failed w p.off r) (alive_by s.phase s.area s.depth k u c s g.stands) in
         let split : failed w p.off r ≡ onto pre v = ap (world_at (t + p.off) r.state) (joined t r.said) in
         let whole : rest_of d h p periods 0 w ≡ onto pre (through d h periods v) = ap (through d h periods) (is_failed ∙ split) ∙ through-onto pre d h periods v in
         let a = behind (t + p.off) r.state (fine_failed p.cut (is_over r.state.phase) k u c s g refl) later in
         subst (λ (x : World). AllClose b left x.report) (sym whole)
-        (subst (λ l. AllClose b left l) (sym (append_assoc (told [] t r.said) (told [] t (Some (Off p.off))) (through d h periods v).report))
+        (subst (λ l. AllClose b left l) (sym (append_assoc (with_said [] t r.said) (with_said [] t (Some (Off p.off))) (through d h periods v).report))
         (all_behind t r.said _ (λ q e. absurd (fail_says s.phase s q e)) (tt, a)))
       where
-        joined : (t : ℕ) (said : Option Said) → told (told [] t said) t (Some (Off p.off)) ≡ (told [] t said ++ told [] t (Some (Off p.off))) ++ []
+        joined : (t : ℕ) (said : Option Said) → with_said (with_said [] t said) t (Some (Off p.off)) ≡ (with_said [] t said ++ with_said [] t (Some (Off p.off))) ++ []
         joined t None = refl
         joined t (Some x) = refl
 
@@ -298,7 +297,7 @@ module _ (d : Device) (b : Bounds) (total : ℕ) (h : ℕ → ℕ → ℤ) (fit 
         (subst (λ x. AllClose b left x) (sym (rest_after d h p periods j t r))
         (all_behind t r.said _ (λ q x le. begins_here j t q r.said r.state began x here le) rest))
 
-  dark_close : (over : Bool) (from : ℕ) (s : State) → AllClose b left (if over then world_at from s [] else world_at from s (told [] from (Some Dark))).report
+  dark_close : (over : Bool) (from : ℕ) (s : State) → AllClose b left (if over then world_at from s [] else world_at from s (with_said [] from (Some Dark))).report
   dark_close true from s = tt
   dark_close false from s = (tt, tt)
 
@@ -317,4 +316,4 @@ attempts_close d b h periods fit q words before rest tick r e le =
     (all_close d b b.total h fit words (steps_after 0 periods) periods 0 (first_state d) first (λ i a. refl))) le
   where
     first : Fine d b b.total (first_state d)
-    first = awake (some_work d b) (5 + d.room + some_work d b) (untried 0) (first_at d b b.total h fit words (some_work d b) (some_takes d b q))
+    first = awake b.steps (5 + d.room + b.steps) (untried 0) (first_at d b b.total h fit words b.steps q.takes)

@@ -14,14 +14,14 @@ use Rattle.oc_isa.specs.declared.phase.Phase.{Phase}
 use Rattle.oc_isa.specs.declared.phase.Phase.TheVariants.{Waking, Undoing, Restoring, Running, Entering, Over, Lost}
 use Rattle.oc_isa.specs.Next.{Enters, Device}
 use Rattle.oc_isa.specs.Run.{Core, core_at, start_of}
-use Rattle.oc_isa.specs.Power.{State, World, is_over, words_of, step_in, fail_in, tick_on, ticks_on, power_fails, one_period, told, through, first_world}
+use Rattle.oc_isa.specs.Power.{State, World, is_over, words_of, step_in, fail_in, tick_on, ticks_on, power_fails, one_period, with_said, through, first_world}
 use Rattle.oc_outage.specs.Honest.{IsFit}
 use Rattle.oc_outage.proofs.Facts.{state_at, regs_at}
 use Rattle.oc_outage.proofs.Resting.{ticks_on-over, power_fails-over, through-over}
 use Rattle.oc_outage.proofs.Words.{length-words_of, all_saved, length-save_all}
-use Rattle.oc_bounds.specs.Bounds.{Bounds, Leaves, IsBrief, AreLong}
+use Rattle.oc_bounds.specs.Bounds.{Bounds, Leaves, Takes, IsBrief, AreLong}
 use Rattle.oc_outage.specs.Kept.{Count, untried, counted, count_ticks, kept_on}
-use Rattle.oc_bounds.specs.Headway.{Takes, AddUp}
+use Rattle.oc_bounds.specs.Headway.{AddUp}
 use Rattle.oc_bounds.proofs.Ahead.{taking, takes_fits, takes_some, IsStored, IsEntry, Stands, Ahead, Moves, over, gains, nears}
 use Rattle.oc_bounds.proofs.Moving.{step_moves}
 
@@ -418,7 +418,7 @@ module _ (d : Device) (b : Bounds) (total : ℕ) (h : ℕ → ℕ → ℤ) (fit 
     no_end : (s : State) (how : Ending) → s.phase ≡ Over how → is_over s.phase ≡ false → ⊥
     no_end s how e q = true≢false (sym (ap is_over e) ∙ q)
 
-    dark_by : (v : World) (o : Bool) → is_over (if o then v else record { tick = v.tick; state = v.state; report = told v.report v.tick (Some Dark) }).state.phase ≡ is_over v.state.phase
+    dark_by : (v : World) (o : Bool) → is_over (if o then v else record { tick = v.tick; state = v.state; report = with_said v.report v.tick (Some Dark) }).state.phase ≡ is_over v.state.phase
     dark_by v true = refl
     dark_by v false = refl
 

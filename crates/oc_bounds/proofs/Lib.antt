@@ -4,6 +4,7 @@ pub mod Ahead
 pub mod Moving
 pub mod Carrying
 pub mod Pricing
+pub mod Tolls
 pub mod Sufficing
 pub mod Closing
 pub mod Attempting

@@ -23,9 +23,8 @@ use Rattle.oc_outage.proofs.Inside.{undoes_write}
 use Rattle.oc_outage.proofs.Undone.{undo-set, undo-last, undo-entry_at, EntryNumber, entry_number}
 use Rattle.oc_outage.proofs.Words.{IsSaved, length-words_of, held-saved, one_saved}
 use Rattle.oc_outage.proofs.Restored.{restored_one, none_restored, more_restored, all_restored}
-use Rattle.oc_bounds.specs.Bounds.{Bounds, Leaves, is_listed}
+use Rattle.oc_bounds.specs.Bounds.{Bounds, Leaves, Takes, is_listed}
 use Rattle.oc_outage.specs.Kept.{Count, takes_one, count_write, count_entry, count_commit, count_next, count_entering, counted}
-use Rattle.oc_bounds.specs.Headway.{Takes}
 use Rattle.oc_bounds.proofs.Unlogged.{unlogged, none_logged, logged_one, asked}
 use Rattle.oc_bounds.proofs.Leaving.{leaving}
 use Rattle.oc_bounds.proofs.Ahead.{taking, takes_fits, takes_some, IsOpen, IsEntering, IsRestoring, IsEntry, IsWaking, IsUndoing, IsUndone, IsRunning}

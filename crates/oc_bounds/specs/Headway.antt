@@ -1,43 +1,16 @@
 -- How far a period of power carries a run, at least: in instructions that are kept, and in steps.
 use Rattle.std.specs.Prelude.{◌≡◌, ◌≤◌, ◌<◌, ◌⊎◌, ℕ, zero, suc, ◌+◌, ◌*◌, ◌-◌, ℤ, max, nat_lt}
-use Rattle.std.specs.Prelude.{List, [], ◌∷◌, ◌++◌, length}
+use Rattle.std.specs.Prelude.{List, [], ◌∷◌, ◌++◌}
 use Rattle.std.specs.Prelude.{Bool, false, if◌then◌else◌}
 use Rattle.oc_io.specs.declared.period.Period.{Period}
 use Rattle.oc_tree.specs.declared.said.Ending.{Ending}
 use Rattle.oc_isa.specs.declared.phase.Phase.TheVariants.{Over}
-use Rattle.oc_isa.specs.Next.{Next, Goes, Senses, Enters, Commits, Ends, Stuck}
-use Rattle.oc_isa.specs.Next.{Device, written}
-use Rattle.oc_isa.specs.Run.{Core, core_at}
+use Rattle.oc_isa.specs.Next.{Device}
 use Rattle.oc_isa.specs.Power.{is_over, power_run}
 use Rattle.oc_outage.specs.Kept.{kept_after}
-use Rattle.oc_bounds.specs.Bounds.{Bounds, Claim, AreLong, AreSafe, sampled, opens, goes_on_commit}
+use Rattle.oc_bounds.specs.Bounds.{Bounds, AreLong, AreSafe}
 
--- Steps
-
--- the steps of an `enter` of region r at this depth. The outermost one saves registers and a stack,
--- and arms; the steps in which its region may log are counted here too
-abbrev pub enter_steps : Device → Bounds → (depth r : ℕ) → ℕ
-enter_steps d b zero r = 4 + d.room + b.logged r
-enter_steps d b (suc k) r = 1
-
--- an instruction has its steps among the t that are left, and a run goes on with the others
-abbrev pub takes_next : Device → Bounds → Next → Core → (t : ℕ) → (ℕ → Claim) → Type 0
-takes_next d b (Goes to w shown) c t go = (1 ≤ t) × go (t - 1) (core_at to c.depth (written w c.nv))
-takes_next d b (Senses s to) c t go = (1 ≤ t) × sampled to c (go (t - 1))
-takes_next d b (Enters r to) c t go =
-    let inside = core_at to (suc c.depth) c.nv in
-    let steps = enter_steps d b c.depth r in
-    (steps ≤ t) × opens d b c.depth r inside × go (t - steps) inside
-takes_next d b (Commits r to) c t go = (1 ≤ t) × goes_on_commit c.depth to c (go (t - 1))
-takes_next d b (Ends how) c t go = 1 ≤ t
-takes_next d b Stuck c t go = ⊥
-
--- from here a run without outages is over within n instructions, which take t steps at most; it
--- meets no undefined step, and each region that it enters stays within its bounds
-abbrev pub Takes : Device → Bounds → (n t : ℕ) → Core → Type 0
-Takes d b zero t c = ⊥
-Takes d b (suc n) t c =
-    (length c.regs.stack ≤ d.room) × takes_next d b (d.next c.regs c.nv) c t (Takes d b n)
+-- Periods
 
 -- no region is entered: where one is, `safe` has room for two stacks more
 abbrev pub is_plain : Device → Bounds → Bool
@@ -71,12 +44,14 @@ pub record HaveEnough (d : Device) (b : Bounds) (periods : List Period) : Type 0
   pub half : b.total * two_steps d b most ≤ 2 * work
   pub steps : AddUp (least d b) work periods
 
--- periods suffice for the end of a run: one more of the first ones than its total are safe, or as
--- many as its total have the least number of steps, or they have steps enough
+-- periods suffice for the end of a run: of the first ones, one more than its total are safe, or as
+-- many as its total have the least number of steps, or what they have from that number on adds up to
+-- the steps of the run, or they have steps enough by the numbers that are printed
 abbrev pub Suffice : Device → Bounds → List Period → Type 0
 Suffice d b periods =
     AreSafe b (suc b.total) periods
-    ⊎ (AreLong (least d b) b.total periods ⊎ HaveEnough d b periods)
+    ⊎ (AreLong (least d b) b.total periods
+    ⊎ (AddUp (least d b) b.steps periods ⊎ HaveEnough d b periods))
 
 -- Laws of runs
 

@@ -8,13 +8,13 @@ ghost use Rattle.oc_isa.specs.Next.{Device};
 ghost use Rattle.oc_isa.specs.Power.{power_run};
 ghost use Rattle.oc_isa.specs.Run.{start_of};
 ghost use Rattle.oc_outage.specs.Honest.{IsFit};
-ghost use Rattle.oc_bounds.specs.Bounds.{Bounds, IsBounded};
+ghost use Rattle.oc_bounds.specs.Bounds.{Bounds, IsBounded, Takes};
 ghost use Rattle.oc_bounds.specs.Attempts.{AttemptsClose};
-ghost use Rattle.oc_bounds.specs.Headway.{AddUp, PeriodsKeep, RunEnds, Suffice, Takes, least};
+ghost use Rattle.oc_bounds.specs.Headway.{AddUp, PeriodsKeep, RunEnds, Suffice, least};
 
 /// A run ends where one more of its first periods than it has instructions are safe, where as many
-/// as it has instructions have the least number of steps, or where the first ones have steps enough
-/// by the numbers that are printed.
+/// as it has instructions have the least number of steps, or where the first ones have steps enough,
+/// for those that it takes or by the numbers that are printed.
 pub fn progress()
     ensures { (d : Device) (b : Bounds) (h : ℕ → ℕ → ℤ) (periods : List Period) → IsFit d
         → IsBounded d b → ((sensor tick : ℕ) → is_word (h sensor tick) ≡ true) →

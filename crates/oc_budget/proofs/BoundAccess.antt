@@ -24,7 +24,7 @@ use Rattle.oc_tree.specs.Scope.{Scope, variable_in, is_name_of, is_taken, is_in_
 use Rattle.oc_code.specs.Scope.{Slot, InFrame, ByAddress, InNv, NoSlot, Named, named, kind_words, param_slot, let_named, for_named, params_scope, nv_scope, function_scope}
 use Rattle.oc_code.proofs.Places.{base, nv_width}
 use Rattle.oc_code.proofs.Lawful.{Access}
-use Rattle.oc_formed.proofs.BodiesPass.{first_fails, second_fails}
+use Rattle.oc_checked.proofs.BodiesPass.{first_fails, second_fails}
 use Rattle.oc_writes.proofs.Standing.{Each, each_front, each_back, each_join}
 use Rattle.oc_writes.proofs.KeptNames.{found_on}
 use Rattle.oc_writes.proofs.KeptRules.{Ruled, rule_found_on}

@@ -22,7 +22,7 @@ use Rattle.oc_code.specs.Formed.{marks}
 use Rattle.oc_code.proofs.Lawful.{all_access, right_lawful, fits_at, kind_lawful, else_lawful, block_lawful, stmts_lawful}
 use Rattle.oc_desugar.proofs.NumberLists.{Follow, first_of, parts}
 use Rattle.oc_formed.proofs.BodiesMarked.{KindMarked, ElseMarked, BlockMarked, StmtsMarked}
-use Rattle.oc_formed.proofs.RegionCounts.{InBlock}
+use Rattle.oc_checked.proofs.RegionsApart.{InBlock}
 use Rattle.oc_writes.proofs.Standing.{Each, each_front, each_back}
 use Rattle.oc_watch.proofs.Compared.{alone_on, alone, region_alone, begins, kind_counted, else_counted, block_counted, stmts_counted}
 use Rattle.oc_watch.proofs.Summed.{picked}

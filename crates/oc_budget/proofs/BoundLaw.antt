@@ -28,10 +28,10 @@ use Rattle.oc_code.proofs.Closed.{call_within}
 use Rattle.oc_desugar.proofs.NumberLists.{Follow, first_of, parts}
 use Rattle.oc_formed.proofs.Law.{marked_program_formed}
 use Rattle.oc_formed.proofs.BodiesMarked.{BlockMarked}
-use Rattle.oc_formed.proofs.BodiesFormed.{head_unbroken}
-use Rattle.oc_formed.proofs.BodiesPass.{FunctionFine, function_fine}
-use Rattle.oc_formed.proofs.Declared.{all_within}
-use Rattle.oc_formed.proofs.Mains.{own_place}
+use Rattle.oc_checked.proofs.Heads.{head_unbroken}
+use Rattle.oc_checked.proofs.BodiesPass.{FunctionFine, function_fine}
+use Rattle.oc_checked.proofs.Declared.{all_within}
+use Rattle.oc_checked.proofs.Mains.{own_place}
 use Rattle.oc_formed.proofs.RegionsMarked.{bodies_marked}
 use Rattle.oc_formed.proofs.ScopesStart.{start_found}
 use Rattle.oc_bounds.specs.Bounds.{Bounds, IsBounded}
@@ -43,7 +43,7 @@ use Rattle.oc_watch.proofs.Words.{covers}
 use Rattle.oc_watch.proofs.Compared.{block_counted}
 use Rattle.oc_watch.proofs.Costed.{Budgeted, tree_bounded}
 use Rattle.oc_watch.proofs.Summed.{block_sum, picked}
-use Rattle.oc_budget.specs.Budgets.{TBudgets, budgets}
+use Rattle.oc_budget.specs.Budgets.{steps}
 use Rattle.oc_budget.specs.Costs.{is_use, total}
 use Rattle.oc_budget.specs.Bounding.{bounds_of, BudgetsBound}
 use Rattle.oc_budget.proofs.BoundSums.{region_at, picks_of, picks, held_of, held, few_words, sums, some_spent, safe_run, safe_region}
@@ -117,7 +117,7 @@ module _ (m : TMarked) (is : IsMarked m) where
   p = m.program
 
   abbrev b : Bounds
-  b = bounds_of (budgets m)
+  b = bounds_of m
 
   abbrev uses : ℕ → Bool
   uses = is_use m.program
@@ -152,7 +152,7 @@ module _ (m : TMarked) (is : IsMarked m) where
       (block_may m.regions a within (λ n. true) (function_scope m.program f) (length f.params + link_words f) (at_start f) f.body (λ n. refl)
       (each_map _ (Inner m.regions a within (λ n. true)) (λ s h t. h) (block_placed (at_start f) f.body) (function_may m.program i f at m.groups is.checked)))
 
-  abbrev tables : Tables m.program m.regions (may_write m) (bounds_of (budgets m))
+  abbrev tables : Tables m.program m.regions (may_write m) (bounds_of m)
   tables = record {
     writes = writes m.program;
     names = λ r. names_of (region_at m r);
@@ -223,7 +223,7 @@ module _ (m : TMarked) (is : IsMarked m) where
     region_names r q e h = ap names_of e ∙ ap (names_in q) (ap (slice_get m.program.functions) h ∙ at)
 
     budgeted_at : (r : ℕ) (γ : List Named) (s : ℕ) (ss : TStmts) → AtRegion r γ s ss
-        → Budgeted m.program m.regions (may_write m) (bounds_of (budgets m)) formed tables (is_use m.program) counted (picks m) r γ s ss
+        → Budgeted m.program m.regions (may_write m) (bounds_of m) formed tables (is_use m.program) counted (picks m) r γ s ss
     budgeted_at r γ s ss z =
         let q = z.region in
         let n = region_names r q z.at z.home in
@@ -247,22 +247,23 @@ module _ (m : TMarked) (is : IsMarked m) where
           safe = safe_region m r q z.at;
         }
 
-    budgeted : block_lawful m.regions all_access (λ c. Unit {0}) (Budgeted m.program m.regions (may_write m) (bounds_of (budgets m)) formed tables (is_use m.program) counted (picks m))
+    budgeted : block_lawful m.regions all_access (λ c. Unit {0}) (Budgeted m.program m.regions (may_write m) (bounds_of m) formed tables (is_use m.program) counted (picks m))
         (function_scope m.program f) (length f.params + link_words f) f.body
     budgeted =
-        block_sum m.regions all_access (λ c. Unit {0}) AtRegion (Budgeted m.program m.regions (may_write m) (bounds_of (budgets m)) formed tables (is_use m.program) counted (picks m))
+        block_sum m.regions all_access (λ c. Unit {0}) AtRegion (Budgeted m.program m.regions (may_write m) (bounds_of m) formed tables (is_use m.program) counted (picks m))
         (λ r n. false) (λ n k. 0) (λ r. block_spent (λ n. false) (λ n k. 0) f.body)
         (λ r γ s ss z l. budgeted_at r γ s ss z) (function_scope m.program f) (length f.params + link_words f) f.body (λ r. omega arith) begun_all
 
-  bound : IsBounded (device_of (code_of m.program m.regions (may_write m))) (bounds_of (budgets m))
+  bound : IsBounded (device_of (code_of m.program m.regions (may_write m))) (bounds_of m)
   bound =
       let most : total m ≤ total m = omega arith in
-      tree_bounded m.program m.regions (may_write m) (bounds_of (budgets m)) formed tables (is_use m.program) counted (picks m) budgeted (sums m) most (safe_run m)
+      let enough : steps m ≤ steps m = omega arith in
+      tree_bounded m.program m.regions (may_write m) (bounds_of m) formed tables (is_use m.program) counted (picks m) budgeted (sums m) most enough (safe_run m)
 
 -- the budgets of every marked program bound the runs of its code
 pub all_bound : BudgetsBound
 all_bound m is = bound m is
 
 -- and those of an image that is its code
-pub bound_by : (m : TMarked) (image : Parts) → IsMarked m → image ≡ code_of m.program m.regions (may_write m) → IsBounded (device_of image) (bounds_of (budgets m))
-bound_by m image is same = subst (λ i. IsBounded (device_of i) (bounds_of (budgets m))) (sym same) (bound m is)
+pub bound_by : (m : TMarked) (image : Parts) → IsMarked m → image ≡ code_of m.program m.regions (may_write m) → IsBounded (device_of image) (bounds_of m)
+bound_by m image is same = subst (λ i. IsBounded (device_of i) (bounds_of m)) (sym same) (bound m is)

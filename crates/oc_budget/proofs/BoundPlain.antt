@@ -19,7 +19,7 @@ use Rattle.oc_meaning.specs.Uses.{is_use}
 use Rattle.oc_code.specs.Scope.{Named, slot_of, address_slot, passed_slot, is_fresh_in, in_scope, for_named}
 use Rattle.oc_code.proofs.Spent.{IsPlain}
 use Rattle.oc_desugar.proofs.Unbroken.{Unbroken, unbroken}
-use Rattle.oc_formed.proofs.BodiesPass.{AllFine, fine_front, fine_back}
+use Rattle.oc_checked.proofs.BodiesPass.{AllFine, fine_front, fine_back}
 use Rattle.oc_formed.proofs.BodiesArguments.{own_value}
 use Rattle.oc_formed.proofs.BodiesKinds.{found_behind, found_inside}
 use Rattle.oc_formed.proofs.ScopesSeen.{AllFound}

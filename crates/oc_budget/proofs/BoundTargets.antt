@@ -35,8 +35,8 @@ use Rattle.oc_writes.specs.Seen.{stands_in}
 use Rattle.oc_writes.proofs.Standing.{Each, each_map, each_both, standing_is}
 use Rattle.oc_reach.proofs.Lists.{at_place}
 use Rattle.oc_writes.proofs.KeptRules.{Ruled, body_ruled}
-use Rattle.oc_formed.proofs.BodiesFormed.{head_unbroken}
-use Rattle.oc_formed.proofs.BodiesPass.{function_fine}
+use Rattle.oc_checked.proofs.Heads.{head_unbroken}
+use Rattle.oc_checked.proofs.BodiesPass.{function_fine}
 use Rattle.oc_writes.proofs.KeptFunctions.{place_there}
 use Rattle.oc_watch.proofs.Words.{covers}
 use Rattle.oc_budget.proofs.BoundAccess.{param_may, access, name_nv, name_param, Old, SlotIs, block_old, start_old}

@@ -21,13 +21,14 @@ use Rattle.oc_tree.specs.Places.{Place as Spot, Placed, Variables, find_variable
 use Rattle.oc_tree.specs.Places.{stmts_placed}
 use Rattle.oc_tree.proofs.ReachLaws.{or_left, or_right}
 use Rattle.oc_reach.proofs.LinkLaws.{any_append}
-use Rattle.oc_meaning.specs.Uses.{is_annotated, own_names}
+use Rattle.oc_tree.specs.Named.{own_names}
+use Rattle.oc_meaning.specs.Uses.{is_annotated}
 use Rattle.oc_meaning.specs.Uses as meaning
 use Rattle.oc_code.specs.Scope.{InNv, kind_words, param_slot, may_write, Named, named, is_fresh_in, let_named, for_named, in_scope, params_scope, nv_scope, function_scope}
 use Rattle.oc_effects.specs.declared.effect.Note.TheVariants as notes
 use Rattle.oc_effects.specs.Effects.{TEffect, variable_at, variables_at, note_of, effect_of, function_effects}
 use Rattle.oc_flow.specs.Variables.{same_variable}
-use Rattle.oc_formed.proofs.BodiesPass.{first_fails, AllFine}
+use Rattle.oc_checked.proofs.BodiesPass.{first_fails, AllFine}
 use Rattle.oc_tree.specs.Elements.{block_elements, in_function}
 use Rattle.oc_writes.proofs.Standing.{Each, each_map, each_front, each_back, each_both, each_for}
 use Rattle.oc_writes.proofs.KeptNames.{found_on}

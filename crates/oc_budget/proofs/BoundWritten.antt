@@ -34,9 +34,9 @@ use Rattle.oc_code.proofs.Lawful.{Access, right_lawful}
 use Rattle.oc_code.proofs.Closed.{lent_name, name_may, params_within, call_within, tells_nvs}
 use Rattle.oc_desugar.proofs.FineCalls.{CallFine, Each as EachCall, each_back as calls_back}
 use Rattle.oc_desugar.proofs.Unbroken.{Unbroken}
-use Rattle.oc_formed.proofs.BodiesCalls.{last_call}
-use Rattle.oc_formed.proofs.BodiesFormed.{head_unbroken}
-use Rattle.oc_formed.proofs.BodiesPass.{first_fails, second_fails, function_fine}
+use Rattle.oc_checked.proofs.CallLinks.{last_call}
+use Rattle.oc_checked.proofs.Heads.{head_unbroken}
+use Rattle.oc_checked.proofs.BodiesPass.{first_fails, second_fails, function_fine}
 use Rattle.oc_writes.proofs.Standing.{Each, each_map, each_both, each_for, each_all}
 use Rattle.oc_reach.proofs.Lists.{at_place}
 use Rattle.oc_writes.proofs.KeptReach.{none_assigns, none_called, none_writes, none_passes}

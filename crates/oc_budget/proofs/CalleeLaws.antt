@@ -10,9 +10,9 @@ use Rattle.oc_tree.specs.Marked.{TRegion}
 use Rattle.oc_tree.specs.Reach.{leads, some_below, rank}
 use Rattle.oc_tree.specs.Weight.{expr_cost, turns}
 use Rattle.oc_tree.proofs.ReachLaws.{least, or_elim}
-use Rattle.oc_formed.proofs.BodiesPass.{function_fine}
-use Rattle.oc_formed.proofs.CallLinks.{body_away, links_onwards}
-use Rattle.oc_formed.proofs.Ranks.{Onwards, falls}
+use Rattle.oc_checked.proofs.BodiesPass.{function_fine}
+use Rattle.oc_checked.proofs.CallLinks.{body_away, links_onwards}
+use Rattle.oc_checked.proofs.Ranks.{Onwards, falls}
 use Rattle.oc_weight.specs.Order.{IsOrder, comes_back}
 use Rattle.oc_weight.proofs.Callees.{KindsSame}
 use Rattle.oc_weight.proofs.OrderTables.{IsWorked, entry, one_worked, all_worked}

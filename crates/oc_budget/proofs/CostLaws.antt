@@ -22,7 +22,7 @@ use Rattle.oc_desugar.proofs.NumberLists.{is_numbered}
 use Rattle.oc_desugar.proofs.OwnExpansion.{own_expansion}
 use Rattle.oc_desugar.proofs.SizesKept.{unbroken_element}
 use Rattle.oc_desugar.proofs.Unbroken.{Passes, none_broken}
-use Rattle.oc_formed.proofs.BodiesPass.{first_fails, second_fails}
+use Rattle.oc_checked.proofs.BodiesPass.{first_fails, second_fails}
 
 -- ---- what is known of callees
 

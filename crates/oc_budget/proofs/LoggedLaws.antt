@@ -18,11 +18,11 @@ use Rattle.oc_tree.specs.Checked.{Group, IsChecked}
 use Rattle.oc_tree.specs.Marked.{TRegion, TMarked}
 use Rattle.oc_tree.specs.Rules.{has_bad_length}
 use Rattle.oc_effects.specs.Effects.{params_at}
-use Rattle.oc_formed.proofs.Amounts.{few_words}
-use Rattle.oc_formed.proofs.BodiesFormed.{head_unbroken}
-use Rattle.oc_formed.proofs.BodiesPass.{first_fails, second_fails, function_fine}
-use Rattle.oc_formed.proofs.Declared.{AllWithin, all_within}
-use Rattle.oc_formed.proofs.Mains.{head_fine}
+use Rattle.oc_checked.proofs.Amounts.{few_words}
+use Rattle.oc_checked.proofs.Heads.{head_unbroken}
+use Rattle.oc_checked.proofs.BodiesPass.{first_fails, second_fails, function_fine}
+use Rattle.oc_checked.proofs.Declared.{AllWithin, all_within}
+use Rattle.oc_checked.proofs.Mains.{head_fine}
 use Rattle.oc_writes.specs.Targets.{assigns_nv, assigns_param, may_write, nv_targets, param_targets, words_of}
 use Rattle.oc_budget.specs.Budgets.{logged, target_words}
 use Rattle.oc_budget.proofs.ToldLaws.{logged_is}

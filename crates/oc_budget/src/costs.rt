@@ -161,8 +161,9 @@ pub fn budgets_by(
         ≡ code_of marked.now.program marked.now.regions (may_write marked.now) }
     ensures told { IfOk result (λ b. budgets_view b ≡ limited_budgets marked.now) }
     ensures bounds { IfOk result
-        (λ _. IsBounded (device_of image.now) (bounds_of (budgets marked.now))) }
+        (λ _. IsBounded (device_of image.now) (bounds_of marked.now)) }
 {
+    // For the proof alone: it tells that the program is marked.
     marked.checked();
     match all_told(alloc, marked, effects, image) {
         Ok(told) => Ok(told),
@@ -170,12 +171,13 @@ pub fn budgets_by(
     }
 }
 
-/// The same of a program whose effects are not at hand.
+/// The budgets of a program with regions, of which this is the image; its effects are made here. The
+/// sums themselves bound every run of the image.
 pub fn budgets(alloc: Global, marked: &Marked, image: &Image) -> Result<Budgets, Memory>
     requires { image.now ≡ code_of marked.now.program marked.now.regions (may_write marked.now) }
     ensures told { IfOk result (λ b. budgets_view b ≡ limited_budgets marked.now) }
     ensures bounds { IfOk result
-        (λ _. IsBounded (device_of image.now) (bounds_of (budgets marked.now))) }
+        (λ _. IsBounded (device_of image.now) (bounds_of marked.now)) }
 {
     match Effects::new(alloc, marked.checked()) {
         Ok(effects) => budgets_by(alloc, marked, &effects, image),

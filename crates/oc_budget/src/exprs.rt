@@ -26,6 +26,8 @@ fn binary_cost(op: BinaryOp, a: u64, b: u64) -> Option<u64>
     }
 }
 
+/// How many instructions an expression of an expansion takes at most; none where the number doesn't fit
+/// 64 bits.
 pub fn expr_cost(expr: &Expr) -> Option<u64>
     ensures { IsFitted result (expr_cost (expr_view expr.now)) }
 {
@@ -48,6 +50,8 @@ fn arg_cost(arg: &Arg) -> Option<u64>
     }
 }
 
+/// How many instructions the arguments of a call take at most; none where the number doesn't fit
+/// 64 bits.
 pub fn args_cost(args: &[Arg]) -> Option<u64>
     ensures { IsFitted result (args_cost (args_view args.now)) }
 {

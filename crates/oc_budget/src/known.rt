@@ -113,13 +113,16 @@ impl<'a> Known<'a> {
         })
     }
 
+    /// The functions of the program.
     pub fn functions(&self) -> &'a [Function]
         ensures { map function_view result.now ≡ self.now.program.functions }
     {
+        // For the proof alone: the view or the invariant speaks of this field.
         let _marked = self.marked;
         self.functions
     }
 
+    /// The regions of the program.
     pub fn regions(&self) -> &'a [Region]
         ensures { map region_view result.now ≡ self.now.regions }
     {
@@ -132,6 +135,7 @@ impl<'a> Known<'a> {
         ensures { IfOk result (λ m. IsOrder (call_links self.now.program.functions)
             (length self.now.program.functions) m.0) }
     {
+        // For the proof alone: the view or the invariant speaks of this field.
         let _marked = self.marked;
         let order = callees_first(alloc, self.functions, &self.table)?;
         Ok(order.unwrap())
@@ -141,6 +145,7 @@ impl<'a> Known<'a> {
     pub fn place(&self, name: &Name) -> Option<usize>
         ensures { result ≡ function_place self.now.program.functions name.now }
     {
+        // For the proof alone: the view or the invariant speaks of this field.
         let _marked = self.marked;
         self.table.place(name)
     }
@@ -149,6 +154,7 @@ impl<'a> Known<'a> {
     pub fn main_place(&self) -> Option<usize>
         ensures { result ≡ function_place self.now.program.functions (codes "main") }
     {
+        // For the proof alone: the view or the invariant speaks of this field.
         let _marked = self.marked;
         main_place(self.functions)
     }
@@ -157,6 +163,7 @@ impl<'a> Known<'a> {
     pub fn has_result(&self, call: &Call) -> bool
         ensures { result ≡ has_result self.now.program.functions (call_view call.now) }
     {
+        // For the proof alone: the view or the invariant speaks of this field.
         let _marked = self.marked;
         result_at(self.functions, self.place(&call.function))
     }
@@ -165,6 +172,7 @@ impl<'a> Known<'a> {
     pub fn uses(&self, s: StmtId) -> bool
         ensures { result ≡ is_use self.now.program s }
     {
+        // For the proof alone: the view or the invariant speaks of this field.
         let _marked = self.marked;
         has(self.uses.as_slice(), s)
     }
@@ -173,6 +181,7 @@ impl<'a> Known<'a> {
     pub fn marks(&self, s: StmtId) -> u64
         ensures { result ≡ marks_at self.now.regions s }
     {
+        // For the proof alone: the view or the invariant speaks of this field.
         let _marked = self.marked;
         let begins = if has(self.begins.as_slice(), s) { 1 } else { 0 };
         let ends = if has(self.ends.as_slice(), s) { 1 } else { 0 };
@@ -183,6 +192,7 @@ impl<'a> Known<'a> {
     pub fn is_in_region(&self, region: &Region, s: StmtId) -> bool
         ensures { result ≡ is_in_region self.now.program (region_view region.now) s }
     {
+        // For the proof alone: the view or the invariant speaks of this field.
         let _marked = self.marked;
         self.effects.is_in_region(region, s)
     }

@@ -4,8 +4,12 @@
 /// further one makes headway.
 #[derive(Drop)]
 pub struct Budgets {
+    /// The budget of each region, in steps.
     pub regions: Vec<u64>,
+    /// How many words each region logs at most.
     pub logged: Vec<u32>,
+    /// How many instructions a run takes at most.
     pub total: u64,
+    /// How many steps a safe period has.
     pub safe: u64,
 }

@@ -1,5 +1,5 @@
 -- The code of blocks and of functions' bodies.
-use Rattle.std.proofs.Common.{Option, ◌≡◌, ℕ, ◌+◌, ◌≤◌, Bool, true, false, List, [], ◌∷◌, ◌++◌, length, Some, None, refl, sym, ap, ◌∙◌, subst, arith, append-nil, true≢false}
+use Rattle.std.proofs.Common.{Option, ◌≡◌, ℕ, ◌+◌, ◌≤◌, Bool, true, false, List, [], ◌∷◌, ◌++◌, length, Some, refl, sym, ap, ◌∙◌, subst, arith, append-nil, true≢false}
 use Rattle.std.specs.Prelude.{if◌then◌else◌}
 use Rattle.std.specs.Str.{bytes_eq}
 use Rattle.oc_tree.specs.Names.{Text}
@@ -17,13 +17,14 @@ use Rattle.oc_verify.specs.Rules.{run, is_region, returns_right}
 use Rattle.oc_meaning.specs.Exec.{begun_by, ended_by, number_in}
 use Rattle.oc_meaning.specs.Uses.{is_use, begins_use, ends_use}
 use Rattle.oc_code.proofs.Steps.{lt_true}
+use Rattle.oc_code.proofs.Writes.{write_room, room_one, room_two}
 use Rattle.oc_code.proofs.Needs.{right_depth, kind_depth, block_depth, stmts_depth}
-use Rattle.oc_code.specs.Scope.{Slot, InFrame, ByAddress, InNv, NoSlot, Named, named, slot_of, words_of, is_fresh_in, address_slot, in_scope, for_named, let_named}
+use Rattle.oc_code.specs.Scope.{Slot, InFrame, ByAddress, InNv, NoSlot, Named, named, slot_of, words_of, is_fresh_in, in_scope, for_named, let_named}
 use Rattle.oc_code.specs.Forms.{placed, one, enter_code, commit_code, probe_code, write_code, base_code, expr_code, while_code}
 use Rattle.oc_code.specs.Code.{after_code, call_code, right_code, return_code, first_code, whole_code, kind_code, block_code, stmts_code}
 use Rattle.oc_code.specs.Formed.{marks, IsLast, kind_formed, block_formed, stmts_formed}
 use Rattle.oc_builds.proofs.Pieces.{Labels, Nowhere, Home, Ends, join, join_end, none, one_on, one_end}
-use Rattle.oc_builds.proofs.Exprs.{ExprKnown, expr_some, Lies, Sees, R, base_runs, write_room, write_runs, store_runs, index_runs, put_runs, drop_runs, expr_runs}
+use Rattle.oc_builds.proofs.Exprs.{ExprKnown, expr_some, Lies, Sees, R, base_runs, write_runs, store_runs, index_runs, put_runs, drop_runs, expr_runs}
 use Rattle.oc_builds.proofs.Calls.{HasFunctions, call_runs, right_runs}
 use Rattle.oc_builds.proofs.Stmts.{entered, entered_front, MayEnter, KindSeen, BlockSeen, StmtsSeen, probe_runs, enter_runs, commit_runs, one_way_runs, two_way_runs, count_runs, while_runs}
 use Rattle.oc_builds.proofs.Stmts.{array_runs}
@@ -37,18 +38,6 @@ right_some : (need : Text → ℕ) (r : TRight) → 1 ≤ right_depth need r
 right_some need (right_value e) = expr_some e
 right_some need (right_sense s) = omega arith
 right_some need (right_call (call f args)) = omega arith
-
-room_one : (s : Slot) → address_slot s ≡ None → write_room s ≡ 1
-room_one (InFrame s) h = refl
-room_one (ByAddress s) h = absurd (cc)
-room_one (InNv a) h = refl
-room_one NoSlot h = refl
-
-room_two : (s : Slot) → write_room s ≤ 2
-room_two (InFrame s) = omega arith
-room_two (ByAddress s) = omega arith
-room_two (InNv a) = omega arith
-room_two NoSlot = omega arith
 
 lies_some : (home : Home) (s : Slot) (w : ℕ) (b : Bool) → Lies home s w b → b ≡ true → 1 ≤ w
 lies_some home (InFrame s) w b h e = h.0

@@ -24,9 +24,9 @@ use Rattle.oc_tree.specs.Broken.{item_rules, first_broken, broken}
 use Rattle.oc_desugar.proofs.KeptClean.{tally, first_clean, apart_of}
 use Rattle.oc_desugar.proofs.SizesKept.{unbroken_element}
 use Rattle.oc_desugar.proofs.Unbroken.{none_broken}
-use Rattle.oc_formed.proofs.BodiesPass.{first_fails, second_fails}
+use Rattle.oc_checked.proofs.BodiesPass.{first_fails, second_fails}
 use Rattle.oc_verify.specs.Reading.{is_named, each_once}
-use Rattle.oc_apart.proofs.Apart.{place_below}
+use Rattle.oc_checked.proofs.NamesDiffer.{place_below}
 use Rattle.oc_builds.proofs.Reached.{get_there}
 
 -- ---- lists of names

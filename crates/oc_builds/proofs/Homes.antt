@@ -1,6 +1,6 @@
 -- The code of each function of a formed program, with the kinds of its words.
-use Rattle.std.proofs.Common.{Option, ◌≡◌, ℕ, zero, suc, ◌+◌, ◌-◌, ◌<◌, ◌≤◌, Bool, true, false, List, [], ◌∷◌, ◌++◌, length, map, replicate, Some, None, refl, sym, ap, ◌∙◌, subst, ⊎_elim, arith}
-use Rattle.std.proofs.Common.{append-nil, true≢false, nat_eq, nat_le, nat_lt, sum_by, cond}
+use Rattle.std.proofs.Common.{◌≡◌, ℕ, zero, suc, ◌+◌, ◌-◌, ◌<◌, ◌≤◌, Bool, true, false, List, [], ◌∷◌, ◌++◌, length, map, replicate, Some, None, refl, sym, ap, ◌∙◌, subst, ⊎_elim, arith}
+use Rattle.std.proofs.Common.{append-nil, true≢false, nat_eq, nat_le, sum_by, cond}
 use Rattle.std.specs.Prelude.{slice_get, if◌then◌else◌, ◌==◌, ◌&&◌, ◌||◌, not, is_some, codes}
 use Rattle.std.specs.List.{All, list_all}
 use Rattle.std.proofs.lemmas.Bool.Decides.{eqb_tells}
@@ -26,11 +26,13 @@ use Rattle.oc_isa.specs.Image.{Parts}
 use Rattle.oc_verify.specs.declared.kind.Kind.{Kind}
 use Rattle.oc_verify.specs.declared.kind.Kind.TheVariants.{Number}
 use Rattle.oc_verify.specs.Typing.{pair, level, slots_by}
-use Rattle.oc_verify.specs.Rules.{gives as pushes, main_number, nv_words, on_function, own_slots, params_of, run, target_fits, more, is_region, is_retv, returns_right}
+use Rattle.oc_verify.specs.Rules.{gives as pushes, main_number, nv_words, on_function, own_slots, params_of, run, target_fits, is_region, is_retv, returns_right}
 use Rattle.oc_verify.proofs.Cells.{level_below, level_short}
+use Rattle.oc_verify.proofs.Typed.{run_one}
 use Rattle.oc_verify.proofs.SlotLaws.{slot_above, run_above, main_slot, main_run}
 use Rattle.oc_meaning.specs.Exec.{ended_by}
 use Rattle.oc_code.proofs.Needs.{block_depth, need_to}
+use Rattle.oc_code.proofs.Whole.{as_many}
 use Rattle.oc_code.specs.Scope.{InNv, Named, kind_words, param_slot, may_write, params_scope, nv_scope, function_scope}
 use Rattle.oc_code.specs.Forms.{placed, one}
 use Rattle.oc_code.specs.Code.{function_number, block_code, close_code, body_code, function_code, image_function, image_nv, code_of}
@@ -41,7 +43,7 @@ use Rattle.oc_builds.proofs.Calls.{HasFunctions, onto_length, fit_length}
 use Rattle.oc_builds.proofs.Stmts.{BlockSeen}
 use Rattle.oc_builds.proofs.Bodies.{sees_more, stmts_runs, body_ends}
 use Rattle.oc_builds.proofs.Plain.{some_in, gives_is, stmts_plain, body_returns}
-use Rattle.oc_builds.proofs.Placing.{number_found, name_found, as_many, function_in, main_numbered}
+use Rattle.oc_builds.proofs.Placing.{number_found, name_found, function_in, main_numbered}
 
 -- what is asked of a marked program besides its being formed: each name is of one function, a parameter by value has one
 -- word and each other some, elements are of variables with words, regions end in the order in which they begin and are
@@ -80,24 +82,6 @@ level_onto (z ∷ zs) ks zero k e = let n : length ks + 0 ≡ length ks = omega 
     top = grind arith
 level_onto (z ∷ zs) ks (suc j) k e = let n : length ks + suc j ≡ length (z ∷ ks) + j = omega arith in ap (level (onto zs (z ∷ ks))) n ∙ level_onto zs (z ∷ ks) j k e
 
--- a number slot is one place long at least
-run_some : (ss : List (Option Kind)) (s n : ℕ) → level ss s ≡ Some (Some Number) → 1 ≤ run ss s n
-run_some [] s n e = absurd (none-some _ e)
-run_some (k ∷ ss) s n e = ⊎_elim
-    (λ q. let is : s ≡ length ss = q.1 in
-    let top : k ≡ Some Number = grind (arith, is, e) in
-    let on : nat_lt (length ss) s ≡ false = grind (arith, is) in
-    subst (λ m. 1 ≤ m) (sym (ap (λ b. if b then n else run ss s (more k n)) on ∙ past ss s (more k n) (omega (arith, is)) ∙ ap (λ k. more k n) top)) (omega arith))
-    (λ q. let below : level ss s ≡ Some (Some Number) = grind (arith, q.1, e) in
-    let h = level_short ss s (Some Number) below in
-    let on : nat_lt (length ss) s ≡ false = grind (arith, h) in
-    subst (λ m. 1 ≤ m) (sym (ap (λ b. if b then n else run ss s (more k n)) on)) (run_some ss s (more k n) below))
-    (eqb_tells s (length ss))
-  where
-    past : (ss : List (Option Kind)) (s n : ℕ) → length ss ≤ s → run ss s n ≡ n
-    past [] s n h = refl
-    past (k ∷ ss) s n h = let t : nat_lt (length ss) s ≡ true = grind (arith, h) in ap (λ b. if b then n else run ss s (more k n)) t
-
 -- ---- variables at the start of a body
 
 module _ (home : Home) where
@@ -113,7 +97,7 @@ module _ (home : Home) where
   param_lies : (how : Passing) (w s : ℕ) (k : Kind) → KindOf how w k → level home.slots s ≡ Some (Some k) → Lies home (param_slot how s) w (may_write how)
   param_lies Value w s k is at =
       let here : level home.slots s ≡ Some (Some Number) = at ∙ ap (λ k. Some (Some k)) is.0 in
-      let long = run_some home.slots s 0 here in
+      let long = run_one home.slots s 0 here in
       let one = is.1 in
       (omega (arith, one), here, omega (arith, one, long))
   param_lies Shared w s k is at = (is.2, is.0, at ∙ ap (λ k. Some (Some k)) is.1, is.3)

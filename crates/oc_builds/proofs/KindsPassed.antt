@@ -23,13 +23,14 @@ use Rattle.oc_verify.specs.Rules.{code_at, main_number, params_of, calls_of, lai
 use Rattle.oc_verify.proofs.Calls.{call_linked, function_short}
 use Rattle.oc_verify.proofs.Exact.{reach_back, suit_at, front_is, either, or_second}
 use Rattle.oc_tree.proofs.ReachLaws.{links_lead, leads_trans}
+use Rattle.oc_code.proofs.Whole.{as_many}
 use Rattle.oc_code.specs.Scope.{kind_words}
 use Rattle.oc_code.specs.Code.{function_code, code_of}
 use Rattle.oc_code.specs.Formed.{IsFormed}
 use Rattle.oc_builds.proofs.Pieces.{Home, Finds, Kept, CallFinds, KindOf, AreOf, onto}
 use Rattle.oc_builds.proofs.Calls.{onto_length, fit_length}
 use Rattle.oc_builds.proofs.Reached.{GoesOn, reached, kept_at, get_there}
-use Rattle.oc_builds.proofs.Placing.{number_found, name_found, as_many, function_in, main_numbered}
+use Rattle.oc_builds.proofs.Placing.{number_found, name_found, function_in, main_numbered}
 use Rattle.oc_builds.proofs.Homes.{IsPlacedRight, AreKinds, level_onto, home_of, function_ends, params_is}
 
 -- ---- lists of kinds

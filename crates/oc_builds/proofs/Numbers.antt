@@ -44,16 +44,17 @@ use Rattle.oc_verify.specs.Rules.{names_exist, returns_right, slot_right, own_sl
 use Rattle.oc_verify.proofs.Cells.{level_short}
 use Rattle.oc_effects.specs.Effects.{params_at}
 use Rattle.oc_writes.specs.Targets.{assigns_nv, assigns_param, words_of, nv_targets, param_targets, region_targets, may_write}
-use Rattle.oc_formed.proofs.Declared.{AllWithin, all_within}
-use Rattle.oc_formed.proofs.Mains.{head_fine}
-use Rattle.oc_formed.proofs.Amounts.{few_functions}
+use Rattle.oc_checked.proofs.Declared.{AllWithin, all_within}
+use Rattle.oc_checked.proofs.Mains.{head_fine}
+use Rattle.oc_checked.proofs.Amounts.{few_functions}
+use Rattle.oc_code.proofs.Whole.{as_many}
 use Rattle.oc_code.specs.Scope.{function_scope}
 use Rattle.oc_code.specs.Forms.{one}
 use Rattle.oc_code.specs.Code.{body_code, close_code, function_code, image_function, image_nv, code_of}
 use Rattle.oc_code.specs.Formed.{IsFormed}
 use Rattle.oc_builds.proofs.Calls.{onto_length, fit_length}
 use Rattle.oc_builds.proofs.Reached.{stands}
-use Rattle.oc_builds.proofs.Placing.{covers, laid_of, function_in, as_many}
+use Rattle.oc_builds.proofs.Placing.{covers, laid_of, function_in}
 use Rattle.oc_builds.proofs.Homes.{params_is}
 use Rattle.oc_builds.proofs.KindsPassed.{canon_of, static}
 use Rattle.oc_builds.proofs.Rooms.{names_there, returns_there}

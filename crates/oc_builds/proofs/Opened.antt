@@ -2,8 +2,7 @@
 use Rattle.std.proofs.Common.{◌≡◌, ◌<◌, ◌≤◌, ℕ, zero, suc, ◌+◌, Bool, true, false, true≢false, List, [], ◌∷◌, ◌++◌, length, Some, None, refl, ap, sym, ◌∙◌, subst, ⊎_elim, inl, inr, arith}
 use Rattle.std.proofs.Common.{length-append, append-nil, flat_map}
 use Rattle.std.specs.Prelude.{slice_get, ◌==◌, ◌&&◌, ◌||◌, ◌⊎◌, nat_lt, nat_le, if◌then◌else◌}
-use Rattle.std.specs.List.{list_any, AllPairs}
-use Rattle.std.specs.Prelude.{slice_index_or}
+use Rattle.std.specs.List.{list_any}
 use Rattle.std.proofs.lemmas.Bool.{and_parts, eqb-true, eq-eqb, ne_eqb, le-leb, lt-ltb}
 use Rattle.std.proofs.lemmas.Option.{none-some, same_Some}
 use Rattle.oc_tree.specs.Tree.{TKind, let_to, let_array, assign, assign_index, assign_deref, if_else, for_in, while_do, call_only, sense_only, emit, fresh, consistent, return}
@@ -16,11 +15,10 @@ use Rattle.oc_tree.specs.Marked.{TRegion, around, is_in_region, covers, AreRegio
 use Rattle.oc_meaning.specs.Exec.{begun_by, ended_by}
 use Rattle.oc_desugar.proofs.NumberLists.{Follow, first_of, parts}
 use Rattle.oc_desugar.proofs.BlockPairs.{kind_pairs, else_pairs, block_pairs, stmts_pairs, program_pairs, block_there}
-use Rattle.oc_formed.proofs.BlockRanges.{EachPair, Ranged, kind_ranged, else_ranged, block_ranged, stmts_ranged, functions_ranged}
-use Rattle.oc_formed.proofs.RegionCounts.{EachRegion, InBlock, Gap}
-use Rattle.oc_formed.proofs.RegionsApart.{in_blocks}
-use Rattle.oc_formed.proofs.PairsAround.{Around, around_less, in_block_range, in_block_gap}
-use Rattle.oc_formed.proofs.RowsAround.{Part, part_first, part_second, Known, inside_part, rest_part}
+use Rattle.oc_checked.proofs.BlockRanges.{EachPair, Ranged, kind_ranged, else_ranged, block_ranged, stmts_ranged, functions_ranged}
+use Rattle.oc_checked.proofs.RegionsApart.{EachRegion, InBlock, Pairs, pairs_of, in_blocks}
+use Rattle.oc_checked.proofs.PairsAround.{Gap, Around, around_less, in_block_range, in_block_gap}
+use Rattle.oc_checked.proofs.RowsAround.{Part, part_first, part_second, Known, inside_part, rest_part}
 use Rattle.oc_builds.proofs.Stmts.{entered}
 
 -- ---- statements whose regions end in the order in which they begin
@@ -88,22 +86,6 @@ is_open_so b n r e f g = both (r.block == b) (nat_lt r.first n && nat_le n r.las
 not_so : (b : Bool) → (b ≡ true → ⊥) → b ≡ false
 not_so true h = absurd (h refl)
 not_so false h = refl
-
--- of each region with the later ones
-abbrev Pairs : (TRegion → TRegion → Type 0) → List TRegion → Type 0
-Pairs Q [] = Unit {0}
-Pairs Q (r ∷ rs) = EachRegion (Q r) rs × Pairs Q rs
-
-each_of : (P : TRegion → Type 0) (rs : List TRegion) → ((j : ℕ) (d : TRegion) → j < length rs → P (slice_index_or rs j d)) → EachRegion P rs
-each_of P [] h = tt
-each_of P (r ∷ rs) h = (h 0 r (omega arith), each_of P rs (λ j d l. h (suc j) d (omega (arith, l))))
-
-pairs_of : (Q : TRegion → TRegion → Type 0) (rs : List TRegion) → AllPairs Q rs → Pairs Q rs
-pairs_of Q [] h = tt
-pairs_of Q (r ∷ rs) h =
-    let first : EachRegion (Q r) rs = each_of (Q r) rs (λ j d l. h 0 (suc j) d (omega arith) (omega (arith, l))) in
-    let others : AllPairs Q rs = λ i j d l m. h (suc i) (suc j) d (omega (arith, l)) (omega (arith, m)) in
-    (first, pairs_of Q rs others)
 
 module _ (p : TProgram) where
   abbrev Spot : TRegion → Type 0

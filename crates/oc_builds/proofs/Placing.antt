@@ -41,10 +41,6 @@ module _ (p : TProgram) (regions : List TRegion) where
   abbrev fc : ℕ → TFunction → List Placed
   fc = function_code p regions
 
-  pub as_many : (at : ℕ) (fs : List TFunction) → length (image_functions p regions at fs) ≡ length fs
-  as_many at [] = refl
-  as_many at (f ∷ fs) = ap suc (as_many (at + length (fc at f)) fs)
-
   main_is : (n at : ℕ) (fs : List TFunction) → main_from n (image_functions p regions at fs) ≡ n + function_number fs (codes "main")
   main_is n at [] = omega arith
   main_is n at (f ∷ fs) = by (is_main f.name) (bytes_eq (codes "main") f.name) (name_eq_sym f.name (codes "main")) (main_is (suc n) (at + length (fc at f)) fs)

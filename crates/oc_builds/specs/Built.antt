@@ -18,8 +18,10 @@ MarkedImagesBreakNoRule =
 
 -- where its names are names of the language and its lengths fit the numbers of a file, a file of its bytes holds this image
 abbrev pub FitsFiles : Parts → Type 0
-FitsFiles image = IsSmall image → All (λ f. IsName f.name) image.functions → AreImage (image_bytes image) image
+FitsFiles image =
+    IsSmall image → All (λ f. IsName f.name) image.functions → AreImage (image_bytes image) image
 
 -- so it is with the image of a marked program
 abbrev pub MarkedImagesFitFiles : Type 0
-MarkedImagesFitFiles = (m : TMarked) → IsMarked m → FitsFiles (code_of m.program m.regions (may_write m))
+MarkedImagesFitFiles =
+    (m : TMarked) → IsMarked m → FitsFiles (code_of m.program m.regions (may_write m))

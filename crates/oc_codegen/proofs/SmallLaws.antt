@@ -19,10 +19,10 @@ use Rattle.oc_code.specs.Scope.{Named, in_scope, for_named, function_scope}
 use Rattle.oc_code.specs.Formed.{kind_formed, else_formed, block_formed, stmts_formed, body_formed, IsLast}
 use Rattle.oc_desugar.proofs.FewStatements.{few_statements}
 use Rattle.oc_desugar.proofs.SizesKept.{unbroken_element}
-use Rattle.oc_formed.proofs.Amounts.{few_functions as functions_few}
-use Rattle.oc_formed.proofs.Declared.{AllWithin, all_within}
+use Rattle.oc_checked.proofs.Amounts.{few_functions as functions_few}
+use Rattle.oc_checked.proofs.Declared.{AllWithin, all_within}
 use Rattle.oc_formed.proofs.Law.{checked_formed}
-use Rattle.oc_formed.proofs.Mains.{head_fine}
+use Rattle.oc_checked.proofs.Mains.{head_fine}
 use Rattle.oc_codegen.specs.Small.{kind_bounded, else_bounded, block_bounded, stmts_bounded, IsSmall}
 
 -- A statement takes at most 65,537 slots: an array's words, and a counter.

@@ -16,7 +16,14 @@ slot_view Nowhere = scopes.NoSlot
 
 -- a variable with its name
 abbrev pub named_view : Text → Variable → Named
-named_view x v = record { name = x; slot = slot_view v.slot; words = v.words; writable = v.writable; fresh = v.fresh }
+named_view x v =
+    record {
+      name = x;
+      slot = slot_view v.slot;
+      words = v.words;
+      writable = v.writable;
+      fresh = v.fresh;
+    }
 
 abbrev pub binding_view : Binding → Named
 binding_view b = named_view b.name.now b.variable

@@ -26,6 +26,7 @@ impl Model for Buffer {
 }
 
 impl Buffer {
+    /// No instructions yet. It takes no memory.
     pub fn new(alloc: Global) -> Buffer
         ensures { result ≡ [] }
     {

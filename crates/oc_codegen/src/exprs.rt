@@ -2,7 +2,7 @@
 ghost use Rattle.std.specs.Prelude.{◌≡◌, ◌<◌, pos, ◌+◌, ◌++◌, ◌∷◌, length, slice_set, OnOk, IfOk};
 ghost use Rattle.oc_tree.specs.Word.{truth};
 ghost use Rattle.oc_tree.specs.View.{arg_view, args_view, expr_view};
-ghost use Rattle.oc_isa.specs.declared.instr.Instr.TheVariants.{Push, Jump, Jfalse};
+ghost use Rattle.oc_isa.specs.declared.instr.Instr.TheVariants.{Get, Index, Push, Jump, Jfalse};
 ghost use Rattle.oc_code.specs.Forms.{placed, one, read_code, write_code, base_code, expr_code, arg_code, args_code};
 ghost use Rattle.oc_code.specs.Scope.{passed_slot};
 ghost use Rattle.oc_codegen.specs.Slots.{slot_view};
@@ -89,6 +89,15 @@ pub fn base(code: &mut Buffer, n: u32, slot: Slot) -> Result<(), AllocError>
     }
 }
 
+/// The value of an element of an array of so many words, behind its address and the index.
+fn element(code: &mut Buffer, n: u32, words: u32) -> Result<(), AllocError>
+    requires { HasRoom code.old (placed n (Index words) ∷ one n Get) }
+    ensures { OnOk result (code.new ≡ code.old ++ placed n (Index words) ∷ one n Get) }
+{
+    code.put(n, Instr::Index { n: words })?;
+    code.put(n, Instr::Get)
+}
+
 fn word_of(value: bool) -> i32
     ensures { result ≡ truth value }
 {
@@ -140,13 +149,7 @@ pub fn expr(code: &mut Buffer, scope: &Scope, n: u32, expression: &Expr) -> Resu
         Expr::Index { array, index } => {
             base(code, n, scope.slot(array))?;
             expr(code, scope, n, index)?;
-            code.put(
-                n,
-                Instr::Index {
-                    n: scope.words(array),
-                },
-            )?;
-            code.put(n, Instr::Get)
+            element(code, n, scope.words(array))
         }
         Expr::Unary { op, inner } => {
             expr(code, scope, n, inner)?;

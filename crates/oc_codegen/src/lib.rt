@@ -50,6 +50,7 @@ pub fn compile(alloc: Global, marked: &Marked, writes: &WriteSets) -> Result<Ima
     // Its runs are those of the program.
     ensures right { IsRight marked.now.program marked.now.regions (may_write marked.now) }
 {
+    // For the proof alone: it tells that the program is marked.
     let _checked = marked.checked();
     match raw(alloc, marked, writes) {
         Ok(raw) => Ok(Image::new(raw)),

@@ -3,13 +3,13 @@ ghost use Rattle.std.specs.Prelude.{◌≡◌, ◌≤◌, ◌+◌, ◌++◌, [],
 ghost use Rattle.std.specs.List.{All};
 ghost use Rattle.oc_tree.specs.Calls.{function_place};
 ghost use Rattle.oc_tree.specs.Regions.{region_view};
-ghost use Rattle.oc_tree.specs.Sizes.{function_limit, parameter_limit, word_limit};
+ghost use Rattle.oc_tree.specs.Sizes.{function_limit, name_limit, parameter_limit, word_limit};
 ghost use Rattle.oc_tree.specs.Stack.{frame, link_words, stacks_to};
 ghost use Rattle.oc_tree.specs.View.{function_view, program_view};
 ghost use Rattle.oc_tree.specs.Weight.{known_of};
 ghost use Rattle.oc_isa.specs.Image.{parts_of};
 ghost use Rattle.oc_code.specs.Scope.{kind_words, nv_scope, param_slot, params_scope, may_write};
-ghost use Rattle.oc_code.specs.Code.{block_code, close_code, code_of, image_nv};
+ghost use Rattle.oc_code.specs.Code.{block_code, close_code, code_of, functions_code, image_functions, image_nv};
 ghost use Rattle.oc_code.specs.Formed.{IsFormed};
 ghost use Rattle.oc_codegen.specs.Room.{HasRoom};
 ghost use Rattle.oc_codegen.specs.Small.{IsSmall};
@@ -206,6 +206,45 @@ fn main_stack(alloc: Global, functions: &[Function]) -> Result<u32, AllocError>
     Ok(stack as u32)
 }
 
+/// The functions of a program with these regions, whose code is written to an empty buffer.
+fn functions(
+    alloc: Global,
+    program: &Program,
+    regions: &[Region],
+    code: &mut Buffer,
+) -> Result<Vec<ImageFunction>, AllocError>
+    requires sensors { length program.now.names.sensors.items ≤ name_limit }
+    requires ports { length program.now.names.ports.items ≤ name_limit }
+    requires few { length program.now.functions.items ≤ function_limit }
+    requires small { All (λ f. IsSmall (function_view f)) program.now.functions.items }
+    requires words { sum_by (λ d. d.words) program.now.nv.items ≤ word_limit }
+    requires empty { code.old ≡ [] }
+    requires room { HasRoom [] (functions_code (program_view program.now)
+        (map region_view regions.now) 0 (map function_view program.now.functions.items)) }
+    ensures code { OnOk result
+        (code.new
+        ≡ functions_code (program_view program.now) (map region_view regions.now) 0
+        (map function_view program.now.functions.items)) }
+    ensures entries { IfOk result
+        (λ fs. fs.items
+        ≡ image_functions (program_view program.now) (map region_view regions.now) 0
+        (map function_view program.now.functions.items)) }
+{
+    let mut setting = Setting::new(alloc, program, regions)?;
+    let mut scope = Scope::new(alloc);
+    declare_nvs(
+        &mut scope,
+        0,
+        program.names.nvs.as_slice(),
+        program.nv.as_slice(),
+    )?;
+    let mut functions = Vec::new(alloc);
+    for next in &program.functions {
+        functions.push(function(alloc, code, &mut setting, &mut scope, next)?)?;
+    }
+    Ok(functions)
+}
+
 /// The image of a formed program with these regions, of which each may overwrite these targets.
 pub fn raw_image(
     alloc: Global,
@@ -222,25 +261,17 @@ pub fn raw_image(
         ≡ code_of (program_view program.now) (map region_view regions.now)
         (map (λ v. v.items) targets.items)) }
 {
-    let mut setting = Setting::new(alloc, program, regions)?;
-    let mut scope = Scope::new(alloc);
+    let stack = main_stack(alloc, program.functions.as_slice())?;
+    let nv = image_nvs(alloc, program.nv.as_slice())?;
+    let names = program.names.try_clone(alloc)?;
     let mut code = Buffer::new(alloc);
-    declare_nvs(
-        &mut scope,
-        0,
-        program.names.nvs.as_slice(),
-        program.nv.as_slice(),
-    )?;
-    let mut functions = Vec::new(alloc);
-    for next in &program.functions {
-        functions.push(function(alloc, &mut code, &mut setting, &mut scope, next)?)?;
-    }
+    let functions = functions(alloc, program, regions, &mut code)?;
     Ok(RawImage {
-        names: program.names.try_clone(alloc)?,
+        names,
         functions,
         targets,
-        nv: image_nvs(alloc, program.nv.as_slice())?,
+        nv,
         code: code.into_code(),
-        stack: main_stack(alloc, program.functions.as_slice())?,
+        stack,
     })
 }

@@ -51,6 +51,7 @@ impl<'a> Model for Scope<'a> {
 }
 
 impl<'a> Scope<'a> {
+    /// No variable is visible. It takes no memory.
     pub fn new(alloc: Global) -> Scope<'a>
         ensures { result ≡ [] }
     {

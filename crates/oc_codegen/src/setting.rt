@@ -56,6 +56,8 @@ impl<'a> Model for Setting<'a> {
 }
 
 impl<'a> Setting<'a> {
+    /// The setting of a function without parameters, until one is entered. On want of memory there is
+    /// none.
     pub fn new(
         alloc: Global,
         program: &'a Program,
@@ -89,12 +91,14 @@ impl<'a> Setting<'a> {
         self.params = params;
     }
 
+    /// How many parameters the function has.
     pub fn params(&self) -> u32
         ensures { result ≡ self.now.params }
     {
         self.params
     }
 
+    /// The number of the sensor of a name, or how many there are where none has it.
     #[tactic(auto, using(crate::proofs::NamePlaces::number_within))]
     pub fn sensor(&self, name: &Name) -> u32
         ensures { result ≡ number_in self.now.names.sensors name.now }
@@ -102,6 +106,7 @@ impl<'a> Setting<'a> {
         place_in(self.program.names.sensors.as_slice(), name) as u32
     }
 
+    /// The number of the port of a name, or how many there are where none has it.
     #[tactic(auto, using(crate::proofs::NamePlaces::number_within))]
     pub fn port(&self, name: &Name) -> u32
         ensures { result ≡ number_in self.now.names.ports name.now }
@@ -109,6 +114,7 @@ impl<'a> Setting<'a> {
         place_in(self.program.names.ports.as_slice(), name) as u32
     }
 
+    /// The place of the function of a name, or how many there are where none has it.
     pub fn function(&self, name: &Name) -> u32
         ensures { result ≡ function_number self.now.functions name.now }
     {

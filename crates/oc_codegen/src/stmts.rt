@@ -1,11 +1,11 @@
 //! The code of statements.
 ghost use Rattle.std.specs.Prelude.{◌≡◌, ◌<◌, ◌+◌, ◌++◌, length, slice_set, OnOk, IfOk};
-ghost use Rattle.oc_tree.specs.Tree.{for_in};
-ghost use Rattle.oc_tree.specs.View.{block_view, kind_view, stmts_view};
+ghost use Rattle.oc_tree.specs.Tree.{for_in, while_do};
+ghost use Rattle.oc_tree.specs.View.{block_view, expr_view, kind_view, stmts_view};
 ghost use Rattle.oc_isa.specs.declared.instr.Instr.TheVariants.{Jump, Jfalse};
 ghost use Rattle.oc_meaning.specs.Uses.{is_use};
 ghost use Rattle.oc_code.specs.Forms.{placed, one};
-ghost use Rattle.oc_code.specs.Scope.{in_scope};
+ghost use Rattle.oc_code.specs.Scope.{in_scope, is_fresh_in};
 ghost use Rattle.oc_tree.specs.Stack.{block_slots, kind_slots};
 ghost use Rattle.oc_code.specs.Code.{block_code, first_code, kind_code, whole_code};
 ghost use Rattle.oc_codegen.specs.Room.{HasRoom};
@@ -80,6 +80,48 @@ fn for_in<'a>(
     let next = block(code, setting, scope, slot + 1, body)?;
     close_count(code, n, slot, start)?;
     scope.truncate(visible);
+    Ok(next)
+}
+
+/// A `while` of at most so many turns, with its probes if it is a use.
+#[cycle(stmts)]
+fn while_do<'a>(
+    code: &mut Buffer,
+    setting: &Setting,
+    scope: &mut Scope<'a>,
+    n: u32,
+    slot: u32,
+    used: bool,
+    bound: u32,
+    body: &'a Block,
+    condition: &Expr,
+) -> Result<u32, AllocError>
+    requires used { used ≡ is_use (is_fresh_in scope.old)
+        (while_do (expr_view condition.now) bound (block_view body.now)) }
+    requires room { HasRoom code.old (kind_code setting.now.names setting.now.functions
+        setting.now.regions setting.now.params scope.old n slot (length code.old)
+        (while_do (expr_view condition.now) bound (block_view body.now))) }
+    requires slots { slot
+        + kind_slots (while_do (expr_view condition.now) bound (block_view body.now))
+        < 2147483648 }
+    requires bounded { kind_bounded
+        (while_do (expr_view condition.now) bound (block_view body.now)) }
+    ensures code { OnOk result
+        (code.new ≡ code.old
+        ++ kind_code setting.now.names setting.now.functions setting.now.regions setting.now.params
+        scope.old n slot (length code.old)
+        (while_do (expr_view condition.now) bound (block_view body.now))) }
+    ensures next { IfOk result
+        (λ next. next
+        ≡ slot + kind_slots (while_do (expr_view condition.now) bound (block_view body.now))) }
+    ensures scope { OnOk result (scope.new ≡ scope.old) }
+{
+    let start = open_count(code, n, slot, 0, bound as i32)?;
+    test(code, scope, n, used, condition)?;
+    let exit = code.open(n)?;
+    let next = block(code, setting, scope, slot + 1, body)?;
+    close_while(code, n, slot, start, exit)?;
+    probe(code, n, used, ProbeKind::Done)?;
     Ok(next)
 }
 
@@ -161,13 +203,7 @@ fn kind<'a>(
             body,
         } => {
             let used = is_use(scope, kind);
-            let start = open_count(code, n, slot, 0, *bound as i32)?;
-            test(code, scope, n, used, condition)?;
-            let exit = code.open(n)?;
-            let next = block(code, setting, scope, slot + 1, body)?;
-            close_while(code, n, slot, start, exit)?;
-            probe(code, n, used, ProbeKind::Done)?;
-            Ok(next)
+            while_do(code, setting, scope, n, slot, used, *bound, body, condition)
         }
         StmtKind::CallOnly { call } => {
             call_only(code, setting, scope, n, call)?;
@@ -183,13 +219,7 @@ fn kind<'a>(
         }
         StmtKind::Fresh { .. } => Ok(slot),
         StmtKind::Consistent { .. } => {
-            code.put(
-                n,
-                Instr::Probe {
-                    kind: ProbeKind::Tag,
-                    n,
-                },
-            )?;
+            probe(code, n, true, ProbeKind::Tag)?;
             Ok(slot)
         }
         StmtKind::Return { value } => {

@@ -2,7 +2,8 @@
 ghost use Rattle.std.specs.Prelude.{◌≡◌};
 ghost use Rattle.std.specs.List.{list_any};
 ghost use Rattle.oc_tree.specs.View.{arg_view, args_view, call_view, expr_view, kind_view, right_view};
-ghost use Rattle.oc_meaning.specs.Uses.{arg_names, args_names, call_names, expr_names, right_names, is_use};
+ghost use Rattle.oc_tree.specs.Walks.{arg_named, args_named, call_named, expr_named, kind_named, right_named};
+ghost use Rattle.oc_meaning.specs.Uses.{is_use};
 ghost use Rattle.oc_code.specs.Scope.{is_fresh_in};
 
 use crate::scope::Scope;
@@ -10,7 +11,7 @@ use oc_tree::tree::{Arg, Call, Expr, Right, StmtKind};
 
 #[cycle(fresh)]
 fn expr_has(scope: &Scope, expr: &Expr) -> bool
-    ensures { result ≡ list_any (is_fresh_in scope.now) (expr_names (expr_view expr.now)) }
+    ensures { result ≡ list_any (is_fresh_in scope.now) (expr_named (expr_view expr.now)) }
 {
     match expr {
         Expr::Number { .. } => false,
@@ -27,7 +28,7 @@ fn expr_has(scope: &Scope, expr: &Expr) -> bool
 
 #[cycle(fresh)]
 fn arg_has(scope: &Scope, arg: &Arg) -> bool
-    ensures { result ≡ list_any (is_fresh_in scope.now) (arg_names (arg_view arg.now)) }
+    ensures { result ≡ list_any (is_fresh_in scope.now) (arg_named (arg_view arg.now)) }
 {
     match arg {
         Arg::Value { value } => expr_has(scope, value),
@@ -38,7 +39,7 @@ fn arg_has(scope: &Scope, arg: &Arg) -> bool
 
 #[cycle(fresh)]
 fn args_have(scope: &Scope, args: &[Arg]) -> bool
-    ensures { result ≡ list_any (is_fresh_in scope.now) (args_names (args_view args.now)) }
+    ensures { result ≡ list_any (is_fresh_in scope.now) (args_named (args_view args.now)) }
 {
     for arg in args {
         if arg_has(scope, arg) {
@@ -50,13 +51,13 @@ fn args_have(scope: &Scope, args: &[Arg]) -> bool
 
 #[cycle(fresh)]
 fn call_has(scope: &Scope, call: &Call) -> bool
-    ensures { result ≡ list_any (is_fresh_in scope.now) (call_names (call_view call.now)) }
+    ensures { result ≡ list_any (is_fresh_in scope.now) (call_named (call_view call.now)) }
 {
     args_have(scope, call.args.as_slice())
 }
 
 fn right_has(scope: &Scope, right: &Right) -> bool
-    ensures { result ≡ list_any (is_fresh_in scope.now) (right_names (right_view right.now)) }
+    ensures { result ≡ list_any (is_fresh_in scope.now) (right_named (right_view right.now)) }
 {
     match right {
         Right::Value { value } => expr_has(scope, value),
@@ -65,9 +66,8 @@ fn right_has(scope: &Scope, right: &Right) -> bool
     }
 }
 
-/// Whether a statement names a fresh variable.
-pub fn is_use(scope: &Scope, kind: &StmtKind) -> bool
-    ensures { result ≡ is_use (is_fresh_in scope.now) (kind_view kind.now) }
+fn kind_has(scope: &Scope, kind: &StmtKind) -> bool
+    ensures { result ≡ list_any (is_fresh_in scope.now) (kind_named (kind_view kind.now)) }
 {
     match kind {
         StmtKind::Let { right, .. } => right_has(scope, right),
@@ -86,4 +86,11 @@ pub fn is_use(scope: &Scope, kind: &StmtKind) -> bool
         StmtKind::Consistent { .. } => false,
         StmtKind::Return { value } => expr_has(scope, value),
     }
+}
+
+/// Whether a statement names a fresh variable.
+pub fn is_use(scope: &Scope, kind: &StmtKind) -> bool
+    ensures { result ≡ is_use (is_fresh_in scope.now) (kind_view kind.now) }
+{
+    kind_has(scope, kind)
 }

@@ -8,8 +8,8 @@ use Rattle.oc_tree.specs.Calls.{place_from, reaches_mention}
 use Rattle.oc_tree.specs.Scope.{is_name_of}
 use Rattle.oc_meaning.specs.Store.{Place, Local, Global, Turn, Nowhere, binding_of, place_of, Store}
 use Rattle.oc_meaning.specs.Run.{nv_env, function_named}
-use Rattle.oc_formed.proofs.Declared.{all_within}
-use Rattle.oc_formed.proofs.Mains.{own_place}
+use Rattle.oc_checked.proofs.Declared.{all_within}
+use Rattle.oc_checked.proofs.Mains.{own_place}
 use Rattle.oc_copies.specs.Copies.{CallsCopy, CallsCopyBack, MayPass}
 use Rattle.oc_tree.specs.Tree.{TFunction, TProgram}
 use Rattle.oc_tree.specs.Checked.{Group, IsChecked}

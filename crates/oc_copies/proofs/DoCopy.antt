@@ -9,12 +9,12 @@ use Rattle.oc_tree.specs.declared.tree.NvDecl.{NvDecl}
 use Rattle.oc_tree.specs.Checked.{Group, IsChecked}
 use Rattle.oc_tree.specs.Marked.{TRegion}
 use Rattle.oc_tree.specs.Calls.{function_place}
-use Rattle.oc_tree.specs.Rules.{args_known}
+use Rattle.oc_tree.specs.Walks.{args_known}
 use Rattle.oc_meaning.specs.Store.{Store, Global, Turn}
 use Rattle.oc_meaning.specs.Exec.{Passed, Went, Returned, Stopped}
 use Rattle.oc_meaning.specs.Run.{function_named, function_run, call_to, first_values, first_store}
-use Rattle.oc_formed.proofs.Declared.{all_within}
-use Rattle.oc_formed.proofs.Mains.{main_called, main_takes_none}
+use Rattle.oc_checked.proofs.Declared.{all_within}
+use Rattle.oc_checked.proofs.Mains.{main_called, main_takes_none}
 use Rattle.oc_copies.specs.Copies.{AreCopies, AreCopiedBack, own_run, beside, MayPass, HasStored, CopiesTellTheSame}
 use Rattle.oc_copies.specs.Stands.{AreFormed, DoesCopy, CallsDoCopy, MainCopies}
 use Rattle.oc_copies.proofs.Lawful.{is_there, found_named}

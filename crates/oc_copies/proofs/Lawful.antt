@@ -1,10 +1,10 @@
 -- Bodies of a checked program are lawful: they name nothing hidden, assign no parameter by `&`, and lend it to such ones alone.
-use Rattle.std.proofs.Common.{◌≡◌, ℕ, suc, ◌+◌, Bool, true, false, true≢false, List, [], ◌∷◌, ◌++◌, length, Option, Some, None, cond, refl, ap, sym, ◌∙◌, subst, arith}
+use Rattle.std.proofs.Common.{◌≡◌, ℕ, ◌+◌, Bool, true, false, true≢false, List, [], ◌∷◌, ◌++◌, length, Option, Some, None, cond, refl, ap, sym, ◌∙◌, subst, arith}
 use Rattle.std.specs.Prelude.{◌&&◌, ◌||◌, ◌==◌, not, nat_lt, is_some, slice_get, option_and_then, if◌then◌else◌}
 use Rattle.std.specs.Str.{bytes_eq}
 use Rattle.std.proofs.lemmas.Bool.{eqb-true, ltb-false, and_parts}
 use Rattle.std.proofs.lemmas.Slice.Eq.{bytes_eq-Decides}
-use Rattle.std.proofs.lemmas.Option.{none-some, same_Some}
+use Rattle.std.proofs.lemmas.Option.{none-some}
 use Rattle.oc_tree.specs.Names.{Text}
 use Rattle.oc_tree.specs.Tree.{TCall, call, TRight, right_value, right_sense, right_call, TKind, let_to, let_array, assign, assign_index, assign_deref, if_else, for_in, while_do}
 use Rattle.oc_tree.specs.Tree.{call_only, sense_only, emit, fresh, consistent, return, TElse, no_else, else_do, stmt, TBlock, block, TStmts, no_stmts, more, TFunction, TProgram}
@@ -14,8 +14,8 @@ use Rattle.oc_tree.specs.declared.tree.Passing.TheVariants as passings
 use Rattle.oc_tree.specs.declared.scope.Origin.{Origin}
 use Rattle.oc_tree.specs.declared.scope.Origin.TheVariants as origins
 use Rattle.oc_tree.specs.declared.scope.Var.{Var}
-use Rattle.oc_tree.specs.Mentions.{expr_mentions, call_mentions, right_mentions, own_mentions, targets, annotates, own_names}
-use Rattle.oc_tree.specs.Calls.{place_from, function_names, function_place, callee, expr_calls, call_calls, args_calls, right_calls, own_calls, kind_hides, kind_kinds, else_kinds}
+use Rattle.oc_tree.specs.Mentions.{own_mentions, targets, annotates, is_named}
+use Rattle.oc_tree.specs.Calls.{function_place, callee, expr_calls, call_calls, args_calls, right_calls, own_calls, kind_hides, kind_kinds, else_kinds}
 use Rattle.oc_tree.specs.Calls.{block_kinds, stmts_kinds, has_param, reaches_mention}
 use Rattle.oc_tree.specs.Scope.{Scope, variable_in, variable_of, is_variable, is_in_scope, is_name_of, is_declared, is_taken, param_var, with_param, with_params, takes_param}
 use Rattle.oc_tree.specs.Scope.{function_named as rule_named}
@@ -23,15 +23,17 @@ use Rattle.oc_tree.specs.Elements.{Here, inside, in_turn, before_stmts, scope_af
 use Rattle.oc_tree.specs.Elements.{in_function, function_item}
 use Rattle.oc_tree.specs.Broken.{item_rules}
 use Rattle.oc_tree.specs.Checked.{Group, IsChecked}
-use Rattle.oc_tree.specs.Rules.{takes_name, call_known, args_known, expr_known, right_known, callee_params, params_of, args_meet, args_list, origin_is, is_writable}
+use Rattle.oc_tree.specs.Rules.{takes_name, callee_params, params_of, args_meet, args_list, origin_is, is_writable}
 use Rattle.oc_tree.specs.Rules.{is_writable_array, is_mutable_param}
-use Rattle.oc_meaning.specs.Uses.{expr_names, right_names}
-use Rattle.oc_meaning.specs.Uses.{own_names as said_names}
+use Rattle.oc_tree.specs.Named.{own_names as said_names}
+use Rattle.oc_tree.specs.Walks.{expr_named, right_named, kind_named, inner_mentions, kind_mentions, expr_mentions, right_mentions, call_known, args_known, expr_known, right_known}
+use Rattle.oc_tree.proofs.PartLaws.{names_of_own, mentions_of_own}
 use Rattle.oc_meaning.specs.Run.{function_named}
+use Rattle.oc_meaning.proofs.Functions.{named_at}
 use Rattle.oc_desugar.proofs.FineCalls.{CallFine, Each as EachCall, each_back as calls_back}
 use Rattle.oc_desugar.proofs.Unbroken.{Passes, none_broken, Unbroken, unbroken}
-use Rattle.oc_formed.proofs.BodiesPass.{first_fails, second_fails, AllFine, fine_front, fine_back, function_fine}
-use Rattle.oc_formed.proofs.CallLinks.{none_hides}
+use Rattle.oc_checked.proofs.BodiesPass.{first_fails, second_fails, AllFine, fine_front, fine_back, function_fine}
+use Rattle.oc_checked.proofs.CallLinks.{none_hides}
 use Rattle.oc_copies.proofs.Twins.{Flags, flag_of, is_shared, flags_behind, Shown, IsLawfulCall, IsLawfulRight, IsLawful, IsLawfulElse, IsLawfulBlock, AreLawfulAll}
 use Rattle.oc_copies.proofs.TwinCalls.{start_flags}
 use Rattle.oc_copies.proofs.LeadToNone.{EachKind, kinds_front, kinds_back}
@@ -39,18 +41,6 @@ use Rattle.oc_copies.proofs.Reached.{none_names, none_called}
 use Rattle.oc_copies.proofs.LawfulArgs.{ForHidden, unhidden, shown_join, shown_expr, shown_call, AllFlags, unflagged, all_lawful}
 
 -- ---- a function by its name
-
--- what stands at the place of a name is found by the name
-named_at : (n : ℕ) (fs : List TFunction) (x : Text) (v : ℕ) → place_from n (function_names fs) x ≡ Some v →
-    (i : ℕ) × (v ≡ n + i) × (g : TFunction) × (slice_get fs i ≡ Some g) × (function_named fs x ≡ Some g)
-named_at n [] x v e = absurd (none-some v e)
-named_at n (f ∷ fs) x v e = by (bytes_eq x f.name) e (named_at (n + 1) fs x v)
-  where
-    by : (b : Bool) → cond b (Some n) (place_from (n + 1) (function_names fs) x) ≡ Some v →
-        (place_from (n + 1) (function_names fs) x ≡ Some v → (i : ℕ) × (v ≡ n + 1 + i) × (g : TFunction) × (slice_get fs i ≡ Some g) × (function_named fs x ≡ Some g)) →
-        (i : ℕ) × (v ≡ n + i) × (g : TFunction) × (slice_get (f ∷ fs) i ≡ Some g) × ((if b then Some f else function_named fs x) ≡ Some g)
-    by true h rest = (0, (let s = same_Some n v h in omega (arith, s)), f, refl, refl)
-    by false h rest = let r = rest h in (suc r.0, (let s = r.1 in omega (arith, s)), r.2, r.3, r.4)
 
 pub record IsFound (p : TProgram) (x : Text) (v : ℕ) : Type 0 where
   pub function : TFunction
@@ -92,7 +82,7 @@ module _ (p : TProgram) (hidden : Text → Bool) (nv : ForHidden hidden (λ y. i
 
   -- a statement doesn't name it
   abbrev pub Free : Text → TKind → Type 0
-  Free y k = own_names y k ≡ false
+  Free y k = is_named y k ≡ false
 
   -- calls lead to no mention
   abbrev pub Goes : TKind → Type 0
@@ -149,7 +139,7 @@ module _ (p : TProgram) (hidden : Text → Bool) (nv : ForHidden hidden (λ y. i
   Goal c = (v : ℕ) → function_place p.functions (callee c) ≡ Some v → (y : Text) → hidden y ≡ true → reaches_mention p.functions y v ≡ false
 
   call_lawful : (h : Here) (fs : Flags) (c : TCall) → AllFlags h.scope fs → call_known p h.scope c ≡ true → EachCall (CallFine p h) (call_calls c) → EachCall Goal (call_calls c) →
-      ForHidden hidden (λ y. call_mentions y c ≡ 0) → IsLawfulCall hidden p IsQuiet (function_named p.functions) fs c
+      ForHidden hidden (λ y. inner_mentions y c ≡ 0) → IsLawfulCall hidden p IsQuiet (function_named p.functions) fs c
   call_lawful h fs (call f args) s known fine goes free =
       let v = is_there (function_place p.functions f) (and_parts (is_some (function_place p.functions f)) (args_known p h.scope args) known).0 in
       let found = found_named p f v.0 v.1 in
@@ -173,30 +163,33 @@ module _ (p : TProgram) (hidden : Text → Bool) (nv : ForHidden hidden (λ y. i
   right_lawful h fs (right_sense q) s known fine goes free = tt
   right_lawful h fs (right_call c) s known fine goes free = call_lawful h fs c s known fine goes free
 
-  right_shown : (r : TRight) → ForHidden hidden (λ y. right_mentions y r ≡ 0) → Shown hidden (right_names r)
+  right_shown : (r : TRight) → ForHidden hidden (λ y. right_mentions y r ≡ 0) → Shown hidden (right_named r)
   right_shown (right_value e) free = shown_expr hidden e free
   right_shown (right_sense q) free = tt
   right_shown (right_call c) free = shown_call hidden c free
 
   -- what a statement names
-  own_shown : (k : TKind) → ForHidden hidden (λ y. own_mentions y k ≡ 0) → Shown hidden (said_names k)
-  own_shown (let_to m x t r) free = right_shown r free
-  own_shown (let_array m x t z n) free = tt
-  own_shown (assign x r) free = right_shown r free
-  own_shown (assign_index x e r) free =
-      shown_join hidden (expr_names e) (right_names r)
+  kind_shown : (k : TKind) → ForHidden hidden (λ y. kind_mentions y k ≡ 0) → Shown hidden (kind_named k)
+  kind_shown (let_to m x t r) free = right_shown r free
+  kind_shown (let_array m x t z n) free = tt
+  kind_shown (assign x r) free = right_shown r free
+  kind_shown (assign_index x e r) free =
+      shown_join hidden (expr_named e) (right_named r)
       (shown_expr hidden e (λ y k. let s : expr_mentions y e + right_mentions y r ≡ 0 = free y k in omega (arith, s)))
       (right_shown r (λ y k. let s : expr_mentions y e + right_mentions y r ≡ 0 = free y k in omega (arith, s)))
-  own_shown (assign_deref x r) free = right_shown r free
-  own_shown (if_else c a b) free = shown_expr hidden c free
-  own_shown (for_in x m n b) free = tt
-  own_shown (while_do c n b) free = shown_expr hidden c free
-  own_shown (call_only c) free = shown_call hidden c free
-  own_shown (sense_only q) free = tt
-  own_shown (emit q e) free = shown_expr hidden e free
-  own_shown (fresh x) free = tt
-  own_shown (consistent x n) free = tt
-  own_shown (return e) free = shown_expr hidden e free
+  kind_shown (assign_deref x r) free = right_shown r free
+  kind_shown (if_else c a b) free = shown_expr hidden c free
+  kind_shown (for_in x m n b) free = tt
+  kind_shown (while_do c n b) free = shown_expr hidden c free
+  kind_shown (call_only c) free = shown_call hidden c free
+  kind_shown (sense_only q) free = tt
+  kind_shown (emit q e) free = shown_expr hidden e free
+  kind_shown (fresh x) free = tt
+  kind_shown (consistent x n) free = tt
+  kind_shown (return e) free = shown_expr hidden e free
+
+  own_shown : (k : TKind) → ForHidden hidden (λ y. kind_mentions y k ≡ 0) → Shown hidden (said_names k)
+  own_shown k free = subst (λ xs. Shown hidden xs) (sym (names_of_own k)) (kind_shown k free)
 
   -- ---- statements
 
@@ -210,8 +203,8 @@ module _ (p : TProgram) (hidden : Text → Bool) (nv : ForHidden hidden (λ y. i
   target_shown : (x : Text) (k : TKind) → ((y : Text) → targets y k ≡ bytes_eq y x) → ForHidden hidden (λ y. Free y k) → hidden x ≡ false
   target_shown x k is h = unhidden hidden x (λ y e. sym (is y) ∙ (free_parts y k (h y e)).1)
 
-  mentions_none : (k : TKind) → ForHidden hidden (λ y. Free y k) → ForHidden hidden (λ y. own_mentions y k ≡ 0)
-  mentions_none k h y e = (free_parts y k (h y e)).0
+  mentions_none : (k : TKind) → ForHidden hidden (λ y. Free y k) → ForHidden hidden (λ y. kind_mentions y k ≡ 0)
+  mentions_none k h y e = sym (mentions_of_own y k) ∙ (free_parts y k (h y e)).0
 
   assign_lawful : (h : Here) (fs : Flags) (x : Text) (r : TRight) (test : Origin → Bool) → test (origins.Param passings.Shared) ≡ false → AllFlags h.scope fs → hidden x ≡ false →
       right_known p h.scope r ≡ true → EachCall (CallFine p h) (right_calls r) → EachCall Goal (right_calls r) → ForHidden hidden (λ y. right_mentions y r ≡ 0)

@@ -15,11 +15,10 @@ use Rattle.oc_tree.specs.declared.tree.ValueKind.TheVariants as kinds
 use Rattle.oc_tree.specs.declared.scope.Origin.{Origin}
 use Rattle.oc_tree.specs.declared.scope.Origin.TheVariants as origins
 use Rattle.oc_tree.specs.declared.scope.Var.{Var}
-use Rattle.oc_tree.specs.Mentions.{once, expr_mentions, call_mentions, args_mentions, arg_mentions}
 use Rattle.oc_tree.specs.Scope.{Scope, variable_in, variable_of, or_nv}
 use Rattle.oc_tree.specs.Types.{is_reference, scalar_of, is_same, value_type}
 use Rattle.oc_tree.specs.Rules.{only_reference, passed_on, has_kind, origin_is, is_mutable_param, is_writable, value_meets, shared_meets, arg_meets, args_meet, args_list, arg_lends}
-use Rattle.oc_meaning.specs.Uses.{expr_names, arg_names, call_names, args_names}
+use Rattle.oc_tree.specs.Walks.{expr_named, arg_named, call_named, args_named, inner_mentions, once, expr_mentions, args_mentions, arg_mentions}
 use Rattle.oc_copies.proofs.Twins.{Flags, flag_of, is_shared, handed, Shown, AreLawful}
 
 module _ (hidden : Text → Bool) where
@@ -47,7 +46,7 @@ module _ (hidden : Text → Bool) where
   one_shown x h = unhidden x (λ y k. once_none (bytes_eq y x) (h y k))
 
   mutual
-    pub shown_expr : (e : TExpr) → ForHidden (λ y. expr_mentions y e ≡ 0) → Shown hidden (expr_names e)
+    pub shown_expr : (e : TExpr) → ForHidden (λ y. expr_mentions y e ≡ 0) → Shown hidden (expr_named e)
     shown_expr (number z) h = tt
     shown_expr (truth b) h = tt
     shown_expr (variable x) h = (one_shown x h, tt)
@@ -58,23 +57,23 @@ module _ (hidden : Text → Bool) where
     shown_expr (deref x) h = (one_shown x h, tt)
     shown_expr (unary op e) h = shown_expr e h
     shown_expr (binary op a b) h =
-        shown_join (expr_names a) (expr_names b)
+        shown_join (expr_named a) (expr_named b)
         (shown_expr a (λ y k. let s : expr_mentions y a + expr_mentions y b ≡ 0 = h y k in omega (arith, s)))
         (shown_expr b (λ y k. let s : expr_mentions y a + expr_mentions y b ≡ 0 = h y k in omega (arith, s)))
     shown_expr (sensed s) h = tt
     shown_expr (called c) h = shown_call c h
 
-    pub shown_call : (c : TCall) → ForHidden (λ y. call_mentions y c ≡ 0) → Shown hidden (call_names c)
+    pub shown_call : (c : TCall) → ForHidden (λ y. inner_mentions y c ≡ 0) → Shown hidden (call_named c)
     shown_call (call f args) h = shown_args args h
 
-    pub shown_args : (args : TArgs) → ForHidden (λ y. args_mentions y args ≡ 0) → Shown hidden (args_names args)
+    pub shown_args : (args : TArgs) → ForHidden (λ y. args_mentions y args ≡ 0) → Shown hidden (args_named args)
     shown_args no_args h = tt
     shown_args (more_args a rest) h =
-        shown_join (arg_names a) (args_names rest)
+        shown_join (arg_named a) (args_named rest)
         (shown_arg a (λ y k. let s : arg_mentions y a + args_mentions y rest ≡ 0 = h y k in omega (arith, s)))
         (shown_args rest (λ y k. let s : arg_mentions y a + args_mentions y rest ≡ 0 = h y k in omega (arith, s)))
 
-    pub shown_arg : (a : TArg) → ForHidden (λ y. arg_mentions y a ≡ 0) → Shown hidden (arg_names a)
+    pub shown_arg : (a : TArg) → ForHidden (λ y. arg_mentions y a ≡ 0) → Shown hidden (arg_named a)
     shown_arg (value e) h = shown_expr e h
     shown_arg (shared x) h = (one_shown x h, tt)
     shown_arg (mutable x) h = (one_shown x h, tt)

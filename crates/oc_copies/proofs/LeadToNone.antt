@@ -14,7 +14,7 @@ use Rattle.oc_reach.specs.Within.{IsWithin}
 use Rattle.oc_reach.proofs.LinkLaws.{any_append}
 use Rattle.oc_reach.proofs.Walk.{some_at, some_is}
 use Rattle.oc_desugar.proofs.FineCalls.{Each as EachCall, each_front as calls_front, each_back as calls_back}
-use Rattle.oc_formed.proofs.BodiesPass.{first_fails, second_fails}
+use Rattle.oc_checked.proofs.BodiesPass.{first_fails, second_fails}
 
 -- ---- numbers that reach none that passes a test
 

@@ -15,20 +15,51 @@ use Rattle.oc_tree.specs.declared.tree.ValueKind.{ValueKind}
 use Rattle.oc_tree.specs.declared.tree.ValueKind.TheVariants as kinds
 use Rattle.oc_tree.specs.declared.scope.Var.{Var}
 use Rattle.oc_tree.specs.Calls.{function_place, reaches_mention}
-use Rattle.oc_tree.specs.Mentions.{once, args_mentions, arg_mentions}
 use Rattle.oc_tree.specs.Scope.{Scope, variable_of, or_nv, nv_var, is_variable}
 use Rattle.oc_tree.specs.Types.{is_reference, is_by_reference, scalar_of, is_same, value_type}
 use Rattle.oc_tree.specs.Rules.{only_reference, passed_on as rule_passed, has_kind, origin_is, is_mutable_param, is_writable, is_nv, passes_nv, value_meets, shared_meets}
-use Rattle.oc_tree.specs.Rules.{mutable_meets, arg_meets, args_meet, args_list, callee_params, params_of, arg_lends, arg_known, args_known, arg_exposes, at_place, value_lent_is}
-use Rattle.oc_tree.specs.Rules.{lent_is, all_lent}
+use Rattle.oc_tree.specs.Rules.{mutable_meets, arg_meets, args_meet, args_list, callee_params, params_of, arg_lends, arg_exposes, at_place, value_lent_is}
+use Rattle.oc_tree.specs.Rules.{lone_is, lent_is, all_lent}
+use Rattle.oc_tree.specs.Walks.{once, args_mentions, arg_mentions, arg_known, args_known}
+use Rattle.oc_tree.specs.Mentions.{call_mentions}
+use Rattle.oc_tree.proofs.PartLaws.{mentions_of_call}
 use Rattle.oc_meaning.specs.Store.{Place, Local, Global, Turn, Nowhere, Store, Binding, binding_of, place_of}
 use Rattle.oc_meaning.specs.Eval.{Got, Val, Traps, value_of}
 use Rattle.oc_meaning.specs.Exec.{Passed, Copied, Lent, Passing as Given, Passes, Breaks, passed_on, value_first, arg_first, args_of}
-use Rattle.oc_formed.proofs.BodiesPass.{first_fails, second_fails}
+use Rattle.oc_checked.proofs.BodiesPass.{first_fails, second_fails}
 use Rattle.oc_copies.specs.Copies.{lent_place, passing_at, IsThere, nv_name, MayPass}
 use Rattle.oc_copies.specs.Stands.{IsVariablePlace, Stands, AreFormed, IsRuledCall, CallsMayPass}
 use Rattle.oc_copies.proofs.Twins.{handed}
 use Rattle.oc_copies.proofs.Lawful.{found_named}
+
+-- ---- tests that agree on each name agree on what is lent
+
+lone_same : (s t : Text → Bool) → ((x : Text) → s x ≡ t x) → (e : TExpr) → lone_is s e ≡ lone_is t e
+lone_same s t same (number z) = refl
+lone_same s t same (truth b) = refl
+lone_same s t same (variable x) = same x
+lone_same s t same (index x e) = refl
+lone_same s t same (deref x) = refl
+lone_same s t same (unary op e) = refl
+lone_same s t same (binary op a b) = refl
+lone_same s t same (sensed x) = refl
+lone_same s t same (called c) = refl
+
+lent_same : (s t : Text → Bool) → ((x : Text) → s x ≡ t x) → (q : Param) (a : TArg) → lent_is s q a ≡ lent_is t q a
+lent_same s t same q (value e) = by q.passing
+  where
+    by : (m : Passing) → value_lent_is s m e ≡ value_lent_is t m e
+    by passings.Value = refl
+    by passings.Shared = refl
+    by passings.Mutable = lone_same s t same e
+lent_same s t same q (shared x) = refl
+lent_same s t same q (mutable x) = same x
+
+all_lent_same : (s t : Text → Bool) → ((x : Text) → s x ≡ t x) → (qs : List Param) (args : TArgs) → all_lent s qs args ≡ all_lent t qs args
+all_lent_same s t same qs no_args = refl
+all_lent_same s t same [] (more_args a rest) = refl
+all_lent_same s t same (q ∷ qs) (more_args a rest) =
+    ap (λ b. b && all_lent s qs rest) (lent_same s t same q a) ∙ ap (λ b. lent_is t q a && b) (all_lent_same s t same qs rest)
 
 -- ---- variables by their origin
 
@@ -367,8 +398,13 @@ module _ (p : TProgram) (scope : Scope) (env : List Binding) (σ : Store) (s : S
     hidden : list_any (arg_exposes p scope u) (args_list args) ≡ false
     hidden = ap (at_place (λ w. list_any (arg_exposes p scope w) (args_list args))) (sym at_name) ∙ ruled.hidden
 
+    once_named : (x : Text) → (call_mentions x (call f args) == 1) ≡ (args_mentions x args == 1)
+    once_named x = ap (λ n. n == 1) (mentions_of_call x (call f args))
+
     alone : all_lent (λ x. args_mentions x args == 1) g.params args ≡ true
-    alone = subst (λ qs. all_lent (λ x. args_mentions x args == 1) qs args ≡ true) params ruled.alone
+    alone =
+        sym (all_lent_same (λ x. call_mentions x (call f args) == 1) (λ x. args_mentions x args == 1) once_named g.params args)
+        ∙ subst (λ qs. all_lent (λ x. call_mentions x (call f args) == 1) qs args ≡ true) params ruled.alone
 
     lent : (i : ℕ) (q : Place) → lent_place ps i ≡ Some q → IsLentAt u g.params args i q
     lent i q e = lent_at u g.params args ps i q many each ruled.lends known hidden given e

@@ -6,7 +6,7 @@ use Rattle.std.proofs.lemmas.Option.{slice_get_within}
 use Rattle.oc_tree.specs.Names.{Text}
 use Rattle.oc_tree.specs.Tree.{TFunction}
 use Rattle.oc_tree.specs.Reach.{linked}
-use Rattle.oc_tree.specs.Mentions.{own_names}
+use Rattle.oc_tree.specs.Mentions.{is_named}
 use Rattle.oc_tree.specs.Calls.{function_names, function_place, callee, own_calls, block_kinds, body_calls, called_places, call_links, has_param, test_at}
 use Rattle.oc_tree.specs.Calls.{function_mentions, reaches_mention}
 use Rattle.oc_reach.proofs.LinkLaws.{calls_within}
@@ -21,12 +21,12 @@ module _ (fs : List TFunction) (u : ℕ) (f : TFunction) (stands : slice_get fs 
   below = slice_get_within fs u f stands
 
   -- none of its statements names the variable, where no parameter hides it
-  pub none_names : (x : Text) → reaches_mention fs x u ≡ false → has_param x f.params ≡ false → EachKind (λ k. own_names x k ≡ false) (block_kinds (Some x) f.body)
+  pub none_names : (x : Text) → reaches_mention fs x u ≡ false → has_param x f.params ≡ false → EachKind (λ k. is_named x k ≡ false) (block_kinds (Some x) f.body)
   none_names x free shown =
       let own : function_mentions x f ≡ false = sym (at_place (function_mentions x) fs u f false stands) ∙ self_fails (call_links fs) (length fs) (test_at (function_mentions x) fs) u below free in
-      none_pass (own_names x) (block_kinds (Some x) f.body) (by (has_param x f.params) shown own)
+      none_pass (is_named x) (block_kinds (Some x) f.body) (by (has_param x f.params) shown own)
     where
-      by : (b : Bool) → b ≡ false → not b && list_any (own_names x) (block_kinds (Some x) f.body) ≡ false → list_any (own_names x) (block_kinds (Some x) f.body) ≡ false
+      by : (b : Bool) → b ≡ false → not b && list_any (is_named x) (block_kinds (Some x) f.body) ≡ false → list_any (is_named x) (block_kinds (Some x) f.body) ≡ false
       by true e h = absurd (true≢false e)
       by false e h = h
 

@@ -14,13 +14,14 @@ use Rattle.oc_tree.specs.Scope.{Scope, variable_in, variable_of, or_nv, nv_var, 
 use Rattle.oc_tree.specs.Types.{is_reference}
 use Rattle.oc_tree.specs.Elements.{Here, turn_var, scope_after, function_item}
 use Rattle.oc_tree.specs.Broken.{item_rules}
-use Rattle.oc_tree.specs.Rules.{origin_is, takes_name, call_known}
+use Rattle.oc_tree.specs.Rules.{origin_is, takes_name}
+use Rattle.oc_tree.specs.Walks.{call_known}
 use Rattle.oc_meaning.specs.Store.{Place, Local, Global, Turn, Nowhere, Store, Binding, binding_of, place_of}
 use Rattle.oc_meaning.specs.Exec.{Passed, Copied, Lent, bound_to, in_turn, grown}
 use Rattle.oc_meaning.specs.Run.{Frame, nv_env}
 use Rattle.oc_desugar.proofs.FineCalls.{CallFine}
 use Rattle.oc_desugar.proofs.Unbroken.{Passes, none_broken}
-use Rattle.oc_formed.proofs.BodiesPass.{first_fails, second_fails, function_fine}
+use Rattle.oc_checked.proofs.BodiesPass.{first_fails, second_fails, function_fine}
 use Rattle.oc_copies.specs.Copies.{own_param, own_params, nv_name}
 use Rattle.oc_copies.specs.Stands.{IsVariablePlace, Stands, AreFormed, IsRuledCall, FramesStand, makes}
 use Rattle.oc_copies.proofs.Back.{IsShared, nv_shared}

@@ -15,10 +15,12 @@ use Rattle.oc_tree.specs.declared.said.Shown.TheVariants.{Emitted}
 use Rattle.oc_tree.specs.declared.said.TrapKind.{TrapKind}
 use Rattle.oc_tree.specs.Marked.{TRegion}
 use Rattle.oc_tree.specs.Weight.{count_of}
-use Rattle.oc_meaning.specs.Samples.{union}
+use Rattle.oc_tree.specs.Samples.{union}
 use Rattle.oc_meaning.specs.Store.{Value, Held, Place, Local, Store, Binding, holding, value_in, replaced, with_element, held_at, put, noted, binding_of, place_of}
 use Rattle.oc_meaning.specs.Eval.{Got, Val, Traps, is_zero, element_of, read_element, unary_value, combined, and_got, value_of}
-use Rattle.oc_meaning.specs.Uses.{expr_names, arg_names, own_names, is_fresh, is_use, samples_of_fresh, use_samples, begins_use, ends_use}
+use Rattle.oc_tree.specs.Named.{expr_names, own_names}
+use Rattle.oc_tree.specs.Walks.{expr_named, arg_named}
+use Rattle.oc_meaning.specs.Uses.{is_fresh, is_use, samples_of_fresh, use_samples, begins_use, ends_use}
 use Rattle.oc_meaning.specs.Exec.{Outcome, Went, Returned, Stopped, Passed, Copied, Lent, Passing as Given, Passes, Breaks, with_value, then_do, with_result, leave, opened, closed}
 use Rattle.oc_meaning.specs.Exec.{used, done, finished, sense, passed_first, copied_first, passed_on, value_first, arg_first, args_of, with_args, element_written, for_turns}
 use Rattle.oc_meaning.specs.Exec.{while_turns, bound_to, in_turn, grown, entered, tagged, array_of, begun_by, ended_by, number_in, trapped, call_run, right_run, kind_run}
@@ -66,7 +68,7 @@ module _ (hidden : Text → Bool) where
 
   -- an argument names nothing hidden, and what is only read goes to a parameter by `&`
   pub record IsLawfulArg (fs : Flags) (q : Param) (a : TArg) : Type 0 where
-    pub shown : Shown (arg_names a)
+    pub shown : Shown (arg_named a)
     pub careful : (x : Text) → handed a ≡ Some x → flag_of fs x ≡ true → is_shared q.passing ≡ true
 
   abbrev pub AreLawful : Flags → List Param → TArgs → Type 0
@@ -80,7 +82,7 @@ module _ (hidden : Text → Bool) where
     IsLawfulCall fs (call f args) = (g : TFunction) × (function_at f ≡ Some g) × Quiet f g × AreLawful fs g.params args
 
     abbrev pub IsLawfulRight : Flags → TRight → Type 0
-    IsLawfulRight fs (right_value e) = Shown (expr_names e)
+    IsLawfulRight fs (right_value e) = Shown (expr_named e)
     IsLawfulRight fs (right_sense s) = Unit {0}
     IsLawfulRight fs (right_call c) = IsLawfulCall fs c
 
@@ -89,17 +91,17 @@ module _ (hidden : Text → Bool) where
       IsLawful fs (let_to m x t r) = IsLawfulRight fs r
       IsLawful fs (let_array m x t z n) = Unit {0}
       IsLawful fs (assign x r) = (hidden x ≡ false) × (flag_of fs x ≡ false) × IsLawfulRight fs r
-      IsLawful fs (assign_index x e r) = (hidden x ≡ false) × (flag_of fs x ≡ false) × Shown (expr_names e) × IsLawfulRight fs r
+      IsLawful fs (assign_index x e r) = (hidden x ≡ false) × (flag_of fs x ≡ false) × Shown (expr_named e) × IsLawfulRight fs r
       IsLawful fs (assign_deref x r) = (hidden x ≡ false) × (flag_of fs x ≡ false) × IsLawfulRight fs r
-      IsLawful fs (if_else c a b) = Shown (expr_names c) × IsLawfulBlock fs a × IsLawfulElse fs b
+      IsLawful fs (if_else c a b) = Shown (expr_named c) × IsLawfulBlock fs a × IsLawfulElse fs b
       IsLawful fs (for_in x c d b) = IsLawfulBlock ((x, false) ∷ fs) b
-      IsLawful fs (while_do c n b) = Shown (expr_names c) × IsLawfulBlock fs b
+      IsLawful fs (while_do c n b) = Shown (expr_named c) × IsLawfulBlock fs b
       IsLawful fs (call_only c) = IsLawfulCall fs c
       IsLawful fs (sense_only s) = Unit {0}
-      IsLawful fs (emit q e) = Shown (expr_names e)
+      IsLawful fs (emit q e) = Shown (expr_named e)
       IsLawful fs (fresh x) = Unit {0}
       IsLawful fs (consistent x k) = hidden x ≡ false
-      IsLawful fs (return e) = Shown (expr_names e)
+      IsLawful fs (return e) = Shown (expr_named e)
 
       pub IsLawfulElse : Flags → TElse → Type 0
       IsLawfulElse fs no_else = Unit {0}
@@ -158,7 +160,7 @@ module _ (hidden : Text → Bool) (r : Renaming) (is : IsRenaming r) (start othe
     held_twin : (x : Text) → hidden x ≡ false → held_at σ (place_of env x) ≡ held_at τ (place_of env' x)
     held_twin x h = m.holds (place_of env x) (sees.named x h).live ∙ ap (held_at τ) (sym (sees.named x h).place)
 
-    value_twin : (e : TExpr) → Shown hidden (expr_names e) → value_of env σ e ≡ value_of env' τ e
+    value_twin : (e : TExpr) → Shown hidden (expr_named e) → value_of env σ e ≡ value_of env' τ e
     value_twin (number z) h = refl
     value_twin (truth b) h = refl
     value_twin (variable x) h = ap (λ v. Val (value_in v)) (held_twin x h.0)
@@ -168,8 +170,8 @@ module _ (hidden : Text → Bool) (r : Renaming) (is : IsRenaming r) (start othe
         ∙ ap (λ v. and_got (value_of env' τ e) (λ i. read_element v (element_of (length v.words) i.num) i.samples)) (held_twin x h.0)
     value_twin (unary op e) h = ap (unary_value op) (value_twin e h)
     value_twin (binary op a b) h =
-        ap (λ g. combined op g (value_of env σ b)) (value_twin a (shown_front hidden (expr_names a) (expr_names b) h))
-        ∙ ap (combined op (value_of env' τ a)) (value_twin b (shown_back hidden (expr_names a) (expr_names b) h))
+        ap (λ g. combined op g (value_of env σ b)) (value_twin a (shown_front hidden (expr_named a) (expr_named b) h))
+        ∙ ap (combined op (value_of env' τ a)) (value_twin b (shown_back hidden (expr_named a) (expr_named b) h))
     value_twin (sensed s) h = refl
     value_twin (called c) h = refl
 
@@ -308,7 +310,7 @@ module _ (hidden : Text → Bool) (r : Renaming) (is : IsRenaming r) (start othe
         AreGiven (q ∷ qs) (passed_first (Lent (place_of env x)) rest) (passed_first (Lent (place_of env' x)) rest')
     named_given q qs x rest rest' h k g = lent_given q qs (place_of env x) (place_of env' x) rest rest' (sees.named x h).place (sees.named x h).live (careful_place q x h k) g
 
-    plain_given : (q : Param) (qs : List Param) (e : TExpr) (rest rest' : Given) → Shown hidden (expr_names e) → AreGiven qs rest rest' →
+    plain_given : (q : Param) (qs : List Param) (e : TExpr) (rest rest' : Given) → Shown hidden (expr_named e) → AreGiven qs rest rest' →
         AreGiven (q ∷ qs) (copied_first (value_of env σ e) rest) (copied_first (value_of env' τ e) rest')
     plain_given q qs e rest rest' h g =
         subst (λ v. AreGiven (q ∷ qs) (copied_first (value_of env σ e) rest) (copied_first v rest')) (value_twin fs env env' sees σ τ m e h) (copied_given q qs (value_of env σ e) rest rest' g)

@@ -6,13 +6,14 @@ use Rattle.oc_lex.specs.Stands.{IsName}
 use Rattle.oc_tree.specs.Tree.{TExpr, number, truth, variable, index, deref, unary, binary, sensed, called, TArg, value, shared, mutable, TCall, call, TArgs, no_args, more_args}
 use Rattle.oc_tree.specs.Tree.{TRight, right_sense, right_call, TProgram}
 use Rattle.oc_tree.specs.Form.{ExprInForm, ArgInForm, ArgsInForm}
-use Rattle.oc_tree.specs.Pulls.{expr_pulls, arg_pulls, right_pulls, right_skips}
+use Rattle.oc_tree.specs.Pulls.{expr_pulls, arg_pulls, right_pulls}
 use Rattle.oc_tree.specs.Calls.{function_place, expr_calls, call_calls, args_calls, arg_calls, right_calls}
 use Rattle.oc_tree.specs.Scope.{is_variable, variable_of}
 use Rattle.oc_tree.specs.Types.{call_type, right_type, has_elements, is_int, type_of}
 use Rattle.oc_tree.specs.Elements.{Here}
-use Rattle.oc_tree.specs.Rules.{expr_known, args_known, arg_known, right_known, passed_on, unary_fits, binary_fits, expr_fits, args_fit, arg_fits, right_fits}
+use Rattle.oc_tree.specs.Rules.{passed_on, unary_fits, binary_fits, expr_fits, args_fit, arg_fits, right_fits}
 use Rattle.oc_tree.specs.Expansion.{left_call, pulled_expr, pulled_call, pulled_args, pulled_arg}
+use Rattle.oc_tree.specs.Walks.{right_skips, expr_known, args_known, arg_known, right_known}
 use Rattle.oc_tree.proofs.ReachLaws.{or_right}
 use Rattle.oc_desugar.proofs.Seen.{SameTop, SameReach, SameHere, pull_type, HeldPulls}
 use Rattle.oc_desugar.proofs.Lengths.{length_expr, length_arg}

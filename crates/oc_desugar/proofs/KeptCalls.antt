@@ -16,7 +16,6 @@ use Rattle.oc_tree.specs.declared.tree.Passing.TheVariants as passings
 use Rattle.oc_tree.specs.declared.tree.ValueKind.{ValueKind}
 use Rattle.oc_tree.specs.declared.scope.Var.{Var}
 use Rattle.oc_tree.specs.Pulls.{expr_pulls, call_pulls, arg_pulls}
-use Rattle.oc_tree.specs.Mentions.{once, expr_mentions, args_mentions, arg_mentions}
 use Rattle.oc_tree.specs.Calls.{function_place, reaches_mention}
 use Rattle.oc_tree.specs.Scope.{Scope, variable_of, function_named}
 use Rattle.oc_tree.specs.Types.{scalar_of, is_same}
@@ -24,6 +23,9 @@ use Rattle.oc_tree.specs.Rules.{has_kind, origin_is, is_mutable_param, is_writab
 use Rattle.oc_tree.specs.Rules.{args_list, call_args, params_of, call_meets, arg_lends, value_lent_is, lent_is, all_lent, lends_alone, passes_nv, arg_exposes, at_place, callee_is}
 use Rattle.oc_tree.specs.Rules.{call_exposes, back_to}
 use Rattle.oc_tree.specs.Expansion.{temporary, left_expr, left_call, left_args, left_arg}
+use Rattle.oc_tree.specs.Walks.{once, expr_mentions, args_mentions, arg_mentions}
+use Rattle.oc_tree.specs.Mentions.{call_mentions}
+use Rattle.oc_tree.proofs.PartLaws.{mentions_of_call}
 use Rattle.oc_desugar.proofs.Seen.{SameReach, new_var}
 use Rattle.oc_desugar.proofs.HeldParts.{HeldExpr, HeldCall, HeldArgs, HeldArg}
 use Rattle.oc_desugar.proofs.KeptLookups.{SameNames, apart, same_text, same_place, same_params, same_variable, same_test, new_kind, new_test, new_mutable, new_writable, new_own, new_is_nv}
@@ -160,8 +162,11 @@ module _ {p q : TProgram} {f : ℕ → ℕ} {s t : Scope} (m : SameNames p q f s
   pub still_alone : (k : ℕ) (c : TCall) → CallInForm IsName c → call_meets p s c ≡ true → lends_alone p c ≡ true → lends_alone q (left_call k c) ≡ true
   still_alone k (call g xs) i o h =
       let meet : args_meet p s (params_of (function_named p g)) xs ≡ true = (and_parts (length (params_of (function_named p g)) == length (args_list xs)) _ o).1 in
-      ap (λ gs. all_lent (λ x. args_mentions x (left_args k xs) == 1) gs (left_args k xs)) (same_params m.top g)
-      ∙ still_args (λ x. args_mentions x xs) (λ x. args_mentions x (left_args k xs)) (λ x n. fewer_args x n k xs) (params_of (function_named p g)) k xs i.1 (λ x n. omega arith) meet h
+      let left : (x : Text) → call_mentions x (left_call k (call g xs)) ≡ args_mentions x (left_args k xs) = λ x. mentions_of_call x (left_call k (call g xs)) in
+      let all : (x : Text) → call_mentions x (call g xs) ≡ args_mentions x xs = λ x. mentions_of_call x (call g xs) in
+      ap (λ gs. all_lent (λ x. call_mentions x (left_call k (call g xs)) == 1) gs (left_args k xs)) (same_params m.top g)
+      ∙ still_args (λ x. call_mentions x (call g xs)) (λ x. call_mentions x (left_call k (call g xs))) (λ x n. omega (arith, fewer_args x n k xs, left x, all x))
+      (params_of (function_named p g)) k xs i.1 (λ x n. omega (arith, left x)) meet h
 
   -- ---- nonvolatile variables and the way back
 

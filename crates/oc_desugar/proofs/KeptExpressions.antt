@@ -8,12 +8,13 @@ use Rattle.oc_tree.specs.Tree.{TExpr, number, truth, variable, index, deref, una
 use Rattle.oc_tree.specs.Tree.{TRight, right_value, right_sense, right_call, TProgram}
 use Rattle.oc_tree.specs.Form.{ExprInForm, ArgInForm, CallInForm, ArgsInForm, RightInForm}
 use Rattle.oc_tree.specs.declared.scope.Var.{Var}
-use Rattle.oc_tree.specs.Pulls.{expr_pulls, arg_pulls, expr_skips, args_skip, arg_skips, right_skips, may_skip}
+use Rattle.oc_tree.specs.Pulls.{expr_pulls, arg_pulls, may_skip}
 use Rattle.oc_tree.specs.Calls.{expr_calls, args_calls, arg_calls}
 use Rattle.oc_tree.specs.Scope.{Scope, variable_of, is_variable}
 use Rattle.oc_tree.specs.Types.{type_of, right_type, call_type, is_int, has_elements}
-use Rattle.oc_tree.specs.Rules.{expr_known, call_known, args_known, arg_known, right_known, expr_fits, call_fits, args_fit, arg_fits, right_fits, passed_on, only_reference, unary_fits, binary_fits}
+use Rattle.oc_tree.specs.Rules.{expr_fits, call_fits, args_fit, arg_fits, right_fits, passed_on, only_reference, unary_fits, binary_fits}
 use Rattle.oc_tree.specs.Expansion.{left_expr, left_call, left_args, left_arg, left_right}
+use Rattle.oc_tree.specs.Walks.{expr_skips, args_skip, arg_skips, right_skips, expr_known, call_known, args_known, arg_known, right_known}
 use Rattle.oc_tree.proofs.ReachLaws.{or_left, or_right}
 use Rattle.oc_desugar.proofs.Seen.{new_var}
 use Rattle.oc_desugar.proofs.NoPulls.{none_expr}

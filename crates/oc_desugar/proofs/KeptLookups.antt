@@ -5,7 +5,7 @@ use Rattle.std.specs.Prelude.{is_some, not, ◌||◌, slice_get, option_map, opt
 use Rattle.std.specs.Str.{bytes_eq}
 use Rattle.std.proofs.lemmas.Option.{slice_get-map}
 use Rattle.std.proofs.lemmas.Slice.Eq.{bytes_eq-Decides}
-use Rattle.oc_lex.specs.Bytes.{class_of, begins_name}
+use Rattle.oc_lex.specs.Bytes.{begins_name}
 use Rattle.oc_lex.specs.Stands.{IsName}
 use Rattle.oc_tree.specs.Names.{Text}
 use Rattle.oc_tree.specs.Tree.{TFunction, TProgram}
@@ -27,7 +27,7 @@ use Rattle.oc_desugar.proofs.Seen.{Head, head_of, SameTop, Sees, new_origin, new
 
 -- no byte that begins a name is a point
 no_point : begins_name 46 ≡ false
-unfolding class_of
+unfolding begins_name
 no_point = refl
 
 -- a temporary has no name of the language

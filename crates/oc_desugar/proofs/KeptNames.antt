@@ -12,10 +12,12 @@ use Rattle.oc_tree.specs.Tree.{TExpr, number, truth, variable, index, deref, una
 use Rattle.oc_tree.specs.Tree.{TRight, right_value, right_sense, right_call, TKind, let_to, let_array, assign, assign_index, assign_deref, if_else, for_in, while_do, call_only}
 use Rattle.oc_tree.specs.Tree.{sense_only, emit, fresh, consistent, return, TElse, no_else, else_do, stmt, TBlock, block, TStmts, no_stmts, more, TFunction}
 use Rattle.oc_tree.specs.Pulls.{expr_pulls, call_pulls, arg_pulls, own_pulls, stmt_pulls, block_pulls}
-use Rattle.oc_tree.specs.Mentions.{once, expr_mentions, call_mentions, args_mentions, arg_mentions, right_mentions, own_mentions, targets, annotates, own_names}
+use Rattle.oc_tree.specs.Mentions.{own_mentions, targets, annotates, is_named}
 use Rattle.oc_tree.specs.Calls.{kind_hides, kind_kinds, else_kinds, block_kinds, stmts_kinds, has_param, function_mentions}
 use Rattle.oc_tree.specs.Expansion.{left_expr, left_call, left_args, left_arg, left_right, pulled_expr, pulled_call, pulled_args, pulled_arg, pulled_right, pulled, temporary}
 use Rattle.oc_tree.specs.Expansion.{temporaries, join_stmts, expand_kind, expand_else, expand_block, expand_stmts, expand_functions, block_size, stmt_size}
+use Rattle.oc_tree.specs.Walks.{inner_mentions, kind_mentions, once, expr_mentions, args_mentions, arg_mentions, right_mentions}
+use Rattle.oc_tree.proofs.PartLaws.{mentions_of_own}
 use Rattle.oc_desugar.proofs.KeptLookups.{apart}
 
 -- how often right sides name it
@@ -48,7 +50,7 @@ mutual
   mentions_expr x h k (called c) =
       omega (arith, mentions_join x (pulled_call k c) (right_call (left_call k c) ∷ []), mentions_call x h k c, no_mention x h (k + call_pulls c))
 
-  mentions_call : (x : Text) → IsName x → (k : ℕ) (c : TCall) → rights_mention x (pulled_call k c) + call_mentions x (left_call k c) ≡ call_mentions x c
+  mentions_call : (x : Text) → IsName x → (k : ℕ) (c : TCall) → rights_mention x (pulled_call k c) + inner_mentions x (left_call k c) ≡ inner_mentions x c
   mentions_call x h k (call f args) = mentions_args x h k args
 
   mentions_args : (x : Text) → IsName x → (k : ℕ) (xs : TArgs) → rights_mention x (pulled_args k xs) + args_mentions x (left_args k xs) ≡ args_mentions x xs
@@ -68,22 +70,25 @@ mentions_right x h k (right_sense s) = refl
 mentions_right x h k (right_call c) = mentions_call x h k c
 
 -- of a statement itself
-mentions_own : (x : Text) → IsName x → (k i : ℕ) (s : TKind) → rights_mention x (pulled k s) + own_mentions x (expand_kind k i s) ≡ own_mentions x s
-mentions_own x h k i (let_to m y t r) = mentions_right x h k r
-mentions_own x h k i (let_array m y t z n) = refl
-mentions_own x h k i (assign y r) = mentions_right x h k r
-mentions_own x h k i (assign_index y e r) =
+mentions_kind : (x : Text) → IsName x → (k i : ℕ) (s : TKind) → rights_mention x (pulled k s) + kind_mentions x (expand_kind k i s) ≡ kind_mentions x s
+mentions_kind x h k i (let_to m y t r) = mentions_right x h k r
+mentions_kind x h k i (let_array m y t z n) = refl
+mentions_kind x h k i (assign y r) = mentions_right x h k r
+mentions_kind x h k i (assign_index y e r) =
     omega (arith, mentions_join x (pulled_expr k e) (pulled_right (k + expr_pulls e) r), mentions_expr x h k e, mentions_right x h (k + expr_pulls e) r)
-mentions_own x h k i (assign_deref y r) = mentions_right x h k r
-mentions_own x h k i (if_else c a b) = mentions_expr x h k c
-mentions_own x h k i (for_in y m n b) = refl
-mentions_own x h k i (while_do c n b) = mentions_expr x h k c
-mentions_own x h k i (call_only c) = mentions_call x h k c
-mentions_own x h k i (sense_only s) = refl
-mentions_own x h k i (emit p e) = mentions_expr x h k e
-mentions_own x h k i (fresh y) = refl
-mentions_own x h k i (consistent y n) = refl
-mentions_own x h k i (return e) = mentions_expr x h k e
+mentions_kind x h k i (assign_deref y r) = mentions_right x h k r
+mentions_kind x h k i (if_else c a b) = mentions_expr x h k c
+mentions_kind x h k i (for_in y m n b) = refl
+mentions_kind x h k i (while_do c n b) = mentions_expr x h k c
+mentions_kind x h k i (call_only c) = mentions_call x h k c
+mentions_kind x h k i (sense_only s) = refl
+mentions_kind x h k i (emit p e) = mentions_expr x h k e
+mentions_kind x h k i (fresh y) = refl
+mentions_kind x h k i (consistent y n) = refl
+mentions_kind x h k i (return e) = mentions_expr x h k e
+
+mentions_own : (x : Text) → IsName x → (k i : ℕ) (s : TKind) → rights_mention x (pulled k s) + own_mentions x (expand_kind k i s) ≡ own_mentions x s
+mentions_own x h k i s = omega (arith, mentions_kind x h k i s, mentions_of_own x (expand_kind k i s), mentions_of_own x s)
 
 -- ---- statements
 
@@ -122,7 +127,7 @@ or_false' true = refl
 or_false' false = refl
 
 -- a statement itself names it, in one of its pulls or in what is left
-own_named : (x : Text) → IsName x → (k i : ℕ) (s : TKind) → nat_lt 0 (rights_mention x (pulled k s)) || own_names x (expand_kind k i s) ≡ own_names x s
+own_named : (x : Text) → IsName x → (k i : ℕ) (s : TKind) → nat_lt 0 (rights_mention x (pulled k s)) || is_named x (expand_kind k i s) ≡ is_named x s
 own_named x h k i s =
     let n = rights_mention x (pulled k s) in
     let m = own_mentions x (expand_kind k i s) in
@@ -138,7 +143,7 @@ own_named x h k i s =
 
 -- whether statements name it
 abbrev named_in : Text → List TKind → Bool
-named_in x ks = list_any (own_names x) ks
+named_in x ks = list_any (is_named x) ks
 
 -- where they are hidden none is asked
 named_cond : (x : Text) (b : Bool) (ks : List TKind) → named_in x (cond b [] ks) ≡ cond b false (named_in x ks)
@@ -151,7 +156,7 @@ then_named x s rest = named_in x (kind_kinds (Some x) s) || cond (kind_hides (So
 
 first_named : (x : Text) (id line : ℕ) (s : TKind) (rest : TStmts) → named_in x (stmts_kinds (Some x) (more (stmt id line s) rest)) ≡ then_named x s rest
 first_named x id line s rest =
-    list_any-append (own_names x) (kind_kinds (Some x) s) (cond (kind_hides (Some x) s) [] (stmts_kinds (Some x) rest))
+    list_any-append (is_named x) (kind_kinds (Some x) s) (cond (kind_hides (Some x) s) [] (stmts_kinds (Some x) rest))
     ∙ ap (λ b. named_in x (kind_kinds (Some x) s) || b) (named_cond x (kind_hides (Some x) s) (stmts_kinds (Some x) rest))
 
 -- a group
@@ -161,9 +166,11 @@ group_named x h k i line [] id at s rest = first_named x id at s rest
 group_named x h k i line (r ∷ rs) id at s rest =
     let tail = join_stmts (temporaries (k + 1) (i + 1) line rs ++ stmt id at s ∷ []) rest in
     let e = first_named x i line (let_to false (temporary k) None r) tail in
+    let own = mentions_of_own x (let_to false (temporary k) None r) in
+    let m = ap (λ n. ((nat_lt 0 n || false || false) || false) || cond (bytes_eq x (temporary k)) false (named_in x (stmts_kinds (Some x) tail))) own in
     let f = ap (λ b. ((nat_lt 0 (right_mentions x r) || false || false) || false) || cond b false (named_in x (stmts_kinds (Some x) tail))) (apart x h k) in
     let g = group_named x h (k + 1) (i + 1) line rs id at s rest in
-    e ∙ f ∙ regroup (nat_lt 0 (right_mentions x r)) (nat_lt 0 (rights_mention x rs)) (nat_lt 0 (right_mentions x r + rights_mention x rs)) _ _ (some_sum (right_mentions x r) (rights_mention x rs)) g
+    e ∙ m ∙ f ∙ regroup (nat_lt 0 (right_mentions x r)) (nat_lt 0 (rights_mention x rs)) (nat_lt 0 (right_mentions x r + rights_mention x rs)) _ _ (some_sum (right_mentions x r) (rights_mention x rs)) g
   where
     regroup : (a b c d e : Bool) → c ≡ a || b → d ≡ b || e → ((a || false || false) || false) || d ≡ c || e
     regroup true b c d e p q = ap (λ y. y || e) (sym p)
@@ -196,7 +203,7 @@ mutual
       let both = both_named (named_in x (block_kinds (Some x) a')) (named_in x (block_kinds (Some x) a)) (named_in x (else_kinds (Some x) b')) (named_in x (else_kinds (Some x) b))
       (block_named x h n i a) (else_named x h (n + block_pulls a) (i + block_size a) b) in
       inside_named _ _ _ (named_in x (block_kinds (Some x) a' ++ else_kinds (Some x) b')) (named_in x (block_kinds (Some x) a ++ else_kinds (Some x) b)) (own_named x h k i (if_else c a b))
-      (list_any-append (own_names x) (block_kinds (Some x) a') (else_kinds (Some x) b') ∙ both ∙ sym (list_any-append (own_names x) (block_kinds (Some x) a) (else_kinds (Some x) b)))
+      (list_any-append (is_named x) (block_kinds (Some x) a') (else_kinds (Some x) b') ∙ both ∙ sym (list_any-append (is_named x) (block_kinds (Some x) a) (else_kinds (Some x) b)))
   kind_named x h k i (for_in y m n b) = turns_named x (bytes_eq x y) (block_kinds (Some x) (expand_block k i b)) (block_kinds (Some x) b) (block_named x h k i b)
   kind_named x h k i (while_do c n b) = inside_named _ _ _ (named_in x (block_kinds (Some x) (expand_block (k + expr_pulls c) i b))) (named_in x (block_kinds (Some x) b))
       (own_named x h k i (while_do c n b)) (block_named x h (k + expr_pulls c) i b)

@@ -6,16 +6,17 @@ use Rattle.std.specs.Prelude.{not, nat_lt, is_some, ◌&&◌, ◌||◌}
 use Rattle.oc_lex.specs.Stands.{IsName}
 use Rattle.oc_tree.specs.Tree.{right_call, TKind, let_to, let_array, assign, assign_index, assign_deref, if_else, for_in, while_do, call_only, sense_only, emit, fresh, consistent, return, TProgram}
 use Rattle.oc_tree.specs.Form.{KindInForm}
-use Rattle.oc_tree.specs.Pulls.{expr_pulls, own_pulls, own_skips, right_skips}
+use Rattle.oc_tree.specs.Pulls.{expr_pulls, own_pulls}
 use Rattle.oc_tree.specs.Scope.{variable_of, variable_in, is_variable, is_name_of}
 use Rattle.oc_tree.specs.Types.{value_type, pointed_type, has_elements, is_int, is_bool, is_same, type_of, right_type}
 use Rattle.oc_tree.specs.Elements.{Here}
 use Rattle.oc_tree.specs.Limits.{Tally, statement_passes}
 use Rattle.oc_tree.specs.Broken.{statement_rules, lowest}
-use Rattle.oc_tree.specs.Rules.{takes_name, expr_known, right_known, own_known, expr_fits, right_fits, own_fits, written_differs, sides_differ, condition_is_number, let_bad_length}
+use Rattle.oc_tree.specs.Rules.{takes_name, expr_fits, right_fits, own_fits, written_differs, sides_differ, condition_is_number, let_bad_length}
 use Rattle.oc_tree.specs.Rules.{target_fixed, array_fixed, pointee_fixed, origin_is, is_writable, is_writable_array, is_mutable_param, is_let_in, annotates_other}
 use Rattle.oc_tree.specs.Rules.{returns_elsewhere, has_many_turns, pulls_disturb}
 use Rattle.oc_tree.specs.Expansion.{left_expr, left_right, expand_kind}
+use Rattle.oc_tree.specs.Walks.{kind_known, kind_skips, right_skips, expr_known, right_known}
 use Rattle.oc_desugar.proofs.Seen.{SameTop, SameReach, SameHere, HeldOwn}
 use Rattle.oc_desugar.proofs.NoPulls.{none_expr, none_kind}
 use Rattle.oc_desugar.proofs.HeldParts.{HeldKind, held_kind}
@@ -31,7 +32,7 @@ use Rattle.oc_desugar.proofs.Unbroken.{Unbroken, unbroken, stays_unbroken}
 no_pulls : (k i : ℕ) (s : TKind) → own_pulls (expand_kind k i s) ≡ 0
 no_pulls k i s = omega (arith, none_kind k i s)
 
-none_skipped_own : (k i : ℕ) (s : TKind) → own_skips (expand_kind k i s) ≡ false
+none_skipped_own : (k i : ℕ) (s : TKind) → kind_skips (expand_kind k i s) ≡ false
 none_skipped_own k i (let_to m x n r) = none_skipped k r
 none_skipped_own k i (let_array m x n z w) = refl
 none_skipped_own k i (assign x r) = none_skipped k r
@@ -73,7 +74,7 @@ module _ {p q : TProgram} {f : ℕ → ℕ} {h g : Here} (top : SameTop p q) (he
   same_takes k i (for_in x from to b) o = same_taken same x o.0
   same_takes k i s o = refl
 
-  known_own : (k i : ℕ) (s : TKind) → KindInForm IsName s → HeldKind p g.scope k s → own_known p h.scope s ≡ true → own_known q g.scope (expand_kind k i s) ≡ true
+  known_own : (k i : ℕ) (s : TKind) → KindInForm IsName s → HeldKind p g.scope k s → kind_known p h.scope s ≡ true → kind_known q g.scope (expand_kind k i s) ≡ true
   known_own k i (let_to m x n r) o t e = known_right same k r o.2 t e
   known_own k i (let_array m x n z w) o t e = refl
   known_own k i (assign x r) o t e =

@@ -16,8 +16,9 @@ use Rattle.oc_tree.specs.Types.{has_elements, is_int, type_of, pointed_type, sca
 use Rattle.oc_tree.specs.Elements.{Here, let_var, kind_of, scope_after}
 use Rattle.oc_tree.specs.Limits.{Tally, statement_passes}
 use Rattle.oc_tree.specs.Broken.{statement_rules, lowest}
-use Rattle.oc_tree.specs.Rules.{expr_known, right_known, passed_on, expr_fits, right_fits}
+use Rattle.oc_tree.specs.Rules.{passed_on, expr_fits, right_fits}
 use Rattle.oc_tree.specs.Expansion.{temporary, pulled_expr, pulled_right, pulled}
+use Rattle.oc_tree.specs.Walks.{expr_known, right_known}
 use Rattle.oc_tree.proofs.ReachLaws.{or_right}
 use Rattle.oc_desugar.proofs.Seen.{SameTop, SameReach, SameHere, NoTemporary, IsHeld, pull_type, HeldPulls}
 use Rattle.oc_desugar.proofs.Lengths.{length_expr}

@@ -2,13 +2,14 @@
 use Rattle.std.proofs.Common.{◌≡◌, Bool, true, false, true≢false, [], ◌∷◌, Some, None, cond, refl, ap, sym, ◌∙◌}
 use Rattle.std.specs.Prelude.{not}
 use Rattle.oc_tree.specs.Tree.{TKind, TProgram}
-use Rattle.oc_tree.specs.Pulls.{own_skips}
 use Rattle.oc_tree.specs.Calls.{own_calls}
 use Rattle.oc_tree.specs.Elements.{Here}
 use Rattle.oc_tree.specs.Limits.{Tally, statement_passes}
 use Rattle.oc_tree.specs.Broken.{Table, statement_rules, lowest}
-use Rattle.oc_tree.specs.Rules.{takes_name, own_known, own_fits, sides_differ, condition_is_number, used_calls, let_bad_length, target_fixed, array_fixed, pointee_fixed}
+use Rattle.oc_tree.specs.Rules.{takes_name, own_fits, sides_differ, condition_is_number, used_calls, let_bad_length, target_fixed, array_fixed, pointee_fixed}
 use Rattle.oc_tree.specs.Rules.{annotates_other, returns_elsewhere, has_many_turns, pulls_disturb}
+use Rattle.oc_tree.specs.Walks.{kind_known, kind_skips}
+use Rattle.oc_tree.proofs.PartLaws.{known_of_own, skips_of_own}
 use Rattle.oc_desugar.proofs.FineCalls.{CallFine, Gives, Each, fine_from_rules, none_main, all_meet, all_lend, all_alone, none_exposes, none_back, gives_from_rule, all_give}
 
 -- ---- tables
@@ -34,7 +35,7 @@ passes_all (r ∷ rs) h = ap (λ b. cond b (Some r.0) (lowest rs)) h.0 ∙ passe
 
 pub record Unbroken (p : TProgram) (h : Here) (k : TKind) : Type 0 where
   pub taken : takes_name p h.scope k ≡ false
-  pub known : own_known p h.scope k ≡ true
+  pub known : kind_known p h.scope k ≡ true
   pub fits : own_fits p h.scope k ≡ true
   pub sides : sides_differ p h.scope k ≡ false
   pub condition : condition_is_number p h.scope k ≡ false
@@ -47,7 +48,7 @@ pub record Unbroken (p : TProgram) (h : Here) (k : TKind) : Type 0 where
   pub annotates : annotates_other h k ≡ false
   pub returns : returns_elsewhere p h k ≡ false
   pub turns : has_many_turns k ≡ false
-  pub skips : own_skips k ≡ false
+  pub skips : kind_skips k ≡ false
   pub undisturbed : pulls_disturb p k ≡ false
 
 is_so : (b : Bool) → not b ≡ false → b ≡ true
@@ -80,7 +81,7 @@ unbroken p n h k e =
     let r26 = r25.1 in
     record {
       taken = r2.0;
-      known = is_so _ r3.0;
+      known = sym (known_of_own p h.scope k) ∙ is_so _ r3.0;
       fits = is_so _ r5.0;
       sides = r6.0;
       condition = r7.0;
@@ -93,7 +94,7 @@ unbroken p n h k e =
       annotates = r18.0;
       returns = r19.0;
       turns = r21.0;
-      skips = r25.0;
+      skips = sym (skips_of_own k) ∙ r25.0;
       undisturbed = r26.0;
     }
 
@@ -106,7 +107,7 @@ pub stays_unbroken : (p : TProgram) (n : Tally) (h : Here) (k : TKind) → Unbro
 stays_unbroken p n h k u counts =
     let cs = own_calls k in
     let r26 = also u.undisturbed tt in
-    let r25 = also u.skips r26 in
+    let r25 = also (skips_of_own k ∙ u.skips) r26 in
     let r22 = also counts r25 in
     let r21 = also u.turns r22 in
     let r20 = also (none_back p h cs u.calls) r21 in
@@ -125,5 +126,5 @@ stays_unbroken p n h k u counts =
     let r6 = also u.sides r7 in
     let r5 = also (ap not u.fits) r6 in
     let r4 = also (none_main p h cs u.calls) r5 in
-    let r3 = also (ap not u.known) r4 in
+    let r3 = also (ap not (known_of_own p h.scope k ∙ u.known)) r4 in
     passes_all (statement_rules p n h k) (also u.taken r3)

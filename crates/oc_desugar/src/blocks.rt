@@ -5,8 +5,12 @@ ghost use Rattle.oc_tree.specs.View.{block_view, else_view, kind_view, right_vie
 ghost use Rattle.oc_tree.specs.Expansion.{block_size, else_size, expand_block, expand_else, expand_kind, expand_stmts, inner_size, pulled, stmts_size, temporaries};
 ghost use Rattle.oc_tree.specs.Pulls.{block_pulls, else_pulls, inner_pulls, own_pulls, stmts_pulls};
 
-use crate::parts::{left_call, left_expr, left_right, temporary};
-use crate::pulls::own_pulls;
+use crate::parts::{left_expr, temporary};
+use crate::straight::{
+    consistent, for_in, fresh, left_assign, left_assign_deref, left_assign_index, left_call_only,
+    left_emit, left_let, left_return, let_array, sense_only,
+};
+use oc_tree::pulls::own_pulls;
 use oc_tree::tree::{Block, Right, Stmt, StmtKind};
 use std::alloc::{AllocError, Global};
 
@@ -183,46 +187,20 @@ fn expand_kind(
             name,
             kind,
             right,
-        } => {
-            let name = name.try_clone(alloc)?;
-            let right = left_right(alloc, &mut n.pull, pulls, right)?;
-            Ok(StmtKind::Let {
-                mutable: *mutable,
-                name,
-                kind: *kind,
-                right,
-            })
-        }
+        } => left_let(alloc, &mut n.pull, pulls, *mutable, name, *kind, right),
         StmtKind::LetArray {
             mutable,
             name,
             kind,
             initial,
             words,
-        } => {
-            Ok(StmtKind::LetArray {
-                mutable: *mutable,
-                name: name.try_clone(alloc)?,
-                kind: *kind,
-                initial: *initial,
-                words: *words,
-            })
-        }
-        StmtKind::Assign { name, right } => {
-            let name = name.try_clone(alloc)?;
-            let right = left_right(alloc, &mut n.pull, pulls, right)?;
-            Ok(StmtKind::Assign { name, right })
-        }
+        } => let_array(alloc, *mutable, name, *kind, *initial, *words),
+        StmtKind::Assign { name, right } => left_assign(alloc, &mut n.pull, pulls, name, right),
         StmtKind::AssignIndex { name, index, right } => {
-            let name = name.try_clone(alloc)?;
-            let index = left_expr(alloc, &mut n.pull, pulls, index)?;
-            let right = left_right(alloc, &mut n.pull, pulls, right)?;
-            Ok(StmtKind::AssignIndex { name, index, right })
+            left_assign_index(alloc, &mut n.pull, pulls, name, index, right)
         }
         StmtKind::AssignDeref { name, right } => {
-            let name = name.try_clone(alloc)?;
-            let right = left_right(alloc, &mut n.pull, pulls, right)?;
-            Ok(StmtKind::AssignDeref { name, right })
+            left_assign_deref(alloc, &mut n.pull, pulls, name, right)
         }
         StmtKind::If {
             condition,
@@ -244,14 +222,8 @@ fn expand_kind(
             to,
             body,
         } => {
-            let name = name.try_clone(alloc)?;
             let body = expand_block(alloc, n, body)?;
-            Ok(StmtKind::For {
-                name,
-                from: *from,
-                to: *to,
-                body,
-            })
+            for_in(alloc, name, *from, *to, body)
         }
         StmtKind::While {
             condition,
@@ -266,34 +238,11 @@ fn expand_kind(
                 body,
             })
         }
-        StmtKind::CallOnly { call } => {
-            let call = left_call(alloc, &mut n.pull, pulls, call)?;
-            Ok(StmtKind::CallOnly { call })
-        }
-        StmtKind::SenseOnly { sensor } => {
-            Ok(StmtKind::SenseOnly {
-                sensor: sensor.try_clone(alloc)?,
-            })
-        }
-        StmtKind::Emit { port, value } => {
-            let port = port.try_clone(alloc)?;
-            let value = left_expr(alloc, &mut n.pull, pulls, value)?;
-            Ok(StmtKind::Emit { port, value })
-        }
-        StmtKind::Fresh { name } => {
-            Ok(StmtKind::Fresh {
-                name: name.try_clone(alloc)?,
-            })
-        }
-        StmtKind::Consistent { name, id } => {
-            Ok(StmtKind::Consistent {
-                name: name.try_clone(alloc)?,
-                id: *id,
-            })
-        }
-        StmtKind::Return { value } => {
-            let value = left_expr(alloc, &mut n.pull, pulls, value)?;
-            Ok(StmtKind::Return { value })
-        }
+        StmtKind::CallOnly { call } => left_call_only(alloc, &mut n.pull, pulls, call),
+        StmtKind::SenseOnly { sensor } => sense_only(alloc, sensor),
+        StmtKind::Emit { port, value } => left_emit(alloc, &mut n.pull, pulls, port, value),
+        StmtKind::Fresh { name } => fresh(alloc, name),
+        StmtKind::Consistent { name, id } => consistent(alloc, name, *id),
+        StmtKind::Return { value } => left_return(alloc, &mut n.pull, pulls, value),
     }
 }

@@ -3,7 +3,7 @@ ghost use Rattle.std.specs.Prelude.{◌≡◌, ◌<◌, ◌^◌, ◌+◌, ◌++�
 ghost use Rattle.oc_tree.specs.View.{block_view, else_view, function_view, kind_view};
 ghost use Rattle.oc_tree.specs.Expansion.{block_groups, block_size, else_groups, else_size, functions_groups, inner_groups, inner_size};
 
-use crate::pulls::own_pulls;
+use oc_tree::pulls::own_pulls;
 use oc_tree::tree::{Block, Function, StmtId, StmtKind};
 use std::alloc::{AllocError, Global};
 

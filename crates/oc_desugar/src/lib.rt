@@ -8,7 +8,7 @@ mod groups;
 pub mod laws;
 mod parts;
 mod program;
-pub mod pulls;
+mod straight;
 
 pub use checked::expand;
 pub use program::expand_program;

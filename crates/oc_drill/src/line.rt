@@ -1,6 +1,5 @@
 //! The line of a drill.
-ghost use Rattle.std.specs.Prelude.{◌≡◌, ◌≤◌, OnOk, OnErr};
-ghost use Rattle.oc_io.specs.Faults.{Rose, TookPart};
+ghost use Rattle.oc_io.specs.Faults.{Puts};
 ghost use Rattle.oc_drill.specs.Drill.{drill_line};
 
 use itoa::Buffer;
@@ -16,12 +15,7 @@ pub fn put_drill<O: Sink>(
     bytes: u64,
     out: &mut O,
 ) -> Result<(), SinkFault>
-    ensures ok { OnOk result (O.took out.old (drill_line turns status lines bytes) out.new) }
-    ensures part { OnErr result
-        (TookPart O.took out.old (drill_line turns status lines bytes) out.new) }
-    ensures calm { OnOk result (O.faults out.new ≡ O.faults out.old) }
-    ensures cause { OnErr result (Rose (O.faults out.old) (O.faults out.new)) }
-    ensures count { O.faults out.old ≤ O.faults out.new }
+    ensures { Puts O.took O.faults out.old (drill_line turns status lines bytes) out.new result }
 {
     let mut first = Buffer::new();
     let mut second = Buffer::new();

@@ -10,40 +10,54 @@ use Rattle.oc_tree.specs.declared.tree.VarId.TheVariants as variables
 use Rattle.oc_tree.specs.Calls.{function_place}
 use Rattle.oc_tree.specs.Assigned.{is_mutable}
 use Rattle.oc_tree.specs.Places.{Placed, find_variable, or_nonvolatile, declares, block_placed, at_start}
-use Rattle.oc_meaning.specs.Uses.{expr_names, arg_names, own_names}
+use Rattle.oc_tree.specs.Named.{expr_names, arg_names, own_names}
 use Rattle.oc_effects.specs.declared.effect.Note.{Note}
 use Rattle.oc_effects.specs.declared.effect.Note.TheVariants as notes
 
--- an argument: the variables that it names, and the one that it lends by `&mut`
+-- an argument of a call
 pub record TPassed : Type 0 where
+  -- the variables that it names
   pub named : List VarId
+  -- the one that it lends to a `&mut` parameter
   pub lent : Option VarId
 
--- a call: the place of the called function, and the arguments
+-- a call that a statement makes
 pub record TCalled : Type 0 where
+  -- the place of the called function
   pub function : ℕ
+  -- the arguments, one for each parameter
   pub args : List TPassed
 
--- What a statement does by itself: the variables that it names in its own expressions and arguments; those of the value
--- that it sets a variable to, and of its target's index; the variable that it sets, which is the result of the function
--- for a `return`; whether it sets it to an input; its call; its annotation. `around` has the statements around it, the
--- innermost first.
+-- what a statement does by itself, without the statements inside it
 pub record TEffect : Type 0 where
+  -- its number
   pub stmt : ℕ
+  -- its line in the source
   pub line : ℕ
+  -- the block in which it stands directly
   pub block : ℕ
+  -- the statements around it, the innermost first
   pub around : List ℕ
+  -- whether it is a `for` or a `while`
   pub is_loop : Bool
+  -- whether it makes a variable
   pub declares : Bool
+  -- the variables that it names in its own expressions and arguments
   pub named : List VarId
+  -- those that it names in the value that it sets a variable to, and in its target's index
   pub sources : List VarId
+  -- the variable that it sets, which is the result of the function for a `return`
   pub target : Option VarId
+  -- whether it sets that one to an input
   pub senses : Bool
+  -- its call
   pub call : Option TCalled
+  -- its annotation
   pub note : Option Note
 
 -- ---- parts of statements
 
+-- a statement is a `for` or a `while`
 abbrev pub is_loop : TKind → Bool
 is_loop (for_in x m n b) = true
 is_loop (while_do c n b) = true
@@ -57,6 +71,7 @@ right_of (assign_index x i r) = Some r
 right_of (assign_deref x r) = Some r
 right_of _ = None
 
+-- a right side is an input
 abbrev pub is_sense : Option TRight → Bool
 is_sense (Some (right_sense s)) = true
 is_sense _ = false
@@ -88,9 +103,8 @@ source_names _ = []
 -- the name that is lent where the parameter takes `&mut`
 abbrev pub lent_name : TArg → Option Text
 lent_name (value (variable x)) = Some x
-lent_name (value e) = None
-lent_name (shared x) = None
 lent_name (mutable x) = Some x
+lent_name a = None
 
 -- ---- names resolved, at a statement
 
@@ -98,9 +112,11 @@ lent_name (mutable x) = Some x
 abbrev pub variable_at : TProgram → Placed → Text → Option VarId
 variable_at p a x = or_nonvolatile p x (find_variable a.at.variables x)
 
+-- the variables that names stand for in the statement's own expressions
 abbrev pub variables_at : TProgram → Placed → List Text → List VarId
 variables_at p a xs = flat_map (λ x. option_to_list (variable_at p a x)) xs
 
+-- the variable that a statement sets: the one that it declares or assigns, or the function's result
 abbrev pub target_of : TProgram → Placed → TKind → Option VarId
 target_of p a (let_to m x k r) = Some (variables.Declared a.id)
 target_of p a (let_array m x k i n) = Some (variables.Declared a.id)
@@ -110,18 +126,20 @@ target_of p a (assign_deref x r) = variable_at p a x
 target_of p a (return e) = Some variables.Returned
 target_of p a _ = None
 
+-- the annotation that a statement is, of the variable that it names
 abbrev pub note_of : TProgram → Placed → TKind → Option Note
 note_of p a (fresh x) = option_map notes.Fresh (variable_at p a x)
 note_of p a (consistent x k) = option_map (λ v. notes.Consistent v k) (variable_at p a x)
 note_of p a _ = None
 
--- an argument for a parameter
+-- an argument of a call at a statement, for this parameter
 abbrev pub passed : TProgram → Placed → Param → TArg → TPassed
 passed p a q g = record {
   named = variables_at p a (arg_names g);
   lent = cond (is_mutable q.passing) (option_and_then (variable_at p a) (lent_name g)) None;
 }
 
+-- the arguments of a call at a statement, for these parameters
 abbrev pub all_passed : TProgram → Placed → List Param → TArgs → List TPassed
 all_passed p a [] gs = []
 all_passed p a (q ∷ qs) no_args = []
@@ -131,13 +149,15 @@ all_passed p a (q ∷ qs) (more_args g gs) = passed p a q g ∷ all_passed p a q
 abbrev pub params_at : TProgram → ℕ → List Param
 params_at p f = get_or (map (λ g. g.params) p.functions) f []
 
+-- a call of the function at a place, with these arguments
 abbrev pub called_at : TProgram → Placed → TArgs → ℕ → TCalled
 called_at p a args f = record { function = f; args = all_passed p a (params_at p f) args }
 
--- a call of a function that exists
+-- a call at a statement, where the function exists
 abbrev pub called_by : TProgram → Placed → TCall → Option TCalled
 called_by p a (call f args) = option_map (called_at p a args) (function_place p.functions f)
 
+-- what a statement does by itself, where it stands
 abbrev pub effect_of : TProgram → Placed → TEffect
 effect_of p a = record {
   stmt = a.id;
@@ -160,14 +180,14 @@ effect_of p a = record {
 abbrev pub function_effects : TProgram → TFunction → List TEffect
 function_effects p f = map (effect_of p) (block_placed (at_start f) f.body)
 
--- those of all functions
+-- the effects of all functions, a list for each, in source order
 abbrev pub effects : TProgram → List (List TEffect)
 effects p = map (function_effects p) p.functions
 
--- those of the function at a place
+-- the effects of the function at a place
 abbrev pub effects_at : TProgram → ℕ → List TEffect
 effects_at p f = get_or (effects p) f []
 
--- the statement of a number
+-- an effect is that of the statement with this number
 abbrev pub is_numbered : ℕ → TEffect → Bool
 is_numbered s a = nat_eq a.stmt s

@@ -13,7 +13,13 @@ use Rattle.oc_effects.specs.Effects.{TEffect, effect_of}
 
 -- a statement, where it stands
 abbrev pub standing : (block : ℕ) → List ℕ → Variables → (id line : ℕ) → TKind → Placed
-standing b around vs id line k = record { id = id; line = line; kind = k; at = record { block = b; loops = 0; around = around; variables = vs } }
+standing b around vs id line k =
+    record {
+      id = id;
+      line = line;
+      kind = k;
+      at = record { block = b; loops = 0; around = around; variables = vs };
+    }
 
 -- as the code has it
 abbrev pub placed_view : Here → Placed
@@ -28,8 +34,10 @@ block_id (block id ss) = id
 
 abbrev mutual
   pub kind_effects : TProgram → List ℕ → Variables → (id : ℕ) → TKind → List TEffect
-  kind_effects p around vs id (if_else c a b) = block_effects p (id ∷ around) vs a ++ else_effects p (id ∷ around) vs b
-  kind_effects p around vs id (for_in x m n b) = block_effects p (id ∷ around) (vs ++ (x, variables.Declared id) ∷ []) b
+  kind_effects p around vs id (if_else c a b) =
+      block_effects p (id ∷ around) vs a ++ else_effects p (id ∷ around) vs b
+  kind_effects p around vs id (for_in x m n b) =
+      block_effects p (id ∷ around) (vs ++ (x, variables.Declared id) ∷ []) b
   kind_effects p around vs id (while_do c n b) = block_effects p (id ∷ around) vs b
   kind_effects p around vs id _ = []
 
@@ -38,14 +46,16 @@ abbrev mutual
   else_effects p around vs (else_do b) = block_effects p around vs b
 
   pub stmt_effects : TProgram → (block : ℕ) → List ℕ → Variables → TStmt → List TEffect
-  stmt_effects p b around vs (stmt id line k) = effect_of p (standing b around vs id line k) ∷ kind_effects p around vs id k
+  stmt_effects p b around vs (stmt id line k) =
+      effect_of p (standing b around vs id line k) ∷ kind_effects p around vs id k
 
   pub block_effects : TProgram → List ℕ → Variables → TBlock → List TEffect
   block_effects p around vs (block id ss) = stmts_effects p id around vs ss
 
   pub stmts_effects : TProgram → (block : ℕ) → List ℕ → Variables → TStmts → List TEffect
   stmts_effects p b around vs no_stmts = []
-  stmts_effects p b around vs (more s ss) = stmt_effects p b around vs s ++ stmts_effects p b around (vs ++ declared_by s) ss
+  stmts_effects p b around vs (more s ss) =
+      stmt_effects p b around vs s ++ stmts_effects p b around (vs ++ declared_by s) ss
 
 -- ---- parts of a statement, as the code has them
 

@@ -9,8 +9,8 @@ ghost use Rattle.oc_effects.specs.Walk.{call_seen, placed_view};
 use crate::effect::{Called, Passed};
 use crate::here::{Here, variable, variables};
 use crate::parts::right_of;
-use oc_meaning::names::arg_names;
 use oc_tree::name::Name;
+use oc_tree::named::arg_names;
 use oc_tree::tree::{Arg, Call, Expr, Param, Right, StmtKind, VarId};
 use std::alloc::{AllocError, Global};
 

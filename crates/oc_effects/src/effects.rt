@@ -2,7 +2,7 @@
 ghost use Rattle.std.specs.Prelude.{◌≡◌, ◌<◌, ◌≤◌, ◌^◌, ◌+◌, ◌++◌, All, map, length, find, option_map, slice_range, OnOk, IfOk};
 ghost use Rattle.std.proofs.Math.ListN.{get_or};
 ghost use Rattle.oc_tree.specs.Numbers.{numbers_on};
-ghost use Rattle.oc_tree.specs.Marked.{is_in_region};
+ghost use Rattle.oc_tree.specs.Marked.{around, is_in_region};
 ghost use Rattle.oc_tree.specs.Places.{block_of, param_variables, placed};
 ghost use Rattle.oc_tree.specs.Regions.{region_view};
 ghost use Rattle.oc_tree.specs.View.{function_view};
@@ -139,6 +139,7 @@ impl<'a> Effects<'a> {
     pub fn checked(&self) -> &'a Checked
         ensures { result.now ≡ self.now }
     {
+        // For the proof alone: the view or the invariant speaks of this field.
         let _effects = &self.effects;
         self.checked
     }
@@ -147,6 +148,7 @@ impl<'a> Effects<'a> {
     pub fn functions(&self) -> usize
         ensures { result ≡ length self.now.program.functions }
     {
+        // For the proof alone: the view or the invariant speaks of this field.
         let _effects = &self.effects;
         self.checked.program().functions.len()
     }
@@ -156,6 +158,7 @@ impl<'a> Effects<'a> {
         requires { function < length self.now.program.functions }
         ensures { map effect_view result.now ≡ effects_at self.now.program function }
     {
+        // For the proof alone: the view or the invariant speaks of this field.
         let _checked = self.checked;
         part(self.effects.as_slice(), self.starts.as_slice(), function)
     }
@@ -168,6 +171,7 @@ impl<'a> Effects<'a> {
             ≡ numbers_on result (length (effects_at self.now.program function)) }
         ensures none { length (effects_at self.now.program function) ≡ 0 → result ≡ 0 }
     {
+        // For the proof alone: the view or the invariant speaks of this field.
         let _checked = self.checked;
         let effects = self.of_function(function);
         if effects.is_empty() {
@@ -195,6 +199,7 @@ impl<'a> Effects<'a> {
         ensures { effect_seen result
             ≡ option_map (effect_of self.now.program) (placed self.now.program s) }
     {
+        // For the proof alone: the view or the invariant speaks of this field.
         let _checked = self.checked;
         if s == 0 {
             return None;
@@ -206,6 +211,7 @@ impl<'a> Effects<'a> {
     pub fn block_of(&self, s: StmtId) -> Option<BlockId>
         ensures { result ≡ block_of self.now.program s }
     {
+        // For the proof alone: the view or the invariant speaks of this field.
         let _checked = self.checked;
         match self.at(s) {
             Some(effect) => Some(effect.block),
@@ -213,10 +219,23 @@ impl<'a> Effects<'a> {
         }
     }
 
+    /// The statements around a statement, the innermost first.
+    pub fn around(&self, s: StmtId) -> &[StmtId]
+        ensures { result.now ≡ around (placed self.now.program s) }
+    {
+        // For the proof alone: the view or the invariant speaks of this field.
+        let _checked = self.checked;
+        match self.at(s) {
+            Some(effect) => &effect.around,
+            None => &[],
+        }
+    }
+
     /// Whether a statement stands directly in a region.
     pub fn is_in_region(&self, region: &Region, s: StmtId) -> bool
         ensures { result ≡ is_in_region self.now.program (region_view region.now) s }
     {
+        // For the proof alone: the view or the invariant speaks of this field.
         let _checked = self.checked;
         let range = region.range;
         range.first <= s

@@ -68,6 +68,7 @@ impl<'a> Known<'a> {
     pub fn nv(&self, name: &Name) -> Option<VarId>
         ensures { result ≡ nv_variable self.now name.now }
     {
+        // For the proof alone: the view or the invariant speaks of this field.
         let _program = self.program;
         let place = self.nvs.place(name)?;
         Some(VarId::Nv {
@@ -80,6 +81,7 @@ impl<'a> Known<'a> {
         ensures place { result ≡ function_place self.now.functions name.now }
         ensures below { IfSome result (λ f. f < length self.now.functions) }
     {
+        // For the proof alone: the view or the invariant speaks of this field.
         let _program = self.program;
         let place = self.functions.place(name)?;
         Some(place as u32)
@@ -90,6 +92,7 @@ impl<'a> Known<'a> {
         requires { function < length self.now.functions }
         ensures { result.now ≡ params_at self.now function }
     {
+        // For the proof alone: the view or the invariant speaks of this field.
         let _functions = &self.functions;
         let called = &self.program.functions[function as usize];
         called.params.as_slice()

@@ -4,8 +4,8 @@ ghost use Rattle.oc_tree.specs.View.{kind_view, right_view};
 ghost use Rattle.oc_tree.specs.Names.{names_seen};
 ghost use Rattle.oc_effects.specs.Effects.{source_names, value_names};
 
-use oc_meaning::names::expr_names;
 use oc_tree::name::Name;
+use oc_tree::named::expr_names;
 use oc_tree::tree::{Right, StmtKind};
 use std::alloc::AllocError;
 

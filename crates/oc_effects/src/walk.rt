@@ -12,7 +12,7 @@ use crate::known::Known;
 use crate::names::source_names;
 use crate::parts::{is_loop, note_of, senses, target_of};
 use crate::scope::Scope;
-use oc_meaning::names::own_names;
+use oc_tree::named::own_names;
 use oc_tree::tree::{Block, BlockId, Stmt, StmtId, StmtKind, VarId};
 use std::alloc::{AllocError, Global};
 

@@ -11,11 +11,11 @@ use Rattle.oc_flow.specs.Variables.{same_variable, is_among, is_variable_of, beg
 use Rattle.oc_flow.specs.Known.{TTable, linked, Adds, end_of}
 use Rattle.oc_flow.proofs.Lists.{same_tests, same_is, same_itself}
 
-or_false : (a : Bool) → a ≡ a || false
+pub or_false : (a : Bool) → a ≡ a || false
 or_false true = refl
 or_false false = refl
 
-or_assoc : (a b c : Bool) → (a || b) || c ≡ a || (b || c)
+pub or_assoc : (a b c : Bool) → (a || b) || c ≡ a || (b || c)
 or_assoc true b c = refl
 or_assoc false b c = refl
 
@@ -107,7 +107,7 @@ pub adds_end : (a : TEffect) (c : TCalled) (x y w : VarId) (f : Bool) (s t : TTa
 adds_end a c x y w f s t e q h = adds_same (λ u v. begins c x u && same_variable v w) (λ u v. begins c x u && (f && ends a c y v)) s t
     (λ u v. ap (λ z. begins c x u && z) (same_sym v w ∙ ap (λ o. is_variable_of o v) (sym q) ∙ sym (ends_is a c y v)) ∙ ap (λ g. begins c x u && (g && ends a c y v)) (sym e)) h
 
-take_end : {A : Type 0} (xs : List A) (i : ℕ) → length xs ≤ i → take i xs ≡ xs
+pub take_end : {A : Type 0} (xs : List A) (i : ℕ) → length xs ≤ i → take i xs ≡ xs
 take_end [] zero h = refl
 take_end [] (suc i) h = refl
 take_end (x ∷ xs) zero h = absurd (omega arith)

@@ -18,7 +18,7 @@ use Rattle.oc_flow.specs.Flow.{chain, leads_by_value, leads_by_call, leads, flow
 use Rattle.oc_flow.specs.Known.{number_from, number_in, cell, cell_at, TTable, linked, Links, flows_between, table_flows, TKnown, known_receives, received_at, Knowns, known_at}
 use Rattle.oc_flow.specs.Known.{leads_from, leads_to_callee, leads_called, leads_known, brings_from_callee, brings_called, brings_known, is_ready, outer_of, declared_of}
 use Rattle.oc_flow.specs.Known.{some_leads, some_brings, KnownBy, KnownIs, Right, Learns, Learning, Below, function_rank}
-use Rattle.oc_flow.proofs.Lists.{same_tests, any_in, in_any, any_cong}
+use Rattle.oc_flow.proofs.Lists.{same_tests, any_in, in_any, any_cong, kept_of, of_kept}
 use Rattle.oc_flow.proofs.Fixpoint.{Ranked, chain_cong, flow_fix, brings_fix}
 use Rattle.oc_flow.proofs.FlowLaw.{ends_at}
 use Rattle.oc_flow.proofs.Numbers.{numbered, number_at, number_below}
@@ -75,24 +75,6 @@ all_at t [] h x i = absurd i
 all_at t (y ∷ ys) h x (inl e) = ap t e ∙ (and_parts (t y) (list_all t ys) h).0
 all_at t (y ∷ ys) h x (inr i) = all_at t ys (and_parts (t y) (list_all t ys) h).1 x i
 
-kept_of : {A : Type 0} (t : A → Bool) (xs : List A) (x : A) → IsOf x xs → t x ≡ true → IsOf x (filter t xs)
-kept_of t [] x i h = i
-kept_of t (y ∷ ys) x (inl e) h = subst (λ b. IsOf x (cond b (y ∷ filter t ys) (filter t ys))) (sym (ap t (sym e) ∙ h)) (inl e)
-kept_of t (y ∷ ys) x (inr i) h = go (t y) (kept_of t ys x i h)
-  where
-    go : (b : Bool) → IsOf x (filter t ys) → IsOf x (cond b (y ∷ filter t ys) (filter t ys))
-    go true k = inr k
-    go false k = k
-
-of_kept : {A : Type 0} (t : A → Bool) (xs : List A) (x : A) → IsOf x (filter t xs) → IsOf x xs × (t x ≡ true)
-of_kept t [] x i = absurd i
-of_kept t (y ∷ ys) x i = go (t y) refl i (of_kept t ys x)
-  where
-    go : (b : Bool) → t y ≡ b → IsOf x (cond b (y ∷ filter t ys) (filter t ys)) → (IsOf x (filter t ys) → IsOf x ys × (t x ≡ true)) → IsOf x (y ∷ ys) × (t x ≡ true)
-    go true e (inl q) rest = (inl q, ap t q ∙ e)
-    go true e (inr k) rest = let z = rest k in (inr z.0, z.1)
-    go false e k rest = let z = rest k in (inr z.0, z.1)
-
 -- the two orders of the search for one that brings into a variable
 swapped : {A B : Type 0} (P : B → A → Bool) (Q : A → Bool) (es : List B) (vs : List A) → list_any Q (filter (λ u. list_any (λ b. P b u) es) vs) ≡ list_any (λ b. list_any (λ u. P b u && Q u) vs) es
 swapped P Q es vs = same_tests (list_any Q (filter (λ u. list_any (λ b. P b u) es) vs)) (list_any (λ b. list_any (λ u. P b u && Q u) vs) es)
@@ -147,6 +129,14 @@ is_among_at vs v i e = go (is_among v vs) refl
     go : (b : Bool) → is_among v vs ≡ b → b ≡ true
     go true h = refl
     go false h = absurd (none-some i (sym (absent 0 vs h) ∙ e))
+
+-- what flows is a variable of the table
+pub flows_within : (t : TTable) (u v : VarId) → table_flows t u v ≡ true → is_among u t.variables ≡ true
+flows_within t u v h = go (number_in t.variables u) refl h
+  where
+    go : (o : Option ℕ) → number_in t.variables u ≡ o → flows_between t.cells u v o (number_in t.variables v) ≡ true → is_among u t.variables ≡ true
+    go None e f = absurd (true≢false (sym f))
+    go (Some i) e f = is_among_at t.variables u i e
 
 -- the flow in a table
 flows_told : (t : TTable) (step : VarId → VarId → Bool) → Links t (λ a b. chain step t.variables a b) → (u v : VarId)

@@ -7,6 +7,8 @@ pub mod Cells
 pub mod Added
 pub mod Built
 pub mod Knows
+pub mod Gathered
+pub mod Marked
 pub mod Nothing
 pub mod Counts
 pub mod Asked

@@ -1,5 +1,5 @@
 -- Tests on lists and on variables.
-use Rattle.std.proofs.Common.{◌≡◌, ◌<◌, inl, inr, ℕ, zero, suc, Bool, true, false, true≢false, List, [], ◌∷◌, map, length, Option, Some, None, refl, ap, sym, ◌∙◌, subst, arith}
+use Rattle.std.proofs.Common.{◌≡◌, ◌<◌, inl, inr, ℕ, zero, suc, Bool, true, false, true≢false, List, [], ◌∷◌, map, filter, cond, length, Option, Some, None, refl, ap, sym, ◌∙◌, subst, arith}
 use Rattle.std.specs.Prelude.{◌||◌, nat_eq}
 use Rattle.std.specs.List.{list_any}
 use Rattle.std.proofs.Math.ListN.{get_or}
@@ -52,6 +52,25 @@ pub image_of : {A B : Type 0} (f : A → B) (xs : List A) (y : B) → IsOf y (ma
 image_of f [] y h = absurd h
 image_of f (x ∷ xs) y (inl e) = (x, inl refl, e)
 image_of f (x ∷ xs) y (inr h) = let z = image_of f xs y h in (z.0, inr z.1, z.2)
+
+-- what passes a test stays, and what stays passes it
+pub kept_of : {A : Type 0} (t : A → Bool) (xs : List A) (x : A) → IsOf x xs → t x ≡ true → IsOf x (filter t xs)
+kept_of t [] x i h = i
+kept_of t (y ∷ ys) x (inl e) h = subst (λ b. IsOf x (cond b (y ∷ filter t ys) (filter t ys))) (sym (ap t (sym e) ∙ h)) (inl e)
+kept_of t (y ∷ ys) x (inr i) h = go (t y) (kept_of t ys x i h)
+  where
+    go : (b : Bool) → IsOf x (filter t ys) → IsOf x (cond b (y ∷ filter t ys) (filter t ys))
+    go true k = inr k
+    go false k = k
+
+pub of_kept : {A : Type 0} (t : A → Bool) (xs : List A) (x : A) → IsOf x (filter t xs) → IsOf x xs × (t x ≡ true)
+of_kept t [] x i = absurd i
+of_kept t (y ∷ ys) x i = go (t y) refl i (of_kept t ys x)
+  where
+    go : (b : Bool) → t y ≡ b → IsOf x (cond b (y ∷ filter t ys) (filter t ys)) → (IsOf x (filter t ys) → IsOf x ys × (t x ≡ true)) → IsOf x (y ∷ ys) × (t x ≡ true)
+    go true e (inl q) rest = (inl q, ap t q ∙ e)
+    go true e (inr k) rest = let z = rest k in (inr z.0, z.1)
+    go false e k rest = let z = rest k in (inr z.0, z.1)
 
 -- ---- variables
 

@@ -7,32 +7,11 @@ use Rattle.oc_tree.specs.declared.tree.VarId.{VarId}
 use Rattle.oc_effects.specs.Effects.{TCalled, TEffect, effects}
 use Rattle.oc_flow.specs.Variables.{is_variable_of}
 use Rattle.oc_flow.specs.Flow.{brings_by_call, brings_to, brings, brings_at, may_bring, may_bring_at}
-use Rattle.oc_flow.specs.Known.{Knowns, brings_called, brings_known, some_brings, bringers}
 
 neither : (o : Option TCalled) (senses target : Bool) (by : Option TCalled → Bool) → by None ≡ false → is_some o || senses ≡ false → (senses && target) || by o ≡ false
 neither None false target by none h = none
 neither None true target by none h = absurd (true≢false h)
 neither (Some c) senses target by none h = absurd (true≢false h)
-
--- ---- as it is known
-
-brings_none : (ks : Knowns) (a : TEffect) (v : VarId) → may_bring a ≡ false → brings_known ks a v ≡ false
-brings_none ks a v h = neither a.call a.senses (is_variable_of a.target v) (λ o. brings_called ks a o v) refl h
-
-some_bringer : (ks : Knowns) (v : VarId) (es : List TEffect) → some_brings ks (bringers es) v ≡ some_brings ks es v
-some_bringer ks v [] = refl
-some_bringer ks v (e ∷ es) = go (may_bring e) refl (some_bringer ks v es)
-  where
-    go : (b : Bool) → may_bring e ≡ b → some_brings ks (bringers es) v ≡ some_brings ks es v → some_brings ks (cond b (e ∷ bringers es) (bringers es)) v ≡ some_brings ks (e ∷ es) v
-    go true h rest = ap (λ r. brings_known ks e v || r) rest
-    go false h rest = rest ∙ ap (λ b. b || some_brings ks es v) (sym (brings_none ks e v h))
-
--- the variables into which statements bring input are those into which the bringers do
-pub bringers_bring : (ks : Knowns) (es : List TEffect) (vs : List VarId) → filter (some_brings ks (bringers es)) vs ≡ filter (some_brings ks es) vs
-bringers_bring ks es [] = refl
-bringers_bring ks es (v ∷ vs) = λ i. cond (some_bringer ks v es i) (v ∷ bringers_bring ks es vs i) (bringers_bring ks es vs i)
-
--- ---- as it is
 
 brings_nothing : (p : TProgram) (n : ℕ) (a : TEffect) (v : VarId) → may_bring a ≡ false → brings_to p n a v ≡ false
 unfolding brings_to

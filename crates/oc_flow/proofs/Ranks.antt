@@ -15,13 +15,12 @@ use Rattle.oc_tree.specs.Reach.{rank}
 use Rattle.oc_tree.specs.Checked.{Group, IsChecked}
 use Rattle.oc_effects.specs.Effects.{TCalled, TEffect, right_call_of, call_of, called_at, called_by, effect_of, function_effects, effects, effects_at}
 use Rattle.oc_desugar.proofs.FineCalls.{Each, each_back}
-use Rattle.oc_formed.proofs.Ranks.{rank_at, rank_of, Onwards, rank_small}
-use Rattle.oc_formed.proofs.CallLinks.{KindsCall, none_hides, body_away, links_onwards}
-use Rattle.oc_formed.proofs.CallsFall.{ranks_fall}
-use Rattle.oc_formed.proofs.BodiesPass.{function_fine}
-use Rattle.oc_formed.proofs.BodiesCalls.{Lower, each_kind, last_call}
-use Rattle.oc_formed.proofs.Declared.{AllWithin, all_within}
-use Rattle.oc_formed.proofs.Mains.{own_place}
+use Rattle.oc_checked.proofs.Ranks.{rank_at, rank_of, Onwards, rank_small}
+use Rattle.oc_checked.proofs.CallLinks.{KindsCall, each_kind, last_call, none_hides, body_away, links_onwards}
+use Rattle.oc_checked.proofs.CallsFall.{Lower, ranks_fall}
+use Rattle.oc_checked.proofs.BodiesPass.{function_fine}
+use Rattle.oc_checked.proofs.Declared.{AllWithin, all_within}
+use Rattle.oc_checked.proofs.Mains.{own_place}
 use Rattle.oc_tree.specs.Members.{IsOf}
 use Rattle.oc_flow.proofs.Lists.{row_within, image_of}
 use Rattle.oc_flow.proofs.Fixpoint.{Ranked}

@@ -7,6 +7,7 @@ use Rattle.oc_tree.specs.declared.tree.VarId.{VarId}
 use Rattle.oc_tree.specs.declared.tree.VarId.TheVariants.{Nv, Param, Declared, Returned}
 use Rattle.oc_effects.specs.Effects.{TPassed, TCalled, TEffect, effects_at, params_at}
 
+-- two variables of a function are the same
 abbrev pub same_variable : VarId → VarId → Bool
 same_variable (Nv i) (Nv j) = nat_eq i j
 same_variable (Param i) (Param j) = nat_eq i j
@@ -14,9 +15,11 @@ same_variable (Declared s) (Declared t) = nat_eq s t
 same_variable Returned Returned = true
 same_variable _ _ = false
 
+-- a variable is one of these
 abbrev pub is_among : VarId → List VarId → Bool
 is_among v vs = list_any (same_variable v) vs
 
+-- a variable that may be there is this one
 abbrev pub is_variable_of : Option VarId → VarId → Bool
 is_variable_of None v = false
 is_variable_of (Some w) v = same_variable w v
@@ -30,9 +33,10 @@ from n (suc count) = n ∷ from (n + 1) count
 -- and those that its statements declare.
 abbrev pub variables : TProgram → ℕ → List VarId
 variables p f =
-    map Nv (from 0 (length p.names.nvs)) ++ (map Param (from 0 (length (params_at p f))) ++ (Returned ∷ map (λ a. Declared a.stmt) (filter (λ a. a.declares) (effects_at p f))))
+    map Nv (from 0 (length p.names.nvs)) ++ (map Param (from 0 (length (params_at p f)))
+    ++ (Returned ∷ map (λ a. Declared a.stmt) (filter (λ a. a.declares) (effects_at p f))))
 
--- a variable of a function that there is
+-- there is such a function, and this is one of its variables
 abbrev pub is_variable : TProgram → ℕ → VarId → Bool
 is_variable p f v = nat_lt f (length p.functions) && is_among v (variables p f)
 
@@ -42,9 +46,11 @@ is_given (Nv i) = true
 is_given (Param i) = true
 is_given _ = false
 
+-- what stands for an argument that isn't there
 abbrev pub nothing_passed : TPassed
 nothing_passed = record { named = []; lent = None }
 
+-- the argument for the parameter of this number
 abbrev pub arg_at : TCalled → ℕ → TPassed
 arg_at c i = get_or c.args i nothing_passed
 
@@ -53,8 +59,7 @@ arg_at c i = get_or c.args i nothing_passed
 abbrev pub begins : TCalled → (x u : VarId) → Bool
 begins c (Nv i) u = same_variable (Nv i) u
 begins c (Param i) u = is_among u (arg_at c i).named
-begins c (Declared s) u = false
-begins c Returned u = false
+begins c v u = false
 
 -- At the call of a statement, the caller's variable `v` stands for the callee's variable `y`, which ends a flow there: the
 -- result is the variable that the statement sets, a `&mut` parameter is what is lent for it, and a nonvolatile variable

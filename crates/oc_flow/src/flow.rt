@@ -21,6 +21,7 @@ fn summaries_of(alloc: Global, checked: &Checked) -> Result<Summaries, AllocErro
 {
     let effects = Effects::new(alloc, checked)?;
     let known = learn_all(alloc, &effects)?;
+    // For the proof alone: it tells that the program is checked.
     let _program = effects.checked().program();
     Ok(Summaries::new(effects, known))
 }

@@ -133,6 +133,7 @@ fn learn_ready(
     ensures { OnOk result (Learns effects.now.program f known.old.items known.new.items) }
 {
     let checked = effects.checked();
+    // For the proof alone: it tells that the program is checked.
     let _program = checked.program();
     let one = know(
         alloc,

@@ -2,7 +2,7 @@
 ghost use Rattle.std.specs.Prelude.{◌≡◌, Option};
 ghost use Rattle.oc_tree.specs.declared.tree.VarId.{VarId};
 ghost use Rattle.oc_effects.specs.View.{called_view, effect_view};
-ghost use Rattle.oc_flow.specs.Variables.{arg_at, ends, is_variable_of};
+ghost use Rattle.oc_flow.specs.Variables.{arg_at, is_variable_of};
 ghost use Rattle.oc_flow.specs.Known.{TKnown, end_of, known_receives, table_flows};
 
 use crate::numbering::is_same;
@@ -49,6 +49,7 @@ impl Known {
     pub fn outer(&self) -> &[VarId]
         ensures { result.now ≡ self.now.outer }
     {
+        // For the proof alone: the view or the invariant speaks of this field.
         let _table = &self.table;
         self.outer.as_slice()
     }
@@ -57,6 +58,7 @@ impl Known {
     pub fn flows(&self, u: VarId, v: VarId) -> bool
         ensures { result ≡ table_flows self.now.table u v }
     {
+        // For the proof alone: the view or the invariant speaks of this field.
         let _outer = &self.outer;
         self.table.flows(u, v)
     }
@@ -101,11 +103,4 @@ pub fn is_variable_of(variable: Option<VarId>, v: VarId) -> bool
         Some(w) => is_same(w, v),
         None => false,
     }
-}
-
-/// Whether a callee's variable stands for this one, where it ends a flow.
-pub fn ends_at(effect: &Effect, call: &Called, y: VarId, v: VarId) -> bool
-    ensures { result ≡ ends (effect_view effect.now) (called_view call.now) y v }
-{
-    is_variable_of(end_of(effect, call, y), v)
 }

@@ -162,6 +162,7 @@ impl Numbering {
     pub fn variables(&self) -> &[VarId]
         ensures { result.now ≡ self.now }
     {
+        // For the proof alone: the view or the invariant speaks of this field.
         let _numbers = &self.numbers;
         self.variables.as_slice()
     }
@@ -171,6 +172,7 @@ impl Numbering {
         ensures number { result ≡ number_in self.now v }
         ensures below { IfSome result (λ i. i < length self.now) }
     {
+        // For the proof alone: the view or the invariant speaks of this field.
         let _variables = &self.variables;
         self.numbers.get(slot(v))
     }

@@ -1,13 +1,14 @@
 //! What is known of flow and input in all functions of a program.
-ghost use Rattle.std.specs.Prelude.{◌≡◌, Option};
+ghost use Rattle.std.specs.Prelude.{◌≡◌, Option, IfOk};
 ghost use Rattle.oc_tree.specs.Checked.{TChecked};
 ghost use Rattle.oc_flow.specs.Flow.{brings_at, flows, may_bring_at};
-ghost use Rattle.oc_flow.specs.Known.{AllKnown, known_at, known_flows};
+ghost use Rattle.oc_flow.specs.Known.{AllKnown, Holds, known_at, known_flows};
 
-use crate::inputs::{brings, may_bring};
+use crate::inputs::{brought_by, may_bring};
 use crate::known::Known;
 use oc_effects::effects::Effects;
 use oc_tree::tree::{StmtId, VarId};
+use std::alloc::{AllocError, Global};
 use std::marker::Model;
 
 /// What flows where in a checked program, which contracts see as that program.
@@ -54,6 +55,7 @@ impl<'a> Summaries<'a> {
     pub fn effects(&self) -> &Effects<'a>
         ensures { result.now ≡ self.now }
     {
+        // For the proof alone: the view or the invariant speaks of this field.
         let _known = &self.known;
         &self.effects
     }
@@ -63,18 +65,23 @@ impl<'a> Summaries<'a> {
     pub fn flows(&self, function: u32, u: VarId, v: VarId) -> bool
         ensures { result ≡ flows self.now.program function u v }
     {
+        // For the proof alone: the view or the invariant speaks of this field.
         let _effects = &self.effects;
         known_flows(self.known.as_slice(), function, u, v)
     }
 
-    /// Whether a statement brings input into `v`.
-    pub fn brings(&self, s: StmtId, v: VarId) -> bool
-        ensures { result ≡ brings_at self.now.program s v }
+    /// The variables into which a statement brings input.
+    pub fn brought(&self, alloc: Global, s: StmtId) -> Result<Vec<VarId>, AllocError>
+        ensures { IfOk result (λ r. Holds r.items (brings_at self.now.program s)) }
     {
+        // For the proof alone: it tells that the program is checked.
         let _program = self.effects.checked().program();
         match self.effects.at(s) {
-            Some(effect) => brings(self.known.as_slice(), effect, v),
-            None => false,
+            Some(effect) => {
+                let brought = brought_by(alloc, self.known.as_slice(), effect)?;
+                Ok(brought)
+            }
+            None => Ok(Vec::new(alloc)),
         }
     }
 
@@ -82,7 +89,9 @@ impl<'a> Summaries<'a> {
     pub fn may_bring(&self, s: StmtId) -> bool
         ensures { result ≡ may_bring_at self.now.program s }
     {
+        // For the proof alone: the view or the invariant speaks of this field.
         let _known = &self.known;
+        // For the proof alone: it tells that the program is checked.
         let _program = self.effects.checked().program();
         match self.effects.at(s) {
             Some(effect) => may_bring(effect),

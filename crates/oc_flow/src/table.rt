@@ -1,10 +1,11 @@
 //! Tables of which variable of a function leads to which.
-ghost use Rattle.std.specs.Prelude.{◌≡◌, ◌<◌, ◌&&◌, ◌||◌, [], true, false, length, replicate, Some, OnOk, IfOk, IfSome};
+ghost use Rattle.std.specs.Prelude.{◌≡◌, ◌<◌, ◌&&◌, ◌||◌, Bool, [], true, false, length, map, replicate, Some, OnOk, IfOk, IfSome};
+ghost use Rattle.std.specs.List.{list_any};
 ghost use Rattle.std.proofs.Math.ListN.{get_or};
 ghost use Rattle.oc_tree.specs.declared.tree.VarId.{VarId};
 ghost use Rattle.oc_flow.specs.Variables.{is_among, same_variable};
 ghost use Rattle.oc_flow.specs.Flow.{chain};
-ghost use Rattle.oc_flow.specs.Known.{IsSquare, Joined, JoinedEach, Links, TTable, cell, cells_of, linked, number_in, set_cell, table_flows};
+ghost use Rattle.oc_flow.specs.Known.{IsSquare, Joined, JoinedEach, Links, MarkedRow, Marks, TTable, cell, cells_of, linked, number_in, received_at, set_cell, table_flows};
 
 use crate::numbering::{Numbering, is_same};
 use oc_tree::tree::VarId;
@@ -113,6 +114,16 @@ fn join_through(alloc: Global, rows: &mut Vec<Vec<bool>>, number: usize) -> Resu
     Ok(())
 }
 
+/// Marks a number, and those in its row.
+fn mark_row(marks: &mut Vec<bool>, row: &[bool], i: usize)
+    requires width { length row.now ≡ length marks.old.items }
+    requires number { i < length marks.old.items }
+    ensures { MarkedRow i row.now marks.old.items marks.new.items }
+{
+    join_row(marks, row);
+    marks[i] = true;
+}
+
 impl Table {
     /// A table in which nothing leads to anything.
     pub fn new(alloc: Global, variables: Vec<VarId>) -> Result<Table, AllocError>
@@ -128,6 +139,7 @@ impl Table {
     pub fn variables(&self) -> &[VarId]
         ensures { result.now ≡ self.now.variables }
     {
+        // For the proof alone: the view or the invariant speaks of this field.
         let _rows = &self.rows;
         self.numbering.variables()
     }
@@ -137,6 +149,7 @@ impl Table {
         ensures number { result ≡ number_in self.now.variables v }
         ensures below { IfSome result (λ i. i < length self.now.variables) }
     {
+        // For the proof alone: the view or the invariant speaks of this field.
         let _rows = &self.rows;
         self.numbering.number(v)
     }
@@ -159,6 +172,58 @@ impl Table {
             (Some(i), Some(j)) => is_same(u, v) || at(self.rows.as_slice(), i, j),
             _ => false,
         }
+    }
+
+    /// Marks the variables that receive what flows from one.
+    fn mark(&self, marks: &mut Vec<bool>, u: VarId)
+        requires { length marks.old.items ≡ length self.now.variables }
+        ensures { (test : VarId → Bool) → Marks self.now marks.old.items test
+            → Marks self.now marks.new.items (λ y. test y || table_flows self.now u y) }
+    {
+        if let Some(i) = self.number(u) {
+            mark_row(marks, self.rows[i].as_slice(), i);
+        }
+    }
+
+    fn is_marked(&self, marks: &[bool], v: VarId) -> bool
+        requires { length marks.now ≡ length self.now.variables }
+        ensures { result ≡ received_at marks.now (number_in self.now.variables v) }
+    {
+        match self.number(v) {
+            Some(i) => marks[i],
+            None => false,
+        }
+    }
+
+    /// Which of these variables have a mark.
+    fn marked(
+        &self,
+        alloc: Global,
+        marks: &[bool],
+        variables: &[VarId],
+    ) -> Result<Vec<bool>, AllocError>
+        requires { length marks.now ≡ length self.now.variables }
+        ensures { IfOk result (λ r. r.items
+            ≡ map (λ y. received_at marks.now (number_in self.now.variables y)) variables.now) }
+    {
+        let mut marked = Vec::new(alloc);
+        for v in variables {
+            marked.push(self.is_marked(marks, *v))?;
+        }
+        Ok(marked)
+    }
+
+    /// Which variables receive what flows from these, in the order of their numbers.
+    pub fn received(&self, alloc: Global, from: &[VarId]) -> Result<Vec<bool>, AllocError>
+        ensures { IfOk result (λ r. r.items
+            ≡ map (λ y. list_any (λ u. table_flows self.now u y) from.now) self.now.variables) }
+    {
+        let mut marks = vec![in alloc; false; self.variables().len()]?;
+        for u in from {
+            self.mark(&mut marks, *u);
+        }
+        let received = self.marked(alloc, marks.as_slice(), self.variables())?;
+        Ok(received)
     }
 
     /// Lets one variable lead to the other, where both are in the table.

@@ -21,7 +21,7 @@ use Rattle.oc_tree.specs.Rules.{only_reference, passed_on, has_kind, origin_is, 
 use Rattle.oc_tree.specs.Rules.{args_list, is_bad_length, has_bad_length, arg_lends}
 use Rattle.oc_code.specs.Scope.{Named, named, slot_of, address_slot, passed_slot, kind_words}
 use Rattle.oc_code.specs.Formed.{IsLent, NamesLent, NamesWritable, IsPassed, ArePassed}
-use Rattle.oc_formed.proofs.BodiesPass.{first_fails, second_fails}
+use Rattle.oc_checked.proofs.BodiesPass.{first_fails, second_fails}
 use Rattle.oc_formed.proofs.ScopesSeen.{AllFound, code_writes, writes_own, writes_through}
 
 -- ---- kinds and types

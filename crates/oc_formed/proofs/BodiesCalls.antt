@@ -1,45 +1,31 @@
 -- Calls that break no rule are formed, and so are right sides.
-use Rattle.std.proofs.Common.{◌≡◌, ◌<◌, ℕ, true, false, List, [], ◌∷◌, length, Some, ap, sym, subst, ◌∙◌}
+use Rattle.std.proofs.Common.{◌≡◌, ℕ, true, false, List, length, Some, ap, sym, subst, ◌∙◌}
 use Rattle.std.specs.Prelude.{is_some, slice_get, ◌&&◌, ◌==◌}
-use Rattle.std.specs.List.{list_any, flat_map}
+use Rattle.std.specs.List.{list_any}
 use Rattle.std.proofs.lemmas.Bool.{eqb-true, and_parts}
 use Rattle.oc_tree.specs.Names.{Text}
-use Rattle.oc_tree.specs.Tree.{TCall, call, TRight, right_value, right_sense, right_call, TKind, TFunction, TProgram}
+use Rattle.oc_tree.specs.Tree.{TCall, call, TRight, right_value, right_sense, right_call, TFunction, TProgram}
 use Rattle.oc_tree.specs.Marked.{TRegion}
-use Rattle.oc_tree.specs.Calls.{function_place, callee, args_calls, call_calls, right_calls, own_calls, body_calls}
+use Rattle.oc_tree.specs.Calls.{function_place, callee, right_calls}
 use Rattle.oc_tree.specs.Types.{result_of}
 use Rattle.oc_tree.specs.Weight.{has_result}
 use Rattle.oc_tree.specs.Elements.{Here}
-use Rattle.oc_tree.specs.Rules.{call_known, args_known, right_known, is_main, args_meet, args_list, params_of, has_bad_length}
+use Rattle.oc_tree.specs.Rules.{is_main, args_meet, args_list, params_of, has_bad_length}
+use Rattle.oc_tree.specs.Walks.{call_known, args_known, right_known}
 use Rattle.oc_code.specs.Scope.{Named}
 use Rattle.oc_code.proofs.Needs.{gives, result_named}
 use Rattle.oc_code.specs.Formed.{call_formed, right_formed}
-use Rattle.oc_desugar.proofs.FineCalls.{CallFine, Gives, Each, each_front, each_back}
-use Rattle.oc_formed.proofs.BodiesPlaces.{Called, name_called, called_named, among_known}
+use Rattle.oc_desugar.proofs.FineCalls.{CallFine, Gives, Each}
+use Rattle.oc_checked.proofs.Called.{Called, name_called, called_named}
+use Rattle.oc_checked.proofs.CallLinks.{last_call}
+use Rattle.oc_checked.proofs.CallsFall.{Lower}
+use Rattle.oc_formed.proofs.BodiesPlaces.{among_known, called_meant}
 use Rattle.oc_formed.proofs.BodiesArguments.{all_passed}
-use Rattle.oc_formed.proofs.CallLinks.{KindsCall}
 use Rattle.oc_formed.proofs.ScopesSeen.{AllFound}
-
--- the called function, where there is one, has a rank below this one
-abbrev pub Lower : TProgram → (Text → ℕ) → ℕ → TCall → Type 0
-Lower p rank own c = (v : ℕ) → function_place p.functions (callee c) ≡ Some v → rank (callee c) < own
-
--- ranks fall along all calls of all functions
-abbrev pub RanksFall : TProgram → (Text → ℕ) → Type 0
-RanksFall p rank = (u : ℕ) (f : TFunction) → slice_get p.functions u ≡ Some f → Each (Lower p rank (rank f.name)) (body_calls f)
 
 -- no function has a parameter of no words
 abbrev pub LongParams : TProgram → Type 0
 LongParams p = (i : ℕ) (g : TFunction) → slice_get p.functions i ≡ Some g → list_any (λ q. has_bad_length q.kind) g.params ≡ false
-
--- what holds of all calls of a list of statements, statement by statement
-pub each_kind : (P : TCall → Type 0) (ks : List TKind) → Each P (flat_map own_calls ks) → KindsCall P ks
-each_kind P [] h = tt
-each_kind P (k ∷ ks) h = (each_front P (own_calls k) (flat_map own_calls ks) h, each_kind P ks (each_back P (own_calls k) (flat_map own_calls ks) h))
-
--- of the calls in a call the last is the call itself
-pub last_call : (P : TCall → Type 0) (c : TCall) → Each P (call_calls c) → P c
-last_call P (call f args) h = (each_back P (args_calls args) (call f args ∷ []) h).0
 
 module _ (p : TProgram) (long : LongParams p) (regions : List TRegion) (rank : Text → ℕ) (own : ℕ) (h : Here) (γ : List Named) (all : AllFound p h.scope γ) where
   -- a call that breaks no rule is formed
@@ -52,7 +38,7 @@ module _ (p : TProgram) (long : LongParams p) (regions : List TRegion) (rank : T
       let each = (and_parts (length to.callee.params == length (args_list args)) (args_meet p h.scope to.callee.params args) meets).1 in
       record {
         callee = to.callee;
-        found = to.meant;
+        found = called_meant p f to;
         no_main = ap is_main (sym to.same) ∙ fine.other;
         lower = lower to.number to.placed;
         passed = all_passed p h.scope γ all to.callee.params args (long to.number to.callee to.stands) same each fine.lends;
@@ -62,7 +48,7 @@ module _ (p : TProgram) (long : LongParams p) (regions : List TRegion) (rank : T
   call_gives : (c : TCall) → call_known p h.scope c ≡ true → Gives p c → has_result p.functions c ≡ true
   call_gives (call f args) known has =
       let to : Called p f = name_called p f (and_parts (is_some (function_place p.functions f)) (args_known p h.scope args) known).0 in
-      result_named p.functions f ∙ ap gives to.meant ∙ sym (ap (λ o. is_some (result_of o)) (called_named p f to)) ∙ has
+      result_named p.functions f ∙ ap gives (called_meant p f to) ∙ sym (ap (λ o. is_some (result_of o)) (called_named p f to)) ∙ has
 
   -- a right side whose calls break no rule is formed
   pub right_is_formed : (r : TRight) → right_known p h.scope r ≡ true → Each (CallFine p h) (right_calls r) → Each (Gives p) (right_calls r)

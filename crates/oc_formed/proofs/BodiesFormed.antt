@@ -1,7 +1,6 @@
 -- Every body of a checked program is formed.
 use Rattle.std.proofs.Common.{◌≡◌, ℕ, ◌+◌, Bool, true, false, true≢false, List, [], length, Some, None, refl, subst}
 use Rattle.std.specs.Prelude.{is_some, not, slice_get, ◌&&◌}
-use Rattle.std.specs.List.{list_any}
 use Rattle.std.proofs.lemmas.Option.{slice_get_within, get_or_from_slice_get}
 use Rattle.std.proofs.lemmas.List.Elements.{All-get_or}
 use Rattle.oc_tree.specs.Names.{Text}
@@ -10,39 +9,20 @@ use Rattle.oc_tree.specs.Checked.{Group, AnyName, IsChecked}
 use Rattle.oc_tree.specs.Marked.{TRegion}
 use Rattle.oc_tree.specs.Form.{BlockInForm, FunctionInForm}
 use Rattle.oc_tree.specs.Calls.{block_kinds}
-use Rattle.oc_tree.specs.Scope.{takes_param}
-use Rattle.oc_tree.specs.Elements.{Here, function_item, block_elements, in_function}
-use Rattle.oc_tree.specs.Broken.{item_rules}
-use Rattle.oc_tree.specs.Rules.{has_bad_length, block_returns, return_missing}
+use Rattle.oc_tree.specs.Elements.{Here, block_elements, in_function}
+use Rattle.oc_tree.specs.Rules.{block_returns}
 use Rattle.oc_tree.specs.Stack.{link_words}
 use Rattle.oc_code.specs.Scope.{Named, function_scope}
 use Rattle.oc_code.specs.Formed.{body_formed}
-use Rattle.oc_desugar.proofs.Unbroken.{Passes, none_broken}
-use Rattle.oc_formed.proofs.BodiesPass.{AllFine, FunctionFine, function_fine}
+use Rattle.oc_checked.proofs.BodiesPass.{AllFine, function_fine}
+use Rattle.oc_checked.proofs.CallLinks.{KindsCall, each_kind}
+use Rattle.oc_checked.proofs.CallsFall.{Lower, RanksFall}
+use Rattle.oc_checked.proofs.Heads.{head_unbroken}
 use Rattle.oc_formed.proofs.BodiesMarked.{BlockMarked, block_unmarked}
-use Rattle.oc_formed.proofs.BodiesCalls.{Lower, RanksFall, LongParams, each_kind}
+use Rattle.oc_formed.proofs.BodiesCalls.{LongParams}
 use Rattle.oc_formed.proofs.BodiesStatements.{Ends, stmts_are_formed}
-use Rattle.oc_formed.proofs.CallLinks.{KindsCall}
 use Rattle.oc_formed.proofs.ScopesSeen.{AllFound}
 use Rattle.oc_formed.proofs.ScopesStart.{start_found}
-
--- what the rules say of the head of a function
-pub record HeadUnbroken (p : TProgram) (f : TFunction) : Type 0 where
-  pub free : takes_param p [] f.params ≡ false
-  pub long : list_any (λ q. has_bad_length q.kind) f.params ≡ false
-  pub returns : return_missing f ≡ false
-
--- the head of each function keeps its rules
-pub head_unbroken : (p : TProgram) (i : ℕ) (f : TFunction) → FunctionFine p i f → HeadUnbroken p f
-head_unbroken p i f fine =
-    let rules = item_rules p fine.tally fine.before (function_item f) in
-    let r1 : Passes rules = none_broken rules fine.head in
-    let r2 = r1.1 in
-    let r4 = r2.1 in
-    let r10 = r4.1 in
-    let r17 = r10.1 in
-    let r19 = r17.1 in
-    record { free = r2.0; long = r10.0; returns = r19.0 }
 
 -- a function with a result ends with a `return`
 result_returned : (a b : Bool) → a && not b ≡ false → a ≡ true → b ≡ true

@@ -15,7 +15,7 @@ use Rattle.oc_tree.specs.Types.{right_type}
 use Rattle.oc_tree.specs.Elements.{Here, kind_of, let_var, scope_after, turn_var, in_turn}
 use Rattle.oc_tree.specs.Rules.{takes_name, written_bad_length, is_bad_length, let_bad_length, has_many_turns, is_return, stmts_return}
 use Rattle.oc_code.specs.Scope.{Named, kind_words, let_named, in_scope, for_named}
-use Rattle.oc_formed.proofs.BodiesPass.{first_fails, second_fails}
+use Rattle.oc_checked.proofs.BodiesPass.{first_fails, second_fails}
 use Rattle.oc_formed.proofs.ScopesSeen.{Finds, AllFound, found_more}
 
 -- ---- what statements declare

@@ -12,19 +12,21 @@ use Rattle.oc_tree.specs.Calls.{expr_calls, right_calls, kind_kinds, else_kinds,
 use Rattle.oc_tree.specs.Scope.{variable_of, is_variable, is_name_of}
 use Rattle.oc_tree.specs.Types.{is_same, value_type, right_type, type_of}
 use Rattle.oc_tree.specs.Elements.{Here, after_stmt, in_turn, inside, is_end, before_stmts, kind_elements, else_elements, stmt_elements, block_elements, stmts_elements}
-use Rattle.oc_tree.specs.Rules.{expr_known, right_known, is_mutable_param, is_writable, is_writable_array, origin_is, stmts_return}
+use Rattle.oc_tree.specs.Rules.{is_mutable_param, is_writable, is_writable_array, origin_is, stmts_return}
 use Rattle.oc_tree.specs.Stack.{kind_slots, block_slots}
+use Rattle.oc_tree.specs.Walks.{expr_known, right_known}
 use Rattle.oc_code.specs.Scope.{Named, in_scope, for_named}
 use Rattle.oc_code.specs.Formed.{kind_formed, else_formed, block_formed, stmts_formed, IsLast}
 use Rattle.oc_desugar.proofs.FineCalls.{CallFine, Gives, Each, each_back}
 use Rattle.oc_desugar.proofs.Unbroken.{Unbroken, unbroken}
-use Rattle.oc_formed.proofs.BodiesPass.{AllFine, fine_front, fine_back}
+use Rattle.oc_checked.proofs.BodiesPass.{AllFine, fine_front, fine_back}
 use Rattle.oc_formed.proofs.BodiesPlaces.{among_known}
 use Rattle.oc_formed.proofs.BodiesArguments.{same_left, own_value, rule_writes}
-use Rattle.oc_formed.proofs.BodiesCalls.{Lower, LongParams, last_call, call_is_formed, right_is_formed}
+use Rattle.oc_formed.proofs.BodiesCalls.{LongParams, call_is_formed, right_is_formed}
 use Rattle.oc_formed.proofs.BodiesKinds.{found_behind, found_inside, array_length, few_turns, const_word, returns, returns_later}
 use Rattle.oc_formed.proofs.BodiesMarked.{KindMarked, ElseMarked, BlockMarked, StmtsMarked, none_left}
-use Rattle.oc_formed.proofs.CallLinks.{KindsCall, kinds_front, kinds_back, none_hides}
+use Rattle.oc_checked.proofs.CallLinks.{KindsCall, kinds_front, kinds_back, last_call, none_hides}
+use Rattle.oc_checked.proofs.CallsFall.{Lower}
 use Rattle.oc_formed.proofs.ScopesSeen.{AllFound, writes_own, writes_through, writes_array}
 
 -- what is not denied holds

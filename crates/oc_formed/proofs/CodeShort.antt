@@ -21,11 +21,11 @@ use Rattle.oc_code.specs.Code.{close_code, body_code, function_code, functions_c
 use Rattle.oc_desugar.proofs.FineCalls.{CallFine}
 use Rattle.oc_desugar.proofs.FewStatements.{few_statements}
 use Rattle.oc_desugar.proofs.SizesKept.{unbroken_element}
-use Rattle.oc_formed.proofs.BodiesPass.{function_fine}
-use Rattle.oc_formed.proofs.CallLinks.{KindsCall, body_so}
-use Rattle.oc_formed.proofs.Declared.{AllWithin}
-use Rattle.oc_formed.proofs.Mains.{head_fine}
-use Rattle.oc_formed.proofs.Amounts.{few_functions}
+use Rattle.oc_checked.proofs.BodiesPass.{function_fine}
+use Rattle.oc_checked.proofs.CallLinks.{KindsCall, body_so}
+use Rattle.oc_checked.proofs.Declared.{AllWithin}
+use Rattle.oc_checked.proofs.Mains.{head_fine}
+use Rattle.oc_checked.proofs.Amounts.{few_functions}
 use Rattle.oc_formed.proofs.StmtLengths.{FewArgs, block_short}
 
 module _ (p : TProgram) (within : AllWithin p) where

@@ -1,6 +1,6 @@
 -- Every checked program is formed.
 use Rattle.std.proofs.Common.{◌≡◌, ◌≤◌, ℕ, List, [], length, Option, Some, None, sym, ap, refl, ◌∙◌}
-use Rattle.std.specs.Prelude.{slice_get}
+use Rattle.std.specs.Prelude.{codes, slice_get}
 use Rattle.std.specs.List.{All}
 use Rattle.std.proofs.lemmas.Bool.{ltb-false}
 use Rattle.std.proofs.lemmas.List.Elements.{All-nil}
@@ -15,15 +15,16 @@ use Rattle.oc_desugar.proofs.NumberLists.{is_numbered}
 use Rattle.oc_desugar.proofs.OwnExpansion.{own_expansion}
 use Rattle.oc_desugar.proofs.SizesKept.{unbroken_element}
 use Rattle.oc_desugar.proofs.Unbroken.{Passes, none_broken}
+use Rattle.oc_formed.proofs.BodiesPlaces.{called_meant}
 use Rattle.oc_formed.proofs.BodiesMarked.{BlockMarked, block_unmarked}
 use Rattle.oc_formed.proofs.RegionsMarked.{bodies_marked}
-use Rattle.oc_formed.proofs.RegionsApart.{in_blocks, firsts_differ, lasts_differ, ids_known}
+use Rattle.oc_checked.proofs.RegionsApart.{in_blocks, firsts_differ, lasts_differ, ids_known}
 use Rattle.oc_formed.proofs.BodiesFormed.{marked_bodies_formed}
-use Rattle.oc_formed.proofs.Ranks.{rank_of}
-use Rattle.oc_formed.proofs.CallsFall.{ranks_fall, main_low}
-use Rattle.oc_formed.proofs.Declared.{AllWithin, all_within}
-use Rattle.oc_formed.proofs.Mains.{main_called, main_alone, main_takes_none, main_gives_none}
-use Rattle.oc_formed.proofs.Amounts.{few_sensors, few_ports, few_nvs, few_words, nv_some}
+use Rattle.oc_checked.proofs.Ranks.{rank_of}
+use Rattle.oc_checked.proofs.CallsFall.{ranks_fall, main_low}
+use Rattle.oc_checked.proofs.Declared.{AllWithin, all_within}
+use Rattle.oc_checked.proofs.Mains.{main_called, main_alone, main_takes_none, main_gives_none}
+use Rattle.oc_checked.proofs.Amounts.{few_sensors, few_ports, few_nvs, few_words, nv_some}
 use Rattle.oc_formed.proofs.CodeShort.{code_short}
 
 module _ (p : TProgram) (groups : List Group) (checked : IsChecked p groups) where
@@ -52,7 +53,7 @@ module _ (p : TProgram) (groups : List Group) (checked : IsChecked p groups) whe
     expanded = own_expansion p checked.plain (is_numbered p checked.form.numbered.statements);
     rank = rank_of p.functions;
     main = (main_called p within).callee;
-    main_found = (main_called p within).meant;
+    main_found = called_meant p (codes "main") (main_called p within);
     main_alone = main_alone p within;
     main_takes_none = main_takes_none p within;
     main_gives_none = main_gives_none p within;

@@ -7,16 +7,8 @@ use Rattle.std.proofs.lemmas.List.Sums.{sum_by-cons}
 use Rattle.oc_tree.specs.Marked.{TRegion}
 use Rattle.oc_meaning.specs.Exec.{begun_by, ended_by}
 use Rattle.oc_code.specs.Formed.{marks}
-
--- each region is so
-abbrev pub EachRegion : (TRegion → Type 0) → List TRegion → Type 0
-EachRegion P [] = Unit {0}
-EachRegion P (r ∷ rs) = P r × EachRegion P rs
-
--- no two regions have the same number there
-abbrev pub Differ : (TRegion → ℕ) → List TRegion → Type 0
-Differ key [] = Unit {0}
-Differ key (r ∷ rs) = EachRegion (λ q. key q ≡ key r → ⊥) rs × Differ key rs
+use Rattle.oc_checked.proofs.PairsAround.{Gap}
+use Rattle.oc_checked.proofs.RegionsApart.{EachRegion, Differ, InBlock}
 
 -- one where it holds
 abbrev one_if : Bool → ℕ
@@ -81,10 +73,6 @@ ended_counted (r ∷ rs) n d = go (n == r.last) refl (ended_counted rs n d.1) �
     go false is rest = let own : ends n r ≡ 0 = ap one_if is in omega (arith, own, rest)
 
 -- ---- from one statement of a block to the next
-
--- not between n and m
-abbrev pub Gap : (n m s : ℕ) → Type 0
-Gap n m s = (s ≤ n) ⊎ (m ≤ s)
 
 -- begun before n, and not ended before
 spans_yes : (f l n : ℕ) → f < n → n ≤ l → spans f l n ≡ 1
@@ -184,14 +172,8 @@ across f l n m o lt (inl a) gap = go (less_or_same f n a)
 
 -- `spot` says directly in which block a statement stands
 module _ (spot : ℕ → Option ℕ) where
-  -- a region begins and ends in its block
-  pub record InBlock (r : TRegion) : Type 0 where
-    pub ordered : r.first ≤ r.last
-    pub first_there : spot r.first ≡ Some r.block
-    pub last_there : spot r.last ≡ Some r.block
-
   -- from statement n of the block b to the next, m
-  one_across : (b n m : ℕ) → spot n ≡ Some b → n < m → ((s : ℕ) → spot s ≡ Some b → Gap n m s) → (r : TRegion) → InBlock r → opens b n r + begins n r ≡ opens b m r + ends n r
+  one_across : (b n m : ℕ) → spot n ≡ Some b → n < m → ((s : ℕ) → spot s ≡ Some b → Gap n m s) → (r : TRegion) → InBlock spot r → opens b n r + begins n r ≡ opens b m r + ends n r
   one_across b n m here lt gap r at = go (r.block == b) refl
     where
       elsewhere : (r.block ≡ b → ⊥) → (s : ℕ) → spot s ≡ Some r.block → n ≡ s → ⊥
@@ -214,7 +196,7 @@ module _ (spot : ℕ → Option ℕ) where
           omega (arith, now, later, start, stop)
 
   -- the same of all regions
-  pub all_across : (b n m : ℕ) → spot n ≡ Some b → n < m → ((s : ℕ) → spot s ≡ Some b → Gap n m s) → (rs : List TRegion) → EachRegion InBlock rs
+  pub all_across : (b n m : ℕ) → spot n ≡ Some b → n < m → ((s : ℕ) → spot s ≡ Some b → Gap n m s) → (rs : List TRegion) → EachRegion (InBlock spot) rs
       → open_at rs b n + sum_by (begins n) rs ≡ open_at rs b m + sum_by (ends n) rs
   all_across b n m here lt gap [] at = refl
   all_across b n m here lt gap (r ∷ rs) at =
@@ -237,14 +219,14 @@ module _ (spot : ℕ → Option ℕ) where
       go false is = ap (λ c. cond {A = ℕ} c (spans r.first r.last n) 0) is
 
   -- none is open in front of a block's statements
-  pub none_before : (b n : ℕ) → ((s : ℕ) → spot s ≡ Some b → n ≤ s) → (rs : List TRegion) → EachRegion InBlock rs → open_at rs b n ≡ 0
+  pub none_before : (b n : ℕ) → ((s : ℕ) → spot s ≡ Some b → n ≤ s) → (rs : List TRegion) → EachRegion (InBlock spot) rs → open_at rs b n ≡ 0
   none_before b n h [] at = refl
   none_before b n h (r ∷ rs) at =
       let own = not_open b n r (λ e. spans_before r.first r.last n (h r.first (at.0.first_there ∙ ap Some e))) in
       omega (arith, sum_by-cons (opens b n) r rs, own, none_before b n h rs at.1)
 
   -- and none is behind them
-  pub none_behind : (b n : ℕ) → ((s : ℕ) → spot s ≡ Some b → s < n) → (rs : List TRegion) → EachRegion InBlock rs → open_at rs b n ≡ 0
+  pub none_behind : (b n : ℕ) → ((s : ℕ) → spot s ≡ Some b → s < n) → (rs : List TRegion) → EachRegion (InBlock spot) rs → open_at rs b n ≡ 0
   none_behind b n h [] at = refl
   none_behind b n h (r ∷ rs) at =
       let own = not_open b n r (λ e. spans_behind r.first r.last n (h r.last (at.0.last_there ∙ ap Some e))) in

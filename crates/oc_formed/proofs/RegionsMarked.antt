@@ -13,10 +13,11 @@ use Rattle.oc_code.specs.Formed.{marks}
 use Rattle.oc_desugar.proofs.NumberLists.{Follow, first_of, parts}
 use Rattle.oc_desugar.proofs.BlockPairs.{kind_pairs, else_pairs, block_pairs, stmts_pairs, program_pairs, block_there}
 use Rattle.oc_formed.proofs.BodiesMarked.{KindMarked, ElseMarked, BlockMarked, StmtsMarked}
-use Rattle.oc_formed.proofs.BlockRanges.{EachPair, Ranged, kind_ranged, else_ranged, block_ranged, stmts_ranged, functions_ranged}
-use Rattle.oc_formed.proofs.RegionCounts.{EachRegion, Differ, begins, ends, open_at, begun_counted, ended_counted, InBlock, all_across, none_before, none_behind}
-use Rattle.oc_formed.proofs.PairsAround.{Around, around_less, in_block_range, in_block_gap}
-use Rattle.oc_formed.proofs.RowsAround.{Part, part_first, part_second, Known, inside_part, rest_part}
+use Rattle.oc_checked.proofs.BlockRanges.{EachPair, Ranged, kind_ranged, else_ranged, block_ranged, stmts_ranged, functions_ranged}
+use Rattle.oc_formed.proofs.RegionCounts.{begins, ends, open_at, begun_counted, ended_counted, all_across, none_before, none_behind}
+use Rattle.oc_checked.proofs.PairsAround.{Around, around_less, in_block_range, in_block_gap}
+use Rattle.oc_checked.proofs.RegionsApart.{EachRegion, Differ, InBlock}
+use Rattle.oc_checked.proofs.RowsAround.{Part, part_first, part_second, Known, inside_part, rest_part}
 
 module _ (p : TProgram) (numbered : Numbered p) (regions : List TRegion) (within : EachRegion (InBlock (block_of p)) regions) (firsts : Differ (λ r. r.first) regions)
     (lasts : Differ (λ r. r.last) regions) where

@@ -17,7 +17,7 @@ use Rattle.oc_tree.specs.Rules.{is_mutable_param, is_writable, is_writable_array
 use Rattle.oc_code.specs.Scope.{Named, named, address_slot, kind_words, may_write}
 use Rattle.oc_desugar.proofs.KeptScopes.{with_var}
 use Rattle.oc_desugar.proofs.PullSplits.{found_before}
-use Rattle.oc_formed.proofs.BodiesPass.{first_fails}
+use Rattle.oc_checked.proofs.BodiesPass.{first_fails}
 
 -- ---- variables
 

@@ -17,7 +17,7 @@ use Rattle.oc_tree.specs.Calls.{place_from, place}
 use Rattle.oc_tree.specs.Scope.{Scope, is_taken, nv_kind, nv_var, param_var, with_param, with_params, takes_param}
 use Rattle.oc_tree.specs.Types.{is_by_reference}
 use Rattle.oc_code.specs.Scope.{InNv, Named, named, address_slot, kind_words, param_slot, may_write, params_scope, nv_scope, function_scope}
-use Rattle.oc_formed.proofs.BodiesPass.{first_fails, second_fails}
+use Rattle.oc_checked.proofs.BodiesPass.{first_fails, second_fails}
 use Rattle.oc_formed.proofs.ScopesSeen.{Finds, AllFound, found_more}
 
 -- ---- nonvolatile variables

@@ -23,8 +23,7 @@ use Rattle.oc_tree.specs.Weight.{has_result}
 use Rattle.oc_code.specs.Code.{function_number, last_code, before_code, after_code, call_code, right_code, element_code, test_code, return_code}
 use Rattle.oc_code.specs.Code.{first_code, whole_code, kind_code, if_code, block_code, stmts_code}
 use Rattle.oc_desugar.proofs.FineCalls.{Each, each_back}
-use Rattle.oc_formed.proofs.CallLinks.{KindsCall, kinds_front, kinds_back, none_hides}
-use Rattle.oc_formed.proofs.BodiesCalls.{last_call}
+use Rattle.oc_checked.proofs.CallLinks.{KindsCall, kinds_front, kinds_back, last_call, none_hides}
 use Rattle.oc_formed.proofs.ExprLengths.{base_short, expr_short, args_short}
 
 -- a call has at most eight arguments

@@ -23,7 +23,7 @@ use Rattle.oc_grammar.specs.Expressions.{Spells, literal, yes, no, name, element
 use Rattle.oc_grammar.specs.Expressions.{by_shared, by_mutable, SpellsArgs, closed, last, further}
 use Rattle.oc_grammar.specs.Statements.{SpellsScalar, int_scalar, bool_scalar, SpellsArray, an_array, SpellsType, int_type, bool_type, array_type, opposite, SpellsConst, positive}
 use Rattle.oc_grammar.specs.Statements.{negative, right_of, SpellsRight, a_right, SpellsMut, with_mut, without_mut, SpellsNote, typed, untyped, LetHead, let_head, SpellsSimple}
-use Rattle.oc_grammar.specs.Statements.{let_right, let_fill, assigns, assigns_index, assigns_deref, calls, senses, emits, marks_fresh, marks_consistent, returns, Place, SpellsKind}
+use Rattle.oc_grammar.specs.Statements.{let_right, let_fill, assigns, assigns_index, assigns_deref, calls, senses, emits, marks_fresh, marks_consistent, returns, Position, SpellsKind}
 use Rattle.oc_grammar.specs.Statements.{simple, if_form, for_form, while_form, atomic_form, SpellsElse, without, otherwise, else_if, SpellsStmt, statement, SpellsBlock, braces}
 use Rattle.oc_grammar.specs.Statements.{SpellsStmts, end, first}
 use Rattle.oc_grammar.specs.Programs.{SpellsPassing, itself, shared_ref, mutable_ref, SpellsParam, a_param, SpellsParams, no_param, last_param, further_params, SpellsResult}
@@ -162,7 +162,7 @@ simple_in (marks_consistent k o i m n c s) h =
 simple_in (returns k w s) h = let a = expr_in w.spelled (keyword_in k h) in (a.0, sign_in s a.1)
 
 mutual
-  kind_in : {limits : Limits} {room : ℕ} {k : TKind} {p q : Place} → SpellsKind limits room k p q → LexemesInForm p.2 → KindInForm IsName k × LexemesInForm q.2
+  kind_in : {limits : Limits} {room : ℕ} {k : TKind} {p q : Position} → SpellsKind limits room k p q → LexemesInForm p.2 → KindInForm IsName k × LexemesInForm q.2
   kind_in (simple d) h = simple_in d h
   kind_in (if_form k c t o) h =
       let a = expr_in c.spelled (keyword_in k h) in
@@ -182,18 +182,18 @@ mutual
       ((a.0, count_of z b.0, d.0), d.1)
   kind_in (atomic_form k t) h = let d = block_in t (keyword_in k h) in ((tt, d.0, tt), d.1)
 
-  else_in : {limits : Limits} {room : ℕ} {o : TElse} {p q : Place} → SpellsElse limits room o p q → LexemesInForm p.2 → ElseInForm IsName o × LexemesInForm q.2
+  else_in : {limits : Limits} {room : ℕ} {o : TElse} {p q : Position} → SpellsElse limits room o p q → LexemesInForm p.2 → ElseInForm IsName o × LexemesInForm q.2
   else_in without h = (tt, h)
   else_in (otherwise k t) h = block_in t (keyword_in k h)
   else_in (else_if k l d) h = let a = stmt_in d (keyword_in k h) in ((a.0, tt), a.1)
 
-  stmt_in : {limits : Limits} {room : ℕ} {s : TStmt} {p q : Place} → SpellsStmt limits room s p q → LexemesInForm p.2 → StmtInForm IsName s × LexemesInForm q.2
+  stmt_in : {limits : Limits} {room : ℕ} {s : TStmt} {p q : Position} → SpellsStmt limits room s p q → LexemesInForm p.2 → StmtInForm IsName s × LexemesInForm q.2
   stmt_in (statement d) h = kind_in d h
 
-  block_in : {limits : Limits} {room : ℕ} {t : TBlock} {p q : Place} → SpellsBlock limits room t p q → LexemesInForm p.2 → BlockInForm IsName t × LexemesInForm q.2
+  block_in : {limits : Limits} {room : ℕ} {t : TBlock} {p q : Position} → SpellsBlock limits room t p q → LexemesInForm p.2 → BlockInForm IsName t × LexemesInForm q.2
   block_in (braces s d) h = stmts_in d (sign_in s h)
 
-  stmts_in : {limits : Limits} {room : ℕ} {ss : TStmts} {p q : Place} → SpellsStmts limits room ss p q → LexemesInForm p.2 → StmtsInForm IsName ss × LexemesInForm q.2
+  stmts_in : {limits : Limits} {room : ℕ} {ss : TStmts} {p q : Position} → SpellsStmts limits room ss p q → LexemesInForm p.2 → StmtsInForm IsName ss × LexemesInForm q.2
   stmts_in (end s) h = (tt, sign_in s h)
   stmts_in (first d e) h = let a = stmt_in d h in let b = stmts_in e a.1 in ((a.0, b.0), b.1)
 
@@ -220,7 +220,7 @@ result_in : {r : Option Scalar} {from rest : Lexemes} → SpellsResult r from re
 result_in no_result h = h
 result_in (a_result s d) h = scalar_in d (sign_in s h)
 
-function_in : {limits : Limits} {f : TFunction} {p q : Place} → SpellsFunction limits f p q → LexemesInForm p.2 → FunctionInForm IsName f × LexemesInForm q.2
+function_in : {limits : Limits} {f : TFunction} {p q : Position} → SpellsFunction limits f p q → LexemesInForm p.2 → FunctionInForm IsName f × LexemesInForm q.2
 function_in (a_function w i o ps r t) h =
     let a = name_in i (keyword_in w h) in
     let b = params_in ps (sign_in o a.1) in
@@ -240,7 +240,7 @@ nv_in (an_nv w i s c e z t) h =
 
 -- ---- programs
 
-item_in : {limits : Limits} {p q : TProgram} {x y : Place} → SpellsItem limits p x q y → LexemesInForm x.2 → Spellable IsName p → Spellable IsName q × LexemesInForm y.2
+item_in : {limits : Limits} {p q : TProgram} {x y : Position} → SpellsItem limits p x q y → LexemesInForm x.2 → Spellable IsName p → Spellable IsName q × LexemesInForm y.2
 item_in (sensor_item {p = p} {x = x} w i s) h g =
     let a = name_in i (keyword_in w h) in
     (record { sensors = All-push IsName p.names.sensors x g.sensors a.0; ports = g.ports; nvs = g.nvs; nv = g.nv; functions = g.functions }, sign_in s a.1)
@@ -254,7 +254,7 @@ item_in (function_item {p = p} {f = f} d) h g =
     let a = function_in d h in
     (record { sensors = g.sensors; ports = g.ports; nvs = g.nvs; nv = g.nv; functions = All-push (FunctionInForm IsName) p.functions f g.functions a.0 }, a.1)
 
-items_in : {limits : Limits} {p r : TProgram} {x : Place} → SpellsItems limits p x r → LexemesInForm x.2 → Spellable IsName p → Spellable IsName r
+items_in : {limits : Limits} {p r : TProgram} {x : Position} → SpellsItems limits p x r → LexemesInForm x.2 → Spellable IsName p → Spellable IsName r
 items_in no_item h g = g
 items_in (an_item d e) h g = let a = item_in d h g in items_in e a.1 a.0
 

@@ -9,7 +9,7 @@ use Rattle.oc_grammar.specs.Lexemes.{Lexemes}
 use Rattle.oc_grammar.specs.Expressions.{Spells, literal, yes, no, name, element, target, parens, minus, negation, input, result, one, more, compare, SpellsArg, by_value}
 use Rattle.oc_grammar.specs.Expressions.{by_shared, by_mutable, SpellsArgs, closed, last, further}
 use Rattle.oc_grammar.specs.Statements.{right_of, SpellsRight, a_right, SpellsSimple, let_right, let_fill, assigns, assigns_index, assigns_deref, calls, senses, emits, marks_fresh}
-use Rattle.oc_grammar.specs.Statements.{marks_consistent, returns, Place, SpellsKind, simple, if_form, for_form, while_form, atomic_form, SpellsElse, without, otherwise, else_if}
+use Rattle.oc_grammar.specs.Statements.{marks_consistent, returns, Position, SpellsKind, simple, if_form, for_form, while_form, atomic_form, SpellsElse, without, otherwise, else_if}
 use Rattle.oc_grammar.specs.Statements.{SpellsStmt, statement, SpellsBlock, braces, SpellsStmts, end, first}
 use Rattle.oc_grammar.specs.Programs.{SpellsFunction, a_function, SpellsItem, sensor_item, port_item, nv_item, function_item, SpellsItems, no_item, an_item, SpellsProgram}
 use Rattle.oc_grammar.proofs.FrontLaws.{sign_shorter, keyword_shorter, name_shorter, number_shorter, infix_shorter}
@@ -77,7 +77,7 @@ module _ (limits : Limits) where
   simple_within (returns k w s) = let a = keyword_shorter k in let b = expr_within w.spelled in let c = sign_shorter s in omega arith
 
   mutual
-    kind_within : {room : ℕ} {k : TKind} {p q : Place} → SpellsKind limits room k p q → kind_nodes k + length q.2 ≤ length p.2
+    kind_within : {room : ℕ} {k : TKind} {p q : Position} → SpellsKind limits room k p q → kind_nodes k + length q.2 ≤ length p.2
     kind_within (simple d) = simple_within d
     kind_within (if_form k c t o) = let a = keyword_shorter k in let d = expr_within c.spelled in let e = block_within t in let f = else_within o in omega arith
     kind_within (for_form k i n c r d t) = let a = keyword_shorter k in let b = name_shorter i in let e = keyword_shorter n in let f = const_shorter c in let g = sign_shorter r in
@@ -85,32 +85,32 @@ module _ (limits : Limits) where
     kind_within (while_form k c w i t) = let a = keyword_shorter k in let b = expr_within c.spelled in let d = keyword_shorter w in let e = number_shorter i in let f = block_within t in omega arith
     kind_within (atomic_form k t) = let a = keyword_shorter k in let b = block_within t in omega arith
 
-    else_within : {room : ℕ} {o : TElse} {p q : Place} → SpellsElse limits room o p q → else_nodes o + length q.2 ≤ length p.2
+    else_within : {room : ℕ} {o : TElse} {p q : Position} → SpellsElse limits room o p q → else_nodes o + length q.2 ≤ length p.2
     else_within without = omega arith
     else_within (otherwise k t) = let a = keyword_shorter k in let b = block_within t in omega arith
     else_within (else_if k l d) = let a = keyword_shorter k in let b = stmt_within d in omega arith
 
-    stmt_within : {room : ℕ} {s : TStmt} {p q : Place} → SpellsStmt limits room s p q → stmt_nodes s + length q.2 ≤ length p.2
+    stmt_within : {room : ℕ} {s : TStmt} {p q : Position} → SpellsStmt limits room s p q → stmt_nodes s + length q.2 ≤ length p.2
     stmt_within (statement d) = kind_within d
 
-    block_within : {room : ℕ} {t : TBlock} {p q : Place} → SpellsBlock limits room t p q → block_nodes t + length q.2 ≤ length p.2
+    block_within : {room : ℕ} {t : TBlock} {p q : Position} → SpellsBlock limits room t p q → block_nodes t + length q.2 ≤ length p.2
     block_within (braces s d) = let a = sign_shorter s in let b = stmts_within d in omega arith
 
-    stmts_within : {room : ℕ} {ss : TStmts} {p q : Place} → SpellsStmts limits room ss p q → stmts_nodes ss + length q.2 ≤ length p.2
+    stmts_within : {room : ℕ} {ss : TStmts} {p q : Position} → SpellsStmts limits room ss p q → stmts_nodes ss + length q.2 ≤ length p.2
     stmts_within (end s) = let a = sign_shorter s in omega arith
     stmts_within (first d e) = let a = stmt_within d in let b = stmts_within e in omega arith
 
-  function_within : {f : TFunction} {p q : Place} → SpellsFunction limits f p q → block_nodes f.body + length q.2 ≤ length p.2
+  function_within : {f : TFunction} {p q : Position} → SpellsFunction limits f p q → block_nodes f.body + length q.2 ≤ length p.2
   function_within (a_function w i o ps r t) = let a = keyword_shorter w in let b = name_shorter i in let c = sign_shorter o in let d = params_shorter ps in let e =
       result_shorter r in let f = block_within t in omega arith
 
-  item_within : {p q : TProgram} {x y : Place} → SpellsItem limits p x q y → program_nodes q + length y.2 ≤ program_nodes p + length x.2
+  item_within : {p q : TProgram} {x y : Position} → SpellsItem limits p x q y → program_nodes q + length y.2 ≤ program_nodes p + length x.2
   item_within (sensor_item w i s) = let a = keyword_shorter w in let b = name_shorter i in let c = sign_shorter s in omega arith
   item_within (port_item w i s) = let a = keyword_shorter w in let b = name_shorter i in let c = sign_shorter s in omega arith
   item_within (nv_item {p = p} {n = n} {b = b} d) = let a = item_shorter limits (nv_item {p = p} {n = n} {b = b} d) in omega arith
   item_within (function_item {p = p} {f = f} d) = let a = function_within d in let b = one_more p.functions f in omega arith
 
-  items_within : {p r : TProgram} {x : Place} → SpellsItems limits p x r → program_nodes r ≤ program_nodes p + length x.2
+  items_within : {p r : TProgram} {x : Position} → SpellsItems limits p x r → program_nodes r ≤ program_nodes p + length x.2
   items_within no_item = omega arith
   items_within (an_item d e) = let a = item_within d in let b = items_within e in omega arith
 

@@ -11,7 +11,7 @@ use Rattle.oc_tree.specs.declared.tree.Decl.{Decl}
 use Rattle.oc_grammar.specs.Limits.{Limits}
 use Rattle.oc_grammar.specs.Lexemes.{Lexemes, LexemesInForm}
 use Rattle.oc_grammar.specs.Statements.{SpellsSimple, let_right, let_fill, assigns, assigns_index, assigns_deref, calls, senses, emits, marks_fresh, marks_consistent, returns}
-use Rattle.oc_grammar.specs.Statements.{Place, SpellsKind, simple, if_form, for_form, while_form, atomic_form, SpellsElse, without, otherwise, else_if, SpellsStmt, statement}
+use Rattle.oc_grammar.specs.Statements.{Position, SpellsKind, simple, if_form, for_form, while_form, atomic_form, SpellsElse, without, otherwise, else_if, SpellsStmt, statement}
 use Rattle.oc_grammar.specs.Statements.{SpellsBlock, braces, SpellsStmts, end, first}
 use Rattle.oc_grammar.specs.Programs.{SpellsFunction, a_function, SpellsItem, sensor_item, port_item, nv_item, function_item, SpellsItems, no_item, an_item, SpellsProgram, empty_program}
 use Rattle.oc_grammar.proofs.FormLaws.{program_spellable}
@@ -47,14 +47,14 @@ simple_none (marks_consistent k o i m n c s) = (refl, refl)
 simple_none (returns k w s) = (refl, refl)
 
 -- what stands between two places has their numbers
-abbrev Between : List ℕ → List ℕ → Place → Place → Type 0
+abbrev Between : List ℕ → List ℕ → Position → Position → Type 0
 Between statements blocks p q = Run p.0 statements q.0 × Run p.1 blocks q.1
 
 none_between : (ss bs : List ℕ) (n b : ℕ) → ss ≡ [] → bs ≡ [] → Run n ss n × Run b bs b
 none_between ss bs n b e f = (subst (λ (xs : List ℕ). Run n xs n) (sym e) refl, subst (λ (xs : List ℕ). Run b xs b) (sym f) refl)
 
 mutual
-  kind_between : {limits : Limits} {room : ℕ} {k : TKind} {p q : Place} → SpellsKind limits room k p q → Between (kind_statements k) (kind_blocks k) p q
+  kind_between : {limits : Limits} {room : ℕ} {k : TKind} {p q : Position} → SpellsKind limits room k p q → Between (kind_statements k) (kind_blocks k) p q
   kind_between (simple {n = n} {b = b} {k = k} d) = let e = simple_none d in none_between (kind_statements k) (kind_blocks k) n b e.0 e.1
   kind_between (if_form {n = n} {b = b} {t = t} {o = e} {p = p} {q = q} k c d o) =
       let a = block_between d in
@@ -64,27 +64,27 @@ mutual
   kind_between (while_form k c w i t) = block_between t
   kind_between (atomic_form {n = n} {b = b} {t = t} {p = p} k d) = let a = block_between d in (run_then n (block_statements t) p.0 [] p.0 a.0 refl, run_then b (block_blocks t) p.1 [] p.1 a.1 refl)
 
-  else_between : {limits : Limits} {room : ℕ} {o : TElse} {p q : Place} → SpellsElse limits room o p q → Between (else_statements o) (else_blocks o) p q
+  else_between : {limits : Limits} {room : ℕ} {o : TElse} {p q : Position} → SpellsElse limits room o p q → Between (else_statements o) (else_blocks o) p q
   else_between without = (refl, refl)
   else_between (otherwise k t) = block_between t
   else_between (else_if {n = n} {b = b} {s = s} {p = p} k l d) =
       let a = stmt_between d in
       (run_then n (stmt_statements s) p.0 [] p.0 a.0 refl, (refl, run_then (suc b) (stmt_blocks s) p.1 [] p.1 a.1 refl))
 
-  stmt_between : {limits : Limits} {room : ℕ} {s : TStmt} {p q : Place} → SpellsStmt limits room s p q → Between (stmt_statements s) (stmt_blocks s) p q
+  stmt_between : {limits : Limits} {room : ℕ} {s : TStmt} {p q : Position} → SpellsStmt limits room s p q → Between (stmt_statements s) (stmt_blocks s) p q
   stmt_between (statement d) = let a = kind_between d in ((refl, a.0), a.1)
 
-  block_between : {limits : Limits} {room : ℕ} {t : TBlock} {p q : Place} → SpellsBlock limits room t p q → Between (block_statements t) (block_blocks t) p q
+  block_between : {limits : Limits} {room : ℕ} {t : TBlock} {p q : Position} → SpellsBlock limits room t p q → Between (block_statements t) (block_blocks t) p q
   block_between (braces s d) = let a = stmts_between d in (a.0, (refl, a.1))
 
-  stmts_between : {limits : Limits} {room : ℕ} {ss : TStmts} {p q : Place} → SpellsStmts limits room ss p q → Between (stmts_statements ss) (stmts_blocks ss) p q
+  stmts_between : {limits : Limits} {room : ℕ} {ss : TStmts} {p q : Position} → SpellsStmts limits room ss p q → Between (stmts_statements ss) (stmts_blocks ss) p q
   stmts_between (end s) = (refl, refl)
   stmts_between (first {s = s} {ss = ss} {p = p} {q = q} {r = r} d e) =
       let a = stmt_between d in
       let f = stmts_between e in
       (run_then p.0 (stmt_statements s) q.0 (stmts_statements ss) r.0 a.0 f.0, run_then p.1 (stmt_blocks s) q.1 (stmts_blocks ss) r.1 a.1 f.1)
 
-function_between : {limits : Limits} {f : TFunction} {p q : Place} → SpellsFunction limits f p q → Between (block_statements f.body) (block_blocks f.body) p q
+function_between : {limits : Limits} {f : TFunction} {p q : Position} → SpellsFunction limits f p q → Between (block_statements f.body) (block_blocks f.body) p q
 function_between (a_function w i o ps r t) = block_between t
 
 -- ---- the items of a program
@@ -93,10 +93,10 @@ flat_map-last : {A B : Type 0} (f : A → List B) (xs : List A) (y : A) → flat
 flat_map-last f [] y = sym (append-nil (f y))
 flat_map-last f (x ∷ xs) y = append_assoc (f x) (flat_map f xs) (f y) ∙ ap (λ zs. f x ++ zs) (flat_map-last f xs y)
 
-abbrev ProgramBetween : TProgram → Place → Type 0
+abbrev ProgramBetween : TProgram → Position → Type 0
 ProgramBetween p q = Run 1 (program_statements p) q.0 × Run 1 (program_blocks p) q.1
 
-item_between : {limits : Limits} {p q : TProgram} {x y : Place} → SpellsItem limits p x q y → ProgramBetween p x → ProgramBetween q y
+item_between : {limits : Limits} {p q : TProgram} {x y : Position} → SpellsItem limits p x q y → ProgramBetween p x → ProgramBetween q y
 item_between (sensor_item w i s) h = h
 item_between (port_item w i s) h = h
 item_between (nv_item d) h = h
@@ -108,7 +108,7 @@ item_between (function_item {p = p} {f = f} {x = x} {y = y} d) h =
       subst (λ (ns : List ℕ). Run 1 ns y.1) (flat_map-last (λ (g : TFunction). block_blocks g.body) p.functions f) c,
     )
 
-items_numbered : {limits : Limits} {p r : TProgram} {x : Place} → SpellsItems limits p x r → ProgramBetween p x → Numbered r
+items_numbered : {limits : Limits} {p r : TProgram} {x : Position} → SpellsItems limits p x r → ProgramBetween p x → Numbered r
 items_numbered (no_item {p = p} {n = n} {b = b}) h = record { statements = run_numbers 1 (program_statements p) n h.0; blocks = run_numbers 1 (program_blocks p) b h.1 }
 items_numbered (an_item d e) h = items_numbered e (item_between d h)
 
@@ -137,7 +137,7 @@ stays test ds d n e h = count_last test ds d ∙ ap (λ (b : Bool). count_by tes
 both : {A B : Type 0} (xs : List A) (x : A) (ys : List B) (y : B) → length xs ≡ length ys → length (xs ++ x ∷ []) ≡ length (ys ++ y ∷ [])
 both xs x ys y h = length-append xs (x ∷ []) ∙ ap (λ (n : ℕ). n + 1) h ∙ sym (length-append ys (y ∷ []))
 
-item_declared : {limits : Limits} {p q : TProgram} {x y : Place} → SpellsItem limits p x q y → DeclaredInOrder p → DeclaredInOrder q
+item_declared : {limits : Limits} {p q : TProgram} {x y : Position} → SpellsItem limits p x q y → DeclaredInOrder p → DeclaredInOrder q
 item_declared (sensor_item {p = p} {x = x} w i s) h = record {
   sensors = grows (λ (d : Decl). is_sensor d.kind) p.order _ p.names.sensors x refl h.sensors;
   ports = stays (λ (d : Decl). is_port d.kind) p.order _ _ refl h.ports;
@@ -167,7 +167,7 @@ item_declared (function_item {p = p} {f = f} d) h = record {
   each_nv = h.each_nv;
 }
 
-items_declared : {limits : Limits} {p r : TProgram} {x : Place} → SpellsItems limits p x r → DeclaredInOrder p → DeclaredInOrder r
+items_declared : {limits : Limits} {p r : TProgram} {x : Position} → SpellsItems limits p x r → DeclaredInOrder p → DeclaredInOrder r
 items_declared no_item h = h
 items_declared (an_item d e) h = items_declared e (item_declared d h)
 

@@ -20,7 +20,7 @@ use Rattle.oc_grammar.specs.Expressions.{Spells, literal, yes, no, name, element
 use Rattle.oc_grammar.specs.Expressions.{by_shared, by_mutable, SpellsArgs, closed, last, further, SpellsWhole}
 use Rattle.oc_grammar.specs.Statements.{SpellsScalar, int_scalar, bool_scalar, SpellsArray, an_array, SpellsType, int_type, bool_type, array_type, SpellsConst, positive, negative}
 use Rattle.oc_grammar.specs.Statements.{SpellsRight, a_right, SpellsMut, with_mut, without_mut, SpellsNote, typed, untyped, LetHead, let_head, SpellsSimple, let_right, let_fill}
-use Rattle.oc_grammar.specs.Statements.{assigns, assigns_index, assigns_deref, calls, senses, emits, marks_fresh, marks_consistent, returns, Place, SpellsKind, simple, if_form}
+use Rattle.oc_grammar.specs.Statements.{assigns, assigns_index, assigns_deref, calls, senses, emits, marks_fresh, marks_consistent, returns, Position, SpellsKind, simple, if_form}
 use Rattle.oc_grammar.specs.Statements.{for_form, while_form, atomic_form, SpellsElse, without, otherwise, else_if, SpellsStmt, statement, SpellsBlock, braces, SpellsStmts, end}
 use Rattle.oc_grammar.specs.Statements.{first}
 use Rattle.oc_grammar.specs.Programs.{SpellsPassing, itself, shared_ref, mutable_ref, SpellsParam, a_param, SpellsParams, no_param, last_param, further_params, SpellsResult}
@@ -148,32 +148,32 @@ simple_plain (marks_fresh k o i c s) = marks_fresh (keyword_plain refl k) (sign_
 simple_plain (marks_consistent k o i m n c s) = marks_consistent (keyword_plain refl k) (sign_plain o) (name_plain i) (sign_plain m) (number_plain n) (sign_plain c) (sign_plain s)
 simple_plain (returns k w s) = returns (keyword_plain refl k) (whole_plain w) (sign_plain s)
 
-abbrev plainly_at : Place → Place
+abbrev plainly_at : Position → Position
 plainly_at p = (p.0, p.1, without_atomic p.2)
 
 true_whole : {limits : Limits} {from rest : Lexemes} → Keyword words.True from rest → SpellsWhole limits (truth true) from rest
 true_whole k = record { spelled = one (one (one (one (one (yes k))))); few = omega arith }
 
 mutual
-  kind_plain : {limits : Limits} {room : ℕ} {k : TKind} {p q : Place} → SpellsKind limits room k p q → SpellsKind limits room k (plainly_at p) (plainly_at q)
+  kind_plain : {limits : Limits} {room : ℕ} {k : TKind} {p q : Position} → SpellsKind limits room k p q → SpellsKind limits room k (plainly_at p) (plainly_at q)
   kind_plain (simple d) = simple (simple_plain d)
   kind_plain (if_form k c t o) = if_form (keyword_plain refl k) (whole_plain c) (block_plain t) (else_plain o)
   kind_plain (for_form k i n c r d t) = for_form (keyword_plain refl k) (name_plain i) (keyword_plain refl n) (const_plain c) (sign_plain r) (const_plain d) (block_plain t)
   kind_plain (while_form k c w i t) = while_form (keyword_plain refl k) (whole_plain c) (keyword_plain refl w) (number_plain i) (block_plain t)
   kind_plain (atomic_form k t) = let i = atomic_plain k in if_form i.word (true_whole i.condition) (block_plain t) without
 
-  else_plain : {limits : Limits} {room : ℕ} {o : TElse} {p q : Place} → SpellsElse limits room o p q → SpellsElse limits room o (plainly_at p) (plainly_at q)
+  else_plain : {limits : Limits} {room : ℕ} {o : TElse} {p q : Position} → SpellsElse limits room o p q → SpellsElse limits room o (plainly_at p) (plainly_at q)
   else_plain without = without
   else_plain (otherwise k t) = otherwise (keyword_plain refl k) (block_plain t)
   else_plain (else_if k l d) = else_if (keyword_plain refl k) (keyword_plain refl l) (stmt_plain d)
 
-  stmt_plain : {limits : Limits} {room : ℕ} {s : TStmt} {p q : Place} → SpellsStmt limits room s p q → SpellsStmt limits room s (plainly_at p) (plainly_at q)
+  stmt_plain : {limits : Limits} {room : ℕ} {s : TStmt} {p q : Position} → SpellsStmt limits room s p q → SpellsStmt limits room s (plainly_at p) (plainly_at q)
   stmt_plain (statement {from = from} d) = rw (front_plain from) (statement (kind_plain d))
 
-  block_plain : {limits : Limits} {room : ℕ} {t : TBlock} {p q : Place} → SpellsBlock limits room t p q → SpellsBlock limits room t (plainly_at p) (plainly_at q)
+  block_plain : {limits : Limits} {room : ℕ} {t : TBlock} {p q : Position} → SpellsBlock limits room t p q → SpellsBlock limits room t (plainly_at p) (plainly_at q)
   block_plain (braces s d) = braces (sign_plain s) (stmts_plain d)
 
-  stmts_plain : {limits : Limits} {room : ℕ} {ss : TStmts} {p q : Place} → SpellsStmts limits room ss p q → SpellsStmts limits room ss (plainly_at p) (plainly_at q)
+  stmts_plain : {limits : Limits} {room : ℕ} {ss : TStmts} {p q : Position} → SpellsStmts limits room ss p q → SpellsStmts limits room ss (plainly_at p) (plainly_at q)
   stmts_plain (end s) = end (sign_plain s)
   stmts_plain (first d e) = first (stmt_plain d) (stmts_plain e)
 
@@ -200,7 +200,7 @@ result_plain : {r : Option Scalar} {from rest : Lexemes} → SpellsResult r from
 result_plain no_result = no_result
 result_plain (a_result s d) = a_result (sign_plain s) (scalar_plain d)
 
-function_plain : {limits : Limits} {f : TFunction} {p q : Place} → SpellsFunction limits f p q → SpellsFunction limits f (plainly_at p) (plainly_at q)
+function_plain : {limits : Limits} {f : TFunction} {p q : Position} → SpellsFunction limits f p q → SpellsFunction limits f (plainly_at p) (plainly_at q)
 function_plain (a_function {from = from} w i o ps r t) = rw (front_plain from) (a_function (keyword_plain refl w) (name_plain i) (sign_plain o) (params_plain ps) (result_plain r) (block_plain t))
 
 cells_plain : {n : ℕ} {array : Bool} {from rest : Lexemes} → SpellsCells n array from rest → SpellsCells n array (without_atomic from) (without_atomic rest)
@@ -212,13 +212,13 @@ nv_plain (an_nv w i s c e z t) = an_nv (keyword_plain refl w) (name_plain i) (si
 
 -- ---- programs
 
-item_plain : {limits : Limits} {p q : TProgram} {x y : Place} → SpellsItem limits p x q y → SpellsItem limits p (plainly_at x) q (plainly_at y)
+item_plain : {limits : Limits} {p q : TProgram} {x y : Position} → SpellsItem limits p x q y → SpellsItem limits p (plainly_at x) q (plainly_at y)
 item_plain (sensor_item {from = from} w i s) = rw (front_plain from) (sensor_item (keyword_plain refl w) (name_plain i) (sign_plain s))
 item_plain (port_item {from = from} w i s) = rw (front_plain from) (port_item (keyword_plain refl w) (name_plain i) (sign_plain s))
 item_plain (nv_item {from = from} n) = rw (front_plain from) (nv_item (nv_plain n))
 item_plain (function_item d) = function_item (function_plain d)
 
-items_plain : {limits : Limits} {p r : TProgram} {x : Place} → SpellsItems limits p x r → SpellsItems limits p (plainly_at x) r
+items_plain : {limits : Limits} {p r : TProgram} {x : Position} → SpellsItems limits p x r → SpellsItems limits p (plainly_at x) r
 items_plain no_item = no_item
 items_plain (an_item d e) = an_item (item_plain d) (items_plain e)
 

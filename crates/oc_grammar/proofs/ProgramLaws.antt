@@ -13,7 +13,7 @@ use Rattle.oc_grammar.specs.Limits.{Limits}
 use Rattle.oc_grammar.specs.Lexemes.{Lexeme, Lexemes, keyword, sign, front_line, last_line}
 use Rattle.oc_grammar.specs.Fronts.{Named, a_name, Keyword, a_keyword, Sign, a_sign}
 use Rattle.oc_grammar.specs.Reading.{with_some, next_at, strip_mark, strip_word, expect_mark, name_at, take_word, listed_by}
-use Rattle.oc_grammar.specs.Statements.{SpellsScalar, int_scalar, bool_scalar, an_array, SpellsType, int_type, bool_type, array_type, Place, SpellsBlock, braces}
+use Rattle.oc_grammar.specs.Statements.{SpellsScalar, int_scalar, bool_scalar, an_array, SpellsType, int_type, bool_type, array_type, Position, SpellsBlock, braces}
 use Rattle.oc_grammar.specs.ReadingStatements.{array_at, type_at, const_at, block_at}
 use Rattle.oc_grammar.specs.Programs.{SpellsPassing, itself, shared_ref, mutable_ref, SpellsParam, a_param, SpellsParams, no_param, last_param, further_params, SpellsResult}
 use Rattle.oc_grammar.specs.Programs.{no_result, a_result, SpellsFunction, a_function, SpellsCells, one_cell, array_cells, SpellsNv, an_nv, SpellsItem, sensor_item, port_item}
@@ -216,7 +216,7 @@ module _ (limits : Limits) where
 
   -- ---- items
 
-  abbrev pub Grows : TProgram → Place → TProgram × ℕ × ℕ × Lexemes → Type 0
+  abbrev pub Grows : TProgram → Position → TProgram × ℕ × ℕ × Lexemes → Type 0
   Grows p x y = SpellsItem limits p x y.0 (y.1, y.2, y.3)
 
   item_by_sound : (p : TProgram) (t : Lexeme) (n b : ℕ) (ts : Lexemes) (y : TProgram × ℕ × ℕ × Lexemes) → item_by limits p t n b ts ≡ Ok y → Grows p (n, b, t ∷ ts) y
@@ -254,42 +254,42 @@ module _ (limits : Limits) where
   unfolding program_at items_at
   program_sound ts p e = items_sound (suc (length ts)) (empty_program (last_line ts)) 1 1 ts p e
 
-  function_shorter : {f : TFunction} {p q : Place} → SpellsFunction limits f p q → length q.2 < length p.2
+  function_shorter : {f : TFunction} {p q : Position} → SpellsFunction limits f p q → length q.2 < length p.2
   function_shorter (a_function w i o ps r t) = let a = keyword_shorter w in let b = name_shorter i in let c = sign_shorter o in let d = params_shorter ps in let e =
       result_shorter r in let f = block_shorter limits t in omega arith
 
-  pub item_shorter : {p q : TProgram} {x y : Place} → SpellsItem limits p x q y → length y.2 < length x.2
+  pub item_shorter : {p q : TProgram} {x y : Position} → SpellsItem limits p x q y → length y.2 < length x.2
   item_shorter (sensor_item w i s) = let a = keyword_shorter w in let b = name_shorter i in let c = sign_shorter s in omega arith
   item_shorter (port_item w i s) = let a = keyword_shorter w in let b = name_shorter i in let c = sign_shorter s in omega arith
   item_shorter (nv_item d) = nv_shorter d
   item_shorter (function_item d) = function_shorter d
 
-  block_no_arrow : {room : ℕ} {t : TBlock} {p q : Place} → SpellsBlock limits room t p q → strip_mark marks.Arrow p.2 ≡ None
+  block_no_arrow : {room : ℕ} {t : TBlock} {p q : Position} → SpellsBlock limits room t p q → strip_mark marks.Arrow p.2 ≡ None
   unfolding strip_mark
   block_no_arrow (braces a_sign d) = refl
 
-  result_read : {r : Option Scalar} {room : ℕ} {t : TBlock} {from : Lexemes} {p q : Place} → SpellsResult r from p.2 → SpellsBlock limits room t p q → result_at from ≡ Ok (r, p.2)
+  result_read : {r : Option Scalar} {room : ℕ} {t : TBlock} {from : Lexemes} {p q : Position} → SpellsResult r from p.2 → SpellsBlock limits room t p q → result_at from ≡ Ok (r, p.2)
   unfolding result_at
   result_read no_result t = rw (block_no_arrow t) refl
   result_read (a_result s d) t = rw (sign_strip s, scalar_read d) refl
 
-  function_read : (line n b : ℕ) {ts c d e g : Lexemes} {f : Text} {ps : List Param} {r : Option Scalar} {t : TBlock} {q : Place} → Named f ts c → Sign marks.OpenRound c d
+  function_read : (line n b : ℕ) {ts c d e g : Lexemes} {f : Text} {ps : List Param} {r : Option Scalar} {t : TBlock} {q : Position} → Named f ts c → Sign marks.OpenRound c d
       → SpellsParams ps d e → SpellsResult r e g → SpellsBlock limits limits.blocks t (n, b, g) q → function_at limits line n b ts
       ≡ Ok (record { name = f; line = line; params = ps; result = r; body = t }, q.0, q.1, q.2)
   unfolding function_at
   function_read line n b i o ps r t = rw (name_read i, sign_expect o, params_at_read ps, result_read r t, block_read limits t) refl
 
-  abbrev ItemRead : TProgram → Place → TProgram → Place → Type 0
+  abbrev ItemRead : TProgram → Position → TProgram → Position → Type 0
   ItemRead p x q y = item_at limits p x.0 x.1 x.2 ≡ Ok (q, y.0, y.1, y.2)
 
-  item_read : {p q : TProgram} {x y : Place} → SpellsItem limits p x q y → ItemRead p x q y
+  item_read : {p q : TProgram} {x y : Position} → SpellsItem limits p x q y → ItemRead p x q y
   unfolding item_at next_at declared_at nv_at
   item_read (sensor_item a_keyword i s) = rw (name_read i, sign_expect s) refl
   item_read (port_item a_keyword i s) = rw (name_read i, sign_expect s) refl
   item_read (nv_item (an_nv a_keyword i c d s z e)) = rw (name_read i, sign_expect c, cells_read d, sign_expect s, const_read z, sign_expect e) refl
   item_read (function_item (a_function {n = n} {b = b} (a_keyword {line = line}) i o ps r t)) = rw (function_read line n b i o ps r t) refl
 
-  items_more : (k : ℕ) (p q : TProgram) (x y : Place) → SpellsItem limits p x q y → items_by limits (suc k) p x.0 x.1 x.2 ≡ items_by limits k q y.0 y.1 y.2
+  items_more : (k : ℕ) (p q : TProgram) (x y : Position) → SpellsItem limits p x q y → items_by limits (suc k) p x.0 x.1 x.2 ≡ items_by limits k q y.0 y.1 y.2
   unfolding items_by
   items_more k p q x y d = by_front x.2 (item_shorter d) (item_read d)
     where
@@ -297,7 +297,7 @@ module _ (limits : Limits) where
       by_front [] h e = absurd (omega arith)
       by_front (t ∷ ts) h e = rw e refl
 
-  items_read : {p r : TProgram} {x : Place} → SpellsItems limits p x r → (k : ℕ) → length x.2 < k → items_by limits k p x.0 x.1 x.2 ≡ Ok r
+  items_read : {p r : TProgram} {x : Position} → SpellsItems limits p x r → (k : ℕ) → length x.2 < k → items_by limits k p x.0 x.1 x.2 ≡ Ok r
   unfolding items_by
   items_read no_item zero h = absurd (omega arith)
   items_read no_item (suc k) h = refl

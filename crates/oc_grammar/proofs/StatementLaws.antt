@@ -9,7 +9,7 @@ use Rattle.oc_grammar.specs.Lexemes.{Lexeme, Lexemes, keyword}
 use Rattle.oc_grammar.specs.Fronts.{Keyword, a_keyword}
 use Rattle.oc_grammar.specs.Reading.{with_some, too_deep, next_at, strip_mark, strip_word, expect_mark, expect_word, name_at, number_at}
 use Rattle.oc_grammar.specs.ReadingExpressions.{whole_at}
-use Rattle.oc_grammar.specs.Statements.{Place, SpellsKind, simple, if_form, for_form, while_form, atomic_form, SpellsElse, without, otherwise, else_if, SpellsStmt, statement}
+use Rattle.oc_grammar.specs.Statements.{Position, SpellsKind, simple, if_form, for_form, while_form, atomic_form, SpellsElse, without, otherwise, else_if, SpellsStmt, statement}
 use Rattle.oc_grammar.specs.Statements.{SpellsBlock, braces, SpellsStmts, end, first}
 use Rattle.oc_grammar.specs.ReadingStatements.{const_at, simple_from, Reader, if_by, for_by, while_by, atomic_by, simple_by, kind_by, stmt_by, stmts_by, braces_by, no_block}
 use Rattle.oc_grammar.specs.ReadingStatements.{chained_by, no_chained, else_by, stmt_at, block_at}
@@ -19,10 +19,10 @@ use Rattle.oc_grammar.proofs.ExpressionLaws.{whole_sound, Inside}
 use Rattle.oc_grammar.proofs.SimpleLaws.{simple_sound, simple_shorter, const_sound, const_shorter, whole_shorter}
 
 -- a reading takes what P says
-abbrev pub Takes : {A : Type 0} → (A → Place → Place → Type 0) → Reader A → Type 0
+abbrev pub Takes : {A : Type 0} → (A → Position → Position → Type 0) → Reader A → Type 0
 Takes P read = (n b : ℕ) (ts : Lexemes) (x : _ × ℕ × ℕ × Lexemes) → read n b ts ≡ Ok x → P x.0 (n, b, ts) (x.1, x.2, x.3)
 
-moved : {A : Type 0} (P : A → Place → Place → Type 0) (p : Place) (x y : A × ℕ × ℕ × Lexemes) → done x ≡ done y → P x.0 p (x.1, x.2, x.3) → P y.0 p (y.1, y.2, y.3)
+moved : {A : Type 0} (P : A → Position → Position → Type 0) (p : Position) (x y : A × ℕ × ℕ × Lexemes) → done x ≡ done y → P x.0 p (x.1, x.2, x.3) → P y.0 p (y.1, y.2, y.3)
 moved P p x y e d = subst (λ (q : _ × ℕ × ℕ × Lexemes). P q.0 p (q.1, q.2, q.3)) (ok_is x y e) d
 
 module _ (limits : Limits) where
@@ -90,7 +90,7 @@ module _ (limits : Limits) where
   unfolding stmts_by
   stmts_sound room one sound zero n b ts y e = absurd cc
   stmts_sound room one sound (suc k) n b ts y e =
-      let P : List TStmt → Place → Place → Type 0 = λ ss p q. SpellsStmts limits room (stmts_of ss) p q in
+      let P : List TStmt → Position → Position → Type 0 = λ ss p q. SpellsStmts limits room (stmts_of ss) p q in
       elim (with_some_ok (strip_mark marks.CloseCurly ts) _ _ (Ok y) e) [
         | inl w ↦
             let s = bind_ok (one n b ts) _ y w.1 in
@@ -112,7 +112,7 @@ module _ (limits : Limits) where
       not_ok us y e = cc
 
   -- the block that an `else if` opens
-  record Chained (room : ℕ) (t : TBlock) (p q : Place) : Type 0 where
+  record Chained (room : ℕ) (t : TBlock) (p q : Position) : Type 0 where
     only : TStmt
     is : t ≡ block p.1 (more only no_stmts)
     inside : Inside room (λ r. SpellsStmt limits r only (p.0, suc p.1, p.2) q)
@@ -125,7 +125,7 @@ module _ (limits : Limits) where
   no_chained_sound : (room : ℕ) → Takes (Chained room) no_chained
   no_chained_sound room n b ts y e = absurd cc
 
-  else_if_in : (room : ℕ) (n b : ℕ) (from a c : Lexemes) (t : TBlock) (p : Place) → Keyword words.Else from a → Keyword words.If a c → Chained room t (n, b, a) p
+  else_if_in : (room : ℕ) (n b : ℕ) (from a c : Lexemes) (t : TBlock) (p : Position) → Keyword words.Else from a → Keyword words.If a c → Chained room t (n, b, a) p
       → SpellsElse limits room (else_do t) (n, b, from) p
   else_if_in zero n b from a c t p k l d = absurd d.inside
   else_if_in (suc room) n b from a c t p k l d = subst (λ (u : TBlock). SpellsElse limits (suc room) (else_do u) (n, b, from) p) (sym d.is) (else_if k l d.inside)
@@ -159,7 +159,7 @@ module _ (limits : Limits) where
   -- ---- what is left is shorter
 
   mutual
-    pub kind_shorter : {room : ℕ} {k : TKind} {p q : Place} → SpellsKind limits room k p q → length q.2 < length p.2
+    pub kind_shorter : {room : ℕ} {k : TKind} {p q : Position} → SpellsKind limits room k p q → length q.2 < length p.2
     kind_shorter (simple d) = simple_shorter limits d
     kind_shorter (if_form k c t o) = let a = keyword_shorter k in let d = whole_shorter limits c in let e = block_shorter t in let f = else_shorter o in omega arith
     kind_shorter (for_form k i n c r d t) = let a = keyword_shorter k in let b = name_shorter i in let e = keyword_shorter n in let f = const_shorter c in let g = sign_shorter r in
@@ -167,17 +167,17 @@ module _ (limits : Limits) where
     kind_shorter (while_form k c w i t) = let a = keyword_shorter k in let b = whole_shorter limits c in let d = keyword_shorter w in let e = number_shorter i in let f = block_shorter t in omega arith
     kind_shorter (atomic_form k t) = let a = keyword_shorter k in let b = block_shorter t in omega arith
 
-    pub else_shorter : {room : ℕ} {o : TElse} {p q : Place} → SpellsElse limits room o p q → length q.2 ≤ length p.2
+    pub else_shorter : {room : ℕ} {o : TElse} {p q : Position} → SpellsElse limits room o p q → length q.2 ≤ length p.2
     else_shorter without = omega arith
     else_shorter (otherwise k t) = let a = keyword_shorter k in let b = block_shorter t in omega arith
     else_shorter (else_if k l d) = let a = keyword_shorter k in let b = stmt_shorter d in omega arith
 
-    pub stmt_shorter : {room : ℕ} {s : TStmt} {p q : Place} → SpellsStmt limits room s p q → length q.2 < length p.2
+    pub stmt_shorter : {room : ℕ} {s : TStmt} {p q : Position} → SpellsStmt limits room s p q → length q.2 < length p.2
     stmt_shorter (statement d) = kind_shorter d
 
-    pub block_shorter : {room : ℕ} {t : TBlock} {p q : Place} → SpellsBlock limits room t p q → length q.2 < length p.2
+    pub block_shorter : {room : ℕ} {t : TBlock} {p q : Position} → SpellsBlock limits room t p q → length q.2 < length p.2
     block_shorter (braces s d) = let a = sign_shorter s in let b = stmts_shorter d in omega arith
 
-    pub stmts_shorter : {room : ℕ} {ss : TStmts} {p q : Place} → SpellsStmts limits room ss p q → length q.2 < length p.2
+    pub stmts_shorter : {room : ℕ} {ss : TStmts} {p q : Position} → SpellsStmts limits room ss p q → length q.2 < length p.2
     stmts_shorter (end s) = let a = sign_shorter s in omega arith
     stmts_shorter (first d e) = let a = stmt_shorter d in let b = stmts_shorter e in omega arith

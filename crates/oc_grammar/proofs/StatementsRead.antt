@@ -8,7 +8,7 @@ use Rattle.oc_grammar.specs.Limits.{Limits}
 use Rattle.oc_grammar.specs.Lexemes.{Lexemes, front_line}
 use Rattle.oc_grammar.specs.Fronts.{a_name, a_keyword, a_sign}
 use Rattle.oc_grammar.specs.Reading.{next_at, strip_mark, strip_word}
-use Rattle.oc_grammar.specs.Statements.{Place, SpellsSimple, let_right, let_fill, let_head, assigns, assigns_index, assigns_deref, calls, senses, emits, marks_fresh}
+use Rattle.oc_grammar.specs.Statements.{Position, SpellsSimple, let_right, let_fill, let_head, assigns, assigns_index, assigns_deref, calls, senses, emits, marks_fresh}
 use Rattle.oc_grammar.specs.Statements.{marks_consistent, returns, SpellsKind, simple, if_form, for_form, while_form, atomic_form, SpellsElse, without, otherwise, else_if}
 use Rattle.oc_grammar.specs.Statements.{SpellsStmt, statement, SpellsBlock, braces, SpellsStmts, end, first}
 use Rattle.oc_grammar.specs.ReadingStatements.{Reader, if_by, for_by, while_by, atomic_by, stmt_by, stmts_by, stmt_at, block_at, chained_at, else_at, stmt_here}
@@ -50,7 +50,7 @@ module _ (limits : Limits) where
   simple_front (marks_consistent a_keyword o i m v c s) = (refl, refl)
   simple_front (returns a_keyword w s) = (refl, refl)
 
-  kind_front : {room : ℕ} {k : TKind} {p q : Place} → SpellsKind limits room k p q → (strip_mark marks.CloseCurly p.2 ≡ None) × (strip_word words.Else p.2 ≡ None)
+  kind_front : {room : ℕ} {k : TKind} {p q : Position} → SpellsKind limits room k p q → (strip_mark marks.CloseCurly p.2 ≡ None) × (strip_word words.Else p.2 ≡ None)
   unfolding strip_mark strip_word
   kind_front (simple d) = simple_front d
   kind_front (if_form a_keyword c t o) = (refl, refl)
@@ -58,24 +58,24 @@ module _ (limits : Limits) where
   kind_front (while_form a_keyword c w i t) = (refl, refl)
   kind_front (atomic_form a_keyword t) = (refl, refl)
 
-  stmt_front : {room : ℕ} {s : TStmt} {p q : Place} → SpellsStmt limits room s p q → (strip_mark marks.CloseCurly p.2 ≡ None) × (strip_word words.Else p.2 ≡ None)
+  stmt_front : {room : ℕ} {s : TStmt} {p q : Position} → SpellsStmt limits room s p q → (strip_mark marks.CloseCurly p.2 ≡ None) × (strip_word words.Else p.2 ≡ None)
   stmt_front (statement d) = kind_front d
 
-  stmts_front : {room : ℕ} {ss : TStmts} {p q : Place} → SpellsStmts limits room ss p q → strip_word words.Else p.2 ≡ None
+  stmts_front : {room : ℕ} {ss : TStmts} {p q : Position} → SpellsStmts limits room ss p q → strip_word words.Else p.2 ≡ None
   unfolding strip_word
   stmts_front (end a_sign) = refl
   stmts_front (first d e) = (stmt_front d).1
 
-  block_stops : {room : ℕ} {t : TBlock} {p q : Place} → SpellsBlock limits room t p q → Stops 6 p.2
+  block_stops : {room : ℕ} {t : TBlock} {p q : Position} → SpellsBlock limits room t p q → Stops 6 p.2
   block_stops (braces s d) = stops_sign 6 marks.OpenCurly _ _ refl refl refl s
 
-  block_no_if : {room : ℕ} {t : TBlock} {p q : Place} → SpellsBlock limits room t p q → strip_word words.If p.2 ≡ None
+  block_no_if : {room : ℕ} {t : TBlock} {p q : Position} → SpellsBlock limits room t p q → strip_word words.If p.2 ≡ None
   unfolding strip_word
   block_no_if (braces a_sign d) = refl
 
   -- ---- what is spelled so is read
 
-  with_line : (body : Reader TBlock) (other : Reader TElse) (n b : ℕ) (from : Lexemes) (k : TKind) (p : Place) → KindRead limits body other k (suc n) b from p
+  with_line : (body : Reader TBlock) (other : Reader TElse) (n b : ℕ) (from : Lexemes) (k : TKind) (p : Position) → KindRead limits body other k (suc n) b from p
       → stmt_by limits body other n b from ≡ Ok (stmt n (front_line from) k, p.0, p.1, p.2)
   unfolding next_at
   with_line body other n b [] k p e = absurd cc
@@ -84,25 +84,25 @@ module _ (limits : Limits) where
   mutual
     unfolding next_at stmt_list if_by for_by while_by atomic_by stmts_by block_at chained_at else_at stmt_here
 
-    kind_read : {room : ℕ} {k : TKind} {p q : Place} → SpellsKind limits room k p q → strip_word words.Else q.2 ≡ None → KindRead limits (block_at limits room) (else_at limits room) k p.0 p.1 p.2 q
+    kind_read : {room : ℕ} {k : TKind} {p q : Position} → SpellsKind limits room k p q → strip_word words.Else q.2 ≡ None → KindRead limits (block_at limits room) (else_at limits room) k p.0 p.1 p.2 q
     kind_read (simple {room = room} {n = n} {b = b} d) h = simple_read limits (block_at limits room) (else_at limits room) n b d
     kind_read (if_form a_keyword c t o) h = rw (whole_read limits c (block_stops t), block_read t, else_read o h) refl
     kind_read (for_form a_keyword i w c r d t) h = rw (name_read i, keyword_expect w, const_read c, sign_expect r, const_read d, block_read t) refl
     kind_read (while_form a_keyword c w i t) h = rw (whole_read limits c (stops_keyword 6 w), keyword_expect w, number_read i, block_read t) refl
     kind_read (atomic_form a_keyword t) h = rw (block_read t) refl
 
-    else_read : {room : ℕ} {o : TElse} {p q : Place} → SpellsElse limits room o p q → strip_word words.Else q.2 ≡ None → else_at limits room p.0 p.1 p.2 ≡ Ok (o, q.0, q.1, q.2)
+    else_read : {room : ℕ} {o : TElse} {p q : Position} → SpellsElse limits room o p q → strip_word words.Else q.2 ≡ None → else_at limits room p.0 p.1 p.2 ≡ Ok (o, q.0, q.1, q.2)
     else_read without h = rw h refl
     else_read (otherwise k t) h = rw (keyword_strip k, block_no_if t, block_read t) refl
     else_read (else_if k l d) h = rw (keyword_strip k, keyword_strip l, stmt_read d h) refl
 
-    pub stmt_read : {room : ℕ} {s : TStmt} {p q : Place} → SpellsStmt limits room s p q → strip_word words.Else q.2 ≡ None → stmt_at limits room p.0 p.1 p.2 ≡ Ok (s, q.0, q.1, q.2)
+    pub stmt_read : {room : ℕ} {s : TStmt} {p q : Position} → SpellsStmt limits room s p q → strip_word words.Else q.2 ≡ None → stmt_at limits room p.0 p.1 p.2 ≡ Ok (s, q.0, q.1, q.2)
     stmt_read (statement {room = room} {n = n} {b = b} {k = k} {from = from} {p = p} d) h = stmt_is room n b from ∙ with_line (block_at limits room) (else_at limits room) n b from k p (kind_read d h)
 
-    pub block_read : {room : ℕ} {t : TBlock} {p q : Place} → SpellsBlock limits room t p q → block_at limits room p.0 p.1 p.2 ≡ Ok (t, q.0, q.1, q.2)
+    pub block_read : {room : ℕ} {t : TBlock} {p q : Position} → SpellsBlock limits room t p q → block_at limits room p.0 p.1 p.2 ≡ Ok (t, q.0, q.1, q.2)
     block_read (braces {ss = ss} {a = a} s d) = rw (sign_expect s, stmts_read d (suc (length a)) (omega arith), stmts_back ss) refl
 
-    stmts_read : {room : ℕ} {ss : TStmts} {p q : Place} → SpellsStmts limits room ss p q → (k : ℕ) → length p.2 < k → stmts_by (stmt_at limits room) k p.0 p.1 p.2 ≡ Ok (stmt_list ss, q.0, q.1, q.2)
+    stmts_read : {room : ℕ} {ss : TStmts} {p q : Position} → SpellsStmts limits room ss p q → (k : ℕ) → length p.2 < k → stmts_by (stmt_at limits room) k p.0 p.1 p.2 ≡ Ok (stmt_list ss, q.0, q.1, q.2)
     stmts_read (end s) zero h = absurd (omega arith)
     stmts_read (end s) (suc k) h = rw (sign_strip s) refl
     stmts_read (first d e) zero h = absurd (omega arith)

@@ -8,39 +8,43 @@ use Rattle.oc_grammar.specs.Lexemes.{Lexeme, Lexemes, sign}
 use Rattle.oc_grammar.specs.Fronts.{infix_of}
 use Rattle.oc_grammar.specs.Programs.{SpellsProgram}
 
--- within these limits some program is spelled by the tokens and perhaps some more
+-- tokens begin a program within these limits: it is spelled by them and perhaps some more
 pub record BeginsWithin (limits : Limits) (tokens : Lexemes) : Type 0 where
   pub more : Lexemes
   pub program : TProgram
   pub spelled : SpellsProgram limits program (tokens ++ more)
 
--- some program, of any depth, is spelled by the tokens and perhaps some more
+-- tokens begin a program of any depth: it is spelled by them and perhaps some more
 pub record Begins (tokens : Lexemes) : Type 0 where
   pub limits : Limits
   pub within : BeginsWithin limits tokens
 
--- the tokens that can pass each depth first; the `if` of an `else if` opens a block too, but where it is
--- one too many, the block before its `else` was one too many already
+-- a token can pass a depth first; the `if` of an `else if` opens a block too, but where it is one
+-- too many, the block before its `else` was one too many already
 pub data Opens : Depth → Lexeme → Type 0 where
   curly : {line : ℕ} → Opens blocks_depth (sign line marks.OpenCurly)
   round : {line : ℕ} → Opens brackets_depth (sign line marks.OpenRound)
   square : {line : ℕ} → Opens brackets_depth (sign line marks.OpenSquare)
   before_minus : {line : ℕ} → Opens brackets_depth (sign line marks.Minus)
   before_not : {line : ℕ} → Opens brackets_depth (sign line marks.Not)
-  between : {token : Lexeme} {op : BinaryOp} {level : ℕ} → infix_of token ≡ Some (op, level) → Opens operators_depth token
+  between : {token : Lexeme} {op : BinaryOp} {level : ℕ}
+      → infix_of token ≡ Some (op, level) → Opens operators_depth token
 
--- Behind these tokens, this one passes the depth: up to and with it they begin programs, but none
--- that keeps to the depth, whatever the other two are.
+-- Behind the tokens in `front`, this one passes the depth: up to and with it they begin programs,
+-- but none that keeps to the depth, whatever the other two are.
 pub record Passes (depth : Depth) (front : Lexemes) (token : Lexeme) : Type 0 where
   pub opens : Opens depth token
   pub begins : Begins (front ++ token ∷ [])
-  pub passed : (limits : Limits) → limit depth limits ≡ limit depth the_depths → BeginsWithin limits (front ++ token ∷ []) → ⊥
+  pub passed : (limits : Limits)
+      → limit depth limits ≡ limit depth the_depths → BeginsWithin limits (front ++ token ∷ []) → ⊥
 
 -- none of these tokens passes a depth
 abbrev pub InDepth : Lexemes → Type 0
-InDepth tokens = (depth : Depth) (front : Lexemes) (token : Lexeme) (behind : Lexemes) → tokens ≡ front ++ token ∷ behind → Passes depth front token → ⊥
+InDepth tokens =
+    (depth : Depth) (front : Lexemes) (token : Lexeme) (behind : Lexemes)
+    → tokens ≡ front ++ token ∷ behind → Passes depth front token → ⊥
 
--- the token is the first that passes a depth
+-- the token at this place is the first that passes a depth
 pub record IsDepth (tokens : Lexemes) (at_token : ℕ) : Type 0 where
   pub front : Lexemes
   pub token : Lexeme
@@ -51,9 +55,13 @@ pub record IsDepth (tokens : Lexemes) (at_token : ℕ) : Type 0 where
   pub passes : Passes depth front token
   pub first : InDepth front
 
--- no token before passes a depth, and up to and with this one the tokens begin no program, while they
--- do before it; or all begin one and spell none
+-- no token before passes a depth, and up to and with this one the tokens begin no program, while
+-- they do before it; or all begin one and spell none
 pub data IsSyntax (tokens : Lexemes) (at_token : ℕ) : Type 0 where
-  wrong : (front : Lexemes) (token : Lexeme) (behind : Lexemes) → tokens ≡ front ++ token ∷ behind → at_token ≡ length front → InDepth front → Begins front
-      → (Begins (front ++ token ∷ []) → ⊥) → IsSyntax tokens at_token
-  ended : at_token ≡ length tokens → InDepth tokens → Begins tokens → ((limits : Limits) (p : TProgram) → SpellsProgram limits p tokens → ⊥) → IsSyntax tokens at_token
+  wrong : (front : Lexemes) (token : Lexeme) (behind : Lexemes)
+      → tokens ≡ front ++ token ∷ behind → at_token ≡ length front → InDepth front → Begins front
+      → (Begins (front ++ token ∷ []) → ⊥)
+      → IsSyntax tokens at_token
+  ended : at_token ≡ length tokens → InDepth tokens → Begins tokens
+      → ((limits : Limits) (p : TProgram) → SpellsProgram limits p tokens → ⊥)
+      → IsSyntax tokens at_token

@@ -8,11 +8,13 @@ use Rattle.oc_grammar.specs.Lexemes.{Lexeme, Lexemes, keyword, is_atomic, lexeme
 use Rattle.oc_grammar.specs.Programs.{SpellsProgram}
 use Rattle.oc_grammar.specs.Depths.{BeginsWithin}
 
--- `if true` in the place of `atomic`
+-- the tokens that stand for one without `atomic`: `if true` in its place
 abbrev pub plain : Lexeme → Lexemes
-plain (keyword line w) = cond (is_atomic w) (keyword line words.If ∷ keyword line words.True ∷ []) (keyword line w ∷ [])
+plain (keyword line w) =
+    cond (is_atomic w) (keyword line words.If ∷ keyword line words.True ∷ []) (keyword line w ∷ [])
 plain t = t ∷ []
 
+-- these tokens with `if true` in the place of each `atomic`
 abbrev pub without_atomic : Lexemes → Lexemes
 without_atomic [] = []
 without_atomic (t ∷ ts) = plain t ++ without_atomic ts
@@ -21,7 +23,8 @@ without_atomic (t ∷ ts) = plain t ++ without_atomic ts
 abbrev pub IsPlain : Lexemes → Type 0
 IsPlain tokens = without_atomic tokens ≡ tokens
 
--- within these limits some program is spelled by the tokens and perhaps some more, of which none is `atomic`
+-- within these limits some program is spelled by the tokens and perhaps some more, of which none is
+-- `atomic`
 pub record BeginsPlainly (limits : Limits) (tokens : Lexemes) : Type 0 where
   pub more : Lexemes
   pub program : TProgram
@@ -34,8 +37,12 @@ SourcesArePlain = (source : List ℕ) (tokens : List Token) → IsPlain (lexemes
 
 -- `atomic` stands where `if true` may, with the same tree
 abbrev pub AtomicIsIfTrue : Type 0
-AtomicIsIfTrue = (limits : Limits) (p : TProgram) (tokens : Lexemes) → SpellsProgram limits p tokens → SpellsProgram limits p (without_atomic tokens)
+AtomicIsIfTrue =
+    (limits : Limits) (p : TProgram) (tokens : Lexemes) → SpellsProgram limits p tokens
+    → SpellsProgram limits p (without_atomic tokens)
 
 -- what begins a program begins one that goes on without `atomic`
 abbrev pub BeginsAlike : Type 0
-BeginsAlike = (limits : Limits) (tokens : Lexemes) → IsPlain tokens → BeginsWithin limits tokens → BeginsPlainly limits tokens
+BeginsAlike =
+    (limits : Limits) (tokens : Lexemes) → IsPlain tokens → BeginsWithin limits tokens
+    → BeginsPlainly limits tokens

@@ -20,27 +20,29 @@ abbrev pub Read : Type 0 → Type 0
 Read A = Result (A × Lexemes) Fault
 
 infixl 10 ◌>>=◌
+-- reading goes on behind what was read, or stops at the fault
 abbrev pub ◌>>=◌ : {A B : Type 0} → Result A Fault → (A → Result B Fault) → Result B Fault
 (Ok x) >>= f = f x
 (Err e) >>= f = Err e
 
+-- what is made of a value, or `none` where there is none
 abbrev pub with_some : {A B : Type 0} → Option A → B → (A → B) → B
 with_some None none some = none
 with_some (Some x) none some = some x
 
--- a fault at the token in front
+-- a fault at the first of these tokens
 abbrev pub refuse : {A : Type 0} → Lexemes → Result A Fault
 refuse ts = Err (syntax_fault (length ts))
 
--- a fault at the token before
+-- a fault at the token before these
 abbrev pub refuse_last : {A : Type 0} → Lexemes → Result A Fault
 refuse_last ts = Err (syntax_fault (suc (length ts)))
 
--- the token before passes this depth
+-- the token before these passes this depth
 abbrev pub too_deep : {A : Type 0} → Depth → Lexemes → Result A Fault
 too_deep depth ts = Err (depth_fault depth (suc (length ts)))
 
--- marks and words, which a number tells apart
+-- a number for each mark, which tells them apart
 abbrev pub mark_number : Mark → ℕ
 mark_number marks.OpenRound = 0
 mark_number marks.CloseRound = 1
@@ -70,9 +72,11 @@ mark_number marks.Not = 24
 mark_number marks.Ampersand = 25
 mark_number marks.Range = 26
 
+-- two marks are the same
 abbrev pub same_mark : Mark → Mark → Bool
 same_mark a b = mark_number a == mark_number b
 
+-- a number for each word, which tells them apart
 abbrev pub word_number : Word → ℕ
 word_number words.Sensor = 0
 word_number words.Port = 1
@@ -98,6 +102,7 @@ word_number words.Bool = 20
 word_number words.Atomic = 21
 word_number words.Underscore = 22
 
+-- two words are the same
 abbrev pub same_word : Word → Word → Bool
 same_word a b = word_number a == word_number b
 
@@ -116,16 +121,20 @@ unfoldable pub strip_word : Word → Lexemes → Option Lexemes
 strip_word w (keyword line k ∷ ts) = if same_word k w then Some ts else None
 strip_word w _ = None
 
+-- what is behind a mark, which must be in front
 unfoldable pub expect_mark : Mark → Lexemes → Result Lexemes Fault
 expect_mark m ts = with_some (strip_mark m ts) (refuse ts) (λ us. Ok us)
 
+-- what is behind a word, which must be in front
 unfoldable pub expect_word : Word → Lexemes → Result Lexemes Fault
 expect_word w ts = with_some (strip_word w ts) (refuse ts) (λ us. Ok us)
 
+-- the name in front, which must be there
 unfoldable pub name_at : Lexemes → Read Text
 name_at (named line x ∷ ts) = Ok (x, ts)
 name_at ts = refuse ts
 
+-- the number in front, which must be there
 unfoldable pub number_at : Lexemes → Read ℤ
 number_at (numeral line v ∷ ts) = Ok (v, ts)
 number_at ts = refuse ts
@@ -134,14 +143,16 @@ number_at ts = refuse ts
 unfoldable pub take_word : Word → Lexemes → Bool × Lexemes
 take_word w ts = with_some (strip_word w ts) (false, ts) (λ us. (true, us))
 
--- the operator, if it is of this level
+-- an operator, if it is of this level
 abbrev pub at_level : ℕ → Option (BinaryOp × ℕ) → Option BinaryOp
 at_level level None = None
 at_level level (Some x) = if x.1 == level then Some x.0 else None
 
+-- the operator that a token is, if it is one of this level
 abbrev pub operator_of : ℕ → Lexeme → Option BinaryOp
 operator_of level t = at_level level (infix_of t)
 
+-- an operator, if there is one, with the tokens behind it
 abbrev pub before : Lexemes → Option BinaryOp → Option (BinaryOp × Lexemes)
 before ts None = None
 before ts (Some op) = Some (op, ts)

@@ -17,7 +17,7 @@ use Rattle.oc_grammar.specs.Statements.{opposite, right_of}
 
 -- ---- types and constants
 
--- the number of words, behind the `[` and up to the `]`
+-- the number of an array's words, behind the `[` and up to the `]`
 unfoldable pub array_at : Lexemes → Read ℕ
 array_at ts = do
   us ← expect_word words.Int ts
@@ -26,29 +26,39 @@ array_at ts = do
   us ← expect_mark marks.CloseSquare n.1
   Ok (unsigned_abs n.0, us)
 
+-- a type that begins with this token
 abbrev pub type_from : Lexeme → Lexemes → Read ValueKind
 type_from (keyword line words.Int) ts = Ok (types.Int, ts)
 type_from (keyword line words.Bool) ts = Ok (types.Bool, ts)
 type_from (sign line marks.OpenSquare) ts = array_at ts >>= λ n. Ok (types.Array n.0, n.1)
 type_from _ ts = refuse_last ts
 
+-- a type
 unfoldable pub type_at : Lexemes → Read ValueKind
 type_at ts = next_at ts >>= λ x. type_from x.0 x.1
 
+-- a constant: a number, perhaps after a `-`
 unfoldable pub const_at : Lexemes → Read ℤ
-const_at ts = with_some (strip_mark marks.Minus ts) (number_at ts) (λ us. number_at us >>= λ n. Ok (opposite n.0, n.1))
+const_at ts =
+    with_some (strip_mark marks.Minus ts) (number_at ts)
+    (λ us. number_at us >>= λ n. Ok (opposite n.0, n.1))
 
 -- ---- statements without blocks
 
+-- a right side, up to and with the `;`
 unfoldable pub right_at : Limits → Lexemes → Read TRight
 right_at limits ts = do
   e ← whole_at limits ts
   us ← expect_mark marks.Semicolon e.1
   Ok (right_of e.0, us)
 
+-- the type of a variable, if there is a `:`
 unfoldable pub note_at : Lexemes → Read (Option ValueKind)
-note_at ts = with_some (strip_mark marks.Colon ts) (Ok (None, ts)) (λ us. type_at us >>= λ k. Ok (Some k.0, k.1))
+note_at ts =
+    with_some (strip_mark marks.Colon ts) (Ok (None, ts))
+    (λ us. type_at us >>= λ k. Ok (Some k.0, k.1))
 
+-- `let a = [c; n];`, behind the `[`
 unfoldable pub fill_at : Bool → Text → Option ValueKind → Lexemes → Read TKind
 fill_at m x k ts = do
   i ← const_at ts
@@ -58,11 +68,13 @@ fill_at m x k ts = do
   us ← expect_mark marks.Semicolon us
   Ok (let_array m x k i.0 (unsigned_abs n.0), us)
 
+-- `x = right;`, behind the `=`
 unfoldable pub assign_at : Limits → Text → Lexemes → Read TKind
 assign_at limits x ts = do
   r ← right_at limits ts
   Ok (assign x r.0, r.1)
 
+-- `a[e] = right;`, behind the `[`
 unfoldable pub element_to_at : Limits → Text → Lexemes → Read TKind
 element_to_at limits x ts = do
   j ← whole_at limits ts
@@ -71,6 +83,7 @@ element_to_at limits x ts = do
   r ← right_at limits us
   Ok (assign_index x j.0 r.0, r.1)
 
+-- `*x = right;`, behind the `*`
 unfoldable pub target_at : Limits → Lexemes → Read TKind
 target_at limits ts = do
   x ← name_at ts
@@ -78,12 +91,14 @@ target_at limits ts = do
   r ← right_at limits us
   Ok (assign_deref x.0 r.0, r.1)
 
+-- `f(..);`, behind the `(`
 unfoldable pub call_at : Limits → Text → Lexemes → Read TKind
 call_at limits f ts = do
   q ← args_at limits limits.brackets ts
   us ← expect_mark marks.Semicolon q.1
   Ok (call_only (call f (args_of q.0)), us)
 
+-- `sense(s);`, behind the word
 unfoldable pub sense_at : Lexemes → Read TKind
 sense_at ts = do
   us ← expect_mark marks.OpenRound ts
@@ -92,6 +107,7 @@ sense_at ts = do
   us ← expect_mark marks.Semicolon us
   Ok (sense_only s.0, us)
 
+-- `emit(p, e);`, behind the word
 unfoldable pub emit_at : Limits → Lexemes → Read TKind
 emit_at limits ts = do
   us ← expect_mark marks.OpenRound ts
@@ -102,6 +118,7 @@ emit_at limits ts = do
   us ← expect_mark marks.Semicolon us
   Ok (emit p.0 v.0, us)
 
+-- `Fresh(x);`, behind the word
 unfoldable pub fresh_at : Lexemes → Read TKind
 fresh_at ts = do
   us ← expect_mark marks.OpenRound ts
@@ -110,6 +127,7 @@ fresh_at ts = do
   us ← expect_mark marks.Semicolon us
   Ok (fresh x.0, us)
 
+-- `Consistent(x, n);`, behind the word
 unfoldable pub consistent_at : Lexemes → Read TKind
 consistent_at ts = do
   us ← expect_mark marks.OpenRound ts
@@ -120,17 +138,20 @@ consistent_at ts = do
   us ← expect_mark marks.Semicolon us
   Ok (consistent x.0 n.0, us)
 
+-- `return e;`, behind the word
 unfoldable pub return_at : Limits → Lexemes → Read TKind
 return_at limits ts = do
   v ← whole_at limits ts
   us ← expect_mark marks.Semicolon v.1
   Ok (return v.0, us)
 
--- behind the `=`
+-- a `let`, behind its `=`
 unfoldable pub bind_at : Limits → Bool → Text → Option ValueKind → Lexemes → Read TKind
-bind_at limits m x k ts = with_some (strip_mark marks.OpenSquare ts) (right_at limits ts >>= λ r. Ok (let_to m x k r.0, r.1)) (fill_at m x k)
+bind_at limits m x k ts =
+    with_some (strip_mark marks.OpenSquare ts)
+    (right_at limits ts >>= λ r. Ok (let_to m x k r.0, r.1)) (fill_at m x k)
 
--- behind the `mut` that may stand there
+-- a `let`, behind the `mut` that may stand there
 unfoldable pub let_from : Limits → Bool × Lexemes → Read TKind
 let_from limits m = do
   x ← name_at m.1
@@ -138,9 +159,11 @@ let_from limits m = do
   us ← expect_mark marks.Assign k.1
   bind_at limits m.0 x.0 k.0 us
 
+-- a `let`, behind the word
 unfoldable pub let_at : Limits → Lexemes → Read TKind
 let_at limits ts = let_from limits (take_word words.Mutable ts)
 
+-- a call or an assignment, behind the name with which it begins
 unfoldable pub set_at : Limits → Text → Lexemes → Read TKind
 set_at limits x ts =
     with_some (strip_mark marks.OpenRound ts)
@@ -167,9 +190,11 @@ simple_from limits _ ts = refuse_last ts
 abbrev pub ReadNumbered : Type 0 → Type 0
 ReadNumbered A = Result (A × ℕ × ℕ × Lexemes) Fault
 
+-- a reading, by the numbers of the next statement and block, of the tokens that are left
 abbrev pub Reader : Type 0 → Type 0
 Reader A = ℕ → ℕ → Lexemes → ReadNumbered A
 
+-- an `if`, behind the word, where `body` reads a block and `other` an `else`
 unfoldable pub if_by : Limits → Reader TBlock → Reader TElse → Reader TKind
 if_by limits body other n b ts = do
   c ← whole_at limits ts
@@ -177,6 +202,7 @@ if_by limits body other n b ts = do
   o ← other t.1 t.2 t.3
   Ok (if_else c.0 t.0 o.0, o.1, o.2, o.3)
 
+-- a `for`, behind the word, where `body` reads a block
 unfoldable pub for_by : Reader TBlock → Reader TKind
 for_by body n b ts = do
   x ← name_at ts
@@ -187,6 +213,7 @@ for_by body n b ts = do
   t ← body n b j.1
   Ok (for_in x.0 i.0 j.0 t.0, t.1, t.2, t.3)
 
+-- a `while`, behind the word, where `body` reads a block
 unfoldable pub while_by : Limits → Reader TBlock → Reader TKind
 while_by limits body n b ts = do
   c ← whole_at limits ts
@@ -195,14 +222,17 @@ while_by limits body n b ts = do
   t ← body n b z.1
   Ok (while_do c.0 (unsigned_abs z.0) t.0, t.1, t.2, t.3)
 
+-- an `atomic` block, behind the word, with the tree of `if true`
 unfoldable pub atomic_by : Reader TBlock → Reader TKind
 atomic_by body n b ts = do
   t ← body n b ts
   Ok (if_else (truth true) t.0 no_else, t.1, t.2, t.3)
 
+-- a statement without blocks, which leaves the numbers as they are
 abbrev pub simple_by : ℕ → ℕ → Read TKind → ReadNumbered TKind
 simple_by n b read = read >>= λ k. Ok (k.0, n, b, k.1)
 
+-- a statement that begins with this token, without its number
 abbrev pub kind_by : Limits → Reader TBlock → Reader TElse → Lexeme → Reader TKind
 kind_by limits body other (keyword line words.If) n b ts = if_by limits body other n b ts
 kind_by limits body other (keyword line words.For) n b ts = for_by body n b ts
@@ -210,13 +240,14 @@ kind_by limits body other (keyword line words.While) n b ts = while_by limits bo
 kind_by limits body other (keyword line words.Atomic) n b ts = atomic_by body n b ts
 kind_by limits body other t n b ts = simple_by n b (simple_from limits t ts)
 
+-- a statement with its number and line
 abbrev pub stmt_by : Limits → Reader TBlock → Reader TElse → Reader TStmt
 stmt_by limits body other n b ts = do
   x ← next_at ts
   k ← kind_by limits body other x.0 (suc n) b x.1
   Ok (stmt n (line_of x.0) k.0, k.1, k.2, k.3)
 
--- behind the `{` and up to the `}`, at most so many
+-- the statements of a block, behind the `{` and up to the `}`, at most so many
 unfoldable pub stmts_by : Reader TStmt → ℕ → Reader (List TStmt)
 stmts_by one zero n b ts = refuse ts
 stmts_by one (suc k) n b ts =
@@ -224,6 +255,7 @@ stmts_by one (suc k) n b ts =
     (one n b ts >>= λ s. stmts_by one k s.1 s.2 s.3 >>= λ x. Ok (s.0 ∷ x.0, x.1, x.2, x.3))
     (λ us. Ok ([], n, b, us))
 
+-- a block between its braces, where `one` reads a statement
 abbrev pub braces_by : Reader TStmt → Reader TBlock
 braces_by one n b ts = do
   us ← expect_mark marks.OpenCurly ts
@@ -238,35 +270,44 @@ no_block n b ts = expect_mark marks.OpenCurly ts >>= λ us. too_deep blocks_dept
 abbrev pub chained_by : Reader TStmt → Reader TBlock
 chained_by one n b ts = one n (suc b) ts >>= λ s. Ok (block b (more s.0 no_stmts), s.1, s.2, s.3)
 
+-- an `else if` where no block may stand, which passes the depth
 abbrev pub no_chained : Reader TBlock
 no_chained n b ts = Err (depth_fault blocks_depth (length ts))
 
+-- an `else`, if there is one, where `body` reads a block and `chained` an `else if`
 abbrev pub else_by : Reader TBlock → Reader TBlock → Reader TElse
 else_by body chained n b ts =
-    with_some (strip_word words.Else ts)
-    (Ok (no_else, n, b, ts))
-    (λ us. with_some (strip_word words.If us) (body n b us) (λ _. chained n b us) >>= λ t. Ok (else_do t.0, t.1, t.2, t.3))
+    with_some (strip_word words.Else ts) (Ok (no_else, n, b, ts))
+    (λ us. with_some (strip_word words.If us) (body n b us) (λ _. chained n b us)
+    >>= λ t. Ok (else_do t.0, t.1, t.2, t.3))
 
--- with room for so many more blocks in one another
+-- a statement, with room for so many more blocks in one another
 unfoldable pub stmt_at : Limits → ℕ → Reader TStmt
 stmt_at limits zero n b ts = stmt_by limits no_block (else_by no_block no_chained) n b ts
-stmt_at limits (suc room) n b ts = stmt_by limits (braces_by (stmt_at limits room)) (else_by (braces_by (stmt_at limits room)) (chained_by (stmt_at limits room))) n b ts
+stmt_at limits (suc room) n b ts =
+    stmt_by limits (braces_by (stmt_at limits room))
+    (else_by (braces_by (stmt_at limits room)) (chained_by (stmt_at limits room))) n b ts
 
 -- ---- the parts of a statement
 
+-- a block, with room for so many more in one another
 unfoldable pub block_at : Limits → ℕ → Reader TBlock
 block_at limits zero n b ts = no_block n b ts
 block_at limits (suc room) n b ts = braces_by (stmt_at limits room) n b ts
 
+-- the block that an `else if` opens, with room for so many more in one another
 unfoldable pub chained_at : Limits → ℕ → Reader TBlock
 chained_at limits zero n b ts = no_chained n b ts
 chained_at limits (suc room) n b ts = chained_by (stmt_at limits room) n b ts
 
+-- an `else`, if there is one, with room for so many more blocks in one another
 unfoldable pub else_at : Limits → ℕ → Reader TElse
 else_at limits room n b ts = else_by (block_at limits room) (chained_at limits room) n b ts
 
+-- a statement by its parts, with room for so many more blocks in one another
 unfoldable pub stmt_here : Limits → ℕ → Reader TStmt
 stmt_here limits room n b ts = stmt_by limits (block_at limits room) (else_at limits room) n b ts
 
+-- the statements of a block, with room for so many more blocks in one another
 unfoldable pub stmts_at : Limits → ℕ → Reader (List TStmt)
 stmts_at limits room n b ts = stmts_by (stmt_at limits room) (suc (length ts)) n b ts

@@ -9,5 +9,7 @@ use Rattle.oc_meaning.specs.Run.{AtShort, marked_run, said_in}
 
 -- a run that says last that it is over wants no sample
 abbrev pub EndedWantsNone : Type 0
-EndedWantsNone = (p : TProgram) (regions : List TRegion) (samples : List ℤ) (before : List Said) (how : Ending) → said_in (marked_run p regions samples) ≡ before ++ Ended how ∷ []
+EndedWantsNone =
+    (p : TProgram) (regions : List TRegion) (samples : List ℤ) (before : List Said) (how : Ending)
+    → said_in (marked_run p regions samples) ≡ before ++ Ended how ∷ []
     → (marked_run p regions samples).ending ≢ AtShort

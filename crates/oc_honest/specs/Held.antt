@@ -12,12 +12,14 @@ use Rattle.oc_honest.specs.Timely.{IsInput, IsUse, AreTogether, AreTimely, lived
 
 -- ---- executions of regions
 
--- an event of the source, and the execution of a region in which it lies, by how many began before it
+-- an event of the source, and the execution of a region in which it lies
 pub record Ran : Type 0 where
+  -- how many executions began before that one; none outside of regions
   pub execution : Option ℕ
+  -- the event
   pub event : Event
 
--- the n-th execution, if one is open
+-- the number of the execution in which an event lies: the n-th, if one is open
 abbrev pub within : Bool → ℕ → Option ℕ
 within true n = Some n
 within false n = None
@@ -28,6 +30,8 @@ ran_more (Entered r) inside n e later = later true (suc n)
 ran_more (Committed r) inside n e later = later false n
 ran_more s inside n e later = record { execution = within inside n; event = e } ∷ later inside n
 
+-- the events of a marked run without its marks, where n executions of regions began before, and the
+-- last is open or isn't
 abbrev pub ran_from : Bool → ℕ → List Event → List Ran
 ran_from inside n [] = []
 ran_from inside n (e ∷ es) = ran_more e.said inside n e (λ o m. ran_from o m es)
@@ -39,12 +43,17 @@ ran es = ran_from false 0 es
 -- Each use, and its end, lies in one execution of a region with the inputs of its samples; so do the inputs of all samples on
 -- which the tags of one instance of a consistent set depend.
 pub record AreHeld (p : TProgram) (all : List Ran) : Type 0 where
-  pub fresh : (a u : Ran) (j : ℕ) → IsOf a all → IsOf u all → IsInput j a.event → IsUse u.event.said → IsOf j u.event.samples → (x : ℕ) × (a.execution ≡ Some x) × (u.execution ≡ Some x)
-  pub consistent : (a b t u : Ran) (j k : ℕ) → IsOf a all → IsOf b all → IsOf t all → IsOf u all → IsInput j a.event → IsInput k b.event → AreTogether p t.event u.event →
-      IsOf j t.event.samples → IsOf k u.event.samples → (x : ℕ) × (a.execution ≡ Some x) × (b.execution ≡ Some x)
+  pub fresh : (a u : Ran) (j : ℕ) → IsOf a all → IsOf u all → IsInput j a.event → IsUse u.event.said
+      → IsOf j u.event.samples → (x : ℕ) × (a.execution ≡ Some x) × (u.execution ≡ Some x)
+  pub consistent : (a b t u : Ran) (j k : ℕ) → IsOf a all → IsOf b all → IsOf t all
+      → IsOf u all → IsInput j a.event → IsInput k b.event → AreTogether p t.event u.event
+      → IsOf j t.event.samples
+      → IsOf k u.event.samples → (x : ℕ) × (a.execution ≡ Some x) × (b.execution ≡ Some x)
 
 -- ---- the law
 
 -- What is held together is timely with outages anywhere outside of regions.
 abbrev pub HeldIsTimely : Type 0
-HeldIsTimely = (p : TProgram) (es : List Event) (items : List Told) → Tells (map (λ e. e.said) es) items → AreHeld p (ran es) → AreTimely p (lived_from 0 items (unmarked es))
+HeldIsTimely =
+    (p : TProgram) (es : List Event) (items : List Told) → Tells (map (λ e. e.said) es) items
+    → AreHeld p (ran es) → AreTimely p (lived_from 0 items (unmarked es))

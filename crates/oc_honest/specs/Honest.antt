@@ -10,20 +10,25 @@ use Rattle.oc_items.specs.Erase.{erase, marked, kept_samples, HasNoOffInside}
 use Rattle.oc_items.specs.Reports.{IsPrefixOf, EndsWith}
 use Rattle.oc_honest.specs.Timely.{IsTimely}
 
--- what was reported: its items, and the nonvolatile words where there are any
+-- what a run reported
 pub record TReport : Type 0 where
+  -- its items
   pub items : List Told
+  -- the nonvolatile words that it left, where there are any
   pub nv : Option (List ℤ)
 
--- without its aborted attempts it is the whole marked run, which is over, and these are the words that the run leaves
-pub record IsWhole (p : TProgram) (regions : List TRegion) (q : List Told) (nv : Option (List ℤ)) : Type 0 where
+-- without its aborted attempts a report is the whole marked run, which is over, and these are the
+-- words that it leaves
+pub record IsWhole
+    (p : TProgram) (regions : List TRegion) (q : List Told) (nv : Option (List ℤ)) : Type 0 where
   pub said : marked q ≡ said_in (marked_run p regions (kept_samples q))
   pub over : (marked_run p regions (kept_samples q)).ending ≢ AtShort
   pub left : nv ≡ Some (source_run p (kept_samples q)).nv
 
 -- one prefix of a report. Without its aborted attempts it says what the marked run over its kept samples says, or a
 -- prefix of it; no outage lies in a region; it is timely; and where it ends it is the whole run
-pub record IsHonestSoFar (p : TProgram) (regions : List TRegion) (nv : Option (List ℤ)) (q : List Told) : Type 0 where
+pub record IsHonestSoFar
+    (p : TProgram) (regions : List TRegion) (nv : Option (List ℤ)) (q : List Told) : Type 0 where
   pub said : IsPrefixOf (marked q) (said_in (marked_run p regions (kept_samples q)))
   pub outside : HasNoOffInside false (erase q)
   pub timely : IsTimely p q (source_run p (kept_samples q)).events

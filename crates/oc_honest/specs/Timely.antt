@@ -15,11 +15,14 @@ use Rattle.oc_items.specs.Erase.{erase, Tells}
 
 -- ---- what belongs to what
 
--- an event of the source, and how many outages stood before the item that tells it
+-- an event of the source, and how many outages stand before the item that tells it
 pub record Lived : Type 0 where
+  -- how many outages stand before it
   pub offs : ℕ
+  -- the event
   pub event : Event
 
+-- an item tells the first of these events, with n outages before it
 abbrev pub live : ℕ → List Event → (List Event → List Lived) → List Lived
 live n [] later = []
 live n (e ∷ es) later = record { offs = n; event = e } ∷ later es
@@ -38,6 +41,8 @@ abbrev pub lived_from : ℕ → List Told → List Event → List Lived
 lived_from n [] es = []
 lived_from n (i ∷ is) es = lives i.said n es (λ m fs. lived_from m is fs)
 
+-- the events of the source with the outages before each, as a report without its aborted attempts
+-- tells them
 abbrev pub lived : List Told → List Event → List Lived
 lived items es = lived_from 0 (erase items) es
 
@@ -58,6 +63,7 @@ abbrev pub set_in : Option ℕ → TKind → Option (ℕ × ℤ)
 set_in (Some f) (consistent x k) = Some (f, k)
 set_in f k = None
 
+-- the consistent set that the statement n annotates, where it is there
 abbrev pub set_at : TProgram → ℕ → Option Placed → Option (ℕ × ℤ)
 set_at p n None = None
 set_at p n (Some a) = set_in (function_of p n) a.kind
@@ -82,9 +88,11 @@ pub record AreTogether (p : TProgram) (e d : Event) : Type 0 where
 -- no outage stands between a sample's input and a use, or the end of a use, that depends on it; and none between the inputs
 -- of samples on which two tags of one instance of a set depend, or one tag
 pub record AreTimely (p : TProgram) (all : List Lived) : Type 0 where
-  pub fresh : (a u : Lived) (j : ℕ) → IsOf a all → IsOf u all → IsInput j a.event → IsUse u.event.said → IsOf j u.event.samples → a.offs ≡ u.offs
-  pub consistent : (a b t u : Lived) (j k : ℕ) → IsOf a all → IsOf b all → IsOf t all → IsOf u all → IsInput j a.event → IsInput k b.event → AreTogether p t.event u.event →
-      IsOf j t.event.samples → IsOf k u.event.samples → a.offs ≡ b.offs
+  pub fresh : (a u : Lived) (j : ℕ) → IsOf a all → IsOf u all
+      → IsInput j a.event → IsUse u.event.said → IsOf j u.event.samples → a.offs ≡ u.offs
+  pub consistent : (a b t u : Lived) (j k : ℕ) → IsOf a all → IsOf b all → IsOf t all
+      → IsOf u all → IsInput j a.event → IsInput k b.event → AreTogether p t.event u.event
+      → IsOf j t.event.samples → IsOf k u.event.samples → a.offs ≡ b.offs
 
 -- the report is timely, where these are the events of the source
 abbrev pub IsTimely : TProgram → List Told → List Event → Type 0
@@ -95,22 +103,31 @@ IsTimely p items es = AreTimely p (lived items es)
 -- each run of the program is timely with outages anywhere outside of its regions, as is every front part of it
 abbrev pub RunsAreTimely : TMarked → Type 0
 RunsAreTimely m =
-    (samples : List ℤ) (items : List Told) → Tells (said_in (marked_run m.program m.regions samples)) items → AreTimely m.program (lived_from 0 items (source_run m.program samples).events)
+    (samples : List ℤ) (items : List Told)
+    → Tells (said_in (marked_run m.program m.regions samples)) items
+    → AreTimely m.program (lived_from 0 items (source_run m.program samples).events)
 
 -- ---- reports that are not timely
 
-abbrev pub told : (tick : ℕ) → Said → Told
-told tick s = record { tick = tick; said = s }
+-- an item: at this tick this was said
+abbrev pub told_at : (tick : ℕ) → Said → Told
+told_at tick s = record { tick = tick; said = s }
 
+-- an event: what was said, the samples on which it depends, and its instance
 abbrev pub event : Said → List ℕ → (instance : ℕ) → Event
 event s samples instance = record { said = s; samples = samples; instance = instance }
 
--- an outage between an input and its use
+-- an outage between an input and its use isn't timely
 abbrev pub LateUse : Type 0
-LateUse = (p : TProgram) → IsTimely p (told 1 (Sensed 0 (pos 21)) ∷ told 2 (Off 5) ∷ told 9 (Showed (Used 3)) ∷ []) (event (Sensed 0 (pos 21)) (0 ∷ []) 0 ∷ event (Showed (Used 3)) (0 ∷ []) 0 ∷ []) → ⊥
+LateUse = (p : TProgram)
+    → IsTimely p (told_at 1 (Sensed 0 (pos 21)) ∷ told_at 2 (Off 5) ∷ told_at 9 (Showed (Used 3))
+    ∷ [])
+    (event (Sensed 0 (pos 21)) (0 ∷ []) 0 ∷ event (Showed (Used 3)) (0 ∷ []) 0 ∷ []) → ⊥
 
--- an outage between two inputs of a set, which one annotation tags
+-- an outage between two inputs of a set, which one annotation tags, isn't timely
 abbrev pub PartedSet : Type 0
-PartedSet = (p : TProgram) (n : ℕ) (set : ℕ × ℤ) → set_of p n ≡ Some set →
-    IsTimely p (told 1 (Sensed 0 (pos 5)) ∷ told 2 (Off 5) ∷ told 9 (Sensed 1 (pos 8)) ∷ told 12 (Showed (Tagged n)) ∷ [])
-    (event (Sensed 0 (pos 5)) (0 ∷ []) 0 ∷ event (Sensed 1 (pos 8)) (1 ∷ []) 0 ∷ event (Showed (Tagged n)) (0 ∷ 1 ∷ []) 1 ∷ []) → ⊥
+PartedSet = (p : TProgram) (n : ℕ) (set : ℕ × ℤ) → set_of p n ≡ Some set
+    → IsTimely p (told_at 1 (Sensed 0 (pos 5))
+    ∷ told_at 2 (Off 5) ∷ told_at 9 (Sensed 1 (pos 8)) ∷ told_at 12 (Showed (Tagged n)) ∷ [])
+    (event (Sensed 0 (pos 5)) (0 ∷ []) 0
+    ∷ event (Sensed 1 (pos 8)) (1 ∷ []) 0 ∷ event (Showed (Tagged n)) (0 ∷ 1 ∷ []) 1 ∷ []) → ⊥

@@ -16,7 +16,7 @@ pub fn late_use()
     ensures { LateUse }
 {}
 
-/// Nor is one between two inputs of a consistent set.
+/// An outage between two inputs of a consistent set is not timely.
 pub fn parted_set()
     ensures { PartedSet }
 {}

@@ -6,6 +6,6 @@ use Rattle.std.specs.Io.KnownBytes.{append_known}
 abbrev pub unwritten : (written used : ℕ) → (buffer : List ℕ) → List ℕ
 unwritten written used buffer = drop written (take used buffer)
 
--- the known bytes, and then those
+-- the known bytes, and then those of the used part of a buffer that aren't written yet
 abbrev pub with_held : Option (List ℕ) → (written used : ℕ) → (buffer : List ℕ) → Option (List ℕ)
 with_held known written used buffer = append_known known (unwritten written used buffer)

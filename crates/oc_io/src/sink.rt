@@ -1,7 +1,7 @@
 //! Where bytes go.
 ghost use Rattle.std.specs.Prelude.{◌≡◌, ℕ, ◌≤◌, List, [], ◌++◌, OnOk, OnErr, true};
 ghost use Rattle.std.specs.Result.{is_ok};
-ghost use Rattle.oc_io.specs.Faults.{Rose, TookPart};
+ghost use Rattle.oc_io.specs.Faults.{Puts, Rose};
 
 use thiserror::Error;
 
@@ -23,12 +23,8 @@ pub trait Sink {
 
     /// Takes bytes, all of them or a front part. No bytes are taken without a write.
     fn put(&mut self, bytes: &[u8]) -> Result<(), SinkFault>
-        ensures ok { OnOk result (took self.old bytes.now self.new) }
-        ensures part { OnErr result (TookPart took self.old bytes.now self.new) }
-        ensures empty { bytes.now ≡ [] → (is_ok result ≡ true) × (self.new ≡ self.old) }
-        ensures calm { OnOk result (faults self.new ≡ faults self.old) }
-        ensures cause { OnErr result (Rose (faults self.old) (faults self.new)) }
-        ensures count { faults self.old ≤ faults self.new };
+        ensures puts { Puts took faults self.old bytes.now self.new result }
+        ensures empty { bytes.now ≡ [] → (is_ok result ≡ true) × (self.new ≡ self.old) };
 
     /// Writes what the sink still holds back. Whoever has put a text calls this at its end.
     fn flush(&mut self) -> Result<(), SinkFault>
@@ -52,6 +48,7 @@ pub struct CountSink {
 }
 
 impl CountSink {
+    /// A sink that took nothing yet.
     pub fn new() -> CountSink
         ensures bytes { result.bytes ≡ 0 }
         ensures lines { result.lines ≡ 0 }
@@ -59,12 +56,14 @@ impl CountSink {
         CountSink { bytes: 0, lines: 0 }
     }
 
+    /// How many bytes it took; the count stops at the greatest number.
     pub fn bytes(&self) -> u64
         ensures { result ≡ self.now.bytes }
     {
         self.bytes
     }
 
+    /// How many line feeds it took; the count stops at the greatest number.
     pub fn lines(&self) -> u64
         ensures { result ≡ self.now.lines }
     {

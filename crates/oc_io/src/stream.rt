@@ -49,6 +49,7 @@ pub struct StreamSink<W: Write + Drop> {
 }
 
 impl<W: Write + Drop> StreamSink<W> {
+    /// A sink that writes to `to` and holds nothing back yet.
     pub fn new(to: W) -> StreamSink<W>
         ensures to { result.to ≡ to }
         ensures held { result.used ≡ 0 }

@@ -2,26 +2,10 @@
 use Rattle.std.proofs.Common.{ℕ, ◌+◌, ◌<◌, ◌≤◌, ◌≡◌, List, [], ◌∷◌, ◌++◌, length, get_or, drop, map, ap, ◌∙◌, append_assoc, subst, sym, refl, arith, Vec, Global}
 use Rattle.std.specs.List.{All}
 use Rattle.std.proofs.lemmas.List.{drop_more, drop_all, get_or-map, length-map}
-use Rattle.oc_io.specs.Faults.{TookPart}
-use Rattle.oc_io.proofs.Going.{Both}
 use Rattle.oc_tree.specs.Names.{Text}
 use Rattle.oc_tree.specs.declared.said.Target.{Target}
 use Rattle.oc_isa.specs.declared.image.ImageNv.{ImageNv}
 use Rattle.oc_isa.specs.Bytes.{Bytes, IsFew, number_bytes, word_bytes, name_bytes, nvs_bytes}
-use Rattle.oc_isa.proofs.Ending.{part_of_front}
-
--- a part of the first field
-pub within_first : {S : Type 0} (took : S → List ℕ → S → Type 0) {a b : S} {x : List ℕ} (y : List ℕ) → TookPart took a x b → TookPart took a (x ++ y) b
-within_first took {a = a} {b = b} {x = x} y p = part_of_front took a b x y (x ++ y) refl p
-
--- the first field, and a part of what comes behind
-pub behind_first : {S : Type 0} (took : S → List ℕ → S → Type 0) (both : Both took) {a b c : S} {x y : List ℕ} → took a x b → TookPart took b y c → TookPart took a (x ++ y) c
-behind_first took both {a = a} {b = b} {c = c} {x = x} {y = y} q p = record {
-  front = x ++ p.front;
-  back = p.back;
-  split = ap (λ (s : List ℕ). x ++ s) p.split ∙ sym (append_assoc x p.front p.back);
-  taken = both a b c x p.front q p.taken;
-}
 
 -- the field of a nonvolatile variable
 abbrev pub nv_bytes : Text → ImageNv → Bytes

@@ -19,6 +19,7 @@ use Rattle.oc_isa.specs.declared.instr.Instr.TheVariants.{Push, Load, Store, Nlo
 use Rattle.oc_isa.specs.declared.instr.Instr.TheVariants.{Probe, Enter, Commit, Halt}
 use Rattle.oc_isa.specs.Image.{Parts}
 
+-- bytes, as a list of numbers
 abbrev pub Bytes : Type 0
 Bytes = List ℕ
 
@@ -32,7 +33,7 @@ number_bytes n = to_le_bytes w32 n
 abbrev pub word_bytes : ℤ → Bytes
 word_bytes z = number_bytes (cast_unsigned w32 z)
 
--- a list begins with its length
+-- a list: its length, and then its elements
 abbrev pub list_bytes : {A : Type 0} → (A → Bytes) → List A → Bytes
 list_bytes one xs = number_bytes (length xs) ++ flat_map one xs
 
@@ -44,21 +45,26 @@ name_bytes x = number_bytes (length x) ++ x
 abbrev pub nvs_bytes : List Text → List ImageNv → Bytes
 nvs_bytes [] vs = []
 nvs_bytes (x ∷ xs) [] = []
-nvs_bytes (x ∷ xs) (v ∷ vs) = name_bytes x ++ (number_bytes v.words ++ (word_bytes v.initial ++ nvs_bytes xs vs))
+nvs_bytes (x ∷ xs) (v ∷ vs) =
+    name_bytes x ++ (number_bytes v.words ++ (word_bytes v.initial ++ nvs_bytes xs vs))
 
--- how many of them there are, and then each
+-- the nonvolatile variables: how many there are, and then each
 abbrev pub all_nvs_bytes : List Text → List ImageNv → Bytes
 all_nvs_bytes xs vs = number_bytes (length xs) ++ nvs_bytes xs vs
 
+-- a function: its name, its first address, its parameters and the stack words of its frame
 abbrev pub function_bytes : ImageFunction → Bytes
-function_bytes f = name_bytes f.name ++ (number_bytes f.entry ++ (number_bytes f.params ++ number_bytes f.frame))
+function_bytes f =
+    name_bytes f.name ++ (number_bytes f.entry ++ (number_bytes f.params ++ number_bytes f.frame))
 
+-- what a region overwrites: 0, the first nonvolatile word, how many; or 1, a parameter, how many
 abbrev pub target_bytes : Target → Bytes
 target_bytes (Nv base len) = number_bytes 0 ++ (number_bytes base ++ number_bytes len)
 target_bytes (Param slot len) = number_bytes 1 ++ (number_bytes slot ++ number_bytes len)
 
 -- Instructions
 
+-- the number that a file has for an operator on two words
 abbrev pub binary_number : BinOp → ℕ
 binary_number Add = 0
 binary_number Sub = 1
@@ -72,10 +78,12 @@ binary_number Le = 8
 binary_number Gt = 9
 binary_number Ge = 10
 
+-- the number that a file has for an operator on one word
 abbrev pub unary_number : UnaryOp → ℕ
 unary_number Neg = 0
 unary_number Not = 1
 
+-- the number that a file has for what a probe reports
 abbrev pub probe_number : ProbeKind → ℕ
 probe_number Use = 0
 probe_number Done = 1
@@ -108,19 +116,22 @@ instr_numbers (Enter r) = (22, r, 0)
 instr_numbers (Commit r) = (23, r, 0)
 instr_numbers Halt = (24, 0, 0)
 
--- its kind, its site and its operands
+-- an instruction with these numbers: its kind, the statement that it came from, and its operands
 abbrev pub numbers_bytes : ℕ × ℕ × ℕ → ℕ → Bytes
-numbers_bytes n site = number_bytes n.0 ++ (number_bytes site ++ (number_bytes n.1 ++ number_bytes n.2))
+numbers_bytes n site =
+    number_bytes n.0 ++ (number_bytes site ++ (number_bytes n.1 ++ number_bytes n.2))
 
+-- an instruction of the code, with the statement that it came from
 abbrev pub placed_bytes : Placed → Bytes
 placed_bytes p = numbers_bytes (instr_numbers p.instr) p.site
 
 -- The whole
 
+-- the first bytes of each file: `OCELOT1` and a line feed
 abbrev pub magic : Bytes
 magic = codes "OCELOT1\n"
 
--- all fields, one after another
+-- the bytes of an image's file: all of its fields, one after another
 abbrev pub image_bytes : Parts → Bytes
 image_bytes i =
     magic ++ (list_bytes name_bytes i.names.sensors ++ (list_bytes name_bytes i.names.ports
@@ -128,11 +139,12 @@ image_bytes i =
     ++ (list_bytes function_bytes i.functions ++ (list_bytes (list_bytes target_bytes) i.targets
     ++ (number_bytes i.stack ++ list_bytes placed_bytes i.code))))))
 
--- the length of such a list is a number of a file
+-- the length of a list is a number of a file
 abbrev pub IsFew : {A : Type 0} → List A → Type 0
 IsFew xs = length xs < 2 ^ 32
 
--- each list and each name of an image has a length that is a number of a file; its other lists are shorter by far
+-- each list and each name of an image has a length that is a number of a file; its other lists are
+-- shorter by far
 pub record IsSmall (i : Parts) : Type 0 where
   pub sensors : All IsFew i.names.sensors
   pub ports : All IsFew i.names.ports

@@ -1,5 +1,4 @@
 pub mod Image
-pub mod Levels
 pub mod Next
 pub mod Table
 pub mod Run

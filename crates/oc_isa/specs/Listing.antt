@@ -52,7 +52,7 @@ names_of functions = map (λ f. f.name) functions
 
 -- Lines
 
--- the fields of an instruction: its word and its operands, with functions, sensors and ports by name
+-- the fields of an instruction: its word and operands, with functions, sensors, ports by name
 abbrev pub fields_of : Parts → Instr → List Text
 fields_of i (Push c) = codes "push" ∷ signed_decimal c ∷ []
 fields_of i (Load s) = codes "load" ∷ decimal s ∷ []
@@ -81,12 +81,16 @@ fields_of i Halt = codes "halt" ∷ []
 
 -- the line of a function
 abbrev pub function_line : ImageFunction → Text
-function_line f = line_of (codes "fn" ∷ f.name ∷ codes "entry" ∷ decimal f.entry ∷ codes "params" ∷ decimal f.params ∷ codes "frame" ∷ decimal f.frame ∷ [])
+function_line f =
+    line_of (codes "fn" ∷ f.name ∷ codes "entry" ∷ decimal f.entry ∷ codes "params"
+    ∷ decimal f.params ∷ codes "frame" ∷ decimal f.frame ∷ [])
 
 -- the line of what a region may overwrite
 abbrev pub target_line : ℕ → Target → Text
-target_line region (Nv base len) = line_of (codes "log" ∷ decimal region ∷ codes "nv" ∷ decimal base ∷ decimal len ∷ [])
-target_line region (Param slot len) = line_of (codes "log" ∷ decimal region ∷ codes "param" ∷ decimal slot ∷ decimal len ∷ [])
+target_line region (Nv base len) =
+    line_of (codes "log" ∷ decimal region ∷ codes "nv" ∷ decimal base ∷ decimal len ∷ [])
+target_line region (Param slot len) =
+    line_of (codes "log" ∷ decimal region ∷ codes "param" ∷ decimal slot ∷ decimal len ∷ [])
 
 -- the line of the instruction at this address
 abbrev pub code_line : Parts → ℕ → Placed → Text
@@ -112,6 +116,6 @@ abbrev pub code_lines : Parts → ℕ → List Placed → Text
 code_lines i address [] = []
 code_lines i address (p ∷ rest) = code_line i address p ++ code_lines i (address + 1) rest
 
--- the listing: the functions, then the targets of the regions, which are numbered from 1, then the code
+-- the listing: the functions, then the targets of the regions from 1 on, then the code
 abbrev pub listing_text : Parts → Text
 listing_text i = function_lines i.functions ++ (target_lines 1 i.targets ++ code_lines i 0 i.code)

@@ -1,7 +1,7 @@
 //! The bytes of an image's file.
-ghost use Rattle.std.specs.Prelude.{◌≡◌, ◌≤◌, ◌++◌, length, map, OnOk, OnErr};
+ghost use Rattle.std.specs.Prelude.{◌≡◌, ◌++◌, length, map};
 ghost use Rattle.std.specs.List.{All};
-ghost use Rattle.oc_io.specs.Faults.{Rose, TookPart};
+ghost use Rattle.oc_io.specs.Faults.{Puts};
 ghost use Rattle.oc_isa.specs.Image.{IsWellMade, parts_of};
 ghost use Rattle.oc_isa.specs.Bytes as files;
 ghost use Rattle.oc_isa.specs.Bytes.{
@@ -111,11 +111,7 @@ fn bytes_of(number: u32) -> [u8; 4]
 
 /// Writes a number.
 fn put_number<O: Sink>(number: u32, sink: &mut O) -> Result<(), SinkFault>
-    ensures ok { OnOk result (O.took sink.old (number_bytes number) sink.new) }
-    ensures part { OnErr result (TookPart O.took sink.old (number_bytes number) sink.new) }
-    ensures calm { OnOk result (O.faults sink.new ≡ O.faults sink.old) }
-    ensures cause { OnErr result (Rose (O.faults sink.old) (O.faults sink.new)) }
-    ensures count { O.faults sink.old ≤ O.faults sink.new }
+    ensures { Puts O.took O.faults sink.old (number_bytes number) sink.new result }
 {
     sink.put(&bytes_of(number))
 }
@@ -123,11 +119,7 @@ fn put_number<O: Sink>(number: u32, sink: &mut O) -> Result<(), SinkFault>
 /// Writes a name.
 fn put_name<O: Sink>(name: &Name, sink: &mut O) -> Result<(), SinkFault>
     requires { IsFew name.now }
-    ensures ok { OnOk result (O.took sink.old (name_bytes name.now) sink.new) }
-    ensures part { OnErr result (TookPart O.took sink.old (name_bytes name.now) sink.new) }
-    ensures calm { OnOk result (O.faults sink.new ≡ O.faults sink.old) }
-    ensures cause { OnErr result (Rose (O.faults sink.old) (O.faults sink.new)) }
-    ensures count { O.faults sink.old ≤ O.faults sink.new }
+    ensures { Puts O.took O.faults sink.old (name_bytes name.now) sink.new result }
 {
     let bytes = name.bytes();
     put_pieces(sink, &[&bytes_of(bytes.len() as u32), bytes])
@@ -136,15 +128,9 @@ fn put_name<O: Sink>(name: &Name, sink: &mut O) -> Result<(), SinkFault>
 /// Writes the name of a nonvolatile variable, its number of words and what they are at first.
 fn put_nv<O: Sink>(name: &Name, nv: &ImageNv, sink: &mut O) -> Result<(), SinkFault>
     requires { IsFew name.now }
-    ensures ok { OnOk result (O.took sink.old
+    ensures { Puts O.took O.faults sink.old
         (name_bytes name.now ++ (number_bytes nv.now.words ++ word_bytes nv.now.initial))
-        sink.new) }
-    ensures part { OnErr result (TookPart O.took sink.old
-        (name_bytes name.now ++ (number_bytes nv.now.words ++ word_bytes nv.now.initial))
-        sink.new) }
-    ensures calm { OnOk result (O.faults sink.new ≡ O.faults sink.old) }
-    ensures cause { OnErr result (Rose (O.faults sink.old) (O.faults sink.new)) }
-    ensures count { O.faults sink.old ≤ O.faults sink.new }
+        sink.new result }
 {
     let bytes = name.bytes();
     put_pieces(
@@ -161,11 +147,7 @@ fn put_nv<O: Sink>(name: &Name, nv: &ImageNv, sink: &mut O) -> Result<(), SinkFa
 /// Writes a function.
 fn put_function<O: Sink>(function: &ImageFunction, sink: &mut O) -> Result<(), SinkFault>
     requires { IsFew function.now.name }
-    ensures ok { OnOk result (O.took sink.old (function_bytes function.now) sink.new) }
-    ensures part { OnErr result (TookPart O.took sink.old (function_bytes function.now) sink.new) }
-    ensures calm { OnOk result (O.faults sink.new ≡ O.faults sink.old) }
-    ensures cause { OnErr result (Rose (O.faults sink.old) (O.faults sink.new)) }
-    ensures count { O.faults sink.old ≤ O.faults sink.new }
+    ensures { Puts O.took O.faults sink.old (function_bytes function.now) sink.new result }
 {
     let bytes = function.name.bytes();
     put_pieces(
@@ -182,11 +164,7 @@ fn put_function<O: Sink>(function: &ImageFunction, sink: &mut O) -> Result<(), S
 
 /// Writes a target of a region.
 fn put_target<O: Sink>(target: &Target, sink: &mut O) -> Result<(), SinkFault>
-    ensures ok { OnOk result (O.took sink.old (target_bytes target.now) sink.new) }
-    ensures part { OnErr result (TookPart O.took sink.old (target_bytes target.now) sink.new) }
-    ensures calm { OnOk result (O.faults sink.new ≡ O.faults sink.old) }
-    ensures cause { OnErr result (Rose (O.faults sink.old) (O.faults sink.new)) }
-    ensures count { O.faults sink.old ≤ O.faults sink.new }
+    ensures { Puts O.took O.faults sink.old (target_bytes target.now) sink.new result }
 {
     let (tag, place, len) = match *target {
         Target::Nv { base, len } => (0u32, base, len),
@@ -197,11 +175,7 @@ fn put_target<O: Sink>(target: &Target, sink: &mut O) -> Result<(), SinkFault>
 
 /// Writes an instruction with its site.
 fn put_placed<O: Sink>(placed: &Placed, sink: &mut O) -> Result<(), SinkFault>
-    ensures ok { OnOk result (O.took sink.old (placed_bytes placed.now) sink.new) }
-    ensures part { OnErr result (TookPart O.took sink.old (placed_bytes placed.now) sink.new) }
-    ensures calm { OnOk result (O.faults sink.new ≡ O.faults sink.old) }
-    ensures cause { OnErr result (Rose (O.faults sink.old) (O.faults sink.new)) }
-    ensures count { O.faults sink.old ≤ O.faults sink.new }
+    ensures { Puts O.took O.faults sink.old (placed_bytes placed.now) sink.new result }
 {
     let (kind, first, second) = numbers_of(placed.instr);
     put_pieces(
@@ -219,12 +193,7 @@ fn put_placed<O: Sink>(placed: &Placed, sink: &mut O) -> Result<(), SinkFault>
 fn put_names<O: Sink>(names: &[Name], sink: &mut O) -> Result<(), SinkFault>
     requires few { IsFew names.now }
     requires each { All IsFew names.now }
-    ensures ok { OnOk result (O.took sink.old (list_bytes name_bytes names.now) sink.new) }
-    ensures part { OnErr result
-        (TookPart O.took sink.old (list_bytes name_bytes names.now) sink.new) }
-    ensures calm { OnOk result (O.faults sink.new ≡ O.faults sink.old) }
-    ensures cause { OnErr result (Rose (O.faults sink.old) (O.faults sink.new)) }
-    ensures count { O.faults sink.old ≤ O.faults sink.new }
+    ensures { Puts O.took O.faults sink.old (list_bytes name_bytes names.now) sink.new result }
 {
     if let Err(fault) = put_number(names.len() as u32, sink) {
         return Err(fault);
@@ -242,12 +211,7 @@ fn put_nvs<O: Sink>(names: &[Name], nvs: &[ImageNv], sink: &mut O) -> Result<(),
     requires few { IsFew names.now }
     requires each { All IsFew names.now }
     requires told { length nvs.now ≡ length names.now }
-    ensures ok { OnOk result (O.took sink.old (all_nvs_bytes names.now nvs.now) sink.new) }
-    ensures part { OnErr result
-        (TookPart O.took sink.old (all_nvs_bytes names.now nvs.now) sink.new) }
-    ensures calm { OnOk result (O.faults sink.new ≡ O.faults sink.old) }
-    ensures cause { OnErr result (Rose (O.faults sink.old) (O.faults sink.new)) }
-    ensures count { O.faults sink.old ≤ O.faults sink.new }
+    ensures { Puts O.took O.faults sink.old (all_nvs_bytes names.now nvs.now) sink.new result }
 {
     if let Err(fault) = put_number(names.len() as u32, sink) {
         return Err(fault);
@@ -264,12 +228,8 @@ fn put_nvs<O: Sink>(names: &[Name], nvs: &[ImageNv], sink: &mut O) -> Result<(),
 fn put_functions<O: Sink>(functions: &[ImageFunction], sink: &mut O) -> Result<(), SinkFault>
     requires few { IsFew functions.now }
     requires each { All (λ f. IsFew f.name) functions.now }
-    ensures ok { OnOk result (O.took sink.old (list_bytes function_bytes functions.now) sink.new) }
-    ensures part { OnErr result
-        (TookPart O.took sink.old (list_bytes function_bytes functions.now) sink.new) }
-    ensures calm { OnOk result (O.faults sink.new ≡ O.faults sink.old) }
-    ensures cause { OnErr result (Rose (O.faults sink.old) (O.faults sink.new)) }
-    ensures count { O.faults sink.old ≤ O.faults sink.new }
+    ensures { Puts O.took O.faults sink.old
+        (list_bytes function_bytes functions.now) sink.new result }
 {
     if let Err(fault) = put_number(functions.len() as u32, sink) {
         return Err(fault);
@@ -285,12 +245,7 @@ fn put_functions<O: Sink>(functions: &[ImageFunction], sink: &mut O) -> Result<(
 /// Writes how many targets a region has, and then each.
 fn put_region<O: Sink>(targets: &[Target], sink: &mut O) -> Result<(), SinkFault>
     requires few { IsFew targets.now }
-    ensures ok { OnOk result (O.took sink.old (list_bytes target_bytes targets.now) sink.new) }
-    ensures part { OnErr result
-        (TookPart O.took sink.old (list_bytes target_bytes targets.now) sink.new) }
-    ensures calm { OnOk result (O.faults sink.new ≡ O.faults sink.old) }
-    ensures cause { OnErr result (Rose (O.faults sink.old) (O.faults sink.new)) }
-    ensures count { O.faults sink.old ≤ O.faults sink.new }
+    ensures { Puts O.took O.faults sink.old (list_bytes target_bytes targets.now) sink.new result }
 {
     if let Err(fault) = put_number(targets.len() as u32, sink) {
         return Err(fault);
@@ -307,13 +262,8 @@ fn put_region<O: Sink>(targets: &[Target], sink: &mut O) -> Result<(), SinkFault
 fn put_regions<O: Sink>(regions: &[Vec<Target>], sink: &mut O) -> Result<(), SinkFault>
     requires few { IsFew regions.now }
     requires each { All (λ v. IsFew v.items) regions.now }
-    ensures ok { OnOk result (O.took sink.old
-        (list_bytes (list_bytes target_bytes) (map (λ v. v.items) regions.now)) sink.new) }
-    ensures part { OnErr result (TookPart O.took sink.old
-        (list_bytes (list_bytes target_bytes) (map (λ v. v.items) regions.now)) sink.new) }
-    ensures calm { OnOk result (O.faults sink.new ≡ O.faults sink.old) }
-    ensures cause { OnErr result (Rose (O.faults sink.old) (O.faults sink.new)) }
-    ensures count { O.faults sink.old ≤ O.faults sink.new }
+    ensures { Puts O.took O.faults sink.old
+        (list_bytes (list_bytes target_bytes) (map (λ v. v.items) regions.now)) sink.new result }
 {
     if let Err(fault) = put_number(regions.len() as u32, sink) {
         return Err(fault);
@@ -329,12 +279,7 @@ fn put_regions<O: Sink>(regions: &[Vec<Target>], sink: &mut O) -> Result<(), Sin
 /// Writes how many instructions there are, and then each.
 fn put_code<O: Sink>(code: &[Placed], sink: &mut O) -> Result<(), SinkFault>
     requires few { IsFew code.now }
-    ensures ok { OnOk result (O.took sink.old (list_bytes placed_bytes code.now) sink.new) }
-    ensures part { OnErr result
-        (TookPart O.took sink.old (list_bytes placed_bytes code.now) sink.new) }
-    ensures calm { OnOk result (O.faults sink.new ≡ O.faults sink.old) }
-    ensures cause { OnErr result (Rose (O.faults sink.old) (O.faults sink.new)) }
-    ensures count { O.faults sink.old ≤ O.faults sink.new }
+    ensures { Puts O.took O.faults sink.old (list_bytes placed_bytes code.now) sink.new result }
 {
     if let Err(fault) = put_number(code.len() as u32, sink) {
         return Err(fault);
@@ -351,12 +296,8 @@ fn put_code<O: Sink>(code: &[Placed], sink: &mut O) -> Result<(), SinkFault>
 fn put_parts<O: Sink>(image: &RawImage, sink: &mut O) -> Result<(), SinkFault>
     requires made { IsWellMade (parts_of image.now) }
     requires small { IsSmall (parts_of image.now) }
-    ensures ok { OnOk result (O.took sink.old (files.image_bytes (parts_of image.now)) sink.new) }
-    ensures part { OnErr result
-        (TookPart O.took sink.old (files.image_bytes (parts_of image.now)) sink.new) }
-    ensures calm { OnOk result (O.faults sink.new ≡ O.faults sink.old) }
-    ensures cause { OnErr result (Rose (O.faults sink.old) (O.faults sink.new)) }
-    ensures count { O.faults sink.old ≤ O.faults sink.new }
+    ensures { Puts O.took O.faults sink.old
+        (files.image_bytes (parts_of image.now)) sink.new result }
 {
     if let Err(fault) = sink.put(b"OCELOT1\n") {
         return Err(fault);
@@ -385,11 +326,7 @@ fn put_parts<O: Sink>(image: &RawImage, sink: &mut O) -> Result<(), SinkFault>
 /// Writes the bytes of an image's file. At a fault of the sink a part of them was taken.
 pub fn image_bytes<O: Sink>(image: &Image, sink: &mut O) -> Result<(), SinkFault>
     requires { IsSmall image.now }
-    ensures ok { OnOk result (O.took sink.old (files.image_bytes image.now) sink.new) }
-    ensures part { OnErr result (TookPart O.took sink.old (files.image_bytes image.now) sink.new) }
-    ensures calm { OnOk result (O.faults sink.new ≡ O.faults sink.old) }
-    ensures cause { OnErr result (Rose (O.faults sink.old) (O.faults sink.new)) }
-    ensures count { O.faults sink.old ≤ O.faults sink.new }
+    ensures { Puts O.took O.faults sink.old (files.image_bytes image.now) sink.new result }
 {
     put_parts(image.raw(), sink)
 }

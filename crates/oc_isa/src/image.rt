@@ -63,6 +63,7 @@ impl Image {
         Image { raw }
     }
 
+    /// The parts of the image.
     pub fn raw(&self) -> &RawImage
         ensures parts { parts_of result.now ≡ self.now }
         ensures made { IsWellMade self.now }

@@ -1,7 +1,7 @@
 //! The listing of an image.
-ghost use Rattle.std.specs.Prelude.{◌≡◌, ◌≤◌, ◌+◌, ◌++◌, map, codes, decimal, OnOk, OnErr};
+ghost use Rattle.std.specs.Prelude.{◌≡◌, ◌+◌, ◌++◌, map, codes, decimal};
 ghost use Rattle.std.specs.Fmt.{signed_decimal};
-ghost use Rattle.oc_io.specs.Faults.{Rose, TookPart};
+ghost use Rattle.oc_io.specs.Faults.{Puts};
 ghost use Rattle.oc_io.specs.Lines.{further};
 ghost use Rattle.oc_isa.specs.Image.{Exists, IsWellMade, parts_of};
 ghost use Rattle.oc_isa.specs.Listing.{
@@ -69,25 +69,16 @@ fn probe_bytes(kind: ProbeKind) -> &'static [u8]
 
 /// Ends a line by a word and a field.
 fn put_field<O: Sink>(word: &[u8], field: &[u8], sink: &mut O) -> Result<(), SinkFault>
-    ensures ok { OnOk result (O.took sink.old (word.now ++ (field.now ++ codes "\n")) sink.new) }
-    ensures part { OnErr result
-        (TookPart O.took sink.old (word.now ++ (field.now ++ codes "\n")) sink.new) }
-    ensures calm { OnOk result (O.faults sink.new ≡ O.faults sink.old) }
-    ensures cause { OnErr result (Rose (O.faults sink.old) (O.faults sink.new)) }
-    ensures count { O.faults sink.old ≤ O.faults sink.new }
+    ensures { Puts O.took O.faults sink.old
+        (word.now ++ (field.now ++ codes "\n")) sink.new result }
 {
     put_pieces(sink, &[word, field, b"\n"])
 }
 
 /// Ends a line by a word and a number.
 fn put_number<O: Sink>(word: &[u8], number: u32, sink: &mut O) -> Result<(), SinkFault>
-    ensures ok { OnOk result
-        (O.took sink.old (word.now ++ (decimal number ++ codes "\n")) sink.new) }
-    ensures part { OnErr result
-        (TookPart O.took sink.old (word.now ++ (decimal number ++ codes "\n")) sink.new) }
-    ensures calm { OnOk result (O.faults sink.new ≡ O.faults sink.old) }
-    ensures cause { OnErr result (Rose (O.faults sink.old) (O.faults sink.new)) }
-    ensures count { O.faults sink.old ≤ O.faults sink.new }
+    ensures { Puts O.took O.faults sink.old
+        (word.now ++ (decimal number ++ codes "\n")) sink.new result }
 {
     let mut buffer = Buffer::new();
     put_field(word, buffer.format(number).as_bytes(), sink)
@@ -95,14 +86,8 @@ fn put_number<O: Sink>(word: &[u8], number: u32, sink: &mut O) -> Result<(), Sin
 
 /// Ends a line by `push` and its number.
 fn put_push<O: Sink>(number: i32, sink: &mut O) -> Result<(), SinkFault>
-    ensures ok { OnOk result
-        (O.took sink.old (codes " push " ++ (signed_decimal number ++ codes "\n")) sink.new) }
-    ensures part { OnErr result
-        (TookPart O.took sink.old (codes " push " ++ (signed_decimal number ++ codes "\n"))
-        sink.new) }
-    ensures calm { OnOk result (O.faults sink.new ≡ O.faults sink.old) }
-    ensures cause { OnErr result (Rose (O.faults sink.old) (O.faults sink.new)) }
-    ensures count { O.faults sink.old ≤ O.faults sink.new }
+    ensures { Puts O.took O.faults sink.old
+        (codes " push " ++ (signed_decimal number ++ codes "\n")) sink.new result }
 {
     let mut buffer = Buffer::new();
     put_field(b" push ", buffer.format(number).as_bytes(), sink)
@@ -110,15 +95,9 @@ fn put_push<O: Sink>(number: i32, sink: &mut O) -> Result<(), SinkFault>
 
 /// Ends a line by `probe`, what it reports, and its number.
 fn put_probe<O: Sink>(kind: ProbeKind, number: u32, sink: &mut O) -> Result<(), SinkFault>
-    ensures ok { OnOk result (O.took sink.old
+    ensures { Puts O.took O.faults sink.old
         (codes " probe " ++ (probe_word kind ++ (codes " " ++ (decimal number ++ codes "\n"))))
-        sink.new) }
-    ensures part { OnErr result
-        (TookPart O.took sink.old (codes " probe "
-        ++ (probe_word kind ++ (codes " " ++ (decimal number ++ codes "\n")))) sink.new) }
-    ensures calm { OnOk result (O.faults sink.new ≡ O.faults sink.old) }
-    ensures cause { OnErr result (Rose (O.faults sink.old) (O.faults sink.new)) }
-    ensures count { O.faults sink.old ≤ O.faults sink.new }
+        sink.new result }
 {
     let mut buffer = Buffer::new();
     let number = buffer.format(number).as_bytes();
@@ -128,13 +107,8 @@ fn put_probe<O: Sink>(kind: ProbeKind, number: u32, sink: &mut O) -> Result<(), 
 /// Ends a line by an instruction, whose function, sensor or port is one of the image's.
 fn put_instr<O: Sink>(instr: &Instr, image: &RawImage, sink: &mut O) -> Result<(), SinkFault>
     requires { Exists (parts_of image.now) instr.now }
-    ensures ok { OnOk result
-        (O.took sink.old (further (fields_of (parts_of image.now) instr.now)) sink.new) }
-    ensures part { OnErr result
-        (TookPart O.took sink.old (further (fields_of (parts_of image.now) instr.now)) sink.new) }
-    ensures calm { OnOk result (O.faults sink.new ≡ O.faults sink.old) }
-    ensures cause { OnErr result (Rose (O.faults sink.old) (O.faults sink.new)) }
-    ensures count { O.faults sink.old ≤ O.faults sink.new }
+    ensures { Puts O.took O.faults sink.old
+        (further (fields_of (parts_of image.now) instr.now)) sink.new result }
 {
     match *instr {
         Instr::Push { c } => put_push(c, sink),
@@ -166,13 +140,8 @@ fn put_instr<O: Sink>(instr: &Instr, image: &RawImage, sink: &mut O) -> Result<(
 
 /// Begins a line by an address and a site.
 fn put_front<O: Sink>(address: usize, site: u32, sink: &mut O) -> Result<(), SinkFault>
-    ensures ok { OnOk result
-        (O.took sink.old (decimal address ++ (codes " " ++ decimal site)) sink.new) }
-    ensures part { OnErr result
-        (TookPart O.took sink.old (decimal address ++ (codes " " ++ decimal site)) sink.new) }
-    ensures calm { OnOk result (O.faults sink.new ≡ O.faults sink.old) }
-    ensures cause { OnErr result (Rose (O.faults sink.old) (O.faults sink.new)) }
-    ensures count { O.faults sink.old ≤ O.faults sink.new }
+    ensures { Puts O.took O.faults sink.old
+        (decimal address ++ (codes " " ++ decimal site)) sink.new result }
 {
     let mut first = Buffer::new();
     let mut second = Buffer::new();
@@ -189,13 +158,8 @@ fn put_placed<O: Sink>(
     sink: &mut O,
 ) -> Result<(), SinkFault>
     requires { Exists (parts_of image.now) placed.now.instr }
-    ensures ok { OnOk result
-        (O.took sink.old (code_line (parts_of image.now) address placed.now) sink.new) }
-    ensures part { OnErr result
-        (TookPart O.took sink.old (code_line (parts_of image.now) address placed.now) sink.new) }
-    ensures calm { OnOk result (O.faults sink.new ≡ O.faults sink.old) }
-    ensures cause { OnErr result (Rose (O.faults sink.old) (O.faults sink.new)) }
-    ensures count { O.faults sink.old ≤ O.faults sink.new }
+    ensures { Puts O.took O.faults sink.old
+        (code_line (parts_of image.now) address placed.now) sink.new result }
 {
     if let Err(fault) = put_front(address, placed.site, sink) {
         return Err(fault);
@@ -206,14 +170,8 @@ fn put_placed<O: Sink>(
 /// Writes a line for each address of the image's code.
 fn put_code<O: Sink>(image: &RawImage, sink: &mut O) -> Result<(), SinkFault>
     requires { IsWellMade (parts_of image.now) }
-    ensures ok { OnOk result
-        (O.took sink.old (code_lines (parts_of image.now) 0 (parts_of image.now).code) sink.new) }
-    ensures part { OnErr result
-        (TookPart O.took sink.old (code_lines (parts_of image.now) 0 (parts_of image.now).code)
-        sink.new) }
-    ensures calm { OnOk result (O.faults sink.new ≡ O.faults sink.old) }
-    ensures cause { OnErr result (Rose (O.faults sink.old) (O.faults sink.new)) }
-    ensures count { O.faults sink.old ≤ O.faults sink.new }
+    ensures { Puts O.took O.faults sink.old
+        (code_lines (parts_of image.now) 0 (parts_of image.now).code) sink.new result }
 {
     for (address, placed) in image.code.iter().enumerate() {
         if let Err(fault) = put_placed(address, placed, image, sink) {
@@ -231,17 +189,9 @@ fn put_place<O: Sink>(
     len: u32,
     sink: &mut O,
 ) -> Result<(), SinkFault>
-    ensures ok { OnOk result
-        (O.took sink.old (codes "log "
-        ++ (decimal region ++ (kind.now
-        ++ (decimal place ++ (codes " " ++ (decimal len ++ codes "\n")))))) sink.new) }
-    ensures part { OnErr result
-        (TookPart O.took sink.old (codes "log "
-        ++ (decimal region ++ (kind.now
-        ++ (decimal place ++ (codes " " ++ (decimal len ++ codes "\n")))))) sink.new) }
-    ensures calm { OnOk result (O.faults sink.new ≡ O.faults sink.old) }
-    ensures cause { OnErr result (Rose (O.faults sink.old) (O.faults sink.new)) }
-    ensures count { O.faults sink.old ≤ O.faults sink.new }
+    ensures { Puts O.took O.faults sink.old
+        (codes "log " ++ (decimal region ++ (kind.now ++ (decimal place ++ (codes " "
+        ++ (decimal len ++ codes "\n")))))) sink.new result }
 {
     let mut first = Buffer::new();
     let mut second = Buffer::new();
@@ -254,12 +204,7 @@ fn put_place<O: Sink>(
 
 /// Writes the line of a target of a region.
 fn put_target<O: Sink>(region: usize, target: &Target, sink: &mut O) -> Result<(), SinkFault>
-    ensures ok { OnOk result (O.took sink.old (target_line region target.now) sink.new) }
-    ensures part { OnErr result
-        (TookPart O.took sink.old (target_line region target.now) sink.new) }
-    ensures calm { OnOk result (O.faults sink.new ≡ O.faults sink.old) }
-    ensures cause { OnErr result (Rose (O.faults sink.old) (O.faults sink.new)) }
-    ensures count { O.faults sink.old ≤ O.faults sink.new }
+    ensures { Puts O.took O.faults sink.old (target_line region target.now) sink.new result }
 {
     match *target {
         Target::Nv { base, len } => put_place(region, b" nv ", base, len, sink),
@@ -269,12 +214,7 @@ fn put_target<O: Sink>(region: usize, target: &Target, sink: &mut O) -> Result<(
 
 /// Writes a line for each target of a region.
 fn put_region<O: Sink>(region: usize, targets: &[Target], sink: &mut O) -> Result<(), SinkFault>
-    ensures ok { OnOk result (O.took sink.old (region_lines region targets.now) sink.new) }
-    ensures part { OnErr result
-        (TookPart O.took sink.old (region_lines region targets.now) sink.new) }
-    ensures calm { OnOk result (O.faults sink.new ≡ O.faults sink.old) }
-    ensures cause { OnErr result (Rose (O.faults sink.old) (O.faults sink.new)) }
-    ensures count { O.faults sink.old ≤ O.faults sink.new }
+    ensures { Puts O.took O.faults sink.old (region_lines region targets.now) sink.new result }
 {
     for target in targets {
         if let Err(fault) = put_target(region, target, sink) {
@@ -286,13 +226,8 @@ fn put_region<O: Sink>(region: usize, targets: &[Target], sink: &mut O) -> Resul
 
 /// Writes a line for each target of each region, which are numbered from 1.
 fn put_targets<O: Sink>(regions: &[Vec<Target>], sink: &mut O) -> Result<(), SinkFault>
-    ensures ok { OnOk result
-        (O.took sink.old (target_lines 1 (map (λ v. v.items) regions.now)) sink.new) }
-    ensures part { OnErr result
-        (TookPart O.took sink.old (target_lines 1 (map (λ v. v.items) regions.now)) sink.new) }
-    ensures calm { OnOk result (O.faults sink.new ≡ O.faults sink.old) }
-    ensures cause { OnErr result (Rose (O.faults sink.old) (O.faults sink.new)) }
-    ensures count { O.faults sink.old ≤ O.faults sink.new }
+    ensures { Puts O.took O.faults sink.old
+        (target_lines 1 (map (λ v. v.items) regions.now)) sink.new result }
 {
     for (place, targets) in regions.iter().enumerate() {
         if let Err(fault) = put_region(place + 1, targets, sink) {
@@ -304,11 +239,7 @@ fn put_targets<O: Sink>(regions: &[Vec<Target>], sink: &mut O) -> Result<(), Sin
 
 /// Writes the line of a function.
 fn put_function<O: Sink>(function: &ImageFunction, sink: &mut O) -> Result<(), SinkFault>
-    ensures ok { OnOk result (O.took sink.old (function_line function.now) sink.new) }
-    ensures part { OnErr result (TookPart O.took sink.old (function_line function.now) sink.new) }
-    ensures calm { OnOk result (O.faults sink.new ≡ O.faults sink.old) }
-    ensures cause { OnErr result (Rose (O.faults sink.old) (O.faults sink.new)) }
-    ensures count { O.faults sink.old ≤ O.faults sink.new }
+    ensures { Puts O.took O.faults sink.old (function_line function.now) sink.new result }
 {
     let mut entry = Buffer::new();
     let mut params = Buffer::new();
@@ -331,11 +262,7 @@ fn put_function<O: Sink>(function: &ImageFunction, sink: &mut O) -> Result<(), S
 
 /// Writes a line for each function.
 fn put_functions<O: Sink>(functions: &[ImageFunction], sink: &mut O) -> Result<(), SinkFault>
-    ensures ok { OnOk result (O.took sink.old (function_lines functions.now) sink.new) }
-    ensures part { OnErr result (TookPart O.took sink.old (function_lines functions.now) sink.new) }
-    ensures calm { OnOk result (O.faults sink.new ≡ O.faults sink.old) }
-    ensures cause { OnErr result (Rose (O.faults sink.old) (O.faults sink.new)) }
-    ensures count { O.faults sink.old ≤ O.faults sink.new }
+    ensures { Puts O.took O.faults sink.old (function_lines functions.now) sink.new result }
 {
     for function in functions {
         if let Err(fault) = put_function(function, sink) {
@@ -348,11 +275,7 @@ fn put_functions<O: Sink>(functions: &[ImageFunction], sink: &mut O) -> Result<(
 /// Writes the listing of an image: a line for each function, for each target of each region, and for
 /// each address. At a fault of the sink a part of the text was taken.
 pub fn listing<O: Sink>(image: &Image, sink: &mut O) -> Result<(), SinkFault>
-    ensures ok { OnOk result (O.took sink.old (listing_text image.now) sink.new) }
-    ensures part { OnErr result (TookPart O.took sink.old (listing_text image.now) sink.new) }
-    ensures calm { OnOk result (O.faults sink.new ≡ O.faults sink.old) }
-    ensures cause { OnErr result (Rose (O.faults sink.old) (O.faults sink.new)) }
-    ensures count { O.faults sink.old ≤ O.faults sink.new }
+    ensures { Puts O.took O.faults sink.old (listing_text image.now) sink.new result }
 {
     let raw = image.raw();
     if let Err(fault) = put_functions(&raw.functions, sink) {

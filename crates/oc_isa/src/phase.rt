@@ -2,7 +2,7 @@
 
 use oc_tree::said::Ending;
 
-/// What is under way.
+/// What a machine is doing, or how its run is over.
 #[derive(Clone, Copy)]
 pub enum Phase {
     /// Boot has made no step yet.

@@ -8,6 +8,7 @@ pub mod Spelled
 pub mod Tells
 pub mod ErasedLaws
 pub mod Bodies
+pub mod Digits
 pub mod Stripped
 pub mod Numerals
 pub mod Joined

@@ -27,21 +27,6 @@ if_some_too (Some x) P Q f h = f x h
 
 -- ---- numbers
 
-pub no_text : (field : List ℕ) → (IsUtf8 field → ⊥) → (n : ℕ) → n < 2 ^ 64 → decimal n ≡ field → ⊥
-no_text field h n l e = h (subst IsUtf8 e (IsUtf8-from_ascii (decimal n) (IsAscii-decimal n l)))
-
-pub not_parsed : {E : Type 0} (field text : List ℕ) (error : E) → ParsesUnsigned 64 10 text (Err error) → text ≡ field → (n : ℕ) → n < 2 ^ 64 → decimal n ≡ field → ⊥
-not_parsed field text error h t n l e = let r = parse-decimal 64 n text (Err error) l l (t ∙ sym e) h in cc r
-
-pub other_parsed : (field text written : List ℕ) (number : ℕ) → ParsesUnsigned {E = ℕ} 64 10 text (Ok number) → text ≡ field → written ≡ decimal number → bytes_eq written field
-    ≡ false → (n : ℕ) → n < 2 ^ 64 → decimal n ≡ field → ⊥
-other_parsed field text written number h t w d n l e =
-    let r : ◌≡◌ {A = Result ℕ ℕ} (Ok number) (Ok n) = parse-decimal 64 n text (Ok number) l l (t ∙ sym e) h in
-    let k : number ≡ n = cc in
-    let f : written ≡ field = w ∙ ap (λ (m : ℕ). decimal m) k ∙ e in
-    let u : true ≡ false = sym (nat_list_eq_equiv.refl field) ∙ ap (λ (x : List ℕ). bytes_eq x field) (sym f) ∙ d in
-    cc u
-
 pub no_signed_text : (field : List ℕ) → (IsUtf8 field → ⊥) → (z : ℤ) → FitsSigned w32 z → signed_decimal z ≡ field → ⊥
 no_signed_text field h z l e = h (subst IsUtf8 e (IsUtf8-from_ascii (signed_decimal z) (search (rules, IsAscii-signed))))
 

@@ -2,24 +2,19 @@
 use Rattle.std.proofs.Common.{◌≡◌, ℕ, suc, ◌==◌, ◌||◌, Bool, true, false, List, [], ◌∷◌, refl, ap, subst, ◌∙◌, arith}
 use Rattle.std.specs.Prelude.{◌&&◌, not, All}
 use Rattle.std.proofs.lemmas.Bool.{eqb-true}
-use Rattle.oc_lex.specs.Bytes.{class_of, begins_name_class, in_name_class, in_name}
-use Rattle.oc_lex.specs.declared.bytes.Class.{Class}
-use Rattle.oc_lex.specs.declared.bytes.Class.TheVariants as class
+use Rattle.oc_lex.specs.Bytes.{is_digit, begins_name, in_name}
 use Rattle.oc_lex.specs.Stands.{IsName}
 use Rattle.oc_tree.specs.Names.{Text}
 use Rattle.oc_items.specs.OneText.{ends_field, is_field, NamesAreFields}
 
 -- what begins a name may go on in it
-goes_on : (c : Class) → begins_name_class c ≡ true → in_name_class c ≡ true
-goes_on class.Letter h = refl
-goes_on class.Underscore h = refl
-goes_on class.Digit h = refl
-goes_on class.Blank h = h
-goes_on class.Other h = h
+goes_on : (b : ℕ) → begins_name b ≡ true → in_name b ≡ true
+unfolding in_name
+goes_on b h = ap (λ x. x || is_digit b) h
 
 -- a byte of a name ends no field
 no_end : (b : ℕ) → in_name b ≡ true → ends_field b ≡ false
-unfolding class_of
+unfolding begins_name in_name
 no_end b h = by (b == 32) (b == 10) refl refl
   where
     by : (space feed : Bool) → (b == 32) ≡ space → (b == 10) ≡ feed → space || feed ≡ false
@@ -36,7 +31,7 @@ all_go_on (b ∷ rest) h = one_more b rest (h 0 b (omega arith)) (all_go_on rest
 
 pub names_fit : NamesAreFields
 names_fit [] h = absurd h
-names_fit (b ∷ rest) h = one_more b rest (goes_on (class_of b) h.0) (all_go_on rest h.1)
+names_fit (b ∷ rest) h = one_more b rest (goes_on b h.0) (all_go_on rest h.1)
 
 pub all_fit : (xs : List Text) → All IsName xs → All (λ x. is_field x ≡ true) xs
 all_fit xs h i d l = names_fit _ (h i d l).0

@@ -18,7 +18,7 @@ abbrev pub is_field : List ℕ → Bool
 is_field [] = true
 is_field (b ∷ rest) = not (ends_field b) && is_field rest
 
--- the names of one kind are fields, and no two of them are the same
+-- the names of sensors, or of ports, are fields, and no two of them are the same
 pub record AreApart (names : List Text) : Type 0 where
   pub fields : All (λ n. is_field n ≡ true) names
   pub differ : AllPairs (λ m n. m ≢ n) names
@@ -35,8 +35,7 @@ Fits (item.Commit tick region) = region < 2 ^ 32
 Fits (item.Abort tick region) = region < 2 ^ 32
 Fits (item.Off tick ticks) = ticks < 2 ^ 64
 Fits (item.Trap tick kind stmt) = stmt < 2 ^ 32
-Fits (item.End tick) = ⊤
-Fits (item.Dark tick) = ⊤
+Fits i = ⊤
 
 -- an item under these names: its sensor or port is there, and its numbers fit
 pub record IsItem (names : NameLists) (i : Item) : Type 0 where

@@ -9,7 +9,7 @@ use Rattle.oc_tree.specs.declared.said.TrapKind.TheVariants as trap
 use Rattle.oc_items.specs.declared.item.Item.{Item}
 use Rattle.oc_items.specs.declared.item.Item.TheVariants as item
 
--- why a run was trapped
+-- the word for why a run was trapped
 abbrev pub trap_word : TrapKind → List ℕ
 trap_word trap.Zero = codes "zero"
 trap_word trap.Index = codes "index"
@@ -58,16 +58,7 @@ report_text names items = flat_map (item_line names) items
 abbrev pub IsNamed : NameLists → Item → Type 0
 IsNamed names (item.Sense tick sensor value) = sensor < length names.sensors
 IsNamed names (item.Emit tick port value) = port < length names.ports
-IsNamed names (item.Use tick stmt) = ⊤
-IsNamed names (item.Done tick stmt) = ⊤
-IsNamed names (item.Tag tick stmt) = ⊤
-IsNamed names (item.Enter tick region) = ⊤
-IsNamed names (item.Commit tick region) = ⊤
-IsNamed names (item.Abort tick region) = ⊤
-IsNamed names (item.Off tick ticks) = ⊤
-IsNamed names (item.Trap tick kind stmt) = ⊤
-IsNamed names (item.End tick) = ⊤
-IsNamed names (item.Dark tick) = ⊤
+IsNamed names i = ⊤
 
 -- a further word of a nonvolatile variable, with the space before it
 abbrev pub word_field : ℤ → List ℕ

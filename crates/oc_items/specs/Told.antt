@@ -30,7 +30,8 @@ item_of t = said_at t.tick t.said
 -- what an item tells
 abbrev pub told_of : Item → Told
 told_of (item.Sense tick sensor value) = record { tick = tick; said = said.Sensed sensor value }
-told_of (item.Emit tick port value) = record { tick = tick; said = said.Showed (shown.Emitted port value) }
+told_of (item.Emit tick port value) =
+    record { tick = tick; said = said.Showed (shown.Emitted port value) }
 told_of (item.Use tick stmt) = record { tick = tick; said = said.Showed (shown.Used stmt) }
 told_of (item.Done tick stmt) = record { tick = tick; said = said.Showed (shown.Finished stmt) }
 told_of (item.Tag tick stmt) = record { tick = tick; said = said.Showed (shown.Tagged stmt) }
@@ -38,7 +39,8 @@ told_of (item.Enter tick region) = record { tick = tick; said = said.Entered reg
 told_of (item.Commit tick region) = record { tick = tick; said = said.Committed region }
 told_of (item.Abort tick region) = record { tick = tick; said = said.Aborted region }
 told_of (item.Off tick ticks) = record { tick = tick; said = said.Off ticks }
-told_of (item.Trap tick kind stmt) = record { tick = tick; said = said.Ended (ending.Trapped kind stmt) }
+told_of (item.Trap tick kind stmt) =
+    record { tick = tick; said = said.Ended (ending.Trapped kind stmt) }
 told_of (item.End tick) = record { tick = tick; said = said.Ended ending.Halted }
 told_of (item.Dark tick) = record { tick = tick; said = said.Dark }
 

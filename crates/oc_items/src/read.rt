@@ -1,9 +1,10 @@
 //! Items back from their lines.
-ghost use Rattle.std.specs.Prelude.{◌≡◌, ◌^◌, ◌<◌, ◌++◌, ℕ, ℤ, List, true, length, codes, decimal, IfSome, IfNone, FitsSigned};
+ghost use Rattle.std.specs.Prelude.{◌≡◌, ◌^◌, ◌<◌, ◌≤◌, ◌+◌, ◌-◌, ◌*◌, ◌++◌, ℕ, ℤ, List, true, length, codes, decimal, IfSome, IfNone, MatchOption, FitsSigned};
+ghost use Rattle.std.specs.Str.{all_ascii_digits};
 ghost use Rattle.std.specs.Int.{w32};
 ghost use Rattle.std.specs.Fmt.{signed_decimal};
 ghost use Rattle.oc_tree.specs.Names.{NameLists, names_view, name_at};
-ghost use Rattle.oc_items.specs.Reading.{Tells, TellsNone, TellsBody, HasBody, has_no_space, place_of, StandsBehind, Spelled, SpelledNone, IsValue, Named, NoSense, NoEmit, NoStatement, NoMark, NoStop};
+ghost use Rattle.oc_items.specs.Reading.{spelled_from, zero_leads, differ_first, Tells, TellsNone, TellsBody, HasBody, has_no_space, place_of, StandsBehind, Spelled, SpelledNone, IsValue, Named, NoSense, NoEmit, NoStatement, NoMark, NoStop};
 
 use crate::item::Item;
 use itoa::Buffer;
@@ -11,23 +12,54 @@ use oc_tree::name::{Name, Names};
 use oc_tree::said::TrapKind;
 use std::str::from_utf8;
 
+/// A number with one more digit behind it; none where that is 2^64 or more.
+fn with_digit(number: u64, digit: u8) -> Option<u64>
+    ensures { MatchOption result (2 ^ 64 ≤ 10 * number + (digit - 48))
+        (λ n. n ≡ 10 * number + (digit - 48)) }
+{
+    let digit = digit.saturating_sub(b'0');
+    number.checked_mul(10)?.checked_add(digit as u64)
+}
+
+/// The number that digits spell; none where another byte is among them, and from 2^64 on.
+fn number_of(bytes: &[u8]) -> Option<u64>
+    ensures digits { IfSome result (λ n. all_ascii_digits bytes.now ≡ true) }
+    ensures some { IfSome result (λ n. n ≡ spelled_from 0 bytes.now) }
+    ensures none { IfNone result (all_ascii_digits bytes.now ≡ true
+        → 2 ^ 64 ≤ spelled_from 0 bytes.now) }
+{
+    let mut number = 0;
+    for byte in bytes {
+        if !byte.is_ascii_digit() {
+            return None;
+        }
+        number = with_digit(number, *byte)?;
+    }
+    Some(number)
+}
+
+/// Whether a 0 stands before other bytes.
+fn zero_leads(bytes: &[u8]) -> bool
+    ensures { result ≡ zero_leads bytes.now }
+{
+    match bytes {
+        [first, _, ..] => *first == b'0',
+        _ => false,
+    }
+}
+
 /// The number below 2^64 whose digits these are.
 fn read_u64(field: &[u8]) -> Option<u64>
     ensures some { IfSome result (λ n. decimal n ≡ field.now) }
     ensures none { IfNone result ((n : ℕ) → n < 2 ^ 64 → decimal n ≡ field.now → ⊥) }
 {
-    let Ok(text) = from_utf8(field) else {
+    if field.is_empty() {
         return None;
-    };
-    let Ok(number) = text.parse::<u64>() else {
-        return None;
-    };
-    let mut buffer = Buffer::new();
-    if buffer.format(number).as_bytes() == field {
-        Some(number)
-    } else {
-        None
     }
+    if zero_leads(field) {
+        return None;
+    }
+    number_of(field)
 }
 
 /// The number of 32 bits whose digits, with a `-` where it is negative, these are.
@@ -61,11 +93,24 @@ fn split_at_space(line: &[u8]) -> Option<(&[u8], &[u8])>
     Some((&line[..place], &line[place + 1..]))
 }
 
+/// Whether both have a first byte, and these differ.
+fn differ_first(left: &[u8], right: &[u8]) -> bool
+    ensures { result ≡ differ_first left.now right.now }
+{
+    match (left, right) {
+        ([a, ..], [b, ..]) => *a != *b,
+        _ => false,
+    }
+}
+
 /// The bytes behind the key, where it stands in front.
 pub fn behind<'a>(key: &[u8], bytes: &'a [u8]) -> Option<&'a [u8]>
     ensures some { IfSome result (λ rest. StandsBehind key.now bytes.now rest.now) }
     ensures none { IfNone result ((rest : List ℕ) → StandsBehind key.now bytes.now rest → ⊥) }
 {
+    if differ_first(key, bytes) {
+        return None;
+    }
     bytes.strip_prefix(key)
 }
 

@@ -1,7 +1,7 @@
 //! The lines of a report.
-ghost use Rattle.std.specs.Prelude.{◌≡◌, ◌<◌, ◌≤◌, ◌++◌, length, codes, decimal, OnOk, OnErr};
+ghost use Rattle.std.specs.Prelude.{◌≡◌, ◌<◌, ◌++◌, length, codes, decimal};
 ghost use Rattle.std.specs.Fmt.{signed_decimal};
-ghost use Rattle.oc_io.specs.Faults.{Rose, TookPart};
+ghost use Rattle.oc_io.specs.Faults.{Puts};
 ghost use Rattle.oc_tree.specs.Names.{names_view};
 ghost use Rattle.oc_items.specs.Text.{IsNamed, item_line, nv_line, trap_word, word_field, words_line};
 
@@ -24,14 +24,8 @@ fn trap_words(kind: TrapKind) -> &'static [u8]
 
 /// Writes a line of a tick, a word and a number.
 fn put_number<O: Sink>(tick: u64, word: &[u8], number: u64, sink: &mut O) -> Result<(), SinkFault>
-    ensures ok { OnOk result
-        (O.took sink.old (decimal tick ++ (word.now ++ (decimal number ++ codes "\n"))) sink.new) }
-    ensures part { OnErr result
-        (TookPart O.took sink.old (decimal tick ++ (word.now ++ (decimal number ++ codes "\n")))
-        sink.new) }
-    ensures calm { OnOk result (O.faults sink.new ≡ O.faults sink.old) }
-    ensures cause { OnErr result (Rose (O.faults sink.old) (O.faults sink.new)) }
-    ensures count { O.faults sink.old ≤ O.faults sink.new }
+    ensures { Puts O.took O.faults sink.old
+        (decimal tick ++ (word.now ++ (decimal number ++ codes "\n"))) sink.new result }
 {
     let mut first = Buffer::new();
     let mut last = Buffer::new();
@@ -47,17 +41,9 @@ fn put_value<O: Sink>(
     value: i32,
     sink: &mut O,
 ) -> Result<(), SinkFault>
-    ensures ok { OnOk result
-        (O.took sink.old (decimal tick
-        ++ (word.now ++ (name.now ++ (codes " " ++ (signed_decimal value ++ codes "\n")))))
-        sink.new) }
-    ensures part { OnErr result
-        (TookPart O.took sink.old (decimal tick
-        ++ (word.now ++ (name.now ++ (codes " " ++ (signed_decimal value ++ codes "\n")))))
-        sink.new) }
-    ensures calm { OnOk result (O.faults sink.new ≡ O.faults sink.old) }
-    ensures cause { OnErr result (Rose (O.faults sink.old) (O.faults sink.new)) }
-    ensures count { O.faults sink.old ≤ O.faults sink.new }
+    ensures { Puts O.took O.faults sink.old
+        (decimal tick ++ (word.now ++ (name.now ++ (codes " " ++ (signed_decimal value
+        ++ codes "\n"))))) sink.new result }
 {
     let mut first = Buffer::new();
     let mut last = Buffer::new();
@@ -70,11 +56,7 @@ fn put_value<O: Sink>(
 
 /// Writes a line of a tick and a word.
 fn put_end<O: Sink>(tick: u64, word: &[u8], sink: &mut O) -> Result<(), SinkFault>
-    ensures ok { OnOk result (O.took sink.old (decimal tick ++ word.now) sink.new) }
-    ensures part { OnErr result (TookPart O.took sink.old (decimal tick ++ word.now) sink.new) }
-    ensures calm { OnOk result (O.faults sink.new ≡ O.faults sink.old) }
-    ensures cause { OnErr result (Rose (O.faults sink.old) (O.faults sink.new)) }
-    ensures count { O.faults sink.old ≤ O.faults sink.new }
+    ensures { Puts O.took O.faults sink.old (decimal tick ++ word.now) sink.new result }
 {
     let mut first = Buffer::new();
     put_pieces(sink, &[first.format(tick).as_bytes(), word])
@@ -84,13 +66,8 @@ fn put_end<O: Sink>(tick: u64, word: &[u8], sink: &mut O) -> Result<(), SinkFaul
 /// part of the line was taken.
 pub fn put_item<O: Sink>(item: &Item, names: &Names, sink: &mut O) -> Result<(), SinkFault>
     requires { IsNamed (names_view names.now) item.now }
-    ensures ok { OnOk result
-        (O.took sink.old (item_line (names_view names.now) item.now) sink.new) }
-    ensures part { OnErr result
-        (TookPart O.took sink.old (item_line (names_view names.now) item.now) sink.new) }
-    ensures calm { OnOk result (O.faults sink.new ≡ O.faults sink.old) }
-    ensures cause { OnErr result (Rose (O.faults sink.old) (O.faults sink.new)) }
-    ensures count { O.faults sink.old ≤ O.faults sink.new }
+    ensures { Puts O.took O.faults sink.old
+        (item_line (names_view names.now) item.now) sink.new result }
 {
     match *item {
         Item::Sense {
@@ -130,11 +107,7 @@ pub fn put_item<O: Sink>(item: &Item, names: &Names, sink: &mut O) -> Result<(),
 
 /// Writes a word of a nonvolatile variable, with the space before it.
 fn put_word<O: Sink>(word: &i32, sink: &mut O) -> Result<(), SinkFault>
-    ensures ok { OnOk result (O.took sink.old (word_field word.now) sink.new) }
-    ensures part { OnErr result (TookPart O.took sink.old (word_field word.now) sink.new) }
-    ensures calm { OnOk result (O.faults sink.new ≡ O.faults sink.old) }
-    ensures cause { OnErr result (Rose (O.faults sink.old) (O.faults sink.new)) }
-    ensures count { O.faults sink.old ≤ O.faults sink.new }
+    ensures { Puts O.took O.faults sink.old (word_field word.now) sink.new result }
 {
     let mut number = Buffer::new();
     put_pieces(sink, &[b" ", number.format(*word).as_bytes()])
@@ -142,12 +115,7 @@ fn put_word<O: Sink>(word: &i32, sink: &mut O) -> Result<(), SinkFault>
 
 /// Writes the line of a nonvolatile variable of this name.
 fn put_words<O: Sink>(name: &[u8], words: &[i32], sink: &mut O) -> Result<(), SinkFault>
-    ensures ok { OnOk result (O.took sink.old (words_line name.now words.now) sink.new) }
-    ensures part { OnErr result
-        (TookPart O.took sink.old (words_line name.now words.now) sink.new) }
-    ensures calm { OnOk result (O.faults sink.new ≡ O.faults sink.old) }
-    ensures cause { OnErr result (Rose (O.faults sink.old) (O.faults sink.new)) }
-    ensures count { O.faults sink.old ≤ O.faults sink.new }
+    ensures { Puts O.took O.faults sink.old (words_line name.now words.now) sink.new result }
 {
     if let Err(fault) = put_pieces(sink, &[b"nv ", name]) {
         return Err(fault);
@@ -169,13 +137,8 @@ pub fn put_nv<O: Sink>(
     sink: &mut O,
 ) -> Result<(), SinkFault>
     requires { name < length (names_view names.now).nvs }
-    ensures ok { OnOk result
-        (O.took sink.old (nv_line (names_view names.now) name words.now) sink.new) }
-    ensures part { OnErr result
-        (TookPart O.took sink.old (nv_line (names_view names.now) name words.now) sink.new) }
-    ensures calm { OnOk result (O.faults sink.new ≡ O.faults sink.old) }
-    ensures cause { OnErr result (Rose (O.faults sink.old) (O.faults sink.new)) }
-    ensures count { O.faults sink.old ≤ O.faults sink.new }
+    ensures { Puts O.took O.faults sink.old
+        (nv_line (names_view names.now) name words.now) sink.new result }
 {
     put_words(names.nvs[name as usize].bytes(), words, sink)
 }

@@ -7,7 +7,8 @@ use Rattle.oc_steps.specs.Ages.{join_ages}
 
 -- what one name adds
 abbrev pub with_name : List Binding → Store → Text → List ℕ → List ℕ
-with_name env σ x age = if is_fresh env x then join_ages (held_at σ (place_of env x)).samples age else age
+with_name env σ x age =
+    if is_fresh env x then join_ages (held_at σ (place_of env x)).samples age else age
 
 -- what these names add to the age of those behind them
 abbrev pub with_names : List Binding → Store → List Text → List ℕ → List ℕ

@@ -60,15 +60,6 @@ work_here r = steps.work (program_of r) (regions_of r) join_ages (λ n. n)
 abbrev pub rest_here : Running → Inside → List Binding → TStmts → List Frame → Store → Step
 rest_here r = steps.step_rest (program_of r) (regions_of r) join_ages (λ n. n)
 
-abbrev pub turns_here : Running → Inside → Text → ℕ → ℤ → TBlock → List Binding → List Frame → Store → Step
-turns_here r = steps.step_turns (program_of r) (regions_of r) join_ages (λ n. n)
-
-abbrev pub loop_here : Running → Inside → List Binding → ℕ → TExpr → ℕ → TBlock → List ℕ → List Frame → Store → Step
-loop_here r = steps.step_loop (program_of r) (regions_of r) join_ages (λ n. n)
-
-abbrev pub test_here : Running → Inside → List Binding → ℕ → TExpr → ℕ → TBlock → List ℕ → List Frame → Store → Step
-test_here r = steps.step_test (program_of r) (regions_of r) join_ages (λ n. n)
-
 abbrev pub went_here : Running → Frame → List Frame → Store → Step
 went_here r = steps.step_went (program_of r) (regions_of r) join_ages (λ n. n)
 

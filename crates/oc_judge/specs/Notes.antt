@@ -25,7 +25,8 @@ abbrev mutual
 
   pub stmts_note : ℕ → TStmts → Option (Option ℤ)
   stmts_note n no_stmts = None
-  stmts_note n (more (stmt id line k) ss) = cond (id == n) (Some (note_of k)) (option_or (kind_note n k) (stmts_note n ss))
+  stmts_note n (more (stmt id line k) ss) =
+      cond (id == n) (Some (note_of k)) (option_or (kind_note n k) (stmts_note n ss))
 
 -- the set with a function's number, where the function has the statement, else what comes later
 abbrev pub set_or : Option (Option ℤ) → ℕ → Option (ℕ × ℤ) → Option (ℕ × ℤ)

@@ -3,7 +3,7 @@ use Rattle.std.specs.Prelude.{map, Result, Ok, Err}
 use Rattle.oc_tree.specs.declared.said.TrapKind.{TrapKind}
 use Rattle.oc_meaning.specs.Exec as runs
 use Rattle.oc_judge.specs.Values.{value_view}
-use Rattle.oc_meaning.specs.Seen.{place_view}
+use Rattle.oc_meaning.specs.Places.{place_view}
 use Rattle.oc_judge.specs.declared.arguments.Passed.{Passed}
 use Rattle.oc_judge.specs.declared.arguments.Passed.TheVariants as passings
 use Rattle.oc_judge.specs.declared.arguments.Passing.{Passing}

@@ -3,7 +3,7 @@ ghost use Rattle.std.specs.Prelude.{◌≡◌, option_map, IfOk};
 ghost use Rattle.oc_tree.specs.View.{arg_view, args_view, expr_view};
 ghost use Rattle.oc_meaning.specs.Exec.{passed_on};
 ghost use Rattle.oc_meaning.specs.Exec as runs;
-ghost use Rattle.oc_meaning.specs.Seen.{place_view};
+ghost use Rattle.oc_meaning.specs.Places.{place_view};
 ghost use Rattle.oc_steps.specs.Ages.{join_ages};
 ghost use Rattle.oc_steps.specs.Sets.{arg_by, args_by};
 ghost use Rattle.oc_judge.specs.Passing.{before, passing_view};

@@ -1,6 +1,6 @@
 //! What is left to do.
 ghost use Rattle.std.specs.Prelude.{◌≡◌, IfOk};
-ghost use Rattle.oc_judge.specs.Frames.{frame_view, frames_view};
+ghost use Rattle.oc_judge.specs.Frames.{for_frame, frame_view, frames_view, test_frame, while_frame};
 
 use crate::age::{Age, Value};
 use oc_meaning::scope::Scope;
@@ -14,6 +14,29 @@ use std::rc::Rc;
 pub struct Inside<'a> {
     pub depth: usize,
     pub body: &'a Block,
+}
+
+/// The turns of a `for` that are left: those with the numbers from `next` on and below `to`.
+#[derive(Drop)]
+pub struct ForTurns<'a> {
+    pub inside: Inside<'a>,
+    pub scope: Rc<Scope<'a>>,
+    pub name: &'a Name,
+    pub next: i32,
+    pub to: i32,
+    pub body: &'a Block,
+}
+
+/// The turns of a `while` that may be left, how many, and the age of its uses so far.
+#[derive(Drop)]
+pub struct WhileTurns<'a> {
+    pub inside: Inside<'a>,
+    pub scope: Rc<Scope<'a>>,
+    pub stmt: StmtId,
+    pub condition: &'a Expr,
+    pub left: u32,
+    pub body: &'a Block,
+    pub age: Age,
 }
 
 /// Something that is left to do.
@@ -60,40 +83,53 @@ pub enum Frame<'a> {
     Leave {
         locals: usize,
     },
-    /// The turns of a `for` with these numbers.
+    /// The turns of a `for`.
     Turns {
-        inside: Inside<'a>,
-        scope: Rc<Scope<'a>>,
-        name: &'a Name,
-        next: i32,
-        to: i32,
-        body: &'a Block,
+        turns: ForTurns<'a>,
     },
-    /// So many turns of a `while`, and the age of its uses so far.
+    /// The turns of a `while`.
     Loop {
-        inside: Inside<'a>,
-        scope: Rc<Scope<'a>>,
-        stmt: StmtId,
-        condition: &'a Expr,
-        turns: u32,
-        body: &'a Block,
-        age: Age,
+        turns: WhileTurns<'a>,
     },
-    /// The condition of a turn of a `while`, with so many turns behind it.
+    /// The condition of a turn of a `while`, with the turns behind it.
     Test {
-        inside: Inside<'a>,
-        scope: Rc<Scope<'a>>,
-        stmt: StmtId,
-        condition: &'a Expr,
-        turns: u32,
-        body: &'a Block,
-        age: Age,
+        turns: WhileTurns<'a>,
     },
     /// A value is returned, and a region ends, if one does.
     Back {
         value: Value,
         region: Option<u32>,
     },
+}
+
+/// The same turns of a `for`.
+fn copy_for<'a>(turns: &ForTurns<'a>) -> Result<ForTurns<'a>, AllocError>
+    ensures { IfOk result (λ t. for_frame t ≡ for_frame turns.now) }
+{
+    Ok(ForTurns {
+        inside: turns.inside,
+        scope: Rc::clone(&turns.scope)?,
+        name: turns.name,
+        next: turns.next,
+        to: turns.to,
+        body: turns.body,
+    })
+}
+
+/// The same turns of a `while`.
+fn copy_while<'a>(turns: &WhileTurns<'a>) -> Result<WhileTurns<'a>, AllocError>
+    ensures turns { IfOk result (λ t. while_frame t ≡ while_frame turns.now) }
+    ensures test { IfOk result (λ t. test_frame t ≡ test_frame turns.now) }
+{
+    Ok(WhileTurns {
+        inside: turns.inside,
+        scope: Rc::clone(&turns.scope)?,
+        stmt: turns.stmt,
+        condition: turns.condition,
+        left: turns.left,
+        body: turns.body,
+        age: turns.age,
+    })
 }
 
 /// The same of it is left to do.
@@ -146,54 +182,14 @@ fn copy<'a>(frame: &Frame<'a>) -> Result<Frame<'a>, AllocError>
             kind: *kind,
         }),
         Frame::Leave { locals } => Ok(Frame::Leave { locals: *locals }),
-        Frame::Turns {
-            inside,
-            scope,
-            name,
-            next,
-            to,
-            body,
-        } => Ok(Frame::Turns {
-            inside: *inside,
-            scope: Rc::clone(scope)?,
-            name: *name,
-            next: *next,
-            to: *to,
-            body: *body,
+        Frame::Turns { turns } => Ok(Frame::Turns {
+            turns: copy_for(turns)?,
         }),
-        Frame::Loop {
-            inside,
-            scope,
-            stmt,
-            condition,
-            turns,
-            body,
-            age,
-        } => Ok(Frame::Loop {
-            inside: *inside,
-            scope: Rc::clone(scope)?,
-            stmt: *stmt,
-            condition: *condition,
-            turns: *turns,
-            body: *body,
-            age: *age,
+        Frame::Loop { turns } => Ok(Frame::Loop {
+            turns: copy_while(turns)?,
         }),
-        Frame::Test {
-            inside,
-            scope,
-            stmt,
-            condition,
-            turns,
-            body,
-            age,
-        } => Ok(Frame::Test {
-            inside: *inside,
-            scope: Rc::clone(scope)?,
-            stmt: *stmt,
-            condition: *condition,
-            turns: *turns,
-            body: *body,
-            age: *age,
+        Frame::Test { turns } => Ok(Frame::Test {
+            turns: copy_while(turns)?,
         }),
         Frame::Back { value, region } => Ok(Frame::Back {
             value: *value,

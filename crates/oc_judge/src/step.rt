@@ -1,21 +1,20 @@
 //! One step of a run.
-ghost use Rattle.std.specs.Prelude.{◌≡◌, ◌∷◌, ◌-ℤ◌, IfOk, List};
+ghost use Rattle.std.specs.Prelude.{◌≡◌, ◌∷◌, IfOk, List};
 ghost use Rattle.oc_tree.specs.Tree.{more};
-ghost use Rattle.oc_tree.specs.View.{block_view, expr_view, kind_view, stmt_view, stmts_view};
-ghost use Rattle.oc_tree.specs.Weight.{count_of};
+ghost use Rattle.oc_tree.specs.View.{kind_view, stmt_view, stmts_view};
 ghost use Rattle.oc_meaning.specs.Exec.{grown};
 ghost use Rattle.oc_meaning.specs.Scopes.{binding_view};
 ghost use Rattle.oc_steps.specs.Steps.{Goes, Use};
 ghost use Rattle.oc_steps.specs.Steps as steps;
-ghost use Rattle.oc_judge.specs.Frames.{frame_view, frames_view, inside_view};
-ghost use Rattle.oc_judge.specs.Going.{IsKept, loop_here, rest_here, returned_here, step_at, step_here, stepped_at, test_here, turns_here, went_here};
+ghost use Rattle.oc_judge.specs.Frames.{for_frame, frame_view, frames_view, inside_view, test_frame, while_frame};
+ghost use Rattle.oc_judge.specs.Going.{IsKept, rest_here, returned_here, step_at, step_here, stepped_at, went_here};
 ghost use Rattle.oc_judge.specs.Stores.{completion_at};
 ghost use Rattle.oc_judge.specs.Values.{age_view, value_view};
 
 use crate::age::{Age, Got, Value};
 use crate::blocks::begin;
 use crate::eval::{is_zero, value_of};
-use crate::frames::{Frame, Inside};
+use crate::frames::{ForTurns, Frame, Inside, WhileTurns};
 use crate::going::Going;
 use crate::running::Running;
 use crate::store::{Completion, Store};
@@ -27,8 +26,7 @@ use oc_meaning::names::is_annotated;
 use oc_meaning::place::Place;
 use oc_meaning::regions::{begun_by, ended_by};
 use oc_meaning::scope::{Binding, Scope};
-use oc_tree::name::Name;
-use oc_tree::tree::{Block, Expr, Stmt, StmtId, StmtKind};
+use oc_tree::tree::{Stmt, StmtId, StmtKind};
 use std::alloc::{AllocError, Global};
 use std::rc::Rc;
 
@@ -160,125 +158,90 @@ fn rest<'a>(
     }
 }
 
-/// A turn of a `for` with these numbers.
+/// A turn of a `for`, if one is left.
 #[tactic(auto, using(crate::proofs::Turning::turn_over, crate::proofs::Turning::turn_more))]
 fn turn<'a>(
     run: &Running<'a>,
-    inside: Inside<'a>,
-    scope: Rc<Scope<'a>>,
-    name: &'a Name,
-    next: i32,
-    to: i32,
-    body: &'a Block,
+    turns: ForTurns<'a>,
     frames: &mut Vec<Frame<'a>>,
     store: &mut Store,
 ) -> Result<Completion, AllocError>
     ensures { IfOk result
         (λ o. Goes (frames_view frames.new.items) (completion_at o store.new)
-        ≡ turns_here run.now (inside_view inside.entry) name.now (count_of (to -ℤ next)) next
-        (block_view body.now) scope.entry.value (frames_view frames.old.items) store.old) }
+        ≡ went_here run.now (for_frame turns.entry) (frames_view frames.old.items) store.old) }
 {
-    if next < to {
+    if turns.next < turns.to {
+        let inside = turns.inside;
+        let body = turns.body;
         let inner = with_variable(
             run.alloc,
-            &scope,
+            &turns.scope,
             Binding {
-                name,
-                place: Place::Turn { value: next },
+                name: turns.name,
+                place: Place::Turn { value: turns.next },
                 reference: false,
                 fresh: false,
             },
         )?;
-        frames.push(Frame::Turns {
-            inside,
-            scope,
-            name,
-            next: next + 1,
-            to,
-            body,
-        })?;
+        let mut behind = turns;
+        behind.next += 1;
+        frames.push(Frame::Turns { turns: behind })?;
         let begun = begin(inside, &inner, body, frames, store)?;
         return Ok(begun);
     }
     Ok(Completion::Went)
 }
 
-/// The turns of the `while` `n`, of which so many are left.
+/// The use of the condition of a `while` begins, if a turn is left, or ends.
 fn turn_while<'a>(
     run: &Running<'a>,
-    inside: Inside<'a>,
-    scope: Rc<Scope<'a>>,
-    n: StmtId,
-    condition: &'a Expr,
-    turns: u32,
-    body: &'a Block,
-    age: Age,
+    turns: WhileTurns<'a>,
     frames: &mut Vec<Frame<'a>>,
     store: &mut Store,
 ) -> Result<Completion, AllocError>
     ensures { IfOk result
         (λ o. Goes (frames_view frames.new.items) (completion_at o store.new)
-        ≡ loop_here run.now (inside_view inside.entry) scope.entry.value n
-        (expr_view condition.now) turns (block_view body.now) (age_view age)
-        (frames_view frames.old.items) store.old) }
+        ≡ went_here run.now (while_frame turns.entry) (frames_view frames.old.items) store.old) }
 {
-    let is = expression_is_use(run.alloc, &scope, condition)?;
-    if turns == 0 {
-        end_use(is, n, age, store)?;
+    let n = turns.stmt;
+    let is = expression_is_use(run.alloc, &turns.scope, turns.condition)?;
+    if turns.left == 0 {
+        end_use(is, n, turns.age, store)?;
         return Ok(Completion::Went);
     }
-    let now = expression_age(run.alloc, &scope, store, condition)?;
-    frames.push(Frame::Test {
-        inside,
-        scope,
-        stmt: n,
-        condition,
-        turns: turns - 1,
-        body,
-        age: age.join(now),
-    })?;
+    let now = expression_age(run.alloc, &turns.scope, store, turns.condition)?;
+    let mut behind = turns;
+    behind.left -= 1;
+    behind.age = behind.age.join(now);
+    frames.push(Frame::Test { turns: behind })?;
     begin_use(is, n, now, store)?;
     Ok(Completion::Went)
 }
 
-/// The condition of a turn of the `while` `n`, with so many turns behind it.
+/// The condition of a turn of a `while`, and then its body or what is behind it.
 fn test<'a>(
     run: &Running<'a>,
-    inside: Inside<'a>,
-    scope: Rc<Scope<'a>>,
-    n: StmtId,
-    condition: &'a Expr,
-    turns: u32,
-    body: &'a Block,
-    age: Age,
+    turns: WhileTurns<'a>,
     frames: &mut Vec<Frame<'a>>,
     store: &mut Store,
 ) -> Result<Completion, AllocError>
     ensures { IfOk result
         (λ o. Goes (frames_view frames.new.items) (completion_at o store.new)
-        ≡ test_here run.now (inside_view inside.entry) scope.entry.value n
-        (expr_view condition.now) turns (block_view body.now) (age_view age)
-        (frames_view frames.old.items) store.old) }
+        ≡ went_here run.now (test_frame turns.entry) (frames_view frames.old.items) store.old) }
 {
-    match value_of(&scope, store, condition) {
-        Got::Traps { kind } => store.trap(kind, n),
+    match value_of(&turns.scope, store, turns.condition) {
+        Got::Traps { kind } => store.trap(kind, turns.stmt),
         Got::Value { value } => {
             if is_zero(value.number) {
-                let is = expression_is_use(run.alloc, &scope, condition)?;
-                end_use(is, n, age, store)?;
+                let is = expression_is_use(run.alloc, &turns.scope, turns.condition)?;
+                end_use(is, turns.stmt, turns.age, store)?;
                 return Ok(Completion::Went);
             }
-            let shared = Rc::clone(&scope)?;
-            frames.push(Frame::Loop {
-                inside,
-                scope,
-                stmt: n,
-                condition,
-                turns,
-                body,
-                age,
-            })?;
-            begin(inside, &shared, body, frames, store)
+            let inside = turns.inside;
+            let body = turns.body;
+            let scope = Rc::clone(&turns.scope)?;
+            frames.push(Frame::Loop { turns })?;
+            begin(inside, &scope, body, frames, store)
         }
     }
 }
@@ -369,43 +332,16 @@ fn go_on<'a>(
                 completion: Completion::Went,
             })
         }
-        Frame::Turns {
-            inside,
-            scope,
-            name,
-            next,
-            to,
-            body,
-        } => {
-            let completion = turn(run, inside, scope, name, next, to, body, frames, store)?;
+        Frame::Turns { turns } => {
+            let completion = turn(run, turns, frames, store)?;
             Ok(Going::Goes { completion })
         }
-        Frame::Loop {
-            inside,
-            scope,
-            stmt,
-            condition,
-            turns,
-            body,
-            age,
-        } => {
-            let completion = turn_while(
-                run, inside, scope, stmt, condition, turns, body, age, frames, store,
-            )?;
+        Frame::Loop { turns } => {
+            let completion = turn_while(run, turns, frames, store)?;
             Ok(Going::Goes { completion })
         }
-        Frame::Test {
-            inside,
-            scope,
-            stmt,
-            condition,
-            turns,
-            body,
-            age,
-        } => {
-            let completion = test(
-                run, inside, scope, stmt, condition, turns, body, age, frames, store,
-            )?;
+        Frame::Test { turns } => {
+            let completion = test(run, turns, frames, store)?;
             Ok(Going::Goes { completion })
         }
         Frame::Back { value, region } => {

@@ -4,8 +4,7 @@ ghost use Rattle.oc_meaning.specs.Store.{happened, held_at, left_at, made, nothi
 ghost use Rattle.oc_meaning.specs.Eval.{element_of};
 ghost use Rattle.oc_meaning.specs.Exec.{closed, entered, opened, tagged, trapped};
 ghost use Rattle.oc_meaning.specs.Run.{first_values, words_of};
-ghost use Rattle.oc_meaning.specs.Seen.{place_view};
-ghost use Rattle.oc_meaning.specs.Stores.{absent, held_or};
+ghost use Rattle.oc_meaning.specs.Places.{place_view, absent, held_or};
 ghost use Rattle.oc_steps.specs.Ages.{join_ages};
 ghost use Rattle.oc_steps.specs.Sets.{element_by, element_written_by, with_element_by};
 ghost use Rattle.oc_judge.specs.Values.{age_view, got_view, value_view};

@@ -62,6 +62,7 @@ fn give_sample<'a>(run: &Running<'a>, way: &mut Way<'a>, sensor: u8, value: i32)
     way.completion = Completion::Returned {
         value: Value { number: value, age },
     };
+    // From here on nothing is left that was said.
     let _said = way.store.take_event();
 }
 

@@ -17,7 +17,7 @@ ghost use Rattle.oc_judge.specs.Values.{value_view};
 use crate::age::{Age, Got, Value};
 use crate::blocks::{begin, call};
 use crate::eval::{is_zero, value_of};
-use crate::frames::{Frame, Inside};
+use crate::frames::{ForTurns, Frame, Inside, WhileTurns};
 use crate::going::Going;
 use crate::held::Held;
 use crate::running::Running;
@@ -288,14 +288,15 @@ fn push_turns<'a>(
         (block_view body.now) scope.now.value ∷ frames_view frames.old.items) }
 {
     let scope = Rc::clone(scope)?;
-    frames.push(Frame::Turns {
+    let turns = ForTurns {
         inside,
         scope,
         name,
         next: from,
         to,
         body,
-    })?;
+    };
+    frames.push(Frame::Turns { turns })?;
     Ok(())
 }
 
@@ -305,25 +306,26 @@ fn push_loop<'a>(
     scope: &Rc<Scope<'a>>,
     n: StmtId,
     condition: &'a Expr,
-    turns: u32,
+    bound: u32,
     body: &'a Block,
     frames: &mut Vec<Frame<'a>>,
 ) -> Result<(), AllocError>
     ensures { OnOk result
         (frames_view frames.new.items
-        ≡ Loop (inside_view inside.entry) scope.now.value n (expr_view condition.now) turns
+        ≡ Loop (inside_view inside.entry) scope.now.value n (expr_view condition.now) bound
         (block_view body.now) [] ∷ frames_view frames.old.items) }
 {
     let scope = Rc::clone(scope)?;
-    frames.push(Frame::Loop {
+    let turns = WhileTurns {
         inside,
         scope,
         stmt: n,
         condition,
-        turns,
+        left: bound,
         body,
         age: Age::Never,
-    })?;
+    };
+    frames.push(Frame::Loop { turns })?;
     Ok(())
 }
 

@@ -1,3 +1,4 @@
+pub mod ClassLaws
 pub mod Words
 pub mod Values
 pub mod PieceLaws

@@ -13,7 +13,7 @@ use Rattle.oc_lex.specs.declared.token.Mark.{Mark}
 use Rattle.oc_lex.specs.declared.token.Mark.TheVariants as marks
 use Rattle.oc_lex.specs.declared.token.Kind.{Kind}
 use Rattle.oc_lex.specs.declared.token.Token.{Token}
-use Rattle.oc_lex.specs.Bytes.{class_of, in_name, in_number, in_line}
+use Rattle.oc_lex.specs.Bytes.{begins_name, in_name, in_number, in_line}
 use Rattle.oc_lex.specs.Spellings.{mark_spelling}
 use Rattle.oc_lex.specs.Pieces.{IsPiece, Longest}
 use Rattle.oc_lex.specs.Tokens.{Lexed, none, between, token, Reads, tokens_of, feeds_of}
@@ -52,7 +52,7 @@ mark_first _ = refl
 
 -- only the first byte of a piece can be a line feed
 piece_feeds : (p : Piece) (text : List ℕ) → IsPiece p text → line_feeds text ≡ feeds_of (get_or text 0 0)
-unfolding class_of
+unfolding begins_name in_name in_number
 piece_feeds piece.Blank [] d = absurd d
 piece_feeds piece.Blank (b ∷ []) d = let e = feeds_more b [] in omega arith
 piece_feeds piece.Blank (b ∷ c ∷ bs) d = absurd d

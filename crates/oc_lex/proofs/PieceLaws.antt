@@ -10,7 +10,9 @@ use Rattle.oc_lex.specs.declared.piece.Piece.{Piece}
 use Rattle.oc_lex.specs.declared.piece.Piece.TheVariants as piece
 use Rattle.oc_lex.specs.declared.token.Mark.{Mark}
 use Rattle.oc_lex.specs.declared.token.Mark.TheVariants as marks
-use Rattle.oc_lex.specs.Bytes.{class_of, begins_name_class, in_name, in_number, in_line}
+use Rattle.oc_lex.specs.Bytes.{in_name, in_number, in_line}
+use Rattle.oc_lex.specs.Classes.{class_of, begins_name_class}
+use Rattle.oc_lex.proofs.ClassLaws.{blank_of_class, class_of_blank, digit_of_class, class_of_digit, begins_is}
 use Rattle.oc_lex.specs.Spellings.{mark_spelling, SpellsNoMark}
 use Rattle.oc_lex.specs.Pieces.{IsPiece, Longest, BeginNoPiece}
 
@@ -92,12 +94,12 @@ is_of : (p : Piece) (j k : Class) → k ≡ j → OfClass p j → OfClass p k
 is_of p j k e h = subst (λ (x : Class). OfClass p x) (sym e) h
 
 pub piece_class : (p : Piece) (b : ℕ) (bs : List ℕ) → IsPiece p (b ∷ bs) → OfClass p (class_of b)
-piece_class piece.Blank b [] d = is_of piece.Blank class.Blank (class_of b) d tt
+piece_class piece.Blank b [] d = is_of piece.Blank class.Blank (class_of b) (class_of_blank b d) tt
 piece_class piece.Blank b (c ∷ bs) d = absurd d
 piece_class piece.Comment b [] d = absurd d
 piece_class piece.Comment b (c ∷ bs) d = is_of piece.Comment class.Other (class_of b) (slash_class b d.0) tt
-piece_class piece.Name b bs d = name_class (class_of b) d.0
-piece_class piece.Number b bs d = is_of piece.Number class.Digit (class_of b) d.0 tt
+piece_class piece.Name b bs d = name_class (class_of b) (sym (begins_is b) ∙ d.0)
+piece_class piece.Number b bs d = is_of piece.Number class.Digit (class_of b) (class_of_digit b d.0) tt
 piece_class (piece.Mark m) b bs d = is_of (piece.Mark m) class.Other (class_of b) (mark_class m b bs d) tt
 
 -- a piece whose first byte has a known class
@@ -129,7 +131,7 @@ blank_most q (suc (suc m)) b (c ∷ bs) e h d = by_piece q d (of_class q b (c �
 
 pub blank_longest : (bytes : List ℕ) → 1 ≤ length bytes → class_of (get_or bytes 0 0) ≡ class.Blank → Longest piece.Blank 1 bytes
 blank_longest [] h e = absurd (omega arith)
-blank_longest (b ∷ bs) h e = record { within = omega arith; is_piece = e; no_longer = λ q m h d. blank_most q m b bs e h d }
+blank_longest (b ∷ bs) h e = record { within = omega arith; is_piece = blank_of_class b e; no_longer = λ q m h d. blank_most q m b bs e h d }
 
 name_most : (q : Piece) (m : ℕ) (b : ℕ) (bs : List ℕ) (k : Class) → class_of b ≡ k → begins_name_class k ≡ true → m ≤ length (b ∷ bs) → IsPiece q (take m (b ∷ bs)) → m ≤ 1 + prefix_len in_name bs
 name_most q zero b bs k e t h d = omega arith
@@ -155,7 +157,7 @@ name_longest [] n k h e t f = absurd (omega arith)
 name_longest (b ∷ bs) n k h e t f =
     let w = prefix_len-le-length in_name bs in
     let l : Longest piece.Name (suc (prefix_len in_name bs)) (b ∷ bs) =
-    record { within = omega arith; is_piece = (rw e t, run_all in_name bs); no_longer = λ q m h d. let s = name_most q m b bs k e t h d in omega arith } in
+    record { within = omega arith; is_piece = (begins_is b ∙ (ap begins_name_class e ∙ t), run_all in_name bs); no_longer = λ q m h d. let s = name_most q m b bs k e t h d in omega arith } in
     let s : suc (prefix_len in_name bs) ≡ 1 + n = omega (arith, f ∙ ap (prefix_len in_name) (tail_is (b ∷ bs))) in
     subst (λ (x : ℕ). Longest piece.Name x (b ∷ bs)) s l
 
@@ -175,7 +177,7 @@ number_longest [] n h e f = absurd (omega arith)
 number_longest (b ∷ bs) n h e f =
     let w = prefix_len-le-length in_number bs in
     let l : Longest piece.Number (suc (prefix_len in_number bs)) (b ∷ bs) =
-    record { within = omega arith; is_piece = (e, run_all in_number bs); no_longer = λ q m h d. let s = number_most q m b bs e h d in omega arith } in
+    record { within = omega arith; is_piece = (digit_of_class b e, run_all in_number bs); no_longer = λ q m h d. let s = number_most q m b bs e h d in omega arith } in
     let s : suc (prefix_len in_number bs) ≡ 1 + n = omega (arith, f ∙ ap (prefix_len in_number) (tail_is (b ∷ bs))) in
     subst (λ (x : ℕ). Longest piece.Number x (b ∷ bs)) s l
 

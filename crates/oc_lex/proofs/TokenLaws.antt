@@ -17,7 +17,8 @@ use Rattle.oc_lex.specs.declared.token.Kind.TheVariants as kinds
 use Rattle.oc_lex.specs.declared.token.Token.{Token}
 use Rattle.oc_lex.specs.declared.lexer.LexError.{LexError}
 use Rattle.oc_lex.specs.declared.lexer.LexError.TheVariants as errors
-use Rattle.oc_lex.specs.Bytes.{class_of, value_of}
+use Rattle.oc_lex.specs.Bytes.{value_of}
+use Rattle.oc_lex.specs.Classes.{class_of}
 use Rattle.oc_lex.specs.Spellings.{mark_spelling, SpellsNoWord}
 use Rattle.oc_lex.specs.Pieces.{IsPiece, Longest}
 use Rattle.oc_lex.specs.Tokens.{IsBetween, IsRefused, IsKind, token_at, Lexed, none, between, token, AreTokens, IsFault, HasFault, tokens_of}

@@ -1,51 +1,39 @@
 -- Bytes of a source, and the value of digits.
-use Rattle.std.specs.Prelude.{ℕ, ◌+◌, ◌-◌, ◌*◌, Bool, true, false, not, ◌&&◌, ◌||◌, List, fold, nat_le, ◌==◌, if◌then◌else◌}
-use Rattle.oc_lex.specs.declared.bytes.Class.{Class}
-use Rattle.oc_lex.specs.declared.bytes.Class.TheVariants as class
+use Rattle.std.specs.Prelude.{ℕ, ◌+◌, ◌-◌, ◌*◌, Bool, not, ◌&&◌, ◌||◌, List, fold, nat_le, ◌==◌, if◌then◌else◌}
 
+-- a number lies between two others, or is one of them
 abbrev pub between : ℕ → ℕ → ℕ → Bool
 between a b n = nat_le a n && nat_le n b
 
--- space, tab, carriage return or line feed; an ASCII letter; `_`; an ASCII digit
-unfoldable pub class_of : ℕ → Class
-class_of b =
-    if b == 32 || b == 9 || b == 13 || b == 10 then class.Blank
-    else (if between 97 122 b || between 65 90 b then class.Letter
-    else (if b == 95 then class.Underscore
-    else (if between 48 57 b then class.Digit else class.Other)))
+-- a space, a tab, a carriage return or a line feed
+abbrev pub is_blank : ℕ → Bool
+is_blank b = b == 32 || b == 9 || b == 13 || b == 10
 
-abbrev pub begins_name_class : Class → Bool
-begins_name_class class.Letter = true
-begins_name_class class.Underscore = true
-begins_name_class _ = false
+-- an ASCII letter
+abbrev pub is_letter : ℕ → Bool
+is_letter b = between 97 122 b || between 65 90 b
 
-abbrev pub in_name_class : Class → Bool
-in_name_class class.Letter = true
-in_name_class class.Underscore = true
-in_name_class class.Digit = true
-in_name_class _ = false
+-- an ASCII digit
+abbrev pub is_digit : ℕ → Bool
+is_digit b = between 48 57 b
 
-abbrev pub in_number_class : Class → Bool
-in_number_class class.Underscore = true
-in_number_class class.Digit = true
-in_number_class _ = false
+-- a name begins with such a byte: a letter or `_`
+unfoldable pub begins_name : ℕ → Bool
+begins_name b = is_letter b || b == 95
 
--- a name begins with such a byte, and goes on with such bytes
-abbrev pub begins_name : ℕ → Bool
-begins_name b = begins_name_class (class_of b)
-
-abbrev pub in_name : ℕ → Bool
-in_name b = in_name_class (class_of b)
+-- a name goes on with such bytes
+unfoldable pub in_name : ℕ → Bool
+in_name b = begins_name b || is_digit b
 
 -- a number goes on with such bytes
-abbrev pub in_number : ℕ → Bool
-in_number b = in_number_class (class_of b)
+unfoldable pub in_number : ℕ → Bool
+in_number b = b == 95 || is_digit b
 
--- a comment goes on with such bytes
+-- a comment may go on with this byte
 abbrev pub in_line : ℕ → Bool
 in_line b = not (b == 10)
 
--- a digit after a number; a `_` counts nothing
+-- a number with one more digit behind it; a `_` counts nothing
 abbrev pub with_digit : ℕ → ℕ → ℕ
 with_digit n d = if d == 95 then n else n * 10 + (d - 48)
 

@@ -1,4 +1,5 @@
 pub mod Bytes
+pub mod Classes
 pub mod Spellings
 pub mod Pieces
 pub mod Tokens

@@ -9,14 +9,15 @@ use Rattle.oc_lex.specs.Spellings.{word_spelling, mark_spelling, SpellsNoWord}
 use Rattle.oc_lex.specs.Pieces.{IsPiece}
 use Rattle.oc_io.specs.Counts.{line_feeds}
 
--- a letter or `_`, then letters, digits and `_`, and none of the words
+-- a name of the language: a letter or `_`, then letters, digits and `_`, and none of the words
 abbrev pub IsName : List ℕ → Type 0
 IsName text = IsPiece piece.Name text × SpellsNoWord text
 
--- what a token of a kind may be spelled
+-- how a token of a kind may be spelled
 abbrev pub Spells : Kind → List ℕ → Type 0
 Spells kinds.Name text = IsName text
-Spells (kinds.Number v) text = IsPiece piece.Number text × (v ≡ pos (value_of text)) × (value_of text ≤ 2147483647)
+Spells (kinds.Number v) text =
+    IsPiece piece.Number text × (v ≡ pos (value_of text)) × (value_of text ≤ 2147483647)
 Spells (kinds.Word w) text = word_spelling w ≡ text
 Spells (kinds.Mark m) text = mark_spelling m ≡ text
 

@@ -1,7 +1,6 @@
 -- The tokens of a source, and its first fault.
-use Rattle.std.specs.Prelude.{◌≡◌, ℕ, pos, ◌+◌, ◌<◌, ◌⊎◌, List, [], ◌∷◌, length, take, drop, ◌==◌, if◌then◌else◌, Option, Some, None, Result, Ok, Err}
+use Rattle.std.specs.Prelude.{◌≡◌, ℕ, pos, true, ◌+◌, ◌<◌, ◌⊎◌, List, [], ◌∷◌, length, take, drop, ◌==◌, if◌then◌else◌, Option, Some, None, Result, Ok, Err}
 use Rattle.oc_io.specs.Counts.{line_feeds}
-use Rattle.oc_lex.specs.declared.bytes.Class.TheVariants as class
 use Rattle.oc_lex.specs.declared.piece.Piece.{Piece}
 use Rattle.oc_lex.specs.declared.piece.Piece.TheVariants as piece
 use Rattle.oc_lex.specs.declared.token.Kind.{Kind}
@@ -9,19 +8,20 @@ use Rattle.oc_lex.specs.declared.token.Kind.TheVariants as kinds
 use Rattle.oc_lex.specs.declared.token.Token.{Token}
 use Rattle.oc_lex.specs.declared.lexer.LexError.{LexError}
 use Rattle.oc_lex.specs.declared.lexer.LexError.TheVariants as errors
-use Rattle.oc_lex.specs.Bytes.{class_of, value_of}
+use Rattle.oc_lex.specs.Bytes.{is_letter, value_of}
 use Rattle.oc_lex.specs.Spellings.{word_spelling, SpellsNoWord}
 use Rattle.oc_lex.specs.Pieces.{Longest, BeginNoPiece}
 
--- pieces between tokens
+-- a piece stands between tokens: a blank or a comment
 abbrev pub IsBetween : Piece → Type 0
 IsBetween piece.Blank = Unit {0}
 IsBetween piece.Comment = Unit {0}
 IsBetween _ = ⊥
 
+-- these bytes begin with a letter
 abbrev pub BeginsWithLetter : List ℕ → Type 0
 BeginsWithLetter [] = ⊥
-BeginsWithLetter (b ∷ bs) = class_of b ≡ class.Letter
+BeginsWithLetter (b ∷ bs) = is_letter b ≡ true
 
 -- a number that is refused: it is too great, or a letter follows directly
 abbrev pub IsRefused : List ℕ → List ℕ → Type 0
@@ -37,17 +37,22 @@ IsKind _ _ _ _ = ⊥
 
 -- the token of n bytes from a place on; its line is 1 plus the number of line feeds before it
 abbrev pub token_at : List ℕ → ℕ → ℕ → Kind → Token
-token_at source at n k = record { kind = k; start = at; end = at + n; line = 1 + line_feeds (take at source) }
+token_at source at n k =
+    record { kind = k; start = at; end = at + n; line = 1 + line_feeds (take at source) }
 
 -- Lexed source at tokens to: read from the left, the longest piece first, these tokens lead from
 -- the place `at` to the place `to`.
 pub data Lexed (source : List ℕ) : ℕ → List Token → ℕ → Type 0 where
   none : {at : ℕ} → Lexed source at [] at
-  between : {at n to : ℕ} {p : Piece} {ts : List Token} → Longest p n (drop at source) → IsBetween p → Lexed source (at + n) ts to → Lexed source at ts to
-  token : {at n to : ℕ} {p : Piece} {k : Kind} {ts : List Token} → Longest p n (drop at source) → IsKind p (take n (drop at source)) (drop n (drop at source)) k
-      → Lexed source (at + n) ts to → Lexed source at (token_at source at n k ∷ ts) to
+  between : {at n to : ℕ} {p : Piece} {ts : List Token}
+      → Longest p n (drop at source) → IsBetween p → Lexed source (at + n) ts to
+      → Lexed source at ts to
+  token : {at n to : ℕ} {p : Piece} {k : Kind} {ts : List Token}
+      → Longest p n (drop at source)
+      → IsKind p (take n (drop at source)) (drop n (drop at source)) k → Lexed source (at + n) ts to
+      → Lexed source at (token_at source at n k ∷ ts) to
 
--- these are the tokens of the source
+-- a list is that of the tokens of a source
 abbrev pub AreTokens : List ℕ → List Token → Type 0
 AreTokens source ts = Lexed source 0 ts (length source)
 
@@ -55,12 +60,15 @@ AreTokens source ts = Lexed source 0 ts (length source)
 -- that begins there is refused
 abbrev pub IsFault : List ℕ → ℕ → LexError → Type 0
 IsFault source at (errors.Byte i) = (i ≡ at) × (at < length source) × BeginNoPiece (drop at source)
-IsFault source at (errors.Literal i) = (i ≡ at) × (n : ℕ) × Longest piece.Number n (drop at source) × IsRefused (take n (drop at source)) (drop n (drop at source))
+IsFault source at (errors.Literal i) =
+    (i ≡ at) × (n : ℕ) × Longest piece.Number n (drop at source)
+    × IsRefused (take n (drop at source)) (drop n (drop at source))
 IsFault source at errors.Memory = ⊥
 
 -- the first fault of the source: tokens lead from its front to the fault
 abbrev pub HasFault : List ℕ → LexError → Type 0
-HasFault source fault = (ts : List Token) × (at : ℕ) × Lexed source 0 ts at × IsFault source at fault
+HasFault source fault =
+    (ts : List Token) × (at : ℕ) × Lexed source 0 ts at × IsFault source at fault
 
 -- ---- steps of the reading
 
@@ -75,5 +83,6 @@ abbrev pub tokens_of : Option Kind → ℕ → ℕ → ℕ → List Token
 tokens_of None start end line = []
 tokens_of (Some k) start end line = record { kind = k; start = start; end = end; line = line } ∷ []
 
+-- 1 for a line feed, else 0
 abbrev pub feeds_of : ℕ → ℕ
 feeds_of b = if b == 10 then 1 else 0

@@ -1,8 +1,11 @@
 //! Kinds of bytes, and how far they run.
 ghost use Rattle.std.specs.Prelude.{◌≡◌, ◌≤◌, length};
 ghost use Rattle.std.specs.List.{prefix_len};
-ghost use Rattle.oc_lex.specs.Bytes.{class_of, in_line, in_name, in_number};
+ghost use Rattle.oc_lex.specs.Bytes.{in_line, in_name, in_number, is_letter};
+ghost use Rattle.oc_lex.specs.Classes.{class_of};
 
+/// What a byte is to a reader of tokens: a space, tab, carriage return or line feed; an ASCII
+/// letter; `_`; an ASCII digit; or any other.
 #[derive(Clone, Copy, PartialEq, Eq)]
 pub enum Class {
     Blank,
@@ -12,7 +15,8 @@ pub enum Class {
     Other,
 }
 
-#[tactic(auto, unfolding(crate::specs::Bytes::class_of))]
+/// The class of a byte.
+#[tactic(auto, unfolding(crate::specs::Classes::class_of))]
 pub fn byte_class(byte: u8) -> Class
     ensures { result ≡ class_of byte }
 {
@@ -25,22 +29,25 @@ pub fn byte_class(byte: u8) -> Class
     }
 }
 
+/// Whether it is an ASCII letter.
+pub fn is_letter(byte: u8) -> bool
+    ensures { result ≡ is_letter byte }
+{
+    matches!(byte, b'a'..=b'z' | b'A'..=b'Z')
+}
+
+#[tactic(auto, unfolding(crate::specs::Bytes::begins_name, crate::specs::Bytes::in_name))]
 fn is_in_name(byte: u8) -> bool
     ensures { result ≡ in_name byte }
 {
-    match byte_class(byte) {
-        Class::Letter | Class::Underscore | Class::Digit => true,
-        Class::Blank | Class::Other => false,
-    }
+    matches!(byte, b'a'..=b'z' | b'A'..=b'Z' | b'_' | b'0'..=b'9')
 }
 
+#[tactic(auto, unfolding(crate::specs::Bytes::in_number))]
 fn is_in_number(byte: u8) -> bool
     ensures { result ≡ in_number byte }
 {
-    match byte_class(byte) {
-        Class::Underscore | Class::Digit => true,
-        Class::Blank | Class::Letter | Class::Other => false,
-    }
+    matches!(byte, b'_' | b'0'..=b'9')
 }
 
 /// How many bytes in front may go on a name.

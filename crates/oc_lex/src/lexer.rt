@@ -7,7 +7,7 @@ ghost use Rattle.oc_lex.specs.declared.token.Token.{Token as SomeToken};
 ghost use Rattle.oc_lex.specs.declared.lexer.LexError.{LexError as SomeError};
 ghost use Rattle.oc_lex.specs.declared.lexer.LexError.TheVariants.{Memory};
 
-use crate::bytes::{Class, byte_class};
+use crate::bytes::is_letter;
 use crate::literal::value;
 use crate::piece::{Piece, front};
 use crate::token::{Kind, Token};
@@ -41,7 +41,8 @@ pub fn lex(alloc: Global, source: &[u8]) -> Result<Vec<Token>, LexError>
     requires { length source.now ≤ source_limit }
     // What comes with Ok are the tokens of the source.
     ensures found { IfOk result (λ tokens. AreTokens source.now tokens.items) }
-    // Each of them stands in the source, they follow each other, and they are no more than its bytes.
+    // Each of them stands in the source, they follow each other, and they are no more than its
+    // bytes.
     ensures stand { IfOk result (λ tokens. All (StandsIn source.now) tokens.items) }
     ensures order { IfOk result (λ tokens. InOrder 0 tokens.items (length source.now)) }
     ensures count { IfOk result (λ tokens. length tokens.items ≤ length source.now) }
@@ -99,7 +100,7 @@ fn begins_with_letter(bytes: &[u8]) -> bool
 {
     match bytes {
         [] => false,
-        [first, ..] => byte_class(*first) == Class::Letter,
+        [first, ..] => is_letter(*first),
     }
 }
 

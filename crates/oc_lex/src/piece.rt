@@ -1,6 +1,6 @@
 //! The longest piece in front.
 ghost use Rattle.std.specs.Prelude.{◌≡◌, ◌∷◌, MatchOption};
-ghost use Rattle.oc_lex.specs.Bytes.{class_of};
+ghost use Rattle.oc_lex.specs.Classes.{class_of};
 ghost use Rattle.oc_lex.specs.Pieces.{Longest, BeginNoPiece};
 ghost use Rattle.oc_lex.specs.declared.bytes.Class.TheVariants.{Other};
 

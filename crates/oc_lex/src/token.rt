@@ -12,7 +12,7 @@ pub struct Token {
     pub line: u32,
 }
 
-/// A name's bytes are those from its token's start to its end.
+/// What a token is. A name's bytes are those from its token's start to its end.
 #[derive(Clone, Copy)]
 pub enum Kind {
     Name,
@@ -21,7 +21,7 @@ pub enum Kind {
     Mark(Mark),
 }
 
-/// The words that are no names.
+/// A word of the language, which is no name.
 #[derive(Clone, Copy, PartialEq, Eq)]
 pub enum Word {
     Sensor,
@@ -54,7 +54,7 @@ pub enum Word {
     Underscore,
 }
 
-/// The marks.
+/// A mark or an operator.
 #[derive(Clone, Copy, PartialEq, Eq)]
 pub enum Mark {
     /// `(`

@@ -1,35 +1,38 @@
 //! Words, which have the form of names.
 ghost use Rattle.std.specs.Prelude.{◌≡◌, find, MatchOption};
 ghost use Rattle.std.specs.Str.{bytes_eq};
-ghost use Rattle.oc_lex.specs.Spellings.{word_spelling, SpellsNoWord};
+ghost use Rattle.oc_lex.specs.Spellings.{word_spelling, words_like, SpellsNoWord};
 
 use crate::token::Word;
 
-const WORDS: [Word; 23] = [
-    Word::Sensor,
-    Word::Port,
-    Word::Nonvolatile,
-    Word::Function,
-    Word::Let,
-    Word::Mutable,
-    Word::If,
-    Word::Else,
-    Word::For,
-    Word::In,
-    Word::While,
-    Word::Bound,
-    Word::Return,
-    Word::True,
-    Word::False,
-    Word::Emit,
-    Word::Sense,
-    Word::Fresh,
-    Word::Consistent,
-    Word::Int,
-    Word::Bool,
-    Word::Atomic,
-    Word::Underscore,
-];
+/// The words that begin as a text does.
+#[tactic(auto, unfolding(crate::specs::Spellings::words_like))]
+fn words_like(text: &[u8]) -> &'static [Word]
+    ensures { result.now ≡ words_like text.now }
+{
+    let [first, ..] = text else {
+        return &[];
+    };
+    match *first {
+        b's' => &[Word::Sensor, Word::Sense],
+        b'p' => &[Word::Port],
+        b'n' => &[Word::Nonvolatile],
+        b'f' => &[Word::Function, Word::For, Word::False],
+        b'l' => &[Word::Let],
+        b'm' => &[Word::Mutable],
+        b'i' => &[Word::If, Word::In, Word::Int],
+        b'e' => &[Word::Else, Word::Emit],
+        b'w' => &[Word::While],
+        b'b' => &[Word::Bound, Word::Bool],
+        b'r' => &[Word::Return],
+        b't' => &[Word::True],
+        b'F' => &[Word::Fresh],
+        b'C' => &[Word::Consistent],
+        b'a' => &[Word::Atomic],
+        b'_' => &[Word::Underscore],
+        _ => &[],
+    }
+}
 
 fn spelling(word: Word) -> &'static [u8]
     ensures { result.now ≡ word_spelling word }
@@ -71,5 +74,5 @@ fn find_among(words: &[Word], text: &[u8]) -> Option<Word>
 pub fn word_of(text: &[u8]) -> Option<Word>
     ensures { MatchOption result (SpellsNoWord text.now) (λ w. word_spelling w ≡ text.now) }
 {
-    find_among(&WORDS, text)
+    find_among(words_like(text), text)
 }

@@ -1,4 +1,5 @@
 pub mod Acting
+pub mod Arms
 pub mod Kept
 pub mod Quiet
 pub mod Rows

@@ -5,6 +5,7 @@ ghost use Rattle.oc_isa.specs.Image.{Exists};
 ghost use Rattle.oc_undo.specs.Undo.{has_entry};
 ghost use Rattle.oc_isa.specs.Power;
 ghost use Rattle.oc_isa.specs.Table;
+ghost use Rattle.oc_machine.specs.Arms;
 ghost use Rattle.oc_isa.specs.Table.{device_of};
 ghost use Rattle.oc_machine.specs.Acting.{IsNamedSaid, IsSampled, may_store, regs_at, write_at, writing};
 
@@ -124,12 +125,12 @@ impl Machine {
               parts = self.old.parts;
               state =
                   (Power.run_next sample
-                  (Table.nstores (self.old.state.pc + 1) self.old.state.fp self.old.state.stack
+                  (Arms.nstores (self.old.state.pc + 1) self.old.state.fp self.old.state.stack
                   self.old.state.nv a) self.old.state).state;
             } }
         ensures said { (sample : ℕ → ℤ)
             → result ≡ (Power.run_next sample
-            (Table.nstores (self.old.state.pc + 1) self.old.state.fp self.old.state.stack
+            (Arms.nstores (self.old.state.pc + 1) self.old.state.fp self.old.state.stack
             self.old.state.nv a) self.old.state).said }
         ensures named { IsNamedSaid self.old.parts.names result }
     {
@@ -154,12 +155,12 @@ impl Machine {
               parts = self.old.parts;
               state =
                   (Power.run_next sample
-                  (Table.puts (self.old.state.pc + 1) self.old.state.fp self.old.state.stack
+                  (Arms.puts (self.old.state.pc + 1) self.old.state.fp self.old.state.stack
                   self.old.state.nv) self.old.state).state;
             } }
         ensures said { (sample : ℕ → ℤ)
             → result ≡ (Power.run_next sample
-            (Table.puts (self.old.state.pc + 1) self.old.state.fp self.old.state.stack
+            (Arms.puts (self.old.state.pc + 1) self.old.state.fp self.old.state.stack
             self.old.state.nv) self.old.state).said }
         ensures named { IsNamedSaid self.old.parts.names result }
     {

@@ -8,7 +8,7 @@ use Rattle.oc_tree.specs.Tree.{sense_only, emit, fresh, consistent, return, TEls
 use Rattle.oc_tree.specs.declared.said.Said.TheVariants.{Showed, Entered, Committed, Ended}
 use Rattle.oc_tree.specs.declared.said.Shown.TheVariants.{Emitted}
 use Rattle.oc_tree.specs.declared.said.Ending.TheVariants.{Halted}
-use Rattle.oc_meaning.specs.Samples.{union}
+use Rattle.oc_tree.specs.Samples.{union}
 use Rattle.oc_meaning.specs.Store.{Value, Held, Place, Local, Global, Turn, Nowhere, Event, Store, Binding, value_in, held_at, put, with_element, replaced, holding, made, noted, place_of}
 use Rattle.oc_meaning.specs.Eval.{Got, Val, Traps, is_zero, element_of, read_element, unary_value, combined, and_got, value_of}
 use Rattle.oc_meaning.specs.Uses.{is_fresh, is_use, samples_of_fresh, use_samples, begins_use, ends_use}

@@ -7,7 +7,7 @@ use Rattle.oc_tree.specs.Tree.{call_only, sense_only, emit, fresh, consistent, r
 use Rattle.oc_tree.specs.Marked.{TRegion}
 use Rattle.oc_tree.specs.declared.said.Said.TheVariants.{Entered, Committed}
 use Rattle.oc_tree.specs.Weight.{count_of}
-use Rattle.oc_meaning.specs.Samples.{union}
+use Rattle.oc_tree.specs.Samples.{union}
 use Rattle.oc_meaning.specs.Store.{Value, Held, Place, Local, Global, Turn, Nowhere, Event, Store, Binding, held_at, put, replaced, place_of}
 use Rattle.oc_meaning.specs.Eval.{Got, Val, Traps, is_zero, element_of, value_of}
 use Rattle.oc_meaning.specs.Uses.{is_fresh, is_use, use_samples, begins_use, ends_use}
@@ -16,7 +16,7 @@ use Rattle.oc_meaning.specs.Exec.{leave, told_if, opened, closed, used, done, fi
 use Rattle.oc_meaning.specs.Exec.{grown, entered, call_run, right_run, kind_run, else_run, block_run, stmts_run}
 use Rattle.oc_meaning.specs.Run.{with_params, function_named, nv_env, function_run, call_to, main_run, first_store}
 use Rattle.oc_meaning.specs.Blocks.{set_home}
-use Rattle.oc_meaning.specs.Traces.{MayBe}
+use Rattle.oc_meaning.specs.Parts.{MayBe}
 use Rattle.oc_meaning.specs.Cuts.{events_in}
 
 -- what holds of a list of events and is kept by one more

@@ -5,7 +5,7 @@ use Rattle.std.proofs.lemmas.Bool.Decides.{nat_tests}
 use Rattle.std.proofs.lemmas.Grind.{reverse_onto}
 use Rattle.oc_meaning.specs.Store as meant
 use Rattle.oc_meaning.specs.Store.{Held, Store, at, put_at, nothing, held_at, put, left_at}
-use Rattle.oc_meaning.specs.Stores.{held_or}
+use Rattle.oc_meaning.specs.Places.{held_or}
 use Rattle.oc_meaning.proofs.Visible.{drop-reverse}
 
 -- the oldest one, and the ones that were made after it

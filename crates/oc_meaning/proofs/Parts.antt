@@ -6,7 +6,7 @@ use Rattle.oc_tree.specs.Marked.{TRegion}
 use Rattle.oc_meaning.specs.Store.{Event, Store}
 use Rattle.oc_meaning.specs.Exec.{Outcome, Went, Returned, Stopped, Trap, Short}
 use Rattle.oc_meaning.specs.Run.{Ending, in_order, trace_at, trace_of, main_run, marked_run}
-use Rattle.oc_meaning.specs.Traces.{AreParts}
+use Rattle.oc_meaning.specs.Parts.{AreParts}
 use Rattle.oc_meaning.specs.Cuts.{events_in}
 use Rattle.oc_meaning.proofs.Growing.{main_keeps}
 

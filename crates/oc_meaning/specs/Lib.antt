@@ -1,20 +1,15 @@
 -- the meaning
-pub mod Samples
 pub mod Store
 pub mod Eval
 pub mod Uses
 pub mod Blocks
 pub mod Exec
 pub mod Run
+pub mod Parts
 pub mod Unmarked
--- what the interpreter goes by
+-- what interpreters go by
 pub mod Cuts
 pub mod Executed
-pub mod Fresh
 pub mod Operands
-pub mod Runs
+pub mod Places
 pub mod Scopes
-pub mod Seen
-pub mod Stores
-pub mod Telling
-pub mod Traces

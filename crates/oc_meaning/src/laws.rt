@@ -1,5 +1,5 @@
 //! What holds of the runs of every source.
-ghost use Rattle.oc_meaning.specs.Traces.{SaysParts};
+ghost use Rattle.oc_meaning.specs.Parts.{SaysParts};
 ghost use Rattle.oc_meaning.specs.Unmarked.{MarksOnlyTell};
 
 /// A run with the marks of any regions is the source's run, once its marks are left out: the same

@@ -4,7 +4,7 @@ ghost use Rattle.std.specs.Str.{bytes_eq};
 ghost use Rattle.oc_meaning.specs.Run.{nv_env};
 ghost use Rattle.oc_meaning.specs.Store.{binding_of, place_of};
 ghost use Rattle.oc_meaning.specs.Uses.{is_fresh};
-ghost use Rattle.oc_meaning.specs.Seen.{place_view};
+ghost use Rattle.oc_meaning.specs.Places.{place_view};
 ghost use Rattle.oc_meaning.specs.Scopes.{found};
 
 use crate::place::Place;

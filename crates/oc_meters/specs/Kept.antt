@@ -1,7 +1,7 @@
 -- What is kept of a line that isn't finished.
 use Rattle.std.specs.Prelude.{ℕ, List}
 
--- its bytes, of which there are so many at most
+-- the bytes of a line that isn't finished, of which there are so many at most
 pub record Line : Type 0 where
   pub bytes : List ℕ
   pub most : ℕ

@@ -4,7 +4,7 @@ use Rattle.std.specs.List.{flat_map}
 use Rattle.oc_io.specs.Lines.{line_of}
 use Rattle.oc_meters.specs.Tally.{Reading}
 
--- the name of a kind
+-- the name of a meter's kind
 abbrev pub kind_name : ℕ → List ℕ
 kind_name zero = codes "counts"
 kind_name (suc zero) = codes "off"
@@ -14,7 +14,7 @@ kind_name (suc (suc k)) = codes "retries"
 abbrev pub number_field : ℕ → List ℕ
 number_field number = codes " " ++ decimal number
 
--- `meter`, its name and its numbers
+-- the line of a meter: `meter`, its name and its numbers
 abbrev pub meter_line : Reading → List ℕ
 meter_line r = line_of (codes "meter" ∷ kind_name r.kind ∷ map decimal r.numbers)
 

@@ -7,7 +7,7 @@ use Rattle.oc_items.specs.declared.item.Item.TheVariants as item
 abbrev pub sum_to : ℕ → ℕ → ℕ
 sum_to a b = min (a + b) (2 ^ 64 - 1)
 
--- the numbers of inputs, outputs, commits, aborts and outages
+-- the numbers of inputs, outputs, commits, aborts and outages, after an item
 abbrev pub counted : Item → List ℕ → List ℕ
 counted (item.Sense t s v) (a ∷ b ∷ c ∷ d ∷ e ∷ []) = sum_to a 1 ∷ b ∷ c ∷ d ∷ e ∷ []
 counted (item.Emit t p v) (a ∷ b ∷ c ∷ d ∷ e ∷ []) = a ∷ sum_to b 1 ∷ c ∷ d ∷ e ∷ []
@@ -16,12 +16,12 @@ counted (item.Abort t r) (a ∷ b ∷ c ∷ d ∷ e ∷ []) = a ∷ b ∷ c ∷ 
 counted (item.Off t n) (a ∷ b ∷ c ∷ d ∷ e ∷ []) = a ∷ b ∷ c ∷ d ∷ sum_to e 1 ∷ []
 counted i ns = ns
 
--- the sum and the greatest of the times without power
+-- the sum and the greatest of the times without power, after an item
 abbrev pub offs : Item → List ℕ → List ℕ
 offs (item.Off t n) (sum ∷ most ∷ []) = sum_to sum n ∷ max most n ∷ []
 offs i ns = ns
 
--- the aborts since the last commit, and the most of these
+-- the aborts since the last commit, and the most of these, after an item
 abbrev pub retried : Item → List ℕ → List ℕ
 retried (item.Abort t r) (now ∷ most ∷ []) = sum_to now 1 ∷ max most (sum_to now 1) ∷ []
 retried (item.Commit t r) (now ∷ most ∷ []) = 0 ∷ most ∷ []
@@ -38,15 +38,19 @@ pub record Reading : Type 0 where
   pub kind : ℕ
   pub numbers : List ℕ
 
+-- the kind and the numbers of a meter
 abbrev pub reading : {M : Type 0} → (M → ℕ) → (M → List ℕ) → M → Reading
 reading kind numbers meter = record { kind = kind meter; numbers = numbers meter }
 
+-- the kinds and the numbers of these meters
 abbrev pub readings : {M : Type 0} → (M → ℕ) → (M → List ℕ) → List M → List Reading
 readings kind numbers meters = map (reading kind numbers) meters
 
+-- what a meter reads after it was told an item
 abbrev pub tell_reading : Item → Reading → Reading
 tell_reading i r = record { kind = r.kind; numbers = tallied r.kind i r.numbers }
 
+-- what meters read after they were told an item
 abbrev pub tell_readings : Item → List Reading → List Reading
 tell_readings i rs = map (tell_reading i) rs
 

@@ -11,6 +11,12 @@ use oc_items::read::read_item;
 use oc_tree::name::{Name, Names};
 use std::alloc::Global;
 
+/// The most digits of a tick, and of how many ticks an outage lasts.
+const TICK_DIGITS: usize = 20;
+
+/// The most bytes of a value: a sign and ten digits.
+const VALUE_BYTES: usize = 11;
+
 /// The line of a report that isn't finished, and the meters, which are told the items of those that
 /// are. Only `new` takes memory.
 #[derive(Drop)]
@@ -33,14 +39,18 @@ fn longest(names: &[Name]) -> usize
     most
 }
 
-/// The most bytes of an item's line, without its line feed.
+/// The most bytes of an item's line, without its line feed: those of an input, an output or an
+/// outage are the longest.
 fn longest_line(names: &Names) -> usize
     ensures longest { result ≡ longest_line_of (names_view names.now) }
     ensures fits { result < 2 ^ 63 + 40 }
 {
     let sensors = longest(names.sensors.as_slice());
     let ports = longest(names.ports.as_slice());
-    (39 + sensors).max(38 + ports).max(45)
+    let sense = TICK_DIGITS + b" sense ".len() + sensors + 1 + VALUE_BYTES;
+    let emit = TICK_DIGITS + b" emit ".len() + ports + 1 + VALUE_BYTES;
+    let off = TICK_DIGITS + b" off ".len() + TICK_DIGITS;
+    sense.max(emit).max(off)
 }
 
 impl<M: Meter> Book<M> {

@@ -15,6 +15,7 @@ pub struct Counts {
 }
 
 impl Counts {
+    /// A meter that was told nothing yet.
     pub fn new() -> Counts
         ensures { ⟦<Counts as Meter>⟧.numbers result ≡ 0 ∷ 0 ∷ 0 ∷ 0 ∷ 0 ∷ [] }
     {
@@ -69,6 +70,7 @@ pub struct OffTime {
 }
 
 impl OffTime {
+    /// A meter that was told nothing yet.
     pub fn new() -> OffTime
         ensures { ⟦<OffTime as Meter>⟧.numbers result ≡ 0 ∷ 0 ∷ [] }
     {
@@ -113,6 +115,7 @@ pub struct Retries {
 }
 
 impl Retries {
+    /// A meter that was told nothing yet.
     pub fn new() -> Retries
         ensures { ⟦<Retries as Meter>⟧.numbers result ≡ 0 ∷ 0 ∷ [] }
     {

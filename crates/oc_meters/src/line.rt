@@ -24,6 +24,7 @@ impl Model for Line {
 }
 
 impl Line {
+    /// A line that isn't begun, with room for `most` bytes, or want of memory.
     pub fn new(alloc: Global, most: usize) -> Result<Line, Memory>
         ensures { IfOk result (λ l. l ≡ record { bytes = []; most = most }) }
     {
@@ -46,6 +47,7 @@ impl Line {
             { bytes = take self.old.most (self.old.bytes ++ byte ∷ []); most = self.old.most } }
     {
         if self.bytes.len() < self.most {
+            // `new` took the room, so this wants no memory
             let _ = self.bytes.push(byte);
         }
     }

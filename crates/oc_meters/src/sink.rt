@@ -14,6 +14,7 @@ pub struct MeterSink<'a, O: Sink, M: Drop> {
 }
 
 impl<'a, O: Sink, M: Meter> MeterSink<'a, O, M> {
+    /// Stands around a sink, and keeps this book until a call of that sink fails.
     pub fn new(inner: &'a mut O, book: &'a mut Book<M>) -> MeterSink<'a, O, M>
         ensures inner { result.inner.now ≡ inner.old }
         ensures same_inner { result.inner.ghost_name ≡ inner.entry.ghost_name }

@@ -1,6 +1,6 @@
 //! The lines of meters.
-ghost use Rattle.std.specs.Prelude.{◌≡◌, ◌≤◌, OnOk, OnErr};
-ghost use Rattle.oc_io.specs.Faults.{Rose, TookPart};
+ghost use Rattle.std.specs.Prelude.{◌≡◌};
+ghost use Rattle.oc_io.specs.Faults.{Puts};
 ghost use Rattle.oc_meters.specs.Lines.{kind_name, meter_line, meter_lines, number_field};
 ghost use Rattle.oc_meters.specs.Tally.{reading, readings, width as width_of};
 
@@ -32,11 +32,7 @@ fn width(kind: u8) -> u8
 
 /// Writes a further number of a line, with the space before it.
 fn put_number<E: Sink>(number: u64, err: &mut E) -> Result<(), SinkFault>
-    ensures ok { OnOk result (E.took err.old (number_field number) err.new) }
-    ensures part { OnErr result (TookPart E.took err.old (number_field number) err.new) }
-    ensures calm { OnOk result (E.faults err.new ≡ E.faults err.old) }
-    ensures cause { OnErr result (Rose (E.faults err.old) (E.faults err.new)) }
-    ensures count { E.faults err.old ≤ E.faults err.new }
+    ensures { Puts E.took E.faults err.old (number_field number) err.new result }
 {
     let mut digits = Buffer::new();
     put_pieces(err, &[b" ", digits.format(number).as_bytes()])
@@ -44,13 +40,8 @@ fn put_number<E: Sink>(number: u64, err: &mut E) -> Result<(), SinkFault>
 
 /// Writes the line of a meter: `meter`, its name and its numbers.
 fn put_meter<M: Meter, E: Sink>(meter: &M, err: &mut E) -> Result<(), SinkFault>
-    ensures ok { OnOk result
-        (E.took err.old (meter_line (reading M.kind_of M.numbers meter.now)) err.new) }
-    ensures part { OnErr result
-        (TookPart E.took err.old (meter_line (reading M.kind_of M.numbers meter.now)) err.new) }
-    ensures calm { OnOk result (E.faults err.new ≡ E.faults err.old) }
-    ensures cause { OnErr result (Rose (E.faults err.old) (E.faults err.new)) }
-    ensures count { E.faults err.old ≤ E.faults err.new }
+    ensures { Puts E.took E.faults err.old
+        (meter_line (reading M.kind_of M.numbers meter.now)) err.new result }
 {
     let kind = meter.kind();
     if let Err(fault) = put_pieces(err, &[b"meter ", name(kind)]) {
@@ -66,13 +57,8 @@ fn put_meter<M: Meter, E: Sink>(meter: &M, err: &mut E) -> Result<(), SinkFault>
 
 /// Writes a line for each meter, in their order. At a fault a part of them was taken.
 pub fn put_meters<M: Meter, E: Sink>(meters: &[M], err: &mut E) -> Result<(), SinkFault>
-    ensures ok { OnOk result
-        (E.took err.old (meter_lines (readings M.kind_of M.numbers meters.now)) err.new) }
-    ensures part { OnErr result
-        (TookPart E.took err.old (meter_lines (readings M.kind_of M.numbers meters.now)) err.new) }
-    ensures calm { OnOk result (E.faults err.new ≡ E.faults err.old) }
-    ensures cause { OnErr result (Rose (E.faults err.old) (E.faults err.new)) }
-    ensures count { E.faults err.old ≤ E.faults err.new }
+    ensures { Puts E.took E.faults err.old
+        (meter_lines (readings M.kind_of M.numbers meters.now)) err.new result }
 {
     for meter in meters {
         if let Err(fault) = put_meter(meter, err) {

@@ -4,6 +4,7 @@ pub mod Rising
 pub mod ListsInOrder
 pub mod SiteLists
 pub mod Rows
+pub mod Stale
 pub mod Tests
 pub mod NeedLevels
 pub mod Apart

@@ -19,11 +19,15 @@ use Rattle.oc_needs.specs.Requirements.{TRequirement, rising, with_inputs, with_
 
 -- what the annotations of the function at the place `f` ask for
 abbrev pub asked_by : ℕ → List TEffect → List Policy
-asked_by f es = flat_map (λ a. option_to_list (option_map (λ note. record { function = f; kind = kind_of_note note }) a.note)) es
+asked_by f es =
+    flat_map (λ a. option_to_list
+    (option_map (λ note. record { function = f; kind = kind_of_note note }) a.note)) es
 
 -- the variables of the annotations of a policy, and what must be held, among the statements of its function
 abbrev pub annotated_by : PolicyKind → List TEffect → List VarId
-annotated_by kind es = flat_map (λ a. option_to_list (option_map note_variable a.note)) (filter (λ a. is_note_of kind a.note) es)
+annotated_by kind es =
+    flat_map (λ a. option_to_list (option_map note_variable a.note))
+    (filter (λ a. is_note_of kind a.note) es)
 
 abbrev pub held_by : PolicyKind → List TEffect → List ℕ
 held_by kind es = map (λ a. a.stmt) (filter (is_held kind) es)
@@ -51,7 +55,8 @@ is_outside_by p f loop (Declared s) = not (asks_at (stands_in loop) p f s)
 is_outside_by p f loop _ = true
 
 abbrev pub lifts_by : TProgram → ℕ → (u x : VarId) → (loop : ℕ) → Bool
-lifts_by p f u x loop = list_any (λ w. carries p f u x w && is_outside_by p f loop w) (variables p f)
+lifts_by p f u x loop =
+    list_any (λ w. carries p f u x w && is_outside_by p f loop w) (variables p f)
 
 -- a statement that brings input into variables, with the loops around it, the outermost first
 pub record TSource : Type 0 where
@@ -60,7 +65,12 @@ pub record TSource : Type 0 where
   pub brought : List VarId
 
 abbrev pub source_of : TProgram → ℕ → TEffect → TSource
-source_of p f a = record { stmt = a.stmt; loops = loops_by p f a.around; brought = filter (brings_at p a.stmt) (variables p f) }
+source_of p f a =
+    record {
+      stmt = a.stmt;
+      loops = loops_by p f a.around;
+      brought = filter (brings_at p a.stmt) (variables p f);
+    }
 
 -- a statement is one only where it brings something
 abbrev pub source_list : TSource → List TSource
@@ -88,7 +98,8 @@ abbrev pub flows_to_some : TProgram → ℕ → List VarId → VarId → Bool
 flows_to_some p f xs u = list_any (flows p f u) xs
 
 abbrev pub sites_outside : TProgram → ℕ → List VarId → TSource → List ℕ
-sites_outside p f xs s = cond (is_empty s.loops) (cond (list_any (flows_to_some p f xs) s.brought) (s.stmt ∷ []) []) []
+sites_outside p f xs s =
+    cond (is_empty s.loops) (cond (list_any (flows_to_some p f xs) s.brought) (s.stmt ∷ []) []) []
 
 abbrev pub sites_inside : TProgram → ℕ → VarId → TSource → List ℕ
 sites_inside p f x s = cond (is_empty s.loops) [] (sites_from p f (x ∷ []) s s.brought)
@@ -105,12 +116,27 @@ looped_at p f = map (looped_sites p f (sources p f (effects_at p f))) (variables
 
 -- ---- what is known of a function for all policies
 
+-- the function that is called, where one is
+abbrev pub callee : Option TCalled → List ℕ
+callee None = []
+callee (Some c) = c.function ∷ []
+
+-- the functions that statements call
+abbrev pub callees : List TEffect → List ℕ
+callees es = flat_map (λ a. callee a.call) es
+
+-- the variables of a function, the statements that bring input, and its callees
 pub record TLocal : Type 0 where
   pub variables : List VarId
   pub sources : List TSource
+  pub callees : List ℕ
 
 abbrev pub local_at : TProgram → ℕ → TLocal
-local_at p f = record { variables = variables p f; sources = sources p f (effects_at p f) }
+local_at p f = record {
+  variables = variables p f;
+  sources = sources p f (effects_at p f);
+  callees = callees (effects_at p f);
+}
 
 abbrev pub all_locals : TProgram → List TLocal
 all_locals p = map (local_at p) (from 0 (length p.functions))
@@ -174,13 +200,15 @@ pub record TLevel : Type 0 where
   pub changed : List Bool
 
 abbrev pub next_row : TProgram → Policy → TLevel → ℕ → List VarId
-next_row p q old g = cond (is_stale q g (effects_at p g) old.changed) (row_by p q old.rows g) (get_or old.rows g [])
+next_row p q old g =
+    cond (is_stale q g (effects_at p g) old.changed) (row_by p q old.rows g) (get_or old.rows g [])
 
 abbrev pub is_changed_row : TProgram → Policy → List (List VarId) → ℕ → Bool
 is_changed_row p q rows g = not (same_row (row_by p q rows g) (get_or rows g []))
 
 abbrev pub is_row_changed : TProgram → Policy → TLevel → ℕ → Bool
-is_row_changed p q old g = cond (is_stale q g (effects_at p g) old.changed) (is_changed_row p q old.rows g) false
+is_row_changed p q old g =
+    cond (is_stale q g (effects_at p g) old.changed) (is_changed_row p q old.rows g) false
 
 abbrev pub no_row : ℕ → List VarId
 no_row f = []
@@ -202,7 +230,8 @@ level_at p q (suc depth) = next_level p q (level_at p q depth)
 
 -- what is required for variables that are needed
 abbrev pub sites_for : TProgram → ℕ → List VarId → List ℕ → List (List ℕ)
-sites_for p g needed others = with_inputs (all_sites_once p g needed (sources p g (effects_at p g))) others
+sites_for p g needed others =
+    with_inputs (all_sites_once p g needed (sources p g (effects_at p g))) others
 
 abbrev pub own_list : TProgram → Policy → ℕ → List (List ℕ)
 own_list p q g = sites_for p g (needed_itself p q g) (held p q)
@@ -228,7 +257,8 @@ requirements_in n g lists = map (λ sites. record { policy = n; function = g; si
 abbrev pub required_here : TProgram → (n : ℕ) → Policy → List (List VarId) → ℕ → List TRequirement
 required_here p n q rows g = requirements_in n g (lists_in p q rows g)
 
-abbrev pub required_rows : TProgram → (n : ℕ) → Policy → List (List VarId) → List ℕ → List TRequirement
+abbrev pub required_rows : TProgram
+    → (n : ℕ) → Policy → List (List VarId) → List ℕ → List TRequirement
 required_rows p n q rows gs = flat_map (required_here p n q rows) gs
 
 abbrev pub required_by : TProgram → (n : ℕ) → Policy → List TRequirement

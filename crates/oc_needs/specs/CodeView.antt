@@ -18,14 +18,20 @@ abbrev pub source_view : Source → TSource
 source_view s = record { stmt = s.stmt; loops = s.loops.items; brought = s.brought.items }
 
 abbrev pub local_view : Local → TLocal
-local_view l = record { variables = l.variables.items; sources = map source_view l.sources.items }
+local_view l = record {
+  variables = l.variables.items;
+  sources = map source_view l.sources.items;
+  callees = l.callees.items;
+}
 
 abbrev pub sites_view : List (Vec ℕ Global) → List (List ℕ)
 sites_view lists = map (λ v. v.items) lists
 
 -- the sites of inputs in loops, as far as they are known, by the places of variables and of functions
 abbrev pub IsLooped : TProgram → ℕ → List (List ℕ) → Type 0
-IsLooped p f rows = (i : ℕ) (x : VarId) → i < length rows → get_or rows i [] ≡ looped_sites p f (sources p f (effects_at p f)) (get_or (variables p f) i x)
+IsLooped p f rows =
+    (i : ℕ) (x : VarId) → i < length rows → get_or rows i []
+    ≡ looped_sites p f (sources p f (effects_at p f)) (get_or (variables p f) i x)
 
 abbrev pub tables_view : List (Vec (Vec ℕ Global) Global) → List (List (List ℕ))
 tables_view tables = map (λ v. sites_view v.items) tables
@@ -33,8 +39,11 @@ tables_view tables = map (λ v. sites_view v.items) tables
 -- the function of a body, and what is known of it
 pub record IsBody (b : Body) : Type 0 where
   pub here : b.function < length b.summaries.now.program.functions
-  pub variables : b.local.now.variables.items ≡ (local_at b.summaries.now.program b.function).variables
-  pub sources : map source_view b.local.now.sources.items ≡ (local_at b.summaries.now.program b.function).sources
+  pub variables : b.local.now.variables.items
+      ≡ (local_at b.summaries.now.program b.function).variables
+  pub sources : map source_view b.local.now.sources.items
+      ≡ (local_at b.summaries.now.program b.function).sources
+  pub callees : b.local.now.callees.items ≡ (local_at b.summaries.now.program b.function).callees
   pub looped : IsLooped b.summaries.now.program b.function (sites_view b.looped.now)
 
 -- a policy with what it speaks of

@@ -10,7 +10,7 @@ use Rattle.oc_effects.specs.Effects.{TEffect, effects_at, is_numbered}
 use Rattle.oc_flow.specs.Variables.{variables}
 use Rattle.oc_flow.specs.Flow.{flows, brings}
 
--- a loop of the function at `f`
+-- the statement `s` of the function at `f` is a loop
 abbrev pub is_loop_at : TProgram → ℕ → ℕ → Bool
 is_loop_at p f s = list_any (λ a. is_numbered s a && a.is_loop) (effects_at p f)
 
@@ -24,14 +24,15 @@ stands_in s a = is_number_of a.around s
 
 -- the variable is declared outside the loop: parameters, nonvolatile variables and the result are outside of all loops
 abbrev pub is_outside : TProgram → ℕ → (loop : ℕ) → VarId → Bool
-is_outside p f loop (Declared s) = not (list_any (λ a. is_numbered s a && stands_in loop a) (effects_at p f))
+is_outside p f loop (Declared s) =
+    not (list_any (λ a. is_numbered s a && stands_in loop a) (effects_at p f))
 is_outside p f loop _ = true
 
 -- `w` carries an input that comes into `u` on to `x`
 abbrev pub carries : TProgram → ℕ → (u x w : VarId) → Bool
 carries p f u x w = flows p f u w && flows p f w x
 
--- a carrier is declared outside the loop
+-- an input that comes into `u` is carried on to `x` by a variable that is declared outside the loop
 abbrev pub lifts : TProgram → ℕ → (u x : VarId) → (loop : ℕ) → Bool
 lifts p f u x loop = list_any (λ w. carries p f u x w && is_outside p f loop w) (variables p f)
 
@@ -47,4 +48,6 @@ is_input p f a u x = brings p a u && flows p f u x
 -- the sites of the local inputs of these variables
 abbrev pub input_sites : TProgram → ℕ → List VarId → List ℕ
 input_sites p f xs =
-    flat_map (λ a. flat_map (λ u. flat_map (λ x. cond (is_input p f a u x) (site p f a u x ∷ []) []) xs) (variables p f)) (effects_at p f)
+    flat_map
+    (λ a. flat_map (λ u. flat_map (λ x. cond (is_input p f a u x) (site p f a u x ∷ []) []) xs)
+    (variables p f)) (effects_at p f)

@@ -5,13 +5,14 @@ ghost use Rattle.oc_tree.specs.declared.tree.VarId.TheVariants.{Nv, Param};
 ghost use Rattle.oc_effects.specs.Effects.{effects_at, params_at};
 ghost use Rattle.oc_effects.specs.View.{effect_view};
 ghost use Rattle.oc_flow.specs.Flow.{brings_at};
-ghost use Rattle.oc_flow.specs.Variables.{from, variables};
-ghost use Rattle.oc_needs.specs.Code.{declared_by, is_loop_by, all_locals, local_at, looped_at, loops_by, source_list, source_of, sources};
+ghost use Rattle.oc_flow.specs.Variables.{from, is_among, variables};
+ghost use Rattle.oc_needs.specs.Code.{callee, callees, declared_by, is_loop_by, all_locals, local_at, looped_at, loops_by, source_list, source_of, sources};
 ghost use Rattle.oc_needs.specs.CodeView.{local_view, sites_view, source_view, tables_view, IsBody};
 
 use crate::place::{function_count, number_of};
 use oc_effects::effect::Effect;
 use oc_effects::effects::Effects;
+use oc_flow::numbering::is_among;
 use oc_flow::summary::Summaries;
 use oc_tree::tree::{StmtId, VarId};
 use std::alloc::{AllocError, Global};
@@ -24,11 +25,13 @@ pub struct Source {
     pub brought: Vec<VarId>,
 }
 
-/// The variables of a function, and the statements that bring input into any of them.
+/// The variables of a function, the statements that bring input into any of them, and the functions
+/// that its statements call.
 #[derive(Drop)]
 pub struct Local {
     pub variables: Vec<VarId>,
     pub sources: Vec<Source>,
+    pub callees: Vec<u32>,
 }
 
 /// A function, by its place, with what is known of it.
@@ -70,6 +73,21 @@ fn loops_of(
         .collect(alloc)
 }
 
+/// Those of the variables that are among others.
+fn keep_among(
+    alloc: Global,
+    others: &[VarId],
+    variables: &[VarId],
+) -> Result<Vec<VarId>, AllocError>
+    ensures { IfOk result (λ v. v.items ≡ filter (λ v. is_among v others.now) variables.now) }
+{
+    variables
+        .iter()
+        .copied()
+        .filter(|v| is_among(*v, others))
+        .collect(alloc)
+}
+
 /// The variables into which a statement brings input.
 fn brought_by(
     alloc: Global,
@@ -80,11 +98,9 @@ fn brought_by(
     ensures { IfOk result
         (λ v. v.items ≡ filter (brings_at summaries.now.program s) variables.now) }
 {
-    variables
-        .iter()
-        .copied()
-        .filter(|v| summaries.brings(s, *v))
-        .collect(alloc)
+    let brought = summaries.brought(alloc, s)?;
+    let kept = keep_among(alloc, brought.as_slice(), variables)?;
+    Ok(kept)
 }
 
 fn nv_count(effects: &Effects) -> usize
@@ -198,13 +214,42 @@ fn sources_of(
     Ok(sources)
 }
 
+fn add_callee(callees: &mut Vec<u32>, effect: &Effect) -> Result<(), AllocError>
+    ensures { OnOk result
+        (callees.new.items ≡ callees.old.items ++ callee (effect_view effect.now).call) }
+{
+    match &effect.call {
+        Some(call) => {
+            callees.push(call.function)?;
+            Ok(())
+        }
+        None => Ok(()),
+    }
+}
+
+/// The functions that statements call.
+fn callees_of(alloc: Global, effects: &[Effect]) -> Result<Vec<u32>, AllocError>
+    ensures { IfOk result (λ r. r.items ≡ callees (map effect_view effects.now)) }
+{
+    let mut callees = Vec::new(alloc);
+    for effect in effects {
+        add_callee(&mut callees, effect)?;
+    }
+    Ok(callees)
+}
+
 fn local_of(alloc: Global, summaries: &Summaries, function: usize) -> Result<Local, AllocError>
     requires { function < length summaries.now.program.functions }
     ensures { IfOk result (λ l. local_view l ≡ local_at summaries.now.program function) }
 {
     let variables = variables_of(alloc, summaries.effects(), function)?;
     let sources = sources_of(alloc, summaries, function, variables.as_slice())?;
-    Ok(Local { variables, sources })
+    let callees = callees_of(alloc, summaries.effects().of_function(function))?;
+    Ok(Local {
+        variables,
+        sources,
+        callees,
+    })
 }
 
 /// What is known of each function.

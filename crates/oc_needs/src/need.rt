@@ -234,34 +234,29 @@ fn row(
         .collect(alloc)
 }
 
-/// Whether a call is of a function whose row may have changed.
-fn is_changed(changed: &[bool], call: &Called) -> bool
-    ensures { result ≡ is_changed changed.now (Some (called_view call.now)) }
+/// Whether the row of a function may have changed.
+fn is_changed(changed: &[bool], function: u32) -> bool
+    ensures { result ≡ get_or changed.now function true }
 {
-    match changed.get(call.function as usize) {
+    match changed.get(function as usize) {
         Some(answer) => *answer,
         None => true,
     }
 }
 
-fn calls_changed(changed: &[bool], effect: &Effect) -> bool
-    ensures { result ≡ is_changed changed.now (effect_view effect.now).call }
+fn any_changed(changed: &[bool], functions: &[u32]) -> bool
+    ensures { result ≡ list_any (λ f. get_or changed.now f true) functions.now }
 {
-    match &effect.call {
-        Some(call) => is_changed(changed, call),
-        None => false,
-    }
+    functions.iter().any(|f| is_changed(changed, *f))
 }
 
-fn any_changed(changed: &[bool], effects: &[Effect]) -> bool
-    ensures { result ≡ list_any (λ a. is_changed changed.now a.call) (map effect_view effects.now) }
+/// Whether the row of some callee may have changed.
+fn callees_changed(body: &Body, changed: &[bool]) -> bool
+    requires { IsBody body.now }
+    ensures { result ≡ list_any (λ a. is_changed changed.now a.call)
+        (effects_at body.now.summaries.now.program body.now.function) }
 {
-    for effect in effects {
-        if calls_changed(changed, effect) {
-            return true;
-        }
-    }
-    false
+    any_changed(changed, body.local.callees.as_slice())
 }
 
 /// Whether the row of a function is to be made anew.
@@ -271,9 +266,7 @@ fn is_stale(body: &Body, policy: Policy, changed: &[bool]) -> bool
         ≡ is_stale policy body.now.function
         (effects_at body.now.summaries.now.program body.now.function) changed.now }
 {
-    let effects = body.summaries.effects();
-    let statements = effects.of_function(body.function as usize);
-    body.function == policy.function || any_changed(changed, statements)
+    body.function == policy.function || callees_changed(body, changed)
 }
 
 /// Whether two rows are the same.

@@ -285,6 +285,7 @@ fn all_required(alloc: Global, summaries: &Summaries) -> Result<Vec<Requirement>
     ensures { IfOk result (λ r. map requirement_view r.items ≡ requirements summaries.now.program) }
 {
     let effects = summaries.effects();
+    // For the proof alone: it tells that the program is checked.
     let _program = effects.checked().program();
     let policies = policies(alloc, effects)?;
     let required = required_by(alloc, policies.as_slice(), summaries)?;
@@ -305,6 +306,7 @@ pub fn requirements(
     ensures need { IfOk result (λ r. (q : Policy) (f : ℕ) (w : VarId)
         → Decides (needs checked.now.program q f w) (Need checked.now.program q f w)) }
 {
+    // For the proof alone: it tells that the program is checked.
     let _program = checked.program();
     match all_required(alloc, summaries) {
         Ok(required) => Ok(required),

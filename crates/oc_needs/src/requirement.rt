@@ -5,7 +5,10 @@ use oc_tree::tree::StmtId;
 /// the place of the function, and the numbers of the statements, which rise.
 #[derive(Drop)]
 pub struct Requirement {
+    /// The number of the policy that asks for it.
     pub policy: u32,
+    /// The place of the function.
     pub function: u32,
+    /// The numbers of the statements, rising.
     pub sites: Vec<StmtId>,
 }

@@ -11,7 +11,7 @@ use Rattle.oc_isa.specs.declared.phase.Phase.{Phase}
 use Rattle.oc_isa.specs.declared.phase.Phase.TheVariants.{Waking, Undoing, Restoring, Running, Entering, Over, Lost}
 use Rattle.oc_isa.specs.Next.{Regs, Enters, Device}
 use Rattle.oc_isa.specs.Run.{core_at}
-use Rattle.oc_isa.specs.Power.{State, Stepped, World, regs_of, words_of, told}
+use Rattle.oc_isa.specs.Power.{State, Stepped, World, regs_of, words_of, with_said}
 use Rattle.oc_items.specs.Erase.{erase, marked, kept_samples}
 use Rattle.oc_outage.specs.Honest.{IsHonest, IsWhole}
 use Rattle.oc_outage.specs.Kept.{Count}
@@ -155,5 +155,5 @@ module _ (d : Device) where
 
   -- what a step has to show, for the state that it leads to and what it says, with the count behind it
   abbrev pub Stays : (ℕ → ℕ → ℤ) → List Told → Count → ℕ → ℕ → Stepped → Type 0
-  Stays h report c made t r = Holds r.state.area r.state.phase r.state.depth r.state (told report t r.said) c (suc made) × AreHonest h (suc made) (told report t r.said) ×
+  Stays h report c made t r = Holds r.state.area r.state.phase r.state.depth r.state (with_said report t r.said) c (suc made) × AreHonest h (suc made) (with_said report t r.said) ×
       (length r.state.words ≡ 3 + d.room)

@@ -11,7 +11,7 @@ use Rattle.oc_ckpt.specs.declared.AreaState.TheVariants.{Fresh, Open, Sealed, Ar
 use Rattle.oc_isa.specs.declared.phase.Phase.{Phase}
 use Rattle.oc_isa.specs.declared.phase.Phase.TheVariants.{Waking, Undoing, Restoring, Running, Entering, Over, Lost}
 use Rattle.oc_isa.specs.Next.{Regs, Next, Goes, Senses, Enters, Commits, Ends, Stuck, Device}
-use Rattle.oc_isa.specs.Power.{State, Stepped, checkpoint, World, told, held, undo_phase, wake, restore, resume, enter, enters, enter_on, commits, goes, to_log, run_next, next_at}
+use Rattle.oc_isa.specs.Power.{State, Stepped, checkpoint, World, with_said, held, undo_phase, wake, restore, resume, enter, enters, enter_on, commits, goes, to_log, run_next, next_at}
 use Rattle.oc_isa.specs.Power.{words_of, ticked, tick_on, ticks_on, power_fails, darkness, one_period, through, first_world, power_run}
 use Rattle.oc_outage.specs.Honest.{IsLeft, is_armed, loses, loses_checkpoint}
 use Rattle.oc_items.specs.Reports.{EndsWith}
@@ -92,13 +92,13 @@ IsClosed p report = Unit {0}
 abbrev HasClosed : World → Type 0
 HasClosed w = IsClosed w.state.phase w.report
 
-closes : (p : Phase) (said : Option Said) (report : List Told) (t : ℕ) → IsTold p said → IsClosed p (told report t said)
+closes : (p : Phase) (said : Option Said) (report : List Told) (t : ℕ) → IsTold p said → IsClosed p (with_said report t said)
 closes Waking said report t q = tt
 closes (Undoing k) said report t q = tt
 closes (Restoring k) said report t q = tt
 closes Running said report t q = tt
 closes (Entering k) said report t q = tt
-closes (Over how) said report t q = (report, t, ap (told report t) q)
+closes (Over how) said report t q = (report, t, ap (with_said report t) q)
 closes Lost said report t q = absurd q
 
 abbrev is_lost : Phase → Bool
@@ -144,7 +144,7 @@ module _ (d : Device) (h : ℕ → ℕ → ℤ) where
       record { closed = λ c. l.closed (k.closed c); lost = l.lost ∙ k.lost }
 
   -- an outage where boot is over
-  awake_closed : (cut : Bool) (a : AreaState) (s : State) (report : List Told) (t off : ℕ) → IsClosed ((checkpoint cut a s).phase) (told report t (Some (Off off)))
+  awake_closed : (cut : Bool) (a : AreaState) (s : State) (report : List Told) (t off : ℕ) → IsClosed ((checkpoint cut a s).phase) (with_said report t (Some (Off off)))
   awake_closed true Fresh s report t off = (off, (report, t, refl))
   awake_closed true Open s report t off = (off, (report, t, refl))
   awake_closed true Sealed s report t off = (off, (report, t, refl))

@@ -21,21 +21,23 @@ use Rattle.oc_outage.specs.Honest.{IsWhole}
 
 -- Counting
 
--- how many instructions are kept, whatever comes, and how many an attempt that is under way took
+-- how many instructions a run took
 pub record Count : Type 0 where
+  -- how many are kept, whatever comes
   pub kept : ℕ
+  -- how many an attempt that is under way took
   pub tried : ℕ
 
--- so many are kept, and none is tried
+-- so many instructions are kept, and no attempt took any
 abbrev pub untried : (kept : ℕ) → Count
 untried kept = record { kept = kept; tried = 0 }
 
--- one instruction more: outside of regions it is kept, in an attempt it is tried
+-- one instruction more at this depth: outside of regions it is kept, in an attempt it is tried
 abbrev pub takes_one : (depth : ℕ) → Count → Count
 takes_one zero c = untried (suc c.kept)
 takes_one (suc k) c = record { kept = c.kept; tried = suc c.tried }
 
--- one instruction more, with which the attempt is kept
+-- one instruction more, with which the attempt that took it is kept
 abbrev pub closes : Count → Count
 closes c = untried (suc (c.kept + c.tried))
 
@@ -118,13 +120,13 @@ goes_on_at d Open s = core_at (regs_of s) 0 s.nv
 goes_on_at d Sealed s = core_at (held_regs s.words) 0 s.nv
 goes_on_at d Armed s = core_at (held_regs s.words) 1 (undo s.log s.nv)
 
--- what is said up to there: of an attempt that was broken off its `enter`
+-- what is said up to where a run goes on: of an attempt that was broken off, its `enter`
 abbrev pub said_up_to : Device → AreaState → State → List Told → List Said
 said_up_to d Armed s report = marked report ++ Entered (d.region (held_regs s.words).pc) ∷ []
 said_up_to d area s report = marked report
 
--- the run without outages over the kept samples has, in just n instructions, said what is kept of
--- the report, and stands where the run goes on. Where a checkpoint is lost the registers are lost
+-- in just n instructions the run without outages over the kept samples has said what is kept of the
+-- report, and stands where the run goes on. Where a checkpoint is lost the registers are lost
 abbrev pub StandsAfter : Device → Phase → (n : ℕ) → State → List Told → Type 0
 StandsAfter d (Over how) n s report = IsWhole d n report s.nv
 StandsAfter d Lost n s report =

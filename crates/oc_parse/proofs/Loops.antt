@@ -1,5 +1,6 @@
 -- The loops of the code, one turn at a time.
-use Rattle.std.proofs.Common.{◌≡◌, ℕ, zero, suc, ◌-◌, ◌<◌, List, [], ◌∷◌, ◌++◌, length, Some, None, Result, Ok, Err, refl, sym, ap, subst, ◌∙◌, arith, append_assoc}
+use Rattle.std.proofs.Common.{◌≡◌, ℕ, zero, suc, ◌+◌, ◌-◌, ◌<◌, ◌≤◌, List, [], ◌∷◌, ◌++◌, length, Option, Some, None, Bool, true, false, Result, Ok, Err, refl, sym, ap, subst, ◌∙◌, arith, append_assoc}
+use Rattle.std.specs.Prelude.{is_some}
 use Rattle.std.proofs.lemmas.List.{append-nil}
 use Rattle.oc_tree.specs.Tree.{TExpr, binary}
 use Rattle.oc_tree.specs.declared.tree.UnaryOp.{UnaryOp}
@@ -15,7 +16,7 @@ use Rattle.oc_grammar.proofs.ExpressionLaws.{arg_shorter, spent}
 use Rattle.oc_grammar.proofs.ExpressionsRead.{chain_turn, chain_stopped, no_front}
 use Rattle.oc_parse.specs.declared.stop.Stop.{Stop}
 use Rattle.oc_parse.specs.declared.stop.Stop.TheVariants as stops
-use Rattle.oc_parse.specs.Steps.{Stopped}
+use Rattle.oc_parse.specs.Steps.{Stopped, infix_front, operations_at}
 
 -- ---- where reading stops
 
@@ -88,6 +89,28 @@ unfolding levels
 level_zero zero room n ts e = unary_is the_depths room n ts
 level_zero (suc level) room n ts e = absurd (omega arith)
 
+level_onward : (level room n : ℕ) (ts : Lexemes) (e : TExpr) (m : ℕ) (us : Lexemes) → level_at the_depths level room n ts ≡ Ok (e, m, us)
+    → level_at the_depths (level + 1) room n ts ≡ operations_at (level + 1) room e m us
+unfolding levels
+level_onward level room n ts e m us h =
+    let s : level + 1 ≡ suc level = omega arith in
+    let p : suc level - 1 ≡ level = omega arith in
+    let same : level_at the_depths (suc level) room n ts ≡ operations_at (suc level) room e m us = rw (p, h) refl in
+    subst (λ (k : ℕ). level_at the_depths k room n ts ≡ operations_at k room e m us) (sym s) same
+
+level_up : (level room n : ℕ) (ts : Lexemes) (s : Stop) → Stopped s (level_at the_depths level room n ts) → Stopped s (level_at the_depths (suc level) room n ts)
+unfolding levels
+level_up level room n ts s h = stopped_bind s (level_at the_depths level room n ts) _ h
+
+pub none_is : {A : Type 0} (o : Option A) → is_some o ≡ false → o ≡ None
+none_is None e = refl
+none_is (Some x) e = absurd cc
+
+none_stands : (level : ℕ) (ts : Lexemes) → infix_front ts ≡ None → operator_front level ts ≡ None
+unfolding infix_front operator_front
+none_stands level [] h = refl
+none_stands level (t ∷ ts) h = rw h refl
+
 chain_here : (level : ℕ) (part : ℕ → Lexemes → ReadExpr) (e : TExpr) (n : ℕ) (ts : Lexemes) (op : BinaryOp) (mid : Lexemes) → operator_front level ts ≡ Some (op, mid)
     → (k : ℕ) × (chain level part (length ts) e n ts ≡ (spend_at n mid >>= λ m. part m mid >>= λ x. chain level part k (binary op e x.0) x.1 x.2))
 unfolding chain
@@ -119,6 +142,45 @@ level_stops level part e n ts op mid m s total o p h so_far =
 
 pub level_ends : (level : ℕ) (part : ℕ → Lexemes → ReadExpr) (e : TExpr) (n : ℕ) (ts : Lexemes) → operator_front level ts ≡ None → chain level part (length ts) e n ts ≡ Ok (e, n, ts)
 level_ends level part e n ts h = chain_stopped level part (length ts) e n ts h
+
+-- what is read of a level is read of the level above, with the operators behind it
+pub level_more : (level room n : ℕ) (ts : Lexemes) (e : TExpr) (m : ℕ) (us : Lexemes) (y : TExpr × ℕ × Lexemes) → level_at the_depths level room n ts ≡ Ok (e, m, us)
+    → operations_at (level + 1) room e m us ≡ Ok y → level_at the_depths (level + 1) room n ts ≡ Ok y
+level_more level room n ts e m us y h g = level_onward level room n ts e m us h ∙ g
+
+-- with no operator in front, a reading of a level is one of each level above
+pub level_alone : (level low room n : ℕ) (ts : Lexemes) (e : TExpr) (m : ℕ) (us : Lexemes) → low ≤ level → infix_front us ≡ None
+    → level_at the_depths low room n ts ≡ Ok (e, m, us) → level_at the_depths level room n ts ≡ Ok (e, m, us)
+level_alone level low room n ts e m us l none h =
+    let s : (level - low) + low ≡ level = omega (arith, l) in
+    subst (λ (k : ℕ). level_at the_depths k room n ts ≡ Ok (e, m, us)) s (by_more (level - low))
+  where
+    by_more : (k : ℕ) → level_at the_depths (k + low) room n ts ≡ Ok (e, m, us)
+    by_more zero = let z : low ≡ 0 + low = omega arith in subst (λ (j : ℕ). level_at the_depths j room n ts ≡ Ok (e, m, us)) z h
+    by_more (suc k) =
+        let s : (k + low) + 1 ≡ suc k + low = omega arith in
+        subst (λ (j : ℕ). level_at the_depths j room n ts ≡ Ok (e, m, us)) s
+        (level_more (k + low) room n ts e m us (e, m, us) (by_more k) (chain_stopped ((k + low) + 1) _ _ e m us (none_stands ((k + low) + 1) us none)))
+
+-- where a unary stops, all levels do
+pub levels_unread : (level room n : ℕ) (ts : Lexemes) (s : Stop) → Stopped s (unary_here the_depths room n ts) → Stopped s (level_at the_depths level room n ts)
+levels_unread zero room n ts s h = stopped_along s _ _ (sym (level_zero 0 room n ts refl)) h
+levels_unread (suc level) room n ts s h = level_up level room n ts s (levels_unread level room n ts s h)
+
+-- where the operators of a level stop, all levels from there on do
+pub levels_stop : (level low room n : ℕ) (ts : Lexemes) (e : TExpr) (m : ℕ) (us : Lexemes) (s : Stop) → low < level → level_at the_depths low room n ts ≡ Ok (e, m, us)
+    → Stopped s (operations_at (low + 1) room e m us) → Stopped s (level_at the_depths level room n ts)
+levels_stop level low room n ts e m us s l h d =
+    let t : (level - (low + 1)) + (low + 1) ≡ level = omega (arith, l) in
+    subst (λ (k : ℕ). Stopped s (level_at the_depths k room n ts)) t (by_more (level - (low + 1)))
+  where
+    by_more : (k : ℕ) → Stopped s (level_at the_depths (k + (low + 1)) room n ts)
+    by_more zero =
+        let z : low + 1 ≡ 0 + (low + 1) = omega arith in
+        subst (λ (j : ℕ). Stopped s (level_at the_depths j room n ts)) z (stopped_along s _ _ (sym (level_onward low room n ts e m us h)) d)
+    by_more (suc k) =
+        let t : suc (k + (low + 1)) ≡ suc k + (low + 1) = omega arith in
+        subst (λ (j : ℕ). Stopped s (level_at the_depths j room n ts)) t (level_up (k + (low + 1)) room n ts s (by_more k))
 
 -- ---- prefix operators
 

@@ -1,18 +1,18 @@
 -- What the code reads, against the reading.
-use Rattle.std.specs.Prelude.{◌≡◌, ℕ, ◌+◌, length, Result, Ok, Err, ◌<◌, ◌^◌}
+use Rattle.std.specs.Prelude.{◌≡◌, ℕ, ◌+◌, ◌-◌, length, Result, Ok, Err, ◌<◌, ◌^◌}
 use Rattle.oc_tree.specs.Tree.{TExpr}
-use Rattle.oc_grammar.specs.Limits.{operators_depth, brackets_depth, blocks_depth}
+use Rattle.oc_grammar.specs.Limits.{operators_depth, brackets_depth, blocks_depth, the_depths}
 use Rattle.oc_grammar.specs.Lexemes.{Lexemes, says, lexemes_in}
 use Rattle.oc_grammar.specs.Reading.{Fault, syntax_fault, depth_fault, Read}
-use Rattle.oc_grammar.specs.ReadingExpressions.{ReadExpr}
+use Rattle.oc_grammar.specs.ReadingExpressions.{ReadExpr, chain, most, level_at}
 use Rattle.std.specs.Prelude.{Bool, false, ◌&&◌}
 use Rattle.oc_lex.specs.declared.token.Kind.{Kind}
 use Rattle.oc_lex.specs.declared.token.Kind.TheVariants as kinds
 use Rattle.oc_lex.specs.declared.token.Mark.{Mark}
-use Rattle.std.specs.Prelude.{Option, None}
+use Rattle.std.specs.Prelude.{Option, None, List, [], ◌∷◌}
 use Rattle.oc_lex.specs.declared.token.Word.{Word}
 use Rattle.oc_tree.specs.declared.tree.BinaryOp.{BinaryOp}
-use Rattle.oc_grammar.specs.Fronts.{mark_operator}
+use Rattle.oc_grammar.specs.Fronts.{infix_of, mark_operator}
 use Rattle.oc_grammar.specs.Reading.{same_mark, same_word, at_level}
 use Rattle.oc_parse.specs.declared.stop.Stop.{Stop}
 use Rattle.oc_parse.specs.declared.stop.Stop.TheVariants as stops
@@ -39,55 +39,78 @@ Stopped (stops.Blocks n) read = read ≡ Err (depth_fault blocks_depth n)
 Stopped (stops.Brackets n) read = read ≡ Err (depth_fault brackets_depth n)
 Stopped (stops.Operators n) read = read ≡ Err (depth_fault operators_depth n)
 
--- the same is read, and the same tokens are left
+-- the code reads what the reading reads, and leaves the same tokens
 abbrev pub Reads : {X Y : Type 0} → (X → Y) → Result X Stop → Lexemes → Read Y → Type 0
 Reads view (Ok x) rest read = read ≡ Ok (view x, rest)
 Reads view (Err e) rest read = Stopped e read
 
+-- the code reads over the same tokens as the reading
 abbrev pub ReadsOver : {X : Type 0} → Result X Stop → Lexemes → Result Lexemes Fault → Type 0
 ReadsOver (Ok x) rest read = read ≡ Ok rest
 ReadsOver (Err e) rest read = Stopped e read
 
+-- the code reads the expression that the reading reads, with as many operators and tokens left
 abbrev pub ReadsExpr : {X : Type 0} → (X → TExpr) → Result X Stop → ℕ → Lexemes → ReadExpr → Type 0
 ReadsExpr view (Ok x) n rest read = read ≡ Ok (view x, n, rest)
 ReadsExpr view (Err e) n rest read = Stopped e read
 
+-- the kind of a token is this mark
 abbrev pub mark_is : Mark → Kind → Bool
 mark_is m (kinds.Mark k) = same_mark k m
 mark_is m _ = false
 
+-- the kind of a token is this word, which the grammar has
 abbrev pub word_is : Bool → Word → Kind → Bool
 word_is atomic w (kinds.Word k) = says atomic k && same_word k w
 word_is atomic w _ = false
 
+-- the binary operator that a token of this kind is, with its level
+abbrev pub kind_infix : Kind → Option (BinaryOp × ℕ)
+kind_infix (kinds.Mark m) = mark_operator m
+kind_infix _ = None
+
+-- the operator of this level that a token of this kind is
 abbrev pub kind_operator : ℕ → Kind → Option BinaryOp
-kind_operator level (kinds.Mark m) = at_level level (mark_operator m)
-kind_operator level _ = None
+kind_operator level kind = at_level level (kind_infix kind)
+
+-- the binary operator in front, with its level
+unfoldable pub infix_front : Lexemes → Option (BinaryOp × ℕ)
+infix_front [] = None
+infix_front (t ∷ ts) = infix_of t
 
 -- a reading, from where the parser is
 abbrev pub from : {A : Type 0} → reading.Reader A → Parser → ReadNumbered A
 from read p = read p.statements p.blocks (left p.reader)
 
--- the same is read, up to where the parser is
+-- the code reads what the reading reads, up to where the parser is
 abbrev pub ReadsTo : {X Y : Type 0} → (X → Y) → Result X Stop → Parser → ReadNumbered Y → Type 0
 ReadsTo view (Ok x) p read = read ≡ Ok (view x, p.statements, p.blocks, left p.reader)
 ReadsTo view (Err e) p read = Stopped e read
 
--- the numbers of what may still come are below 2^32
+-- the numbers of the statements and blocks that may still come are below 2^32
 abbrev pub Fits : Parser → Type 0
-Fits p = (p.statements + length p.reader.rest.now < 2 ^ 32) × (p.blocks + length p.reader.rest.now < 2 ^ 32)
+Fits p =
+    (p.statements + length p.reader.rest.now < 2 ^ 32)
+    × (p.blocks + length p.reader.rest.now < 2 ^ 32)
 
--- the same program is read, or reading stops with the same fault or for want of memory
+-- the code reads the program that the reading reads, or stops with its fault or for want of memory
 abbrev pub Whole : Result Program Stop → Result TProgram Fault → Type 0
 Whole (Ok p) read = read ≡ Ok (program_view p)
 Whole (Err e) read = Stopped e read
 
--- a fault is where the tokens have it
+-- the tokens have this fault, where an error names one: the first one wrong, or the first that
+-- passes a depth
 abbrev pub IsFault : ParseError → Lexemes → Type 0
 IsFault errors.Memory tokens = Unit {0}
 IsFault (errors.Syntax token) tokens = IsSyntax tokens token
 IsFault (errors.Depth token) tokens = IsDepth tokens token
 
+-- where there is an answer no fault is told, and else the tokens have the one that is
 abbrev pub Faults : {X : Type 0} → Result X ParseError → Lexemes → Type 0
 Faults (Ok x) tokens = Unit {0}
 Faults (Err e) tokens = IsFault e tokens
+
+-- the operators of a level behind a tree of the level below
+abbrev pub operations_at : ℕ → ℕ → TExpr → ℕ → Lexemes → ReadExpr
+operations_at level room e n ts =
+    chain level (level_at the_depths (level - 1) room) (most level ts) e n ts

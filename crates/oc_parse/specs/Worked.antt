@@ -7,8 +7,10 @@ use Rattle.oc_grammar.specs.Depths.{IsDepth, IsSyntax}
 
 -- `fn main() { let x = `, and then so many `(`
 abbrev pub open_brackets : ℕ → Lexemes
-open_brackets n = keyword 1 words.Function ∷ named 1 (codes "main") ∷ sign 1 marks.OpenRound ∷ sign 1 marks.CloseRound ∷ sign 1 marks.OpenCurly
-    ∷ keyword 1 words.Let ∷ named 1 (codes "x") ∷ sign 1 marks.Assign ∷ replicate n (sign 1 marks.OpenRound)
+open_brackets n =
+    keyword 1 words.Function ∷ named 1 (codes "main") ∷ sign 1 marks.OpenRound
+    ∷ sign 1 marks.CloseRound ∷ sign 1 marks.OpenCurly ∷ keyword 1 words.Let ∷ named 1 (codes "x")
+    ∷ sign 1 marks.Assign ∷ replicate n (sign 1 marks.OpenRound)
 
 -- 33 brackets may be in one another, and tokens are missing behind them; the 34th passes the depth
 pub record WorkedDepths : Type 0 where

@@ -7,8 +7,8 @@ ghost use Rattle.oc_grammar.specs.Lexemes.{lexemes_in};
 ghost use Rattle.oc_parse.specs.Atomics.{atomics, picked};
 ghost use Rattle.oc_parse.specs.Collected.{own_if, block_ifs_at, else_ifs_at, functions_ifs_at, kind_begins, kind_ifs_at, token_begins};
 
-use oc_desugar::pulls::own_pulls;
 use oc_lex::{Kind, Token, Word};
+use oc_tree::pulls::own_pulls;
 use oc_tree::tree::{Block, Function, Program, StmtId, StmtKind};
 use std::alloc::{AllocError, Global};
 

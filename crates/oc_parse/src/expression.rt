@@ -3,7 +3,7 @@ ghost use Rattle.std.specs.Prelude.{◌<◌, ◌≤◌, length, map, OnOk};
 ghost use Rattle.oc_tree.specs.View.{arg_view, expr_view};
 ghost use Rattle.oc_grammar.specs.Limits.{the_depths};
 ghost use Rattle.oc_grammar.specs.ReadingExpressions.{prefix_by, unary_here, named_at, prefixed_at, inner_at, inner_args_at, inner_sensor_at, sensor_at, args_at, arg_at, part_at, level_at, whole_at};
-ghost use Rattle.oc_parse.specs.Steps.{Reads, ReadsExpr, left};
+ghost use Rattle.oc_parse.specs.Steps.{Reads, ReadsExpr, left, operations_at};
 
 use crate::reader::Reader;
 use crate::stop::Stop;
@@ -16,9 +16,6 @@ pub const BRACKETS: u32 = 33;
 
 /// How many binary operators a whole expression may have.
 const OPERATORS: u32 = 255;
-
-/// The level of unaries.
-const UNARY: u32 = 0;
 
 /// The level of comparisons.
 const COMPARISON: u32 = 3;
@@ -219,48 +216,70 @@ impl Reader<'_> {
     /// Takes an expression of this level: 0 a unary, 1 a product, 2 a sum, 3 a comparison, 4 joined
     /// by `&&`, 5 joined by `||`.
     #[cycle(expression)]
-    #[tactic(auto, unfolding(oc_grammar::specs::ReadingExpressions::levels))]
     fn level(&mut self, room: u32, operators: &mut u32, level: u32) -> Result<Expr, Stop>
         requires { level ≤ ALL }
         ensures exact { ReadsExpr expr_view result operators.new (left self.new)
             (level_at the_depths level room operators.old (left self.old)) }
         ensures shorter { OnOk result (length self.new.rest.now < length self.old.rest.now) }
     {
-        if level == UNARY {
-            return self.unary(room, operators);
+        let mut tree = self.unary(room, operators)?;
+        for below in 0..level {
+            if !self.operator_stands() {
+                return Ok(tree);
+            }
+            tree = self.operations(room, operators, below + 1, tree)?;
         }
+        Ok(tree)
+    }
+
+    /// Takes the operators of a level above 0 that stand behind a tree of the level below, with
+    /// what they stand before.
+    #[cycle(expression)]
+    fn operations(
+        &mut self,
+        room: u32,
+        operators: &mut u32,
+        level: u32,
+        first: Expr,
+    ) -> Result<Expr, Stop>
+        requires above { 0 < level }
+        requires within { level ≤ ALL }
+        ensures exact { ReadsExpr expr_view result operators.new (left self.new)
+            (operations_at level room (expr_view first) operators.old (left self.old)) }
+        ensures shorter { OnOk result (length self.new.rest.now ≤ length self.old.rest.now) }
+    {
         if level == COMPARISON {
-            return self.comparison(room, operators);
+            return self.comparison(room, operators, first);
         }
-        let mut left = self.level(room, operators, level - 1)?;
+        let mut tree = first;
         while let Some(op) = self.operator(level) {
             self.spend(operators)?;
             let right = self.level(room, operators, level - 1)?;
-            left = Expr::Binary {
+            tree = Expr::Binary {
                 op,
-                left: Box::new(self.alloc, left)?,
+                left: Box::new(self.alloc, tree)?,
                 right: Box::new(self.alloc, right)?,
             };
         }
-        Ok(left)
+        Ok(tree)
     }
 
+    /// Takes the comparison that may stand behind a sum, with the other sum.
     #[cycle(expression)]
-    #[tactic(auto, unfolding(oc_grammar::specs::ReadingExpressions::levels, oc_grammar::specs::ReadingExpressions::chain))]
-    fn comparison(&mut self, room: u32, operators: &mut u32) -> Result<Expr, Stop>
+    #[tactic(auto, unfolding(oc_grammar::specs::ReadingExpressions::chain))]
+    fn comparison(&mut self, room: u32, operators: &mut u32, first: Expr) -> Result<Expr, Stop>
         ensures exact { ReadsExpr expr_view result operators.new (left self.new)
-            (level_at the_depths COMPARISON room operators.old (left self.old)) }
-        ensures shorter { OnOk result (length self.new.rest.now < length self.old.rest.now) }
+            (operations_at COMPARISON room (expr_view first) operators.old (left self.old)) }
+        ensures shorter { OnOk result (length self.new.rest.now ≤ length self.old.rest.now) }
     {
-        let left = self.level(room, operators, COMPARISON - 1)?;
         let Some(op) = self.operator(COMPARISON) else {
-            return Ok(left);
+            return Ok(first);
         };
         self.spend(operators)?;
         let right = self.level(room, operators, COMPARISON - 1)?;
         Ok(Expr::Binary {
             op,
-            left: Box::new(self.alloc, left)?,
+            left: Box::new(self.alloc, first)?,
             right: Box::new(self.alloc, right)?,
         })
     }

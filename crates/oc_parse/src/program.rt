@@ -55,9 +55,9 @@ pub fn parse(alloc: Global, source: &[u8], tokens: &[Token]) -> Result<Program, 
     ensures form { IfOk result (λ p. InForm IsName (program_view p)) }
     // Its expressions have no more nodes than there are tokens.
     ensures nodes { IfOk result (λ p. program_nodes (program_view p) ≤ length tokens.now) }
-    // `Syntax` names the first token up to and with which no program begins, or the number of tokens
-    // where they begin one and spell none, with no depth passed before; `Depth` the first token that
-    // passes a depth while a program begins up to and with it.
+    // `Syntax` names the first token up to and with which no program begins, or the number of
+    // tokens where they begin one and spell none, with no depth passed before; `Depth` the first
+    // token that passes a depth while a program begins up to and with it.
     ensures fault { Faults result (lexemes_of source.now tokens.now) }
 {
     parse_program(alloc, source, tokens, false)

@@ -4,7 +4,7 @@ ghost use Rattle.oc_grammar.specs.Reading.{next_at, strip_mark, strip_word, expe
 ghost use Rattle.oc_grammar.specs.ReadingExpressions.{spend_at};
 ghost use Rattle.std.specs.Bool.{OnFalse};
 ghost use Rattle.oc_grammar.specs.Lexemes.{lexeme_of, says};
-ghost use Rattle.oc_parse.specs.Steps.{Reads, ReadsOver, Stopped, left, mark_is, word_is, kind_operator};
+ghost use Rattle.oc_parse.specs.Steps.{Reads, ReadsOver, Stopped, left, mark_is, word_is, kind_infix, kind_operator, infix_front};
 
 use crate::stop::Stop;
 use oc_lex::{Kind, Mark, Token, Word};
@@ -22,26 +22,33 @@ pub struct Reader<'a> {
     pub atomic: bool,
 }
 
+/// The binary operator that a token is, with its level.
+fn infix_in(token: Token) -> Option<(BinaryOp, u32)>
+    ensures { result ≡ kind_infix token.kind }
+{
+    match token.kind {
+        Kind::Mark(Mark::Star) => Some((BinaryOp::Mul, 1)),
+        Kind::Mark(Mark::Slash) => Some((BinaryOp::Div, 1)),
+        Kind::Mark(Mark::Percent) => Some((BinaryOp::Rem, 1)),
+        Kind::Mark(Mark::Plus) => Some((BinaryOp::Add, 2)),
+        Kind::Mark(Mark::Minus) => Some((BinaryOp::Sub, 2)),
+        Kind::Mark(Mark::Equal) => Some((BinaryOp::Eq, 3)),
+        Kind::Mark(Mark::NotEqual) => Some((BinaryOp::Ne, 3)),
+        Kind::Mark(Mark::Less) => Some((BinaryOp::Lt, 3)),
+        Kind::Mark(Mark::LessEqual) => Some((BinaryOp::Le, 3)),
+        Kind::Mark(Mark::Greater) => Some((BinaryOp::Gt, 3)),
+        Kind::Mark(Mark::GreaterEqual) => Some((BinaryOp::Ge, 3)),
+        Kind::Mark(Mark::And) => Some((BinaryOp::And, 4)),
+        Kind::Mark(Mark::Or) => Some((BinaryOp::Or, 5)),
+        _ => None,
+    }
+}
+
 /// The operator that a token is, if it is one of this level.
 fn operator_in(level: u32, token: Token) -> Option<BinaryOp>
     ensures { result ≡ kind_operator level token.kind }
 {
-    let (op, at) = match token.kind {
-        Kind::Mark(Mark::Star) => (BinaryOp::Mul, 1),
-        Kind::Mark(Mark::Slash) => (BinaryOp::Div, 1),
-        Kind::Mark(Mark::Percent) => (BinaryOp::Rem, 1),
-        Kind::Mark(Mark::Plus) => (BinaryOp::Add, 2),
-        Kind::Mark(Mark::Minus) => (BinaryOp::Sub, 2),
-        Kind::Mark(Mark::Equal) => (BinaryOp::Eq, 3),
-        Kind::Mark(Mark::NotEqual) => (BinaryOp::Ne, 3),
-        Kind::Mark(Mark::Less) => (BinaryOp::Lt, 3),
-        Kind::Mark(Mark::LessEqual) => (BinaryOp::Le, 3),
-        Kind::Mark(Mark::Greater) => (BinaryOp::Gt, 3),
-        Kind::Mark(Mark::GreaterEqual) => (BinaryOp::Ge, 3),
-        Kind::Mark(Mark::And) => (BinaryOp::And, 4),
-        Kind::Mark(Mark::Or) => (BinaryOp::Or, 5),
-        _ => return None,
-    };
+    let (op, at) = infix_in(token)?;
     if at == level { Some(op) } else { None }
 }
 
@@ -194,7 +201,7 @@ impl Reader<'_> {
             (λ name. name ≡ slice_range self.now.source.now token.start token.end)
             (λ e. e ≡ Stop.Memory) }
     {
-        let bytes = self.text(token).iter().copied().collect(self.alloc)?;
+        let bytes = Vec::from_slice(self.alloc, self.text(token))?;
         Ok(Name::new(bytes))
     }
 
@@ -230,6 +237,17 @@ impl Reader<'_> {
         let op = operator_in(level, *token)?;
         self.rest = rest;
         Some(op)
+    }
+
+    /// Whether a binary operator is in front.
+    #[tactic(auto, unfolding(crate::specs::Steps::infix_front))]
+    pub fn operator_stands(&self) -> bool
+        ensures { result ≡ is_some (infix_front (left self.now)) }
+    {
+        let [token, ..] = self.rest else {
+            return false;
+        };
+        infix_in(*token).is_some()
     }
 
     /// The fault that no form goes on with the token just taken.

@@ -14,15 +14,18 @@ whole_piece len = record { on = len; off = 0; cut = false }
 -- a row in pieces: whole ones, and a last one with the steps left and the row's outage and mark
 abbrev pub cut_row : ℕ → Period → List Period
 cut_row len row =
-    replicate (whole_pieces len row.on) (whole_piece len) ++ record row { on = row.on - len * whole_pieces len row.on } ∷ []
+    replicate (whole_pieces len row.on) (whole_piece len)
+    ++ record row { on = row.on - len * whole_pieces len row.on } ∷ []
 
+-- rows in pieces of so many steps
 abbrev pub cut_rows : ℕ → List Period → List Period
 cut_rows len rows = flat_map (cut_row len) rows
 
--- the pieces left, where so many steps of the first row were told
+-- the pieces left, where `told` steps of the first row were told
 abbrev pub cut_after : ℕ → ℕ → List Period → List Period
 cut_after len told [] = []
-cut_after len told (row ∷ rest) = cut_row len (record row { on = row.on - told }) ++ cut_rows len rest
+cut_after len told (row ∷ rest) =
+    cut_row len (record row { on = row.on - told }) ++ cut_rows len rest
 
 -- the first row has so many steps
 abbrev pub IsTold : ℕ → List Period → Type 0

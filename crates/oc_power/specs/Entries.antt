@@ -4,6 +4,7 @@ use Rattle.oc_io.specs.declared.period.Period.{Period}
 use Rattle.oc_power.specs.declared.trace.Entry.{Entry}
 use Rattle.oc_power.specs.declared.trace.Entry.TheVariants.{Whole, Cut, Long}
 
+-- a period without steps and without an outage
 abbrev pub no_period : Period
 no_period = record { on = 0; off = 0; cut = false }
 

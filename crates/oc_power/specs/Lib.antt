@@ -3,4 +3,5 @@ pub mod Cutting
 pub mod Entries
 pub mod Looping
 pub mod Power
+pub mod Causes
 pub mod Total

@@ -8,7 +8,7 @@ unfoldable pub times : ℕ → List Period → List Period
 times zero rows = []
 times (suc n) rows = rows ++ times n rows
 
--- the most rounds, up to a number, that keep the sum of all times below 2^63, where a round has this sum
+-- the most rounds, up to a number, that keep the sum of all times below 2^63, by a round's sum
 unfoldable pub whole_rounds : ℕ → ℕ → ℕ
 whole_rounds zero sum = 0
 whole_rounds (suc n) sum = if nat_lt (suc n * sum) (2 ^ 63) then suc n else whole_rounds n sum

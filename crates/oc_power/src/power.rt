@@ -1,6 +1,8 @@
 //! Power files.
-ghost use Rattle.std.specs.Prelude.{◌≡◌, ◌+◌, ◌<◌, ◌^◌, IfOk, IfErr};
-ghost use Rattle.oc_power.specs.Power.{Explains, is_header, period_row, periods, power_file, power_rows};
+ghost use Rattle.std.specs.Prelude.{◌≡◌, ◌+◌, ◌<◌, ◌^◌, Some, None, IfOk, IfErr};
+ghost use Rattle.oc_rows.specs.Rows.{file_rows};
+ghost use Rattle.oc_power.specs.Causes.{ExplainsPower, TellsCause, why_file, why_row, why_rows};
+ghost use Rattle.oc_power.specs.Power.{is_header, period_row, periods, power_file, power_rows};
 ghost use Rattle.oc_power.specs.Total.{total};
 ghost use Rattle.oc_power.specs.declared.power.PowerError.TheVariants as error;
 
@@ -58,7 +60,9 @@ fn has_header(rows: &Rows) -> bool
 /// The period of the row at hand, after periods of this sum.
 fn read_period(rows: &Rows, sum: u64) -> Result<Period, PowerWhat>
     requires { sum < 2 ^ 63 }
-    ensures period { result ≡ period_row sum rows.now.row }
+    ensures period { IfOk result (λ p. period_row sum rows.now.row ≡ Some p) }
+    ensures none { IfErr result (λ what. period_row sum rows.now.row ≡ None) }
+    ensures why { IfErr result (λ what. what ≡ why_row rows.now.row) }
     ensures small { IfOk result (λ p. sum + p.on + p.off < 2 ^ 63) }
 {
     let fields = rows.field_count();
@@ -86,7 +90,8 @@ fn read_periods(alloc: Global, rows: &mut Rows) -> Result<Trace, PowerError>
         (λ trace. power_rows (rows.old.number + 1) 0 rows.old.left ≡ periods trace) }
     ensures sum { IfOk result (λ trace. total trace < 2 ^ 63) }
     ensures row { IfErr result
-        (λ e. Explains (power_rows (rows.old.number + 1) 0 rows.old.left) e) }
+        (λ e. ExplainsPower (power_rows (rows.old.number + 1) 0 rows.old.left) e) }
+    ensures why { IfErr result (λ e. TellsCause (why_rows 0 rows.old.left) e) }
 {
     let mut periods = Trace::new(alloc);
     let mut sum: u64 = 0;
@@ -113,7 +118,8 @@ fn read_periods(alloc: Global, rows: &mut Rows) -> Result<Trace, PowerError>
 pub fn read_trace(alloc: Global, bytes: &[u8]) -> Result<Trace, PowerError>
     ensures ok { IfOk result (λ trace. power_file bytes.now ≡ periods trace) }
     ensures sum { IfOk result (λ trace. total trace < 2 ^ 63) }
-    ensures row { IfErr result (λ e. Explains (power_file bytes.now) e) }
+    ensures row { IfErr result (λ e. ExplainsPower (power_file bytes.now) e) }
+    ensures why { IfErr result (λ e. TellsCause (why_file (file_rows bytes.now)) e) }
 {
     let mut rows = Rows::new(alloc, bytes);
     if !rows.step_on()? || !has_header(&rows) {
@@ -129,7 +135,8 @@ pub fn read_trace(alloc: Global, bytes: &[u8]) -> Result<Trace, PowerError>
 pub fn read_power(alloc: Global, bytes: &[u8]) -> Result<Vec<Period>, PowerError>
     ensures ok { IfOk result (λ v. power_file bytes.now ≡ periods v.items) }
     ensures sum { IfOk result (λ v. total v.items < 2 ^ 63) }
-    ensures row { IfErr result (λ e. Explains (power_file bytes.now) e) }
+    ensures row { IfErr result (λ e. ExplainsPower (power_file bytes.now) e) }
+    ensures why { IfErr result (λ e. TellsCause (why_file (file_rows bytes.now)) e) }
 {
     let trace = read_trace(alloc, bytes)?;
     let periods = trace.to_vec()?;

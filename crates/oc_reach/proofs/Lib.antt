@@ -7,3 +7,6 @@ pub mod Tests
 pub mod PassLaws
 pub mod Walk
 pub mod WriteLaws
+pub mod Members
+pub mod Numbers
+pub mod Decided

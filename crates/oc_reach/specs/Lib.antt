@@ -3,3 +3,4 @@ pub mod Within
 pub mod Entries
 pub mod Views
 pub mod Few
+pub mod Through

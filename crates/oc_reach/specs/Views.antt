@@ -7,11 +7,14 @@ use Rattle.oc_tree.specs.View.{call_view, kind_view}
 use Rattle.oc_tree.specs.declared.tree.Call.{Call}
 use Rattle.oc_tree.specs.declared.tree.StmtKind.{StmtKind}
 
+-- what contracts see of a list of calls
 abbrev pub calls_seen : List (Bor Call) → List TCall
 calls_seen cs = map (λ c. call_view c.now) cs
 
+-- what contracts see of a list of statements
 abbrev pub kinds_seen : List (Bor StmtKind) → List TKind
 kinds_seen ks = map (λ k. kind_view k.now) ks
 
+-- what contracts see of a name that may be missing
 abbrev pub name_seen : Option (Bor Text) → Option Text
 name_seen n = option_map (λ x. x.now) n

@@ -117,6 +117,7 @@ impl<'a> Model for Assigned<'a> {
 }
 
 impl<'a> Assigned<'a> {
+    /// Finds the parameters that these functions assign through. Err is want of memory.
     pub fn new(alloc: Global, functions: &'a [Function]) -> Result<Assigned<'a>, AllocError>
         ensures { IfOk result (λ a. a ≡ functions.now) }
     {
@@ -135,7 +136,6 @@ impl<'a> Assigned<'a> {
     pub fn calls(&self) -> &Calls<'a>
         ensures { result.now ≡ self.now }
     {
-        let _functions = self.functions;
         &self.calls
     }
 
@@ -172,7 +172,6 @@ impl<'a> Assigned<'a> {
     fn call_assigns(&self, name: &Name, call: &Call) -> bool
         ensures { result ≡ call_assigns (map function_view self.now) name.now (call_view call.now) }
     {
-        let _functions = self.functions;
         match self.calls.place(&call.function) {
             Some(callee) => self.args_assign(name, callee, call.args.as_slice()),
             None => false,

@@ -5,7 +5,7 @@ ghost use Rattle.std.proofs.Math.ListN.{get_or};
 ghost use Rattle.oc_tree.specs.declared.tree.Function.{Function};
 ghost use Rattle.oc_tree.specs.View.{function_view};
 ghost use Rattle.oc_tree.specs.declared.tree.Param.{Param};
-ghost use Rattle.oc_tree.specs.Mentions.{own_names};
+ghost use Rattle.oc_tree.specs.Mentions.{is_named};
 ghost use Rattle.oc_tree.specs.Reach.{reaches, reaches_some};
 ghost use Rattle.oc_tree.specs.Calls.{block_kinds, call_links, called_places, function_mentions, function_names, function_place, has_param, links_from, reaches_mention};
 ghost use Rattle.oc_reach.specs.Marked.{is_in};
@@ -69,7 +69,7 @@ pub fn has_param(params: &[Param], name: &Name) -> bool
 }
 
 fn some_names(kinds: &[&StmtKind], name: &Name) -> bool
-    ensures { result ≡ list_any (own_names name.now) (kinds_seen kinds.now) }
+    ensures { result ≡ list_any (is_named name.now) (kinds_seen kinds.now) }
 {
     for kind in kinds {
         if own_names(*kind, name) {
@@ -133,6 +133,7 @@ impl<'a> Model for Calls<'a> {
 }
 
 impl<'a> Calls<'a> {
+    /// Finds which of these functions call which. Err is want of memory.
     pub fn new(alloc: Global, functions: &'a [Function]) -> Result<Calls<'a>, AllocError>
         ensures { IfOk result (λ c. c ≡ functions.now) }
     {
@@ -177,7 +178,6 @@ impl<'a> Calls<'a> {
             ≡ reaches_some (call_links (map function_view self.now)) (length self.now)
             (λ v. get_or tests.now v false) u) }
     {
-        let _functions = self.functions;
         self.reach.back_from(alloc, tests)
     }
 

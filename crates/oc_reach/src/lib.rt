@@ -5,6 +5,7 @@
 
 pub mod assigned;
 pub mod calls;
+pub mod laws;
 pub mod levels;
 pub mod marks;
 pub mod mentions;

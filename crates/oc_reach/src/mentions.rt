@@ -1,7 +1,8 @@
 //! Whether a name stands in a statement.
 ghost use Rattle.std.specs.Prelude.{◌≡◌, ◌≤◌, ◌+◌};
 ghost use Rattle.oc_tree.specs.View.{arg_view, call_view, expr_view, kind_view, right_view};
-ghost use Rattle.oc_tree.specs.Mentions.{annotates, arg_mentions, call_mentions, expr_mentions, once, own_mentions, own_names, right_mentions, targets};
+ghost use Rattle.oc_tree.specs.Mentions.{annotates, call_mentions, is_named, own_mentions, targets};
+ghost use Rattle.oc_tree.specs.Walks.{arg_mentions, expr_mentions, inner_mentions, kind_mentions, once, right_mentions};
 ghost use Rattle.oc_reach.specs.Few.{few};
 
 use oc_tree::name::Name;
@@ -39,7 +40,7 @@ pub fn expr_mentions(expr: &Expr, name: &Name) -> u8
             expr_mentions(left, name),
             expr_mentions(right, name),
         ),
-        Expr::Call { call } => call_mentions(call, name),
+        Expr::Call { call } => inner_mentions(call, name),
     }
 }
 
@@ -54,10 +55,9 @@ fn arg_mentions(arg: &Arg, name: &Name) -> u8
     }
 }
 
-/// How often a name stands in the arguments of a call: not, once, or 2 for more.
 #[cycle(mentions)]
-pub fn call_mentions(call: &Call, name: &Name) -> u8
-    ensures value { result ≡ few (call_mentions name.now (call_view call.now)) }
+fn inner_mentions(call: &Call, name: &Name) -> u8
+    ensures value { result ≡ few (inner_mentions name.now (call_view call.now)) }
     ensures small { result ≤ 2 }
 {
     let mut mentions = 0;
@@ -74,14 +74,12 @@ fn right_mentions(right: &Right, name: &Name) -> u8
     match right {
         Right::Value { value } => expr_mentions(value, name),
         Right::Sense { .. } => 0,
-        Right::Call { call } => call_mentions(call, name),
+        Right::Call { call } => inner_mentions(call, name),
     }
 }
 
-/// How often a name stands in a statement's own expressions and arguments: not, once, or 2 for
-/// more. Its target and its annotation don't count.
-pub fn own_mentions(kind: &StmtKind, name: &Name) -> u8
-    ensures value { result ≡ few (own_mentions name.now (kind_view kind.now)) }
+fn kind_mentions(kind: &StmtKind, name: &Name) -> u8
+    ensures value { result ≡ few (kind_mentions name.now (kind_view kind.now)) }
     ensures small { result ≤ 2 }
 {
     match kind {
@@ -100,9 +98,26 @@ pub fn own_mentions(kind: &StmtKind, name: &Name) -> u8
         StmtKind::If { condition, .. } | StmtKind::While { condition, .. } => expr_mentions(
             condition, name,
         ),
-        StmtKind::CallOnly { call } => call_mentions(call, name),
+        StmtKind::CallOnly { call } => inner_mentions(call, name),
         StmtKind::Emit { value, .. } | StmtKind::Return { value } => expr_mentions(value, name),
     }
+}
+
+/// How often a name stands in the arguments of a call: not, once, or 2 for more.
+pub fn call_mentions(call: &Call, name: &Name) -> u8
+    ensures value { result ≡ few (call_mentions name.now (call_view call.now)) }
+    ensures small { result ≤ 2 }
+{
+    inner_mentions(call, name)
+}
+
+/// How often a name stands in a statement's own expressions and arguments: not, once, or 2 for
+/// more. Its target and its annotation don't count.
+pub fn own_mentions(kind: &StmtKind, name: &Name) -> u8
+    ensures value { result ≡ few (own_mentions name.now (kind_view kind.now)) }
+    ensures small { result ≤ 2 }
+{
+    kind_mentions(kind, name)
 }
 
 fn targets(kind: &StmtKind, name: &Name) -> bool
@@ -129,7 +144,7 @@ fn annotates(kind: &StmtKind, name: &Name) -> bool
 
 /// Whether a name stands anywhere in a statement itself.
 pub fn own_names(kind: &StmtKind, name: &Name) -> bool
-    ensures { result ≡ own_names name.now (kind_view kind.now) }
+    ensures { result ≡ is_named name.now (kind_view kind.now) }
 {
     own_mentions(kind, name) > 0 || targets(kind, name) || annotates(kind, name)
 }

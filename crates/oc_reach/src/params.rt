@@ -92,6 +92,7 @@ impl<'a> Model for Params<'a> {
 }
 
 impl<'a> Params<'a> {
+    /// Numbers the parameters of these functions through. Err is want of memory.
     pub fn new(alloc: Global, functions: &'a [Function]) -> Result<Params<'a>, AllocError>
         ensures { IfOk result (λ p. p ≡ functions.now) }
     {
@@ -108,7 +109,6 @@ impl<'a> Params<'a> {
         ensures count { result ≡ param_count (map function_view self.now) }
         ensures small { result < 2 ^ 63 }
     {
-        let _functions = self.functions;
         self.count
     }
 
@@ -120,7 +120,6 @@ impl<'a> Params<'a> {
             + length (get_or (map (λ f. f.params) (map function_view self.now)) function [])
             < 2 ^ 63 }
     {
-        let _functions = self.functions;
         self.firsts[function]
     }
 

@@ -95,6 +95,7 @@ impl Reach {
         ensures marked { IfOk result
             (λ m. (u : ℕ) → is_in m.0 u ≡ reaches_some self.now.0 self.now.1 (is_in marks.0) u) }
     {
+        // for the proof: all links lead to numbers below the bound
         let _bound = self.bound();
         for i in 0..usize::MAX {
             if i >= marks.len() {
@@ -103,6 +104,7 @@ impl Reach {
             let number = marks.at(i);
             self.mark_leaders(&mut marks, number)?;
         }
+        // for the proof: fewer numbers are marked than the loop has turns
         let _count = marks.len();
         Ok(marks)
     }

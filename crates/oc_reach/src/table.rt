@@ -96,6 +96,8 @@ impl<'a> Model for Table<'a> {
 }
 
 impl<'a> Table<'a> {
+    /// Keeps the place of each name, of several that are the same that of the first. Err is want of
+    /// memory.
     pub fn new(alloc: Global, names: Vec<&'a Name>) -> Result<Table<'a>, AllocError>
         ensures { IfOk result (λ t. t ≡ names_seen names.entry.items) }
     {
@@ -108,7 +110,6 @@ impl<'a> Table<'a> {
         ensures place { result ≡ place self.now name.now }
         ensures below { IfSome result (λ i. i < length self.now) }
     {
-        let _names = &self.names;
         self.numbers.get(name)
     }
 }

@@ -15,13 +15,27 @@ outermost p blocks = filter (λ b. not (is_inside p blocks b)) (rising blocks)
 
 -- a block is the region from its statement to itself
 abbrev pub block_region : TProgram → (id : ℕ) → ℕ → TRegion
-block_region p i b = record { id = i; function = unwrap_or (function_of p b) 0; block = unwrap_or (block_of p b) 0; first = b; last = b; reasons = [] }
+block_region p i b =
+    record {
+      id = i;
+      function = unwrap_or (function_of p b) 0;
+      block = unwrap_or (block_of p b) 0;
+      first = b;
+      last = b;
+      reasons = [];
+    }
 
--- the first of them has the number `i`
+-- blocks as regions, the first of which has the number `i`
 abbrev pub block_regions : TProgram → (i : ℕ) → List ℕ → List TRegion
 block_regions p i [] = []
 block_regions p i (b ∷ bs) = block_region p i b ∷ block_regions p (i + 1) bs
 
 -- a program whose regions are its outermost blocks: an outage outside of them is one outside of every execution of a block
 abbrev pub blocks_marked : TChecked → List ℕ → TMarked
-blocks_marked c blocks = record { program = c.program; groups = c.groups; policies = policies c.program; regions = block_regions c.program 1 (outermost c.program blocks) }
+blocks_marked c blocks =
+    record {
+      program = c.program;
+      groups = c.groups;
+      policies = policies c.program;
+      regions = block_regions c.program 1 (outermost c.program blocks);
+    }

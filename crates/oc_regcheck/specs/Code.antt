@@ -21,7 +21,8 @@ use Rattle.oc_regcheck.specs.Enough.{comes_to}
 -- the last of these that is a block, or `found` where none is
 abbrev pub outermost_from : (ℕ → Bool) → Option ℕ → List ℕ → Option ℕ
 outermost_from is_block found [] = found
-outermost_from is_block found (t ∷ ts) = outermost_from is_block (cond (is_block t) (Some t) found) ts
+outermost_from is_block found (t ∷ ts) =
+    outermost_from is_block (cond (is_block t) (Some t) found) ts
 
 -- the outermost block around a statement
 abbrev pub outer : TProgram → (ℕ → Bool) → ℕ → Option ℕ
@@ -49,17 +50,20 @@ second_by p is_block first sites = find (λ u. not (shares p is_block first u)) 
 
 -- calls in no block
 abbrev pub call_by : TProgram → (ℕ → Bool) → (caller : ℕ) → TEffect → Links
-call_by p is_block f a = cond (is_some (outer p is_block a.stmt)) [] (map (λ c. (c.function, f)) (option_to_list a.call))
+call_by p is_block f a =
+    cond (is_some (outer p is_block a.stmt)) [] (map (λ c. (c.function, f)) (option_to_list a.call))
 
 abbrev pub calls_in : TProgram → (ℕ → Bool) → (caller : ℕ) → List TEffect → Links
 calls_in p is_block f es = flat_map (call_by p is_block f) es
 
 abbrev pub calls_by : TProgram → (ℕ → Bool) → Links
-calls_by p is_block = flat_map (λ f. calls_in p is_block f (effects_at p f)) (from 0 (length p.functions))
+calls_by p is_block =
+    flat_map (λ f. calls_in p is_block f (effects_at p f)) (from 0 (length p.functions))
 
 -- back from a function one comes to `main`
 abbrev pub comes_by : TProgram → (ℕ → Bool) → ℕ → Bool
-comes_by p is_block f = comes_to (calls_by p is_block) (length p.functions) (function_place p.functions main) f
+comes_by p is_block f =
+    comes_to (calls_by p is_block) (length p.functions) (function_place p.functions main) f
 
 abbrev pub meets : TProgram → (ℕ → Bool) → TRequirement → Bool
 meets p is_block r = share_all p is_block r.sites || not (comes_by p is_block r.function)
@@ -71,7 +75,8 @@ abbrev pub requirement_seen : Option (Bor Requirement) → Option TRequirement
 requirement_seen r = option_map (λ x. requirement_view x.now) r
 
 -- the answer, by outermost blocks
-pub record IsOpenBy (p : TProgram) (is_block : ℕ → Bool) (policy function first second : ℕ) : Type 0 where
+pub record IsOpenBy
+    (p : TProgram) (is_block : ℕ → Bool) (policy function first second : ℕ) : Type 0 where
   pub requirement : TRequirement
   pub found : first_by p is_block (requirements p) ≡ Some requirement
   pub policy_is : requirement.policy ≡ policy
@@ -81,4 +86,5 @@ pub record IsOpenBy (p : TProgram) (is_block : ℕ → Bool) (policy function fi
 
 abbrev pub IsVerdictBy : TProgram → (ℕ → Bool) → BlockVerdict → Type 0
 IsVerdictBy p is_block Covered = first_by p is_block (requirements p) ≡ None
-IsVerdictBy p is_block (Open policy function first second) = IsOpenBy p is_block policy function first second
+IsVerdictBy p is_block (Open policy function first second) =
+    IsOpenBy p is_block policy function first second

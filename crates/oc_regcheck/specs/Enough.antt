@@ -26,6 +26,7 @@ AreStatements p blocks = (b : ℕ) → IsOf b blocks → is_some (placed p b) �
 abbrev pub is_inside : TProgram → List ℕ → ℕ → Bool
 is_inside p blocks s = list_any (λ b. encloses p b s) blocks
 
+-- the function of a statement, if there is one, is the one at this place
 abbrev pub is_function : ℕ → Option ℕ → Bool
 is_function f None = false
 is_function f (Some g) = nat_eq g f
@@ -34,6 +35,7 @@ is_function f (Some g) = nat_eq g f
 abbrev pub covers_all : TProgram → TRequirement → ℕ → Bool
 covers_all p r b = is_function r.function (function_of p b) && list_all (encloses p b) r.sites
 
+-- a block of the requirement's function has every site of it inside
 abbrev pub is_covered : TProgram → List ℕ → TRequirement → Bool
 is_covered p blocks r = list_any (covers_all p r) blocks
 
@@ -42,39 +44,50 @@ is_covered p blocks r = list_any (covers_all p r) blocks
 -- A function is guarded where it isn't `main` and each call of it is inside a block or in a guarded function.
 pub data Guarded (p : TProgram) (blocks : List ℕ) : ℕ → Type 0 where
   guarded : {f : ℕ} → (function_place p.functions main ≢ Some f)
-      → ((g : ℕ) (a : TEffect) (c : TCalled) → IsOf a (effects_at p g) → a.call ≡ Some c → c.function ≡ f → is_inside p blocks a.stmt ≡ false → Guarded p blocks g) → Guarded p blocks f
+      → ((g : ℕ) (a : TEffect) (c : TCalled) → IsOf a (effects_at p g) → a.call ≡ Some c
+      → c.function ≡ f → is_inside p blocks a.stmt ≡ false → Guarded p blocks g)
+      → Guarded p blocks f
 
--- the calls that are inside no block, each from the called function back to the caller
+-- the call of a statement that is inside no block, from the called function back to its caller
 abbrev pub open_call : TProgram → List ℕ → (caller : ℕ) → TEffect → Links
-open_call p blocks f a = cond (is_inside p blocks a.stmt) [] (map (λ c. (c.function, f)) (option_to_list a.call))
+open_call p blocks f a =
+    cond (is_inside p blocks a.stmt) [] (map (λ c. (c.function, f)) (option_to_list a.call))
 
+-- all calls that are inside no block, each from the called function back to its caller
 abbrev pub open_calls : TProgram → List ℕ → Links
-open_calls p blocks = flat_map (λ f. flat_map (open_call p blocks f) (effects_at p f)) (from 0 (length p.functions))
+open_calls p blocks =
+    flat_map (λ f. flat_map (open_call p blocks f) (effects_at p f)) (from 0 (length p.functions))
 
+-- back from a function through such calls one comes to another, if there is one
 abbrev pub comes_to : Links → ℕ → Option ℕ → ℕ → Bool
 comes_to links n None f = false
 comes_to links n (Some m) f = reaches links n f m
 
--- the test: back from it through such calls one doesn't come to `main`
+-- the test of guarded functions: back from it through calls outside of blocks one doesn't come to
+-- `main`
 abbrev pub is_guarded : TProgram → List ℕ → ℕ → Bool
-is_guarded p blocks f = not (comes_to (open_calls p blocks) (length p.functions) (function_place p.functions main) f)
+is_guarded p blocks f =
+    not (comes_to (open_calls p blocks) (length p.functions) (function_place p.functions main) f)
 
 -- ---- all requirements
 
 -- each requirement is covered by a block, or its function is guarded
 abbrev pub AreCovered : TProgram → List ℕ → Type 0
-AreCovered p blocks = (r : TRequirement) → IsOf r (requirements p) → (is_covered p blocks r ≡ true) ⊎ Guarded p blocks r.function
+AreCovered p blocks =
+    (r : TRequirement)
+    → IsOf r (requirements p) → (is_covered p blocks r ≡ true) ⊎ Guarded p blocks r.function
 
+-- a requirement is covered by a block, or its function is guarded
 abbrev pub is_met : TProgram → List ℕ → TRequirement → Bool
 is_met p blocks r = is_covered p blocks r || is_guarded p blocks r.function
 
--- the first requirement that isn't
+-- the first requirement that is neither covered by a block nor in a guarded function
 abbrev pub first_open : TProgram → List ℕ → Option TRequirement
 first_open p blocks = find (λ r. not (is_met p blocks r)) (requirements p)
 
 -- ---- the answer
 
--- a block has both inside
+-- a block has both statements inside
 abbrev pub has_both : TProgram → List ℕ → (s u : ℕ) → Bool
 has_both p blocks s u = list_any (λ b. encloses p b s && encloses p b u) blocks
 
@@ -91,10 +104,14 @@ pub record IsOpen (p : TProgram) (blocks : List ℕ) (policy function first seco
   pub first_is : lowest_input p requirement ≡ Some first
   pub second_is : second_of p blocks first requirement.sites ≡ Some second
 
+-- what is answered about blocks: that they suffice, or what the first requirement leaves open that
+-- isn't met
 abbrev pub IsVerdict : TProgram → List ℕ → BlockVerdict → Type 0
 IsVerdict p blocks Covered = first_open p blocks ≡ None
-IsVerdict p blocks (Open policy function first second) = IsOpen p blocks policy function first second
+IsVerdict p blocks (Open policy function first second) =
+    IsOpen p blocks policy function first second
 
+-- the answer is that the blocks suffice
 abbrev pub is_covering : BlockVerdict → Bool
 is_covering Covered = true
 is_covering (Open policy function first second) = false

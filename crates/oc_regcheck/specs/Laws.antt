@@ -9,8 +9,13 @@ use Rattle.oc_regcheck.specs.BlockMarks.{blocks_marked}
 
 -- the test of guarded functions decides the relation
 abbrev pub GuardsDecide : Type 0
-GuardsDecide = (p : TProgram) (groups : List Group) → IsChecked p groups → (blocks : List ℕ) (f : ℕ) → Decides (is_guarded p blocks f) (Guarded p blocks f)
+GuardsDecide =
+    (p : TProgram) (groups : List Group) → IsChecked p groups
+    → (blocks : List ℕ) (f : ℕ) → Decides (is_guarded p blocks f) (Guarded p blocks f)
 
 -- where each requirement is in a block or in a guarded function, each run is timely with outages outside of blocks
 abbrev pub BlocksHold : Type 0
-BlocksHold = (c : TChecked) → IsChecked c.program c.groups → (blocks : List ℕ) → AreStatements c.program blocks → AreCovered c.program blocks → RunsAreTimely (blocks_marked c blocks)
+BlocksHold =
+    (c : TChecked) → IsChecked c.program c.groups
+    → (blocks : List ℕ) → AreStatements c.program blocks
+    → AreCovered c.program blocks → RunsAreTimely (blocks_marked c blocks)

@@ -72,6 +72,7 @@ fn second_site(
     ensures { second_by effects.now.program (is_number_of blocks.now) first
         requirement.now.sites.items ≡ Some result }
 {
+    // For the proof alone: it tells that the program is checked.
     let _program = effects.checked().program();
     match second(effects, blocks, first, requirement.sites.as_slice()) {
         Some(second) => second,
@@ -133,6 +134,7 @@ fn verdict(
     requires { map requirement_view required.now ≡ requirements summaries.now.program }
     ensures { IfOk result (IsVerdict summaries.now.program blocks.now) }
 {
+    // For the proof alone: it tells that the program is checked.
     let _program = summaries.effects().checked().program();
     let sorted = Blocks::new(alloc, blocks)?;
     let verdict = verdict_by(alloc, summaries, required, &sorted)?;
@@ -159,6 +161,7 @@ pub fn check_blocks(
     ensures timely { IfOk result
         (λ v. is_covering v ≡ true → RunsAreTimely (blocks_marked checked.now blocks.now)) }
 {
+    // For the proof alone: it tells that the program is checked.
     let _program = checked.program();
     blocks_hold();
     match verdict(alloc, summaries, required, blocks) {

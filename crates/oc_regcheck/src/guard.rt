@@ -98,6 +98,7 @@ pub fn from_main(alloc: Global, effects: &Effects, blocks: &Blocks) -> Result<Ma
     ensures marked { IfOk result
         (λ m. (f : ℕ) → is_in m.0 f ≡ comes_by effects.now.program (is_number_of blocks.now) f) }
 {
+    // For the proof alone: it tells that the program is checked.
     let _program = effects.checked().program();
     let bound = effects.functions();
     let links = open_calls(alloc, effects, blocks)?;

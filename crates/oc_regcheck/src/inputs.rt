@@ -168,6 +168,7 @@ fn inputs_by(
         ≡ rising (inputs_in summaries.now.program policy requirement.now.function
         requirement.now.sites.items)) }
 {
+    // For the proof alone: it tells that the program is checked.
     let _program = summaries.effects().checked().program();
     let asked = spoken_of(alloc, summaries.effects(), policy)?;
     let locals = locals(alloc, summaries)?;
@@ -192,6 +193,7 @@ fn inputs_of(
         (λ s. rising s.items
         ≡ rising (inputs summaries.now.program (requirement_view requirement.now))) }
 {
+    // For the proof alone: it tells that the program is checked.
     let _program = summaries.effects().checked().program();
     match all.get(requirement.policy as usize) {
         Some(policy) => inputs_by(alloc, summaries, *policy, requirement),

@@ -6,7 +6,6 @@ ghost use Rattle.oc_regcheck.specs.Code.{is_at, outer, same_place, second_by, sh
 
 use crate::blocks::Blocks;
 use oc_effects::effects::Effects;
-use oc_region::statements_around;
 use oc_tree::tree::StmtId;
 
 /// The outermost block around a statement.
@@ -14,7 +13,7 @@ pub fn outer(effects: &Effects, blocks: &Blocks, s: StmtId) -> Option<StmtId>
     ensures { result ≡ outer effects.now.program (is_number_of blocks.now) s }
 {
     let mut found = None;
-    for t in statements_around(effects, s) {
+    for t in effects.around(s) {
         if blocks.has(*t) {
             found = Some(*t);
         }

@@ -5,7 +5,7 @@ use Rattle.std.proofs.lemmas.List.{map-append}
 use Rattle.oc_tree.specs.Tree.{TProgram}
 use Rattle.oc_tree.specs.Checked.{Group}
 use Rattle.oc_tree.specs.Marked.{TRegion, covers}
-use Rattle.oc_meaning.specs.Samples.{with_sample, union}
+use Rattle.oc_tree.specs.Samples.{with_sample, union}
 use Rattle.oc_needs.specs.Requirements.{TRequirement, requirements, rising}
 use Rattle.oc_region.specs.declared.asks.Ask.{Ask}
 use Rattle.oc_region.specs.Smallest.{smallest}

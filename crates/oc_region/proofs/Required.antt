@@ -10,7 +10,7 @@ use Rattle.oc_tree.specs.declared.marked.Policy.{Policy}
 use Rattle.oc_tree.specs.Places.{block_placed, at_start}
 use Rattle.oc_effects.specs.Effects.{TEffect, effect_of, function_effects, effects_at}
 use Rattle.oc_flow.specs.Variables.{from, variables}
-use Rattle.oc_meaning.specs.Samples.{with_sample}
+use Rattle.oc_tree.specs.Samples.{with_sample}
 use Rattle.oc_needs.specs.Policies.{policies, annotated, held, is_held}
 use Rattle.oc_needs.specs.Sites.{is_loop_at, loops_of, lifts, site, is_input, input_sites}
 use Rattle.oc_needs.specs.Need.{is_empty}

@@ -6,7 +6,7 @@ use Rattle.oc_tree.specs.Marked.{TRegion}
 use Rattle.oc_needs.specs.Requirements.{TRequirement}
 use Rattle.oc_region.specs.Smallest.{smallest, IsSmallest}
 
--- the range that is found is the smallest one that holds the sites
+-- the range that is found for a requirement is the smallest one that holds its sites
 pub record HasSmallest (p : TProgram) (groups : List Group) (r : TRequirement) : Type 0 where
   pub range : TRegion
   pub found : smallest p groups r ≡ Some range

@@ -12,7 +12,15 @@ use Rattle.oc_region.specs.Smallest.{in_block, spread_on, spread, smallest}
 
 -- a range as a region without a number
 abbrev pub stretch_view : Stretch → TRegion
-stretch_view s = record { id = 0; function = s.function; block = s.range.block; first = s.range.first; last = s.range.last; reasons = [] }
+stretch_view s =
+    record {
+      id = 0;
+      function = s.function;
+      block = s.range.block;
+      first = s.range.first;
+      last = s.range.last;
+      reasons = [];
+    }
 
 -- before how many ranges one with this first statement stands, among ranges in order
 abbrev pub place_in : ℕ → List TRegion → ℕ
@@ -32,7 +40,9 @@ ask_view a = record { policy = a.policy; range = stretch_view a.range }
 
 -- what a requirement asks for
 abbrev pub asks_of : TProgram → List Group → TRequirement → List TAsk
-asks_of p groups q = map (λ range. record { policy = q.policy; range = range }) (option_to_list (smallest p groups q))
+asks_of p groups q =
+    map (λ range. record { policy = q.policy; range = range })
+    (option_to_list (smallest p groups q))
 
 abbrev pub asks : TProgram → List Group → List TRequirement → List TAsk
 asks p groups qs = flat_map (asks_of p groups) qs

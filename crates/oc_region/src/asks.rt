@@ -7,8 +7,8 @@ use crate::places::covers;
 use crate::range::Stretch;
 use crate::smallest::Grouped;
 use oc_effects::effects::Effects;
-use oc_meaning::numbers::insert_number;
 use oc_needs::requirement::Requirement;
+use oc_tree::numbers::insert_number;
 use std::alloc::{AllocError, Global};
 
 /// A range for which a policy asks, by its number.

@@ -129,6 +129,7 @@ fn parts(
         (λ v. map region_view v.1.items ≡ regions checked.now.program checked.now.groups) }
     ensures checked { IsChecked checked.now.program checked.now.groups }
 {
+    // For the proof alone: it tells that the program is checked.
     let _program = checked.program();
     let effects = Effects::new(alloc, checked)?;
     let policies = policies(alloc, &effects)?;

@@ -11,4 +11,3 @@ mod smallest;
 mod unite;
 
 pub use inference::infer;
-pub use places::statements_around;

@@ -1,8 +1,8 @@
 //! Where statements stand, by their numbers.
 ghost use Rattle.std.specs.Prelude.{◌≡◌, Some};
-ghost use Rattle.oc_tree.specs.Places.{block_of, placed};
+ghost use Rattle.oc_tree.specs.Places.{block_of};
 ghost use Rattle.oc_tree.specs.Checked.{same_block};
-ghost use Rattle.oc_tree.specs.Marked.{around, covers, is_in_region};
+ghost use Rattle.oc_tree.specs.Marked.{covers, is_in_region};
 ghost use Rattle.oc_region.specs.Smallest.{common_block, in_block};
 ghost use Rattle.oc_region.specs.Views.{all_in_block, block_holding, is_within, stretch_view};
 
@@ -20,16 +20,6 @@ pub fn is_in_block(effects: &Effects, s: StmtId, block: BlockId) -> bool
     }
 }
 
-/// The statements around a statement, the innermost first.
-pub fn statements_around<'a>(effects: &'a Effects, s: StmtId) -> &'a [StmtId]
-    ensures { result.now ≡ around (placed effects.now.program s) }
-{
-    match effects.at(s) {
-        Some(effect) => &effect.around,
-        None => &[],
-    }
-}
-
 /// Whether a statement stands directly in a range.
 fn is_in(effects: &Effects, r: Stretch, s: StmtId) -> bool
     ensures { result ≡ is_in_region effects.now.program (stretch_view r) s }
@@ -41,7 +31,7 @@ fn is_in(effects: &Effects, r: Stretch, s: StmtId) -> bool
 pub fn is_within(effects: &Effects, r: Stretch, s: StmtId) -> bool
     ensures { result ≡ is_within effects.now.program (stretch_view r) s }
 {
-    for t in statements_around(effects, s) {
+    for t in effects.around(s) {
         if is_in(effects, r, *t) {
             return true;
         }
@@ -63,7 +53,7 @@ pub fn in_block(effects: &Effects, block: BlockId, s: StmtId) -> Option<StmtId>
     if is_in_block(effects, s, block) {
         return Some(s);
     }
-    for t in statements_around(effects, s) {
+    for t in effects.around(s) {
         if is_in_block(effects, *t, block) {
             return Some(*t);
         }
@@ -103,7 +93,7 @@ pub fn common_block(effects: &Effects, sites: &[StmtId]) -> Option<BlockId>
     if let Some(block) = block_holding(effects, others, *first) {
         return Some(block);
     }
-    for t in statements_around(effects, *first) {
+    for t in effects.around(*first) {
         if let Some(block) = block_holding(effects, others, *t) {
             return Some(block);
         }

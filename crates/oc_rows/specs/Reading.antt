@@ -12,7 +12,8 @@ unread reader = unwrap_or (source_of (λ s. Some s.now) reader) []
 -- the rows left; none once the end was met or a read failed
 abbrev pub rows_left : Bool → Reader (Bor (List ℕ)) → List (List (List ℕ))
 rows_left true reader = []
-rows_left false reader = records_from default_config (length (unread reader) + 1) (reader_state reader) (unread reader)
+rows_left false reader =
+    records_from default_config (length (unread reader) + 1) (reader_state reader) (unread reader)
 
 -- until it has ended, the reader gives each record as it stands, and their numbers stay small
 pub record ReadsPlainly (reader : Reader (Bor (List ℕ))) (number : ℕ) (ended : Bool) : Type 0 where

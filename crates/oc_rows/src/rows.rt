@@ -19,10 +19,10 @@ pub struct Rows<'a> {
 
 impl<'a> Model for Rows<'a> {
     ghost use Rattle.csv.specs.Records.{fields_of};
-    ghost use Rattle.oc_rows.specs.Place.{Place};
+    ghost use Rattle.oc_rows.specs.Place.{Cursor};
     ghost use Rattle.oc_rows.specs.Reading.{rows_left, ReadsPlainly};
 
-    ghost Value = { Place };
+    ghost Value = { Cursor };
 
     ghost view = { λ a. record {
       number = a.number;

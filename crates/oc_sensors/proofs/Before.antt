@@ -5,4 +5,4 @@ use Rattle.oc_sensors.specs.File.{Readings, readings, bad}
 
 abbrev pub all_with : List Row → Readings → Readings
 all_with rows (readings more) = readings (rows ++ more)
-all_with rows (bad number what) = bad number what
+all_with rows (bad number) = bad number

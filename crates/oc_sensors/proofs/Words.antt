@@ -1,5 +1,5 @@
 -- What sensors show are words.
-use Rattle.std.proofs.Common.{ℕ, ℤ, pos, negsuc, zero, suc, ◌+◌, ◌<◌, ◌^◌, ◌≡◌, List, [], ◌∷◌, length, Option, Some, None, Result, Ok, Err, Bool, true, false, arith}
+use Rattle.std.proofs.Common.{ℕ, ℤ, pos, negsuc, zero, suc, ◌+◌, ◌<◌, ◌^◌, ◌≡◌, List, [], ◌∷◌, length, Option, Some, None, Bool, true, false, arith}
 use Rattle.std.proofs.Common.{inl, inr, refl, subst}
 use Rattle.std.specs.Prelude.{nat_lt, nat_le, get_or, ◌==◌, ◌&&◌, ⊤, if◌then◌else◌, option_and_then}
 use Rattle.std.proofs.lemmas.Bool.{cases_Bool}
@@ -7,7 +7,6 @@ use Rattle.std.proofs.lemmas.Bool.Decides.{nat_tests}
 use Rattle.oc_rows.specs.Numbers.{number_of}
 use Rattle.oc_tree.specs.Word.{is_word}
 use Rattle.oc_sensors.specs.declared.sensors.Row.{Row}
-use Rattle.oc_sensors.specs.declared.file.SensorWhat.{SensorWhat}
 use Rattle.oc_sensors.specs.File.{Readings, readings, bad, plain, negative, value_of, row_after, row_of, row_then, sensor_of, sensor_row, sensor_rows, with_row}
 use Rattle.oc_sensors.specs.History.{history, shown_after}
 
@@ -43,13 +42,13 @@ value_word (first ∷ rest) v e = elim (cases_Bool (first == 45)) [
   | inr digit ↦ let f = rw digit at e in and_then_word plain plain_word (number_of (first ∷ rest)) v f
 ]
 
-named_word : (time : ℕ) (sensor : Option ℕ) (value : Option ℤ) → ((v : ℤ) → value ≡ Some v → is_word v ≡ true) → (row : Row) → row_of time sensor value ≡ Ok row → is_word row.value ≡ true
+named_word : (time : ℕ) (sensor : Option ℕ) (value : Option ℤ) → ((v : ℤ) → value ≡ Some v → is_word v ≡ true) → (row : Row) → row_of time sensor value ≡ Some row → is_word row.value ≡ true
 named_word time None value w row e = cc e
 named_word time (Some sensor) None w row e = cc e
 named_word time (Some sensor) (Some value) w row e =
     let same : value ≡ row.value = grind arith in subst (λ z. is_word z ≡ true) same (w value refl)
 
-after_word : (before : ℕ) (time sensor : Option ℕ) (value : Option ℤ) → ((v : ℤ) → value ≡ Some v → is_word v ≡ true) → (row : Row) → row_after before time sensor value ≡ Ok row
+after_word : (before : ℕ) (time sensor : Option ℕ) (value : Option ℤ) → ((v : ℤ) → value ≡ Some v → is_word v ≡ true) → (row : Row) → row_after before time sensor value ≡ Some row
     → is_word row.value ≡ true
 after_word before None sensor value w row e = cc e
 after_word before (Some time) sensor value w row e = elim (cases_Bool (nat_lt time before)) [
@@ -57,7 +56,7 @@ after_word before (Some time) sensor value w row e = elim (cases_Bool (nat_lt ti
   | inr good ↦ let f = rw good at e in named_word time sensor value w row f
 ]
 
-row_word : (names : List (List ℕ)) (before : ℕ) (fields : List (List ℕ)) (row : Row) → sensor_row names before fields ≡ Ok row → is_word row.value ≡ true
+row_word : (names : List (List ℕ)) (before : ℕ) (fields : List (List ℕ)) (row : Row) → sensor_row names before fields ≡ Some row → is_word row.value ≡ true
 row_word names before fields row e = elim (cases_Bool (length fields == 3)) [
   | inl three ↦ let f = rw three at e in after_word before (number_of (get_or fields 0 [])) (sensor_of names (get_or fields 1 [])) (value_of (get_or fields 2 []))
       (value_word (get_or fields 2 [])) row f
@@ -74,12 +73,12 @@ rows_words names number before (fields ∷ rest) rows e = by (sensor_row names b
   where
     first : (row : Row) (more : Readings) → ((rs : List Row) → more ≡ readings rs → AreWords rs) → is_word row.value ≡ true → with_row row more ≡ readings rows → AreWords rows
     first row (readings rs) rest word e = let all : row ∷ rs ≡ rows = cc e in rw (← all) (word, rest rs refl)
-    first row (bad n what) rest word e = cc e
+    first row (bad n) rest word e = cc e
 
-    by : (r : Result Row SensorWhat) → sensor_row names before fields ≡ r → row_then number r (λ row. sensor_rows names (number + 1) row.time rest) ≡ readings rows
+    by : (r : Option Row) → sensor_row names before fields ≡ r → row_then number r (λ row. sensor_rows names (number + 1) row.time rest) ≡ readings rows
         → ((row : Row) (rs : List Row) → sensor_rows names (number + 1) row.time rest ≡ readings rs → AreWords rs) → AreWords rows
-    by (Ok row) is e more = first row (sensor_rows names (number + 1) row.time rest) (more row) (row_word names before fields row is) e
-    by (Err what) is e more = cc e
+    by (Some row) is e more = first row (sensor_rows names (number + 1) row.time rest) (more row) (row_word names before fields row is) e
+    by None is e more = cc e
 
 either_word : (b : Bool) (x y : ℤ) → is_word x ≡ true → is_word y ≡ true → is_word (if b then x else y) ≡ true
 either_word true x y p q = p

@@ -3,13 +3,16 @@ use Rattle.std.specs.Prelude.{ℕ, ℤ, pos, ◌≡◌, ◌==◌, ◌&&◌, true
 use Rattle.oc_tree.specs.Word.{is_word}
 use Rattle.oc_sensors.specs.declared.sensors.Row.{Row}
 
--- the value after these rows, of one that was this before them
+-- the value of a sensor at a tick after these rows, where it was this one before them
 abbrev pub shown_after : ℤ → List Row → ℕ → ℕ → ℤ
 shown_after value [] sensor tick = value
 shown_after value (row ∷ rest) sensor tick =
-    shown_after (if (row.sensor == sensor) && nat_le row.time tick then row.value else value) rest sensor tick
+    shown_after
+    (if (row.sensor == sensor) && nat_le row.time tick then row.value else value)
+    rest sensor tick
 
--- the value of the last row of a sensor, in file order, whose time is at most a tick; 0 where there is none
+-- the value of the last row of a sensor, in file order, whose time is at most a tick; 0 where there
+-- is none
 abbrev pub history : List Row → ℕ → ℕ → ℤ
 history rows sensor tick = shown_after (pos 0) rows sensor tick
 

@@ -1,3 +1,4 @@
 pub mod File
+pub mod Causes
 pub mod History
 pub mod Keeping

@@ -1,7 +1,9 @@
 //! Sensor files.
-ghost use Rattle.std.specs.Prelude.{◌≡◌, ◌+◌, ◌≤◌, ◌^◌, length, IfOk, IfErr};
+ghost use Rattle.std.specs.Prelude.{◌≡◌, ◌+◌, ◌≤◌, ◌^◌, length, Some, None, IfOk, IfErr};
 ghost use Rattle.oc_sensors.specs.History.{ShowsWords};
-ghost use Rattle.oc_sensors.specs.File.{Explains, is_header, readings, sensor_file, sensor_of, sensor_row, sensor_rows, value_of};
+ghost use Rattle.oc_rows.specs.Rows.{file_rows};
+ghost use Rattle.oc_sensors.specs.Causes.{ExplainsSensors, TellsCause, why_file, why_row, why_rows};
+ghost use Rattle.oc_sensors.specs.File.{is_header, readings, sensor_file, sensor_of, sensor_row, sensor_rows, value_of};
 ghost use Rattle.oc_sensors.specs.declared.file.SensorError.TheVariants as error;
 
 use crate::sensors::{Row, Sensors};
@@ -89,7 +91,9 @@ fn has_header(rows: &Rows) -> bool
 /// The row at hand, after a row of this time.
 fn read_row(rows: &Rows, names: &[Name], before: u64) -> Result<Row, SensorWhat>
     requires { length names.now ≤ 2 ^ 32 }
-    ensures { result ≡ sensor_row names.now before rows.now.row }
+    ensures row { IfOk result (λ row. sensor_row names.now before rows.now.row ≡ Some row) }
+    ensures none { IfErr result (λ what. sensor_row names.now before rows.now.row ≡ None) }
+    ensures why { IfErr result (λ what. what ≡ why_row names.now before rows.now.row) }
 {
     if rows.field_count() != 3 {
         return Err(SensorWhat::Fields);
@@ -119,7 +123,8 @@ fn read_rows(alloc: Global, rows: &mut Rows, names: &[Name]) -> Result<Vec<Row>,
     ensures ok { IfOk result
         (λ v. sensor_rows names.now (rows.old.number + 1) 0 rows.old.left ≡ readings v.items) }
     ensures row { IfErr result
-        (λ e. Explains (sensor_rows names.now (rows.old.number + 1) 0 rows.old.left) e) }
+        (λ e. ExplainsSensors (sensor_rows names.now (rows.old.number + 1) 0 rows.old.left) e) }
+    ensures why { IfErr result (λ e. TellsCause (why_rows names.now 0 rows.old.left) e) }
 {
     let mut read: Vec<Row> = Vec::new(alloc);
     let mut before: u64 = 0;
@@ -148,7 +153,8 @@ pub fn read_sensors(alloc: Global, bytes: &[u8], names: &[Name]) -> Result<Senso
     ensures sensors { IfOk result (λ s. s.sensors ≡ length names.now) }
     ensures now { IfOk result (λ s. s.now ≡ 0) }
     ensures words { IfOk result (λ s. ShowsWords s.rows) }
-    ensures bad { IfErr result (λ e. Explains (sensor_file names.now bytes.now) e) }
+    ensures bad { IfErr result (λ e. ExplainsSensors (sensor_file names.now bytes.now) e) }
+    ensures why { IfErr result (λ e. TellsCause (why_file names.now (file_rows bytes.now)) e) }
 {
     let mut rows = Rows::new(alloc, bytes);
     if !rows.step_on()? || !has_header(&rows) {

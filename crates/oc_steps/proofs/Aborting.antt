@@ -17,7 +17,7 @@ use Rattle.oc_tree.specs.Members.{IsOf}
 use Rattle.oc_honest.specs.Timely.{AreTimely, lived_from}
 use Rattle.oc_steps.specs.Fold.{Way, aborted}
 use Rattle.oc_steps.specs.Watching.{samples_in, IsWay, IsSaved, IsAnswer, AllHonest, AbortsRight}
-use Rattle.oc_meaning.specs.Traces.{AreParts, MayBe}
+use Rattle.oc_meaning.specs.Parts.{AreParts, MayBe}
 use Rattle.oc_meaning.proofs.Parts.{says_parts}
 use Rattle.oc_meaning.specs.Store.{Event}
 use Rattle.oc_steps.proofs.Adding.{without_offs-append, last_mark-more, ends_so}

@@ -15,11 +15,12 @@ use Rattle.oc_tree.specs.declared.tree.BinaryOp.TheVariants.{Or, And}
 use Rattle.oc_tree.specs.declared.said.Said.{Said}
 use Rattle.oc_tree.specs.declared.said.Said.TheVariants.{Showed, Entered, Committed}
 use Rattle.oc_tree.specs.declared.said.Shown.TheVariants.{Emitted}
-use Rattle.oc_meaning.specs.Samples.{union}
+use Rattle.oc_tree.specs.Samples.{union}
 use Rattle.oc_meaning.specs.Store.{Value, Held, Place, Local, Global, Turn, Nowhere, Event, Store, Binding, plain, holding, nothing, replaced, value_in, at, put_at, held_at, put}
 use Rattle.oc_meaning.specs.Store.{left_at, noted, place_of}
 use Rattle.oc_meaning.specs.Eval.{Got, Val, Traps, is_zero, element_of, and_got, given, apply, unary_value}
-use Rattle.oc_meaning.specs.Uses.{is_fresh, is_use, begins_use, ends_use, own_names}
+use Rattle.oc_tree.specs.Named.{own_names}
+use Rattle.oc_meaning.specs.Uses.{is_fresh, is_use, begins_use, ends_use}
 use Rattle.oc_meaning.specs.Blocks.{set_home}
 use Rattle.oc_meaning.specs.Exec.{begun_by, ended_by, Outcome, Went, Returned, Stopped, Passed, Copied, Lent, Passing, Passes, Breaks, passed_first, value_first, passed_on}
 use Rattle.oc_meaning.specs.Exec.{number_in, told_if, opened, closed, used, done, in_turn, bound_to, grown, tagged}

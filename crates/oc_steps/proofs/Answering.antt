@@ -18,7 +18,7 @@ use Rattle.oc_tree.specs.declared.said.Shown.{Shown}
 use Rattle.oc_tree.specs.declared.said.Shown.TheVariants.{Emitted, Used, Finished, Tagged}
 use Rattle.oc_tree.specs.declared.said.TrapKind.{TrapKind}
 use Rattle.oc_tree.specs.declared.said.TrapKind.TheVariants.{Zero, Index}
-use Rattle.oc_meaning.specs.Samples.{union}
+use Rattle.oc_tree.specs.Samples.{union}
 use Rattle.oc_meaning.specs.Store.{Held, Event, Store}
 use Rattle.oc_meaning.specs.Cuts.{Begins, events_in}
 use Rattle.oc_meaning.specs.Unmarked.{is_mark, unmarked}
@@ -32,7 +32,7 @@ use Rattle.oc_steps.specs.Steps.{Frame, Over, step, sensed}
 use Rattle.oc_steps.specs.Ages.{join_ages, aged_held, aged_outcome}
 use Rattle.oc_steps.specs.AgesTell.{Agrees, HasAge}
 use Rattle.oc_steps.specs.Follow.{with_more}
-use Rattle.oc_steps.specs.Heard.{Under, cleared, store_in, told}
+use Rattle.oc_steps.specs.Heard.{Under, cleared, store_in, said_so_far}
 use Rattle.oc_honest.specs.Honest.{IsWhole, IsHonestSoFar}
 use Rattle.oc_steps.specs.Erasing.{item, last_mark}
 use Rattle.oc_steps.specs.Freshness.{AreNumbered}
@@ -346,7 +346,7 @@ module _ (p : TProgram) (regions : List TRegion) (nv : Option (List ℤ)) (q : L
         quiet : IsNoInput s
         quiet = subst IsNoInput (sym same) y.no_input
 
-        tells : told past' ≡ without_offs (erase q ++ item t s ∷ [])
+        tells : said_so_far past' ≡ without_offs (erase q ++ item t s ∷ [])
         tells =
             told_last y.event k.now.past ∙ ap (λ m. m ++ y.event.said ∷ []) g.said ∙ ap (λ m. without_offs (erase q) ++ m ∷ []) (sym same) ∙ sym (said_more p regions nv q t s l)
 
@@ -532,7 +532,7 @@ module _ (p : TProgram) (regions : List TRegion) (nv : Option (List ℤ)) (q : L
       short : (s : Said) → IsTelling s → IsNoInput s → IsHonestSoFar p regions nv (with s) → ⊥
       short s l n z =
           let run = (hears.is_short p regions V k.now.past y.fs y.after y.o sensor y.σ y.under y.asks).0 in
-          let all_said : said_in (marked_run p regions V) ≡ without_offs (erase q) = run ∙ ap (λ m. told (m ++ k.now.past)) y.silent ∙ g.said in
+          let all_said : said_in (marked_run p regions V) ≡ without_offs (erase q) = run ∙ ap (λ m. said_so_far (m ++ k.now.past)) y.silent ∙ g.said in
           let none : V ++ samples_in (item t s ∷ []) ≡ V = ap (λ m. V ++ m) (silent_facts t s n).0 ∙ append-nil V in
           too_long (without_offs (erase q)) s
           (subst (λ m. IsPrefixOf (without_offs (erase q) ++ s ∷ []) m) all_said
@@ -587,7 +587,7 @@ module _ (p : TProgram) (regions : List TRegion) (nv : Option (List ℤ)) (q : L
         sensed_right a false f = λ x.
             let mine : IsPrefixOf (without_offs (erase q) ++ Sensed sensor z ∷ []) (said_in (marked_run p regions (V ++ z ∷ []))) =
             subst (λ m. IsPrefixOf m (said_in (marked_run p regions (V ++ z ∷ [])))) (told_last input k.now.past ∙ ap (λ m. m ++ Sensed sensor z ∷ []) g.said)
-            (subst (λ m. IsPrefixOf (told past_in) (said_in (marked_run p regions m))) (append-nil (V ++ z ∷ [])) (hears.begins_it p regions (V ++ z ∷ []) past_in y.after o' under [])) in
+            (subst (λ m. IsPrefixOf (said_so_far past_in) (said_in (marked_run p regions m))) (append-nil (V ++ z ∷ [])) (hears.begins_it p regions (V ++ z ∷ []) past_in y.after o' under [])) in
             let same : Sensed a z ≡ Sensed sensor z =
             hears.says_one (without_offs (erase q)) (said_in (marked_run p regions (V ++ z ∷ []))) (Sensed a z) (Sensed sensor z) (said_back p regions nv q t (Sensed a z) tt x) mine in
             let as' : a ≡ sensor = cc (same) in
@@ -612,7 +612,7 @@ module _ (p : TProgram) (regions : List TRegion) (nv : Option (List ℤ)) (q : L
             ts : offs_before 0 (erase q ++ item t (Sensed a z) ∷ []) ≡ T'
             ts = offs_before-more t (Sensed a z) 0 (erase q)
 
-            tells : told past_in ≡ without_offs (erase q ++ item t (Sensed a z) ∷ [])
+            tells : said_so_far past_in ≡ without_offs (erase q ++ item t (Sensed a z) ∷ [])
             tells =
                 told_last input k.now.past ∙ ap (λ m. m ++ Sensed sensor z ∷ []) g.said ∙ ap (λ n. without_offs (erase q) ++ Sensed n z ∷ []) (sym (eqb-true a sensor f))
                 ∙ sym (said_more p regions nv q t (Sensed a z) tt)
@@ -652,8 +652,8 @@ module _ (p : TProgram) (regions : List TRegion) (nv : Option (List ℤ)) (q : L
       no_more s l r z = too_long (without_offs (erase q)) s (subst (λ m. IsPrefixOf (without_offs (erase q) ++ s ∷ []) m) r (said_back p regions nv q t s l z))
 
       no_stop : (s : Said) → IsTelling s → (st : Stop) (σ : Store) → y.o ≡ Stopped st σ → IsHonestSoFar p regions nv (with s) → ⊥
-      no_stop s l Trap σ e = no_more s l (ap said_in (run_of (Stopped Trap σ) e (samples_in (item t s ∷ []))) ∙ ap (λ m. told (m ++ k.now.past)) (nothing (Stopped Trap σ) e) ∙ g.said)
-      no_stop s l Short σ e = no_more s l (ap said_in (run_of (Stopped Short σ) e (samples_in (item t s ∷ []))) ∙ ap (λ m. told (m ++ k.now.past)) (nothing (Stopped Short σ) e) ∙ g.said)
+      no_stop s l Trap σ e = no_more s l (ap said_in (run_of (Stopped Trap σ) e (samples_in (item t s ∷ []))) ∙ ap (λ m. said_so_far (m ++ k.now.past)) (nothing (Stopped Trap σ) e) ∙ g.said)
+      no_stop s l Short σ e = no_more s l (ap said_in (run_of (Stopped Short σ) e (samples_in (item t s ∷ []))) ∙ ap (λ m. said_so_far (m ++ k.now.past)) (nothing (Stopped Short σ) e) ∙ g.said)
 
       -- where it went through, it says its end
       its_end : (s : Said) → IsTelling s → (σ : Store) → σ.events ≡ [] → ((x : List ℤ) → marked_run p regions (V ++ x) ≡ trace_of (with_more k.now.past x (Went σ)))

@@ -1,8 +1,7 @@
 -- Where statements are numbered, each annotation is of a set of the function in which it stands.
 use Rattle.std.proofs.Common.{◌≡◌, ◌≤◌, ℕ, zero, suc, ℤ, Bool, true, false, List, [], ◌∷◌, ◌++◌, length, Some, None, cond, refl, sym, ap, ◌∙◌, subst, inl, inr, append-nil, arith}
-use Rattle.std.specs.Prelude.{◌==◌, ◌+◌, ◌||◌, find, flat_map, position, slice_get, nat_lt, not, option_map, if◌then◌else◌}
+use Rattle.std.specs.Prelude.{◌==◌, ◌+◌, ◌||◌, find, flat_map, position, slice_get, nat_lt, not, option_map}
 use Rattle.std.specs.List.{list_any, position_or_len}
-use Rattle.std.specs.Str.{bytes_eq}
 use Rattle.std.proofs.lemmas.Bool.{eqb-true, eq-eqb, ne_eqb, false_from_ne_true}
 use Rattle.std.proofs.lemmas.Bool.Decides.{nat_tests}
 use Rattle.std.proofs.lemmas.Option.{none-some, same_Some}
@@ -16,6 +15,7 @@ use Rattle.oc_tree.specs.Tree.{TKind, if_else, for_in, while_do, consistent, TEl
 use Rattle.oc_tree.specs.declared.tree.VarId.TheVariants as variables
 use Rattle.oc_tree.proofs.Grouped.{ids, functions_ids, program_ids}
 use Rattle.oc_meaning.specs.Run.{function_named}
+use Rattle.oc_meaning.proofs.Functions.{place_named}
 use Rattle.oc_honest.specs.Timely.{set_in, set_at, set_of}
 use Rattle.oc_steps.specs.Counting.{home_in, home_of, IsNoted, KindNoted, ElseNoted, BlockNoted, StmtsNoted}
 use Rattle.oc_steps.proofs.Using.{of_left}
@@ -136,15 +136,6 @@ owner (f ∷ fs) d (suc i) g e n o =
     let other : has n f ≡ false = false_from_ne_true (has n f) (λ t. s.1 n (any_of n (block_statements f.body) t) (in_statements fs i g e n o)) in
     position_later (has n) f fs other ∙ ap (option_map suc) (owner fs s.0 i g e n o)
 
--- a function that is called has a place
-named_at : (fs : List TFunction) (x : Text) (g : TFunction) → function_named fs x ≡ Some g → (i : ℕ) × (slice_get fs i ≡ Some g)
-named_at [] x g e = absurd (none-some g e)
-named_at (f ∷ fs) x g e = by (bytes_eq x f.name) e (named_at fs x g)
-  where
-    by : (b : Bool) → (if b then Some f else function_named fs x) ≡ Some g → (function_named fs x ≡ Some g → (i : ℕ) × (slice_get fs i ≡ Some g)) → (i : ℕ) × (slice_get (f ∷ fs) i ≡ Some g)
-    by true e on = (0, e)
-    by false e on = let r = on e in (suc r.0, r.1)
-
 -- ---- annotations
 
 module _ (p : TProgram) (body : TBlock) where
@@ -197,7 +188,7 @@ module _ (p : TProgram) (numbered : Numbered p) where
   body_noted x g e = block_noted p g.body (at_start g) g.body fine
     where
       at : (i : ℕ) × (slice_get p.functions i ≡ Some g)
-      at = named_at p.functions x g e
+      at = let found = place_named 0 p.functions x g e in (found.0, found.2)
 
       fine : (b : Placed) → IsOf b (block_placed (at_start g) g.body) → IsFine p g.body b
       fine b o y k is s set =

@@ -1,7 +1,7 @@
 -- The age of a union.
 use Rattle.std.proofs.Common.{◌≡◌, ℕ, Bool, true, false, List, [], ◌∷◌, refl, sym, ap, ◌∙◌, eq-eqb, eqb-true}
 use Rattle.std.specs.Prelude.{◌==◌, nat_lt, if◌then◌else◌}
-use Rattle.oc_meaning.specs.Samples.{union, with_sample}
+use Rattle.oc_tree.specs.Samples.{union, with_sample}
 use Rattle.oc_steps.specs.Ages.{mixed, join_ages, age_of}
 
 again : (x y : ℕ) (b : Bool) → (x == y) ≡ b → join_ages (x ∷ []) (if b then x ∷ [] else mixed) ≡ (if b then x ∷ [] else mixed)

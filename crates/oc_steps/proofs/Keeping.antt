@@ -8,7 +8,7 @@ use Rattle.oc_tree.specs.Tree.{while_do, call_only, sense_only, emit, fresh, con
 use Rattle.oc_tree.specs.Tree.{TProgram}
 use Rattle.oc_tree.specs.declared.said.Said.TheVariants.{Showed}
 use Rattle.oc_tree.specs.declared.said.Shown.TheVariants.{Emitted}
-use Rattle.oc_meaning.specs.Samples.{union}
+use Rattle.oc_tree.specs.Samples.{union}
 use Rattle.oc_meaning.specs.Store.{Value, Place, Event, Store, Binding, plain, replaced, held_at, put, noted, place_of}
 use Rattle.oc_meaning.specs.Eval.{Got, Val, Traps, is_zero, element_of, value_of}
 use Rattle.oc_meaning.specs.Uses.{is_fresh, is_use, use_samples, begins_use, ends_use}

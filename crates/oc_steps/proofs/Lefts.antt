@@ -7,10 +7,11 @@ use Rattle.oc_tree.specs.Names.{Text}
 use Rattle.oc_tree.specs.Tree.{TExpr, number, truth, variable, index, deref, unary, binary, sensed, called, TArg, value, shared, mutable, TArgs, no_args, more_args, TKind, let_to, let_array, TStmts}
 use Rattle.oc_tree.specs.declared.tree.BinaryOp.{BinaryOp}
 use Rattle.oc_tree.specs.declared.tree.BinaryOp.TheVariants.{Or, And}
-use Rattle.oc_meaning.specs.Samples.{union}
+use Rattle.oc_tree.specs.Samples.{union}
 use Rattle.oc_meaning.specs.Store.{Value, Held, Place, Local, Global, Turn, Nowhere, Event, Store, Binding, value_in, held_at, put, place_of}
 use Rattle.oc_meaning.specs.Eval.{Got, Val, and_got, read_element, element_of, unary_value, combined, value_of}
-use Rattle.oc_meaning.specs.Uses.{is_fresh, own_names, samples_of_fresh, use_samples}
+use Rattle.oc_tree.specs.Named.{own_names}
+use Rattle.oc_meaning.specs.Uses.{is_fresh, samples_of_fresh, use_samples}
 use Rattle.oc_meaning.specs.Exec.{Passing, value_first, passed_on, arg_first, args_of, told_if, opened, closed, used, done, grown, element_written}
 use Rattle.oc_steps.specs.Sets.{combined_by, element_by, value_by, fresh_by, use_by, args_by, arg_by, element_written_by}
 use Rattle.oc_steps.specs.Follow.{with_left, with_more}

@@ -8,7 +8,7 @@ use Rattle.oc_tree.specs.Said.{Told}
 use Rattle.oc_tree.specs.declared.said.Ending.{Ending}
 use Rattle.oc_tree.specs.declared.said.Said.{Said}
 use Rattle.oc_tree.specs.declared.said.Said.TheVariants.{Sensed, Showed, Entered, Committed, Aborted, Off, Dark, Ended}
-use Rattle.oc_meaning.specs.Samples.{union}
+use Rattle.oc_tree.specs.Samples.{union}
 use Rattle.oc_meaning.specs.Store.{Event}
 use Rattle.oc_meaning.specs.Cuts.{Begins}
 use Rattle.oc_meaning.specs.Unmarked.{is_mark, unmarked}
@@ -20,7 +20,7 @@ use Rattle.oc_items.specs.Reports.{IsPrefixOf}
 use Rattle.oc_honest.specs.Timely.{Lived, lived_from, AreTimely}
 use Rattle.oc_steps.specs.Steps.{Frame, Over, step}
 use Rattle.oc_steps.specs.Counting.{AreCounted}
-use Rattle.oc_steps.specs.Heard.{Under, told, store_in}
+use Rattle.oc_steps.specs.Heard.{Under, said_so_far, store_in}
 use Rattle.oc_honest.specs.Honest.{IsWhole, IsHonestSoFar}
 use Rattle.oc_steps.specs.Erasing.{item, IsNoAbort}
 use Rattle.oc_steps.specs.Freshness.{AreNumbered}
@@ -55,7 +55,7 @@ unmarked_said (x ∷ es) = by x.said refl (unmarked_said es)
     by Dark e h = ap (λ l. x.said ∷ l) h ∙ ap (λ s. s ∷ without_marks (map (λ e. e.said) es)) e
     by (Ended a) e h = ap (λ l. x.said ∷ l) h ∙ ap (λ s. s ∷ without_marks (map (λ e. e.said) es)) e
 
-pub told_last : (e : Event) (past : List Event) → told (e ∷ past) ≡ told past ++ e.said ∷ []
+pub told_last : (e : Event) (past : List Event) → said_so_far (e ∷ past) ≡ said_so_far past ++ e.said ∷ []
 told_last e past = map-append (λ x. x.said) (in_order past) (e ∷ [])
 
 -- nothing is longer than itself
@@ -185,7 +185,7 @@ module _ (p : TProgram) (regions : List TRegion) where
         })
 
     -- what it tells is numbered and seen
-    pub going_more : (table' : List ℕ) (past' : List Event) (sets : List Instance) (all : List Lived) → told past' ≡ without_offs (erase q ++ end) → offs_before 0 (erase q ++ end) ≡ table'
+    pub going_more : (table' : List ℕ) (past' : List Event) (sets : List Instance) (all : List Lived) → said_so_far past' ≡ without_offs (erase q ++ end) → offs_before 0 (erase q ++ end) ≡ table'
         → lives_of (erase q ++ end) past' ≡ all → AreNumbered all table' → IsSeen p all table' sets → IsGoing p (erase q ++ end) past' sets
     going_more table' past' sets all tells ts as' n g = record {
       said = tells;

@@ -3,7 +3,7 @@ use Rattle.std.proofs.Common.{◌≡◌, ℕ, suc, List, [], ◌∷◌, length, 
 use Rattle.std.specs.Prelude.{codes}
 use Rattle.oc_tree.specs.Marked.{TRegion}
 use Rattle.oc_tree.specs.Tree.{TFunction, TProgram, TBlock, block}
-use Rattle.oc_meaning.specs.Samples.{union}
+use Rattle.oc_tree.specs.Samples.{union}
 use Rattle.oc_meaning.specs.Store.{Store}
 use Rattle.oc_meaning.specs.Exec.{Passed}
 use Rattle.oc_meaning.specs.Run.{first_store, function_named, with_params, nv_env, main_run}

@@ -4,20 +4,20 @@ use Rattle.std.specs.Prelude.{if◌then◌else◌}
 use Rattle.std.proofs.lemmas.List.{map-append}
 use Rattle.oc_tree.specs.Marked.{TRegion}
 use Rattle.oc_tree.specs.Tree.{TKind, let_to, assign, assign_index, assign_deref, while_do, TProgram}
-use Rattle.oc_meaning.specs.Samples.{union}
+use Rattle.oc_tree.specs.Samples.{union}
 use Rattle.oc_meaning.specs.Store.{Value, Event, Store, Binding, replaced, held_at, place_of}
 use Rattle.oc_meaning.specs.Eval.{is_zero, element_of, value_of}
 use Rattle.oc_meaning.specs.Uses.{is_fresh, is_use, use_samples, begins_use}
 use Rattle.oc_meaning.specs.Blocks.{set_home}
 use Rattle.oc_meaning.specs.Exec.{Trap, Short, Outcome, Went, Returned, Stopped, with_value, then_do, done, closed, element_written, for_turns, while_turns, in_turn, used}
-use Rattle.oc_meaning.specs.Traces.{MayBe}
+use Rattle.oc_meaning.specs.Parts.{MayBe}
 use Rattle.oc_meaning.specs.Run.{in_order, call_to, main_run, marked_run, said_in, trace_of}
 use Rattle.oc_steps.specs.Steps.{Inside, Frame, Rest, Use, Work, Done, Close, Take, Leave, Turns, Loop, Test, Back, Goes, Asks, Over, step, sensed}
 use Rattle.oc_steps.specs.Follow.{with_left, with_more, give, stmts_in, block_in, kind_in, after, resume, Keeps}
 use Rattle.oc_meaning.specs.Cuts.{Begins, events_in}
 use Rattle.oc_meaning.proofs.Beginning.{trace_begins}
 use Rattle.oc_items.specs.Reports.{IsPrefixOf}
-use Rattle.oc_steps.specs.Heard.{cleared, told, Under}
+use Rattle.oc_steps.specs.Heard.{cleared, said_so_far, Under}
 use Rattle.oc_steps.specs.Hearing.{GoesOn, TakesOne, BeginsIt, IsShort, IsOver, SaysOne, Hears}
 use Rattle.oc_steps.proofs.Keeping.{steps_keep}
 use Rattle.oc_meaning.proofs.Growing.{used_keeps, done_keeps, closed_keeps, put_keeps, value_keeps, then_keeps, result_keeps, finished_keeps, leave_keeps, element_keeps, for_keeps}
@@ -89,12 +89,12 @@ in_order-append [] ys = sym (append-nil (in_order ys))
 in_order-append (x ∷ xs) ys = ap (λ l. l ++ x ∷ []) (in_order-append xs ys) ∙ append_assoc (in_order ys) (in_order xs) (x ∷ [])
 
 -- so what they say is said first
-said_first : (past es : List Event) → Behind past es → IsPrefixOf (told past) (told es)
+said_first : (past es : List Event) → Behind past es → IsPrefixOf (said_so_far past) (said_so_far es)
 said_first past es h =
-    (told h.0, sym (map-append (λ e. e.said) (in_order past) (in_order h.0)) ∙ ap (map (λ e. e.said)) (sym (in_order-append h.0 past)) ∙ sym (ap told h.1))
+    (said_so_far h.0, sym (map-append (λ e. e.said) (in_order past) (in_order h.0)) ∙ ap (map (λ e. e.said)) (sym (in_order-append h.0 past)) ∙ sym (ap said_so_far h.1))
 
 -- an outcome's trace has its events, and the end perhaps
-trace_behind : (past : List Event) (o : Outcome) → Behind past (events_in o) → IsPrefixOf (told past) (said_in (trace_of o))
+trace_behind : (past : List Event) (o : Outcome) → Behind past (events_in o) → IsPrefixOf (said_so_far past) (said_in (trace_of o))
 trace_behind past (Went σ) h = said_first past (_ ∷ σ.events) (behind_more past _ σ.events h)
 trace_behind past (Returned v σ) h = said_first past (_ ∷ σ.events) (behind_more past _ σ.events h)
 trace_behind past (Stopped Trap σ) h = said_first past σ.events h
@@ -136,7 +136,7 @@ module _ (p : TProgram) (regions : List TRegion) where
   begins_it v past fs o u =
       λ t.
       let at : Behind past (events_in (with_more past t o)) = ([], more_events past t o ∙ ap (λ es. es ++ past) u.none) in
-      subst (λ q. IsPrefixOf (told past) (said_in (trace_of q))) (sym (u.run t))
+      subst (λ q. IsPrefixOf (said_so_far past) (said_in (trace_of q))) (sym (u.run t))
       (trace_behind past (resume p regions fs (with_more past t o)) (resume_grows (Behind past) (behind_more past) p regions fs (with_more past t o) at))
 
   is_short : IsShort p regions

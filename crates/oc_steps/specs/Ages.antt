@@ -3,7 +3,7 @@
 use Rattle.std.specs.Prelude.{ℕ, suc, ℤ, List, [], ◌∷◌, map, ◌≡◌, ◌==◌, if◌then◌else◌}
 use Rattle.oc_tree.specs.Tree.{TProgram}
 use Rattle.oc_tree.specs.Marked.{TRegion}
-use Rattle.oc_meaning.specs.Samples.{union}
+use Rattle.oc_tree.specs.Samples.{union}
 use Rattle.oc_meaning.specs.Store.{Value, Held, Event, Store}
 use Rattle.oc_meaning.specs.Eval.{Got, Val, Traps}
 use Rattle.oc_meaning.specs.Exec.{Outcome, Went, Returned, Stopped, Passed, Copied, Lent, Passing, Passes, Breaks}
@@ -84,10 +84,15 @@ module _ (before : ℕ → ℕ) where
 
 -- a step over ages is the step over samples
 abbrev pub StepsAge : Type 0
-StepsAge = (p : TProgram) (regions : List TRegion) (before : ℕ → ℕ) (c : ℕ) (fs : List Frame) (o : Outcome)
-    → step p regions join_ages (λ n. n) (map (aged_frame before) fs) (aged_outcome before c o) ≡ aged_step before c (step p regions union suc fs o)
+StepsAge =
+    (p : TProgram) (regions : List TRegion) (before : ℕ → ℕ) (c : ℕ) (fs : List Frame) (o : Outcome)
+    → step p regions join_ages (λ n. n) (map (aged_frame before) fs) (aged_outcome before c o)
+    ≡ aged_step before c (step p regions union suc fs o)
 
 -- and so is taking a sample
 abbrev pub SensesAge : Type 0
-SensesAge = (p : TProgram) (regions : List TRegion) (before : ℕ → ℕ) (c s : ℕ) (z : ℤ) (σ : Store) → before σ.taken ≡ c
-    → sensed p regions join_ages (λ n. n) s z (aged_store before c σ) ≡ aged_outcome before c (sensed p regions union suc s z σ)
+SensesAge =
+    (p : TProgram) (regions : List TRegion) (before : ℕ → ℕ) (c s : ℕ) (z : ℤ) (σ : Store)
+    → before σ.taken ≡ c
+    → sensed p regions join_ages (λ n. n) s z (aged_store before c σ)
+    ≡ aged_outcome before c (sensed p regions union suc s z σ)

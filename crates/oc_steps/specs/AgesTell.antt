@@ -17,9 +17,12 @@ HasAge table s age = (before : ℕ → ℕ) → Agrees table before → age_of b
 
 pub record AgesTell : Type 0 where
   -- one outage: that of each sample
-  pub each : (before : ℕ → ℕ) (s : List ℕ) (x : ℕ) → age_of before s ≡ x ∷ [] → (j : ℕ) → IsOf j s → before j ≡ x
+  pub each : (before : ℕ → ℕ) (s : List ℕ) (x : ℕ)
+      → age_of before s ≡ x ∷ [] → (j : ℕ) → IsOf j s → before j ≡ x
   pub none : (before : ℕ → ℕ) (s : List ℕ) → age_of before s ≡ [] → s ≡ []
   -- mixed: two samples differ
-  pub mixes : (before : ℕ → ℕ) (s : List ℕ) (x y : ℕ) (w : List ℕ) → age_of before s ≡ x ∷ y ∷ w → Differ before s
+  pub mixes : (before : ℕ → ℕ) (s : List ℕ) (x y : ℕ) (w : List ℕ)
+      → age_of before s ≡ x ∷ y ∷ w → Differ before s
   -- a set of one age whatever comes later has no sample that is to come
-  pub within : (table s : List ℕ) (x : ℕ) → HasAge table s (x ∷ []) → (j : ℕ) → IsOf j s → j < length table
+  pub within : (table s : List ℕ) (x : ℕ)
+      → HasAge table s (x ∷ []) → (j : ℕ) → IsOf j s → j < length table

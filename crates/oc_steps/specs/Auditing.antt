@@ -16,13 +16,17 @@ module _ (p : TProgram) (regions : List TRegion) (nv : Option (List ℤ)) where
   IsHeard w (Off ticks) a = a ≡ off p nv w
   IsHeard w Dark a = a ≡ Some w
   IsHeard w (Aborted r) a = a ≡ aborted p nv r w.saved
-  IsHeard w s a = (n : ℕ) × IsMade (steps_on p regions n w.now) × (a ≡ on_next p nv regions w s (steps_on p regions n w.now))
+  IsHeard w s a =
+      (n : ℕ) × IsMade (steps_on p regions n w.now)
+      × (a ≡ on_next p nv regions w s (steps_on p regions n w.now))
 
   -- it finds this in the items from here on, of which the first is item n: all is honest, or one breaks
   pub data Finds : Watch → List Told → ℕ → Option ℕ → Type 0 where
     all : {w : Watch} {n : ℕ} → Finds w [] n None
-    breaks : {w : Watch} {i : Told} {is : List Told} {n : ℕ} → IsHeard w i.said None → Finds w (i ∷ is) n (Some n)
-    goes : {w now : Watch} {i : Told} {is : List Told} {n : ℕ} {v : Option ℕ} → IsHeard w i.said (Some now) → Finds now is (suc n) v → Finds w (i ∷ is) n v
+    breaks : {w : Watch} {i : Told} {is : List Told} {n : ℕ}
+        → IsHeard w i.said None → Finds w (i ∷ is) n (Some n)
+    goes : {w now : Watch} {i : Told} {is : List Told} {n : ℕ} {v : Option ℕ}
+        → IsHeard w i.said (Some now) → Finds now is (suc n) v → Finds w (i ∷ is) n v
 
 -- before the first item
 abbrev pub first_watch : TProgram → List TRegion → Watch
@@ -35,9 +39,14 @@ Judges p regions r (Some n) = BreaksAt p regions r n
 
 -- one item more: where all prefixes so far are honest, the answer is that of the definition
 abbrev pub HearsRight : Type 0
-HearsRight = (p : TProgram) (regions : List TRegion) (nv : Option (List ℤ)) (q : List Told) (i : Told) (w : Watch) (a : Option Watch) → Numbered p
-    → AllHonest p regions nv q → IsWatch p regions q w → IsHeard p regions nv w i.said a → IsAnswer p regions nv (q ++ i ∷ []) a
+HearsRight =
+    (p : TProgram) (regions : List TRegion)
+    (nv : Option (List ℤ)) (q : List Told) (i : Told) (w : Watch) (a : Option Watch) → Numbered p
+    → AllHonest p regions nv q → IsWatch p regions q w
+    → IsHeard p regions nv w i.said a → IsAnswer p regions nv (q ++ i ∷ []) a
 
 -- what the audit finds is so
 abbrev pub FindsRight : Type 0
-FindsRight = (p : TProgram) (regions : List TRegion) (r : TReport) (v : Option ℕ) → Numbered p → Finds p regions r.nv (first_watch p regions) r.items 1 v → Judges p regions r v
+FindsRight =
+    (p : TProgram) (regions : List TRegion) (r : TReport) (v : Option ℕ)
+    → Numbered p → Finds p regions r.nv (first_watch p regions) r.items 1 v → Judges p regions r v

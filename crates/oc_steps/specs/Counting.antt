@@ -61,6 +61,8 @@ FramesNoted p [] = Unit {0}
 FramesNoted p (f ∷ fs) = FrameNoted p f × FramesNoted p fs
 
 -- a run that is to do this, after these blocks: the last instance of each set is at most that which a tag would have now
-pub record AreCounted (p : TProgram) (sets : List Instance) (fs : List Frame) (blocks : List ℕ) : Type 0 where
+pub record AreCounted
+    (p : TProgram) (sets : List Instance) (fs : List Frame) (blocks : List ℕ) : Type 0 where
   pub noted : FramesNoted p fs
-  pub last : (s : ℕ × ℤ) (i : Instance) → find (is_set s) sets ≡ Some i → i.number ≤ times p s blocks
+  pub last : (s : ℕ × ℤ) (i : Instance)
+      → find (is_set s) sets ≡ Some i → i.number ≤ times p s blocks

@@ -32,11 +32,15 @@ AreUnmarked (i ∷ is) = IsUnmarked i.said × AreUnmarked is
 
 -- an `abort` that ends no attempt stays
 abbrev pub LeftOver : Type 0
-LeftOver = (q : List Told) (t r : ℕ) → last_mark None q ≢ Some (Entered r) → erase (q ++ item t (Aborted r) ∷ []) ≡ erase q ++ item t (Aborted r) ∷ []
+LeftOver =
+    (q : List Told) (t r : ℕ) → last_mark None q ≢ Some (Entered r)
+    → erase (q ++ item t (Aborted r) ∷ []) ≡ erase q ++ item t (Aborted r) ∷ []
 
 -- an attempt that was aborted leaves nothing, whatever it says besides marks
 abbrev pub LeavesNothing : Type 0
-LeavesNothing = (q body : List Told) (u t r : ℕ) → AreUnmarked body → erase (q ++ item u (Entered r) ∷ (body ++ item t (Aborted r) ∷ [])) ≡ erase q
+LeavesNothing =
+    (q body : List Told) (u t r : ℕ) → AreUnmarked body
+    → erase (q ++ item u (Entered r) ∷ (body ++ item t (Aborted r) ∷ [])) ≡ erase q
 
 abbrev pub IsNoAbort : Said → Type 0
 IsNoAbort (Aborted r) = ⊥
@@ -44,7 +48,9 @@ IsNoAbort s = Unit {0}
 
 -- anything else is added
 abbrev pub IsAdded : Type 0
-IsAdded = (q : List Told) (t : ℕ) (s : Said) → IsNoAbort s → erase (q ++ item t s ∷ []) ≡ erase q ++ item t s ∷ []
+IsAdded =
+    (q : List Told) (t : ℕ) (s : Said)
+    → IsNoAbort s → erase (q ++ item t s ∷ []) ≡ erase q ++ item t s ∷ []
 
 pub record Erases : Type 0 where
   pub left_over : LeftOver

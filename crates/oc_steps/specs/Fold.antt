@@ -69,12 +69,22 @@ module _ (p : TProgram) (regions : List TRegion) where
   steps_on (suc n) w = then_next (steps_on n w)
 
   abbrev pub start : List ℤ → Step → Way
-  start samples (Goes fs o) = record { frames = fs; out = o; sets = []; inside = false; over = false }
-  start samples s = record { frames = []; out = Went (first_store p samples); sets = []; inside = false; over = false }
+  start samples (Goes fs o) =
+      record { frames = fs; out = o; sets = []; inside = false; over = false }
+  start samples s =
+      record {
+        frames = [];
+        out = Went (first_store p samples);
+        sets = [];
+        inside = false;
+        over = false;
+      }
 
   -- before the first item
   abbrev pub at_first : Way
-  at_first = start [] (step_passed p regions join_ages (λ n. n) (suc (length p.functions)) (codes "main") [] [] (first_store p []))
+  at_first =
+      start [] (step_passed p
+      regions join_ages (λ n. n) (suc (length p.functions)) (codes "main") [] [] (first_store p []))
 
 -- ---- what may be said
 
@@ -128,7 +138,8 @@ put_instance k new (i ∷ is) = if is_set k i then new ∷ is else i ∷ put_ins
 
 abbrev pub with_tag : Option (ℕ × ℤ) → Event → List Instance → List Instance
 with_tag None e sets = sets
-with_tag (Some k) e sets = put_instance k (record { set = k; number = e.instance; age = tag_age k e sets }) sets
+with_tag (Some k) e sets =
+    put_instance k (record { set = k; number = e.instance; age = tag_age k e sets }) sets
 
 abbrev pub may_tag : Option (ℕ × ℤ) → Event → List Instance → Bool
 may_tag None e sets = true
@@ -198,21 +209,38 @@ module _ (p : TProgram) (nv : Option (List ℤ)) where
 
   -- something was said next
   abbrev pub on_event : Watch → Said → Event → Way → Option Watch
-  on_event w (Entered r) e now = if_so (is_said e.said (Entered r)) (record { now = record now { inside = true }; saved = Some (r, w.now) })
-  on_event w (Committed r) e now = if_so (is_said e.said (Committed r)) (record { now = record now { inside = false }; saved = None })
-  on_event w (Showed a) e now = if_so (is_said e.said (Showed a) && may_show now a e) (record w { now = with_shown now a e })
-  on_event w (Ended how) e now = if_so (is_said e.said (Ended how) && has_words nv (words now.out)) (record w { now = record now { over = true } })
+  on_event w (Entered r) e now =
+      if_so (is_said e.said (Entered r))
+      (record { now = record now { inside = true }; saved = Some (r, w.now) })
+  on_event w (Committed r) e now =
+      if_so (is_said e.said (Committed r))
+      (record { now = record now { inside = false }; saved = None })
+  on_event w (Showed a) e now =
+      if_so (is_said e.said (Showed a) && may_show now a e) (record w { now = with_shown now a e })
+  on_event w (Ended how) e now =
+      if_so (is_said e.said (Ended how) && has_words nv (words now.out))
+      (record w { now = record now { over = true } })
   on_event w s e now = None
 
   -- a sample is wanted
   abbrev pub on_want : List TRegion → Watch → Said → ℕ → List Frame → Store → Option Watch
-  on_want rs w (Sensed s z) sensor fs σ = if_so (s == sensor) (record w { now = record w.now { frames = fs; out = cleared (sensed p rs join_ages (λ n. n) sensor z σ) } })
+  on_want rs w (Sensed s z) sensor fs σ =
+      if_so (s == sensor) (record w {
+        now = record w.now {
+          frames = fs;
+          out = cleared (sensed p rs join_ages (λ n. n) sensor z σ);
+        };
+      })
   on_want rs w s sensor fs σ = None
 
   -- the run went through
   abbrev pub at_end : Watch → Way → Outcome → Option Watch
-  at_end w now (Went σ) = if_so (not now.over && has_words nv (words (Went σ))) (record w { now = record now { over = true } })
-  at_end w now (Returned v σ) = if_so (not now.over && has_words nv (words (Returned v σ))) (record w { now = record now { over = true } })
+  at_end w now (Went σ) =
+      if_so (not now.over && has_words nv (words (Went σ)))
+      (record w { now = record now { over = true } })
+  at_end w now (Returned v σ) =
+      if_so (not now.over && has_words nv (words (Returned v σ)))
+      (record w { now = record now { over = true } })
   at_end w now (Stopped s σ) = None
 
   -- the run stands at its end

@@ -2,7 +2,7 @@
 use Rattle.std.specs.Prelude.{ℕ, suc, ℤ, ◌≡◌, List, [], ◌∷◌, ◌++◌, if◌then◌else◌, length}
 use Rattle.oc_tree.specs.Marked.{TRegion}
 use Rattle.oc_tree.specs.Tree.{TKind, let_to, assign, assign_index, assign_deref, while_do, TProgram, TStmts, TBlock}
-use Rattle.oc_meaning.specs.Samples.{union}
+use Rattle.oc_tree.specs.Samples.{union}
 use Rattle.oc_meaning.specs.Store.{Value, Event, Store, Binding, holding, replaced, held_at, put, made, place_of}
 use Rattle.oc_meaning.specs.Eval.{is_zero, element_of, value_of}
 use Rattle.oc_meaning.specs.Uses.{is_fresh, is_use, use_samples, begins_use}
@@ -24,10 +24,13 @@ with_more past t (Stopped s σ) = Stopped s (with_left past t σ)
 -- what becomes of the value of a right side
 abbrev pub give : List Binding → ℕ → TKind → Value → Store → Outcome
 give env n (let_to m x k r) v τ = Went (made (holding v) τ)
-give env n (assign x r) v τ = Went (put τ (place_of env x) (replaced (held_at τ (place_of env x)) v))
+give env n (assign x r) v τ =
+    Went (put τ (place_of env x) (replaced (held_at τ (place_of env x)) v))
 give env n (assign_index x e r) v τ =
-    with_value (value_of env τ e) n τ (λ i. element_written (place_of env x) (element_of (length (held_at τ (place_of env x)).words) i.num) i v n τ)
-give env n (assign_deref x r) v τ = Went (put τ (place_of env x) (replaced (held_at τ (place_of env x)) v))
+    with_value (value_of env τ e) n τ (λ i. element_written
+    (place_of env x) (element_of (length (held_at τ (place_of env x)).words) i.num) i v n τ)
+give env n (assign_deref x r) v τ =
+    Went (put τ (place_of env x) (replaced (held_at τ (place_of env x)) v))
 give env n k v τ = Went τ
 
 module _ (p : TProgram) (regions : List TRegion) where
@@ -43,7 +46,8 @@ module _ (p : TProgram) (regions : List TRegion) where
   -- what a frame makes of an outcome
   abbrev pub after : Frame → Outcome → Outcome
   after (Rest f env ss) o = then_do o (stmts_in f env ss)
-  after (Use f env n u k) o = then_do o (λ σ. kind_in f env n k (used (begins_use (is_fresh env) k) n u σ))
+  after (Use f env n u k) o =
+      then_do o (λ σ. kind_in f env n k (used (begins_use (is_fresh env) k) n u σ))
   after (Work f env n k) o = then_do o (kind_in f env n k)
   after (Done is n u) o = finished (done is n u) o
   after (Close r) o = finished (closed r) o
@@ -51,11 +55,13 @@ module _ (p : TProgram) (regions : List TRegion) where
   after (Leave n) o = leave n o
   after (Turns f x t i b env) o = then_do o (for_turns t i (λ i. block_in f (in_turn x i ∷ env) b))
   after (Loop f env n c t b before) o =
-      then_do o (while_turns t n (is_use (is_fresh env) (while_do c 0 b)) (use_samples env (while_do c 0 b)) (λ τ. value_of env τ c) (block_in f env b) before)
+      then_do o (while_turns t n (is_use (is_fresh env) (while_do c 0 b))
+      (use_samples env (while_do c 0 b)) (λ τ. value_of env τ c) (block_in f env b) before)
   after (Test f env n c t b all) o =
       then_do o (λ σ. with_value (value_of env σ c) n σ (λ v. if is_zero v.num
       then Went (done (is_use (is_fresh env) (while_do c 0 b)) n all σ)
-      else then_do (block_in f env b σ) (while_turns t n (is_use (is_fresh env) (while_do c 0 b)) (use_samples env (while_do c 0 b)) (λ τ. value_of env τ c) (block_in f env b) all)))
+      else then_do (block_in f env b σ) (while_turns t n (is_use (is_fresh env) (while_do c 0 b))
+      (use_samples env (while_do c 0 b)) (λ τ. value_of env τ c) (block_in f env b) all)))
   after (Back v r) o = then_do o (λ σ. Returned v (closed r σ))
 
   -- what all frames make of it, the first of them first
@@ -66,11 +72,19 @@ module _ (p : TProgram) (regions : List TRegion) where
   -- Whatever happened before and whatever samples come later, a step keeps what becomes of the run. Where it asks for a
   -- sample, the next one is taken, and the run is short where there is none
   abbrev pub Keeps : Step → List Frame → Outcome → Type 0
-  Keeps (Goes fs' o') fs o = (past : List Event) (t : List ℤ) → resume fs' (with_more past t o') ≡ resume fs (with_more past t o)
+  Keeps (Goes fs' o') fs o =
+      (past : List Event) (t : List ℤ)
+      → resume fs' (with_more past t o') ≡ resume fs (with_more past t o)
   Keeps (Asks s fs' σ) fs o =
-      ((past : List Event) (z : ℤ) (t : List ℤ) → resume fs' (with_more past t (sensed p regions union suc s z σ)) ≡ resume fs (with_more past (z ∷ t) o))
-      × ((past : List Event) → resume fs (with_more past [] o) ≡ Stopped Short (with_left past [] σ))
-  Keeps Over fs o = (past : List Event) (t : List ℤ) → resume fs (with_more past t o) ≡ with_more past t o
+      ((past : List Event) (z : ℤ) (t : List ℤ)
+      → resume fs' (with_more past t (sensed p regions union suc s z σ))
+      ≡ resume fs (with_more past (z ∷ t) o))
+      × ((past : List Event)
+      → resume fs (with_more past [] o) ≡ Stopped Short (with_left past [] σ))
+  Keeps Over fs o =
+      (past : List Event) (t : List ℤ) → resume fs (with_more past t o) ≡ with_more past t o
 
 abbrev pub StepsKeep : Type 0
-StepsKeep = (p : TProgram) (regions : List TRegion) (fs : List Frame) (o : Outcome) → Keeps p regions (step p regions union suc fs o) fs o
+StepsKeep =
+    (p : TProgram) (regions : List TRegion) (fs : List Frame) (o : Outcome)
+    → Keeps p regions (step p regions union suc fs o) fs o

@@ -29,8 +29,8 @@ abbrev pub IsPrefixOf : List Said → List Said → Type 0
 IsPrefixOf xs ys = (rest : List Said) × (xs ++ rest ≡ ys)
 
 -- what was said, from the first to the last
-abbrev pub told : List Event → List Said
-told past = map (λ e. e.said) (in_order past)
+abbrev pub said_so_far : List Event → List Said
+said_so_far past = map (λ e. e.said) (in_order past)
 
 module _ (p : TProgram) (regions : List TRegion) where
   -- over these samples and any that come later, the run told these events, newest first, and does what is left

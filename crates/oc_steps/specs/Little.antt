@@ -4,7 +4,7 @@ use Rattle.oc_tree.specs.Marked.{TRegion}
 use Rattle.oc_tree.specs.Tree.{TProgram}
 use Rattle.oc_tree.specs.declared.said.Said.{Said}
 use Rattle.oc_tree.specs.declared.said.Said.TheVariants.{Sensed, Ended}
-use Rattle.oc_meaning.specs.Samples.{union}
+use Rattle.oc_tree.specs.Samples.{union}
 use Rattle.oc_meaning.specs.Store.{Event, Store}
 use Rattle.oc_meaning.specs.Cuts.{events_in}
 use Rattle.oc_meaning.specs.Exec.{Trap, Short, Outcome, Went, Returned, Stopped}
@@ -25,7 +25,8 @@ IsSilent m σ = (σ.events ≡ []) × (σ.taken ≡ m)
 
 -- so many samples were taken, and one thing was said at most, which is no input and no end
 abbrev pub AtMostOne : ℕ → ℕ → List Event → Type 0
-AtMostOne m taken es = (taken ≡ m) × ((es ≡ []) ⊎ ((e : Event) × (es ≡ e ∷ []) × IsNoInput e.said × IsNoEnd e.said))
+AtMostOne m taken es =
+    (taken ≡ m) × ((es ≡ []) ⊎ ((e : Event) × (es ≡ e ∷ []) × IsNoInput e.said × IsNoEnd e.said))
 
 -- where the run stops, it says that it was trapped
 abbrev pub SaysOne : ℕ → Outcome → Type 0
@@ -40,4 +41,6 @@ Little m (Asks s fs σ) = IsSilent m σ
 Little m Over = Unit {0}
 
 abbrev pub SaysLittle : Type 0
-SaysLittle = (p : TProgram) (regions : List TRegion) (fs : List Frame) (o : Outcome) → events_in o ≡ [] → Little (store_in o).taken (step p regions union suc fs o)
+SaysLittle =
+    (p : TProgram) (regions : List TRegion) (fs : List Frame) (o : Outcome)
+    → events_in o ≡ [] → Little (store_in o).taken (step p regions union suc fs o)

@@ -10,7 +10,9 @@ use Rattle.oc_steps.specs.Watching.{IsWatch, IsAnswer}
 use Rattle.oc_steps.specs.Erasing.{item}
 
 pub record RestsRight : Type 0 where
-  pub dark : (p : TProgram) (regions : List TRegion) (nv : Option (List ℤ)) (q : List Told) (t : ℕ) (w : Watch) → IsHonestSoFar p regions nv q → IsWatch p regions q w
+  pub dark : (p : TProgram) (regions : List TRegion) (nv : Option (List ℤ))
+      (q : List Told) (t : ℕ) (w : Watch) → IsHonestSoFar p regions nv q → IsWatch p regions q w
       → IsAnswer p regions nv (q ++ item t Dark ∷ []) (Some w)
-  pub offs : (p : TProgram) (regions : List TRegion) (nv : Option (List ℤ)) (q : List Told) (t m : ℕ) (w : Watch) → IsHonestSoFar p regions nv q → IsWatch p regions q w
+  pub offs : (p : TProgram) (regions : List TRegion) (nv : Option (List ℤ))
+      (q : List Told) (t m : ℕ) (w : Watch) → IsHonestSoFar p regions nv q → IsWatch p regions q w
       → IsAnswer p regions nv (q ++ item t (Off m) ∷ []) (off p nv w)

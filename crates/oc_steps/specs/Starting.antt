@@ -2,7 +2,7 @@
 use Rattle.std.specs.Prelude.{suc, List, [], length, codes}
 use Rattle.oc_tree.specs.Marked.{TRegion}
 use Rattle.oc_tree.specs.Tree.{TProgram}
-use Rattle.oc_meaning.specs.Samples.{union}
+use Rattle.oc_tree.specs.Samples.{union}
 use Rattle.oc_meaning.specs.Run.{first_store}
 use Rattle.oc_steps.specs.Steps.{Step, Goes, Asks, Over, step_passed}
 use Rattle.oc_steps.specs.Heard.{Under}
@@ -14,4 +14,6 @@ Starts p regions (Asks s fs σ) = ⊥
 Starts p regions Over = ⊥
 
 abbrev pub StartsRight : Type 0
-StartsRight = (p : TProgram) (regions : List TRegion) → Starts p regions (step_passed p regions union suc (suc (length p.functions)) (codes "main") [] [] (first_store p []))
+StartsRight =
+    (p : TProgram) (regions : List TRegion) → Starts p regions (step_passed
+    p regions union suc (suc (length p.functions)) (codes "main") [] [] (first_store p []))

@@ -43,7 +43,8 @@ pub data Step : Type 0 where
 
 -- a block is begun
 abbrev pub begin : Inside → List Binding → TBlock → List Frame → Store → Step
-begin f env (block id ss) fs σ = Goes (Rest f env ss ∷ Leave (length σ.locals) ∷ fs) (Went (entered id σ))
+begin f env (block id ss) fs σ =
+    Goes (Rest f env ss ∷ Leave (length σ.locals) ∷ fs) (Went (entered id σ))
 
 abbrev pub begin_else : Inside → List Binding → TElse → List Frame → Store → Step
 begin_else f env no_else fs σ = Goes fs (Went σ)
@@ -54,12 +55,14 @@ abbrev pub on_value : Got → ℕ → Store → List Frame → (Value → Step) 
 on_value (Val v) n σ fs go = go v
 on_value (Traps k) n σ fs go = Goes fs (trapped k n σ)
 
-module _ (p : TProgram) (regions : List TRegion) (join : List ℕ → List ℕ → List ℕ) (next : ℕ → ℕ) where
+module _ (p : TProgram) (regions : List TRegion)
+    (join : List ℕ → List ℕ → List ℕ) (next : ℕ → ℕ) where
   abbrev pub step_function : ℕ → Option TFunction → List Passed → List Frame → Store → Step
   step_function d None ps fs σ = Goes fs (Went σ)
   step_function d (Some f) ps fs σ =
       let fr = with_params f.params ps (record { env = nv_env 0 p.names.nvs; locals = σ.locals }) in
-      begin (record { depth = d; body = f.body }) fr.env f.body (Leave (length σ.locals) ∷ fs) (record σ { locals = fr.locals })
+      begin (record { depth = d; body = f.body }) fr.env f.body
+      (Leave (length σ.locals) ∷ fs) (record σ { locals = fr.locals })
 
   abbrev pub step_passed : ℕ → Text → List Passed → List Frame → Store → Step
   step_passed zero x ps fs σ = Goes fs (Went σ)
@@ -73,17 +76,21 @@ module _ (p : TProgram) (regions : List TRegion) (join : List ℕ → List ℕ �
   step_call f env n (call x args) fs σ = step_args f.depth x (args_by join env σ args) n fs σ
 
   abbrev pub step_right : Inside → List Binding → ℕ → TRight → List Frame → Store → Step
-  step_right f env n (right_value e) fs σ = on_value (value_by join env σ e) n σ fs (λ v. Goes fs (Returned v σ))
+  step_right f env n (right_value e) fs σ =
+      on_value (value_by join env σ e) n σ fs (λ v. Goes fs (Returned v σ))
   step_right f env n (right_sense s) fs σ = Asks (number_in p.names.sensors s) fs σ
   step_right f env n (right_call c) fs σ = step_call f env n c fs σ
 
   -- the value of a right side is taken
   abbrev pub taken : List Binding → ℕ → TKind → Value → List Frame → Store → Step
   taken env n (let_to m x k r) v fs σ = Goes fs (Went (made (holding v) σ))
-  taken env n (assign x r) v fs σ = Goes fs (Went (put σ (place_of env x) (replaced (held_at σ (place_of env x)) v)))
+  taken env n (assign x r) v fs σ =
+      Goes fs (Went (put σ (place_of env x) (replaced (held_at σ (place_of env x)) v)))
   taken env n (assign_index x e r) v fs σ =
-      on_value (value_by join env σ e) n σ fs (λ i. Goes fs (element_written_by join (place_of env x) (element_of (length (held_at σ (place_of env x)).words) i.num) i v n σ))
-  taken env n (assign_deref x r) v fs σ = Goes fs (Went (put σ (place_of env x) (replaced (held_at σ (place_of env x)) v)))
+      on_value (value_by join env σ e) n σ fs (λ i. Goes fs (element_written_by join
+      (place_of env x) (element_of (length (held_at σ (place_of env x)).words) i.num) i v n σ))
+  taken env n (assign_deref x r) v fs σ =
+      Goes fs (Went (put σ (place_of env x) (replaced (held_at σ (place_of env x)) v)))
   taken env n k v fs σ = Goes fs (Went σ)
 
   -- a statement's own work
@@ -91,40 +98,53 @@ module _ (p : TProgram) (regions : List TRegion) (join : List ℕ → List ℕ �
   work f env n (let_to m x k r) fs σ = step_right f env n r (Take env n (let_to m x k r) ∷ fs) σ
   work f env n (let_array m x k z c) fs σ = Goes fs (Went (made (array_of z c) σ))
   work f env n (assign x r) fs σ = step_right f env n r (Take env n (assign x r) ∷ fs) σ
-  work f env n (assign_index x e r) fs σ = step_right f env n r (Take env n (assign_index x e r) ∷ fs) σ
+  work f env n (assign_index x e r) fs σ =
+      step_right f env n r (Take env n (assign_index x e r) ∷ fs) σ
   work f env n (assign_deref x r) fs σ = step_right f env n r (Take env n (assign_deref x r) ∷ fs) σ
   work f env n (if_else c a b) fs σ =
-      on_value (value_by join env σ c) n σ fs (λ v. if is_zero v.num then begin_else f env b fs σ else begin f env a fs σ)
+      on_value (value_by join env σ c) n σ fs
+      (λ v. if is_zero v.num then begin_else f env b fs σ else begin f env a fs σ)
   work f env n (for_in x c d b) fs σ = Goes (Turns f x (count_of (d -ℤ c)) c b env ∷ fs) (Went σ)
   work f env n (while_do c t b) fs σ = Goes (Loop f env n c t b [] ∷ fs) (Went σ)
   work f env n (call_only c) fs σ = step_call f env n c (Take env n (call_only c) ∷ fs) σ
-  work f env n (sense_only s) fs σ = Asks (number_in p.names.sensors s) (Take env n (sense_only s) ∷ fs) σ
+  work f env n (sense_only s) fs σ =
+      Asks (number_in p.names.sensors s) (Take env n (sense_only s) ∷ fs) σ
   work f env n (emit q e) fs σ =
-      on_value (value_by join env σ e) n σ fs (λ v. Goes fs (Went (noted (Showed (Emitted (number_in p.names.ports q) v.num)) v.samples σ)))
+      on_value (value_by join env σ e) n σ fs (λ v.
+      Goes fs (Went (noted (Showed (Emitted (number_in p.names.ports q) v.num)) v.samples σ)))
   work f env n (fresh x) fs σ = Goes fs (Went σ)
-  work f env n (consistent x k) fs σ = Goes fs (Went (tagged (set_home f.body k) n (held_at σ (place_of env x)).samples σ))
+  work f env n (consistent x k) fs σ =
+      Goes fs (Went (tagged (set_home f.body k) n (held_at σ (place_of env x)).samples σ))
   work f env n (return e) fs σ =
-      on_value (value_by join env σ e) n σ fs (λ v. Goes (Back v (ended_by regions n) ∷ fs) (Went (done (is_use (is_fresh env) (return e)) n (use_by join env (return e) σ) σ)))
+      on_value (value_by join env σ e) n σ fs (λ v. Goes (Back v (ended_by regions n) ∷ fs)
+      (Went (done (is_use (is_fresh env) (return e)) n (use_by join env (return e) σ) σ)))
 
   -- the next statement
   abbrev pub step_rest : Inside → List Binding → TStmts → List Frame → Store → Step
   step_rest f env no_stmts fs σ = Goes fs (Went σ)
   step_rest f env (more (stmt n line k) rest) fs σ =
       Goes
-      (Use f env n (use_by join env k σ) k ∷ Done (ends_use (is_fresh env) k) n (use_by join env k σ) ∷ Close (ended_by regions n) ∷ Rest f (grown k rest env σ) rest ∷ fs)
+      (Use f env n (use_by join env k σ) k
+      ∷ Done (ends_use (is_fresh env) k) n (use_by join env k σ)
+      ∷ Close (ended_by regions n) ∷ Rest f (grown k rest env σ) rest ∷ fs)
       (Went (opened (begun_by regions n) σ))
 
   abbrev pub step_turns : Inside → Text → ℕ → ℤ → TBlock → List Binding → List Frame → Store → Step
   step_turns f x zero i b env fs σ = Goes fs (Went σ)
-  step_turns f x (suc t) i b env fs σ = begin f (in_turn x i ∷ env) b (Turns f x t (i +ℤ pos 1) b env ∷ fs) σ
+  step_turns f x (suc t) i b env fs σ =
+      begin f (in_turn x i ∷ env) b (Turns f x t (i +ℤ pos 1) b env ∷ fs) σ
 
-  abbrev pub step_loop : Inside → List Binding → ℕ → TExpr → ℕ → TBlock → List ℕ → List Frame → Store → Step
-  step_loop f env n c zero b before fs σ = Goes fs (Went (done (is_use (is_fresh env) (while_do c 0 b)) n before σ))
+  abbrev pub step_loop : Inside
+      → List Binding → ℕ → TExpr → ℕ → TBlock → List ℕ → List Frame → Store → Step
+  step_loop f env n c zero b before fs σ =
+      Goes fs (Went (done (is_use (is_fresh env) (while_do c 0 b)) n before σ))
   step_loop f env n c (suc t) b before fs σ =
       Goes (Test f env n c t b (join before (use_by join env (while_do c 0 b) σ)) ∷ fs)
-      (Went (used (is_use (is_fresh env) (while_do c 0 b)) n (use_by join env (while_do c 0 b) σ) σ))
+      (Went
+      (used (is_use (is_fresh env) (while_do c 0 b)) n (use_by join env (while_do c 0 b) σ) σ))
 
-  abbrev pub step_test : Inside → List Binding → ℕ → TExpr → ℕ → TBlock → List ℕ → List Frame → Store → Step
+  abbrev pub step_test : Inside
+      → List Binding → ℕ → TExpr → ℕ → TBlock → List ℕ → List Frame → Store → Step
   step_test f env n c t b all fs σ =
       on_value (value_by join env σ c) n σ fs (λ v. if is_zero v.num
       then Goes fs (Went (done (is_use (is_fresh env) (while_do c 0 b)) n all σ))
@@ -132,7 +152,8 @@ module _ (p : TProgram) (regions : List TRegion) (join : List ℕ → List ℕ �
 
   abbrev pub step_went : Frame → List Frame → Store → Step
   step_went (Rest f env ss) fs σ = step_rest f env ss fs σ
-  step_went (Use f env n u k) fs σ = Goes (Work f env n k ∷ fs) (Went (used (begins_use (is_fresh env) k) n u σ))
+  step_went (Use f env n u k) fs σ =
+      Goes (Work f env n k ∷ fs) (Went (used (begins_use (is_fresh env) k) n u σ))
   step_went (Work f env n k) fs σ = work f env n k fs σ
   step_went (Done is n u) fs σ = Goes fs (Went (done is n u σ))
   step_went (Close r) fs σ = Goes fs (Went (closed r σ))
@@ -156,4 +177,6 @@ module _ (p : TProgram) (regions : List TRegion) (join : List ℕ → List ℕ �
 
   -- the sample that was asked for
   abbrev pub sensed : ℕ → ℤ → Store → Outcome
-  sensed s z σ = Returned (record { num = z; samples = σ.taken ∷ [] }) (noted (Sensed s z) (σ.taken ∷ []) (record σ { taken = next σ.taken }))
+  sensed s z σ =
+      Returned (record { num = z; samples = σ.taken ∷ [] })
+      (noted (Sensed s z) (σ.taken ∷ []) (record σ { taken = next σ.taken }))

@@ -7,7 +7,7 @@ use Rattle.oc_tree.specs.Said.{Told}
 use Rattle.oc_tree.specs.declared.said.Said.{Said}
 use Rattle.oc_tree.specs.declared.said.Said.TheVariants.{Sensed, Showed, Entered, Aborted, Off, Dark}
 use Rattle.oc_tree.specs.declared.said.Shown.TheVariants.{Tagged}
-use Rattle.oc_meaning.specs.Samples.{union}
+use Rattle.oc_tree.specs.Samples.{union}
 use Rattle.oc_meaning.specs.Store.{Event}
 use Rattle.oc_meaning.specs.Exec.{Outcome}
 use Rattle.oc_meaning.specs.Run.{marked_run, said_in, in_order}
@@ -15,7 +15,7 @@ use Rattle.oc_items.specs.Erase.{erase, without_offs, without_marks, samples_of,
 use Rattle.oc_steps.specs.Steps.{Frame, Over, step}
 use Rattle.oc_steps.specs.Ages.{aged_frame, aged_outcome}
 use Rattle.oc_steps.specs.AgesTell.{Agrees}
-use Rattle.oc_steps.specs.Heard.{Under, told, store_in}
+use Rattle.oc_steps.specs.Heard.{Under, said_so_far, store_in}
 use Rattle.oc_honest.specs.Honest.{IsHonestSoFar}
 use Rattle.oc_steps.specs.Fold.{Way, Watch, Next, Went_on, Instance, Rises, is_set, is_one, aborted, on_next, steps_on}
 use Rattle.oc_honest.specs.Timely.{Lived, lived_from, IsUse, set_of}
@@ -63,10 +63,12 @@ IsAt table j x = (j < length table) × (get_or table j 0 ≡ x)
 pub record IsLatest (table : List ℕ) (e : Event) (i : Instance) : Type 0 where
   pub number : e.instance ≤ i.number
   pub below : (j : ℕ) → IsOf j e.samples → j < length table
-  pub ages : e.instance ≡ i.number → (j : ℕ) → IsOf j e.samples → (x : ℕ) × IsOf x i.age × IsAt table j x
+  pub ages : e.instance ≡ i.number
+      → (j : ℕ) → IsOf j e.samples → (x : ℕ) × IsOf x i.age × IsAt table j x
 
 -- a tag of a set with a sample of this age
-pub record IsAged (p : TProgram) (all : List Lived) (table : List ℕ) (k : ℕ × ℤ) (number x : ℕ) : Type 0 where
+pub record IsAged
+    (p : TProgram) (all : List Lived) (table : List ℕ) (k : ℕ × ℤ) (number x : ℕ) : Type 0 where
   pub tag : Lived
   pub stmt : ℕ
   pub sample : ℕ
@@ -78,22 +80,28 @@ pub record IsAged (p : TProgram) (all : List Lived) (table : List ℕ) (k : ℕ 
   pub stands_at : IsAt table sample x
 
 -- uses and tags depend on samples so far, and the last instance of each set has the age of its samples
-pub record IsSeen (p : TProgram) (all : List Lived) (table : List ℕ) (sets : List Instance) : Type 0 where
-  pub uses : (u : Lived) (j : ℕ) → IsOf u all → IsUse u.event.said → IsOf j u.event.samples → j < length table
-  pub tags : (u : Lived) (n : ℕ) (k : ℕ × ℤ) → IsOf u all → u.event.said ≡ Showed (Tagged n) → set_of p n ≡ Some k
+pub record IsSeen
+    (p : TProgram) (all : List Lived) (table : List ℕ) (sets : List Instance) : Type 0 where
+  pub uses : (u : Lived) (j : ℕ)
+      → IsOf u all → IsUse u.event.said → IsOf j u.event.samples → j < length table
+  pub tags : (u : Lived) (n : ℕ) (k : ℕ × ℤ)
+      → IsOf u all → u.event.said ≡ Showed (Tagged n) → set_of p n ≡ Some k
       → (i : Instance) × (find (is_set k) sets ≡ Some i) × IsLatest table u.event i
-  pub each : (k : ℕ × ℤ) (i : Instance) (x : ℕ) → find (is_set k) sets ≡ Some i → IsOf x i.age → IsAged p all table k i.number x
+  pub each : (k : ℕ × ℤ) (i : Instance) (x : ℕ)
+      → find (is_set k) sets ≡ Some i → IsOf x i.age → IsAged p all table k i.number x
   pub one : (k : ℕ × ℤ) (i : Instance) → find (is_set k) sets ≡ Some i → is_one i.age ≡ true
 
 -- the run under way told these items, and its inputs are numbered
-pub record IsGoing (p : TProgram) (e : List Told) (past : List Event) (sets : List Instance) : Type 0 where
-  pub said : told past ≡ without_offs e
+pub record IsGoing
+    (p : TProgram) (e : List Told) (past : List Event) (sets : List Instance) : Type 0 where
+  pub said : said_so_far past ≡ without_offs e
   pub numbered : AreNumbered (lives_of e past) (offs_before 0 e)
   pub seen : IsSeen p (lives_of e past) (offs_before 0 e) sets
 
 -- a run under way over these samples, of which the table says how many outages stand before each, and c before the next one:
 -- whatever it says of later samples, over ages it is this
-pub record Follows (p : TProgram) (regions : List TRegion) (v : List ℤ) (table : List ℕ) (c : ℕ) (past : List Event) (fs : List Frame) (o : Outcome) (aged : List Frame) (aged_out : Outcome)
+pub record Follows (p : TProgram) (regions : List TRegion) (v : List ℤ) (table : List ℕ) (c : ℕ)
+    (past : List Event) (fs : List Frame) (o : Outcome) (aged : List Frame) (aged_out : Outcome)
     : Type 0 where
   pub under : Under p regions v past fs o
   pub frames_age : (before : ℕ → ℕ) → Agrees table before → map (aged_frame before) fs ≡ aged
@@ -105,10 +113,12 @@ pub record IsWay (p : TProgram) (regions : List TRegion) (e : List Told) (w : Wa
   pub past : List Event
   pub fs : List Frame
   pub o : Outcome
-  pub follows : Follows p regions (samples_in e) (offs_before 0 e) (offs_in 0 e) past fs o w.frames w.out
+  pub follows : Follows p regions
+      (samples_in e) (offs_before 0 e) (offs_in 0 e) past fs o w.frames w.out
   pub inside : is_inside false e ≡ w.inside
   pub going : w.over ≡ false → IsGoing p e past w.sets
-  pub whole : w.over ≡ true → (t : List ℤ) → said_in (marked_run p regions (samples_in e ++ t)) ≡ without_offs e
+  pub whole : w.over ≡ true
+      → (t : List ℤ) → said_in (marked_run p regions (samples_in e ++ t)) ≡ without_offs e
   pub stands : w.over ≡ true → step p regions union suc fs o ≡ Over
   pub counted : AreCounted p w.sets w.frames (store_in w.out).blocks
 
@@ -116,9 +126,11 @@ pub record IsWay (p : TProgram) (regions : List TRegion) (e : List Told) (w : Wa
 abbrev pub IsSaved : TProgram → List TRegion → List Told → Option (ℕ × Way) → Type 0
 IsSaved p regions q None = (r : ℕ) → last_mark None q ≢ Some (Entered r)
 IsSaved p regions q (Some s) =
-    (front : List Told) × (body : List Told) × (t : ℕ) × (q ≡ front ++ item t (Entered s.0) ∷ body) × AreUnmarked body × IsWay p regions (erase front) s.1
+    (front : List Told) × (body : List Told) × (t : ℕ) × (q ≡ front ++ item t (Entered s.0) ∷ body)
+    × AreUnmarked body × IsWay p regions (erase front) s.1
 
-pub record IsWatch (p : TProgram) (regions : List TRegion) (q : List Told) (w : Watch) : Type 0 where
+pub record IsWatch
+    (p : TProgram) (regions : List TRegion) (q : List Told) (w : Watch) : Type 0 where
   pub now : IsWay p regions (erase q) w.now
   pub saved : IsSaved p regions q w.saved
 
@@ -132,12 +144,16 @@ IsMade n = Unit {0}
 
 -- every front part of these items is honest
 abbrev pub AllHonest : TProgram → List TRegion → Option (List ℤ) → List Told → Type 0
-AllHonest p regions nv q = (front rest : List Told) → front ++ rest ≡ q → IsHonestSoFar p regions nv front
+AllHonest p regions nv q =
+    (front rest : List Told) → front ++ rest ≡ q → IsHonestSoFar p regions nv front
 
 -- the answer to an `abort`
 abbrev pub AbortsRight : Type 0
-AbortsRight = (p : TProgram) (regions : List TRegion) (nv : Option (List ℤ)) (q : List Told) (t r : ℕ) (w : Watch)
-    → AllHonest p regions nv q → IsWatch p regions q w → IsAnswer p regions nv (q ++ item t (Aborted r) ∷ []) (aborted p nv r w.saved)
+AbortsRight =
+    (p : TProgram) (regions : List TRegion)
+    (nv : Option (List ℤ)) (q : List Told) (t r : ℕ) (w : Watch)
+    → AllHonest p regions nv q → IsWatch p regions q w
+    → IsAnswer p regions nv (q ++ item t (Aborted r) ∷ []) (aborted p nv r w.saved)
 
 -- it neither stands beside what a run says, nor ends an attempt
 abbrev pub IsTelling : Said → Type 0
@@ -148,10 +164,16 @@ IsTelling s = Unit {0}
 
 -- what a run tells next is no tag of an earlier instance than the last one of its set
 abbrev pub NoneFalls : Type 0
-NoneFalls = (p : TProgram) (regions : List TRegion) (q : List Told) (w : Watch) (n : ℕ) → Numbered p → IsWatch p regions q w → Rises p (steps_on p regions n w.now)
+NoneFalls =
+    (p : TProgram) (regions : List TRegion) (q : List Told) (w : Watch) (n : ℕ)
+    → Numbered p → IsWatch p regions q w → Rises p (steps_on p regions n w.now)
 
 -- the answer to an item that a run tells, where this is what it does next
 abbrev pub TellsRight : Type 0
-TellsRight = (p : TProgram) (regions : List TRegion) (nv : Option (List ℤ)) (q : List Told) (t : ℕ) (s : Said) (w : Watch) (n : ℕ) → Numbered p
-    → IsHonestSoFar p regions nv q → IsWatch p regions q w → IsTelling s → IsMade (steps_on p regions n w.now)
-    → IsAnswer p regions nv (q ++ item t s ∷ []) (on_next p nv regions w s (steps_on p regions n w.now))
+TellsRight =
+    (p : TProgram) (regions : List TRegion)
+    (nv : Option (List ℤ)) (q : List Told) (t : ℕ) (s : Said) (w : Watch) (n : ℕ) → Numbered p
+    → IsHonestSoFar p regions nv q
+    → IsWatch p regions q w → IsTelling s → IsMade (steps_on p regions n w.now)
+    → IsAnswer p regions nv
+    (q ++ item t s ∷ []) (on_next p nv regions w s (steps_on p regions n w.now))

@@ -1,25 +1,12 @@
 -- A called function stands at the place of its name.
-use Rattle.std.proofs.Common.{◌≡◌, ℕ, zero, suc, ◌+◌, Bool, true, false, List, [], ◌∷◌, map, Some, cond, ap, ◌∙◌, arith}
-use Rattle.std.specs.Prelude.{slice_get, if◌then◌else◌}
-use Rattle.std.specs.Str.{bytes_eq}
+use Rattle.std.proofs.Common.{◌≡◌, ℕ, zero, suc, ◌+◌, List, [], ◌∷◌, map, Some, ap, ◌∙◌, arith}
+use Rattle.std.specs.Prelude.{slice_get}
 use Rattle.std.proofs.Math.ListN.{get_or}
 use Rattle.std.proofs.lemmas.Option.{none-some, same_Some}
-use Rattle.oc_tree.specs.Names.{Text}
 use Rattle.oc_tree.specs.Tree.{TFunction, TProgram}
-use Rattle.oc_tree.specs.Calls.{place_from, function_names}
-use Rattle.oc_meaning.specs.Run.{function_named}
+use Rattle.oc_meaning.proofs.Functions.{place_named}
 use Rattle.oc_effects.specs.Effects.{function_effects, effects_at}
 use Rattle.oc_timely.proofs.Calls.{CalleeAt}
-
-place_named : (n : ℕ) (fs : List TFunction) (x : Text) (g : TFunction) → function_named fs x ≡ Some g → (i : ℕ) × (place_from n (function_names fs) x ≡ Some (n + i)) × (slice_get fs i ≡ Some g)
-place_named n [] x g e = absurd (none-some g e)
-place_named n (f ∷ fs) x g e = by (bytes_eq x f.name) e (place_named (n + 1) fs x g)
-  where
-    by : (b : Bool) → (if b then Some f else function_named fs x) ≡ Some g →
-        (function_named fs x ≡ Some g → (i : ℕ) × (place_from (n + 1) (function_names fs) x ≡ Some (n + 1 + i)) × (slice_get fs i ≡ Some g)) →
-        (i : ℕ) × (cond b (Some n) (place_from (n + 1) (function_names fs) x) ≡ Some (n + i)) × (slice_get (f ∷ fs) i ≡ Some g)
-    by true h rest = let first : n ≡ n + 0 = omega arith in (0, ap Some first, h)
-    by false h rest = let r = rest h in let more : n + 1 + r.0 ≡ n + suc r.0 = omega arith in (suc r.0, r.1 ∙ ap Some more, r.2)
 
 pub params_here : (fs : List TFunction) (i : ℕ) (g : TFunction) → slice_get fs i ≡ Some g → get_or (map (λ h. h.params) fs) i [] ≡ g.params
 params_here [] i g e = absurd (none-some g e)

@@ -6,7 +6,7 @@ use Rattle.oc_tree.specs.declared.said.TrapKind.TheVariants as traps
 use Rattle.oc_tree.specs.declared.said.Said.{Said}
 use Rattle.oc_tree.specs.declared.said.Said.TheVariants.{Showed, Entered, Committed}
 use Rattle.oc_tree.specs.declared.said.Shown.TheVariants.{Tagged}
-use Rattle.oc_meaning.specs.Samples.{union}
+use Rattle.oc_tree.specs.Samples.{union}
 use Rattle.oc_meaning.specs.Store.{Value, Held, Place, Local, Global, Turn, Nowhere, Event, Store, put, happened}
 use Rattle.oc_meaning.specs.Eval.{Got, Val, Traps, is_zero}
 use Rattle.oc_meaning.specs.Exec.{Passing as Given, Passes, Breaks, Passed, Outcome, Went, Returned, Stopped, trapped, with_value, with_args, with_result, then_do, finished, leave}

@@ -13,7 +13,7 @@ use Rattle.oc_tree.specs.Scope.{Scope, variable_in, is_in_scope, is_declared, is
 use Rattle.oc_tree.specs.declared.tree.Param.{Param}
 use Rattle.oc_tree.specs.declared.tree.VarId.TheVariants as variables
 use Rattle.oc_desugar.proofs.Unbroken.{Passes, none_broken}
-use Rattle.oc_formed.proofs.BodiesPass.{first_fails, second_fails, function_fine}
+use Rattle.oc_checked.proofs.BodiesPass.{first_fails, second_fails, function_fine}
 use Rattle.oc_meaning.specs.Store.{Store}
 use Rattle.oc_meaning.specs.Exec.{Passed, Copied, Lent}
 use Rattle.oc_copies.specs.Copies.{own_frame}

@@ -6,7 +6,7 @@ use Rattle.oc_tree.specs.Tree.{TKind, if_else, for_in, while_do, TElse, no_else,
 use Rattle.oc_tree.specs.Places.{Place as Spot, Placed, behind, in_branch, in_loop, kind_placed, block_placed, else_placed, stmts_placed}
 use Rattle.oc_tree.specs.Marked.{TRegion}
 use Rattle.oc_tree.specs.declared.tree.VarId.TheVariants as variables
-use Rattle.oc_meaning.specs.Samples.{union}
+use Rattle.oc_tree.specs.Samples.{union}
 use Rattle.oc_meaning.specs.Uses.{is_fresh, is_use, use_samples, begins_use, ends_use}
 use Rattle.oc_meaning.specs.Store.{Held, Turn, Nowhere, Store, Binding}
 use Rattle.oc_meaning.specs.Eval.{Got, is_zero, value_of}

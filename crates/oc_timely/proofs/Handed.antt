@@ -7,7 +7,7 @@ use Rattle.oc_tree.specs.Tree.{TExpr, variable, TArg, value, shared, mutable, TA
 use Rattle.oc_tree.specs.declared.tree.Param.{Param}
 use Rattle.oc_tree.specs.declared.tree.VarId.{VarId}
 use Rattle.oc_tree.specs.Places.{Placed}
-use Rattle.oc_meaning.specs.Uses.{expr_names, arg_names}
+use Rattle.oc_tree.specs.Named.{expr_names, arg_names}
 use Rattle.oc_meaning.specs.Store.{Held, Place, Store, Binding, at, nothing, holding, held_at, binding_of, place_of}
 use Rattle.oc_meaning.specs.Eval.{Got, Val, Traps, value_of}
 use Rattle.oc_meaning.specs.Exec.{Passed, Copied, Lent, Passing, Passes, Breaks, passed_first, value_first, passed_on, arg_first, args_of}

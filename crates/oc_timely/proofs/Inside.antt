@@ -7,7 +7,7 @@ use Rattle.oc_tree.specs.Places.{Place as Spot, Placed, behind, in_branch, in_lo
 use Rattle.oc_tree.specs.Marked.{TMarked}
 use Rattle.oc_tree.specs.declared.tree.VarId.{VarId}
 use Rattle.oc_tree.specs.declared.tree.VarId.TheVariants as variables
-use Rattle.oc_meaning.specs.Samples.{union}
+use Rattle.oc_tree.specs.Samples.{union}
 use Rattle.oc_meaning.specs.Uses.{is_fresh, is_use, use_samples, begins_use, ends_use}
 use Rattle.oc_meaning.specs.Store.{Held, Turn, Nowhere, Store, Binding, held_at}
 use Rattle.oc_meaning.specs.Eval.{is_zero, value_of}

@@ -9,9 +9,9 @@ use Rattle.oc_tree.specs.Form.{Numbered}
 use Rattle.oc_tree.specs.Numbers.{kind_statements, else_statements, block_statements, stmts_statements, kind_blocks, else_blocks, block_blocks, stmts_blocks}
 use Rattle.oc_desugar.proofs.NumberLists.{Follow, first_of, parts}
 use Rattle.oc_desugar.proofs.BlockPairs.{Pair, kind_pairs, else_pairs, block_pairs, stmts_pairs, program_pairs}
-use Rattle.oc_formed.proofs.BlockRanges.{EachPair, pairs_map, From, Ranged, kind_ranged, else_ranged, block_ranged, stmts_ranged, functions_ranged}
-use Rattle.oc_formed.proofs.PairsAround.{Outside, Earlier, Later, Around, around_less, told}
-use Rattle.oc_formed.proofs.RowsAround.{Part, part_first, part_second, Known, inside_part, rest_part}
+use Rattle.oc_checked.proofs.BlockRanges.{EachPair, pairs_map, From, Ranged, kind_ranged, else_ranged, block_ranged, stmts_ranged, functions_ranged}
+use Rattle.oc_checked.proofs.PairsAround.{Outside, Earlier, Later, Around, around_less, told}
+use Rattle.oc_checked.proofs.RowsAround.{Part, part_first, part_second, Known, inside_part, rest_part}
 use Rattle.oc_timely.specs.Laid.{IsClosed, LaidKind, LaidElse, LaidBlock, LaidStmts}
 
 module _ (p : TProgram) where

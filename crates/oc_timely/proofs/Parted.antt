@@ -17,7 +17,7 @@ use Rattle.oc_tree.specs.declared.said.Said.TheVariants.{Showed}
 use Rattle.oc_tree.specs.declared.said.Shown.TheVariants.{Tagged}
 use Rattle.oc_tree.specs.Calls.{place}
 use Rattle.oc_tree.specs.Scope.{variable_in, or_nv, nv_var, is_variable}
-use Rattle.oc_tree.specs.Rules.{own_known}
+use Rattle.oc_tree.specs.Walks.{kind_known}
 use Rattle.oc_tree.specs.Numbers.{block_statements, program_statements}
 use Rattle.oc_desugar.proofs.NumberLists.{Follow}
 use Rattle.oc_tree.specs.Places.{Placed, placed, find_variable, or_nonvolatile, at_start, block_placed}
@@ -198,7 +198,7 @@ module _ (m : TMarked) (marked : IsMarked m) (c : IsCovering m) (flows : AllFlow
       rules : is_variable p (scope_of p f b.at.variables) x ≡ true
       rules =
           let i = passed p m.groups marked.checked f g at (found p f g at numbered) b o in
-          subst (λ s. is_variable p s x ≡ true) i.scope (subst (λ (z : TKind). own_known p i.here.scope z ≡ true) e i.unbroken.known)
+          subst (λ s. is_variable p s x ≡ true) i.scope (subst (λ (z : TKind). kind_known p i.here.scope z ≡ true) e i.unbroken.known)
 
       by : (o : Option VarId) → variable_at p b x ≡ o → (v : VarId) × (variable_at p b x ≡ Some v) × ((effect_of p b).note ≡ Some (notes.Consistent v k))
       by None q = absurd (named_there p f b.at.variables x rules q)

@@ -10,7 +10,7 @@ use Rattle.oc_tree.specs.declared.said.TrapKind.{TrapKind}
 use Rattle.oc_tree.specs.declared.said.TrapKind.TheVariants as traps
 use Rattle.oc_tree.specs.declared.said.Said.TheVariants.{Entered, Committed}
 use Rattle.oc_tree.specs.Weight.{count_of}
-use Rattle.oc_meaning.specs.Samples.{union}
+use Rattle.oc_tree.specs.Samples.{union}
 use Rattle.oc_meaning.specs.Blocks.{set_home}
 use Rattle.oc_meaning.specs.Store.{Value, Held, Place, Local, Global, Turn, Nowhere, Event, Store, Binding, held_at, put, place_of, happened}
 use Rattle.oc_meaning.specs.Eval.{Got, Val, Traps, is_zero, element_of, value_of}

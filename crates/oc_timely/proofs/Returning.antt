@@ -10,7 +10,7 @@ use Rattle.oc_tree.specs.Marked.{TRegion}
 use Rattle.oc_tree.specs.Types.{type_of, is_same}
 use Rattle.oc_tree.specs.Elements.{Here, inside, in_turn, is_end, before_stmts, after_stmt, stmt_elements, kind_elements, else_elements, block_elements, stmts_elements, in_function}
 use Rattle.oc_tree.specs.Rules.{returns_elsewhere}
-use Rattle.oc_meaning.specs.Samples.{union}
+use Rattle.oc_tree.specs.Samples.{union}
 use Rattle.oc_meaning.specs.Uses.{is_fresh, is_use, use_samples, begins_use, ends_use}
 use Rattle.oc_meaning.specs.Store.{Value, Place, Store, Binding, plain, holding, replaced, held_at, put, made, noted, place_of}
 use Rattle.oc_tree.specs.declared.said.Said.TheVariants.{Showed}
@@ -21,7 +21,7 @@ use Rattle.oc_meaning.specs.Exec.{Outcome, Went, Returned, Stopped, Passed, begu
 use Rattle.oc_meaning.specs.Exec.{sense, element_written, leave, for_turns, while_turns, in_turn as turn_of, grown, entered, call_run, right_run, kind_run, else_run}
 use Rattle.oc_meaning.specs.Exec.{block_run, stmts_run}
 use Rattle.oc_desugar.proofs.Unbroken.{unbroken}
-use Rattle.oc_formed.proofs.BodiesPass.{AllFine, fine_front, fine_back, function_fine}
+use Rattle.oc_checked.proofs.BodiesPass.{AllFine, fine_front, fine_back, function_fine}
 
 -- ---- statements
 

@@ -12,13 +12,14 @@ use Rattle.oc_tree.specs.Checked.{Group, IsChecked}
 use Rattle.oc_tree.specs.declared.tree.VarId.TheVariants as variables
 use Rattle.oc_tree.specs.Scope.{Scope, variable_in, is_variable, is_taken}
 use Rattle.oc_tree.specs.Elements.{Here, inside, in_turn, before_stmts, scope_after, after_stmt, kind_elements, else_elements, stmt_elements, block_elements, stmts_elements, in_function}
-use Rattle.oc_tree.specs.Rules.{takes_name, expr_known, right_known}
+use Rattle.oc_tree.specs.Rules.{takes_name}
 use Rattle.oc_tree.specs.Places.{Place, Placed, find_variable, let_variables, at_start, behind, in_branch, in_loop, kind_placed, else_placed, block_placed, stmts_placed, placed}
 use Rattle.oc_effects.specs.Effects.{right_call_of, call_of}
 use Rattle.oc_tree.specs.Members.{IsOf}
+use Rattle.oc_tree.specs.Walks.{expr_known, right_known}
 use Rattle.oc_desugar.proofs.FineCalls.{CallFine, Each, each_back}
 use Rattle.oc_desugar.proofs.Unbroken.{Unbroken, unbroken}
-use Rattle.oc_formed.proofs.BodiesPass.{AllFine, fine_front, fine_back, function_fine}
+use Rattle.oc_checked.proofs.BodiesPass.{AllFine, fine_front, fine_back, function_fine}
 use Rattle.oc_copies.specs.Stands.{IsRuledCall}
 use Rattle.oc_copies.proofs.StandsOn.{not_in_scope, ruled_call}
 use Rattle.oc_timely.specs.Scopes.{declared_var, var_declared, scope_of}

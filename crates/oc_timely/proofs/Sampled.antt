@@ -1,14 +1,16 @@
 -- The samples of an expression are those of variables that it names.
-use Rattle.std.proofs.Common.{◌≡◌, ◌⊎◌, inl, inr, ℕ, Bool, true, false, ◌==◌, List, [], ◌∷◌, ◌++◌, Option, Some, None, refl, subst}
+use Rattle.std.proofs.Common.{◌≡◌, ◌⊎◌, inl, inr, ℕ, Bool, true, false, ◌==◌, List, [], ◌∷◌, ◌++◌, Option, Some, None, refl, sym, subst}
 use Rattle.std.specs.Prelude.{ℤ, if◌then◌else◌, nat_lt}
+use Rattle.std.proofs.lemmas.Grind.{flat_map-append}
 use Rattle.oc_tree.specs.Names.{Text}
 use Rattle.oc_tree.specs.Tree.{TExpr, number, truth, variable, index, deref, unary, binary, sensed, called}
 use Rattle.oc_tree.specs.declared.tree.BinaryOp.{BinaryOp}
 use Rattle.oc_tree.specs.declared.tree.BinaryOp.TheVariants.{Or, And}
-use Rattle.oc_meaning.specs.Samples.{with_sample, union}
+use Rattle.oc_tree.specs.Samples.{with_sample, union}
 use Rattle.oc_meaning.specs.Store.{Value, Held, Store, Binding, held_at, place_of}
 use Rattle.oc_meaning.specs.Eval.{Got, Val, Traps, is_zero, apply, given, and_got, depending, operated, combined, unary_value, element_of, read_element, value_of}
-use Rattle.oc_meaning.specs.Uses.{expr_names}
+use Rattle.oc_tree.specs.Parts.{expr_parts}
+use Rattle.oc_tree.specs.Named.{part_names, expr_names}
 use Rattle.oc_tree.specs.Members.{IsOf}
 
 in_with : (j n : ℕ) (ms : List ℕ) → IsOf j (with_sample n ms) → (j ≡ n) ⊎ IsOf j ms
@@ -105,9 +107,11 @@ module _ (env : List Binding) (σ : Store) (j : ℕ) where
     | inr k ↦ let f = value_from e k in (f.0, inr f.1, f.2)
   ]
   value_from (unary op e) h = value_from e (unary_samples op (value_of env σ e) h)
-  value_from (binary op a b) h = elim (combined_samples op (value_of env σ a) (value_of env σ b) h) [
-    | inl k ↦ from_front (expr_names a) (expr_names b) (value_from a k)
-    | inr k ↦ from_back (expr_names a) (expr_names b) (value_from b k)
-  ]
+  value_from (binary op a b) h =
+      subst (λ xs. From xs) (sym (flat_map-append part_names (expr_parts a) (expr_parts b)))
+      (elim (combined_samples op (value_of env σ a) (value_of env σ b) h) [
+        | inl k ↦ from_front (expr_names a) (expr_names b) (value_from a k)
+        | inr k ↦ from_back (expr_names a) (expr_names b) (value_from b k)
+      ])
   value_from (sensed s) h = absurd h
   value_from (called c) h = absurd h

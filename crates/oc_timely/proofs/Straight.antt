@@ -9,8 +9,9 @@ use Rattle.oc_tree.specs.Marked.{TMarked}
 use Rattle.oc_tree.specs.declared.tree.VarId.{VarId}
 use Rattle.oc_tree.specs.declared.said.Said.TheVariants.{Entered, Committed}
 use Rattle.oc_effects.specs.declared.effect.Note.TheVariants as notes
-use Rattle.oc_meaning.specs.Samples.{union}
-use Rattle.oc_meaning.specs.Uses.{is_fresh, own_names, samples_of_fresh, is_use, use_samples}
+use Rattle.oc_tree.specs.Samples.{union}
+use Rattle.oc_tree.specs.Named.{own_names}
+use Rattle.oc_meaning.specs.Uses.{is_fresh, samples_of_fresh, is_use, use_samples}
 use Rattle.oc_meaning.specs.Store.{Value, Held, Place, Local, Global, Turn, Nowhere, Store, Binding, held_at, place_of, put}
 use Rattle.oc_meaning.specs.Eval.{Got, Val, Traps, value_of}
 use Rattle.oc_meaning.specs.Exec.{Outcome, Went, Returned, Stopped, Passed, with_value, with_result, sense, number_in, element_written, used, done, closed, opened, told_if}

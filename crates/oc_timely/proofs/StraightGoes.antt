@@ -8,8 +8,8 @@ use Rattle.oc_tree.specs.Places.{Place as Spot, Placed}
 use Rattle.oc_tree.specs.Marked.{TRegion}
 use Rattle.oc_tree.specs.declared.tree.VarId.{VarId}
 use Rattle.oc_tree.specs.declared.tree.VarId.TheVariants as variables
-use Rattle.oc_meaning.specs.Samples.{union}
-use Rattle.oc_meaning.specs.Uses.{expr_names}
+use Rattle.oc_tree.specs.Samples.{union}
+use Rattle.oc_tree.specs.Named.{expr_names}
 use Rattle.oc_meaning.specs.Store.{Value, Held, Place, Local, Global, Turn, Nowhere, Store, Binding, plain, holding, replaced, with_element, held_at, place_of, put, made, at, noted}
 use Rattle.oc_tree.specs.declared.said.Said.TheVariants.{Sensed, Showed}
 use Rattle.oc_tree.specs.declared.said.Shown.TheVariants.{Emitted}

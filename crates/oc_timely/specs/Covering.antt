@@ -20,10 +20,12 @@ pub record IsCoveredAt (m : TMarked) (f s : ℕ) : Type 0 where
   pub there : region.function ≡ f
   pub covered : covers m.program region s ≡ true
 
--- A function is guarded: each call of it is in a region, or in a guarded function, and `main` isn't.
+-- each call of a function that is guarded is in a region, or in a guarded function, and `main`
+-- isn't guarded
 pub record IsGuarding (m : TMarked) (guarded : ℕ → Bool) : Type 0 where
   pub main : (f : ℕ) → function_place m.program.functions main ≡ Some f → guarded f ≡ false
-  pub calls : (f : ℕ) (a : TEffect) (c : TCalled) → IsOf a (effects_at m.program f) → a.call ≡ Some c → guarded c.function ≡ true → (guarded f ≡ true) ⊎ IsCoveredAt m f a.stmt
+  pub calls : (f : ℕ) (a : TEffect) (c : TCalled) → IsOf a (effects_at m.program f)
+      → a.call ≡ Some c → guarded c.function ≡ true → (guarded f ≡ true) ⊎ IsCoveredAt m f a.stmt
 
 -- one region of its function covers all sites of the requirement
 pub record IsMet (m : TMarked) (r : TRequirement) : Type 0 where
@@ -36,14 +38,18 @@ pub record IsMet (m : TMarked) (r : TRequirement) : Type 0 where
 pub record IsCovering (m : TMarked) : Type 0 where
   pub guarded : ℕ → Bool
   pub guarding : IsGuarding m guarded
-  pub met : (r : TRequirement) → IsOf r (requirements m.program) → (guarded r.function ≡ true) ⊎ IsMet m r
+  pub met : (r : TRequirement)
+      → IsOf r (requirements m.program) → (guarded r.function ≡ true) ⊎ IsMet m r
 
 -- ---- the laws
 
 -- Where the regions cover what is required, each run over any samples holds together what must be.
 abbrev pub MarksHold : Type 0
-MarksHold = (m : TMarked) → IsMarked m → IsCovering m → (samples : List ℤ) → AreHeld m.program (ran (marked_run m.program m.regions samples).events)
+MarksHold =
+    (m : TMarked) → IsMarked m → IsCovering m
+    → (samples : List ℤ) → AreHeld m.program (ran (marked_run m.program m.regions samples).events)
 
--- So each run is timely.
+-- where the regions cover what is required, each run is timely with outages anywhere outside of
+-- them
 abbrev pub MarksAreTimely : Type 0
 MarksAreTimely = (m : TMarked) → IsMarked m → IsCovering m → RunsAreTimely m

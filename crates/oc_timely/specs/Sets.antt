@@ -15,16 +15,18 @@ use Rattle.oc_honest.specs.Timely.{AreTogether}
 use Rattle.oc_timely.specs.Covering.{IsCovering}
 use Rattle.oc_timely.specs.Modes.{PairedBlock}
 
+-- what is said is no mark of a region
 abbrev pub IsNoMark : Said → Type 0
 IsNoMark (Entered r) = ⊥
 IsNoMark (Committed r) = ⊥
 IsNoMark s = Unit {0}
 
+-- none of these events is a mark of a region
 abbrev pub AreNoMarks : List Event → Type 0
 AreNoMarks [] = Unit {0}
 AreNoMarks (e ∷ es) = IsNoMark e.said × AreNoMarks es
 
--- the earlier tag, with what came since
+-- an earlier event stands among these, and no mark of a region came since
 pub record IsBehind (x : Event) (es : List Event) : Type 0 where
   pub more : List Event
   pub older : List Event
@@ -34,22 +36,28 @@ pub record IsBehind (x : Event) (es : List Event) : Type 0 where
 -- between a tag with samples and a later one of its instance no region begins or ends
 abbrev pub AreUnparted : TProgram → List Event → Type 0
 AreUnparted p [] = Unit {0}
-AreUnparted p (e ∷ es) = ((x : Event) (j : ℕ) → IsOf x es → AreTogether p x e → IsOf j x.samples → IsBehind x es) × AreUnparted p es
+AreUnparted p (e ∷ es) =
+    ((x : Event) (j : ℕ) → IsOf x es → AreTogether p x e → IsOf j x.samples → IsBehind x es)
+    × AreUnparted p es
 
 -- ---- a region is open around a whole call
 
--- `more` behind what was told, and no mark in it
+-- events were added in front of these, and none of them is a mark of a region
 abbrev pub Adds : List Event → List Event → Type 0
 Adds es ds = (more : List Event) × (ds ≡ more ++ es) × AreNoMarks more
 
 -- in each function regions begin and end in one list
 abbrev pub ArePaired : TProgram → List TRegion → Type 0
-ArePaired p regions = (x : Text) (g : TFunction) → function_named p.functions x ≡ Some g → (n : ℕ) × PairedBlock regions n g.body
+ArePaired p regions =
+    (x : Text) (g : TFunction)
+    → function_named p.functions x ≡ Some g → (n : ℕ) × PairedBlock regions n g.body
 
 -- where a region is open, a call tells no mark
 abbrev pub InsideTellsNone : Type 0
 InsideTellsNone =
-    (p : TProgram) (regions : List TRegion) → ArePaired p regions → (depth : ℕ) (x : Text) (ps : List Passed) (σ : Store) → 0 < σ.depth → Adds σ.events (events_in (call_to p regions depth x ps σ))
+    (p : TProgram) (regions : List TRegion)
+    → ArePaired p regions → (depth : ℕ) (x : Text) (ps : List Passed) (σ : Store)
+    → 0 < σ.depth → Adds σ.events (events_in (call_to p regions depth x ps σ))
 
 -- ---- what is kept of one set
 
@@ -59,6 +67,9 @@ times g k σ = count_by (λ id. set_home g.body k == id) σ.blocks
 
 -- ---- the law
 
--- no run parts a set
+-- where the regions cover what is required, no run parts an instance of a set by the mark of a
+-- region
 abbrev pub RunsPartNone : Type 0
-RunsPartNone = (m : TMarked) → IsMarked m → IsCovering m → (samples : List ℤ) → AreUnparted m.program (events_in (main_run m.program m.regions samples))
+RunsPartNone =
+    (m : TMarked) → IsMarked m → IsCovering m
+    → (samples : List ℤ) → AreUnparted m.program (events_in (main_run m.program m.regions samples))

@@ -17,7 +17,9 @@ use Rattle.oc_timely.specs.Enough.{Target, Met, taken_in, is_open, since}
 
 -- what is required meets each target
 abbrev pub RequirementsMeet : Type 0
-RequirementsMeet = (m : TMarked) → IsMarked m → (c : IsCovering m) → (f : ℕ) (a : TEffect) (x : VarId) → AnyOf m.program f a → Target m.program f a x → (c.guarded f ≡ true) ⊎ Met m f a x
+RequirementsMeet =
+    (m : TMarked) → IsMarked m → (c : IsCovering m) → (f : ℕ) (a : TEffect) (x : VarId)
+    → AnyOf m.program f a → Target m.program f a x → (c.guarded f ≡ true) ⊎ Met m f a x
 
 -- ---- what each store of a run keeps
 

@@ -13,7 +13,7 @@ use Rattle.oc_grammar.proofs.NodeLaws.{nodes_within}
 use Rattle.oc_grammar.proofs.NumberLaws.{in_form}
 use Rattle.oc_desugar.proofs.CheckedLaws.{is_checked}
 use Rattle.oc_region.proofs.Regions.{is_marked}
-use Rattle.oc_apart.specs.Apart.{HasNamesApart, NamesAreApart}
+use Rattle.oc_audit.specs.Apart.{HasNamesApart, NamesAreApart}
 use Rattle.oc_isa.specs.Image.{Parts}
 use Rattle.oc_top.specs.Meant.{program_marked}
 use Rattle.oc_top.specs.Sources.{ReadsAs, program}

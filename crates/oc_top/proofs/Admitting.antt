@@ -102,8 +102,8 @@ run_passes answer.Cut r = refl
 run_passes end r = absurd (true≢false (sym r))
 
 files_pass : (parts : Parts) (s : Readings) (w : Power) (plan : Plan) → of_image (status_of (with_sensors parts s w plan).answer) ≡ false
-files_pass parts (sensor_rows.bad row what) w plan = refl
-files_pass parts (sensor_rows.readings rows) (power_rows.bad row what) plan = refl
+files_pass parts (sensor_rows.bad row) w plan = refl
+files_pass parts (sensor_rows.readings rows) (power_rows.bad row) plan = refl
 files_pass parts (sensor_rows.readings rows) (power_rows.periods periods) plan = run_passes _ (of_run parts (history rows) (plan periods))
 
 pub built_images_are_not_refused : BuiltImagesAreAdmitted → BuiltImagesAreNotRefused

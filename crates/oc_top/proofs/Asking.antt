@@ -22,7 +22,7 @@ use Rattle.oc_bounds.specs.Headway.{PeriodsKeep, RunEnds, Suffice}
 use Rattle.oc_bounds.proofs.Sufficing.{periods_keep, run_ends}
 use Rattle.oc_top.specs.Meant.{program_code, program_bounds}
 use Rattle.oc_top.specs.Commands.{Plan, report, regions, listing, imaging, checking, auditing, executing, Task}
-use Rattle.oc_top.specs.Commands.{Exec, Run, limits_of, meters_of, audit_limits, image_limit, run_limits, source_task, task_for, with_image, with_plan, plans_of, word_at}
+use Rattle.oc_top.specs.Commands.{Exec, Run, limits_of, meters_of, audit_limits, image_limit, run_limits, source_task, task_for, plans_of, word_at}
 use Rattle.oc_tree.specs.Tree.{TProgram}
 use Rattle.oc_top.specs.Files.{Files, AreFiles, Fetches, NotFetched, WereFetched, limit_at, listed, names_of}
 use Rattle.oc_top.specs.Sources.{Reading, ReadsAs, faulty, breaks}
@@ -32,7 +32,7 @@ use Rattle.oc_top.specs.Judged as judged
 use Rattle.oc_top.specs.Verdict.{RunFits, Verdict, runs, is_of_run, is_refusal, refuses, prints, printed, regions_of, listing_of, image_of}
 use Rattle.oc_top.specs.Headline.{IsHonestThroughout, IsReportedRun, IsRun, program_power}
 use Rattle.oc_top.specs.Steps.{IsNotBuilt, IsReady, IsReadyFor, IsTurnedDown, by_memory, by_files}
-use Rattle.oc_top.specs.Answers.{IsVerdict, IsPrint, IsJudged, IsDone, IsDoneWhole, Writes, IsWritten, whole, in_part}
+use Rattle.oc_top.specs.Answers.{IsVerdict, IsPrint, IsJudged, IsDone, IsDoneWhole, Writes, TookNothing, IsWritten, whole, in_part}
 use Rattle.oc_top.specs.Answers.{Call, call_of, HasTold, IsSilent, IsUnfetched, HasFiles, AreRefused, WasDone, IsWhole, Comes}
 use Rattle.oc_top.specs.declared.command.SourceTask.{SourceTask}
 use Rattle.oc_top.specs.declared.command.SourceTask.TheVariants as tasks
@@ -111,19 +111,19 @@ whole_run c told answer.Dark e w = w
 whole_run c told answer.Cut e w = w
 whole_run c told end e w = cc e
 
-abbrev silence : (c : Call) → c.out.took [] → IsSilent c []
+abbrev silence : (c : Call) → TookNothing c.out → IsSilent c []
 silence c t = record { unwritten = t; untold = refl }
 
 module _ (c : Call) (task : Task) (asked : c.task ≡ Some task) where
   unfetched : (place file : ℕ) → place ≡ file → (cause : Held → (limit : ℕ) → Type 0) → place < length (limits_of task)
       → WereFetched c.shelf.holds c.words (limits_of task) place → c.shelf.asked (names_of c.words (limits_of task) (suc place))
-      → cause (c.shelf.holds (word_at c.words place)) (limit_at (limits_of task) place) → c.out.took [] → IsUnfetched c [] file cause
+      → cause (c.shelf.holds (word_at c.words place)) (limit_at (limits_of task) place) → TookNothing c.out → IsUnfetched c [] file cause
   unfetched place file e cause among before all_asked is_cause t =
       subst (λ (k : ℕ). IsUnfetched c [] k cause) e
       (record { task = task; is_task = asked; among = among; before = before; asked = all_asked; is_cause = is_cause; silent = silence c t })
 
   -- a file wasn't fetched
-  pub not_fetched : (end : Answer) → NotFetched c.shelf c.words (limits_of task) end → c.out.took [] → Comes c [] end
+  pub not_fetched : (end : Answer) → NotFetched c.shelf c.words (limits_of task) end → TookNothing c.out → Comes c [] end
   not_fetched (answer.Unreadable file) n t = unfetched n.place file (sym n.refused.0) _ n.among n.before n.asked n.refused.1 t
   not_fetched (answer.TooLong file) n t = unfetched n.place file (sym n.refused.0) _ n.among n.before n.asked n.refused.1 t
   not_fetched answer.Memory n t = record { task = task; is_task = asked; count = suc n.place; few = n.among; asked = n.asked; silent = silence c t }
@@ -134,12 +134,12 @@ module _ (c : Call) (task : Task) (asked : c.task ≡ Some task) where
     abbrev has_files : HasFiles c task files
     has_files = record { is_task = asked; are_files = fetched; asked = all_asked }
 
-    pub no_memory : (end : Answer) → end ≡ answer.Memory → c.out.took [] → Comes c [] end
+    pub no_memory : (end : Answer) → end ≡ answer.Memory → TookNothing c.out → Comes c [] end
     no_memory end e t =
         subst (λ (x : Answer). Comes c [] x) (sym e)
         (record { task = task; is_task = asked; count = length (limits_of task); few = omega arith; asked = all_asked; silent = silence c t })
 
-    pub refused : (end : Answer) → is_refusal end ≡ true → IsJudged files task (refuses end) → c.out.took [] → Comes c [] end
+    pub refused : (end : Answer) → is_refusal end ≡ true → IsJudged files task (refuses end) → TookNothing c.out → Comes c [] end
     refused end e j t = refusal c [] end e (record { task = task; files = files; fetched = has_files; judged = j; silent = silence c t })
 
     -- the task was done, and written in whole or in part; where it was written in whole, this is what the meters tell
@@ -162,7 +162,7 @@ module _ (c : Call) (task : Task) (asked : c.task ≡ Some task) where
 
 module _ (c : Call) (plan : Plan) (meters : Option (List Meter)) (asked : c.task ≡ Some (report plan meters)) (files : Files)
     (fetched : AreFiles c.shelf.holds c.words (run_limits source_limit) (listed files)) (all_asked : c.shelf.asked (names_of c.words (run_limits source_limit) 3)) where
-  pub turned_down : (end : Answer) → IsTurnedDown files plan end → c.out.took [] → Comes c [] end
+  pub turned_down : (end : Answer) → IsTurnedDown files plan end → TookNothing c.out → Comes c [] end
   turned_down end (by_memory e) t = no_memory c _ asked (listed files) fetched all_asked end e t
   turned_down end (by_files reading reads is v) t = refused c _ asked (listed files) fetched all_asked end is (record { reading = reading; reads = reads; is_verdict = v }) t
 
@@ -180,7 +180,7 @@ module _ (c : Call) (plan : Plan) (meters : Option (List Meter)) (asked : c.task
 -- ---- a source alone
 
 -- the source of a task wasn't fetched
-pub source_unfetched : (c : Call) (task : SourceTask) → c.task ≡ Some (source_task task) → (end : Answer) → NotFetched c.shelf c.words (source_limit ∷ []) end → c.out.took []
+pub source_unfetched : (c : Call) (task : SourceTask) → c.task ≡ Some (source_task task) → (end : Answer) → NotFetched c.shelf c.words (source_limit ∷ []) end → TookNothing c.out
     → Comes c [] end
 source_unfetched c tasks.Regions asked end n t = not_fetched c regions asked end n t
 source_unfetched c tasks.Build asked end n t = not_fetched c listing asked end n t
@@ -247,7 +247,7 @@ module _ (c : Call) (source report : List ℕ) (fetched : AreFiles c.shelf.holds
 module _ (c : Call) (plan : Plan) (asked : c.task ≡ Some (executing plan)) (files : Files)
     (fetched : AreFiles c.shelf.holds c.words (run_limits image_limit) (listed files)) (all_asked : c.shelf.asked (names_of c.words (run_limits image_limit) 3))
     (end : Answer) where
-  pub not_executed : IsNotRun files plan end → c.out.took [] → Comes c [] end
+  pub not_executed : IsNotRun files plan end → TookNothing c.out → Comes c [] end
   not_executed (inl e) t = no_memory c _ asked (listed files) fetched all_asked end e t
   not_executed (inr r) t = refused c _ asked (listed files) fetched all_asked end r.0 r.1 t
 
@@ -261,14 +261,14 @@ module _ (c : Call) (plan : Plan) (asked : c.task ≡ Some (executing plan)) (fi
 module _ {B : Type 0} (boxes : List B) (number : B → ℕ) (plan : B → Plan) (meters : List Meter) (files : List (List ℕ)) where
   -- a run is asked for with the supply that was chosen, or nothing is
   pub run_is : (supply : ℕ) (metered : Bool) (chosen : Option (List Meter)) (box : Option B) → chosen ≡ (if metered then Some meters else None)
-      → box ≡ first_with number supply boxes → with_plan chosen (option_map plan box) ≡ task_for (plans_of number plan boxes) meters (Run supply metered files)
+      → box ≡ first_with number supply boxes → option_map (λ p. report p chosen) (option_map plan box) ≡ task_for (plans_of number plan boxes) meters (Run supply metered files)
   run_is supply metered chosen box m p =
-      ap (λ (ms : Option (List Meter)). with_plan ms (option_map plan box)) m
-      ∙ ap (λ (o : Option B). with_plan (if metered then Some meters else None) (option_map plan o)) p
+      ap (λ (ms : Option (List Meter)). option_map (λ p. report p ms) (option_map plan box)) m
+      ∙ ap (λ (o : Option B). option_map (λ q. report q (if metered then Some meters else None)) (option_map plan o)) p
 
   -- the same of an image
-  pub image_is : (box : Option B) → box ≡ first_with number 0 boxes → with_image (option_map plan box) ≡ task_for (plans_of number plan boxes) meters (Exec files)
-  image_is box p = ap (λ (o : Option B). with_image (option_map plan o)) p
+  pub image_is : (box : Option B) → box ≡ first_with number 0 boxes → option_map executing (option_map plan box) ≡ task_for (plans_of number plan boxes) meters (Exec files)
+  image_is box p = ap (λ (o : Option B). option_map executing (option_map plan o)) p
 
 -- the same call for what is asked
 pub comes_for : (words : List (List ℕ)) (task other : Option Task) (shelf : Fetches) (out : Writes) (told : List ℕ) (end : Answer) → task ≡ other
@@ -276,5 +276,5 @@ pub comes_for : (words : List (List ℕ)) (task other : Option Task) (shelf : Fe
 comes_for words task other shelf out told end e h = subst (λ (t : Option Task). Comes (call_of words t shelf out) told end) e h
 
 -- where nothing is asked for, no file is, and nothing is written
-pub comes_none : (c : Call) → c.task ≡ None → c.shelf.asked [] → c.out.took [] → Comes c [] answer.Usage
+pub comes_none : (c : Call) → c.task ≡ None → c.shelf.asked [] → TookNothing c.out → Comes c [] answer.Usage
 comes_none c none asked silent = record { none = none; asked = asked; silent = silence c silent }

@@ -7,19 +7,20 @@ use Rattle.oc_io.specs.declared.period.Period.{Period}
 use Rattle.oc_sensors.specs.History.{Told}
 use Rattle.oc_machine.specs.Kept.{Running}
 use Rattle.oc_drill.specs.Drill.{drill_line}
-use Rattle.oc_top.specs.Answers.{IsWritten, Writes, whole, in_part, status_of, drill_files, Call, Comes}
-use Rattle.oc_top.specs.Commands.{Plan, drill, with_drill}
+use Rattle.oc_top.specs.Answers.{IsWritten, TookNothing, Writes, whole, in_part, status_of, drill_files, Call, Comes}
+use Rattle.oc_top.specs.Commands.{Plan, drill}
 use Rattle.oc_top.specs.Drills.{IsAnswered, without_memory, turned_down, was_run, IsMeasured, IsDrilled, IsDrilledWith, no_room, told}
 use Rattle.oc_top.specs.Files.{AreFiles, Files}
 use Rattle.oc_top.specs.Sources.{Reading, ReadsAs, program}
 use Rattle.oc_top.specs.Steps.{IsReady, IsTurnedDown, by_memory, by_files}
 use Rattle.oc_top.specs.Verdict.{Verdict, verdict, runs, prints}
 use Rattle.oc_top.specs.declared.answer.Answer.{Answer}
+use Rattle.oc_top.specs.declared.answer.Answer.TheVariants as answer
 use Rattle.oc_top.proofs.Asking.{ready_run, comes_none, no_memory, was_done}
 use Rattle.oc_top.proofs.Exactly.{run_verdict}
 
 module _ (files : Files) (plan : Plan) (sink : Writes) (end : Answer) where
-  pub not_ready : IsTurnedDown files plan end → sink.took [] → IsAnswered files plan sink end
+  pub not_ready : IsTurnedDown files plan end → TookNothing sink → IsAnswered files plan sink end
   not_ready (by_memory e) t = without_memory e t
   not_ready (by_files reading reads apart v) t = turned_down reading reads v t
 
@@ -36,22 +37,22 @@ module _ (files : Files) (plan : Plan) (sink : Writes) (end : Answer) where
     pub ends : end ≡ (verdict reading files plan).answer
     pub taken : sink.took (verdict reading files plan).text
 
-  is_all : (sink.rose → ⊥) → (status_of end ≡ 11 → ⊥) → IsAnswered files plan sink end → IsAll
-  is_all calm memory (without_memory e t) = absurd (memory (ap status_of e))
+  is_all : (sink.rose → ⊥) → (end ≡ answer.Memory → ⊥) → IsAnswered files plan sink end → IsAll
+  is_all calm memory (without_memory e t) = absurd (memory e)
   is_all calm memory (turned_down reading reads v t) = record {
     reading = reading;
     reads = reads;
     ends = sym (ap (λ (run : Verdict). run.answer) v);
-    taken = subst (λ (x : List ℕ). sink.took x) (sym (ap (λ (run : Verdict). run.text) v)) t;
+    taken = subst (λ (x : List ℕ). sink.took x) (sym (ap (λ (run : Verdict). run.text) v)) t.untaken;
   }
   is_all calm memory (was_run reading reads (whole e t)) = record { reading = reading; reads = reads; ends = e; taken = t.taken }
   is_all calm memory (was_run reading reads (in_part e f)) = absurd (calm f.rose)
 
   -- a sink that counted from 0 on has the numbers
   pub is_measured : (status lines bytes : ℕ) → (sink.rose → ⊥) → ((x : List ℕ) → sink.took x → (bytes ≡ capped (length x)) × (lines ≡ capped (line_feeds x)))
-      → status ≡ status_of end → (status ≡ 11 → ⊥) → IsAnswered files plan sink end → IsMeasured files plan status lines bytes
+      → status ≡ status_of end → (end ≡ answer.Memory → ⊥) → IsAnswered files plan sink end → IsMeasured files plan status lines bytes
   is_measured status lines bytes calm counts is memory a =
-      let all = is_all calm (λ e. memory (is ∙ e)) a in
+      let all = is_all calm memory a in
       let numbers = counts (verdict all.reading files plan).text all.taken in
       record { reading = all.reading; reads = all.reads; is_status = is ∙ ap status_of all.ends; are_lines = numbers.1; are_bytes = numbers.0 }
 
@@ -72,7 +73,7 @@ none_fetched : (c : Call) → AreFiles c.shelf.holds c.words [] []
 none_fetched c = record { count = refl; each = λ k l. absurd (omega (arith, l)) }
 
 -- with the supply that was chosen, or none
-pub drill_comes : (c : Call) (turns : ℕ) (chosen : Option Plan) → c.task ≡ with_drill turns chosen → c.shelf.asked [] → (end : Answer)
+pub drill_comes : (c : Call) (turns : ℕ) (chosen : Option Plan) → c.task ≡ option_map (drill turns) chosen → c.shelf.asked [] → (end : Answer)
     → IsDrilledWith turns chosen c.out end → Comes c [] end
 drill_comes c turns None asked shelf end d = subst (λ (x : Answer). Comes c [] x) (sym d.0) (comes_none c asked shelf d.1)
 drill_comes c turns (Some plan) asked shelf end (no_room e t) = no_memory c (drill turns plan) asked [] (none_fetched c) shelf end e t

@@ -12,7 +12,7 @@ use Rattle.oc_isa.specs.declared.phase.Phase.{Phase}
 use Rattle.oc_isa.specs.declared.phase.Phase.TheVariants.{Waking, Undoing, Restoring, Running, Entering, Over, Lost}
 use Rattle.oc_tree.specs.declared.said.Shown.{Shown}
 use Rattle.oc_isa.specs.Next.{Regs, Next, Goes, Senses, Enters, Commits, Ends, Stuck, Device}
-use Rattle.oc_isa.specs.Power.{State, Stepped, checkpoint, World, told, held, undo_phase, wake, restore, resume, enter, enters, enter_on, commits, goes, to_log, run_next, next_at}
+use Rattle.oc_isa.specs.Power.{State, Stepped, checkpoint, World, with_said, held, undo_phase, wake, restore, resume, enter, enters, enter_on, commits, goes, to_log, run_next, next_at}
 use Rattle.oc_isa.specs.Power.{shown_of, words_of, ticked, tick_on, ticks_on, abort_of, power_fails, darkness, one_period, through, first_world, power_run, step}
 use Rattle.oc_items.specs.Reports.{EndsWith}
 
@@ -136,15 +136,15 @@ abbrev IsClear : Phase → List Told → Type 0
 IsClear (Over how) report = EndsOnlyLast report
 IsClear p report = HasNoEnd report
 
-more : (report : List Told) (t : ℕ) (said : Option Said) → HasNoEnd report → Says Running said → HasNoEnd (told report t said)
+more : (report : List Told) (t : ℕ) (said : Option Said) → HasNoEnd report → Says Running said → HasNoEnd (with_said report t said)
 more report t None n q = n
 more report t (Some s) n q = no_end_more report (record { tick = t; said = s }) n q
 
-last : (report : List Told) (t : ℕ) (said : Option Said) → HasNoEnd report → EndsOnlyLast (told report t said)
+last : (report : List Told) (t : ℕ) (said : Option Said) → HasNoEnd report → EndsOnlyLast (with_said report t said)
 last report t None n = only_last report n
 last report t (Some s) n = last_more report (record { tick = t; said = s }) n
 
-stays_clear : (p : Phase) (report : List Told) (t : ℕ) (said : Option Said) → HasNoEnd report → Says p said → IsClear p (told report t said)
+stays_clear : (p : Phase) (report : List Told) (t : ℕ) (said : Option Said) → HasNoEnd report → Says p said → IsClear p (with_said report t said)
 stays_clear (Over how) report t said n q = last report t said n
 stays_clear Waking report t None n q = n
 stays_clear Waking report t (Some s) n q = no_end_more report (record { tick = t; said = s }) n q
@@ -174,10 +174,10 @@ abort_says d Open words = tt
 abort_says d Sealed words = tt
 abort_says d Armed words = tt
 
-off_more : (report : List Told) (t off : ℕ) → HasNoEnd report → HasNoEnd (told report t (Some (Off off)))
+off_more : (report : List Told) (t off : ℕ) → HasNoEnd report → HasNoEnd (with_said report t (Some (Off off)))
 off_more report t off n = no_end_more report (record { tick = t; said = Off off }) n tt
 
-dark_last : (report : List Told) (t : ℕ) → HasNoEnd report → EndsOnlyLast (told report t (Some Dark))
+dark_last : (report : List Told) (t : ℕ) → HasNoEnd report → EndsOnlyLast (with_said report t (Some Dark))
 dark_last report t n = last_more report (record { tick = t; said = Dark }) n
 
 abbrev HasCleared : World → Type 0
@@ -207,7 +207,7 @@ module _ (d : Device) (h : ℕ → ℕ → ℤ) where
   ticks_by zero w c = c
   ticks_by (suc n) w c = ticks_by n (tick_on d h w) (tick_by w.state.phase w c)
 
-  awake : (p : Period) (s : State) (report : List Told) (t : ℕ) → HasNoEnd report → IsClear ((checkpoint p.cut s.area s).phase) (told (told report t (abort_of d s.area s.words)) t (Some (Off p.off)))
+  awake : (p : Period) (s : State) (report : List Told) (t : ℕ) → HasNoEnd report → IsClear ((checkpoint p.cut s.area s).phase) (with_said (with_said report t (abort_of d s.area s.words)) t (Some (Off p.off)))
   awake p s report t n = awake_clear p.cut s.area s _ (off_more _ t p.off (more report t _ n (abort_says d s.area s.words)))
 
   fails_by : (p : Period) (phase : Phase) (w : World) → HasCleared (world_in w phase) → HasCleared (power_fails d p (world_in w phase))

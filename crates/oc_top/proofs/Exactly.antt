@@ -6,15 +6,15 @@ use Rattle.oc_io.specs.declared.period.Period.{Period}
 use Rattle.oc_io.specs.Held.{Held, untold, nothing, content, Gives, Longer}
 use Rattle.oc_power.specs.Power.{Power, power_file}
 use Rattle.oc_sensors.specs.File.{Readings}
+use Rattle.oc_sensors.specs.File as sensor_rows
 use Rattle.oc_sensors.specs.History.{history}
 use Rattle.oc_tree.specs.Tree.{TProgram}
-use Rattle.oc_tree.specs.declared.said.Said.{Said}
-use Rattle.oc_tree.specs.declared.said.Said.TheVariants.{Ended}
 use Rattle.oc_tree.specs.declared.said.Ending.TheVariants.{Halted, Trapped}
 use Rattle.oc_isa.specs.Image.{Parts}
-use Rattle.oc_isa.specs.Power.{first_world, power_run}
+use Rattle.oc_isa.specs.Power.{power_run}
+use Rattle.oc_isa.specs.declared.phase.Phase.{Phase}
+use Rattle.oc_isa.specs.declared.phase.Phase.TheVariants.{Over, Lost}
 use Rattle.oc_isa.specs.Table.{device_of}
-use Rattle.oc_outage.specs.Honest.{loses_checkpoint}
 use Rattle.oc_top.specs.Meant.{program_code}
 use Rattle.oc_top.specs.Commands.{Plan, report, drill, regions, listing, imaging, checking, auditing, executing, limits_of, Task, word_at}
 use Rattle.oc_top.specs.Files.{Files, run_files, file_at, limit_at, IsFile, AreFiles, WereFetched, IsHeld, AreHeld, AreHeldBefore}
@@ -23,27 +23,24 @@ use Rattle.oc_top.proofs.OneReading.{one_reading}
 use Rattle.oc_top.proofs.Auditing.{one_audit, vouched_audit}
 use Rattle.oc_top.proofs.Checking.{one_check, safe_check}
 use Rattle.oc_top.proofs.Executing.{executed_judged, one_execution}
-use Rattle.oc_top.specs.Reports.{answer_by, answer_of, last_said}
-use Rattle.oc_top.specs.Verdict.{Verdict, verdict, printed, is_of_run, is_refusal, refuses, with_sensors, with_power}
+use Rattle.oc_top.specs.Reports.{answer_of}
+use Rattle.oc_top.specs.Verdict.{Verdict, verdict, printed, is_of_run, is_refusal, refuses, with_sensors}
 use Rattle.oc_top.specs.Headline.{IsRun}
 use Rattle.oc_top.specs.Answers.{status_of, is_written, IsVerdict, IsJudged, IsPrint, IsDone, IsDoneWhole, Call, IsNoTask, IsUnfetched, HasFiles, AreRefused, WasDone}
-use Rattle.oc_top.specs.Answers.{IsWhole, IsPart, HadNoMemory, Comes}
+use Rattle.oc_top.specs.Answers.{IsWhole, IsPart, HadNoMemory, TookNothing, Comes}
 use Rattle.oc_top.specs.declared.answer.Answer.{Answer}
 use Rattle.oc_top.specs.declared.answer.Answer.TheVariants as answer
 
 -- ---- the answer to a run
 
-run_by_last : (last : Option Said) → is_of_run (answer_by last) ≡ true
-run_by_last (Some (Ended Halted)) = refl
-run_by_last (Some (Ended (Trapped kind stmt))) = refl
-run_by_last last = refl
+run_by : (phase : Phase) → is_of_run (answer_of phase) ≡ true
+run_by (Over Halted) = refl
+run_by (Over (Trapped kind stmt)) = refl
+run_by Lost = refl
+run_by phase = refl
 
-run_by : (b : Bool) (last : Option Said) → is_of_run (cond b answer.Cut (answer_by last)) ≡ true
-run_by true last = refl
-run_by false last = run_by_last last
-
-pub of_run : (parts : Parts) (h : ℕ → ℕ → ℤ) (periods : List Period) → is_of_run (answer_of parts h periods) ≡ true
-of_run parts h periods = run_by (loses_checkpoint (device_of parts) h periods (first_world (device_of parts))) (last_said ((power_run (device_of parts) h periods).report))
+pub of_run : (parts : Parts) (h : ℕ → ℕ → ℤ) (periods : List Period) → is_of_run (answer_of (power_run (device_of parts) h periods).state.phase) ≡ true
+of_run parts h periods = run_by (power_run (device_of parts) h periods).state.phase
 
 module _ (files : Files) (plan : Plan) (run : Verdict) (r : IsRun files plan run) where
   pub run_answer : is_of_run run.answer ≡ true
@@ -52,7 +49,7 @@ module _ (files : Files) (plan : Plan) (run : Verdict) (r : IsRun files plan run
   pub run_verdict : verdict (program r.written) files plan ≡ run
   run_verdict =
       ap (λ (s : Readings). with_sensors (program_code r.written) s (power_file files.power) plan) r.sensed
-      ∙ ap (λ (p : Power). with_power (program_code r.written) r.rows p plan) r.powered
+      ∙ ap (λ (p : Power). with_sensors (program_code r.written) (sensor_rows.readings r.rows) p plan) r.powered
       ∙ sym r.is_run
 
 -- what is done is the verdict on the files, of which there is one, and its answer is no refusal
@@ -348,7 +345,7 @@ module _ (c : Call) (told : List ℕ) where
 
   -- ---- what is written
 
-  quiet_by : (end : Answer) → Cause c told end → is_written (status_of end) ≡ false → c.out.took []
+  quiet_by : (end : Answer) → Cause c told end → is_written (status_of end) ≡ false → TookNothing c.out
   quiet_by end (nothing_asked e w) s = w.silent.unwritten
   quiet_by end (unread file e w) s = w.silent.unwritten
   quiet_by end (too_long file e w) s = w.silent.unwritten
@@ -357,5 +354,5 @@ module _ (c : Call) (told : List ℕ) where
   quiet_by end (in_part e w) s = absurd (true≢false (sym (ap (λ (x : Answer). is_written (status_of x)) e) ∙ s))
   quiet_by end (no_memory e w) s = w.silent.unwritten
 
-  pub quiet : (end : Answer) → Comes c told end → is_written (status_of end) ≡ false → c.out.took []
+  pub quiet : (end : Answer) → Comes c told end → is_written (status_of end) ≡ false → TookNothing c.out
   quiet end w s = quiet_by end (cause c told end w) s

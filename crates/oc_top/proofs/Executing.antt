@@ -4,6 +4,7 @@ use Rattle.std.specs.Prelude.{Result, Ok, Err}
 use Rattle.oc_io.specs.declared.period.Period.{Period}
 use Rattle.oc_power.specs.Power.{Power, power_file}
 use Rattle.oc_sensors.specs.File.{Readings}
+use Rattle.oc_sensors.specs.File as sensor_rows
 use Rattle.oc_sensors.specs.History.{Told, history}
 use Rattle.oc_isa.specs.Image.{Parts, parts_of}
 use Rattle.oc_isa.specs.declared.image.RawImage.{RawImage}
@@ -23,7 +24,7 @@ use Rattle.oc_verify.proofs.WholeLaws.{read_back}
 use Rattle.oc_top.specs.Commands.{Plan}
 use Rattle.oc_top.specs.Files.{Files}
 use Rattle.oc_top.specs.Steps.{IsNotReady, IsReadyFor}
-use Rattle.oc_top.specs.Verdict.{Verdict, is_refusal, refuses, runs, with_parts, with_sensors, with_power}
+use Rattle.oc_top.specs.Verdict.{Verdict, is_refusal, refuses, runs, with_parts, with_sensors}
 use Rattle.oc_top.specs.Images.{IsAdmitted, IsExecuted, IsExecution, IsNotLoaded, IsNotRun, IsRefusedImage, OutagesDontShow, breaks_rule, executed, for_bytes, for_image, no_image, no_run}
 use Rattle.oc_top.specs.declared.answer.Answer.{Answer}
 use Rattle.oc_top.specs.declared.answer.Answer.TheVariants as answer
@@ -95,7 +96,7 @@ module _ (files : Files) (plan : Plan) where
 
   pub executed_judged : (run : Verdict) → IsExecuted files plan run → IsExecution files plan run
   executed_judged run d = executed d.image d.admitted (d.is_run
-      ∙ sym (ap (λ (s : Readings). with_sensors d.image s (power_file files.power) plan) d.sensed ∙ ap (λ (p : Power). with_power d.image d.rows p plan) d.powered))
+      ∙ sym (ap (λ (s : Readings). with_sensors d.image s (power_file files.power) plan) d.sensed ∙ ap (λ (p : Power). with_sensors d.image (sensor_rows.readings d.rows) p plan) d.powered))
 
   -- ---- the steps
 

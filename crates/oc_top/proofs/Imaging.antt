@@ -16,11 +16,11 @@ use Rattle.oc_desugar.proofs.SizesKept.{unbroken_element}
 use Rattle.oc_isa.specs.Bytes.{IsFew, IsSmall}
 use Rattle.oc_isa.specs.Image.{Parts}
 use Rattle.oc_code.specs.Code.{function_code, image_function, image_functions}
-use Rattle.oc_formed.proofs.Amounts.{few_functions, few_nvs}
-use Rattle.oc_formed.proofs.Declared.{AllWithin, all_within}
-use Rattle.oc_formed.proofs.Mains.{head_fine}
+use Rattle.oc_checked.proofs.Amounts.{few_functions, few_nvs}
+use Rattle.oc_checked.proofs.Declared.{AllWithin, all_within}
+use Rattle.oc_checked.proofs.Mains.{head_fine}
 use Rattle.oc_writes.specs.Targets.{region_targets}
-use Rattle.oc_builds.proofs.Placing.{as_many}
+use Rattle.oc_code.proofs.Whole.{as_many}
 use Rattle.oc_top.specs.Meant.{program_marked, program_code}
 use Rattle.oc_top.specs.Sources.{ReadsAs, program}
 use Rattle.oc_top.specs.Steps.{IsBuilt}

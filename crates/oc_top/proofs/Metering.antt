@@ -8,7 +8,7 @@ use Rattle.oc_meters.specs.Tally.{Reading, readings}
 use Rattle.oc_meters.specs.Reads.{Page, TakesBytes, page}
 use Rattle.oc_meters.specs.ReadBack.{ReportIsRead, begun, tell_items}
 use Rattle.oc_meters.specs.Lines.{meter_lines}
-use Rattle.oc_apart.specs.Apart.{HasNamesApart}
+use Rattle.oc_audit.specs.Apart.{HasNamesApart}
 use Rattle.oc_meters.specs.Passing.{faults_by}
 use Rattle.oc_meters.specs.Taken.{Took}
 use Rattle.oc_top.specs.Verdict.{RunFits, Verdict, runs}

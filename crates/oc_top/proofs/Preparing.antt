@@ -2,11 +2,13 @@
 use Rattle.std.proofs.Common.{◌<◌, ◌^◌, ◌≡◌, ◌∙◌, sym, ap, refl, subst, inl, inr, List, length}
 use Rattle.oc_power.specs.Power.{Power, power_file}
 use Rattle.oc_power.specs.Power as power_rows
+use Rattle.oc_power.specs.Causes as power_causes
 use Rattle.oc_power.specs.declared.power.PowerError.{PowerError}
 use Rattle.oc_power.specs.declared.power.PowerError.TheVariants as power_error
 use Rattle.oc_sensors.specs.declared.sensors.Row.{Row}
 use Rattle.oc_sensors.specs.File.{Readings, sensor_file}
 use Rattle.oc_sensors.specs.File as sensor_rows
+use Rattle.oc_sensors.specs.Causes as sensor_causes
 use Rattle.oc_sensors.specs.declared.file.SensorError.{SensorError}
 use Rattle.oc_sensors.specs.declared.file.SensorError.TheVariants as sensor_error
 use Rattle.oc_io.specs.declared.period.Period.{Period}
@@ -21,7 +23,7 @@ use Rattle.oc_top.proofs.Readings.{shown_words}
 use Rattle.oc_top.specs.Commands.{Plan}
 use Rattle.oc_top.specs.Files.{Files}
 use Rattle.oc_top.specs.Sources.{faulty, breaks, program}
-use Rattle.oc_top.specs.Verdict.{verdict, with_parts, with_sensors, with_power}
+use Rattle.oc_top.specs.Verdict.{verdict, with_parts, with_sensors}
 use Rattle.oc_top.specs.Steps.{IsBuilt, IsNotBuilt, IsNotReady, IsReadyFor, IsTurnedDown, by_memory, by_files, for_sensors, for_power}
 use Rattle.oc_top.specs.declared.answer.Answer.{Answer}
 use Rattle.oc_top.specs.declared.answer.Answer.TheVariants as answer
@@ -43,21 +45,21 @@ module _ (files : Files) (plan : Plan) where
   not_ready parts b end (inr r) = by_files (program b.written) b.reads r.0 (is_verdict parts b ∙ r.1)
 
   module _ (parts : Parts) where
-    sensors_by : (e : SensorError) → sensor_rows.Explains (sensor_file parts.names.sensors files.sensors) e → IsNotReady parts files plan (for_sensors e)
+    sensors_by : (e : SensorError) → sensor_causes.ExplainsSensors (sensor_file parts.names.sensors files.sensors) e → IsNotReady parts files plan (for_sensors e)
     sensors_by (sensor_error.Row row what) x = inr (refl, ap (λ (r : Readings). with_sensors parts r (power_file files.power) plan) x)
     sensors_by sensor_error.Memory x = inl refl
 
-    pub no_sensors : (end : Answer) (e : SensorError) → end ≡ for_sensors e → sensor_rows.Explains (sensor_file parts.names.sensors files.sensors) e → IsNotReady parts files plan end
+    pub no_sensors : (end : Answer) (e : SensorError) → end ≡ for_sensors e → sensor_causes.ExplainsSensors (sensor_file parts.names.sensors files.sensors) e → IsNotReady parts files plan end
     no_sensors end e i x = rw i (sensors_by e x)
 
     power_by : (e : PowerError) (rows : List Row) → sensor_file parts.names.sensors files.sensors ≡ sensor_rows.readings rows
-        → power_rows.Explains (power_file files.power) e → IsNotReady parts files plan (for_power e)
+        → power_causes.ExplainsPower (power_file files.power) e → IsNotReady parts files plan (for_power e)
     power_by (power_error.Row row what) rows s x =
-        inr (refl, ap (λ (r : Readings). with_sensors parts r (power_file files.power) plan) s ∙ ap (λ (p : Power). with_power parts rows p plan) x)
+        inr (refl, ap (λ (r : Readings). with_sensors parts r (power_file files.power) plan) s ∙ ap (λ (p : Power). with_sensors parts (sensor_rows.readings rows) p plan) x)
     power_by power_error.Memory rows s x = inl refl
 
     pub no_power : (end : Answer) (e : PowerError) (rows : List Row) → end ≡ for_power e → sensor_file parts.names.sensors files.sensors ≡ sensor_rows.readings rows
-        → power_rows.Explains (power_file files.power) e → IsNotReady parts files plan end
+        → power_causes.ExplainsPower (power_file files.power) e → IsNotReady parts files plan end
     no_power end e rows i s x = rw i (power_by e rows s x)
 
 module _ (files : Files) (plan : Plan) (machine : Running) (sensors : Told) (left : List Period) (parts : Parts) where

@@ -1,13 +1,11 @@
 -- The values that a sensor file tells are words.
-use Rattle.std.proofs.Common.{ℕ, zero, suc, ℤ, pos, ◌+◌, ◌^◌, ◌==◌, ◌≡◌, refl, Bool, true, false, cond, List, [], ◌∷◌, Option, Some, None, Result, Ok, Err, arith, subst, get_or, length}
+use Rattle.std.proofs.Common.{ℕ, zero, suc, ℤ, pos, ◌+◌, ◌^◌, ◌==◌, ◌≡◌, refl, Bool, true, false, cond, List, [], ◌∷◌, Option, Some, None, arith, subst, get_or, length}
 use Rattle.std.specs.Prelude.{nat_lt, nat_le, ◌&&◌, neg_ℤ, option_and_then}
 use Rattle.std.proofs.lemmas.Bool.{le-leb, ltb-true, leb-true}
 use Rattle.oc_tree.specs.Word.{is_word}
 use Rattle.oc_rows.specs.Numbers.{number_of}
 use Rattle.oc_rows.specs.Rows.{file_rows}
 use Rattle.oc_sensors.specs.declared.sensors.Row.{Row}
-use Rattle.oc_sensors.specs.declared.file.SensorWhat.{SensorWhat}
-use Rattle.oc_sensors.specs.declared.file.SensorWhat.TheVariants as what
 use Rattle.oc_sensors.specs.File.{Readings, readings, bad, plain, negative, value_of, row_of, row_after, sensor_of, sensor_row, with_row, row_then, sensor_rows, is_header, readings_of, sensor_file}
 use Rattle.oc_sensors.specs.History.{shown_after, history}
 
@@ -55,17 +53,17 @@ value_word (first ∷ rest) z e = value_by (first == 45) first rest z e
 
 -- ---- rows
 
-row_by : (time : ℕ) (sensor : Option ℕ) (value : Option ℤ) (row : Row) → row_of time sensor value ≡ Ok row → ((z : ℤ) → value ≡ Some z → IsWord z) → IsWord row.value
+row_by : (time : ℕ) (sensor : Option ℕ) (value : Option ℤ) (row : Row) → row_of time sensor value ≡ Some row → ((z : ℤ) → value ≡ Some z → IsWord z) → IsWord row.value
 row_by time None value row e w = cc e
 row_by time (Some sensor) None row e w = cc e
 row_by time (Some sensor) (Some z) row e w = let i : record { time = time; sensor = sensor; value = z } ≡ row = cc in subst (λ (r : Row). IsWord r.value) i (w z refl)
 
-after_by : (b : Bool) (time : ℕ) (sensor : Option ℕ) (value : Option ℤ) (row : Row) → cond b (Err what.Order) (row_of time sensor value) ≡ Ok row
+after_by : (b : Bool) (time : ℕ) (sensor : Option ℕ) (value : Option ℤ) (row : Row) → cond b None (row_of time sensor value) ≡ Some row
     → ((z : ℤ) → value ≡ Some z → IsWord z) → IsWord row.value
 after_by true time sensor value row e w = cc e
 after_by false time sensor value row e w = row_by time sensor value row e w
 
-row_after_word : (before : ℕ) (time sensor : Option ℕ) (value : Option ℤ) (row : Row) → row_after before time sensor value ≡ Ok row → ((z : ℤ) → value ≡ Some z → IsWord z) → IsWord row.value
+row_after_word : (before : ℕ) (time sensor : Option ℕ) (value : Option ℤ) (row : Row) → row_after before time sensor value ≡ Some row → ((z : ℤ) → value ≡ Some z → IsWord z) → IsWord row.value
 row_after_word before None sensor value row e w = cc e
 row_after_word before (Some time) sensor value row e w = after_by (nat_lt time before) time sensor value row e w
 
@@ -79,27 +77,27 @@ same_rows a b e = cc
 
 with_words : (row : Row) (more : Readings) (rows : List Row) → with_row row more ≡ readings rows → IsWord row.value → ((rs : List Row) → more ≡ readings rs → AreWords rs) → AreWords rows
 with_words row (readings rs) rows e w h = subst AreWords (same_rows (row ∷ rs) rows e) (w, h rs refl)
-with_words row (bad number why) rows e w h = cc e
+with_words row (bad number) rows e w h = cc e
 
 module _ (names : List (List ℕ)) where
   row_word_by : (b : Bool) (before : ℕ) (fields : List (List ℕ)) (row : Row)
-      → cond b (row_after before (number_of (get_or fields 0 [])) (sensor_of names (get_or fields 1 [])) (value_of (get_or fields 2 []))) (Err what.Fields) ≡ Ok row → IsWord row.value
+      → cond b (row_after before (number_of (get_or fields 0 [])) (sensor_of names (get_or fields 1 [])) (value_of (get_or fields 2 []))) None ≡ Some row → IsWord row.value
   row_word_by true before fields row e = row_after_word before _ _ _ row e (value_word (get_or fields 2 []))
   row_word_by false before fields row e = cc e
 
-  row_word : (before : ℕ) (fields : List (List ℕ)) (row : Row) → sensor_row names before fields ≡ Ok row → IsWord row.value
+  row_word : (before : ℕ) (fields : List (List ℕ)) (row : Row) → sensor_row names before fields ≡ Some row → IsWord row.value
   row_word before fields row e = row_word_by (length fields == 3) before fields row e
 
-  then_words : (number : ℕ) (one : Result Row SensorWhat) (more : Row → Readings) (rows : List Row) → row_then number one more ≡ readings rows
-      → ((row : Row) → one ≡ Ok row → IsWord row.value) → ((row : Row) (rs : List Row) → more row ≡ readings rs → AreWords rs) → AreWords rows
-  then_words number (Ok row) more rows e w h = with_words row (more row) rows e (w row refl) (h row)
-  then_words number (Err why) more rows e w h = cc e
+  then_words : (number : ℕ) (one : Option Row) (more : Row → Readings) (rows : List Row) → row_then number one more ≡ readings rows
+      → ((row : Row) → one ≡ Some row → IsWord row.value) → ((row : Row) (rs : List Row) → more row ≡ readings rs → AreWords rs) → AreWords rows
+  then_words number (Some row) more rows e w h = with_words row (more row) rows e (w row refl) (h row)
+  then_words number None more rows e w h = cc e
 
   rows_words : (number before : ℕ) (left : List (List (List ℕ))) (rows : List Row) → sensor_rows names number before left ≡ readings rows → AreWords rows
   rows_words number before [] rows e = subst AreWords (same_rows [] rows e) tt
   rows_words number before (fields ∷ left) rows e = then_words number (sensor_row names before fields) _ rows e (row_word before fields) (λ row rs i. rows_words (number + 1) row.time left rs i)
 
-  header_words : (b : Bool) (left : List (List (List ℕ))) (rows : List Row) → cond b (sensor_rows names 2 0 left) (bad 1 what.Header) ≡ readings rows → AreWords rows
+  header_words : (b : Bool) (left : List (List (List ℕ))) (rows : List Row) → cond b (sensor_rows names 2 0 left) (bad 1) ≡ readings rows → AreWords rows
   header_words true left rows e = rows_words 2 0 left rows e
   header_words false left rows e = cc e
 

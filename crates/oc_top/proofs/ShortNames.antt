@@ -23,7 +23,7 @@ use Rattle.oc_grammar.specs.Expressions.{Spells, literal, yes, no, name, element
 use Rattle.oc_grammar.specs.Expressions.{by_shared, by_mutable, SpellsArgs, closed, last, further}
 use Rattle.oc_grammar.specs.Statements.{SpellsScalar, int_scalar, bool_scalar, SpellsArray, an_array, SpellsType, int_type, bool_type, array_type, SpellsConst, positive, negative}
 use Rattle.oc_grammar.specs.Statements.{SpellsRight, a_right, SpellsMut, with_mut, without_mut, SpellsNote, typed, untyped, LetHead, let_head, SpellsSimple, let_right, let_fill}
-use Rattle.oc_grammar.specs.Statements.{assigns, assigns_index, assigns_deref, calls, senses, emits, marks_fresh, marks_consistent, returns, Place, SpellsKind, simple, if_form}
+use Rattle.oc_grammar.specs.Statements.{assigns, assigns_index, assigns_deref, calls, senses, emits, marks_fresh, marks_consistent, returns, Position, SpellsKind, simple, if_form}
 use Rattle.oc_grammar.specs.Statements.{for_form, while_form, atomic_form, SpellsElse, without, otherwise, else_if, SpellsStmt, statement, SpellsBlock, braces, SpellsStmts, end, first}
 use Rattle.oc_grammar.specs.Programs.{SpellsPassing, itself, shared_ref, mutable_ref, SpellsParam, a_param, SpellsParams, no_param, last_param, further_params, SpellsResult}
 use Rattle.oc_grammar.specs.Programs.{no_result, a_result, SpellsFunction, a_function, SpellsCells, one_cell, array_cells, SpellsNv, an_nv, SpellsItem, sensor_item, port_item}
@@ -150,25 +150,25 @@ module _ (most : ℕ) where
   simple_left (returns k w s) h = sign_left s (expr_left w.spelled (keyword_left k h))
 
   mutual
-    kind_left : {limits : Limits} {room : ℕ} {k : TKind} {p q : Place} → SpellsKind limits room k p q → AreShort most p.2 → AreShort most q.2
+    kind_left : {limits : Limits} {room : ℕ} {k : TKind} {p q : Position} → SpellsKind limits room k p q → AreShort most p.2 → AreShort most q.2
     kind_left (simple d) h = simple_left d h
     kind_left (if_form k c t o) h = else_left o (block_left t (expr_left c.spelled (keyword_left k h)))
     kind_left (for_form k i n c r d t) h = block_left t (const_left d (sign_left r (const_left c (keyword_left n (name_left i (keyword_left k h))))))
     kind_left (while_form k c w i t) h = block_left t (number_left i (keyword_left w (expr_left c.spelled (keyword_left k h))))
     kind_left (atomic_form k t) h = block_left t (keyword_left k h)
 
-    else_left : {limits : Limits} {room : ℕ} {o : TElse} {p q : Place} → SpellsElse limits room o p q → AreShort most p.2 → AreShort most q.2
+    else_left : {limits : Limits} {room : ℕ} {o : TElse} {p q : Position} → SpellsElse limits room o p q → AreShort most p.2 → AreShort most q.2
     else_left without h = h
     else_left (otherwise k t) h = block_left t (keyword_left k h)
     else_left (else_if k l d) h = stmt_left d (keyword_left k h)
 
-    stmt_left : {limits : Limits} {room : ℕ} {s : TStmt} {p q : Place} → SpellsStmt limits room s p q → AreShort most p.2 → AreShort most q.2
+    stmt_left : {limits : Limits} {room : ℕ} {s : TStmt} {p q : Position} → SpellsStmt limits room s p q → AreShort most p.2 → AreShort most q.2
     stmt_left (statement d) h = kind_left d h
 
-    block_left : {limits : Limits} {room : ℕ} {t : TBlock} {p q : Place} → SpellsBlock limits room t p q → AreShort most p.2 → AreShort most q.2
+    block_left : {limits : Limits} {room : ℕ} {t : TBlock} {p q : Position} → SpellsBlock limits room t p q → AreShort most p.2 → AreShort most q.2
     block_left (braces s d) h = stmts_left d (sign_left s h)
 
-    stmts_left : {limits : Limits} {room : ℕ} {ss : TStmts} {p q : Place} → SpellsStmts limits room ss p q → AreShort most p.2 → AreShort most q.2
+    stmts_left : {limits : Limits} {room : ℕ} {ss : TStmts} {p q : Position} → SpellsStmts limits room ss p q → AreShort most p.2 → AreShort most q.2
     stmts_left (end s) h = sign_left s h
     stmts_left (first d e) h = stmts_left e (stmt_left d h)
 
@@ -202,7 +202,7 @@ module _ (most : ℕ) where
   name_short : {x : Text} {from rest : Lexemes} → Named x from rest → AreShort most from → length x ≤ most
   name_short a_name h = h.0
 
-  function_short : {limits : Limits} {f : TFunction} {p q : Place} → SpellsFunction limits f p q → AreShort most p.2 → (length f.name ≤ most) × AreShort most q.2
+  function_short : {limits : Limits} {f : TFunction} {p q : Position} → SpellsFunction limits f p q → AreShort most p.2 → (length f.name ≤ most) × AreShort most q.2
   function_short (a_function w i o ps r t) h =
       let a = keyword_left w h in (name_short i a, block_left t (result_left r (params_left ps (sign_left o (name_left i a)))))
 
@@ -210,7 +210,7 @@ module _ (most : ℕ) where
   nv_short (an_nv w i s c e z t) h =
       let a = keyword_left w h in (name_short i a, sign_left t (const_left z (sign_left e (cells_left c (sign_left s (name_left i a))))))
 
-  item_short : {limits : Limits} {p q : TProgram} {x y : Place} → SpellsItem limits p x q y → AreShort most x.2 → HasShortNames most p → HasShortNames most q × AreShort most y.2
+  item_short : {limits : Limits} {p q : TProgram} {x y : Position} → SpellsItem limits p x q y → AreShort most x.2 → HasShortNames most p → HasShortNames most q × AreShort most y.2
   item_short (sensor_item {p = p} {x = x} w i s) h g =
       let a = keyword_left w h in
       let one : length x ≤ most = name_short i a in
@@ -226,7 +226,7 @@ module _ (most : ℕ) where
       let a = function_short d h in
       (record { sensors = g.sensors; ports = g.ports; nvs = g.nvs; functions = All-push (λ e. length e.name ≤ most) p.functions f g.functions a.0 }, a.1)
 
-  items_short : {limits : Limits} {p r : TProgram} {x : Place} → SpellsItems limits p x r → AreShort most x.2 → HasShortNames most p → HasShortNames most r
+  items_short : {limits : Limits} {p r : TProgram} {x : Position} → SpellsItems limits p x r → AreShort most x.2 → HasShortNames most p → HasShortNames most r
   items_short no_item h g = g
   items_short (an_item d e) h g = let a = item_short d h g in items_short e a.1 a.0
 

@@ -1,9 +1,6 @@
 -- Regions that are written.
 use Rattle.std.proofs.Common.{ℕ, ◌<◌, ◌≡◌, ◌∙◌, sym, ap, subst, List, ◌++◌, map, length, get_or}
 use Rattle.std.proofs.lemmas.List.{length-map}
-use Rattle.oc_io.specs.Faults.{TookPart}
-use Rattle.oc_io.proofs.Going.{Going, Both}
-use Rattle.oc_isa.proofs.Ending.{after_front, ends_whole, ends_part, part_of_front}
 use Rattle.oc_tree.specs.Names.{Text}
 use Rattle.oc_tree.specs.Marked.{TRegion, TMarked}
 use Rattle.oc_tree.specs.Regions.{region_view}
@@ -20,22 +17,10 @@ use Rattle.oc_top.proofs.Naming.{seen_at}
 
 -- ---- a region's line, and those of its reasons
 
-module _ {S : Type 0} (took : S → List ℕ → S → Type 0) (m : TMarked) (r : TRegion) (name : Text) (n : Numbers) (is : name ≡ function_name m.program r.function) (reasons : List ℕ)
-    (same : reasons ≡ r.reasons) where
-  joined : region_fields r name n ++ reason_lines m reasons ≡ lines_with m r n
-  joined = ap (λ (t : Text). region_fields r t n ++ reason_lines m reasons) is ∙ ap (λ (rs : List ℕ). region_fields r (function_name m.program r.function) n ++ reason_lines m rs) same
-
-  pub lines_front : (a b : S) → TookPart took a (region_fields r name n) b → TookPart took a (lines_with m r n) b
-  lines_front a b p = part_of_front took a b (region_fields r name n) (reason_lines m reasons) (lines_with m r n) joined p
-
-  begun : (a b : S) → took a (region_fields r name n) b → Going took a b (reason_lines m reasons) (lines_with m r n)
-  begun a b p = after_front took a b (region_fields r name n) (reason_lines m reasons) (lines_with m r n) joined p
-
-  pub lines_whole : Both took → (a b c : S) → took a (region_fields r name n) b → took b (reason_lines m reasons) c → took a (lines_with m r n) c
-  lines_whole both a b c p q = ends_whole took both a b c (reason_lines m reasons) (lines_with m r n) (begun a b p) q
-
-  pub lines_part : Both took → (a b c : S) → took a (region_fields r name n) b → TookPart took b (reason_lines m reasons) c → TookPart took a (lines_with m r n) c
-  lines_part both a b c p q = ends_part took both a b c (reason_lines m reasons) (lines_with m r n) (begun a b p) q
+pub lines_joined : (m : TMarked) (r : TRegion) (name : Text) (n : Numbers) → name ≡ function_name m.program r.function → (reasons : List ℕ) → reasons ≡ r.reasons
+    → region_fields r name n ++ reason_lines m reasons ≡ lines_with m r n
+lines_joined m r name n is reasons same =
+    ap (λ (t : Text). region_fields r t n ++ reason_lines m reasons) is ∙ ap (λ (rs : List ℕ). region_fields r (function_name m.program r.function) n ++ reason_lines m rs) same
 
 -- ---- the numbers in a region's line
 
@@ -66,9 +51,5 @@ module _ (m : TMarked) (b : Budgets) (told : budgets_view b ≡ limited_budgets 
 
   -- ---- the whole text
 
-  whole_text : region_lines m (budgets_view b) 0 m.regions ++ total_lines b.total b.safe ≡ regions_text m (limited_budgets m)
+  pub whole_text : region_lines m (budgets_view b) 0 m.regions ++ total_lines b.total b.safe ≡ regions_text m (limited_budgets m)
   whole_text = ap (regions_text m) told
-
-  pub text_part : {S : Type 0} (took : S → List ℕ → S → Type 0) (both : Both took) (x y z : S) → took x (region_lines m (budgets_view b) 0 m.regions) y
-      → TookPart took y (total_lines b.total b.safe) z → TookPart took x (regions_text m (limited_budgets m)) z
-  text_part took both x y z p q = ends_part took both x y z (total_lines b.total b.safe) (regions_text m (limited_budgets m)) (after_front took x y _ _ _ whole_text p) q

@@ -4,15 +4,15 @@ use Rattle.std.specs.Prelude.{◌==◌, option_map, if◌then◌else◌}
 use Rattle.oc_power.specs.Cutting.{cut_rows}
 use Rattle.oc_power.specs.Looping.{looped}
 use Rattle.oc_meters.specs.Tally.{Reading, reading, readings}
-use Rattle.oc_top.specs.Commands.{Command, Drill, Exec, Plan, Plans, Run, plans_of, task_of, with_drill, with_image, with_plan}
+use Rattle.oc_top.specs.Commands.{Command, Drill, Exec, Plan, Plans, Run, plans_of, task_of, report, drill, executing}
 use Rattle.oc_top.specs.Supplies.{piece_limit, round_limit, standard_meters, standard_plans}
 
 -- plans that give the same for each number give the same task
 same_task_for : (p q : Plans) (meters : List Reading) → ((k : ℕ) → p k ≡ q k) → (command : Option Command) → task_of p meters command ≡ task_of q meters command
 same_task_for p q meters h None = refl
-same_task_for p q meters h (Some (Run supply metered files)) = ap (λ (o : Option Plan). with_plan (if metered then Some meters else None) o) (h supply)
-same_task_for p q meters h (Some (Drill turns)) = ap (λ (o : Option Plan). with_drill turns o) (h 0)
-same_task_for p q meters h (Some (Exec files)) = ap (λ (o : Option Plan). with_image o) (h 0)
+same_task_for p q meters h (Some (Run supply metered files)) = ap (λ (o : Option Plan). option_map (λ plan. report plan (if metered then Some meters else None)) o) (h supply)
+same_task_for p q meters h (Some (Drill turns)) = ap (λ (o : Option Plan). option_map (drill turns) o) (h 0)
+same_task_for p q meters h (Some (Exec files)) = ap (λ (o : Option Plan). option_map executing o) (h 0)
 same_task_for p q meters h (Some other) = refl
 
 unlike : (n k : ℕ) → n < k → (n == k) ≡ false

@@ -1,6 +1,5 @@
 -- What a call does, from its answer and that answer's cause; and where its periods suffice a run ends by itself.
 use Rattle.std.proofs.Common.{ℕ, ◌≡◌, ◌⊎◌, ◌∙◌, sym, ap, refl, subst, inl, inr, ℤ, List, [], ◌∷◌, ◌++◌, Bool, true, false, Option, Some}
-use Rattle.std.specs.Prelude.{if◌then◌else◌}
 use Rattle.oc_io.specs.declared.period.Period.{Period}
 use Rattle.oc_power.specs.Power.{Power, power_file}
 use Rattle.oc_power.specs.Power as power_rows
@@ -9,24 +8,18 @@ use Rattle.oc_sensors.specs.File.{Readings, sensor_file}
 use Rattle.oc_sensors.specs.File as sensor_rows
 use Rattle.oc_sensors.specs.History.{history}
 use Rattle.oc_tree.specs.Tree.{TProgram}
-use Rattle.oc_tree.specs.Said.{Told}
-use Rattle.oc_tree.specs.declared.said.Said.TheVariants.{Ended}
 use Rattle.oc_tree.specs.declared.said.Ending.{Ending}
 use Rattle.oc_tree.specs.declared.said.Ending.TheVariants.{Halted, Trapped}
-use Rattle.oc_isa.specs.Image.{Parts}
-use Rattle.oc_isa.specs.Power.{first_world, power_run}
 use Rattle.oc_isa.specs.Table.{device_of}
 use Rattle.oc_isa.specs.declared.phase.Phase.TheVariants.{Over}
-use Rattle.oc_outage.specs.Honest.{loses_checkpoint}
-use Rattle.oc_outage.proofs.Lasting.{lost_exactly, over_exactly}
 use Rattle.oc_bounds.specs.Headway.{Suffice}
 use Rattle.oc_top.specs.Meant.{program_code, program_bounds}
 use Rattle.oc_meters.specs.Tally.{Reading}
 use Rattle.oc_top.specs.Commands.{Plan, report, limits_of, Task}
 use Rattle.oc_top.specs.Files.{Files, AreFiles, AreHeld, run_files}
 use Rattle.oc_top.specs.Sources.{program, ReadsAs}
-use Rattle.oc_top.specs.Reports.{answer_by, answer_of, last_said}
-use Rattle.oc_top.specs.Verdict.{Verdict, verdict, is_of_run, with_sensors, with_power}
+use Rattle.oc_top.specs.Reports.{answer_of}
+use Rattle.oc_top.specs.Verdict.{Verdict, verdict, is_of_run, with_sensors}
 use Rattle.oc_top.specs.Headline.{IsRun}
 use Rattle.oc_top.specs.Answers.{status_of, is_written, line_of, IsJudged, IsDone, Writes, TookAll, TookFront, Call, HasFiles, Comes}
 use Rattle.oc_top.specs.Works.{Works}
@@ -37,27 +30,7 @@ use Rattle.oc_top.proofs.Exactly.{of_run, same_files, the_task, exactly, missing
 
 -- ---- the answer to a run that ends by itself
 
-last_is : (before : List Told) (t : Told) → last_said (before ++ t ∷ []) ≡ Some t.said
-last_is [] t = refl
-last_is (x ∷ []) t = refl
-last_is (x ∷ y ∷ rest) t = last_is (y ∷ rest) t
-
-not_true : (b : Bool) → (b ≡ true → ⊥) → b ≡ false
-not_true true h = absurd (h refl)
-not_true false h = refl
-
-answer_over : (parts : Parts) (h : ℕ → ℕ → ℤ) (periods : List Period) (how : Ending) → (power_run (device_of parts) h periods).state.phase ≡ Over how → answer_of parts h periods
-    ≡ answer_by (Some (Ended how))
-answer_over parts h periods how over =
-    let d = device_of parts in
-    let all : List Told = (power_run d h periods).report in
-    let e = (over_exactly d h periods how).0 over in
-    let kept : loses_checkpoint d h periods (first_world d) ≡ false = not_true _ (λ l. cc (sym over ∙ (lost_exactly d h periods).1 l)) in
-    ap (λ (b : Bool). if b then answer.Cut else answer_by (last_said all)) kept
-    ∙ ap (λ (r : List Told). answer_by (last_said r)) e.2
-    ∙ ap answer_by (last_is e.0 (record { tick = e.1; said = Ended how }))
-
-by_ending : (how : Ending) → (answer_by (Some (Ended how)) ≡ answer.End) ⊎ (answer_by (Some (Ended how)) ≡ answer.Trapped)
+by_ending : (how : Ending) → (answer_of (Over how) ≡ answer.End) ⊎ (answer_of (Over how) ≡ answer.Trapped)
 by_ending Halted = inl refl
 by_ending (Trapped kind stmt) = inr refl
 
@@ -65,7 +38,7 @@ run_ends : (files : Files) (plan : Plan) (run : Verdict) (r : IsRun files plan r
     → (run.answer ≡ answer.End) ⊎ (run.answer ≡ answer.Trapped)
 run_ends files plan run r suffice =
     let over = r.ends suffice in
-    let e : run.answer ≡ answer_by (Some (Ended over.0)) = ap (λ (v : Verdict). v.answer) r.is_run ∙ answer_over (program_code r.written) (history r.rows) (plan r.periods) over.0 over.1 in
+    let e : run.answer ≡ answer_of (Over over.0) = ap (λ (v : Verdict). v.answer) r.is_run ∙ ap answer_of over.1 in
     elim (by_ending over.0) [ inl x ↦ inl (e ∙ x) | inr x ↦ inr (e ∙ x) ]
 
 same_periods : (a b : List Period) → power_rows.periods a ≡ power_rows.periods b → a ≡ b
@@ -106,7 +79,7 @@ module _ (c : Call) (told : List ℕ) (task : Task) (asked : c.task ≡ Some tas
   of_on : is_of_run on.answer ≡ true
   of_on =
       ap (λ (s : Readings). is_of_run (with_sensors (program_code p) s (power_file (run_files files).power) plan).answer) sensed
-      ∙ ap (λ (s : Power). is_of_run (with_power (program_code p) rows s plan).answer) powered
+      ∙ ap (λ (s : Power). is_of_run (with_sensors (program_code p) (sensor_rows.readings rows) s plan).answer) powered
       ∙ of_run (program_code p) (history rows) (plan periods)
 
   by_answer : (end : Answer) → is_of_run end ≡ true → Comes c told end → (status_of end ≡ 0) ⊎ ((status_of end ≡ 8) ⊎ (status_of end ≡ 11))

@@ -1,11 +1,11 @@
 -- Reports that were written.
-use Rattle.std.proofs.Common.{ℕ, ◌≤◌, ◌≡◌, ◌⊎◌, List, [], ◌++◌, ap, sym, ◌∙◌, append_assoc, append-nil, arith, inl, inr, subst}
+use Rattle.std.proofs.Common.{ℕ, ◌≤◌, ◌≡◌, ◌⊎◌, List, [], ◌++◌, ap, sym, ◌∙◌, append_assoc, append-nil, arith, inl, inr, refl, subst}
 use Rattle.std.specs.Prelude.{Result, Ok, Err, OnOk, OnErr}
 use Rattle.oc_io.specs.Faults.{Rose, TookPart}
 use Rattle.oc_io.specs.declared.sink.SinkFault.{SinkFault}
 use Rattle.oc_io.proofs.Going.{Both}
 use Rattle.oc_top.specs.Verdict.{Verdict, says}
-use Rattle.oc_top.specs.Answers.{Writes, writes, TookAll, TookFront, IsWritten, whole, in_part}
+use Rattle.oc_top.specs.Answers.{Writes, writes, TookNothing, TookAll, TookFront, IsWritten, whole, in_part}
 use Rattle.oc_top.specs.declared.answer.Answer.{Answer}
 use Rattle.oc_top.specs.declared.answer.Answer.TheVariants as answer
 use Rattle.oc_top.proofs.Taking.{took_flushed}
@@ -15,6 +15,10 @@ abbrev pub Stays : Answer → Answer → List ℕ → (old new : ℕ) → Type 0
 Stays before after held old new = ((after ≡ before) × (held ≡ []) × (new ≡ old)) ⊎ ((after ≡ answer.WriteFault) × Rose old new)
 
 module _ {S : Type 0} (took : S → List ℕ → S → Type 0) (held : S → List ℕ) (faults : S → ℕ) where
+  -- a sink that wasn't called took nothing
+  pub untouched : ((s : S) → took s [] s) → (s : S) → TookNothing (writes took held faults s s)
+  untouched nothing s = record { untaken = nothing s; calm = refl }
+
   -- a sink whose faults rose took a front part
   pub front_of : (a b : S) (text : List ℕ) → Rose (faults a) (faults b) → TookPart took a text b → TookFront (writes took held faults a b) text
   front_of a b text rose p = record { rose = rose; front = p.front; back = p.back; split = p.split; taken = p.taken }

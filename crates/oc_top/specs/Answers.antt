@@ -44,30 +44,41 @@ status_of (answer.Uncovered gap) = 18
 
 -- with these statuses a text was written, or a part of it
 abbrev pub is_written : ℕ → Bool
-is_written status = (status == 0) || (status == 8) || (status == 9) || (status == 10) || (status == 12)
+is_written status =
+    (status == 0) || (status == 8) || (status == 9) || (status == 10) || (status == 12)
 
 -- the line of an answer on the standard error, or none, where these are the words of the command's files
 abbrev pub line_of : List (List ℕ) → Answer → List ℕ
 line_of words answer.Usage = codes "ocelot: not a command\n"
-line_of words (answer.Unreadable file) = codes "ocelot: cannot read " ++ (word_at words file ++ codes "\n")
-line_of words (answer.TooLong file) = codes "ocelot: too long " ++ (word_at words file ++ codes "\n")
-line_of words (answer.Syntax line) = codes "ocelot: syntax error in line " ++ (decimal line ++ codes "\n")
-line_of words (answer.Rule line rule) = codes "ocelot: rule " ++ (decimal rule ++ (codes " broken in line " ++ (decimal line ++ codes "\n")))
-line_of words (answer.BadSensors row) = codes "ocelot: bad row " ++ (decimal row ++ codes " in sensors\n")
-line_of words (answer.BadPower row) = codes "ocelot: bad row " ++ (decimal row ++ codes " in power\n")
+line_of words (answer.Unreadable file) =
+    codes "ocelot: cannot read " ++ (word_at words file ++ codes "\n")
+line_of words (answer.TooLong file) =
+    codes "ocelot: too long " ++ (word_at words file ++ codes "\n")
+line_of words (answer.Syntax line) =
+    codes "ocelot: syntax error in line " ++ (decimal line ++ codes "\n")
+line_of words (answer.Rule line rule) =
+    codes "ocelot: rule "
+    ++ (decimal rule ++ (codes " broken in line " ++ (decimal line ++ codes "\n")))
+line_of words (answer.BadSensors row) =
+    codes "ocelot: bad row " ++ (decimal row ++ codes " in sensors\n")
+line_of words (answer.BadPower row) =
+    codes "ocelot: bad row " ++ (decimal row ++ codes " in power\n")
 line_of words answer.WriteFault = codes "ocelot: cannot write\n"
 line_of words answer.End = []
 line_of words answer.Trapped = []
 line_of words answer.Dark = []
 line_of words answer.Memory = codes "ocelot: out of memory\n"
 line_of words answer.Cut = codes "ocelot: checkpoint lost\n"
-line_of words (answer.Dishonest item) = codes "ocelot: report breaks at item " ++ (decimal item ++ codes "\n")
-line_of words (answer.BadReport line) = codes "ocelot: bad report line " ++ (decimal line ++ codes "\n")
-line_of words (answer.BadImage at) = codes "ocelot: bad image at byte " ++ (decimal at ++ codes "\n")
+line_of words (answer.Dishonest item) =
+    codes "ocelot: report breaks at item " ++ (decimal item ++ codes "\n")
+line_of words (answer.BadReport line) =
+    codes "ocelot: bad report line " ++ (decimal line ++ codes "\n")
+line_of words (answer.BadImage at) =
+    codes "ocelot: bad image at byte " ++ (decimal at ++ codes "\n")
 line_of words answer.Refused = codes "ocelot: image refused\n"
 line_of words (answer.Uncovered gap) = gap_line gap
 
--- this is the verdict on a source
+-- this is the verdict on a source, by how it reads
 pub record IsVerdict (source : List ℕ) (on : Reading → Verdict) (run : Verdict) : Type 0 where
   pub reading : Reading
   pub reads : ReadsAs source reading
@@ -75,19 +86,25 @@ pub record IsVerdict (source : List ℕ) (on : Reading → Verdict) (run : Verdi
 
 -- the files of a drill
 abbrev pub drill_files : ℕ → Files
-drill_files turns = record { source = drill_source turns; sensors = drill_sensors turns; power = drill_power turns }
+drill_files turns =
+    record { source = drill_source turns; sensors = drill_sensors turns; power = drill_power turns }
 
--- its line, which tells the verdict on them
+-- the line of a drill, which tells its verdict on its files
 abbrev pub verdict_line : ℕ → Verdict → List ℕ
-verdict_line turns run = drill_line turns (status_of run.answer) (capped (line_feeds run.text)) (capped (length run.text))
+verdict_line turns run =
+    drill_line turns
+    (status_of run.answer) (capped (line_feeds run.text)) (capped (length run.text))
 
 -- this prints the line of the verdict on the files of a drill
 abbrev pub IsDrill : ℕ → Plan → Verdict → Type 0
-IsDrill turns plan run = IsVerdict (drill_source turns) (λ reading. prints (verdict_line turns (verdict reading (drill_files turns) plan))) run
+IsDrill turns plan run =
+    IsVerdict (drill_source turns)
+    (λ reading. prints (verdict_line turns (verdict reading (drill_files turns) plan))) run
 
--- this is the verdict on files
+-- this is the verdict on files for a task
 abbrev pub IsJudged : List (List ℕ) → Task → Verdict → Type 0
-IsJudged files (report plan meters) run = IsVerdict (file_at files 0) (λ reading. verdict reading (run_files files) plan) run
+IsJudged files (report plan meters) run =
+    IsVerdict (file_at files 0) (λ reading. verdict reading (run_files files) plan) run
 IsJudged files (drill turns plan) run = IsDrill turns plan run
 IsJudged files regions run = IsVerdict (file_at files 0) (λ reading. printed reading regions_of) run
 IsJudged files listing run = IsVerdict (file_at files 0) (λ reading. printed reading listing_of) run
@@ -113,22 +130,27 @@ IsDone files checking run = IsSafe (file_at files 0) run
 IsDone files auditing run = IsVouched (file_at files 0) (file_at files 1) run
 IsDone files (executing plan) run = IsExecuted (run_files files) plan run
 
--- this does it, and all of it was written
+-- this does the task, and all that was to be written was
 abbrev pub IsDoneWhole : List (List ℕ) → Task → Verdict → Type 0
 IsDoneWhole files (report plan meters) run = IsReportedRun (run_files files) plan run
 IsDoneWhole files task run = IsDone files task run
 
 -- ---- what is written
 
--- what a sink did in a call: which bytes it took, which of them it still holds back, and whether its faults rose or stayed
+-- what a sink did in a call
 pub record Writes : Type 1 where
+  -- which bytes it took
   pub took : List ℕ → Type 0
+  -- those that it still holds back
   pub held : List ℕ
+  -- its count of faults rose
   pub rose : Type 0
+  -- its count of faults stayed
   pub calm : Type 0
 
 -- what a sink did from one state to another
-abbrev pub writes : {S : Type 0} → (S → List ℕ → S → Type 0) → (S → List ℕ) → (S → ℕ) → S → S → Writes
+abbrev pub writes : {S : Type 0}
+    → (S → List ℕ → S → Type 0) → (S → List ℕ) → (S → ℕ) → S → S → Writes
 writes took held faults old new = record {
   took = λ text. took old text new;
   held = held new;
@@ -136,13 +158,18 @@ writes took held faults old new = record {
   calm = faults new ≡ faults old;
 }
 
+-- the sink took nothing, and no fault was counted
+pub record TookNothing (sink : Writes) : Type 0 where
+  pub untaken : sink.took []
+  pub calm : sink.calm
+
 -- the sink took all of a text with no fault, and holds nothing back
 pub record TookAll (sink : Writes) (text : List ℕ) : Type 0 where
   pub taken : sink.took text
   pub written : sink.held ≡ []
   pub calm : sink.calm
 
--- its faults rose, and it took a front part of the text
+-- the sink's faults rose, and it took a front part of the text
 pub record TookFront (sink : Writes) (text : List ℕ) : Type 0 where
   pub rose : sink.rose
   pub front : List ℕ
@@ -169,23 +196,29 @@ told_by (Some meters) = meter_lines meters
 
 -- ---- calls
 
--- a call: the words of its files, its task, if any, and what the shelf and the standard output did
+-- a call of `ocelot`
 pub record Call : Type 1 where
+  -- the words of its files
   pub words : List (List ℕ)
+  -- its task, if any
   pub task : Option Task
+  -- what the shelf did
   pub shelf : Fetches
+  -- what the standard output did
   pub out : Writes
 
+-- a call with these words, this task, and what the shelf and the standard output did
 abbrev pub call_of : List (List ℕ) → Option Task → Fetches → Writes → Call
 call_of words task shelf out = record { words = words; task = task; shelf = shelf; out = out }
 
 -- the call of a command, if any, with these supplies and meters
 abbrev pub call_for : Plans → List Meter → Option Command → Fetches → Writes → Call
-call_for plans meters command shelf out = call_of (words_if_any command) (task_of plans meters command) shelf out
+call_for plans meters command shelf out =
+    call_of (words_if_any command) (task_of plans meters command) shelf out
 
--- nothing is written, and meters tell nothing
+-- nothing is written and no fault is counted there, and meters tell nothing
 pub record IsSilent (c : Call) (told : List ℕ) : Type 0 where
-  pub unwritten : c.out.took []
+  pub unwritten : TookNothing c.out
   pub untold : told ≡ []
 
 -- no file is asked for
@@ -194,8 +227,10 @@ pub record IsNoTask (c : Call) (told : List ℕ) : Type 0 where
   pub asked : c.shelf.asked []
   pub silent : IsSilent c told
 
--- the files before this one were fetched, and it wasn't, for this cause; none behind it was asked for
-pub record IsUnfetched (c : Call) (told : List ℕ) (file : ℕ) (cause : Held → (limit : ℕ) → Type 0) : Type 0 where
+-- the files before this one were fetched, and this one wasn't, for this cause; none behind it was
+-- asked for
+pub record IsUnfetched
+    (c : Call) (told : List ℕ) (file : ℕ) (cause : Held → (limit : ℕ) → Type 0) : Type 0 where
   pub task : Task
   pub is_task : c.task ≡ Some task
   pub among : file < length (limits_of task)
@@ -219,7 +254,8 @@ pub record AreRefused (c : Call) (told : List ℕ) (end : Answer) : Type 0 where
   pub silent : IsSilent c told
 
 -- the files were fetched, this was done with them, and this came of it
-pub record WasDone (c : Call) (does : List (List ℕ) → Task → Verdict → Type 0) (outcome : Task → Verdict → Type 0) : Type 0 where
+pub record WasDone (c : Call) (does : List (List ℕ) → Task → Verdict → Type 0)
+    (outcome : Task → Verdict → Type 0) : Type 0 where
   pub task : Task
   pub files : List (List ℕ)
   pub fetched : HasFiles c task files
@@ -227,18 +263,20 @@ pub record WasDone (c : Call) (does : List (List ℕ) → Task → Verdict → T
   pub done : does files task run
   pub came : outcome task run
 
--- all that was to be written was, and this is the answer; the meters were told the items of the run
-pub record IsWhole (c : Call) (told : List ℕ) (end : Answer) (task : Task) (run : Verdict) : Type 0 where
+-- all that a run was to write was written, and its answer is that of the call; the meters were told
+-- the items of the run
+pub record IsWhole
+    (c : Call) (told : List ℕ) (end : Answer) (task : Task) (run : Verdict) : Type 0 where
   pub answered : end ≡ run.answer
   pub written : TookAll c.out run.text
   pub tells : HasTold run.items (meters_of task) told
 
--- a part of it was, and the meters tell nothing
+-- a front part of what a run was to write was written, and the meters tell nothing
 pub record IsPart (c : Call) (told : List ℕ) (task : Task) (run : Verdict) : Type 0 where
   pub written : TookFront c.out run.text
   pub untold : told ≡ []
 
--- some of the files were asked for, and nothing is written
+-- there was no memory: some of the files were asked for, and nothing is written
 pub record HadNoMemory (c : Call) (told : List ℕ) : Type 0 where
   pub task : Task
   pub is_task : c.task ≡ Some task
@@ -251,7 +289,8 @@ pub record HadNoMemory (c : Call) (told : List ℕ) : Type 0 where
 abbrev pub Comes : Call → (told : List ℕ) → Answer → Type 0
 Comes c told answer.End = WasDone c IsDoneWhole (IsWhole c told answer.End)
 Comes c told answer.Usage = IsNoTask c told
-Comes c told (answer.Unreadable file) = IsUnfetched c told file (λ held limit. c.shelf.rose ⊎ (held ≡ nothing))
+Comes c told (answer.Unreadable file) =
+    IsUnfetched c told file (λ held limit. c.shelf.rose ⊎ (held ≡ nothing))
 Comes c told (answer.TooLong file) = IsUnfetched c told file Longer
 Comes c told (answer.Syntax line) = AreRefused c told (answer.Syntax line)
 Comes c told (answer.Rule line rule) = AreRefused c told (answer.Rule line rule)

@@ -20,12 +20,14 @@ BuiltImagesAreAdmitted =
 -- the same supply, sensors and power
 abbrev pub BuiltImagesRun : Type 0
 BuiltImagesRun =
-    (source image sensors power : List ℕ) (plan : Plan) (meters : Option (List Reading)) (run : Verdict)
+    (source image sensors power : List ℕ)
+    (plan : Plan) (meters : Option (List Reading)) (run : Verdict)
     → length source ≤ source_limit → IsJudged (source ∷ []) imaging (prints image)
     → IsJudged (image ∷ sensors ∷ power ∷ []) (executing plan) run
     ↔ IsJudged (source ∷ sensors ∷ power ∷ []) (report plan meters) run
 
--- and it has neither the status of bytes that are no image's nor that of an image that breaks a rule
+-- where `build --image` prints this image of a source, the verdict on `exec` of it has neither the
+-- status of bytes that are no image's nor that of an image that breaks a rule
 abbrev pub BuiltImagesAreNotRefused : Type 0
 BuiltImagesAreNotRefused =
     (source image sensors power : List ℕ) (plan : Plan) (run : Verdict)

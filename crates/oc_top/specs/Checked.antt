@@ -31,7 +31,7 @@ pub record SpellsBlocks (source : List ℕ) (p : TProgram) (blocks : List ℕ) :
   pub spelled : SpellsProgram the_depths p (lexemes_in true source tokens)
   pub begun : blocks ≡ atomics p (lexemes_in true source tokens)
 
--- and it breaks no rule
+-- a source spells a program with blocks, and the program breaks no rule
 pub record AcceptsBlocks (source : List ℕ) (p : TProgram) (blocks : List ℕ) : Type 0 where
   pub spelled : SpellsBlocks source p blocks
   pub unbroken : broken p ≡ None
@@ -45,14 +45,19 @@ pub record AreJudged (p : TProgram) (blocks : List ℕ) (v : BlockVerdict) : Typ
 -- what is answered and written where the blocks have this verdict
 abbrev pub IsSaid : TProgram → BlockVerdict → Verdict → Type 0
 IsSaid p Covered run = run ≡ prints (codes "safe\n")
-IsSaid p (Open policy function first second) run = (q : Policy) × (slice_get (policies p) policy ≡ Some q) × (run ≡ refuses (answer.Uncovered (gap_of p q function first second)))
+IsSaid p (Open policy function first second) run =
+    (q : Policy) × (slice_get (policies p) policy ≡ Some q)
+    × (run ≡ refuses (answer.Uncovered (gap_of p q function first second)))
 
 -- This is the verdict on a source. It spells no program of the grammar with `atomic`, or one that breaks a rule; or its blocks
 -- are judged
 pub data IsCheck (source : List ℕ) (run : Verdict) : Type 0 where
-  no_program : (line : ℕ) → ReadsIn true source (faulty line) → run ≡ refuses (answer.Syntax line) → IsCheck source run
-  broken_rule : (b : Broken) → ReadsIn true source (breaks b) → run ≡ refuses (answer.Rule b.line b.rule) → IsCheck source run
-  judged : (p : TProgram) (blocks : List ℕ) → AcceptsBlocks source p blocks → (v : BlockVerdict) → AreJudged (expansion p) blocks v → IsSaid (expansion p) v run
+  no_program : (line : ℕ)
+      → ReadsIn true source (faulty line) → run ≡ refuses (answer.Syntax line) → IsCheck source run
+  broken_rule : (b : Broken) → ReadsIn true source (breaks b)
+      → run ≡ refuses (answer.Rule b.line b.rule) → IsCheck source run
+  judged : (p : TProgram) (blocks : List ℕ) → AcceptsBlocks source p blocks
+      → (v : BlockVerdict) → AreJudged (expansion p) blocks v → IsSaid (expansion p) v run
       → IsCheck source run
 
 -- the expansion of a program with its groups
@@ -73,7 +78,7 @@ pub record AreEnough (source : List ℕ) : Type 0 where
   pub accepted : AcceptsBlocks source written blocks
   pub enough : IsEnough (checked_of written) blocks
 
--- they do, and this says so
+-- the blocks of a source suffice, and the verdict says so
 pub record IsSafe (source : List ℕ) (run : Verdict) : Type 0 where
   pub enough : AreEnough source
   pub is_run : run ≡ prints (codes "safe\n")

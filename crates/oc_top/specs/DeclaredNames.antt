@@ -22,7 +22,8 @@ abbrev mutual
 
   pub stmts_names : (s : ℕ) → TStmts → Option Text
   stmts_names s no_stmts = None
-  stmts_names s (more (stmt id line k) ss) = cond (id == s) (Some (declared_name k)) (option_or (kind_names s k) (stmts_names s ss))
+  stmts_names s (more (stmt id line k) ss) =
+      cond (id == s) (Some (declared_name k)) (option_or (kind_names s k) (stmts_names s ss))
 
 abbrev pub functions_names : (s : ℕ) → List TFunction → Option Text
 functions_names s [] = None

@@ -3,8 +3,8 @@ use Rattle.std.specs.Prelude.{ℕ, ◌-◌, ◌⊎◌, length, min, drop}
 use Rattle.oc_grammar.specs.Lexemes.{Lexemes, front_line}
 use Rattle.oc_grammar.specs.Depths.{IsSyntax, IsDepth}
 
--- at this token they begin no program any more, or it is the first that passes a depth; it is the number of tokens where
--- their end is too early
+-- the tokens begin no program any more with this token, or it is the first that passes a depth; it
+-- is their number where the end is too early
 abbrev pub HasFaultAt : Lexemes → ℕ → Type 0
 HasFaultAt tokens token = IsSyntax tokens token ⊎ IsDepth tokens token
 

@@ -22,14 +22,19 @@ gap_of p q f s u = record {
   function = function_name p f;
 }
 
--- the lines that are needed, and the function
+-- the lines that must lie inside one block, and their function
 abbrev pub needed_lines : Gap → List Text
-needed_lines g = codes "needs lines" ∷ decimal g.first ∷ codes "and" ∷ decimal g.second ∷ codes "in" ∷ g.function ∷ []
+needed_lines g =
+    codes "needs lines"
+    ∷ decimal g.first ∷ codes "and" ∷ decimal g.second ∷ codes "in" ∷ g.function ∷ []
 
+-- the line that says what blocks leave open of a policy of this kind
 abbrev pub kind_gap_line : PolicyKind → Gap → Text
-kind_gap_line (policies.Fresh v) g = line_of (codes "ocelot: not covered: fresh" ∷ g.owner ∷ g.variable ∷ needed_lines g)
-kind_gap_line (policies.Consistent id) g = line_of (codes "ocelot: not covered: consistent" ∷ g.owner ∷ signed_decimal id ∷ needed_lines g)
+kind_gap_line (policies.Fresh v) g =
+    line_of (codes "ocelot: not covered: fresh" ∷ g.owner ∷ g.variable ∷ needed_lines g)
+kind_gap_line (policies.Consistent id) g =
+    line_of (codes "ocelot: not covered: consistent" ∷ g.owner ∷ signed_decimal id ∷ needed_lines g)
 
--- the line of a gap
+-- the line that says what blocks leave open
 abbrev pub gap_line : Gap → Text
 gap_line g = kind_gap_line g.kind g

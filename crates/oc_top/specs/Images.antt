@@ -35,19 +35,24 @@ pub record IsAdmitted (bytes : List ℕ) (image : Parts) : Type 0 where
 
 -- the bytes are no image's, where the first bad field begins at this one; or those of an image that breaks a rule
 pub data IsRefusedImage (bytes : List ℕ) (end : Answer) : Type 0 where
-  no_image : (at : ℕ) → IsBad bytes (errors.Bytes at) → end ≡ answer.BadImage at → IsRefusedImage bytes end
-  breaks_rule : (image : Parts) → AreImage bytes image → (address rule : ℕ) → Broken image address rule → end ≡ answer.Refused → IsRefusedImage bytes end
+  no_image : (at : ℕ)
+      → IsBad bytes (errors.Bytes at) → end ≡ answer.BadImage at → IsRefusedImage bytes end
+  breaks_rule : (image : Parts) → AreImage bytes image → (address rule : ℕ)
+      → Broken image address rule → end ≡ answer.Refused → IsRefusedImage bytes end
 
 -- This is the verdict on an image and the files of its run, where the chosen supply has this plan. It is refused, or it is run
 pub data IsExecution (files : Files) (plan : Plan) (run : Verdict) : Type 0 where
-  no_run : (end : Answer) → IsRefusedImage files.source end → run ≡ refuses end → IsExecution files plan run
-  executed : (image : Parts) → IsAdmitted files.source image → run ≡ with_parts image files plan → IsExecution files plan run
+  no_run : (end : Answer)
+      → IsRefusedImage files.source end → run ≡ refuses end → IsExecution files plan run
+  executed : (image : Parts) → IsAdmitted files.source image
+      → run ≡ with_parts image files plan → IsExecution files plan run
 
 -- However often power fails, each front part of the report without its aborted attempts says what the device says without
 -- outages over the kept samples, or a prefix of it, no outage lies in a region, and each input is the sensor's; and where the
 -- run is over it says all of it, and leaves its nonvolatile words
 pub record OutagesDontShow (d : Device) (h : ℕ → ℕ → ℤ) (periods : List Period) : Type 0 where
-  pub honest : (front rest : List Told) → front ++ rest ≡ (power_run d h periods).report → IsHonest d h (all_on periods) front
+  pub honest : (front rest : List Told)
+      → front ++ rest ≡ (power_run d h periods).report → IsHonest d h (all_on periods) front
   pub whole : (how : Ending) → (power_run d h periods).state.phase ≡ Over how
       → IsWhole d (all_on periods) (power_run d h periods).report (power_run d h periods).state.nv
 
@@ -79,4 +84,5 @@ IsNotLoaded bytes end = (end ≡ answer.Memory) ⊎ IsRefusedImage bytes end
 
 -- why it isn't run
 abbrev pub IsNotRun : Files → Plan → Answer → Type 0
-IsNotRun files plan end = (end ≡ answer.Memory) ⊎ ((is_refusal end ≡ true) × IsExecution files plan (refuses end))
+IsNotRun files plan end =
+    (end ≡ answer.Memory) ⊎ ((is_refusal end ≡ true) × IsExecution files plan (refuses end))

@@ -1,5 +1,5 @@
 -- The steps to the answers of `check` and `audit`.
-use Rattle.std.specs.Prelude.{ℕ, ◌≡◌, ◌⊎◌, List, [], codes}
+use Rattle.std.specs.Prelude.{ℕ, ◌≡◌, ◌⊎◌, List, codes}
 use Rattle.oc_tree.specs.Tree.{TProgram}
 use Rattle.oc_tree.specs.Checked.{TChecked}
 use Rattle.oc_regcheck.specs.declared.verdict.BlockVerdict.{BlockVerdict}
@@ -9,7 +9,7 @@ use Rattle.oc_audit.specs.declared.audit.Finding.TheVariants.{Honest}
 use Rattle.oc_top.specs.Checked.{AcceptsBlocks, AreEnough, AreJudged, IsCheck, IsSaid, checked_of}
 use Rattle.oc_top.specs.Audited.{IsFound, said_of}
 use Rattle.oc_top.specs.Steps.{IsNotBuilt}
-use Rattle.oc_top.specs.Answers.{Writes, IsWritten}
+use Rattle.oc_top.specs.Answers.{Writes, IsWritten, TookNothing}
 use Rattle.oc_top.specs.declared.answer.Answer.{Answer}
 use Rattle.oc_top.specs.declared.answer.Answer.TheVariants as answer
 
@@ -21,7 +21,8 @@ pub record IsCheckedOf (source : List ℕ) (c : TChecked) (blocks : List ℕ) : 
 
 -- the answer where the blocks don't suffice, or there was no memory
 abbrev pub IsOpenFor : TProgram → List ℕ → Answer → Type 0
-IsOpenFor p blocks end = (end ≡ answer.Memory) ⊎ ((v : BlockVerdict) × AreJudged p blocks v × IsSaid p v (refuses end))
+IsOpenFor p blocks end =
+    (end ≡ answer.Memory) ⊎ ((v : BlockVerdict) × AreJudged p blocks v × IsSaid p v (refuses end))
 
 -- the source is refused with this answer, or there was no memory
 abbrev pub IsNotSafe : List ℕ → Answer → Type 0
@@ -29,11 +30,13 @@ IsNotSafe source end = (end ≡ answer.Memory) ⊎ IsCheck source (refuses end)
 
 -- that, and the sink takes nothing; or its blocks suffice, and the sink takes this
 pub data IsChecked (source : List ℕ) (sink : Writes) (end : Answer) : Type 0 where
-  not_safe : IsNotSafe source end → sink.took [] → IsChecked source sink end
+  not_safe : IsNotSafe source end → TookNothing sink → IsChecked source sink end
   safe : AreEnough source → IsWritten sink (prints (codes "safe\n")) end → IsChecked source sink end
 
 -- there is no program to audit for, or no memory; or the report is refused, or it is honest and the sink takes this
 pub data IsAudited (source report : List ℕ) (sink : Writes) (end : Answer) : Type 0 where
-  not_audited : IsNotBuilt source end → sink.took [] → IsAudited source report sink end
-  refused : (f : Finding) → IsFound source report f → said_of f ≡ refuses end → sink.took [] → IsAudited source report sink end
-  honest : IsFound source report Honest → IsWritten sink (prints (codes "honest\n")) end → IsAudited source report sink end
+  not_audited : IsNotBuilt source end → TookNothing sink → IsAudited source report sink end
+  refused : (f : Finding) → IsFound source report f
+      → said_of f ≡ refuses end → TookNothing sink → IsAudited source report sink end
+  honest : IsFound source report Honest
+      → IsWritten sink (prints (codes "honest\n")) end → IsAudited source report sink end

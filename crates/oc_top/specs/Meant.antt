@@ -13,10 +13,10 @@ use Rattle.oc_region.specs.Regions.{marked}
 use Rattle.oc_writes.specs.Targets.{may_write}
 use Rattle.oc_code.specs.Code.{code_of}
 use Rattle.oc_code.specs.Right.{Shows}
-use Rattle.oc_budget.specs.Budgets.{budgets}
 use Rattle.oc_budget.specs.Bounding.{bounds_of}
 
--- its expansion, with the policies of its annotations and the regions that these ask for
+-- the expansion of a program, with the policies of its annotations and the regions that these ask
+-- for
 abbrev pub program_marked : TProgram → TMarked
 program_marked p = marked (expansion p) (program_groups p)
 
@@ -24,31 +24,33 @@ program_marked p = marked (expansion p) (program_groups p)
 abbrev pub marked_code : TMarked → Parts
 marked_code m = code_of m.program m.regions (may_write m)
 
--- its image
+-- the image of a program with its regions
 abbrev pub program_code : TProgram → Parts
 program_code p = marked_code (program_marked p)
 
--- the numbers that are shown with its regions, as bounds of runs
+-- the numbers that are shown with a program's regions, and the steps of its runs, as bounds of runs
 abbrev pub program_bounds : TProgram → Bounds
-program_bounds p = bounds_of (budgets (program_marked p))
+program_bounds p = bounds_of (program_marked p)
 
--- its run over these samples, with the marks of its regions
+-- the run of a program over these samples, with the marks of its regions
 abbrev pub program_run : TProgram → List ℤ → Trace
 program_run p samples = marked_run (expansion p) (program_marked p).regions samples
 
--- what it says, with the marks
+-- what a program says over these samples, with the marks of its regions
 abbrev pub program_said : TProgram → List ℤ → List Said
 program_said p samples = said_in (program_run p samples)
 
--- its run as if it had no regions
+-- the run of a program over these samples, as if it had no regions
 abbrev pub plain_run : TProgram → List ℤ → Trace
 plain_run p samples = source_run (expansion p) samples
 
--- what it says without marks
+-- what a program says over these samples, without marks
 abbrev pub plain_said : TProgram → List ℤ → List Said
 plain_said p samples = said_in (plain_run p samples)
 
 -- over any samples, the run of the image says what the program says, with the marks, and leaves the nonvolatile words of
 -- its run without regions, from some number of instructions on
 abbrev pub RunsAs : Parts → TProgram → Type 0
-RunsAs image p = (samples : List ℤ) → Shows (continuous_run (device_of image) samples) (program_said p samples) (plain_run p samples).nv
+RunsAs image p =
+    (samples : List ℤ) → Shows
+    (continuous_run (device_of image) samples) (program_said p samples) (plain_run p samples).nv

@@ -8,7 +8,7 @@ use Rattle.oc_isa.specs.Image.{Parts}
 use Rattle.oc_meters.specs.Reads.{Page, TakesBytes}
 use Rattle.oc_meters.specs.Tally.{Reading, readings}
 use Rattle.oc_top.specs.Verdict.{RunFits, runs}
-use Rattle.oc_top.specs.Answers.{HasTold, IsWritten, Writes}
+use Rattle.oc_top.specs.Answers.{HasTold, IsWritten, TookNothing, Writes}
 use Rattle.oc_top.specs.declared.answer.Answer.{Answer}
 use Rattle.oc_top.specs.declared.answer.Answer.TheVariants as answer
 
@@ -17,13 +17,18 @@ abbrev pub told_of : {M : Type 0} → (M → ℕ) → (M → List ℕ) → Optio
 told_of kind numbers meters = option_map (λ v. readings kind numbers v.items) meters
 
 -- where the answer is that of a text which was written whole, it was read from one page to another
-pub record IsRead (end : Answer) (names : NameLists) (old : Page) (text : List ℕ) (new : Page) : Type 0 where
+pub record IsRead
+    (end : Answer) (names : NameLists) (old : Page) (text : List ℕ) (new : Page) : Type 0 where
   pub takes : (end ≡ answer.WriteFault → ⊥) → TakesBytes names old text new
 
 -- there was no memory to read with, or a run was written that fits its types where it was written whole, and this is what
 -- meters tell that began so
-pub data IsReported (parts : Parts) (rows : List Row) (periods : List Period) (meters : Option (List Reading)) (sink : Writes) (told : List ℕ) (end : Answer) : Type 0 where
-  unread : end ≡ answer.Memory → sink.took [] → told ≡ [] → IsReported parts rows periods meters sink told end
-  read : IsWritten sink (runs parts rows periods) end → ((end ≡ answer.WriteFault → ⊥) → RunFits parts rows periods)
-      → ((end ≡ answer.WriteFault → ⊥) → HasTold (runs parts rows periods).items meters told) → (end ≡ answer.WriteFault → told ≡ [])
+pub data IsReported (parts : Parts) (rows : List Row) (periods : List Period)
+    (meters : Option (List Reading)) (sink : Writes) (told : List ℕ) (end : Answer) : Type 0 where
+  unread : end ≡ answer.Memory
+      → TookNothing sink → told ≡ [] → IsReported parts rows periods meters sink told end
+  read : IsWritten sink (runs parts rows periods) end
+      → ((end ≡ answer.WriteFault → ⊥) → RunFits parts rows periods)
+      → ((end ≡ answer.WriteFault → ⊥) → HasTold (runs parts rows periods).items meters told)
+      → (end ≡ answer.WriteFault → told ≡ [])
       → IsReported parts rows periods meters sink told end

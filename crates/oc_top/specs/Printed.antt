@@ -1,5 +1,5 @@
 -- How a text of a source's program comes to be written.
-use Rattle.std.specs.Prelude.{ℕ, ◌≡◌, List, []}
+use Rattle.std.specs.Prelude.{ℕ, ◌≡◌, List}
 use Rattle.oc_tree.specs.Tree.{TProgram}
 use Rattle.oc_budget.specs.Budgets.{limited_budgets}
 use Rattle.oc_budget.specs.View.{budgets_view}
@@ -7,7 +7,7 @@ use Rattle.oc_top.specs.Sources.{ReadsAs, program}
 use Rattle.oc_top.specs.Verdict.{prints}
 use Rattle.oc_top.specs.Steps.{IsMarkedOf, IsNotBuilt}
 use Rattle.oc_top.specs.RegionDetails.{HasDetails}
-use Rattle.oc_top.specs.Answers.{Writes, IsWritten}
+use Rattle.oc_top.specs.Answers.{Writes, IsWritten, TookNothing}
 use Rattle.oc_top.specs.declared.print.Told.{Told}
 use Rattle.oc_top.specs.declared.answer.Answer.{Answer}
 
@@ -19,6 +19,8 @@ pub record Tells (source : List ℕ) (t : Told) : Type 0 where
 
 -- the source is refused with this answer, or there was no memory, and the sink takes nothing; or this text of its program is
 -- written
-pub data IsPrinted (source : List ℕ) (text : TProgram → List ℕ) (sink : Writes) (end : Answer) : Type 0 where
-  not_built : IsNotBuilt source end → sink.took [] → IsPrinted source text sink end
-  put : (p : TProgram) → ReadsAs source (program p) → IsWritten sink (prints (text p)) end → IsPrinted source text sink end
+pub data IsPrinted
+    (source : List ℕ) (text : TProgram → List ℕ) (sink : Writes) (end : Answer) : Type 0 where
+  not_built : IsNotBuilt source end → TookNothing sink → IsPrinted source text sink end
+  put : (p : TProgram) → ReadsAs source (program p)
+      → IsWritten sink (prints (text p)) end → IsPrinted source text sink end

@@ -18,6 +18,7 @@ use Rattle.oc_top.specs.declared.regions.Numbers.{Numbers}
 abbrev pub range_of : TProgram → TRegion → LineRange
 range_of p r = record { first = line_at p r.first; last = line_at p r.last }
 
+-- the name of the variable that a policy of this kind holds fresh; none of a consistent set
 abbrev pub kind_name : TProgram → (function : ℕ) → PolicyKind → Text
 kind_name p f (policies.Fresh v) = variable_name p f v
 kind_name p f (policies.Consistent id) = []
@@ -36,7 +37,8 @@ pub record HasDetails (m : TMarked) (d : Details) : Type 0 where
 -- the line of a region of a function with this name
 abbrev pub region_fields : TRegion → (function : Text) → Numbers → Text
 region_fields r function n = line_of (codes "region" ∷ decimal r.id ∷ function ∷ span r.first r.last
-    ∷ codes "lines" ∷ span n.lines.first n.lines.last ∷ codes "logged" ∷ decimal n.logged ∷ codes "budget" ∷ decimal n.budget ∷ [])
+    ∷ codes "lines" ∷ span n.lines.first n.lines.last
+    ∷ codes "logged" ∷ decimal n.logged ∷ codes "budget" ∷ decimal n.budget ∷ [])
 
 -- the line of a consistent set of a function with this name
 abbrev pub consistent_line : (function : Text) → ℤ → Text
@@ -44,7 +46,8 @@ consistent_line function id = line_of (codes "consistent" ∷ function ∷ signe
 
 -- the line of a policy of a function with this name, whose variable has that name
 abbrev pub policy_fields : PolicyKind → (function variable : Text) → Text
-policy_fields (policies.Fresh v) function variable = line_of (codes "fresh" ∷ function ∷ variable ∷ [])
+policy_fields (policies.Fresh v) function variable =
+    line_of (codes "fresh" ∷ function ∷ variable ∷ [])
 policy_fields (policies.Consistent id) function variable = consistent_line function id
 
 -- the numbers of the region at a place
@@ -57,4 +60,5 @@ numbers_at b d i = record {
 
 -- the line of a region with these numbers, and those of its reasons
 abbrev pub lines_with : TMarked → TRegion → Numbers → Text
-lines_with m r n = region_fields r (function_name m.program r.function) n ++ reason_lines m r.reasons
+lines_with m r n =
+    region_fields r (function_name m.program r.function) n ++ reason_lines m r.reasons

@@ -17,12 +17,15 @@ use Rattle.oc_budget.specs.Budgets.{TBudgets}
 
 -- ---- names and lines
 
+-- the name of the function at a place
 abbrev pub function_name : TProgram → ℕ → Text
 function_name p f = get_or (map (λ g. g.name) p.functions) f []
 
+-- the name of a function's parameter
 abbrev pub param_name : TProgram → (function index : ℕ) → Text
 param_name p f i = get_or (map (λ q. q.name) (get_or (map (λ g. g.params) p.functions) f [])) i []
 
+-- the name of the nonvolatile variable of this number
 abbrev pub nv_name : TProgram → ℕ → Text
 nv_name p i = get_or p.names.nvs i []
 
@@ -37,27 +40,33 @@ declared_name _ = []
 abbrev pub variable_name : TProgram → (function : ℕ) → VarId → Text
 variable_name p f (variables.Nv i) = nv_name p i
 variable_name p f (variables.Param i) = param_name p f i
-variable_name p f (variables.Declared s) = unwrap_or (option_map (λ a. declared_name a.kind) (placed p s)) []
+variable_name p f (variables.Declared s) =
+    unwrap_or (option_map (λ a. declared_name a.kind) (placed p s)) []
 variable_name p f variables.Returned = []
 
--- the line of a statement
+-- the line in the source of the statement with this number
 abbrev pub line_at : TProgram → ℕ → ℕ
 line_at p s = unwrap_or (line_of_stmt p s) 0
 
 -- ---- lines of the text
 
--- from a number to a number
+-- two numbers as a range, as in `3..7`
 abbrev pub span : ℕ → ℕ → Text
 span a b = decimal a ++ (codes ".." ++ decimal b)
 
 -- the line of a region, which logs so many words and has this budget
 abbrev pub region_line : TProgram → TRegion → (logged budget : ℕ) → Text
-region_line p r logged budget = line_of (codes "region" ∷ decimal r.id ∷ function_name p r.function ∷ span r.first r.last
-    ∷ codes "lines" ∷ span (line_at p r.first) (line_at p r.last) ∷ codes "logged" ∷ decimal logged ∷ codes "budget" ∷ decimal budget ∷ [])
+region_line p r logged budget =
+    line_of (codes "region" ∷ decimal r.id ∷ function_name p r.function ∷ span r.first r.last
+    ∷ codes "lines" ∷ span (line_at p r.first) (line_at p r.last)
+    ∷ codes "logged" ∷ decimal logged ∷ codes "budget" ∷ decimal budget ∷ [])
 
+-- the line of a policy of this kind in a function, which asks for a region
 abbrev pub kind_line : TProgram → (function : ℕ) → PolicyKind → Text
-kind_line p f (policies.Fresh v) = line_of (codes "fresh" ∷ function_name p f ∷ variable_name p f v ∷ [])
-kind_line p f (policies.Consistent id) = line_of (codes "consistent" ∷ function_name p f ∷ signed_decimal id ∷ [])
+kind_line p f (policies.Fresh v) =
+    line_of (codes "fresh" ∷ function_name p f ∷ variable_name p f v ∷ [])
+kind_line p f (policies.Consistent id) =
+    line_of (codes "consistent" ∷ function_name p f ∷ signed_decimal id ∷ [])
 
 -- the line of a policy that asks for a region
 abbrev pub policy_line : TProgram → Policy → Text
@@ -67,20 +76,24 @@ policy_line p q = kind_line p q.function q.kind
 abbrev pub reason_line : TMarked → ℕ → Text
 reason_line m n = get_or (map (policy_line m.program) m.policies) n []
 
+-- a word and a number, as a line
 abbrev pub number_line : Text → ℕ → Text
 number_line word n = line_of (word ∷ decimal n ∷ [])
 
+-- how many instructions a run takes at most, and how many steps a safe period has, as two lines
 abbrev pub total_lines : (total safe : ℕ) → Text
 total_lines total safe = number_line (codes "total") total ++ number_line (codes "safe") safe
 
 -- ---- the text
 
+-- the lines of the policies with these numbers
 abbrev pub reason_lines : TMarked → List ℕ → Text
 reason_lines m reasons = flat_map (reason_line m) reasons
 
 -- a region's line, and those of its reasons
 abbrev pub lines_of : TMarked → TBudgets → (place : ℕ) → TRegion → Text
-lines_of m b i r = region_line m.program r (get_or b.logged i 0) (get_or b.regions i 0) ++ reason_lines m r.reasons
+lines_of m b i r =
+    region_line m.program r (get_or b.logged i 0) (get_or b.regions i 0) ++ reason_lines m r.reasons
 
 -- the lines of regions, the first of which stands at this place among all
 abbrev pub region_lines : TMarked → TBudgets → (place : ℕ) → List TRegion → Text

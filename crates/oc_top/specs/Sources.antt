@@ -13,13 +13,16 @@ use Rattle.oc_grammar.specs.Lexemes.{lexemes_in}
 use Rattle.oc_grammar.specs.Programs.{SpellsProgram}
 use Rattle.oc_top.specs.Faults.{HasFaultAt, token_line}
 
--- No program: the first fault is in this line. A program that breaks a rule: the first one that it breaks. Or the program
--- that it spells, which breaks none
+-- how a source reads
 pub data Reading : Type 0 where
+  -- no program: the first fault is in this line
   faulty : (line : ℕ) → Reading
+  -- a program that breaks a rule: the first one that it breaks
   breaks : Broken → Reading
+  -- the program that it spells, which breaks no rule
   program : TProgram → Reading
 
+-- the byte at which a fault of the tokens lies
 abbrev pub place_of : LexError → ℕ
 place_of (fault.Byte at) = at
 place_of (fault.Literal at) = at
@@ -33,8 +36,10 @@ line_at source at = 1 + line_feeds (take at source)
 
 -- the source isn't tokens, or they spell no program within the depths; the fault is in this line
 pub data IsFaultyIn (atomic : Bool) (source : List ℕ) (line : ℕ) : Type 0 where
-  no_tokens : (f : LexError) → HasFault source f → line ≡ line_at source (place_of f) → IsFaultyIn atomic source line
-  no_tree : (tokens : List Token) → AreTokens source tokens → (token : ℕ) → HasFaultAt (lexemes_in atomic source tokens) token
+  no_tokens : (f : LexError)
+      → HasFault source f → line ≡ line_at source (place_of f) → IsFaultyIn atomic source line
+  no_tree : (tokens : List Token)
+      → AreTokens source tokens → (token : ℕ) → HasFaultAt (lexemes_in atomic source tokens) token
       → line ≡ token_line (lexemes_in atomic source tokens) token → IsFaultyIn atomic source line
 
 -- the tokens of the source spell this program, within the depths
@@ -51,8 +56,10 @@ ReadsIn atomic source (program p) = SpellsIn atomic source p × (broken p ≡ No
 
 -- ---- in the one without it, which all commands but `check` read
 
+-- the tokens of the source spell this program within the depths, in the grammar without `atomic`
 abbrev pub Spells : List ℕ → TProgram → Type 0
 Spells source p = SpellsIn false source p
 
+-- this is how a source reads in the grammar without `atomic`, which all commands but `check` read
 abbrev pub ReadsAs : List ℕ → Reading → Type 0
 ReadsAs source reading = ReadsIn false source reading

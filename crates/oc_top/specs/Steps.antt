@@ -88,7 +88,8 @@ pub record IsBuilt (source : List ℕ) (parts : Parts) : Type 0 where
 -- why a source isn't read as a program of the grammar with `atomic`, or of the one without it, that breaks no rule
 abbrev pub IsNotRead : (atomic : Bool) → List ℕ → Answer → Type 0
 IsNotRead atomic source (answer.Syntax line) = ReadsIn atomic source (faulty line)
-IsNotRead atomic source (answer.Rule line rule) = ReadsIn atomic source (breaks (record { line = line; rule = rule }))
+IsNotRead atomic source (answer.Rule line rule) =
+    ReadsIn atomic source (breaks (record { line = line; rule = rule }))
 IsNotRead atomic source answer.Memory = Unit {0}
 IsNotRead atomic source end = ⊥
 
@@ -108,23 +109,28 @@ pub record CanRun (machine : Running) (sensors : Told) (left : List Period) : Ty
 
 -- such a machine with an image that is this one, where the sensors show the rows of the sensor file, and the periods are
 -- those that the supply tells of the rows of the power file
-pub record IsReadyFor (IsIt : Parts → Type 0) (files : Files) (plan : Plan) (machine : Running) (sensors : Told) (left : List Period) : Type 0 where
+pub record IsReadyFor (IsIt : Parts → Type 0) (files : Files)
+    (plan : Plan) (machine : Running) (sensors : Told) (left : List Period) : Type 0 where
   pub can_run : CanRun machine sensors left
   pub built : IsIt machine.parts
-  pub sensed : sensor_file machine.parts.names.sensors files.sensors ≡ sensor_rows.readings sensors.rows
+  pub sensed : sensor_file machine.parts.names.sensors files.sensors
+      ≡ sensor_rows.readings sensors.rows
   pub periods : List Period
   pub powered : power_file files.power ≡ power_rows.periods periods
   pub planned : left ≡ plan periods
 
 -- the same with the source's image
 abbrev pub IsReady : Files → Plan → Running → Told → List Period → Type 0
-IsReady files plan machine sensors left = IsReadyFor (IsBuilt files.source) files plan machine sensors left
+IsReady files plan machine sensors left =
+    IsReadyFor (IsBuilt files.source) files plan machine sensors left
 
 -- the files of an image's run are refused with this answer, or there was no memory
 abbrev pub IsNotReady : Parts → Files → Plan → Answer → Type 0
-IsNotReady parts files plan end = (end ≡ answer.Memory) ⊎ ((is_refusal end ≡ true) × (with_parts parts files plan ≡ refuses end))
+IsNotReady parts files plan end =
+    (end ≡ answer.Memory) ⊎ ((is_refusal end ≡ true) × (with_parts parts files plan ≡ refuses end))
 
 -- the files are refused with this answer, or there was no memory
 pub data IsTurnedDown (files : Files) (plan : Plan) (end : Answer) : Type 0 where
   by_memory : end ≡ answer.Memory → IsTurnedDown files plan end
-  by_files : (reading : Reading) → ReadsAs files.source reading → is_refusal end ≡ true → verdict reading files plan ≡ refuses end → IsTurnedDown files plan end
+  by_files : (reading : Reading) → ReadsAs files.source reading → is_refusal end ≡ true
+      → verdict reading files plan ≡ refuses end → IsTurnedDown files plan end

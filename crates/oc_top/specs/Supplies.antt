@@ -23,4 +23,6 @@ standard_plans other = None
 -- one of each kind: counts, times without power, and aborts in a row, all from zero on
 abbrev pub standard_meters : List Reading
 standard_meters =
-    record { kind = 0; numbers = 0 ∷ 0 ∷ 0 ∷ 0 ∷ 0 ∷ [] } ∷ record { kind = 1; numbers = 0 ∷ 0 ∷ [] } ∷ record { kind = 2; numbers = 0 ∷ 0 ∷ [] } ∷ []
+    record { kind = 0; numbers = 0 ∷ 0 ∷ 0 ∷ 0 ∷ 0 ∷ [] }
+    ∷ record { kind = 1; numbers = 0 ∷ 0 ∷ [] }
+    ∷ record { kind = 2; numbers = 0 ∷ 0 ∷ [] } ∷ []

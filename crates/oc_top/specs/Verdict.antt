@@ -29,10 +29,13 @@ use Rattle.oc_top.specs.Reports.{answer_of, text_of}
 use Rattle.oc_top.specs.declared.answer.Answer.{Answer}
 use Rattle.oc_top.specs.declared.answer.Answer.TheVariants as answer
 
--- an answer, the text on the standard output, and the items of a report, which meters are told
+-- what a command answers and writes
 pub record Verdict : Type 0 where
+  -- the answer
   pub answer : Answer
+  -- the text on the standard output
   pub text : List ℕ
+  -- the items of a report, which meters are told
   pub items : List Item
 
 -- an answer with a text that is no report
@@ -60,34 +63,38 @@ is_refusal (answer.BadReport line) = true
 is_refusal (answer.Uncovered gap) = true
 is_refusal other = false
 
+-- files are refused with this answer, and nothing is written
 abbrev pub refuses : Answer → Verdict
 refuses end = says end []
 
 -- the run of an image over these periods
 abbrev pub runs : Parts → List Row → List Period → Verdict
 runs parts rows periods = record {
-  answer = answer_of parts (history rows) periods;
+  answer = answer_of (power_run (device_of parts) (history rows) periods).state.phase;
   text = text_of parts (power_run (device_of parts) (history rows) periods);
   items = map item_of (power_run (device_of parts) (history rows) periods).report;
 }
 
--- its items are items of a report under the names of the image, the numbers of their sensors and ports fit their types, and
--- each nonvolatile word that it leaves fits 32 bits
+-- the items of a run are items of a report under the names of the image, the numbers of their
+-- sensors and ports fit their types, and each nonvolatile word that it leaves fits 32 bits
 pub record RunFits (parts : Parts) (rows : List Row) (periods : List Period) : Type 0 where
   pub each : All (IsItem parts.names) (runs parts rows periods).items
   pub places : All (λ i. place_of i < 2 ^ 8) (runs parts rows periods).items
   pub words : All (FitsSigned w32) (power_run (device_of parts) (history rows) periods).state.nv
 
-abbrev pub with_power : Parts → List Row → Power → Plan → Verdict
-with_power parts rows (power_rows.bad row what) plan = refuses (answer.BadPower row)
-with_power parts rows (power_rows.periods periods) plan = runs parts rows (plan periods)
-
+-- the run of an image over what the sensor file and the power file tell, or the first bad row, that
+-- of the sensors before that of the power
 abbrev pub with_sensors : Parts → Readings → Power → Plan → Verdict
-with_sensors parts (sensor_rows.bad row what) power plan = refuses (answer.BadSensors row)
-with_sensors parts (sensor_rows.readings rows) power plan = with_power parts rows power plan
+with_sensors parts (sensor_rows.bad row) power plan = refuses (answer.BadSensors row)
+with_sensors parts (sensor_rows.readings rows) (power_rows.bad row) plan =
+    refuses (answer.BadPower row)
+with_sensors parts (sensor_rows.readings rows) (power_rows.periods periods) plan =
+    runs parts rows (plan periods)
 
+-- the run of an image over the files of the sensors and of the power, or the first bad row of these
 abbrev pub with_parts : Parts → Files → Plan → Verdict
-with_parts parts files plan = with_sensors parts (sensor_file parts.names.sensors files.sensors) (power_file files.power) plan
+with_parts parts files plan =
+    with_sensors parts (sensor_file parts.names.sensors files.sensors) (power_file files.power) plan
 
 -- the verdict on files whose source reads so, where the chosen supply has this plan: the first of the source, the
 -- sensors and the power that can't be read, or the run
@@ -102,14 +109,15 @@ verdict (program p) files plan = with_parts (program_code p) files plan
 abbrev pub regions_of : TProgram → List ℕ
 regions_of p = regions_text (program_marked p) (limited_budgets (program_marked p))
 
--- the listing of its image
+-- the listing of a program's image
 abbrev pub listing_of : TProgram → List ℕ
 listing_of p = listing_text (program_code p)
 
--- the bytes of its image
+-- the bytes of a program's image
 abbrev pub image_of : TProgram → List ℕ
 image_of p = image_bytes (program_code p)
 
+-- this text is printed
 abbrev pub prints : List ℕ → Verdict
 prints text = says answer.End text
 

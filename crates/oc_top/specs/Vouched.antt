@@ -13,6 +13,9 @@ pub record IsFoundHonest (source report : List ℕ) : Type 0 where
   pub honest : IsFound source report finding.Honest
   pub only : (f : Finding) → IsFound source report f → f ≡ finding.Honest
 
--- of the text of a run whose report was written whole, an audit for its source finds just that
+-- of the text of a run whose report was written whole, an audit for its source finds that it is
+-- honest, and nothing else
 abbrev pub RunsAreFoundHonest : Type 0
-RunsAreFoundHonest = (files : Files) (plan : Plan) (run : Verdict) → IsReportedRun files plan run → IsFoundHonest files.source run.text
+RunsAreFoundHonest =
+    (files : Files) (plan : Plan) (run : Verdict)
+    → IsReportedRun files plan run → IsFoundHonest files.source run.text

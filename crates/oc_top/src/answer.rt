@@ -1,6 +1,6 @@
 //! Answers, their statuses and their lines.
-ghost use Rattle.std.specs.Prelude.{◌≡◌, ◌≤◌, ◌⊎◌, ◌++◌, OnOk, OnErr};
-ghost use Rattle.oc_io.specs.Faults.{Rose, TookPart};
+ghost use Rattle.std.specs.Prelude.{◌≡◌, ◌≤◌, ◌⊎◌, ◌++◌};
+ghost use Rattle.oc_io.specs.Faults.{Puts};
 ghost use Rattle.oc_top.specs.Answers.{TookAll, TookFront, line_of, status_of, told_by, writes};
 ghost use Rattle.oc_top.specs.Meters.{told_of};
 ghost use Rattle.oc_top.specs.Commands.{words_read, word_at};
@@ -116,13 +116,8 @@ fn put_line_of<E: Sink>(
     command: Option<Command<'_>>,
     err: &mut E,
 ) -> Result<(), SinkFault>
-    ensures ok { OnOk result
-        (E.took err.old (line_of (words_read command.entry) answer) err.new) }
-    ensures part { OnErr result
-        (TookPart E.took err.old (line_of (words_read command.entry) answer) err.new) }
-    ensures calm { OnOk result (E.faults err.new ≡ E.faults err.old) }
-    ensures cause { OnErr result (Rose (E.faults err.old) (E.faults err.new)) }
-    ensures count { E.faults err.old ≤ E.faults err.new }
+    ensures { Puts E.took E.faults err.old
+        (line_of (words_read command.entry) answer) err.new result }
 {
     let mut number = Buffer::new();
     match answer {
@@ -181,13 +176,8 @@ fn put_line_of<E: Sink>(
 
 /// Writes the lines of meters, if there are any.
 fn put_told<M: Meter, E: Sink>(meters: &Option<Vec<M>>, err: &mut E) -> Result<(), SinkFault>
-    ensures ok { OnOk result
-        (E.took err.old (told_by (told_of M.kind_of M.numbers meters.now)) err.new) }
-    ensures part { OnErr result
-        (TookPart E.took err.old (told_by (told_of M.kind_of M.numbers meters.now)) err.new) }
-    ensures calm { OnOk result (E.faults err.new ≡ E.faults err.old) }
-    ensures cause { OnErr result (Rose (E.faults err.old) (E.faults err.new)) }
-    ensures count { E.faults err.old ≤ E.faults err.new }
+    ensures { Puts E.took E.faults err.old
+        (told_by (told_of M.kind_of M.numbers meters.now)) err.new result }
 {
     match meters {
         Some(meters) => put_meters(meters.as_slice(), err),
@@ -202,15 +192,9 @@ fn put_all<M: Meter, E: Sink>(
     meters: &Option<Vec<M>>,
     err: &mut E,
 ) -> Result<(), SinkFault>
-    ensures ok { OnOk result
-        (E.took err.old (line_of (words_read command.entry) answer
-        ++ told_by (told_of M.kind_of M.numbers meters.now)) err.new) }
-    ensures part { OnErr result
-        (TookPart E.took err.old (line_of (words_read command.entry) answer
-        ++ told_by (told_of M.kind_of M.numbers meters.now)) err.new) }
-    ensures calm { OnOk result (E.faults err.new ≡ E.faults err.old) }
-    ensures cause { OnErr result (Rose (E.faults err.old) (E.faults err.new)) }
-    ensures count { E.faults err.old ≤ E.faults err.new }
+    ensures { Puts E.took E.faults err.old
+        (line_of (words_read command.entry) answer
+        ++ told_by (told_of M.kind_of M.numbers meters.now)) err.new result }
 {
     if let Err(fault) = put_line_of(answer, command, err) {
         return Err(fault);

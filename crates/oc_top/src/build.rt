@@ -13,7 +13,6 @@ ghost use Rattle.oc_needs.specs.View.{requirement_view};
 ghost use Rattle.oc_writes.specs.Targets.{may_write};
 ghost use Rattle.oc_isa.specs.Table.{device_of};
 ghost use Rattle.oc_bounds.specs.Bounds.{IsBounded};
-ghost use Rattle.oc_budget.specs.Budgets.{budgets};
 ghost use Rattle.oc_budget.specs.Bounding.{bounds_of};
 ghost use Rattle.oc_code.specs.Right.{IsRight};
 ghost use Rattle.oc_honest.specs.Timely.{RunsAreTimely};
@@ -194,7 +193,7 @@ pub fn image_by(alloc: Global, marked: &Marked, effects: &Effects) -> Result<Ima
     ensures right { IfOk result
         (λ i. IsRight marked.now.program marked.now.regions (may_write marked.now)) }
     ensures bounded { IfOk result
-        (λ i. IsBounded (device_of i) (bounds_of (budgets marked.now))) }
+        (λ i. IsBounded (device_of i) (bounds_of marked.now)) }
 {
     budgets_bound();
     marked.checked();
@@ -209,7 +208,7 @@ pub fn image_of(alloc: Global, marked: &Marked) -> Result<Image, Memory>
     ensures right { IfOk result
         (λ i. IsRight marked.now.program marked.now.regions (may_write marked.now)) }
     ensures bounded { IfOk result
-        (λ i. IsBounded (device_of i) (bounds_of (budgets marked.now))) }
+        (λ i. IsBounded (device_of i) (bounds_of marked.now)) }
 {
     match Effects::new(alloc, marked.checked()) {
         Ok(effects) => image_by(alloc, marked, &effects),

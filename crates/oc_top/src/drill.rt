@@ -66,15 +66,14 @@ fn measure(alloc: Global, files: &Fetched, supply: &mut dyn Supply) -> Result<Me
         (λ m. IsMeasured (bytes_of files.now) (plan supply.old) m.status m.lines m.bytes) }
 {
     let mut sink = CountSink::new();
-    let status = status(&run_files(alloc, files, supply, &mut sink));
-    if status == 11 {
-        return Err(Memory);
+    match run_files(alloc, files, supply, &mut sink) {
+        Answer::Memory => Err(Memory),
+        answer => Ok(Measured {
+            status: status(&answer),
+            lines: sink.lines(),
+            bytes: sink.bytes(),
+        }),
     }
-    Ok(Measured {
-        status,
-        lines: sink.lines(),
-        bytes: sink.bytes(),
-    })
 }
 
 /// Runs the files of a drill of so many turns with this supply, and writes the line that tells its
@@ -97,21 +96,6 @@ fn drill<O: Sink>(alloc: Global, turns: u32, supply: &mut dyn Supply, out: &mut 
     }
 }
 
-/// The same with a supply of its own.
-fn drill_with<O: Sink>(
-    alloc: Global,
-    turns: u32,
-    mut supply: Box<dyn Supply>,
-    out: &mut O,
-) -> Answer
-    requires { turns ≤ turn_limit }
-    ensures drilled { IsDrilled turns (plan supply) (writes O.took O.held O.faults out.old out.new)
-        result }
-    ensures count { O.faults out.old ≤ O.faults out.new }
-{
-    drill(alloc, turns, &mut *supply, out)
-}
-
 /// A drill of so many turns with the first supply that has the number 0.
 pub fn drill_by<O: Sink>(
     alloc: Global,
@@ -126,7 +110,7 @@ pub fn drill_by<O: Sink>(
     ensures count { O.faults out.old ≤ O.faults out.new }
 {
     match choose(supplies, 0) {
-        Some(supply) => drill_with(alloc, turns, supply, out),
+        Some(mut supply) => drill(alloc, turns, &mut *supply, out),
         None => Answer::Usage,
     }
 }

@@ -39,23 +39,6 @@ fn exec<F: Shelf, O: Sink>(
     }
 }
 
-/// The same with a supply of its own.
-fn exec_with<F: Shelf, O: Sink>(
-    alloc: Global,
-    words: RunWords<'_>,
-    shelf: &mut F,
-    out: &mut O,
-    mut supply: Box<dyn Supply>,
-) -> Answer
-    ensures comes { Comes (call_of (run_words words.entry) (Some (executing (plan supply)))
-        (fetches F.holds F.asked F.faults shelf.old shelf.new)
-        (writes O.took O.held O.faults out.old out.new)) [] result }
-    ensures stays { ShelfStays F.holds F.faults shelf.old shelf.new }
-    ensures count { O.faults out.old ≤ O.faults out.new }
-{
-    exec(alloc, words, shelf, out, &mut *supply)
-}
-
 /// Runs the image and the files under these words, with the first supply that has the number 0.
 pub fn exec_by<F: Shelf, O: Sink>(
     alloc: Global,
@@ -73,7 +56,7 @@ pub fn exec_by<F: Shelf, O: Sink>(
     ensures count { O.faults out.old ≤ O.faults out.new }
 {
     match choose(supplies, 0) {
-        Some(supply) => exec_with(alloc, words, shelf, out, supply),
+        Some(mut supply) => exec(alloc, words, shelf, out, &mut *supply),
         None => Answer::Usage,
     }
 }

@@ -1,6 +1,6 @@
 //! What hand-written blocks leave open.
-ghost use Rattle.std.specs.Prelude.{◌≡◌, ◌≤◌, IfOk, OnOk, OnErr};
-ghost use Rattle.oc_io.specs.Faults.{Rose, TookPart};
+ghost use Rattle.std.specs.Prelude.{◌≡◌, IfOk};
+ghost use Rattle.oc_io.specs.Faults.{Puts};
 ghost use Rattle.oc_top.specs.Gaps.{gap_line, gap_of};
 
 use crate::names::{function_name, policy_name};
@@ -64,11 +64,7 @@ pub fn gap_of(
 
 /// Writes the line of a gap.
 pub fn put_gap<E: Sink>(gap: &Gap, sink: &mut E) -> Result<(), SinkFault>
-    ensures ok { OnOk result (E.took sink.old (gap_line gap.now) sink.new) }
-    ensures part { OnErr result (TookPart E.took sink.old (gap_line gap.now) sink.new) }
-    ensures calm { OnOk result (E.faults sink.new ≡ E.faults sink.old) }
-    ensures cause { OnErr result (Rose (E.faults sink.old) (E.faults sink.new)) }
-    ensures count { E.faults sink.old ≤ E.faults sink.new }
+    ensures { Puts E.took E.faults sink.old (gap_line gap.now) sink.new result }
 {
     let mut first = Buffer::new();
     let mut second = Buffer::new();

@@ -1,7 +1,7 @@
 //! Runs that meters are told of.
 ghost use Rattle.std.specs.Prelude.{◌≡◌, ◌≤◌, false, None, Some};
 ghost use Rattle.oc_tree.specs.Names.{names_view};
-ghost use Rattle.oc_apart.specs.Apart.{HasNamesApart};
+ghost use Rattle.oc_audit.specs.Apart.{HasNamesApart};
 ghost use Rattle.oc_meters.specs.Reads.{page};
 ghost use Rattle.oc_meters.specs.Tally.{readings};
 ghost use Rattle.oc_top.specs.Answers.{IsWritten, told_by, writes};
@@ -27,30 +27,6 @@ pub struct Outcome<M: Drop> {
     pub meters: Option<Vec<M>>,
 }
 
-/// Runs a newly loaded machine and writes the report through a sink with a book.
-fn report_round<O: Sink, M: Meter>(
-    prepared: Prepared,
-    supply: &mut dyn Supply,
-    sink: &mut MeterSink<'_, O, M>,
-) -> Answer
-    requires can { CanRun prepared.machine prepared.sensors (left supply.old) }
-    requires fresh { sink.old.failed ≡ false }
-    ensures inner { sink.new.inner.ghost_name ≡ sink.old.inner.ghost_name }
-    ensures book { sink.new.book.ghost_name ≡ sink.old.book.ghost_name }
-    ensures written { IsWritten
-        (writes O.took O.held O.faults sink.old.inner.now sink.new.inner.now)
-        (runs prepared.machine.parts prepared.sensors.rows (left supply.old)) result }
-    ensures read { IsRead result (names_view sink.old.book.now.names)
-        (page M.kind_of M.numbers sink.old.book.now.line.bytes sink.old.book.now.meters.items)
-        (runs prepared.machine.parts prepared.sensors.rows (left supply.old)).text
-        (page M.kind_of M.numbers sink.new.book.now.line.bytes sink.new.book.now.meters.items) }
-    ensures fits { (result ≡ Answer.WriteFault → ⊥)
-        → RunFits prepared.machine.parts prepared.sensors.rows (left supply.old) }
-    ensures count { O.faults sink.old.inner.now ≤ O.faults sink.new.inner.now }
-{
-    report(prepared, supply, sink)
-}
-
 /// Runs a newly loaded machine, writes the report and keeps a book of it.
 fn report_booked<O: Sink, M: Meter>(
     prepared: Prepared,
@@ -70,7 +46,7 @@ fn report_booked<O: Sink, M: Meter>(
     ensures count { O.faults out.old ≤ O.faults out.new }
 {
     let mut sink = MeterSink::new(out, book);
-    report_round(prepared, supply, &mut sink)
+    report(prepared, supply, &mut sink)
 }
 
 /// The meters of a book whose lines are written behind this answer.

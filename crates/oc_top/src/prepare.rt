@@ -1,7 +1,8 @@
 //! The steps before the first byte is written.
 ghost use Rattle.std.specs.Prelude.{◌≡◌, ◌≤◌, length, IfOk, IfErr};
 ghost use Rattle.oc_lex.specs.Limits.{source_limit};
-ghost use Rattle.oc_sensors.specs.File.{Explains, readings, sensor_file};
+ghost use Rattle.oc_sensors.specs.Causes.{ExplainsSensors};
+ghost use Rattle.oc_sensors.specs.File.{readings, sensor_file};
 ghost use Rattle.oc_top.specs.Files.{bytes_of};
 ghost use Rattle.oc_isa.specs.Run.{IsSound};
 ghost use Rattle.oc_isa.specs.Table.{device_of};
@@ -88,7 +89,8 @@ fn sensors_for(alloc: Global, bytes: &[u8], image: &Image) -> Result<Sensors, Se
         (λ s. sensor_file image.now.names.sensors bytes.now ≡ readings s.rows) }
     ensures sensors { IfOk result (λ s. s.sensors ≡ length image.now.names.sensors) }
     ensures now { IfOk result (λ s. s.now ≡ 0) }
-    ensures bad { IfErr result (λ e. Explains (sensor_file image.now.names.sensors bytes.now) e) }
+    ensures bad { IfErr result
+        (λ e. ExplainsSensors (sensor_file image.now.names.sensors bytes.now) e) }
 {
     read_sensors(alloc, bytes, &image.raw().names.sensors)
 }

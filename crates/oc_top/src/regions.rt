@@ -1,6 +1,6 @@
 //! Writing the regions of a program.
-ghost use Rattle.std.specs.Prelude.{◌≡◌, ◌≤◌, ◌<◌, length, map, IfOk, OnOk, OnErr};
-ghost use Rattle.oc_io.specs.Faults.{Rose, TookPart};
+ghost use Rattle.std.specs.Prelude.{◌≡◌, ◌<◌, length, map, IfOk};
+ghost use Rattle.oc_io.specs.Faults.{Puts};
 ghost use Rattle.oc_tree.specs.Regions.{region_view};
 ghost use Rattle.oc_budget.specs.Budgets.{limited_budgets};
 ghost use Rattle.oc_budget.specs.View.{budgets_view};
@@ -121,14 +121,8 @@ fn put_region<O: Sink>(
     numbers: Numbers,
     sink: &mut O,
 ) -> Result<(), SinkFault>
-    ensures ok { OnOk result
-        (O.took sink.old (region_fields (region_view region.now) function.now numbers) sink.new) }
-    ensures part { OnErr result
-        (TookPart O.took sink.old (region_fields (region_view region.now) function.now numbers)
-        sink.new) }
-    ensures calm { OnOk result (O.faults sink.new ≡ O.faults sink.old) }
-    ensures cause { OnErr result (Rose (O.faults sink.old) (O.faults sink.new)) }
-    ensures count { O.faults sink.old ≤ O.faults sink.new }
+    ensures { Puts O.took O.faults sink.old
+        (region_fields (region_view region.now) function.now numbers) sink.new result }
 {
     let mut id = Buffer::new();
     let mut first = Buffer::new();
@@ -163,12 +157,7 @@ fn put_region<O: Sink>(
 
 /// Writes the line of the consistent set of a number, of a function with this name.
 fn put_consistent<O: Sink>(function: &[u8], id: i32, sink: &mut O) -> Result<(), SinkFault>
-    ensures ok { OnOk result (O.took sink.old (consistent_line function.now id) sink.new) }
-    ensures part { OnErr result
-        (TookPart O.took sink.old (consistent_line function.now id) sink.new) }
-    ensures calm { OnOk result (O.faults sink.new ≡ O.faults sink.old) }
-    ensures cause { OnErr result (Rose (O.faults sink.old) (O.faults sink.new)) }
-    ensures count { O.faults sink.old ≤ O.faults sink.new }
+    ensures { Puts O.took O.faults sink.old (consistent_line function.now id) sink.new result }
 {
     let mut number = Buffer::new();
     put_pieces(
@@ -190,13 +179,8 @@ fn put_policy<O: Sink>(
     variable: &[u8],
     sink: &mut O,
 ) -> Result<(), SinkFault>
-    ensures ok { OnOk result
-        (O.took sink.old (policy_fields kind function.now variable.now) sink.new) }
-    ensures part { OnErr result
-        (TookPart O.took sink.old (policy_fields kind function.now variable.now) sink.new) }
-    ensures calm { OnOk result (O.faults sink.new ≡ O.faults sink.old) }
-    ensures cause { OnErr result (Rose (O.faults sink.old) (O.faults sink.new)) }
-    ensures count { O.faults sink.old ≤ O.faults sink.new }
+    ensures { Puts O.took O.faults sink.old
+        (policy_fields kind function.now variable.now) sink.new result }
 {
     match kind {
         PolicyKind::Fresh { .. } => {
@@ -214,12 +198,7 @@ fn put_reason<O: Sink>(
     sink: &mut O,
 ) -> Result<(), SinkFault>
     requires { HasDetails marked.now details.now }
-    ensures ok { OnOk result (O.took sink.old (reason_line marked.now reason) sink.new) }
-    ensures part { OnErr result
-        (TookPart O.took sink.old (reason_line marked.now reason) sink.new) }
-    ensures calm { OnOk result (O.faults sink.new ≡ O.faults sink.old) }
-    ensures cause { OnErr result (Rose (O.faults sink.old) (O.faults sink.new)) }
-    ensures count { O.faults sink.old ≤ O.faults sink.new }
+    ensures { Puts O.took O.faults sink.old (reason_line marked.now reason) sink.new result }
 {
     let place = reason as usize;
     match (marked.policies().get(place), details.names.get(place)) {
@@ -239,12 +218,7 @@ fn put_reasons<O: Sink>(
     sink: &mut O,
 ) -> Result<(), SinkFault>
     requires { HasDetails marked.now details.now }
-    ensures ok { OnOk result (O.took sink.old (reason_lines marked.now reasons.now) sink.new) }
-    ensures part { OnErr result
-        (TookPart O.took sink.old (reason_lines marked.now reasons.now) sink.new) }
-    ensures calm { OnOk result (O.faults sink.new ≡ O.faults sink.old) }
-    ensures cause { OnErr result (Rose (O.faults sink.old) (O.faults sink.new)) }
-    ensures count { O.faults sink.old ≤ O.faults sink.new }
+    ensures { Puts O.took O.faults sink.old (reason_lines marked.now reasons.now) sink.new result }
 {
     for reason in reasons {
         if let Err(fault) = put_reason(marked, details, *reason, sink) {
@@ -277,14 +251,8 @@ fn put_lines<O: Sink>(
     sink: &mut O,
 ) -> Result<(), SinkFault>
     requires { HasDetails marked.now details.now }
-    ensures ok { OnOk result
-        (O.took sink.old (lines_with marked.now (region_view region.now) numbers) sink.new) }
-    ensures part { OnErr result
-        (TookPart O.took sink.old (lines_with marked.now (region_view region.now) numbers)
-        sink.new) }
-    ensures calm { OnOk result (O.faults sink.new ≡ O.faults sink.old) }
-    ensures cause { OnErr result (Rose (O.faults sink.old) (O.faults sink.new)) }
-    ensures count { O.faults sink.old ≤ O.faults sink.new }
+    ensures { Puts O.took O.faults sink.old
+        (lines_with marked.now (region_view region.now) numbers) sink.new result }
 {
     let function = function_of(marked, region.function);
     if let Err(fault) = put_region(region, function, numbers, sink) {
@@ -302,15 +270,8 @@ fn put_all<O: Sink>(
 ) -> Result<(), SinkFault>
     requires budgets { budgets_view budgets.now ≡ limited_budgets marked.now }
     requires details { HasDetails marked.now details.now }
-    ensures ok { OnOk result
-        (O.took sink.old (region_lines marked.now (budgets_view budgets.now) 0 marked.now.regions)
-        sink.new) }
-    ensures part { OnErr result
-        (TookPart O.took sink.old
-        (region_lines marked.now (budgets_view budgets.now) 0 marked.now.regions) sink.new) }
-    ensures calm { OnOk result (O.faults sink.new ≡ O.faults sink.old) }
-    ensures cause { OnErr result (Rose (O.faults sink.old) (O.faults sink.new)) }
-    ensures count { O.faults sink.old ≤ O.faults sink.new }
+    ensures { Puts O.took O.faults sink.old
+        (region_lines marked.now (budgets_view budgets.now) 0 marked.now.regions) sink.new result }
 {
     for (place, region) in marked.regions().iter().enumerate() {
         let numbers = numbers_at(budgets, details, place);
@@ -323,11 +284,7 @@ fn put_all<O: Sink>(
 
 /// Writes what runs cost and what periods need.
 fn put_totals<O: Sink>(total: u64, safe: u64, sink: &mut O) -> Result<(), SinkFault>
-    ensures ok { OnOk result (O.took sink.old (total_lines total safe) sink.new) }
-    ensures part { OnErr result (TookPart O.took sink.old (total_lines total safe) sink.new) }
-    ensures calm { OnOk result (O.faults sink.new ≡ O.faults sink.old) }
-    ensures cause { OnErr result (Rose (O.faults sink.old) (O.faults sink.new)) }
-    ensures count { O.faults sink.old ≤ O.faults sink.new }
+    ensures { Puts O.took O.faults sink.old (total_lines total safe) sink.new result }
 {
     let mut first = Buffer::new();
     let mut second = Buffer::new();
@@ -347,13 +304,8 @@ pub fn put_regions<O: Sink>(
 ) -> Result<(), SinkFault>
     requires budgets { budgets_view budgets.now ≡ limited_budgets marked.now }
     requires details { HasDetails marked.now details.now }
-    ensures ok { OnOk result
-        (O.took sink.old (regions_text marked.now (limited_budgets marked.now)) sink.new) }
-    ensures part { OnErr result
-        (TookPart O.took sink.old (regions_text marked.now (limited_budgets marked.now)) sink.new) }
-    ensures calm { OnOk result (O.faults sink.new ≡ O.faults sink.old) }
-    ensures cause { OnErr result (Rose (O.faults sink.old) (O.faults sink.new)) }
-    ensures count { O.faults sink.old ≤ O.faults sink.new }
+    ensures { Puts O.took O.faults sink.old
+        (regions_text marked.now (limited_budgets marked.now)) sink.new result }
 {
     if let Err(fault) = put_all(marked, budgets, details, sink) {
         return Err(fault);

@@ -1,6 +1,6 @@
 //! Writing the report of a run.
-ghost use Rattle.std.specs.Prelude.{◌≡◌, ◌≤◌, ◌⊎◌, [], map, OnOk, OnErr};
-ghost use Rattle.oc_io.specs.Faults.{Rose, TookPart};
+ghost use Rattle.std.specs.Prelude.{◌≡◌, ◌≤◌, ◌⊎◌, [], map};
+ghost use Rattle.oc_io.specs.Faults.{Puts, Rose};
 ghost use Rattle.oc_isa.specs.Image.{IsWellMade, parts_of};
 ghost use Rattle.oc_items.specs.Text.{nv_lines};
 ghost use Rattle.oc_top.specs.Answers.{IsWritten, writes};
@@ -19,16 +19,9 @@ use oc_power::supply::Supply;
 /// Writes a line for each nonvolatile variable of an image, in order, with its words.
 fn put_nvs<O: Sink>(image: &RawImage, words: &[i32], out: &mut O) -> Result<(), SinkFault>
     requires { IsWellMade (parts_of image.now) }
-    ensures ok { OnOk result
-        (O.took out.old (nv_lines (parts_of image.now).names
-        (map (λ v. v.words) (parts_of image.now).nv) words.now) out.new) }
-    ensures part { OnErr result
-        (TookPart O.took out.old
+    ensures { Puts O.took O.faults out.old
         (nv_lines (parts_of image.now).names (map (λ v. v.words) (parts_of image.now).nv) words.now)
-        out.new) }
-    ensures calm { OnOk result (O.faults out.new ≡ O.faults out.old) }
-    ensures cause { OnErr result (Rose (O.faults out.old) (O.faults out.new)) }
-    ensures count { O.faults out.old ≤ O.faults out.new }
+        out.new result }
 {
     let mut rest = words;
     for (place, nv) in image.nv.iter().enumerate() {

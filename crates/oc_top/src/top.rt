@@ -19,7 +19,7 @@ use crate::image::print_image;
 use crate::metered::{Outcome, report_for};
 use crate::prepare::prepare;
 use crate::print::{print_listing, print_regions};
-use oc_apart::laws::names_are_apart;
+use oc_audit::laws::names_are_apart;
 use oc_io::shelf::Shelf;
 use oc_io::sink::Sink;
 use oc_meters::meter::Meter;
@@ -65,26 +65,6 @@ fn run<F: Shelf, O: Sink, M: Meter>(
     }
 }
 
-/// The same with a supply of its own.
-fn run_with<F: Shelf, O: Sink, M: Meter>(
-    alloc: Global,
-    words: RunWords<'_>,
-    shelf: &mut F,
-    out: &mut O,
-    mut supply: Box<dyn Supply>,
-    meters: Option<Vec<M>>,
-) -> Outcome<M>
-    ensures comes { Comes (call_of (run_words words.entry)
-        (Some (to_report (plan supply) (told_of M.kind_of M.numbers meters)))
-        (fetches F.holds F.asked F.faults shelf.old shelf.new)
-        (writes O.took O.held O.faults out.old out.new))
-        (told_by (told_of M.kind_of M.numbers result.meters)) result.answer }
-    ensures stays { ShelfStays F.holds F.faults shelf.old shelf.new }
-    ensures count { O.faults out.old ≤ O.faults out.new }
-{
-    run(alloc, words, shelf, out, &mut *supply, meters)
-}
-
 /// Runs the files under these words with the first supply that has this number, and these meters
 /// where it is metered.
 fn run_by<F: Shelf, O: Sink, M: Meter>(
@@ -108,7 +88,7 @@ fn run_by<F: Shelf, O: Sink, M: Meter>(
 {
     let meters = wanted_meters(metered, meters);
     match choose(supplies, supply) {
-        Some(supply) => run_with(alloc, words, shelf, out, supply, meters),
+        Some(mut supply) => run(alloc, words, shelf, out, &mut *supply, meters),
         None => without_meters(Answer::Usage),
     }
 }
@@ -167,44 +147,9 @@ fn obey_audit<F: Shelf, O: Sink>(
     }
 }
 
-/// Obeys a command. A run takes the first supply that has its number, and that of an image the first
-/// that has the number 0.
+/// Obeys a command, if there is one. A run takes the first supply that has its number, and that of an
+/// image the first that has the number 0.
 fn obey<F: Shelf, O: Sink, M: Meter>(
-    alloc: Global,
-    command: Command<'_>,
-    shelf: &mut F,
-    out: &mut O,
-    supplies: Vec<Box<dyn Supply>>,
-    meters: Vec<M>,
-) -> Outcome<M>
-    requires { HasFewTurns (command_view command) }
-    ensures comes { Comes (call_for (plans_of (λ b. number b) (λ b. plan b) supplies.items)
-        (readings M.kind_of M.numbers meters.items) (Some (command_view command.entry))
-        (fetches F.holds F.asked F.faults shelf.old shelf.new)
-        (writes O.took O.held O.faults out.old out.new))
-        (told_by (told_of M.kind_of M.numbers result.meters)) result.answer }
-    ensures stays { ShelfStays F.holds F.faults shelf.old shelf.new }
-    ensures count { O.faults out.old ≤ O.faults out.new }
-{
-    match command {
-        Command::Run {
-            supply,
-            metered,
-            files,
-        } => run_by(alloc, files, supply, metered, shelf, out, supplies, meters),
-        Command::Drill { turns } => without_meters(drill_by(alloc, turns, supplies, out)),
-        Command::Source { task, source } => {
-            without_meters(obey_source(alloc, task, source, shelf, out))
-        }
-        Command::Audit { source, report } => {
-            without_meters(obey_audit(alloc, source, report, shelf, out))
-        }
-        Command::Exec { files } => without_meters(exec_by(alloc, files, shelf, out, supplies)),
-    }
-}
-
-/// The same where there is a command.
-fn obey_any<F: Shelf, O: Sink, M: Meter>(
     alloc: Global,
     command: Option<Command<'_>>,
     shelf: &mut F,
@@ -221,36 +166,24 @@ fn obey_any<F: Shelf, O: Sink, M: Meter>(
     ensures stays { ShelfStays F.holds F.faults shelf.old shelf.new }
     ensures count { O.faults out.old ≤ O.faults out.new }
 {
+    let Some(command) = command else {
+        return without_meters(Answer::Usage);
+    };
     match command {
-        Some(command) => obey(alloc, command, shelf, out, supplies, meters),
-        None => without_meters(Answer::Usage),
+        Command::Run {
+            supply,
+            metered,
+            files,
+        } => run_by(alloc, files, supply, metered, shelf, out, supplies, meters),
+        Command::Drill { turns } => without_meters(drill_by(alloc, turns, supplies, out)),
+        Command::Source { task, source } => {
+            without_meters(obey_source(alloc, task, source, shelf, out))
+        }
+        Command::Audit { source, report } => {
+            without_meters(obey_audit(alloc, source, report, shelf, out))
+        }
+        Command::Exec { files } => without_meters(exec_by(alloc, files, shelf, out, supplies)),
     }
-}
-
-/// [`ocelot`] with meters of one kind.
-fn ocelot_metered<F: Shelf, O: Sink, E: Sink, M: Meter>(
-    alloc: Global,
-    words: &[String],
-    shelf: &mut F,
-    out: &mut O,
-    err: &mut E,
-    supplies: Vec<Box<dyn Supply>>,
-    meters: Vec<M>,
-) -> u8
-    ensures works { Works (call_for (plans_of (λ b. number b) (λ b. plan b) supplies.items)
-        (readings M.kind_of M.numbers meters.items) (command_of (map string_bytes words.now))
-        (fetches F.holds F.asked F.faults shelf.old shelf.new)
-        (writes O.took O.held O.faults out.old out.new))
-        (writes E.took E.held E.faults err.old err.new) result }
-    ensures stays { ShelfStays F.holds F.faults shelf.old shelf.new }
-    ensures out { O.faults out.old ≤ O.faults out.new }
-    ensures err { E.faults err.old ≤ E.faults err.new }
-{
-    let command = read_command(words);
-    let outcome = obey_any(alloc, command, shelf, out, supplies, meters);
-    let status = status(&outcome.answer);
-    put_lines(outcome.answer, command, &outcome.meters, err);
-    status
 }
 
 /// Does what a line of words asks for, and answers its status.
@@ -279,5 +212,9 @@ pub fn ocelot<F: Shelf, O: Sink, E: Sink>(
     ensures out { O.faults out.old ≤ O.faults out.new }
     ensures err { E.faults err.old ≤ E.faults err.new }
 {
-    ocelot_metered(alloc, words, shelf, out, err, supplies, meters)
+    let command = read_command(words);
+    let outcome = obey(alloc, command, shelf, out, supplies, meters);
+    let status = status(&outcome.answer);
+    put_lines(outcome.answer, command, &outcome.meters, err);
+    status
 }

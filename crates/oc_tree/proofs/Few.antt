@@ -18,7 +18,7 @@ use Rattle.oc_tree.specs.Elements.{sensor_item, port_item, nv_item, function_ite
 use Rattle.oc_tree.specs.Elements.{after_item, order_elements, nothing_before, program_elements}
 use Rattle.oc_tree.specs.Limits.{Tally, nothing_counted, counted}
 use Rattle.oc_tree.specs.Broken.{Table, rules_of, lowest, or_later, first_broken, broken_element, or_size, broken}
-use Rattle.oc_tree.specs.Visible.{FewVariables}
+use Rattle.oc_tree.specs.Places.{FewVariables}
 
 -- ---- elements that break no rule
 

@@ -1,8 +1,6 @@
 -- In a checked program every statement has a group.
-use Rattle.std.proofs.Common.{◌≡◌, refl, sym, ap, ◌∙◌, subst, ℕ, arith, Bool, true, false, ◌==◌, ◌&&◌, List, [], ◌∷◌, ◌++◌, map, Option, Some, None, cond}
+use Rattle.std.proofs.Common.{◌≡◌, refl, sym, ap, ◌∙◌, subst, ℕ, arith, Bool, true, false, ◌==◌, List, [], ◌∷◌, ◌++◌, map, Option, Some, None, cond}
 use Rattle.std.specs.List.{All, find, flat_map, count_by}
-use Rattle.std.specs.Option.{option_map}
-use Rattle.std.specs.Prelude.{nat_le}
 use Rattle.std.proofs.lemmas.Bool.{eqb-true}
 use Rattle.std.proofs.lemmas.List.{map-append}
 use Rattle.std.proofs.lemmas.List.Elements.{All-head, All-tail}
@@ -10,8 +8,8 @@ use Rattle.std.proofs.lemmas.List.Sums.{sum_by-cons}
 use Rattle.oc_tree.specs.Tree.{TKind, if_else, for_in, while_do, TElse, no_else, else_do, stmt, TBlock, block, TStmts, no_stmts, more, TFunction, TProgram}
 use Rattle.oc_tree.specs.declared.tree.VarId.TheVariants as variables
 use Rattle.oc_tree.specs.Numbers.{kind_statements, else_statements, block_statements, stmts_statements, program_statements}
-use Rattle.oc_tree.specs.Places.{Place, Placed, behind, in_branch, in_loop, at_start, kind_placed, else_placed, block_placed, stmts_placed, program_placed, placed, block_of}
-use Rattle.oc_tree.specs.Checked.{Group, same_block, is_in_group, group_of, AreGroups}
+use Rattle.oc_tree.specs.Places.{Place, Placed, behind, in_branch, in_loop, at_start, kind_placed, else_placed, block_placed, stmts_placed, program_placed, placed}
+use Rattle.oc_tree.specs.Checked.{Group, is_in_group, group_of, AreGroups}
 
 -- ---- the statements with places are those of the program
 
@@ -76,16 +74,3 @@ module _ (p : TProgram) (groups : List Group) (s : ℕ) where
           let one : count_by (is_in_group p s) groups ≡ 1 =
           found_holds (λ n. count_by (is_in_group p n) groups ≡ 1) s (program_placed p) a (subst (All (λ n. count_by (is_in_group p n) groups ≡ 1)) (sym (program_ids p)) are.one_each) is in
           let none : count_by (is_in_group p s) groups ≡ 0 = none_counted (is_in_group p s) groups without in absurd (omega (arith, one, none))
-
--- what stands in no block is in no group
-pub no_block : (p : TProgram) (groups : List Group) (s : ℕ) → block_of p s ≡ None → group_of p groups s ≡ None
-no_block p [] s e = refl
-no_block p (g ∷ gs) s e = ap (λ b. cond (same_block b (block_of p g.0) && (nat_le g.0 s && nat_le s g.1)) (Some g) (group_of p gs s)) e ∙ no_block p gs s e
-
--- what stands in a block has a place
-pub no_place : (p : TProgram) (s : ℕ) → block_of p s ≡ None → placed p s ≡ None
-no_place p s e = by_place (placed p s) e
-  where
-    by_place : (o : Option Placed) → option_map (λ a. a.at.block) o ≡ None → o ≡ None
-    by_place None e = refl
-    by_place (Some a) e = grind (arith, e)

@@ -15,9 +15,11 @@ use Rattle.oc_tree.specs.Rules.{declared_before, takes_name, own_known, main_hea
 use Rattle.oc_tree.specs.Rules.{result_missing, has_bad_length, let_bad_length, is_array_value, target_fixed, array_fixed, pointee_fixed, lends_fixed, lent_twice, exposes_nv}
 use Rattle.oc_tree.specs.Rules.{annotates_other, calls_back, return_missing, returns_elsewhere, has_many_turns, pulls_disturb}
 
+-- rules by their numbers, each with whether it is broken
 abbrev pub Table : Type 0
 Table = List (ℕ × Bool)
 
+-- which rules speak of a declaration or a function's head, and whether it breaks them
 abbrev pub item_rules : TProgram → Tally → Before → Item → Table
 item_rules p n b (sensor_item x) =
     (1, declared_before p b x) ∷
@@ -38,6 +40,7 @@ item_rules p n b (function_item f) =
     (19, return_missing f) ∷
     (22, item_passes n b (function_item f)) ∷ []
 
+-- which rules speak of a statement itself, and whether it breaks them
 abbrev pub statement_rules : TProgram → Tally → Here → TKind → Table
 statement_rules p n h k =
     (2, takes_name p h.scope k) ∷
@@ -63,6 +66,7 @@ statement_rules p n h k =
     (25, own_skips k) ∷
     (26, pulls_disturb p k) ∷ []
 
+-- which rule speaks of the end of the source, and whether it is broken
 abbrev pub end_rules : TProgram → Table
 end_rules p =
     (4, main_missing p) ∷ []
@@ -73,35 +77,39 @@ rules_of p n (declared b line i) = item_rules p n b i
 rules_of p n (statement h id line k) = statement_rules p n h k
 rules_of p n (ending line) = end_rules p
 
--- the first in a table, which has rising numbers, that is broken
+-- the first rule of a table, whose numbers rise, that is broken
 abbrev pub lowest : Table → Option ℕ
 lowest [] = None
 lowest (t ∷ ts) = cond t.1 (Some t.0) (lowest ts)
 
+-- the rule that an element in this line breaks, or else what a later element breaks
 abbrev pub or_later : (line : ℕ) → Option ℕ → Option Broken → Option Broken
 or_later line (Some rule) later = Some (record { line = line; rule = rule })
 or_later line None later = later
 
--- the first of the elements that breaks a rule, and the lowest rule there, where `n` counts what stands before them
+-- the first of the elements that breaks a rule, and the lowest rule there, where `n` counts what
+-- stands before them
 abbrev pub first_broken : TProgram → Tally → List Element → Option Broken
 first_broken p n [] = None
-first_broken p n (e ∷ es) = or_later (line_of e) (lowest (rules_of p (counted n e) e)) (first_broken p (counted n e) es)
+first_broken p n (e ∷ es) =
+    or_later (line_of e) (lowest (rules_of p (counted n e) e)) (first_broken p (counted n e) es)
 
--- of all rules but those on weight and stack
+-- the first element that breaks a rule other than on weight or stack, and the lowest one
 abbrev pub broken_element : TProgram → Option Broken
 broken_element p = first_broken p nothing_counted (program_elements p)
 
--- The rules on weight and stack, which are looked at where none of the others is broken: a function weighs more than
--- 2^32, or `main` takes more than 65,536 words of stack.
+-- The rules on weight and stack, which are looked at where none of the others is broken: a function
+-- weighs more than 2^32, or `main` takes more than 65,536 words of stack.
 abbrev pub size_rules : TProgram → Table
 size_rules p =
     (23, list_any (nat_lt weight_limit) (weights p)) ∷
     (24, nat_lt word_limit (stack_words p)) ∷ []
 
+-- the element that breaks a rule, or else the broken rule on weight or stack, in the last line
 abbrev pub or_size : TProgram → Option Broken → Option Broken
 or_size p (Some b) = Some b
 or_size p None = or_later p.last_line (lowest (size_rules p)) None
 
--- the first element that breaks a rule, and the lowest rule there
+-- the first element of a program that breaks a rule, if any, and the lowest rule there
 abbrev pub broken : TProgram → Option Broken
 broken p = or_size p (broken_element p)

@@ -5,10 +5,14 @@ pub mod Nodes
 pub mod Names
 pub mod Said
 pub mod Word
+pub mod Levels
 pub mod Numbers
 pub mod Form
+pub mod Parts
 pub mod Pulls
 pub mod Mentions
+pub mod Named
+pub mod Samples
 pub mod Reach
 pub mod Calls
 pub mod Assigned
@@ -17,6 +21,7 @@ pub mod Types
 pub mod Elements
 pub mod Sizes
 pub mod Rules
+pub mod Walks
 pub mod Limits
 pub mod Expansion
 pub mod Weight
@@ -25,8 +30,6 @@ pub mod Costs
 pub mod Picked
 pub mod Broken
 pub mod Places
-pub mod Sought
-pub mod Visible
 pub mod Checked
 pub mod Marked
 pub mod Regions

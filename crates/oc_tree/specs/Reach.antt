@@ -6,9 +6,11 @@ use Rattle.std.specs.List.{list_any}
 abbrev pub Links : Type 0
 Links = List (ℕ × ℕ)
 
+-- a pair is the link from `u` to `v`
 abbrev pub is_link : ℕ → ℕ → (ℕ × ℕ) → Bool
 is_link u v l = nat_eq l.0 u && nat_eq l.1 v
 
+-- `u` leads directly to `v`
 abbrev pub linked : Links → ℕ → ℕ → Bool
 linked links u v = list_any (is_link u v) links
 
@@ -34,6 +36,7 @@ some_below (suc n) p = p n || some_below n p
 abbrev pub reaches_some : Links → ℕ → (ℕ → Bool) → ℕ → Bool
 reaches_some links n p u = some_below n (λ v. p v && reaches links n u v)
 
+-- 1 where it holds, else 0
 abbrev pub one : Bool → ℕ
 one true = 1
 one false = 0

@@ -11,7 +11,9 @@ use std::marker::Model;
 /// this number are consistent.
 #[derive(Clone, Copy)]
 pub enum PolicyKind {
+    /// The variable is fresh wherever it is used.
     Fresh { var: VarId },
+    /// The inputs of the annotations with this number belong together.
     Consistent { id: i32 },
 }
 
@@ -100,6 +102,7 @@ impl Marked {
         }
     }
 
+    /// The checked program, without its policies and regions.
     pub fn checked(&self) -> &Checked
         ensures same { result.now
             ≡ record { program = self.now.program; groups = self.now.groups } }
@@ -108,12 +111,14 @@ impl Marked {
         &self.checked
     }
 
+    /// The regions, in the order of their numbers.
     pub fn regions(&self) -> &[Region]
         ensures { map region_view result.now ≡ self.now.regions }
     {
         &self.regions
     }
 
+    /// The policies; the reasons of regions are places among them, from 0.
     pub fn policies(&self) -> &[Policy]
         ensures { result.now ≡ self.now.policies }
     {

@@ -22,12 +22,14 @@ impl Model for Name {
 }
 
 impl Name {
+    /// A name of these bytes, whatever they are.
     pub fn new(bytes: Vec<u8>) -> Name
         ensures { result ≡ bytes.items }
     {
         Name { bytes }
     }
 
+    /// The bytes of the name.
     pub fn bytes(&self) -> &[u8]
         ensures { result.now ≡ self.now }
     {

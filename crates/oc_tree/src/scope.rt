@@ -28,6 +28,8 @@ pub struct Var {
 /// that the inputs of this function's annotations with this number are consistent.
 #[derive(Clone, Copy)]
 pub enum Annotated {
+    /// The variable of this `let` is fresh.
     Fresh { stmt: StmtId },
+    /// The inputs of this function's annotations with this number belong together.
     Consistent { function: usize, id: i32 },
 }

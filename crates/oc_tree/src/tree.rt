@@ -17,9 +17,13 @@ pub type BlockId = u32;
 /// place, a `let` or `for` variable by its statement, or the function's result.
 #[derive(Clone, Copy, PartialEq, Eq)]
 pub enum VarId {
+    /// A nonvolatile variable, by its place among the names.
     Nv { index: u32 },
+    /// A parameter, by its place.
     Param { index: u32 },
+    /// The variable of a `let` or `for`, by its statement.
     Declared { stmt: StmtId },
+    /// The function's result.
     Returned,
 }
 
@@ -133,8 +137,11 @@ pub enum Expr {
 #[cycle(expression)]
 #[derive(Drop)]
 pub enum Arg {
+    /// An expression, by value.
     Value { value: Expr },
+    /// `&x`
     Shared { name: Name },
+    /// `&mut x`
     Mutable { name: Name },
 }
 
@@ -149,8 +156,11 @@ pub struct Call {
 /// The right side of a `let` or an assignment.
 #[derive(Drop)]
 pub enum Right {
+    /// An expression that is neither just an input nor just a call.
     Value { value: Expr },
+    /// `sense(s)`
     Sense { sensor: Name },
+    /// `f(..)`
     Call { call: Call },
 }
 

@@ -37,6 +37,7 @@ impl Written {
         Written { program }
     }
 
+    /// The program, which is in form and breaks no rule.
     pub fn program(&self) -> &Program
         ensures same { program_view result.now ≡ self.now }
         ensures written { IsWritten self.now }
@@ -44,6 +45,7 @@ impl Written {
         &self.program
     }
 
+    /// The program itself, given back.
     pub fn into_program(self) -> Program
         ensures same { program_view result ≡ self }
         ensures written { IsWritten self }

@@ -12,12 +12,14 @@ pub record IsCallers (p : TProgram) (n : ℕ) (m : List ℕ × ℕ) : Type 0 whe
   pub bound : m.1 ≡ length p.functions
   pub marked : (u : ℕ) → is_in m.0 u ≡ back_to p n u
 
--- the functions that name the nonvolatile variable `x`, and those that call one, directly or through others
+-- the functions that name the nonvolatile variable `x`, and those that call one, directly or
+-- through others
 pub record IsMentioning (p : TProgram) (x : Text) (m : List ℕ × ℕ) : Type 0 where
   pub bound : m.1 ≡ length p.functions
   pub marked : (u : ℕ) → is_in m.0 u ≡ reaches_mention p.functions x u
 
--- the functions that assign the nonvolatile variable `x`, and those that call one, directly or through others
+-- the functions that assign the nonvolatile variable `x`, and those that call one, directly or
+-- through others
 pub record IsAssigning (p : TProgram) (x : Text) (m : List ℕ × ℕ) : Type 0 where
   pub bound : m.1 ≡ length p.functions
   pub marked : (u : ℕ) → is_in m.0 u ≡ reaches_assign p.functions x u

@@ -4,7 +4,7 @@ use Rattle.oc_tree.specs.declared.broken.Broken.{Broken}
 use Rattle.oc_types.specs.declared.rules.RuleError.{RuleError}
 use Rattle.oc_types.specs.declared.rules.RuleError.TheVariants as errors
 
--- where this is what is broken: a rule that is told is it, in its line, and memory may run out
+-- an error tells what is broken: the rule, in its line; or memory ran out
 abbrev pub Tells : Option Broken → RuleError → Type 0
 Tells found errors.Memory = Unit {0}
 Tells found (errors.Rule line rule) = found ≡ Some (record { line = line; rule = rule })

@@ -13,10 +13,10 @@ ghost use Rattle.oc_types.specs.Marks.{IsAssigning};
 use crate::calls::lent_name;
 use crate::statement::Statement;
 use crate::top::TopLevel;
-use oc_desugar::pulls::own_pulls;
 use oc_reach::marks::Marks;
 use oc_reach::mentions::own_mentions;
 use oc_tree::name::Name;
+use oc_tree::pulls::own_pulls;
 use oc_tree::tree::{Arg, Call, Param, StmtKind};
 use std::alloc::{AllocError, Global};
 
@@ -72,7 +72,6 @@ fn callee_assigns(top: &TopLevel, name: &Name, marks: &Marks, call: &Call) -> bo
         ≡ callee_is (reaches_assign (program_view top.now).functions name.now)
         (program_view top.now) (call_view call.now) }
 {
-    let _name = name;
     match top.function_place(&call.function) {
         Some(place) => marks.has(place),
         None => false,

@@ -291,7 +291,8 @@ pub fn find_broken_element(alloc: Global, program: &Program) -> Result<Option<Br
     requires { program_nodes (program_view program.now) ≤ source_limit }
     ensures { IfOk result (λ r. r ≡ broken_element (program_view program.now)) }
 {
-    let top = TopLevel::new(alloc, program)?;
-    let broken = walk_program(alloc, &top)?;
-    Ok(broken)
+    match TopLevel::new(alloc, program) {
+        Ok(top) => walk_program(alloc, &top),
+        Err(error) => Err(error),
+    }
 }

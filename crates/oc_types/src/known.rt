@@ -2,7 +2,8 @@
 ghost use Rattle.std.specs.Prelude.{◌≡◌};
 ghost use Rattle.oc_tree.specs.View.{arg_view, call_view, expr_view, kind_view, program_view, right_view};
 ghost use Rattle.oc_tree.specs.Scope.{is_name_of, is_variable};
-ghost use Rattle.oc_tree.specs.Rules.{arg_known, call_known, expr_known, own_known, right_known, takes_name};
+ghost use Rattle.oc_tree.specs.Rules.{own_known, takes_name};
+ghost use Rattle.oc_tree.specs.Walks.{arg_known, call_known, expr_known, kind_known, right_known};
 
 use crate::scope::Scope;
 use crate::top::TopLevel;
@@ -84,9 +85,8 @@ fn right_known<'a>(top: &TopLevel<'a>, scope: &Scope<'a>, right: &Right) -> bool
     }
 }
 
-/// Whether the names that a statement itself uses are known.
-pub fn own_known<'a>(top: &TopLevel<'a>, scope: &Scope<'a>, kind: &StmtKind) -> bool
-    ensures { result ≡ own_known (program_view top.now) scope.now (kind_view kind.now) }
+fn kind_known<'a>(top: &TopLevel<'a>, scope: &Scope<'a>, kind: &StmtKind) -> bool
+    ensures { result ≡ kind_known (program_view top.now) scope.now (kind_view kind.now) }
 {
     match kind {
         StmtKind::Let { right, .. } => right_known(top, scope, right),
@@ -109,4 +109,11 @@ pub fn own_known<'a>(top: &TopLevel<'a>, scope: &Scope<'a>, kind: &StmtKind) -> 
         ),
         StmtKind::Return { value } => expr_known(top, scope, value),
     }
+}
+
+/// Whether the names that a statement itself uses are known.
+pub fn own_known<'a>(top: &TopLevel<'a>, scope: &Scope<'a>, kind: &StmtKind) -> bool
+    ensures { result ≡ own_known (program_view top.now) scope.now (kind_view kind.now) }
+{
+    kind_known(top, scope, kind)
 }

@@ -109,10 +109,7 @@ fn note_all<'a>(
 {
     let statements = collect_calling(alloc, program.functions.as_slice())?;
     let mut noted = Vec::new(alloc);
-    for name in program.names.nvs.as_slice() {
-        if noted.len() >= MOST_NAMES {
-            return Ok(noted);
-        }
+    for name in program.names.nvs.as_slice().iter().take(MOST_NAMES) {
         if stands_in_some(statements.as_slice(), name) {
             noted.push(note(alloc, program, assigned, name)?)?;
         }
@@ -148,7 +145,6 @@ impl<'a> Notes<'a> {
         ensures { IfSome result
             (λ n. IsNoted (program_view self.now) name.now n.now.assigning n.now.mentioning) }
     {
-        let _program = self.program;
         for noted in &self.noted {
             if name.is(noted.name) {
                 return Some(noted);

@@ -1,9 +1,10 @@
 //! Inputs and calls that stand where they may be skipped.
 ghost use Rattle.std.specs.Prelude.{◌≡◌, ◌<◌, ◌^◌};
 ghost use Rattle.oc_tree.specs.View.{arg_view, call_view, expr_view, kind_view, right_view};
-ghost use Rattle.oc_tree.specs.Pulls.{arg_pulls, arg_skips, call_pulls, call_skips, expr_pulls, expr_skips, may_skip, own_pulls, own_skips, right_pulls, right_skips};
+ghost use Rattle.oc_tree.specs.Pulls.{arg_pulls, call_pulls, expr_pulls, may_skip, own_pulls, own_skips, right_pulls};
+ghost use Rattle.oc_tree.specs.Walks.{arg_skips, call_skips, expr_skips, kind_skips, right_skips};
 
-use oc_desugar::pulls::expr_pulls;
+use oc_tree::pulls::expr_pulls;
 use oc_tree::tree::{Arg, BinaryOp, Call, Expr, Right, StmtKind};
 
 fn may_skip(op: BinaryOp) -> bool
@@ -70,10 +71,9 @@ fn right_skips(right: &Right) -> bool
     }
 }
 
-/// Whether an input or a call stands where it may be skipped, or in the condition of a `while`.
-pub fn own_skips(kind: &StmtKind) -> bool
+fn kind_skips(kind: &StmtKind) -> bool
     requires { own_pulls (kind_view kind.now) < 2 ^ 32 }
-    ensures { result ≡ own_skips (kind_view kind.now) }
+    ensures { result ≡ kind_skips (kind_view kind.now) }
 {
     match kind {
         StmtKind::LetArray { .. }
@@ -90,4 +90,12 @@ pub fn own_skips(kind: &StmtKind) -> bool
         StmtKind::CallOnly { call } => call_skips(call),
         StmtKind::Emit { value, .. } | StmtKind::Return { value } => expr_skips(value),
     }
+}
+
+/// Whether an input or a call stands where it may be skipped, or in the condition of a `while`.
+pub fn own_skips(kind: &StmtKind) -> bool
+    requires { own_pulls (kind_view kind.now) < 2 ^ 32 }
+    ensures { result ≡ own_skips (kind_view kind.now) }
+{
+    kind_skips(kind)
 }

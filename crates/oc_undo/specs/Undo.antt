@@ -9,11 +9,11 @@ pub record Log : Type 0 where
   pub back : ℕ
   pub words : ℕ
 
--- the old word is put back at its address
+-- the nonvolatile words with the old word of an entry put back at its address
 abbrev pub put_back : Entry → List ℤ → List ℤ
 put_back e nv = slice_set nv e.addr e.old
 
--- all entries are put back, from the last to the first
+-- the nonvolatile words with all entries put back, from the last to the first
 abbrev pub undo : List Entry → List ℤ → List ℤ
 undo [] nv = nv
 undo (e ∷ es) nv = put_back e (undo es nv)
@@ -27,6 +27,7 @@ has_entry (e ∷ es) a = if e.addr == a then true else has_entry es a
 abbrev pub left : Log → ℕ
 left log = length log.entries - log.back
 
+-- the nonvolatile words with an entry put back, if there is one
 abbrev pub put_back_some : Option Entry → List ℤ → List ℤ
 put_back_some None nv = nv
 put_back_some (Some e) nv = put_back e nv
@@ -36,7 +37,7 @@ abbrev pub undo_one : List Entry → ℕ → List ℤ → List ℤ
 undo_one entries zero nv = nv
 undo_one entries (suc k) nv = put_back_some (slice_get entries k) nv
 
--- the log after that: one more was put back, until all were
+-- the log after one entry more was put back, until all were
 abbrev pub after_one : Log → ℕ → Log
 after_one log zero = log
 after_one log (suc k) = record log { back = log.back + 1 }
@@ -50,7 +51,8 @@ undo_some entries (suc k) (suc n) nv = undo_some entries k n (undo_one entries (
 -- a rollback that was begun anew after so many entries each time, and at last runs to its end
 abbrev pub rollback : List Entry → List ℕ → List ℤ → List ℤ
 rollback entries [] nv = undo_some entries (length entries) (length entries) nv
-rollback entries (n ∷ broken_off) nv = rollback entries broken_off (undo_some entries (length entries) n nv)
+rollback entries (n ∷ broken_off) nv =
+    rollback entries broken_off (undo_some entries (length entries) n nv)
 
 -- the old word of the first entry of this address, or this word where there is none
 abbrev pub first_old : List Entry → ℕ → ℤ → ℤ

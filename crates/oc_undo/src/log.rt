@@ -106,6 +106,7 @@ impl UndoLog {
             { entries = self.old.entries ++ record { addr = addr; old = old } ∷ []; back = 0 } }
     {
         self.restart();
+        // `new` took room for an entry of each word, so this wants no memory
         let _ = self.entries.push(Entry { addr, old });
         self.marks[addr as usize] = true;
     }

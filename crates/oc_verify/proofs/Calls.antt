@@ -35,15 +35,15 @@ one_link : (f h : ℕ) (x : Instr) → x ≡ Call h → linked (link_from f x) f
 one_link f h x e = subst (λ y. linked (link_from f y) f h ≡ true) (sym e) (let a : nat_eq f f ≡ true = grind arith in let b : nat_eq h h ≡ true = grind arith in
     ap (λ c. c && nat_eq h h || false) a ∙ ap (λ c. c || false) b)
 
-entry_low : (a : ℕ) (g : ImageFunction) (gs : List ImageFunction) → rises_from a (g ∷ gs) ≡ true → a ≤ g.entry
+pub entry_low : (a : ℕ) (g : ImageFunction) (gs : List ImageFunction) → rises_from a (g ∷ gs) ≡ true → a ≤ g.entry
 entry_low a g gs r = let x : nat_le a g.entry ≡ true = (and_parts _ _ r).0 in grind (arith, x)
 
 -- past the entry, or before it
-rises_past : (a : ℕ) (g : ImageFunction) (gs : List ImageFunction) → rises_from a (g ∷ gs) ≡ true → nat_le g.entry a ≡ true → rises_from (suc a) gs ≡ true
+pub rises_past : (a : ℕ) (g : ImageFunction) (gs : List ImageFunction) → rises_from a (g ∷ gs) ≡ true → nat_le g.entry a ≡ true → rises_from (suc a) gs ≡ true
 rises_past a g gs r e = let l = entry_low a g gs r in let n : g.entry ≡ a = (let u : g.entry ≤ a = grind (arith, e) in omega (arith, l, u)) in
     subst (λ m. rises_from (suc m) gs ≡ true) n (and_parts _ _ r).1
 
-rises_before : (a : ℕ) (g : ImageFunction) (gs : List ImageFunction) → rises_from a (g ∷ gs) ≡ true → nat_le g.entry a ≡ false → rises_from (suc a) (g ∷ gs) ≡ true
+pub rises_before : (a : ℕ) (g : ImageFunction) (gs : List ImageFunction) → rises_from a (g ∷ gs) ≡ true → nat_le g.entry a ≡ false → rises_from (suc a) (g ∷ gs) ≡ true
 rises_before a g gs r e = let l = entry_low a g gs r in let n : nat_le (suc a) g.entry ≡ true = grind (arith, l, e) in ap (λ b. b && rises_from (suc g.entry) gs) n ∙ (and_parts _ _ r).1
 
 -- the call stands here

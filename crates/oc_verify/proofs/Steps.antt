@@ -14,7 +14,7 @@ use Rattle.oc_isa.specs.declared.instr.Instr.{Instr}
 use Rattle.oc_isa.specs.declared.instr.Instr.TheVariants.{Push, Load, Store, Nload, Nstore, Addr, Naddr, Get, Put, Index, Bin, Un, Jump, Jfalse, Call, Ret, Retv, Drop, Sense, Emit}
 use Rattle.oc_isa.specs.declared.instr.Instr.TheVariants.{Probe, Enter, Commit, Halt}
 use Rattle.oc_isa.specs.Image.{Parts, frame_of, entry_of, initial_words}
-use Rattle.oc_isa.specs.Levels.{at_level, set_level}
+use Rattle.oc_tree.specs.Levels.{at_level, set_level}
 use Rattle.oc_isa.specs.Next.{Regs, Next, Goes, Senses, Enters, Commits, Ends, Stuck}
 use Rattle.oc_isa.specs.Run.{Core, core_at, start_of, Aim, Safe, safe_next, safe_sense, safe_commit, IsSound}
 use Rattle.oc_isa.specs.Table.{on, check, popped, popped_two, moves, pushes, pushes_number, loads, stores, writes, address, gets_at, puts_at, element, binary_of, results, jumps}

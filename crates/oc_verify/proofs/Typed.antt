@@ -113,7 +113,7 @@ run_numbers : (ss : List (Option Kind)) (s : ℕ) → s ≤ length ss → AllNum
 run_numbers ss s l = run_all [] ss s 0 l (λ j q. absurd (omega (arith, q)))
 
 -- the run from a number slot is not empty
-run_one : (ss : List (Option Kind)) (s n : ℕ) → level ss s ≡ Some (Some Number) → 1 ≤ run ss s n
+pub run_one : (ss : List (Option Kind)) (s n : ℕ) → level ss s ≡ Some (Some Number) → 1 ≤ run ss s n
 run_one [] s n e = absurd (cc)
 run_one (k ∷ ss) s n e = ⊎_elim
     (λ q. let far : nat_lt (length ss) s ≡ false = grind (arith, q.1) in

@@ -8,16 +8,17 @@ use Rattle.oc_verify.specs.declared.fault.Fault.TheVariants as faults
 use Rattle.oc_verify.specs.Rules.{Broken, Kinds, AreRight, IsCalled}
 use Rattle.oc_verify.specs.declared.kind.Kind.{Kind}
 
--- the rule that is named is broken there
+-- the rule that an answer names is broken there, unless memory ran out
 abbrev pub Blames : Parts → VerifyError → Type 0
 Blames i (errors.Refused at' rule) = Broken i at' rule
 Blames i errors.Memory = Unit {0}
 
--- the same, where these are the kinds of the parameters of function f, and it is called
+-- the rule that an answer names is broken, where these are the kinds of the parameters of function
+-- `f`, and it is called
 abbrev pub BlamesIn : Parts → ℕ → List Kind → VerifyError → Type 0
 BlamesIn i f ks e = (t : Kinds) → t f ≡ ks → AreRight i t f → IsCalled i t f → Blames i e
 
--- a fault at an address
+-- a fault, as one at this address
 abbrev pub fault_at : ℕ → Fault → VerifyError
 fault_at a (faults.Broken rule) = errors.Refused a rule
 fault_at a faults.Memory = errors.Memory

@@ -11,22 +11,24 @@ use Rattle.oc_verify.specs.declared.kind.Kind.{Kind}
 use Rattle.oc_verify.specs.Told.{kind_of}
 use Rattle.oc_verify.specs.Rules.{calls_of, code_at, counts_fit, end_at, gives, laid_out, main_number, names_exist, nv_words, returns_right}
 
--- how many parameters a function must have, so that a region may write these
+-- how many parameters a function must have, so that a region may write this target
 abbrev pub need : Target → ℕ
 need (Nv base len) = 0
 need (Param slot len) = suc slot
 
+-- how many parameters a function must have, so that a region may write these targets
 abbrev pub needs : List Target → ℕ
 needs [] = 0
 needs (t ∷ ts) = max (need t) (needs ts)
 
--- functions lie in the code, and counts fit
+-- functions lie in the code, and the counts of an image fit
 pub record IsLaid (i : Parts) : Type 0 where
   pub laid : laid_out i ≡ true
   pub counts : counts_fit i ≡ true
   pub low : i.stack ≤ 65536
 
--- and these are its main function, its nonvolatile words, which functions give a result, and what regions need
+-- of an image that is laid out: its main function, its nonvolatile words, which functions give a
+-- result, and what regions need
 pub record IsKnown (i : Parts) (m w : ℕ) (rs : List Bool) (ns : List ℕ) : Type 0 where
   pub laid : IsLaid i
   pub main : m ≡ main_number i
@@ -37,7 +39,9 @@ pub record IsKnown (i : Parts) (m w : ℕ) (rs : List Bool) (ns : List ℕ) : Ty
 
 -- all that the code of a function names exists, and its returns are right
 abbrev pub IsNamed : Parts → ℕ → Type 0
-IsNamed i f = (a : ℕ) (p : Placed) → code_at i f a ≡ Some p → (names_exist i f p.instr ≡ true) × (returns_right i f p.instr ≡ true)
+IsNamed i f =
+    (a : ℕ) (p : Placed) → code_at i f a ≡ Some p
+    → (names_exist i f p.instr ≡ true) × (returns_right i f p.instr ≡ true)
 
 -- a number for each function, which falls along every call
 pub record IsRanked (i : Parts) (ranks : List ℕ) : Type 0 where
@@ -52,7 +56,9 @@ goes_on f a (Some g) = if nat_le g.entry a then suc f else f
 
 -- where the code of a function begins and ends
 abbrev pub IsStretch : Parts → ℕ → ℕ × ℕ → Type 0
-IsStretch i f s = (g : ImageFunction) × (slice_get i.functions f ≡ Some g) × (s.0 ≡ g.entry) × (s.1 ≡ end_at i.functions (length i.code) f) × (s.1 ≤ length i.code)
+IsStretch i f s =
+    (g : ImageFunction) × (slice_get i.functions f ≡ Some g) × (s.0 ≡ g.entry)
+    × (s.1 ≡ end_at i.functions (length i.code) f) × (s.1 ≤ length i.code)
 
 -- the code of a function is walked through, whose parameters have these kinds, by their numbers
 pub record Scene : Type 0 where
@@ -60,5 +66,6 @@ pub record Scene : Type 0 where
   pub function : ℕ
   pub codes : List ℕ
 
+-- the kinds of the parameters in a scene
 abbrev pub scene_kinds : Scene → List Kind
 scene_kinds s = map kind_of s.codes

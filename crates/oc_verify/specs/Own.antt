@@ -14,20 +14,22 @@ pub record Own : Type 0 where
   pub function : ImageFunction
   pub codes : List ℕ
 
+-- the kinds of a function's slots, the last first
 abbrev pub own_list : Own → List (Option Kind)
 own_list o = slots_by o.main o.function (map kind_of o.codes)
 
--- what is a slot
+-- the kind of a slot, where it is one and no link
 abbrev pub slot_kind : Option (Option Kind) → Option Kind
 slot_kind None = None
 slot_kind (Some k) = k
 
--- how many numbers follow each other from each parameter on, the last first; n follow behind the last
+-- how many numbers follow each other from each parameter on, the last first; n follow behind the
+-- last
 abbrev pub runs_of : ℕ → List Kind → List ℕ
 runs_of n [] = []
 runs_of n (k ∷ ks) = more (Some k) n ∷ runs_of (more (Some k) n) ks
 
--- a number, in the frame
+-- the number 0, for a slot that is in the frame
 abbrev pub in_frame : Own → ℕ → Option ℕ
 in_frame o s = if nat_lt s o.function.frame then Some 0 else None
 
@@ -35,10 +37,11 @@ in_frame o s = if nat_lt s o.function.frame then Some 0 else None
 abbrev pub plain : ImageFunction → Own
 plain g = record { main = false; function = g; codes = replicate g.params 0 }
 
--- its parameters, and what lies in its frame above the links, are its slots
+-- a slot of a function whose parameters are numbers: a parameter, or what lies above the links
 abbrev pub plain_slot : ImageFunction → ℕ → Bool
 plain_slot g s = nat_lt s g.params || (nat_le (g.params + 2) s && nat_lt s g.frame)
 
+-- the slot that an instruction names is there, where all parameters are numbers
 abbrev pub plain_right : ImageFunction → Instr → Bool
 plain_right g (Load s) = plain_slot g s
 plain_right g (Store s) = plain_slot g s

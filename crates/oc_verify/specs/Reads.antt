@@ -13,19 +13,19 @@ Reads view (Ok x) rest read = read ≡ Ok (view x, rest)
 Reads view (Err (faults.Bad left)) rest read = read ≡ Err left
 Reads view (Err faults.Memory) rest read = Unit {0}
 
--- the same of a field that tells nothing
+-- the answer on a field that tells nothing is what was to be read, unless memory ran out
 abbrev pub Passes : {A : Type 0} → Result A ReadFault → Bytes → Result Bytes ℕ → Type 0
 Passes (Ok x) rest read = read ≡ Ok rest
 Passes (Err (faults.Bad left)) rest read = read ≡ Err left
 Passes (Err faults.Memory) rest read = Unit {0}
 
--- nothing is left, or this is where the fault is
+-- no byte is left, or the fault is where the bytes that are left begin
 abbrev pub Ends : {A : Type 0} → Result A ReadFault → Bytes → Type 0
 Ends (Ok x) rest = rest ≡ []
 Ends (Err (faults.Bad left)) rest = (1 ≤ length rest) × (left ≡ length rest)
 Ends (Err faults.Memory) rest = Unit {0}
 
--- the same of all bytes of a file
+-- the answer on all bytes of a file, seen so, is what was to be read, unless memory ran out
 abbrev pub ReadsAll : {A B : Type 0} → (A → B) → Result A ReadFault → Result B ℕ → Type 0
 ReadsAll view (Ok x) read = read ≡ Ok (view x)
 ReadsAll view (Err (faults.Bad left)) read = read ≡ Err left
@@ -33,5 +33,6 @@ ReadsAll view (Err faults.Memory) read = Unit {0}
 
 -- the first bad field of these bytes begins there
 abbrev pub IsBad : Bytes → ImageError → Type 0
-IsBad bytes (errors.Bytes at') = (left : ℕ) × (read_at bytes ≡ Err left) × (at' + left ≡ length bytes)
+IsBad bytes (errors.Bytes at') =
+    (left : ℕ) × (read_at bytes ≡ Err left) × (at' + left ≡ length bytes)
 IsBad bytes errors.Memory = Unit {0}

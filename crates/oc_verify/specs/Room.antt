@@ -15,46 +15,58 @@ use Rattle.oc_verify.specs.Tables.{IsDone, all_done, Passed, SeenCall, is_walked
 
 -- each function has so many words at all of its addresses, with what it calls there
 pub record IsEnough (i : Parts) (tab : Marks) (f : ℕ) (bound : ℕ → ℕ) : Type 0 where
-  pub high : (a : ℕ) (p : Pair) (x : Placed) → code_at i f a ≡ Some x → tab a ≡ Some p → frame_at i f + length p.ops ≤ bound f
-  pub deep : (g a : ℕ) (p : Pair) → SeenCall i tab f g a p → frame_at i f + (length p.ops - params_of i g) + bound g ≤ bound f
+  pub high : (a : ℕ) (p : Pair) (x : Placed)
+      → code_at i f a ≡ Some x → tab a ≡ Some p → frame_at i f + length p.ops ≤ bound f
+  pub deep : (g a : ℕ) (p : Pair)
+      → SeenCall i tab f g a p → frame_at i f + (length p.ops - params_of i g) + bound g ≤ bound f
 
--- and the stack has as many as `main` needs
+-- each function has enough words by these bounds, and the stack has as many as `main` needs
 pub record HasRoom (i : Parts) (tab : Marks) (bound : ℕ → ℕ) : Type 0 where
   pub each : (f : ℕ) → IsEnough i tab f bound
   pub room : bound (main_number i) ≤ i.stack
 
--- how many words function f needs at an instruction, with what it calls there, where it has so many on its operand stack
+-- how many words function f needs at an instruction, with what it calls there, where it has so many
+-- on its operand stack
 abbrev pub needed : Parts → List ℕ → ℕ → Instr → ℕ → ℕ
-needed i bounds f (Call g) h = max (frame_at i f + (h - params_of i g) + get_or bounds g 0) (frame_at i f + h)
+needed i bounds f (Call g) h =
+    max (frame_at i f + (h - params_of i g) + get_or bounds g 0) (frame_at i f + h)
 needed i bounds f x h = frame_at i f + h
 
--- an address in its code that was looked at
+-- an address in the code of a function that was looked at, with its instruction and its pair
 pub record SeenAt (i : Parts) (tab : Marks) (f : ℕ) (x : Placed) (p : Pair) : Type 0 where
   pub address : ℕ
   pub found : code_at i f address ≡ Some x
   pub pair : tab address ≡ Some p
 
+-- how many words function `f` needs at an instruction with this pair, with what it calls there
 abbrev pub needed_at : Parts → List ℕ → ℕ → Placed → Pair → ℕ
 needed_at i bounds f x p = needed i bounds f x.instr (length p.ops)
 
--- it needs no more than this anywhere, and so many somewhere
+-- function `f` needs `m` words at an address that was looked at, and no more at any
 pub record IsMost (i : Parts) (tab : Marks) (bounds : List ℕ) (f m : ℕ) : Type 0 where
   pub low : m ≤ i.stack
   pub most : (x : Placed) (p : Pair) → SeenAt i tab f x p → needed_at i bounds f x p ≤ m
-  pub held : (x : Placed) (p : Pair) → SeenAt i tab f x p → (y : Placed) × (q : Pair) × SeenAt i tab f y q × (m ≡ needed_at i bounds f y q)
+  pub held : (x : Placed) (p : Pair)
+      → SeenAt i tab f x p
+      → (y : Placed) × (q : Pair) × SeenAt i tab f y q × (m ≡ needed_at i bounds f y q)
 
--- it needs more than the stack has
+-- function `f` needs more words somewhere than the stack has, or memory ran out
 abbrev pub BlamesDeep : Parts → Marks → List ℕ → ℕ → VerifyError → Type 0
-BlamesDeep i tab bounds f (errors.Refused at' rule) = (at' ≡ 0) × (rule ≡ 11) × (x : Placed) × (p : Pair) × SeenAt i tab f x p × (i.stack < needed_at i bounds f x p)
+BlamesDeep i tab bounds f (errors.Refused at' rule) =
+    (at' ≡ 0) × (rule ≡ 11) × (x : Placed) × (p : Pair) × SeenAt i tab f x p
+    × (i.stack < needed_at i bounds f x p)
 BlamesDeep i tab bounds f errors.Memory = Unit {0}
 
 -- a function that is executed comes to hold so many words
 abbrev pub IsHeld : Parts → Marks → ℕ → ℕ → Type 0
-IsHeld i tab f m = (ps : Passed) → IsDone i (all_done i) tab ps → is_walked i ps f ≡ true → (n : ℕ) × Holds i (kinds_of i ps) n f m
+IsHeld i tab f m =
+    (ps : Passed) → IsDone i (all_done i) tab ps → is_walked i ps f ≡ true
+    → (n : ℕ) × Holds i (kinds_of i ps) n f m
 
 -- functions of rank below k have their bounds, and of this rank those below f
 abbrev pub bounded_by : (n : ℕ) (ranks : List ℕ) (k f : ℕ) → ℕ → Bool
-bounded_by n ranks k f h = nat_lt h n && (nat_lt (get_or ranks h 0) k || (nat_lt h f && (get_or ranks h 0 == k)))
+bounded_by n ranks k f h =
+    nat_lt h n && (nat_lt (get_or ranks h 0) k || (nat_lt h f && (get_or ranks h 0 == k)))
 
 -- these functions have their bounds
 pub record AreBounded (i : Parts) (tab : Marks) (done : ℕ → Bool) (bounds : List ℕ) : Type 0 where

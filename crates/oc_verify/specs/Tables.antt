@@ -23,22 +23,26 @@ use Rattle.oc_verify.specs.Work.{IsWork, Marks, Todo, todo_at}
 abbrev pub Cells : Type 0
 Cells = List (Option (ℕ × ℕ))
 
+-- the pair of an address, where it was looked at
 abbrev pub pair_in : Nodes → Nodes → Option (Option (ℕ × ℕ)) → Option Pair
 pair_in ks rs None = None
 pair_in ks rs (Some None) = None
 pair_in ks rs (Some (Some n)) = Some (pair_of ks rs n)
 
+-- the pairs of all addresses that were looked at
 abbrev pub marks : Nodes → Nodes → Cells → Marks
 marks ks rs cs a = pair_in ks rs (slice_get cs a)
 
+-- a pair, where there is an instruction
 abbrev pub own_by : Option Placed → Option Pair → Option Pair
 own_by None p = None
 own_by (Some x) p = p
 
--- those in the code of function f
+-- the pairs of the addresses in the code of function `f` that were looked at
 abbrev pub own_marks : Parts → ℕ → Marks → Marks
 own_marks i f tab a = own_by (code_at i f a) (tab a)
 
+-- an address that is still to be looked at, by the numbers of its stacks
 abbrev pub todo_of : Nodes → Nodes → (ℕ × (ℕ × ℕ)) → Todo
 todo_of ks rs e = todo_at (pair_of ks rs e.1) e.0
 
@@ -47,7 +51,8 @@ abbrev pub AreCells : Nodes → Nodes → Cells → Type 0
 AreCells ks rs cs = (a : ℕ) (n : ℕ × ℕ) → slice_get cs a ≡ Some (Some n) → AreIn ks rs n
 
 -- a walk through the code of f, with these still to be looked at, the next one last
-pub record IsWalk (i : Parts) (f : ℕ) (kinds : List Kind) (ks rs : Nodes) (cs : Cells) (es : List (ℕ × (ℕ × ℕ))) : Type 0 where
+pub record IsWalk (i : Parts) (f : ℕ) (kinds : List Kind) (ks rs : Nodes) (cs : Cells)
+    (es : List (ℕ × (ℕ × ℕ))) : Type 0 where
   pub work : IsWork i f kinds (own_marks i f (marks ks rs cs)) (map (todo_of ks rs) (reverse es))
   pub sized : length cs ≡ length i.code
   pub cells : AreCells ks rs cs
@@ -57,6 +62,7 @@ pub record IsWalk (i : Parts) (f : ℕ) (kinds : List Kind) (ks rs : Nodes) (cs 
 abbrev pub KeepsOthers : Parts → ℕ → Marks → Marks → Type 0
 KeepsOthers i f old new = (a : ℕ) → code_at i f a ≡ None → new a ≡ old a
 
+-- an address wasn't looked at
 abbrev pub is_blank : Option (ℕ × ℕ) → Bool
 is_blank None = true
 is_blank (Some n) = false
@@ -71,11 +77,13 @@ blanks cs = count_by is_blank cs
 abbrev pub Passed : Type 0
 Passed = List (Option (List ℕ))
 
+-- what contracts see of the kinds that were passed to each function
 abbrev pub passed_seen : List (Option (Vec ℕ Global)) → Passed
 passed_seen [] = []
 passed_seen (None ∷ ps) = None ∷ passed_seen ps
 passed_seen (Some v ∷ ps) = Some v.items ∷ passed_seen ps
 
+-- the kinds that were passed, by their numbers; numbers where none were
 abbrev pub codes_by : ℕ → Option (Option (List ℕ)) → List ℕ
 codes_by params None = replicate params 0
 codes_by params (Some None) = replicate params 0
@@ -85,6 +93,7 @@ codes_by params (Some (Some cs)) = cs
 abbrev pub codes_of : Parts → Passed → ℕ → List ℕ
 codes_of i ps f = codes_by (params_of i f) (slice_get ps f)
 
+-- the kinds of each function's parameters, as far as calls were looked at
 abbrev pub kinds_of : Parts → Passed → Kinds
 kinds_of i ps f = map kind_of (codes_of i ps f)
 
@@ -92,6 +101,7 @@ kinds_of i ps f = map kind_of (codes_of i ps f)
 abbrev pub plain_slots : Parts → ℕ → List (Option Kind)
 plain_slots i f = own_slots i f (map kind_of (replicate (params_of i f) 0))
 
+-- a call of a function was looked at
 abbrev pub was_passed : Option (Option (List ℕ)) → Bool
 was_passed None = false
 was_passed (Some None) = false
@@ -116,30 +126,47 @@ Calls = ℕ → ℕ → Bool
 abbrev pub call_number : (g n : ℕ) → ℕ
 call_number g n = g * 4294967296 + n
 
+-- the function of a call that is one number
 abbrev pub number_callee : ℕ → ℕ
 number_callee k = k / 4294967296
 
+-- the stack of a call that is one number
 abbrev pub number_stack : ℕ → ℕ
 number_stack k = k % 4294967296
 
--- these are the least kinds over the calls that were looked at, and functions without kinds are called at none of them
+-- these are the least kinds over the calls that were looked at, and functions without kinds are
+-- called at none of them
 pub record IsPassed (i : Parts) (seen : Calls) (tab : Marks) (ps : Passed) : Type 0 where
   pub many : length ps ≡ length i.functions
   pub sized : (g : ℕ) (cs : List ℕ) → slice_get ps g ≡ Some (Some cs) → length cs ≡ params_of i g
   pub small : (g : ℕ) (cs : List ℕ) → slice_get ps g ≡ Some (Some cs) → All (λ c. c < kind_limit) cs
-  pub suits : (h g a : ℕ) (p : Pair) → seen h a ≡ true → SeenCall i tab h g a p → (cs : List ℕ) × (slice_get ps g ≡ Some (Some cs)) × SuitAll (take (params_of i g) p.ops) (map kind_of cs)
-  pub met : (g j n : ℕ) (cs : List ℕ) → slice_get ps g ≡ Some (Some cs) → level (map kind_of cs) j ≡ Some (Place n)
-      → (h : ℕ) × (a : ℕ) × (p : Pair) × (seen h a ≡ true) × SeenCall i tab h g a p × (level (take (params_of i g) p.ops) j ≡ Some (Place n))
-  pub passes : (g : ℕ) (cs : List ℕ) → slice_get ps g ≡ Some (Some cs) → (h : ℕ) × (a : ℕ) × (p : Pair) × (seen h a ≡ true) × SeenCall i tab h g a p
+  pub suits : (h g a : ℕ) (p : Pair)
+      → seen h a ≡ true → SeenCall i tab h g a p
+      → (cs : List ℕ) × (slice_get ps g ≡ Some (Some cs))
+      × SuitAll (take (params_of i g) p.ops) (map kind_of cs)
+  pub met : (g j n : ℕ) (cs : List ℕ)
+      → slice_get ps g ≡ Some (Some cs) → level (map kind_of cs) j ≡ Some (Place n)
+      → (h : ℕ) × (a : ℕ) × (p : Pair) × (seen h a ≡ true) × SeenCall i tab h g a p
+      × (level (take (params_of i g) p.ops) j ≡ Some (Place n))
+  pub passes : (g : ℕ) (cs : List ℕ)
+      → slice_get ps g ≡ Some (Some cs)
+      → (h : ℕ) × (a : ℕ) × (p : Pair) × (seen h a ≡ true) × SeenCall i tab h g a p
 
 -- what is known when these functions are done, whose callers are done too
 pub record IsDone (i : Parts) (done : ℕ → Bool) (tab : Marks) (ps : Passed) : Type 0 where
   pub calls : IsPassed i (λ h a. done h) tab ps
-  pub works : (h : ℕ) → done h ≡ true → is_walked i ps h ≡ true → IsWork i h (kinds_of i ps h) (own_marks i h tab) []
-  pub homes : (a : ℕ) (p : Pair) → tab a ≡ Some p → (h : ℕ) × (x : Placed) × (code_at i h a ≡ Some x) × (done h ≡ true) × (is_walked i ps h ≡ true)
-  pub slots : (h a : ℕ) (x : Placed) → done h ≡ true → code_at i h a ≡ Some x → slot_right (own_slots i h (kinds_of i ps h)) x.instr ≡ true
+  pub works : (h : ℕ)
+      → done h ≡ true → is_walked i ps h ≡ true
+      → IsWork i h (kinds_of i ps h) (own_marks i h tab) []
+  pub homes : (a : ℕ) (p : Pair)
+      → tab a ≡ Some p
+      → (h : ℕ) × (x : Placed) × (code_at i h a ≡ Some x) × (done h ≡ true)
+      × (is_walked i ps h ≡ true)
+  pub slots : (h a : ℕ) (x : Placed)
+      → done h ≡ true → code_at i h a ≡ Some x
+      → slot_right (own_slots i h (kinds_of i ps h)) x.instr ≡ true
 
--- with one function more
+-- the functions that are done, with one more
 abbrev pub with_done : (ℕ → Bool) → ℕ → ℕ → Bool
 with_done done f g = if g == f then true else done g
 
@@ -149,7 +176,7 @@ pub record IsNext (i : Parts) (done : ℕ → Bool) (f : ℕ) : Type 0 where
   pub closed : (u v : ℕ) → linked (calls_of i) u v ≡ true → done v ≡ true → done u ≡ true
   pub callers : (u : ℕ) → linked (calls_of i) u f ≡ true → done u ≡ true
 
--- each of these functions
+-- all functions of an image are done
 abbrev pub all_done : Parts → ℕ → Bool
 all_done i h = nat_lt h (length i.functions)
 
@@ -159,11 +186,12 @@ IsExamined i tab = (ps : Passed) × IsDone i (all_done i) tab ps
 
 -- functions of rank above n - k are done, and of this rank those below f
 abbrev pub done_by : (n : ℕ) (ranks : List ℕ) (k f : ℕ) → ℕ → Bool
-done_by n ranks k f h = nat_lt h n && (nat_lt n (get_or ranks h 0 + k) || (nat_lt h f && (get_or ranks h 0 + k == n)))
+done_by n ranks k f h =
+    nat_lt h n && (nat_lt n (get_or ranks h 0 + k) || (nat_lt h f && (get_or ranks h 0 + k == n)))
 
 -- One call more
 
--- with the calls in the code of f below an address
+-- the calls that were looked at, with those in the code of function `f` below an address
 abbrev pub with_calls : Calls → (f to : ℕ) → Calls
 with_calls seen f to h a = seen h a || (nat_eq h f && nat_lt a to)
 
@@ -181,30 +209,34 @@ pub record Joins (params : ℕ) (old : Passed) (g : ℕ) (ops : List Kind) (new 
   pub small : All (λ c. c < kind_limit) codes
   pub joins : JoinsBy (slice_get old g) (take params ops) (map kind_of codes)
 
--- a number meets a place, or memory ran out
+-- a number meets a place in these kinds, or memory ran out
 abbrev pub Mixes : List Kind → List Kind → VerifyError → Type 0
 Mixes as' bs (errors.Refused at' rule) = (at' ≡ 0) × (rule ≡ 6) × (leasts as' bs ≡ None)
 Mixes as' bs errors.Memory = Unit {0}
 
+-- the kinds of a new call don't go with those that were passed before, or memory ran out
 abbrev pub MixesWith : Option (Option (List ℕ)) → List Kind → VerifyError → Type 0
 MixesWith (Some (Some cs)) args e = Mixes (map kind_of cs) args e
 MixesWith o args e = e ≡ errors.Memory
 
--- it does so at a call in the code of f, behind those before it
+-- a number meets a place at a call in the code of function `f`, behind those before it
 pub record MixesAt (i : Parts) (f : ℕ) (tab : Marks) (old : Passed) (e : VerifyError) : Type 0 where
   pub callee : ℕ
   pub address : ℕ
   pub pair : Pair
   pub call : SeenCall i tab f callee address pair
   pub before : Passed
-  pub passed : (seen : Calls) → IsPassed i seen tab old → IsPassed i (with_calls seen f address) tab before
+  pub passed : (seen : Calls)
+      → IsPassed i seen tab old → IsPassed i (with_calls seen f address) tab before
   pub mixes : MixesWith (slice_get before callee) (take (params_of i callee) pair.ops) e
 
+-- an answer blames a call in the code of `f` that mixes number and place, or want of memory
 abbrev pub BlamesMixed : Parts → ℕ → Marks → Passed → VerifyError → Type 0
 BlamesMixed i f tab old (errors.Refused at' rule) = MixesAt i f tab old (errors.Refused at' rule)
 BlamesMixed i f tab old errors.Memory = Unit {0}
 
 -- an instruction in the code of f names a slot that isn't there, or memory ran out
 abbrev pub BlamesSlot : Parts → ℕ → List (Option Kind) → VerifyError → Type 0
-BlamesSlot i f ss (errors.Refused at' rule) = (rule ≡ 3) × (x : Placed) × (code_at i f at' ≡ Some x) × (slot_right ss x.instr ≡ false)
+BlamesSlot i f ss (errors.Refused at' rule) =
+    (rule ≡ 3) × (x : Placed) × (code_at i f at' ≡ Some x) × (slot_right ss x.instr ≡ false)
 BlamesSlot i f ss errors.Memory = Unit {0}

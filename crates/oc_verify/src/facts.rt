@@ -200,7 +200,6 @@ impl<'a> Facts<'a> {
         ensures image { parts_of result.now ≡ self.now }
         ensures laid { IsLaid self.now }
     {
-        let _main = self.main;
         self.image
     }
 

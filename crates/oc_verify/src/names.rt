@@ -11,14 +11,14 @@ use oc_io::Memory;
 use std::alloc::Global;
 use std::marker::Model;
 
-#[tactic(auto, unfolding(oc_lex::specs::Bytes::class_of))]
+#[tactic(auto, unfolding(oc_lex::specs::Bytes::begins_name))]
 fn may_begin(byte: u8) -> bool
     ensures { result ≡ begins_name byte }
 {
     matches!(byte, b'a'..=b'z' | b'A'..=b'Z' | b'_')
 }
 
-#[tactic(auto, unfolding(oc_lex::specs::Bytes::class_of))]
+#[tactic(auto, unfolding(oc_lex::specs::Bytes::begins_name, oc_lex::specs::Bytes::in_name))]
 fn may_follow(byte: u8) -> bool
     ensures { result ≡ in_name byte }
 {

@@ -100,7 +100,6 @@ impl<'a> Slots<'a> {
     fn in_frame(&self, slot: u32) -> Option<u64>
         ensures { result ≡ in_frame self.now slot }
     {
-        let _codes = self.codes;
         if slot < self.function.frame {
             Some(0)
         } else {

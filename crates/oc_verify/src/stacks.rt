@@ -122,6 +122,7 @@ impl Stacks {
         ensures same { result ≡ true → left ≡ right }
         ensures differ { result ≡ false → stack self.now left ≢ stack self.now right }
     {
+        // for the proof, which knows that nodes differ once a field is read
         let _nodes = &self.nodes;
         left == right
     }

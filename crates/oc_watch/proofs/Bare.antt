@@ -15,6 +15,8 @@ use Rattle.oc_code.specs.Formed.{IsFormed}
 use Rattle.oc_code.proofs.Lawful.{all_access, block_all}
 use Rattle.oc_code.proofs.Closed.{name_may, lent_name, params_within, call_within}
 use Rattle.oc_bounds.specs.Bounds.{Bounds, IsBounded}
+use Rattle.oc_bounds.proofs.Tolls.{toll}
+use Rattle.oc_watch.specs.Entries.{run_toll}
 use Rattle.oc_tree.specs.Costs.{costs_to}
 use Rattle.oc_watch.proofs.Compared.{block_counted, cost_less}
 use Rattle.oc_watch.proofs.Bounded.{image, Tables, Fits, bounded}
@@ -42,9 +44,9 @@ module _ (p : TProgram) (targets : List (List Target)) (b : Bounds) (formed : Is
     tells = λ f i x e w. refl;
   }
 
-  pub bare_bounded : known_of (costs_to p.functions uses [] (length p.functions)) (function_place p.functions (codes "main")) ≤ b.total → (device_of (image p [] targets b)).room + 6 ≤ b.safe
-      → IsBounded (device_of (image p [] targets b)) b
-  bare_bounded most safe =
+  pub bare_bounded : known_of (costs_to p.functions uses [] (length p.functions)) (function_place p.functions (codes "main")) ≤ b.total
+      → b.total + run_toll p [] (toll (device_of (image p [] targets b)) b) ≤ b.steps → (device_of (image p [] targets b)).room + 6 ≤ b.safe → IsBounded (device_of (image p [] targets b)) b
+  bare_bounded most steps safe =
       bounded p [] targets b formed tables
       (λ i f at. block_all [] all_access (λ c. Unit {0}) (Fits p [] targets b tables formed.rank f.name) (λ x. refl) (λ c. tt) (λ n r e γ s ss. absurd (none-some r e)) _ _ f.body)
-      (omega (arith, most, cost_less p [] formed.rank uses formed.bodies counted (length p.functions) (codes "main"))) safe
+      (omega (arith, most, cost_less p [] formed.rank uses formed.bodies counted (length p.functions) (codes "main"))) steps safe

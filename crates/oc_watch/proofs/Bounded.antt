@@ -1,5 +1,5 @@
 -- The bounds of a program's code, from what its tree tells.
-use Rattle.std.proofs.Common.{◌≡◌, ◌≤◌, ◌<◌, ◌+◌, ◌*◌, ℕ, zero, suc, Bool, true, List, ◌++◌, length, Some, refl, sym, ◌∙◌, subst, arith}
+use Rattle.std.proofs.Common.{◌≡◌, ◌≤◌, ◌<◌, ◌+◌, ◌-◌, ◌*◌, ℕ, zero, suc, Bool, true, List, ◌++◌, length, Some, refl, sym, ap, ◌∙◌, subst, arith}
 use Rattle.std.specs.Prelude.{ℤ, codes, slice_get}
 use Rattle.oc_tree.specs.Names.{Text}
 use Rattle.oc_tree.specs.Tree.{TArgs, call, stmt, TStmts, more, TFunction, TProgram}
@@ -8,7 +8,7 @@ use Rattle.oc_tree.specs.Marked.{TRegion}
 use Rattle.oc_tree.specs.Stack.{link_words}
 use Rattle.oc_isa.specs.Image.{Parts}
 use Rattle.oc_isa.specs.Next.{Regs, Device}
-use Rattle.oc_isa.specs.Run.{core_at, start_of}
+use Rattle.oc_isa.specs.Run.{core_at, start_of, continuous_run}
 use Rattle.oc_isa.specs.Table.{device_of}
 use Rattle.oc_meaning.specs.Store.{Held, Place, Local, Global, Turn, Nowhere, Store, Binding}
 use Rattle.oc_meaning.specs.Exec.{Passed, Passes, args_of}
@@ -31,8 +31,12 @@ use Rattle.oc_code.proofs.Calls as code
 use Rattle.oc_code.proofs.Calls.{fair, calls_run}
 use Rattle.oc_code.proofs.Regions.{region_holds}
 use Rattle.oc_code.proofs.Whole.{code_stands, small_of, some_words, main_holds}
-use Rattle.oc_bounds.specs.Bounds.{Bounds, IsBounded}
+use Rattle.oc_code.proofs.Law.{formed_right}
+use Rattle.oc_bounds.specs.Bounds.{Bounds, Lasts, Takes, IsBounded}
 use Rattle.oc_bounds.proofs.Lists.{all_lists}
+use Rattle.oc_bounds.proofs.Tolls.{tolls, toll, takes_said}
+use Rattle.oc_watch.specs.Entries.{run_toll}
+use Rattle.oc_watch.proofs.Tolled.{run_within}
 use Rattle.oc_watch.proofs.Lasting.{lasting, lasts_more}
 use Rattle.oc_watch.proofs.Words.{words_for, all_words, words_few, covers, words_keep}
 use Rattle.oc_watch.proofs.Leaving.{at_depth, LeavesOver, leaving, leaves_more, leaves_all}
@@ -165,12 +169,27 @@ module _ (p : TProgram) (regions : List TRegion) (targets : List (List Target)) 
       opening = brief;
     }
 
-    -- so the code of a formed program keeps within the bounds that its tree has
-    pub bounded : ((i : ℕ) (f : TFunction) → slice_get p.functions i ≡ Some f → block_lawful regions all_access (λ c. Unit {0}) (Fits t formed.rank f.name) (function_scope p f)
-        (length f.params + link_words f) f.body) → cost_to p regions (length p.functions) (codes "main") ≤ b.total → d.room + 6 ≤ b.safe → IsBounded d b
+    -- the code says what the tree says, which tells what its entries cost
+    takes_in : b.total + run_toll p regions (toll d b) ≤ b.steps → Lasts d b b.total (start_of d) → Takes d b b.total b.steps (start_of d)
+    takes_in most lasts =
+        let e : b.total + (b.steps - b.total) ≡ b.steps = omega (arith, most) in
+        subst (λ t. Takes d b b.total t (start_of d)) e (takes_said d b (b.steps - b.total) lasts (λ xs are. paid xs))
+      where
+        paid : (xs : List ℤ) → (m : ℕ) × ((n : ℕ) → m ≤ n → tolls (toll d b) (continuous_run d xs n).out ≤ b.steps - b.total)
+        paid xs =
+            let shows = (formed_right p regions targets formed).shows xs in
+            (shows.0, λ n le. let said = ap (tolls (toll d b)) (shows.1 n le).0 in omega (arith, said, run_within (toll d b) p regions xs, most))
+
+    abbrev AllFit : Type 0
+    AllFit = (i : ℕ) (f : TFunction) → slice_get p.functions i ≡ Some f
+        → block_lawful regions all_access (λ c. Unit {0}) (Fits t formed.rank f.name) (function_scope p f) (length f.params + link_words f) f.body
+
+    whole_lasts : AllFit → cost_to p regions (length p.functions) (codes "main") ≤ b.total → Lasts d b b.total (start_of d)
     unfolding whole
-    bounded fit most safe = record {
-      lasts = all_lists d b b.total (start_of d) (λ xs are. lasts_more image b (cost_to p regions (length p.functions) (codes "main")) b.total xs (start_of d) most
-          (main_holds p regions targets formed (whole fit) refl (record { names = λ x w. may_all _; nvs = λ i w. may_all (Global i) }) xs tt));
-      safe = safe;
-    }
+    whole_lasts fit most =
+        all_lists d b b.total (start_of d) (λ xs are. lasts_more image b (cost_to p regions (length p.functions) (codes "main")) b.total xs (start_of d) most
+        (main_holds p regions targets formed (whole fit) refl (record { names = λ x w. may_all _; nvs = λ i w. may_all (Global i) }) xs tt))
+
+    -- so the code of a formed program keeps within the bounds that its tree has
+    pub bounded : AllFit → cost_to p regions (length p.functions) (codes "main") ≤ b.total → b.total + run_toll p regions (toll d b) ≤ b.steps → d.room + 6 ≤ b.safe → IsBounded d b
+    bounded fit most steps safe = record { lasts = whole_lasts fit most; takes = takes_in steps (whole_lasts fit most); safe = safe }

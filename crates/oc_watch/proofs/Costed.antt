@@ -16,6 +16,8 @@ use Rattle.oc_code.proofs.Lawful.{all_access, block_lawful, region_lawful}
 use Rattle.oc_code.proofs.Closed.{call_within}
 use Rattle.oc_code.proofs.Spent.{cost_to}
 use Rattle.oc_bounds.specs.Bounds.{Bounds, IsBounded}
+use Rattle.oc_bounds.proofs.Tolls.{toll}
+use Rattle.oc_watch.specs.Entries.{run_toll}
 use Rattle.oc_tree.specs.Costs.{costs_to}
 use Rattle.oc_watch.proofs.Words.{all_words, covers}
 use Rattle.oc_watch.proofs.Compared.{block_counted, stmts_counted, begins, region_alone, held_cost, region_less, cost_less}
@@ -69,10 +71,11 @@ module _ (p : TProgram) (regions : List TRegion) (targets : List (List Target)) 
   -- the statements that its test picks in the whole program
   pub tree_bounded : (picks : ℕ → ℕ → Bool) (budgeted : (i : ℕ) (f : TFunction) → slice_get p.functions i ≡ Some f → block_lawful regions all_access (λ c. Unit {0}) (Budgeted picks)
       (function_scope p f) (length f.params + link_words f) f.body) (sums : (r : ℕ) → functions_spent (picks r) (held_cost p.functions regions uses ws) p.functions ≤ b.spent r - 1) →
-      known_of ws (function_place p.functions (codes "main")) ≤ b.total → (device_of (image p regions targets b)).room + 6 ≤ b.safe → IsBounded (device_of (image p regions targets b)) b
-  tree_bounded picks budgeted sums most safe =
+      known_of ws (function_place p.functions (codes "main")) ≤ b.total → b.total + run_toll p regions (toll (device_of (image p regions targets b)) b) ≤ b.steps
+      → (device_of (image p regions targets b)).room + 6 ≤ b.safe → IsBounded (device_of (image p regions targets b)) b
+  tree_bounded picks budgeted sums most steps safe =
       bounded p regions targets b formed t
       (λ i f at. block_sum regions all_access (λ c. Unit {0}) (Budgeted picks) (Fits p regions targets b t formed.rank f.name) picks (held_cost p.functions regions uses ws)
       (λ r. b.spent r - 1) (fits_of picks f.name) (function_scope p f) (length f.params + link_words f) f.body
       (λ r. omega (arith, sums r, body_in (picks r) (held_cost p.functions regions uses ws) p.functions i f at)) (budgeted i f at))
-      (omega (arith, most, less (length p.functions) (omega arith) (codes "main"))) safe
+      (omega (arith, most, less (length p.functions) (omega arith) (codes "main"))) steps safe

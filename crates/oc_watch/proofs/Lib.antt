@@ -1,4 +1,6 @@
 pub mod Lasting
+pub mod Tolled
+pub mod Worked
 pub mod Leaving
 pub mod Bounded
 pub mod Compared

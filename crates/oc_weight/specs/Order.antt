@@ -11,7 +11,9 @@ row_links u (row ∷ rows) = map (λ v. (u, v)) row ++ row_links (u + 1) rows
 
 -- each number stands behind those that it leads to directly
 abbrev pub IsBehind : Links → List ℕ → Type 0
-IsBehind links order = (i v : ℕ) → i < length order → linked links (get_or order i 0) v ≡ true → is_in (take i order) v ≡ true
+IsBehind links order =
+    (i v : ℕ) → i < length order → linked links (get_or order i 0) v ≡ true
+    → is_in (take i order) v ≡ true
 
 -- an order of some of the numbers below `n`, each of them once
 pub record IsBegun (links : Links) (n : ℕ) (order : List ℕ) : Type 0 where

@@ -1,5 +1,6 @@
 //! The cost of a tree without pulls, where the weights of the functions that it calls are known.
-ghost use Rattle.std.specs.Prelude.{◌≡◌, ◌≤◌, ◌*◌, map};
+ghost use Rattle.std.specs.Prelude.{◌≡◌, ◌≤◌, ◌+◌, ◌*◌, map};
+ghost use Rattle.oc_tree.specs.Tree.{call_only};
 ghost use Rattle.oc_tree.specs.View.{arg_view, args_view, block_view, call_view, else_view, expr_view, function_view, kind_view, right_view};
 ghost use Rattle.oc_tree.specs.Calls.{function_names};
 ghost use Rattle.oc_tree.specs.Weight.{arg_cost, args_cost, binary_cost, block_cost, call_cost, else_cost, expr_cost, function_cost, has_result, kind_cost, known_of, result_at, right_cost, turns};
@@ -119,6 +120,45 @@ fn has_result(functions: &[Function], table: &Table, call: &Call) -> bool
     result_at(functions, table.place(&call.function))
 }
 
+/// An assignment to an element.
+fn element_cost(
+    functions: &[Function],
+    table: &Table,
+    weights: &[u64],
+    index: &Expr,
+    right: &Right,
+) -> u64
+    requires { table.now ≡ function_names (map function_view functions.now) }
+    ensures cost { result
+        ≡ capped
+        (right_cost (map function_view functions.now) weights.now (right_view right.now)
+        + expr_cost (expr_view index.now) + 3) }
+    ensures small { result ≤ weight_cap }
+{
+    let sides = plus(
+        right_cost(functions, table, weights, right),
+        expr_cost(index),
+    );
+    plus(sides, 3)
+}
+
+/// A call that is a statement, which drops its result.
+fn call_only_cost(functions: &[Function], table: &Table, weights: &[u64], call: &Call) -> u64
+    requires { table.now ≡ function_names (map function_view functions.now) }
+    ensures cost { result
+        ≡ capped
+        (kind_cost (map function_view functions.now) weights.now
+        (call_only (call_view call.now))) }
+    ensures small { result ≤ weight_cap }
+{
+    let dropped = if has_result(functions, table, call) {
+        1
+    } else {
+        0
+    };
+    plus(call_cost(functions, table, weights, call), dropped)
+}
+
 fn turns(from: i32, to: i32) -> u32
     ensures { result ≡ turns from to }
 {
@@ -163,8 +203,47 @@ fn else_cost(
     }
 }
 
+/// A `for` of so many turns.
 #[cycle(cost)]
-#[tactic(auto, using(crate::proofs::CappedLaws::capped_while, crate::proofs::CappedLaws::capped_for, crate::proofs::CappedLaws::else_capped))]
+fn for_cost(functions: &[Function], table: &Table, weights: &[u64], turns: u32, body: &Block) -> u64
+    requires { table.now ≡ function_names (map function_view functions.now) }
+    ensures cost { result
+        ≡ capped
+        (6
+        + turns
+        * (9 + block_cost (map function_view functions.now) weights.now (block_view body.now))) }
+    ensures small { result ≤ weight_cap }
+{
+    let turn = plus(9, block_cost(functions, table, weights, body));
+    plus(6, times(turns, turn))
+}
+
+/// A `while` of at most so many turns.
+#[cycle(cost)]
+fn while_cost(
+    functions: &[Function],
+    table: &Table,
+    weights: &[u64],
+    bound: u32,
+    body: &Block,
+    condition: &Expr,
+) -> u64
+    requires { table.now ≡ function_names (map function_view functions.now) }
+    ensures cost { result
+        ≡ capped
+        (6
+        + bound
+        * (10 + expr_cost (expr_view condition.now)
+        + block_cost (map function_view functions.now) weights.now (block_view body.now))) }
+    ensures small { result ≤ weight_cap }
+{
+    let test = plus(10, expr_cost(condition));
+    let turn = plus(test, block_cost(functions, table, weights, body));
+    plus(6, times(bound, turn))
+}
+
+#[cycle(cost)]
+#[tactic(auto, using(crate::proofs::CappedLaws::else_capped))]
 fn kind_cost(functions: &[Function], table: &Table, weights: &[u64], kind: &StmtKind) -> u64
     requires { table.now ≡ function_names (map function_view functions.now) }
     ensures cost { result
@@ -177,13 +256,7 @@ fn kind_cost(functions: &[Function], table: &Table, weights: &[u64], kind: &Stmt
         }
         StmtKind::LetArray { words, .. } => plus(6, times(*words, 14)),
         StmtKind::AssignIndex { index, right, .. } => {
-            plus(
-                plus(
-                    right_cost(functions, table, weights, right),
-                    expr_cost(index),
-                ),
-                3,
-            )
+            element_cost(functions, table, weights, index, right)
         }
         StmtKind::AssignDeref { right, .. } => plus(
             right_cost(functions, table, weights, right),
@@ -201,28 +274,14 @@ fn kind_cost(functions: &[Function], table: &Table, weights: &[u64], kind: &Stmt
             )
         }
         StmtKind::For { from, to, body, .. } => {
-            let turn = plus(9, block_cost(functions, table, weights, body));
-            plus(6, times(turns(*from, *to), turn))
+            for_cost(functions, table, weights, turns(*from, *to), body)
         }
         StmtKind::While {
             condition,
             bound,
             body,
-        } => {
-            let turn = plus(
-                plus(10, expr_cost(condition)),
-                block_cost(functions, table, weights, body),
-            );
-            plus(6, times(*bound, turn))
-        }
-        StmtKind::CallOnly { call } => {
-            let dropped = if has_result(functions, table, call) {
-                1
-            } else {
-                0
-            };
-            plus(call_cost(functions, table, weights, call), dropped)
-        }
+        } => while_cost(functions, table, weights, *bound, body, condition),
+        StmtKind::CallOnly { call } => call_only_cost(functions, table, weights, call),
         StmtKind::SenseOnly { .. } => 2,
         StmtKind::Emit { value, .. } | StmtKind::Return { value } => plus(expr_cost(value), 1),
         StmtKind::Fresh { .. } | StmtKind::Consistent { .. } => 0,

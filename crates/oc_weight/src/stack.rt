@@ -193,10 +193,8 @@ fn kind_depth(functions: &[Function], table: &Table, stacks: &[u64], kind: &Stmt
         ),
         StmtKind::LetArray { .. } => 3,
         StmtKind::AssignIndex { index, right, .. } => {
-            greater(
-                right_depth(functions, table, stacks, right),
-                plus(2, expr_depth(index)),
-            )
+            let place = plus(2, expr_depth(index));
+            greater(right_depth(functions, table, stacks, right), place)
         }
         StmtKind::AssignDeref { right, .. } => greater(
             right_depth(functions, table, stacks, right),
@@ -207,13 +205,9 @@ fn kind_depth(functions: &[Function], table: &Table, stacks: &[u64], kind: &Stmt
             then,
             otherwise,
         } => {
-            greater(
-                expr_depth(condition),
-                greater(
-                    block_depth(functions, table, stacks, then),
-                    else_depth(functions, table, stacks, otherwise),
-                ),
-            )
+            let then = block_depth(functions, table, stacks, then);
+            let branches = greater(then, else_depth(functions, table, stacks, otherwise));
+            greater(expr_depth(condition), branches)
         }
         StmtKind::For { body, .. } => greater(2, block_depth(functions, table, stacks, body)),
         StmtKind::While {
@@ -221,10 +215,8 @@ fn kind_depth(functions: &[Function], table: &Table, stacks: &[u64], kind: &Stmt
             body,
             ..
         } => {
-            greater(
-                greater(2, expr_depth(condition)),
-                block_depth(functions, table, stacks, body),
-            )
+            let test = greater(2, expr_depth(condition));
+            greater(test, block_depth(functions, table, stacks, body))
         }
         StmtKind::CallOnly { call } => call_depth(functions, table, stacks, call),
         StmtKind::SenseOnly { .. } => 1,

@@ -4,7 +4,7 @@ use Rattle.std.specs.Prelude.{is_some, slice_get, if◌then◌else◌}
 use Rattle.std.specs.Option.{option_or}
 use Rattle.std.specs.Str.{bytes_eq}
 use Rattle.std.proofs.lemmas.List.{append_assoc}
-use Rattle.std.proofs.lemmas.Option.{none-some, same_Some}
+use Rattle.std.proofs.lemmas.Option.{none-some}
 use Rattle.std.proofs.lemmas.Slice.Eq.{bytes_eq-Decides}
 use Rattle.oc_tree.specs.Names.{Text}
 use Rattle.oc_tree.specs.Tree.{TFunction, TProgram}
@@ -12,7 +12,7 @@ use Rattle.oc_tree.specs.declared.tree.Param.{Param}
 use Rattle.oc_tree.specs.declared.tree.VarId.{VarId}
 use Rattle.oc_tree.specs.declared.tree.VarId.TheVariants as variables
 use Rattle.oc_tree.specs.declared.scope.Var.{Var}
-use Rattle.oc_tree.specs.Calls.{place_from, place, function_names}
+use Rattle.oc_tree.specs.Calls.{place_from, place}
 use Rattle.oc_tree.specs.Assigned.{reaches_assign}
 use Rattle.oc_tree.specs.Checked.{Group, IsChecked}
 use Rattle.oc_tree.specs.Marked.{TRegion}
@@ -21,11 +21,11 @@ use Rattle.oc_tree.specs.Scope.{Scope, variable_in, is_in_scope, is_name_of, is_
 use Rattle.oc_meaning.specs.Blocks.{set_home}
 use Rattle.oc_meaning.specs.Store.{Place, Global, Nowhere, Store, Binding, binding_of, place_of}
 use Rattle.oc_meaning.specs.Exec.{Outcome, Passed, Copied, Lent, block_run}
+use Rattle.oc_meaning.proofs.Functions.{place_named}
 use Rattle.oc_meaning.specs.Run as meaning
 use Rattle.oc_meaning.specs.Run.{nv_env, Frame, with_params, body_run, function_run, call_to}
-use Rattle.oc_formed.proofs.BodiesFormed.{head_unbroken}
-use Rattle.oc_formed.proofs.BodiesPass.{first_fails, second_fails, function_fine}
-use Rattle.oc_formed.proofs.BodiesPlaces.{name_called}
+use Rattle.oc_checked.proofs.Heads.{head_unbroken}
+use Rattle.oc_checked.proofs.BodiesPass.{first_fails, second_fails, function_fine}
 use Rattle.oc_writes.specs.Kept.{store_after}
 use Rattle.oc_writes.proofs.KeptStore.{cell, leave_keeps}
 use Rattle.oc_writes.proofs.KeptNames.{Names, Seen, found_on, names_more, seen_same}
@@ -151,16 +151,6 @@ module _ (p : TProgram) (i : ℕ) where
 
 -- ---- calls
 
--- a function that is found by its name has a place
-named_placed : (n : ℕ) (fs : List TFunction) (y : Text) (g : TFunction) → meaning.function_named fs y ≡ Some g → is_some (place_from n (function_names fs) y) ≡ true
-named_placed n [] y g e = absurd (none-some g e)
-named_placed n (f ∷ fs) y g e = by (bytes_eq y f.name) e (named_placed (n + 1) fs y g)
-  where
-    by : (b : Bool) → (if b then Some f else meaning.function_named fs y) ≡ Some g
-        → (meaning.function_named fs y ≡ Some g → is_some (place_from (n + 1) (function_names fs) y) ≡ true) → is_some (cond b (Some n) (place_from (n + 1) (function_names fs) y)) ≡ true
-    by true e rest = refl
-    by false e rest = rest e
-
 module _ (p : TProgram) (groups : List Group) (checked : IsChecked p groups) (regions : List TRegion) (i : ℕ) (x : Text) (named : slice_get p.names.nvs i ≡ Some x) where
   -- a body that is spared leaves the variable alone
   body_keeps : (call_of : Text → List Passed → Store → Outcome) → CallsKeep p i x call_of → (u : ℕ) (g : TFunction) (ps : List Passed) (σ : Store) → slice_get p.functions u
@@ -187,7 +177,7 @@ module _ (p : TProgram) (groups : List Group) (checked : IsChecked p groups) (re
           → cell i (store_after (function_run p regions (call_to p regions d) o ps σ)) ≡ cell i σ
       by None is calls = refl
       by (Some g) is calls =
-          let c = name_called p f (named_placed 0 p.functions f g is) in
-          let same : c.callee ≡ g = same_Some c.callee g (sym c.meant ∙ is) in
-          let s = h c.number c.placed in
-          body_keeps (call_to p regions d) calls c.number g ps σ (c.stands ∙ ap Some same) s.0 s.1
+          let c = place_named 0 p.functions f g is in
+          let number : 0 + c.0 ≡ c.0 = omega arith in
+          let s = h c.0 (c.1 ∙ ap Some number) in
+          body_keeps (call_to p regions d) calls c.0 g ps σ c.2 s.0 s.1

@@ -35,8 +35,8 @@ use Rattle.oc_reach.proofs.LinkLaws.{any_append}
 use Rattle.oc_meaning.specs.Store.{Place, Global}
 use Rattle.oc_desugar.proofs.FineCalls.{CallFine, Each as EachCall, each_back as calls_back}
 use Rattle.oc_desugar.proofs.Unbroken.{Unbroken}
-use Rattle.oc_formed.proofs.BodiesFormed.{head_unbroken}
-use Rattle.oc_formed.proofs.BodiesPass.{first_fails, second_fails, function_fine}
+use Rattle.oc_checked.proofs.Heads.{head_unbroken}
+use Rattle.oc_checked.proofs.BodiesPass.{first_fails, second_fails, function_fine}
 use Rattle.oc_writes.proofs.Standing.{Each, each_map, each_all, each_both, each_for}
 use Rattle.oc_writes.proofs.KeptNames.{Names}
 use Rattle.oc_writes.proofs.KeptRuns.{IsSafe, ArgSpared, ArgsSpared, CallSpared, RightSpared, KindSpared, Spared}

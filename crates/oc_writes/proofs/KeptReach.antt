@@ -15,7 +15,7 @@ use Rattle.oc_reach.proofs.LinkLaws.{any_append, calls_within}
 use Rattle.oc_reach.proofs.Lists.{at_place}
 use Rattle.oc_reach.proofs.PassLaws.{takes_below, first_room, passes_within}
 use Rattle.oc_desugar.proofs.FineCalls.{Each as EachCall}
-use Rattle.oc_formed.proofs.BodiesPass.{first_fails, second_fails}
+use Rattle.oc_checked.proofs.BodiesPass.{first_fails, second_fails}
 use Rattle.oc_copies.proofs.LeadToNone.{EachKind, none_pass, each_calls, self_fails, next_fails, call_row, each_called}
 
 -- ---- each of a list

@@ -32,7 +32,7 @@ use Rattle.oc_effects.specs.Effects.{TEffect, right_call_of, call_of, lent_name,
 use Rattle.oc_effects.specs.Effects.{function_effects, effects_at}
 use Rattle.oc_flow.specs.Variables.{same_variable, is_variable_of}
 use Rattle.oc_desugar.proofs.FineCalls.{CallFine, Each as EachCall, each_back as calls_back}
-use Rattle.oc_formed.proofs.BodiesPass.{first_fails, second_fails, function_fine}
+use Rattle.oc_checked.proofs.BodiesPass.{first_fails, second_fails, function_fine}
 use Rattle.oc_writes.specs.Targets.{lends, call_assigns, assigns, reaches, region_effects, assigns_nv, assigns_param, words_of, nv_targets, param_targets, region_targets}
 use Rattle.oc_writes.specs.Seen.{stands_in}
 use Rattle.oc_writes.specs.Kept.{StandIn, numbers_of, first_word, is_stored, is_lent, IsNoTarget}

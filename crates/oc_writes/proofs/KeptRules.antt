@@ -22,7 +22,7 @@ use Rattle.oc_tree.specs.Scope.{Scope, variable_in, variable_of, or_nv, nv_var, 
 use Rattle.oc_tree.specs.Elements.{Here, inside, in_turn, before_stmts, scope_after, after_stmt, stmt_elements, kind_elements, else_elements, block_elements, stmts_elements, in_function}
 use Rattle.oc_tree.specs.Rules.{origin_is}
 use Rattle.oc_desugar.proofs.Unbroken.{Unbroken, unbroken}
-use Rattle.oc_formed.proofs.BodiesPass.{AllFine, fine_front, fine_back}
+use Rattle.oc_checked.proofs.BodiesPass.{AllFine, fine_front, fine_back}
 use Rattle.oc_writes.proofs.Standing.{Each, each_join}
 use Rattle.oc_writes.proofs.KeptNames.{found_on}
 

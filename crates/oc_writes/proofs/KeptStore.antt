@@ -1,7 +1,7 @@
 -- What an outcome leaves in one nonvolatile variable.
 use Rattle.std.proofs.Common.{◌≡◌, ℕ, zero, suc, Bool, true, false, List, [], ◌∷◌, Option, Some, None, refl, ap, ◌∙◌}
 use Rattle.std.specs.Prelude.{ℤ, pos, ◌+ℤ◌, if◌then◌else◌, slice_set, slice_index_or}
-use Rattle.oc_meaning.specs.Samples.{union}
+use Rattle.oc_tree.specs.Samples.{union}
 use Rattle.oc_meaning.specs.Store.{Value, Held, Place, Local, Global, Turn, Nowhere, Store, plain, nothing, held_at, put}
 use Rattle.oc_meaning.specs.Eval.{Got, Val, Traps, is_zero}
 use Rattle.oc_meaning.specs.Exec.{Outcome, Went, Returned, Stopped, Passed, Passing, Passes, Breaks, with_value, then_do, with_result, dropped, leave, opened, closed, used, done}

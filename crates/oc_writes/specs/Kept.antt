@@ -52,7 +52,8 @@ IsFound passed (Some Returned) q = ⊥
 
 -- each name is bound to the variable that it stands for at a place
 abbrev pub Sees : TProgram → Spot → (passed : ℕ → Place) → List Binding → Type 0
-Sees p at passed env = (x : Text) → IsFound passed (or_nonvolatile p x (find_variable at.variables x)) (place_of env x)
+Sees p at passed env =
+    (x : Text) → IsFound passed (or_nonvolatile p x (find_variable at.variables x)) (place_of env x)
 
 -- ---- targets
 
@@ -87,8 +88,11 @@ store_after (Stopped s σ) = σ
 -- Each region's statements, in a run from any store and with calls of any depth, leave each nonvolatile variable that is
 -- none of the region's targets as it was: its words and its samples.
 abbrev pub OnlyTargets : TMarked → (sets : List (List Target)) → Type 0
-OnlyTargets m sets = (k : ℕ) (r : TRegion) → slice_get m.regions k ≡ Some r →
-    (at : Spot) (ss : TStmts) → StandIn m.program r at ss →
-    (passed : ℕ → Place) (env : List Binding) → Sees m.program at passed env →
-    (depth : ℕ) (home : ℤ → ℕ) (σ : Store) (i : ℕ) → IsNoTarget m.program (get_or sets k []) passed i →
-    held_at (store_after (stmts_run m.program.names m.regions (call_to m.program m.regions depth) home env ss σ)) (Global i) ≡ held_at σ (Global i)
+OnlyTargets m sets = (k : ℕ) (r : TRegion) → slice_get m.regions k ≡ Some r
+    → (at : Spot) (ss : TStmts) → StandIn m.program r at ss
+    → (passed : ℕ → Place) (env : List Binding) → Sees m.program at passed env
+    → (depth : ℕ) (home : ℤ → ℕ) (σ : Store) (i : ℕ)
+    → IsNoTarget m.program (get_or sets k []) passed i
+    → held_at (store_after
+    (stmts_run m.program.names m.regions (call_to m.program m.regions depth) home env ss σ))
+    (Global i) ≡ held_at σ (Global i)

@@ -33,7 +33,13 @@ abbrev pub stored_from : TProgram → (index base : ℕ) → List Text → List 
 stored_from p i base [] ds = []
 stored_from p i base (x ∷ xs) [] = []
 stored_from p i base (x ∷ xs) (d ∷ ds) =
-    record { program = p; index = i; base = base; words = d.words; name = x } ∷ stored_from p (i + 1) (base + d.words) xs ds
+    record {
+      program = p;
+      index = i;
+      base = base;
+      words = d.words;
+      name = x;
+    } ∷ stored_from p (i + 1) (base + d.words) xs ds
 
 -- one of these statements assigns the variable, or calls a function that does
 abbrev pub some_assigns : TProgram → List TEffect → TStored → Bool
@@ -42,10 +48,12 @@ some_assigns p es s = list_any (λ a. assigns p (Nv s.index) a || reaches s.prog
 -- those that the statements assign, as targets
 abbrev pub stored_targets : TProgram → List TEffect → List TStored → List Target
 stored_targets p es [] = []
-stored_targets p es (s ∷ ss) = cond (some_assigns p es s) (targets.Nv s.base s.words ∷ []) [] ++ stored_targets p es ss
+stored_targets p es (s ∷ ss) =
+    cond (some_assigns p es s) (targets.Nv s.base s.words ∷ []) [] ++ stored_targets p es ss
 
 -- the parameters that the statements assign, as targets; the first one of these has the number `i`
 abbrev pub slot_targets : TProgram → List TEffect → (i : ℕ) → List Param → List Target
 slot_targets p es i [] = []
 slot_targets p es i (q ∷ qs) =
-    cond (list_any (assigns p (AParam i)) es) (targets.Param i (words_of q.kind) ∷ []) [] ++ slot_targets p es (i + 1) qs
+    cond (list_any (assigns p (AParam i)) es) (targets.Param i (words_of q.kind) ∷ []) []
+    ++ slot_targets p es (i + 1) qs

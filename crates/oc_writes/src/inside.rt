@@ -39,6 +39,7 @@ pub fn region_effects<'a>(
     ensures { IfOk result
         (λ e. effects_seen e.items ≡ region_effects effects.now.program (region_view region.now)) }
 {
+    // For the proof alone: it tells that the program is checked.
     let _checked = effects.checked().program();
     let mut inside = Vec::new(alloc);
     for effect in effects.of_function(region.function as usize) {

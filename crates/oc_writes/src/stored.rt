@@ -64,6 +64,7 @@ impl<'p, 'a> Stored<'p, 'a> {
         ensures { IfOk result
             (λ b. b ≡ reaches_assign self.now.program.functions self.now.name function) }
     {
+        // For the proof alone: the view or the invariant speaks of this field.
         let _program = self.program;
         match &self.assigning {
             Some(assigning) => Ok(assigning.has(function)),
@@ -80,6 +81,7 @@ impl<'p, 'a> Stored<'p, 'a> {
         ensures { IfOk result
             (λ b. b ≡ reaches self.now.program (option_map called_view call.now) self.now.name) }
     {
+        // For the proof alone: the view or the invariant speaks of this field.
         let _name = self.name;
         match call {
             Some(called) => {

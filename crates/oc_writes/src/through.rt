@@ -68,6 +68,7 @@ impl<'a> Through<'a> {
     fn has(&self, number: usize) -> bool
         ensures { result ≡ param_assigned self.now.functions number }
     {
+        // For the proof alone: the view or the invariant speaks of this field.
         let _program = self.program;
         number < self.params.count() && self.marks.has(number)
     }

@@ -273,7 +273,8 @@ pub fn may_write_by(alloc: Global, marked: &Marked, effects: &Effects) -> Result
     }
 }
 
-/// The same of a program whose effects are not at hand.
+/// The write targets of all regions of a program, whose effects are made here. Behind a region's
+/// statements every other nonvolatile variable is as it was.
 pub fn may_write(alloc: Global, marked: &Marked) -> Result<WriteSets, Memory>
     ensures targets { IfOk result (λ w. w ≡ may_write marked.now) }
     ensures only { IfOk result (λ w. OnlyTargets marked.now w) }

@@ -107,6 +107,33 @@ fn run_over<O: Sink>(
     put_kept(alloc, &machine, out)
 }
 
+/// Runs the program that counts as long as the supply lets it, and writes the report.
+fn run_counting<O: Sink>(alloc: Global, supply: &mut dyn Supply, out: &mut O) -> anyhow::Result<()>
+    requires { total (left supply.old) < 2 ^ 63 }
+{
+    let mut sensors = read_sensors(alloc, b"time,sensor,value\n", &[])?;
+    let image = counting(alloc)?;
+    let mut machine = Machine::load(alloc, image)?;
+    machine.run(&mut sensors, supply, out);
+    Ok(())
+}
+
+/// How many periods a supply has left.
+fn count_left(supply: &mut dyn Supply) -> u64 {
+    let mut left: u64 = 0;
+    while supply.next().is_some() {
+        left = left.saturating_add(1);
+    }
+    left
+}
+
+/// Writes a name and a number in a line.
+fn put_count<O: Sink>(alloc: Global, name: &str, number: u64, out: &mut O) -> anyhow::Result<()> {
+    let line = format!(in alloc; "{name} {number}\n")?;
+    out.put(line.as_bytes())?;
+    Ok(())
+}
+
 /// Runs the program that counts over what a supply tells of these rows, and writes the report and how
 /// many periods the supply has left.
 fn count_over<O: Sink>(
@@ -117,20 +144,10 @@ fn count_over<O: Sink>(
 ) -> anyhow::Result<()>
     requires { total rows.now < 2 ^ 63 }
 {
-    let number = format!(in alloc; "supply {}\n", supply.name())?;
-    out.put(number.as_bytes())?;
-    let mut sensors = read_sensors(alloc, b"time,sensor,value\n", &[])?;
+    put_count(alloc, "supply", supply.name() as u64, out)?;
     supply.feed(rows)?;
-    let image = counting(alloc)?;
-    let mut machine = Machine::load(alloc, image)?;
-    machine.run(&mut sensors, supply, out);
-    let mut left: u64 = 0;
-    while supply.next().is_some() {
-        left = left.saturating_add(1);
-    }
-    let left = format!(in alloc; "left {left}\n")?;
-    out.put(left.as_bytes())?;
-    Ok(())
+    run_counting(alloc, supply, out)?;
+    put_count(alloc, "left", count_left(supply), out)
 }
 
 fn main(rt: HostRuntime) -> anyhow::Result<()> {

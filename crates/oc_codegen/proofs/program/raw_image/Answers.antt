@@ -17,100 +17,24 @@ use Rattle.oc_code.specs.Code.{block_code, close_code, function_code, functions_
 use Rattle.oc_codegen.proofs.Functions.{functions_step, images_step}
 use Rattle.oc_codegen.proofs.program.raw_image.Goals as goal
 
-pub loop-next-preserved : goal.loop-next-preserved
-loop-next-preserved c =
-    let d = c.args.program.now in
-    let p = program_view d in
-    let rs = map region_view c.args.regions.now in
-    let i = c.loop-next.next-index in
-    let fs = c.deref-next-items.result.now in
-    let f = c.next-item.result in
-    let inv = c.loop-next.invariant in
-    let S = c.loop-next.setting in
-    let γ = c.loop-next.scope in
-    let code = c.loop-next.code in
-    let ps = f.params.items in
-    let s = length ps + link_words (function_view f) in
-    let body = block_view f.body in
-    let last = close_code (function_view f) in
-    let item = c.next-item.is in
-    let e : drop i fs ≡ f ∷ drop (i + 1) fs = grind (arith, common_steps) in
-    let own : c.function.new.code ≡ code ++ function_code p rs (length code) (function_view f) =
-    c.in_ok-function.ensures.code
-    ∙ ap (λ (n : NameLists). code ++ (block_code n S.functions S.regions (length ps) (params_scope ps 0 γ) s (length code) body ++ last)) inv.names
-    ∙ ap (λ (gs : List TFunction). code ++ (block_code p.names gs S.regions (length ps) (params_scope ps 0 γ) s (length code) body ++ last)) inv.callees
-    ∙ ap (λ (r : List TRegion). code ++ (block_code p.names p.functions r (length ps) (params_scope ps 0 γ) s (length code) body ++ last)) inv.regions
-    ∙ ap (λ (g : List Named). code ++ (block_code p.names p.functions rs (length ps) (params_scope ps 0 g) s (length code) body ++ last)) inv.scope in
-    let entry : c.push.new.self.items ≡ c.loop-next.functions.items ++ image_function p rs (length code) (function_view f) ∷ [] =
-    c.in_ok-push.ensures.items ∙ ap (λ x. c.loop-next.functions.items ++ x ∷ []) c.in_ok-function.ensures.image in
-    record {
-      names = c.in_ok-function.ensures.names ∙ inv.names;
-      callees = c.in_ok-function.ensures.functions ∙ inv.callees;
-      regions = c.in_ok-function.ensures.regions ∙ inv.regions;
-      scope = c.in_ok-function.ensures.scope ∙ inv.scope;
-      code = functions_step p rs code c.function.new.code (functions_code p rs 0 p.functions) f i fs e inv.code own;
-      entries = images_step p rs code c.function.new.code c.loop-next.functions.items c.push.new.self.items (image_functions p rs 0 p.functions) f i fs e inv.entries own entry;
-    }
-
-pub function-requires-clause-room : goal.function-requires-clause-room
-function-requires-clause-room c =
-    let d = c.args.program.now in
-    let p = program_view d in
-    let rs = map region_view c.args.regions.now in
-    let i = c.loop-next.next-index in
-    let fs = c.deref-next-items.result.now in
-    let f = c.next-item.result in
-    let inv = c.loop-next.invariant in
-    let S = c.loop-next.setting in
-    let γ = c.loop-next.scope in
-    let code = c.loop-next.code in
-    let ps = f.params.items in
-    let s = length ps + link_words (function_view f) in
-    let body = block_view f.body in
-    let last = close_code (function_view f) in
-    let item = c.next-item.is in
-    let e : drop i fs ≡ f ∷ drop (i + 1) fs = grind (arith, common_steps) in
-    let one = function_code p rs (length code) (function_view f) in
-    let own : block_code S.names S.functions S.regions (length ps) (params_scope ps 0 γ) s (length code) body ++ last ≡ one =
-    ap (λ (n : NameLists). block_code n S.functions S.regions (length ps) (params_scope ps 0 γ) s (length code) body ++ last) inv.names
-    ∙ ap (λ (gs : List TFunction). block_code p.names gs S.regions (length ps) (params_scope ps 0 γ) s (length code) body ++ last) inv.callees
-    ∙ ap (λ (r : List TRegion). block_code p.names p.functions r (length ps) (params_scope ps 0 γ) s (length code) body ++ last) inv.regions
-    ∙ ap (λ (g : List Named). block_code p.names p.functions rs (length ps) (params_scope ps 0 g) s (length code) body ++ last) inv.scope in
-    let left = functions_code p rs (length code + length one) (map function_view (drop (i + 1) fs)) in
-    let split : code ++ (one ++ left) ≡ functions_code p rs 0 p.functions =
-    ap (λ (gs : List Function). code ++ functions_code p rs (length code) (map function_view gs)) (sym e) ∙ inv.code in
-    omega (arith, ap length own, ap length split, length-append code (one ++ left), length-append one left, c.requires.formed.code_short)
-
 pub returns : goal.returns
 returns c =
     let d = c.args.program.now in
     let p = program_view d in
-    let rs = map region_view c.args.regions.now in
-    let i = c.loop-next.next-index in
-    let fs = c.deref-next-items.result.now in
-    let xs = c.as_slice-4.result.now in
-    let code = c.loop-next.code in
-    let image = c.loop-next.functions.items in
-    let inv = c.loop-next.invariant in
-    let h : length fs ≤ i = omega arith in
-    let z = drop_all i fs h in
-    let names : names_view c.in_ok-try_clone.field-0 ≡ p.names = c.in_ok-try_clone.ensures in
-    let entries : image ≡ image_functions p rs 0 p.functions =
-    sym (append-nil image) ∙ ap (λ (gs : List Function). image ++ image_functions p rs (length code) (map function_view gs)) (sym z) ∙ inv.entries in
-    let written : c.into_code.result.items ≡ functions_code p rs 0 p.functions =
-    c.into_code.ensures ∙ sym (append-nil code) ∙ ap (λ (gs : List Function). code ++ functions_code p rs (length code) (map function_view gs)) (sym z) ∙ inv.code in
-    let words : c.in_ok-image_nvs.field-0.items ≡ map image_nv p.nv = c.in_ok-image_nvs.ensures ∙ ap (λ (ds : List NvDecl). map image_nv ds) c.as_slice-3.ensures.value in
+    let xs = c.as_slice.result.now in
+    let names : names_view c.in_ok-names.names ≡ p.names = c.in_ok-names.ensures in
+    let words : c.in_ok-nv.nv.items ≡ map image_nv p.nv = c.in_ok-nv.ensures ∙ ap (λ (ds : List NvDecl). map image_nv ds) c.as_slice-2.ensures.value in
     let main = function_place p.functions (codes "main") in
-    let stack : c.in_ok-main_stack.field-0 ≡ stack_words p =
-    c.in_ok-main_stack.ensures
-    ∙ ap (λ (ys : List Function). known_of (stacks_to (map function_view ys) (length ys)) (function_place (map function_view ys) (codes "main"))) c.as_slice-4.ensures.value
+    let stack : c.in_ok-stack.stack ≡ stack_words p =
+    c.in_ok-stack.ensures
+    ∙ ap (λ (ys : List Function). known_of (stacks_to (map function_view ys) (length ys)) (function_place (map function_view ys) (codes "main"))) c.as_slice.ensures.value
     ∙ ap (λ n. known_of (stacks_to p.functions n) main) (sym (length-map d.functions.items function_view))
     ∙ ap (λ (q : TProgram). known_of (stacks_to q.functions (length p.functions)) main) (sym c.requires.formed.expanded) in
     λ j. record {
       names = names j;
-      functions = entries j;
+      functions = c.in_ok-functions.ensures.entries j;
       targets = map (λ v. v.items) c.args.targets.items;
       nv = words j;
-      code = written j;
+      code = (c.into_code.ensures ∙ c.in_ok-functions.ensures.code) j;
       stack = stack j;
     }

@@ -120,9 +120,8 @@ kind-returns-in_ok-next-in-Some-clause-code t c =
     ∙ ap (λ m. base ++ two_way_code n p test (f γ q m a) (f γ (q + block_slots a) (p + length test + 1 + length (f γ q m a) + 1) b)) l
     ∙ ap (λ k. base ++ kind_code S.names S.functions S.regions S.params γ n q p k) (sym view)
 
-pub kind-returns-in_ok-probe-in-While-clause-code : goal.kind-returns-in_ok-probe-in-While-clause-code
-unfolding X.roll-StmtKind denote.Hole.Carrier.roll
-kind-returns-in_ok-probe-in-While-clause-code t c =
+pub while_do-returns-clause-code : goal.while_do-returns-clause-code
+while_do-returns-clause-code t c =
     let n = c.args.n in
     let q = c.args.slot in
     let base = c.args.code.now in
@@ -130,35 +129,32 @@ kind-returns-in_ok-probe-in-While-clause-code t c =
     let S = c.args.setting.now in
     let γ = c.args.scope.now in
     let f = block_code S.names S.functions S.regions S.params in
-    let cond = expr_view c.in-While.condition in
-    let bound = c.in-While.bound in
-    let body = block_view c.in-While.body in
-    let used = c.is_use-used.result in
+    let cond = expr_view c.args.condition.now in
+    let bound = c.args.bound in
+    let body = block_view c.args.body.now in
+    let used = c.args.used in
     let tests : ℕ → Bool → List Placed = λ m u. test_code S.names S.functions S.regions S.params n γ m u cond in
     let head = placed n (Push (pos 0)) ∷ placed n (Store q) ∷ below_code n q (pos bound) 0 in
     let c1 = c.open_count.new.code in
     let c2 = c.test.new.code in
-    let c3 = c.open-in-While.new.self in
-    let c4 = c.block-in-While.new.code in
+    let c3 = c.open.new.self in
+    let c4 = c.block.new.code in
     let c5 = c.close_while.new.code in
     let test = tests (length c1) used in
-    let view : kind_view c.args.kind.now ≡ while_do cond bound body =
-    ap kind_view c.in-While.is ∙ fold-roll-StmtKind TKind TBlock TStmt kind_step block_step stmt_step (StmtKind-F.While c.in-While.condition c.in-While.bound c.in-While.body) in
-    let is : used ≡ is_use (is_fresh_in γ) (while_do cond bound body) = c.is_use-used.ensures ∙ ap (is_use (is_fresh_in γ)) view in
+    let is : used ≡ is_use (is_fresh_in γ) (while_do cond bound body) = c.requires.used in
     let opened : c1 ≡ base ++ head = search rules in
     let l : length c1 ≡ p + 6 = omega (arith, ap length opened, length-append base head) in
     let m : length c3 ≡ length c1 + length test + 1 =
-    omega (arith, ap length c.in_ok-exit-in-While.ensures.code, length-append c2 (one n (Jfalse 0)), ap length c.in_ok-test-in-While.ensures, length-append c1 test) in
-    let turn : c4 ≡ c3 ++ f γ (q + 1) (length c3) body = c.in_ok-next-in-While.ensures.code in
-    let loop = while_filled n q bound base test (f γ (q + 1) (length c3) body) c1 c2 c3 c4 c5 (placed n (Jfalse 0)) c.in_ok-start-in-While.start c.in_ok-exit-in-While.exit opened
-    c.in_ok-start-in-While.ensures.start c.in_ok-test-in-While.ensures c.in_ok-exit-in-While.ensures.code c.in_ok-exit-in-While.ensures.address turn c.in_ok-close_while-in-While.ensures in
-    c.in_ok-probe-in-While.ensures
+    omega (arith, ap length c.in_ok-exit.ensures.code, length-append c2 (one n (Jfalse 0)), ap length c.in_ok-test.ensures, length-append c1 test) in
+    let turn : c4 ≡ c3 ++ f γ (q + 1) (length c3) body = c.in_ok-next.ensures.code in
+    let loop = while_filled n q bound base test (f γ (q + 1) (length c3) body) c1 c2 c3 c4 c5 (placed n (Jfalse 0)) c.in_ok-start.start c.in_ok-exit.exit opened
+    c.in_ok-start.ensures.start c.in_ok-test.ensures c.in_ok-exit.ensures.code c.in_ok-exit.ensures.address turn c.in_ok-close_while.ensures in
+    c.in_ok-probe.ensures
     ∙ ap (λ l. l ++ probe_code n used Done) loop
     ∙ append_assoc base (while_code n p q bound test (f γ (q + 1) (length c3) body)) (probe_code n used Done)
     ∙ ap (λ m. base ++ (while_code n p q bound test (f γ (q + 1) m body) ++ probe_code n used Done)) m
     ∙ ap (λ m. base ++ (while_code n p q bound (tests m used) (f γ (q + 1) (m + length (tests m used) + 1) body) ++ probe_code n used Done)) l
     ∙ ap (λ u. base ++ (while_code n p q bound (tests (p + 6) u) (f γ (q + 1) (p + 6 + length (tests (p + 6) u) + 1) body) ++ probe_code n u Done)) is
-    ∙ ap (λ k. base ++ kind_code S.names S.functions S.regions S.params γ n q p k) (sym view)
 
 pub block-statement-requires : goal.block-statement-requires
 block-statement-requires t c =

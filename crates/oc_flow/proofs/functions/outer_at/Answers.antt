@@ -3,7 +3,7 @@ use Rattle.std.proofs.lemmas.List.{length-map}
 use Rattle.oc_tree.specs.Tree.{TProgram}
 use Rattle.oc_tree.specs.View.{function_view}
 use Rattle.oc_tree.specs.Checked.{AnyName}
-use Rattle.oc_tree.specs.Visible.{FewVariables}
+use Rattle.oc_tree.specs.Places.{FewVariables}
 use Rattle.oc_effects.specs.Effects.{params_at}
 use Rattle.oc_tree.proofs.Few.{few_variables}
 use Rattle.oc_flow.proofs.Counts.{params_are, params_get}

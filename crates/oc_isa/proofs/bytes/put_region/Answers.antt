@@ -2,8 +2,8 @@ use Rattle.std.proofs.Common.{◌∙◌, refl}
 use Rattle.std.specs.List.{flat_map}
 use Rattle.oc_io.proofs.Going.{begin, finish}
 use Rattle.oc_io.proofs.Each.{each_on, each_stop, each_done}
+use Rattle.oc_io.proofs.Putting.{all_put, stopped, then_put}
 use Rattle.oc_isa.specs.Bytes.{target_bytes}
-use Rattle.oc_isa.proofs.Fields.{behind_first}
 use Rattle.oc_isa.proofs.bytes.put_region.Goals as goal
 
 pub loop-target-init : goal.loop-target-init
@@ -17,12 +17,14 @@ loop-target-preserved g c =
           c.loop-target.invariant.going c.in_default-put_target.ensures.ok;
     }
 
-pub returns-in-Err-put_target-clause-part : goal.returns-in-Err-put_target-clause-part
-returns-in-Err-put_target-clause-part g c =
-    behind_first g.O.Sink.took g.met.O.Sink.took_both c.in_default.ensures.ok
+pub returns-in-Err-put_target : goal.returns-in-Err-put_target
+returns-in-Err-put_target g c = then_put g.O.Sink.took g.O.Sink.faults g.met.O.Sink.took_both c.in_default.ensures
+    (stopped g.O.Sink.took g.O.Sink.faults _ _ _ _ _ _ c.loop-target.invariant.calm
     (each_stop g.O.Sink.took g.met.O.Sink.took_both _ _ _ (flat_map target_bytes) target_bytes (λ x xs. refl) c.args.targets.now _ _ _ c.loop-target-test.true
     c.loop-target.invariant.going c.in-Err-put_target.ensures.part)
+    c.in-Err-put_target.ensures)
 
-pub returns-clause-ok : goal.returns-clause-ok
-returns-clause-ok g c = g.met.O.Sink.took_both _ _ _ _ _ c.in_default.ensures.ok
-    (finish g.O.Sink.took _ _ _ (each_done g.O.Sink.took _ _ (flat_map target_bytes) c.args.targets.now _ _ c.loop-target-test.false c.loop-target.invariant.going))
+pub returns : goal.returns
+returns g c = then_put g.O.Sink.took g.O.Sink.faults g.met.O.Sink.took_both c.in_default.ensures
+    (all_put g.O.Sink.took g.O.Sink.faults _ _ _ _ c.loop-target.invariant.calm
+    (finish g.O.Sink.took _ _ _ (each_done g.O.Sink.took _ _ (flat_map target_bytes) c.args.targets.now _ _ c.loop-target-test.false c.loop-target.invariant.going)))

@@ -4,8 +4,8 @@ use Rattle.std.specs.List.{flat_map}
 use Rattle.oc_io.specs.Faults.{TookPart}
 use Rattle.oc_io.proofs.Going.{begin, finish}
 use Rattle.oc_io.proofs.Each.{each_on, each_stop, each_done}
+use Rattle.oc_io.proofs.Putting.{all_put, stopped, then_put}
 use Rattle.oc_isa.specs.Bytes.{Bytes, number_bytes, target_bytes, list_bytes}
-use Rattle.oc_isa.proofs.Fields.{behind_first}
 use Rattle.oc_isa.proofs.bytes.put_regions.Goals as goal
 
 pub loop-targets-init : goal.loop-targets-init
@@ -21,18 +21,19 @@ loop-targets-preserved g c =
           c.args.regions.now _ c.targets-item.result _ c.loop-targets-test.true c.loop-targets.invariant.going put;
     }
 
-pub returns-in-Err-put_region-clause-part : goal.returns-in-Err-put_region-clause-part
-returns-in-Err-put_region-clause-part g c =
+pub returns-in-Err-put_region : goal.returns-in-Err-put_region
+returns-in-Err-put_region g c =
     let is_part = ap (λ ts. list_bytes target_bytes ts) c.deref.ensures.value ∙ ap (λ v. list_bytes target_bytes v.items) c.targets-item.is in
     let put = subst (λ (part : Bytes). TookPart g.O.Sink.took c.loop-targets.sink part c.put_region.new.sink) is_part c.in-Err-put_region.ensures.part in
-    let count = subst (λ (n : ℕ). g.O.Sink.took c.args.sink.now (number_bytes n) c.put_number.new.sink) (sym (length-map c.args.regions.now (λ v. v.items))) c.in_default.ensures.ok in
-    behind_first g.O.Sink.took g.met.O.Sink.took_both count
+    then_put g.O.Sink.took g.O.Sink.faults g.met.O.Sink.took_both (rw (← length-map c.args.regions.now (λ v. v.items)) at c.in_default.ensures)
+    (stopped g.O.Sink.took g.O.Sink.faults _ _ _ _ _ _ c.loop-targets.invariant.calm
     (each_stop g.O.Sink.took g.met.O.Sink.took_both _ _ _ (λ xs. flat_map (list_bytes target_bytes) (map (λ v. v.items) xs)) (λ v. list_bytes target_bytes v.items) (λ x xs. refl)
     c.args.regions.now _ c.targets-item.result _ c.loop-targets-test.true c.loop-targets.invariant.going put)
+    c.in-Err-put_region.ensures)
 
-pub returns-clause-ok : goal.returns-clause-ok
-returns-clause-ok g c =
-    let count = subst (λ (n : ℕ). g.O.Sink.took c.args.sink.now (number_bytes n) c.put_number.new.sink) (sym (length-map c.args.regions.now (λ v. v.items))) c.in_default.ensures.ok in
-    g.met.O.Sink.took_both _ _ _ _ _ count
+pub returns : goal.returns
+returns g c =
+    then_put g.O.Sink.took g.O.Sink.faults g.met.O.Sink.took_both (rw (← length-map c.args.regions.now (λ v. v.items)) at c.in_default.ensures)
+    (all_put g.O.Sink.took g.O.Sink.faults _ _ _ _ c.loop-targets.invariant.calm
     (finish g.O.Sink.took _ _ _ (each_done g.O.Sink.took _ _ (λ xs. flat_map (list_bytes target_bytes) (map (λ v. v.items) xs)) c.args.regions.now _ _ c.loop-targets-test.false
-    c.loop-targets.invariant.going))
+    c.loop-targets.invariant.going)))

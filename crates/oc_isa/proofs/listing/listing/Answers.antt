@@ -1,14 +1,18 @@
-use Rattle.std.proofs.lemmas.Result.{on_err_weaker}
-use Rattle.oc_isa.proofs.Stretches.{stops_in_targets, stops_in_code}
+use Rattle.std.proofs.Common.{refl}
+use Rattle.oc_io.proofs.Putting.{first_failed, same_text, then_put}
+use Rattle.oc_isa.proofs.Stretches.{joined}
 use Rattle.oc_isa.proofs.listing.listing.Goals as goal
 
-pub returns-in-Err-put_targets-clause-part : goal.returns-in-Err-put_targets-clause-part
-returns-in-Err-put_targets-clause-part g c =
-    stops_in_targets g.O.Sink.took g.met.O.Sink.took_both _ _ _ _ c.raw-raw.result.now _ _ c.raw-raw.ensures.parts c.deref.ensures.value c.deref-2.ensures.value
-    c.in_default.ensures.ok c.in-Err-put_targets.ensures.part
+pub returns-in-Err : goal.returns-in-Err
+returns-in-Err g c =
+    same_text g.O.Sink.took g.O.Sink.faults (joined _ c.raw-raw.result.now _ _ c.raw-raw.ensures.parts c.deref.ensures.value refl) (first_failed g.O.Sink.took g.O.Sink.faults _ c.in-Err.ensures)
 
-pub returns-clause-part : goal.returns-clause-part
-returns-clause-part g c = on_err_weaker c.put_code.result
-    (stops_in_code g.O.Sink.took g.met.O.Sink.took_both _ _ _ _ c.raw-raw.result.now _ _ c.raw-raw.ensures.parts c.deref.ensures.value c.deref-2.ensures.value
-    c.in_default.ensures.ok _ c.in_default-put_targets.ensures.ok)
-    c.put_code.ensures.part
+pub returns-in-Err-put_targets : goal.returns-in-Err-put_targets
+returns-in-Err-put_targets g c =
+    same_text g.O.Sink.took g.O.Sink.faults (joined _ c.raw-raw.result.now _ _ c.raw-raw.ensures.parts c.deref.ensures.value c.deref-2.ensures.value)
+    (then_put g.O.Sink.took g.O.Sink.faults g.met.O.Sink.took_both c.in_default.ensures (first_failed g.O.Sink.took g.O.Sink.faults _ c.in-Err-put_targets.ensures))
+
+pub returns : goal.returns
+returns g c =
+    same_text g.O.Sink.took g.O.Sink.faults (joined _ c.raw-raw.result.now _ _ c.raw-raw.ensures.parts c.deref.ensures.value c.deref-2.ensures.value)
+    (then_put g.O.Sink.took g.O.Sink.faults g.met.O.Sink.took_both c.in_default.ensures (then_put g.O.Sink.took g.O.Sink.faults g.met.O.Sink.took_both c.in_default-put_targets.ensures c.put_code.ensures))

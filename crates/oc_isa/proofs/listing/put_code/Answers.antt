@@ -1,4 +1,5 @@
 use Rattle.std.proofs.Common.{◌∙◌, refl}
+use Rattle.oc_io.proofs.Putting.{stopped}
 use Rattle.oc_isa.specs.Image.{parts_of}
 use Rattle.oc_isa.specs.Listing.{code_line, code_lines}
 use Rattle.oc_isa.proofs.Counted.{counted_on, counted_stop}
@@ -14,9 +15,11 @@ loop-address-preserved g c =
           c.args.image.now.code.items _ _ _ _ _ among refl c.loop-address.invariant.going put;
     }
 
-pub returns-in-Err-clause-part : goal.returns-in-Err-clause-part
-returns-in-Err-clause-part g c =
+pub returns-in-Err : goal.returns-in-Err
+returns-in-Err g c =
     let among = rw c.deref-placed-items.ensures.value at c.loop-address-test.true in
     let put = rw c.deref-placed-items.ensures.value at c.in-Err.ensures.part in
-    counted_stop g.O.Sink.took g.met.O.Sink.took_both _ _ _ (code_lines (parts_of c.args.image.now)) (code_line (parts_of c.args.image.now)) (λ n x xs. refl)
-    c.args.image.now.code.items _ _ _ _ _ among refl c.loop-address.invariant.going put
+    stopped g.O.Sink.took g.O.Sink.faults _ _ _ _ _ _ c.loop-address.invariant.calm
+    (counted_stop g.O.Sink.took g.met.O.Sink.took_both _ _ _ (code_lines (parts_of c.args.image.now)) (code_line (parts_of c.args.image.now)) (λ n x xs. refl)
+    c.args.image.now.code.items _ _ _ _ _ among refl c.loop-address.invariant.going put)
+    c.in-Err.ensures

@@ -1,15 +1,22 @@
-use Rattle.std.proofs.Common.{rules, ◌≡◌, false, ◌∙◌}
-use Rattle.std.specs.Str.{bytes_eq}
-use Rattle.oc_items.proofs.Numerals.{no_text, not_parsed, other_parsed}
+use Rattle.std.proofs.Common.{rules, ◌≡◌, ◌<◌, ◌^◌, ◌∙◌, sym, length, IfSome}
+use Rattle.oc_items.proofs.Digits.{some_told, nothing_told, zero_told, others_told}
+use Rattle.oc_items.proofs.Numerals.{if_none_too}
 use Rattle.oc_items.proofs.read.read_u64.Goals as goal
 
-pub returns-in_default-clause-none : goal.returns-in_default-clause-none
-returns-in_default-clause-none c = no_text c.args.field.now c.in_default.ensures.cases.0
+pub returns-then-is_empty-clause-none : goal.returns-then-is_empty-clause-none
+returns-then-is_empty-clause-none c =
+    let none : length c.args.field.now ≡ 0 = search rules in
+    nothing_told c.args.field.now none
 
-pub returns-in_default-parse-clause-none : goal.returns-in_default-parse-clause-none
-returns-in_default-parse-clause-none c = not_parsed c.args.field.now c.in-Ok.text.now c.in_default-parse.field-0 c.in_default-parse.ensures.value.0 c.in-Ok.ensures.cases.0
+pub returns-then-zero_leads-clause-none : goal.returns-then-zero_leads-clause-none
+returns-then-zero_leads-clause-none c = zero_told c.args.field.now (sym c.zero_leads.ensures ∙ c.if-zero_leads.true)
 
-pub returns-else-eq-clause-none : goal.returns-else-eq-clause-none
-returns-else-eq-clause-none c =
-    let e : bytes_eq c.as_bytes.result.now c.args.field.now ≡ false = search rules in
-    other_parsed c.args.field.now c.in-Ok.text.now c.as_bytes.result.now c.in-Ok-parse.number c.in-Ok-parse.ensures.value.0 c.in-Ok.ensures.cases.0 (c.as_bytes.ensures.value ∙ c.format.ensures.text) e
+pub returns-clause-some : goal.returns-clause-some
+returns-clause-some c =
+    let ds = c.args.field.now in
+    let some : 0 < length ds = search rules in
+    let below : IfSome c.number_of.result (λ n. n < 2 ^ 64) = search rules in
+    some_told ds c.number_of.result some (sym c.zero_leads.ensures ∙ c.if-zero_leads.false) below c.number_of.ensures.digits c.number_of.ensures.some
+
+pub returns-clause-none : goal.returns-clause-none
+returns-clause-none c = if_none_too c.number_of.result _ _ (others_told c.args.field.now) c.number_of.ensures.none

@@ -1,6 +1,6 @@
 use Rattle.std.proofs.Common.{◌≡◌, map, length}
 use Rattle.std.specs.Prelude.{flat_map}
-use Rattle.oc_meaning.specs.Samples.{union}
+use Rattle.oc_tree.specs.Samples.{union}
 use Rattle.oc_region.specs.Views.{ask_reason, ask_reasons, ask_view, stretch_view}
 use Rattle.oc_region.proofs.asks.reasons.Given as goal
 

@@ -1,11 +1,8 @@
-use Rattle.std.proofs.Common.{refl}
-use Rattle.std.proofs.lemmas.Result.{on_err_weaker}
-use Rattle.oc_isa.proofs.Ending.{after_front, ends_part, part_of_front}
+use Rattle.oc_io.proofs.Putting.{first_failed, then_put}
 use Rattle.oc_top.proofs.answer.put_all.Goals as goal
 
-pub returns-in-Err-clause-part : goal.returns-in-Err-clause-part
-returns-in-Err-clause-part g c = part_of_front g.E.Sink.took _ _ _ _ _ refl c.in-Err.ensures.part
+pub returns-in-Err : goal.returns-in-Err
+returns-in-Err g c = first_failed g.E.Sink.took g.E.Sink.faults _ c.in-Err.ensures
 
-pub returns-clause-part : goal.returns-clause-part
-returns-clause-part g c = on_err_weaker c.put_told.result
-    (ends_part g.E.Sink.took g.met.E.Sink.took_both _ _ _ _ _ (after_front g.E.Sink.took _ _ _ _ _ refl c.in_default.ensures.ok)) c.put_told.ensures.part
+pub returns : goal.returns
+returns g c = then_put g.E.Sink.took g.E.Sink.faults g.met.E.Sink.took_both c.in_default.ensures c.put_told.ensures

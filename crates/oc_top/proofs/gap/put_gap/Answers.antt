@@ -1,7 +1,7 @@
 use Rattle.oc_top.proofs.gap.put_gap.Goals as goal
 
-pub returns-in-Fresh-clause-ok : goal.returns-in-Fresh-clause-ok
-returns-in-Fresh-clause-ok g c =
+pub returns-in-Fresh : goal.returns-in-Fresh
+returns-in-Fresh g c =
     rw (
       c.in-Fresh.is,
       ← c.bytes.ensures,
@@ -11,4 +11,4 @@ returns-in-Fresh-clause-ok g c =
       ← c.as_bytes-first.ensures.value,
       ← c.format-2.ensures.text,
       ← c.as_bytes-second.ensures.value,
-    ) c.put_pieces.ensures.ok
+    ) c.put_pieces.ensures

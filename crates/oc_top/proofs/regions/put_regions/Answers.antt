@@ -1,8 +1,12 @@
-use Rattle.std.proofs.lemmas.Result.{on_err_weaker}
-use Rattle.oc_top.proofs.Showing.{text_part}
+use Rattle.oc_io.proofs.Putting.{first_failed, same_text, then_put}
+use Rattle.oc_top.proofs.Showing.{whole_text}
 use Rattle.oc_top.proofs.regions.put_regions.Goals as goal
 
-pub returns-clause-part : goal.returns-clause-part
-returns-clause-part g c = on_err_weaker c.put_totals.result
-    (text_part c.args.marked.now c.args.budgets.now c.requires.budgets g.O.Sink.took g.met.O.Sink.took_both _ _ _ c.in_default.ensures.ok)
-    c.put_totals.ensures.part
+pub returns-in-Err : goal.returns-in-Err
+returns-in-Err g c =
+    same_text g.O.Sink.took g.O.Sink.faults (whole_text c.args.marked.now c.args.budgets.now c.requires.budgets) (first_failed g.O.Sink.took g.O.Sink.faults _ c.in-Err.ensures)
+
+pub returns : goal.returns
+returns g c =
+    same_text g.O.Sink.took g.O.Sink.faults (whole_text c.args.marked.now c.args.budgets.now c.requires.budgets)
+    (then_put g.O.Sink.took g.O.Sink.faults g.met.O.Sink.took_both c.in_default.ensures c.put_totals.ensures)

@@ -1,5 +1,6 @@
 use Rattle.std.proofs.Common.{refl, ◌∙◌}
 use Rattle.oc_io.proofs.Going.{begin}
+use Rattle.oc_io.proofs.Putting.{stopped}
 use Rattle.oc_top.proofs.Variables.{variable_on, variable_stop}
 use Rattle.oc_top.proofs.report.put_nvs.Goals as goal
 
@@ -16,9 +17,11 @@ loop-place-preserved g c =
           c.loop-place.invariant.going c.in_default.ensures.ok;
     }
 
-pub returns-in-Err-clause-part : goal.returns-in-Err-clause-part
-returns-in-Err-clause-part g c =
+pub returns-in-Err : goal.returns-in-Err
+returns-in-Err g c =
     let among = rw c.deref-nv-items.ensures.value at c.loop-place-test.true in
     let size = rw c.deref-nv-items.ensures.value at c.min.ensures in
-    variable_stop g.O.Sink.took g.met.O.Sink.took_both _ _ _ _ _ _ _ _ _ _ _ _ among c.requires.each_nv size c.split_at.ensures.front c.split_at.ensures.back
-    c.loop-place.invariant.going c.in-Err.ensures.part
+    stopped g.O.Sink.took g.O.Sink.faults _ _ _ _ _ _ c.loop-place.invariant.calm
+    (variable_stop g.O.Sink.took g.met.O.Sink.took_both _ _ _ _ _ _ _ _ _ _ _ _ among c.requires.each_nv size c.split_at.ensures.front c.split_at.ensures.back
+    c.loop-place.invariant.going c.in-Err.ensures.part)
+    c.in-Err.ensures

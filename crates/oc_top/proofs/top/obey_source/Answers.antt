@@ -1,9 +1,10 @@
 use Rattle.std.proofs.Common.{refl}
 use Rattle.oc_top.proofs.Asking.{checking_comes, image_comes, listing_comes, regions_come, source_unfetched}
+use Rattle.oc_top.proofs.Writing.{untouched}
 use Rattle.oc_top.proofs.top.obey_source.Goals as goal
 
 pub returns-in-Err-clause-comes : goal.returns-in-Err-clause-comes
-returns-in-Err-clause-comes g c = source_unfetched _ _ refl _ c.in-Err.ensures.refused (g.met.O.Sink.took_nothing _)
+returns-in-Err-clause-comes g c = source_unfetched _ _ refl _ c.in-Err.ensures.refused (untouched g.O.Sink.took g.O.Sink.held g.O.Sink.faults g.met.O.Sink.took_nothing _)
 
 pub returns-in-Regions-clause-comes : goal.returns-in-Regions-clause-comes
 returns-in-Regions-clause-comes g c =

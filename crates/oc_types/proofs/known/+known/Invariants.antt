@@ -1,6 +1,6 @@
 use Rattle.std.proofs.Common.{◌≡◌, drop}
 use Rattle.oc_tree.specs.View.{args_view, program_view}
-use Rattle.oc_tree.specs.Rules.{args_known}
+use Rattle.oc_tree.specs.Walks.{args_known}
 use Rattle.oc_types.proofs.known.+known.Given as goal
 
 abbrev pub invariant-call_known-loop-arg : goal.invariant-call_known-loop-arg

@@ -1,6 +1,7 @@
 use Rattle.std.proofs.Common.{◌≡◌, ◌<◌, ◌^◌, drop}
 use Rattle.oc_tree.specs.View.{args_view}
-use Rattle.oc_tree.specs.Pulls.{args_pulls, args_skip}
+use Rattle.oc_tree.specs.Pulls.{args_pulls}
+use Rattle.oc_tree.specs.Walks.{args_skip}
 use Rattle.oc_types.proofs.pulls.+skips.Given as goal
 
 abbrev pub invariant-call_skips-loop-arg : goal.invariant-call_skips-loop-arg

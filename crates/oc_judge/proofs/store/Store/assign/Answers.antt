@@ -1,7 +1,7 @@
 use Rattle.std.proofs.Common.{ap, sym, ◌∙◌, refl}
 use Rattle.oc_meaning.specs.Store.{held_at, put, replaced}
 use Rattle.oc_meaning.specs.Store as meant
-use Rattle.oc_meaning.specs.Seen.{place_view}
+use Rattle.oc_meaning.specs.Places.{place_view}
 use Rattle.oc_judge.specs.Stores.{store_view}
 use Rattle.oc_judge.specs.Values.{value_view}
 use Rattle.oc_meaning.proofs.Levels.{put-local}

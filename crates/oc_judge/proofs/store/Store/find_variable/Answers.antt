@@ -2,8 +2,7 @@ use Rattle.std.proofs.Common.{◌≡◌, ap, sym, ◌∙◌, option_map}
 use Rattle.std.specs.Prelude.{slice_get}
 use Rattle.oc_meaning.specs.Store.{held_at}
 use Rattle.oc_meaning.specs.Store as meant
-use Rattle.oc_meaning.specs.Seen.{place_view}
-use Rattle.oc_meaning.specs.Stores.{held_or}
+use Rattle.oc_meaning.specs.Places.{place_view, held_or}
 use Rattle.oc_meaning.proofs.Levels.{held-local}
 use Rattle.oc_judge.proofs.store.Store.find_variable.Goals as goal
 

@@ -4,7 +4,7 @@ use Rattle.oc_meaning.specs.Store.{held_at, nothing, put}
 use Rattle.oc_meaning.specs.Store as meant
 use Rattle.oc_steps.specs.Ages.{join_ages}
 use Rattle.oc_steps.specs.Sets.{with_element_by}
-use Rattle.oc_meaning.specs.Seen.{place_view}
+use Rattle.oc_meaning.specs.Places.{place_view}
 use Rattle.oc_judge.specs.Stores.{store_view}
 use Rattle.oc_judge.specs.Values.{age_view}
 use Rattle.oc_meaning.proofs.Levels.{put-local}

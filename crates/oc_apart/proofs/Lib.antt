@@ -1,2 +1,0 @@
-pub mod Apart
-mod OneText

@@ -1,5 +1,0 @@
-use Rattle.oc_apart.proofs.OneText.{one_text}
-use Rattle.oc_apart.proofs.laws.programs_have_one_text.Goals as goal
-
-pub returns : goal.returns
-returns c = one_text

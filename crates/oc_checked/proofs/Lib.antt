@@ -1,0 +1,14 @@
+pub mod BodiesPass
+pub mod Heads
+pub mod Called
+pub mod Ranks
+pub mod CallLinks
+pub mod Declared
+pub mod NamesDiffer
+pub mod Mains
+pub mod Amounts
+pub mod CallsFall
+pub mod BlockRanges
+pub mod PairsAround
+pub mod RowsAround
+pub mod RegionsApart

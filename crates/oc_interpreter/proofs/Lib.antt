@@ -1,0 +1,10 @@
+pub mod Cutting
+pub mod Deeper
+pub mod Events
+pub mod FirstParts
+pub mod FreshLaws
+pub mod FreshNames
+pub mod Outcomes
+pub mod Sets
+pub mod Sizes
+pub mod TraceLaws

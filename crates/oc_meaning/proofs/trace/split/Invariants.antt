@@ -1,8 +1,0 @@
-use Rattle.std.proofs.Common.{map}
-use Rattle.oc_meaning.specs.Stores.{event_view}
-use Rattle.oc_meaning.specs.Telling.{Tells}
-use Rattle.oc_meaning.specs.Traces.{AreParts}
-use Rattle.oc_meaning.proofs.trace.split.Given as goal
-
-abbrev pub invariant-loop-event : goal.invariant-loop-event
-invariant-loop-event l = AreParts (map event_view l.yielded) → Tells l.events.items l.marks.items (map event_view l.yielded)

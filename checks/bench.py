@@ -59,8 +59,8 @@ class Listing(Workload):
 class Audit(Workload):
     """The audit of a report of N bytes that checks/inputs/reports.py prints."""
 
-    def __init__(self, name, kind):
-        self.name, self.size, self.words = name, 16777216, ("audit", "source.oc", "report.txt")
+    def __init__(self, name, kind, size=16777216):
+        self.name, self.size, self.words = name, size, ("audit", "source.oc", "report.txt")
         self.files = {"source.oc": ("reports.py", kind), "report.txt": ("reports.py", kind, "N")}
 
 
@@ -88,6 +88,7 @@ WORKLOADS = [
     Workload("a sensor file of the greatest size", 16777216, "one", ("filled.py", "N", "time,sensor,value", "1000000,s,1")),
     Workload("a power file of the greatest size, each row an outage", 16777216, "one", None, ("filled.py", "N", "on,off", "0,0")),
     Workload("a source of the greatest size, refused", 100000, "statements"),
+    Workload("nonvolatile variables and as many inner inputs, refused", 36000, "nonvolatile"),
     Workload("needs by a fan of calls", 126, "fan"),
     Workload("needs up a chain of calls", 126, "chain"),
     Workload("needs that are tied", 126, "tied"),
@@ -104,6 +105,11 @@ WORKLOADS = [
     Listing("code of these, each function called by the next", 64, "called"),
     Audit("a report of the greatest size, four in five attempts aborted", "attempts"),
     Audit("a report of the greatest size, sums of all samples so far", "sums"),
+    Audit("a report of one line, for a run of 150 million silent turns", "silent", 24),
+    Audit("a report of aborted attempts of 60,000 silent turns each", "waits", 262144),
+    Audit("a report of the greatest size, regions of 64 silent turns", "passes"),
+    Audit("a report of tags behind 8,000 statements", "tags", 2097152),
+    Audit("a report of the greatest size, outputs beside 240 names", "outputs"),
     Execution("an image with the greatest code", "straight"),
     Execution("an image with stacks as deep as the machine's", "deep"),
     Execution("an image with a stack as deep as its code is long, refused", "deepest", 17),

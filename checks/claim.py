@@ -29,6 +29,8 @@ from claim.repository import Repository
 from claim.text import Unplaced
 
 TOP = pathlib.Path(__file__).resolve().parent.parent
+# How many lines of definitions a page has at most.
+MOST_LINES = 700
 
 
 def made(out=None, is_written=False):
@@ -37,7 +39,7 @@ def made(out=None, is_written=False):
     pages = list(claim.pages.values())
     laws_of(claim.repository, pages)
     files = files_of(claim)
-    told = [*faults_of(files), *lost_names(TOP)]
+    told = [*faults_of(files), *lost_names(TOP), *long_pages(pages)]
     if out:
         write(files, out)
     else:
@@ -51,6 +53,14 @@ def made(out=None, is_written=False):
               f"{sum(word.lines() for word in below.values()):,} lines"
               + (f"; {count(loose, 'field')} of no known record, not linked" if loose else ""))
     return told
+
+
+def long_pages(pages):
+    """Yields what is wrong with pages that nobody reads to their end."""
+    for page in pages:
+        if page.lines() > MOST_LINES:
+            yield (f"the page {page.name} has {page.lines()} lines, more than {MOST_LINES}: checks/claim/homes.py is to "
+                   "give words of it a page")
 
 
 def print_rests(spec):

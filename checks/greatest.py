@@ -90,6 +90,15 @@ CALLS = [
     Call("code of a source of 1 MiB", "build source.oc", SUMS, f"\n{SUMS_CODE} 0 halt\n", whole=False),
     Call("a run of a source of 1 MiB", "run source.oc sensors.csv power.csv", SUMS | {"sensors.csv": NO_ROWS, "power.csv": ONE_PERIOD}, "1 end\n"),
     Call("a thousand regions", "regions source.oc", {"source.oc": ("worst.py", "regions", 126)}, "total 123\nsafe 51\n", whole=False),
+    Call("960 blocks", "check source.oc", {"source.oc": ("worst.py", "blocks", 48)}, "safe\n"),
+    Call(
+        "959 blocks, and one that is missing",
+        "check source.oc",
+        {"source.oc": ("worst.py", "gap", 48)},
+        "",
+        errors="ocelot: not covered: fresh show x needs lines 1058 and 1058 in f47\n",
+        status=18,
+    ),
     Call("a run of 8,000 statements", "run source.oc sensors.csv power.csv", run_of("workload.py", "straight", 8000), sums_of_eight(8000)),
     Call(
         "60,000 regions, with meters",
@@ -117,6 +126,10 @@ CALLS = [
     execution("an image of 64 MiB, most of it code", "straight", " end\n"),
     execution("an image of 64 MiB with as many names", "names", "\nnv xxxxx190 0\nnv xxxxx191 0\n"),
     execution("an image of 64 MiB with as many regions", "regions", "enter 1\n5 commit 1\n6 end\nnv v 0\n"),
+    execution("an image of 64 MiB with as many targets of a region", "region", "enter 1\n5 commit 1\n6 end\nnv v 0\n"),
+    execution("an image of 64 MiB with stacks as deep as the machine's", "deep", " end\n"),
+    execution("an image of 64 MiB with as many calls in as many ways", "calls", " end\n"),
+    execution("an image of 64 MiB with calls that differ in what is below", "apart", " end\n"),
 ]
 
 

@@ -37,8 +37,11 @@ class Repository:
                 yield source, name
 
     def word(self, spec):
-        """Returns the word of `crate/Module.Word`, or of `crate/file.rt()function`."""
+        """Returns the word of `crate/Module.Word`, of `crate/file.rt()function`, or of `crate/file.rt.Type`."""
         crate, _, rest = spec.partition("/")
+        if ".rt." in rest:
+            file, _, name = rest.partition(".rt.")
+            return found(self.rust(crate, file.split("/"), name), spec)
         if "()" in rest:
             file, _, name = rest.partition("()")
             return rust_function(found(self.source(crate, "src/" + file), spec), name)

@@ -54,8 +54,10 @@ def read_chunk(source, at, stop, params, comment, block):
 
 
 def read_inner(source, at, stop, params, comment, block):
-    """Reads the definitions of a `mutual` or a module. A comment above it belongs to its first word without one."""
-    end = source.text.find("\n", at, stop)
+    """Reads the definitions of a `mutual` or a module, whose head may take several lines. A comment above it belongs to
+    its first word without one."""
+    where = WHERE.search(source.text, at, stop) if source.text.startswith("module", at) else None
+    end = source.text.find("\n", where.end() if where else at, stop)
     groups = [t for t in tokens_of(source.text, at, end) if t.kind == "group"]
     before = set(source.words)
     read_block(source, end + 1, stop, params + groups)

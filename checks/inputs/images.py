@@ -122,6 +122,15 @@ def calls(n):
     return passing(n, 64, 127, 64)
 
 
+def apart(n):
+    """the most calls of 127 functions that differ in what is below"""
+    each = step(PUSH) + b"".join(step(CALL, k) for k in range(1, 128))
+    depth = min(GREATEST_STACK - 2, (many(n) - 127) // size(each))
+    code = each * depth
+    heads = [named(b"f%03d" % k, size(code) + 1 + k, 0, 2) for k in range(127)]
+    return image(code + step(HALT) + step(RET) * 127, heads)
+
+
 def wide(n):
     """the most calls with as many parameters as the machine's stack has words"""
     depth = min(GREATEST_STACK - 2, many(n) // 2)
@@ -195,7 +204,7 @@ def rule(n):
     return image(sums(many(n) // 4 - 1) + step(PUSH) * 3 + step(HALT), frame=1, stack=3)
 
 
-SHAPES = [straight, deep, deepest, names, longest, functions, ranks, calls, wide, product, regions, targets, region, nested, jumps, joins, words, byte, rule]
+SHAPES = [straight, deep, deepest, names, longest, functions, ranks, calls, apart, wide, product, regions, targets, region, nested, jumps, joins, words, byte, rule]
 
 if len(sys.argv) == 3:
     shape = {made.__name__: made for made in SHAPES}[sys.argv[1]]

@@ -47,7 +47,85 @@ fn main() {
             yield "off 7"
 
 
-KINDS = [attempts, sums]
+def silent():
+    """the end of a run of 150 million silent turns"""
+    yield "fn main() { for i in 0..5000 { for j in 0..30000 { } } }\n"
+    yield "end"
+
+
+def waits():
+    """aborted attempts of a region with 60,000 silent turns before its first output"""
+    yield """sensor s;
+port r;
+fn main() {
+    let a = sense(s);
+    Fresh(a);
+    for i in 0..60000 { }
+    emit(r, a);
+}
+"""
+    while True:
+        yield from ("enter 1", "sense s 0", "use 4", "abort 1", "off 1")
+
+
+def passes():
+    """regions with 64 silent turns each"""
+    yield """sensor s;
+port r;
+fn main() {
+    for h in 0..50 {
+        for i in 0..60000 {
+            let a = sense(s);
+            Fresh(a);
+            for j in 0..64 { }
+            emit(r, a);
+        }
+    }
+}
+"""
+    while True:
+        yield from ("enter 1", "sense s 0", "use 6", "emit r 0", "done 6", "commit 1")
+
+
+def tags():
+    """tags of statements behind 8,000 others"""
+    others = "".join(f"x = {k % 10}; " for k in range(7999))
+    yield f"""fn g() {{ let mut x = 0; {others}}}
+fn main() {{
+    for i in 0..65000 {{
+        for j in 0..1000 {{
+            let a = 1;
+            Consistent(a, 1);
+            Consistent(a, 1);
+        }}
+    }}
+}}
+"""
+    while True:
+        yield from ("tag 8004", "tag 8005")
+
+
+def outputs():
+    """outputs with 240 names in scope"""
+    nonvolatile = "".join(f"nv n{k}: i32 = 0;\n" for k in range(64))
+    lets = "".join(f"    let v{k} = {k};\n" for k in range(180))
+    yield f"""port r;
+{nonvolatile}fn main() {{
+{lets}    for i in 0..60000 {{
+        for j in 0..1000 {{
+            let a = 1;
+            let b = 2;
+            let c = 3;
+            emit(r, a);
+        }}
+    }}
+}}
+"""
+    while True:
+        yield "emit r 1"
+
+
+KINDS = [attempts, sums, silent, waits, passes, tags, outputs]
 
 
 def main():

@@ -97,6 +97,21 @@ def regions(n):
     return "sensor s;\nport r;\n" + shown + functions + function("main", [f"f{n - 1}();"])
 
 
+BLOCK = "atomic { let x = sense(s); show(x); }"
+
+
+def blocks(n, last=BLOCK):
+    """N functions with twenty blocks each, which suffice (48)"""
+    shown = "fn show(v: i32) { let x = v; Fresh(x); emit(r, x); }\n"
+    functions = "".join(function(f"f{f}", [BLOCK] * 19 + [last if f == n - 1 else BLOCK]) for f in range(n))
+    return "sensor s;\nport r;\n" + shown + functions + function("main", [f"f{f}();" for f in range(n)])
+
+
+def gap(n):
+    """the same, but for the last block, in place of which its statements stand (48)"""
+    return blocks(n, "let y = sense(s);\n    show(y);")
+
+
 def usual_functions(n, callee):
     """N functions of a hundred statements and a fresh variable, each of which calls what `callee` gives"""
     functions = []
@@ -124,7 +139,13 @@ def statements(n):
     return "sensor s;\nfn main() {\n" + "sense(s);\n" * n + "}\n"
 
 
-KINDS = [fan, chain, tied, loops, variables, sums, pulls, references, names, regions, usual, called, statements]
+def nonvolatile(n):
+    """N statements with a call inside, and as many nonvolatile variables, of which 64 are accepted (64; up to 36,000)"""
+    calls = "fn g() -> i32 { return 1; }\nfn h(x: i32) { }\nfn main() { " + "h(g()+1);" * n + " }\n"
+    return calls + "".join(f"nv b{k}:i32=0;" for k in range(n))
+
+
+KINDS = [fan, chain, tied, loops, variables, sums, pulls, references, names, regions, blocks, gap, usual, called, statements, nonvolatile]
 
 
 def main():

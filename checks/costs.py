@@ -3,11 +3,14 @@
 
 Runs 'rt ci WORD..' at the top of the repository and looks four times a second at the checks that are under way. Then it
 prints, as a table, the processor time (user and system) of each crate's proof, of its tests, of the check that its wrong
-bodies begin with (the seed) and of these, and the greatest memory of one check; behind it the sums and the time that went
-by. What earlier runs on this machine kept isn't done again: a whole table wants a machine on which nothing is kept, or
-the word --anew. With --out the table goes into a file as well. The status is that of 'rt ci'.
+bodies begin with (the seed, where the kit makes one) and of these, and the greatest memory of one check; behind it the
+sums, the time that went by, and the time that these checks would take on one to four processors with nothing beside
+them, one check a processor and the longest chain first, as rt takes them. Where the kit keeps what it proved, that isn't
+done again: a whole table wants a machine on which nothing is kept, or the kit's word --anew. With --out the table goes
+into a file as well. The status is that of 'rt ci'.
 """
 import argparse
+import heapq
 import os
 import pathlib
 import re
@@ -81,6 +84,42 @@ def measured(words):
     return run.returncode, time.monotonic() - begin, checks.values()
 
 
+def crates():
+    """Returns for each crate, lowest first, the crates of the repository that it names in crates.txt."""
+    found = {}
+    for name, below in re.findall(r"(?m)^(\w+)[^:\n]*:(.*)$", read(TOP / "crates.txt")):
+        found[name] = [it for it in below.split() if it in found]
+    return found
+
+
+def tasks(rows, found):
+    """Returns what rt does, each as the tasks that it waits for and its seconds: a crate's proof and its tests wait for the
+    proofs below, its wrong bodies for both."""
+    made = {}
+    for name, row in rows.items():
+        waits = [(other, "proof") for other in found.get(name, ()) if other in rows]
+        made[name, "proof"] = waits, row["proof"]
+        made[name, "tests"] = waits, row["tests"]
+        made[name, "edits"] = [(name, "proof"), (name, "tests")], row["seed"] + row["wrong bodies"]
+    return made
+
+
+def wall(made, processors):
+    """Returns how many seconds the tasks take, one a processor, each once those it waits for have ended."""
+    behind = {}
+    for key in reversed(made):
+        behind[key] = made[key][1] + max((behind[other] for other in made if key in made[other][0]), default=0)
+    now, running, done, left = 0.0, [], set(), sorted(made, key=behind.get, reverse=True)
+    while left or running:
+        ready = [key for key in left if done.issuperset(made[key][0])][: processors - len(running)]
+        for key in ready:
+            left.remove(key)
+            heapq.heappush(running, (now + made[key][1], key))
+        now, key = heapq.heappop(running)
+        done.add(key)
+    return now
+
+
 def cell(seconds):
     return f"{seconds:,.0f} s" if seconds >= 0.5 else ""
 
@@ -92,7 +131,8 @@ def table(checks, passed):
         row = rows.setdefault(check.crate, dict.fromkeys(KINDS, 0.0) | {"memory": 0})
         row[check.kind] += check.seconds
         row["memory"] = max(row["memory"], check.memory)
-    order = re.findall(r"(?m)^(\w+)[^:\n]*:", read(TOP / "crates.txt"))
+    found = crates()
+    order = list(found)
     lines = [f"| crate | {' | '.join(KINDS)} | memory |", "|---" * (len(KINDS) + 2) + "|"]
     for name in sorted(rows, key=lambda it: order.index(it) if it in order else len(order)):
         row = rows[name]
@@ -102,6 +142,9 @@ def table(checks, passed):
     lines.append(f"| all | {' | '.join(cell(sums[kind]) for kind in KINDS)} | {most:,} MiB |")
     minutes = sum(sums.values()) / 60
     lines += ["", f"{passed / 60:.0f} minutes on {len(os.sched_getaffinity(0))} processors, {minutes:.0f} minutes of processor time in checks."]
+    made = tasks({name: rows[name] for name in sorted(rows, key=lambda it: order.index(it) if it in order else len(order))}, found)
+    alone = ", ".join(f"{wall(made, number) / 60:.0f} on {number}" for number in (1, 2, 3, 4))
+    lines.append(f"With nothing beside them these checks would take, in minutes by processors: {alone}.")
     return lines
 
 

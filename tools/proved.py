@@ -1,7 +1,7 @@
 """Proves and builds the program.
 
-'rt ci' does so in a copy of the crates that the program is made of, without their wrong bodies. It keeps each crate on
-this machine as soon as that is proved: a later call goes on from there, and the gate needn't prove the same again.
+'rt ci' does so in a copy of the crates that the program is made of, without their wrong bodies. Some kits keep each crate
+on the machine as soon as it is proved: a later call goes on from there then, and the gate needn't prove the same again.
 """
 import contextlib
 import os
@@ -130,7 +130,7 @@ def build(place, say):
         checksum = sources.checksum(top)
         say(
             f"proving and building the program first: {len(sources.crates(top))} crates, {side_by_side} at a time",
-            "what is proved is kept, so a call that is cut off goes on where it was; ./try answers in about two minutes, without proofs",
+            "it takes a while, once for these sources; ./try answers in about two minutes, without proofs",
         )
         prove(top, side_by_side, say)
         made = top / "crates/ocelot/out/ocelot"

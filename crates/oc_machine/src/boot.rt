@@ -35,6 +35,7 @@ pub(crate) fn region_before(image: &Image, pc: u32) -> u32
     }
 }
 
+/// The region that an `enter` begins, and 0 for any other instruction.
 fn region_of(instr: Instr) -> u32
     ensures { result ≡ Table.region_of instr }
 {
@@ -150,6 +151,8 @@ impl Machine {
         }
     }
 
+    /// Restores the saved word behind the first `done`: the program counter, the frame, how many
+    /// words the stack has, or one of these.
     fn restore_one(&mut self, done: usize)
         requires { done < 2 ^ 32 }
         ensures { self.new ≡ record {

@@ -30,6 +30,7 @@ fn fetch(image: &Image, pc: u32) -> Option<Placed>
     }
 }
 
+/// What an instruction shows, as what its step says.
 fn said_of(shown: Option<Shown>) -> Option<Said>
     ensures { result ≡ Power.shown_of shown }
 {
@@ -83,6 +84,8 @@ impl Machine {
         None
     }
 
+    /// Logs the word at a nonvolatile address that has no entry yet. The instruction stays to be
+    /// done.
     fn note(&mut self, addr: u32)
         requires addr { addr < length self.old.state.nv }
         requires new { has_entry self.old.state.log addr ≡ false }
@@ -97,6 +100,8 @@ impl Machine {
         self.log.note(addr, old);
     }
 
+    /// Writes a word to a nonvolatile address, drops so many operands, and goes on at the next
+    /// instruction.
     fn store(&mut self, addr: u32, word: i32, operands: usize)
         requires addr { addr < length self.old.state.nv }
         requires pc { self.old.state.pc + 1 < 2 ^ 31 }
@@ -232,6 +237,8 @@ impl Machine {
         }
     }
 
+    /// Executes an instruction at a tick, and answers what it says. An input reads its sensor at
+    /// that tick.
     fn execute(&mut self, placed: Placed, h: &mut Sensors, now: u64) -> Option<Said>
         requires running { self.old.state.phase ≡ Phase.Running }
         requires depth { self.old.state.depth < 2 ^ 63 }

@@ -68,6 +68,8 @@ struct Start {
     frame: u32,
 }
 
+/// Where the first function named `main` begins and the words of its frame, or zeros where there is
+/// none.
 fn find_main(functions: &[ImageFunction]) -> Start
     ensures entry { result.entry ≡ entry_of (main_of functions.now) }
     ensures frame { result.frame ≡ frame_of (main_of functions.now) }
@@ -96,6 +98,7 @@ fn initial_words(alloc: Global, nv: &[ImageNv]) -> Result<Vec<i32>, Memory>
     Ok(words)
 }
 
+/// Appends a word so many times. It answers `Memory` where there is none.
 fn append(words: &mut Vec<i32>, count: usize, word: i32) -> Result<(), Memory>
     requires { vec_len words.old + count < 2 ^ 62 }
     ensures words { OnOk result (words.new.items ≡ words.old.items ++ replicate count word) }

@@ -18,6 +18,8 @@ use oc_tree::tree::{Arg, Call, Function, StmtKind};
 use std::alloc::{AllocError, Global};
 use std::marker::Model;
 
+/// Which parameters are passed on to which by these functions, whose calls and parameters are at
+/// hand. Err is want of memory.
 fn pass_reach(
     alloc: Global,
     calls: &Calls,
@@ -39,6 +41,7 @@ fn pass_reach(
     Reach::new(alloc, count, links)
 }
 
+/// Marks the parameters that functions write through themselves. Err is want of memory.
 fn written_params(
     alloc: Global,
     params: &Params,
@@ -76,6 +79,8 @@ pub fn assigned_params(
     Ok(back)
 }
 
+/// Whether a statement assigns the variable of this name, or an element of it; not so through a
+/// reference.
 fn is_target(kind: &StmtKind, name: &Name) -> bool
     ensures { result ≡ is_target name.now (kind_view kind.now) }
 {
@@ -139,6 +144,8 @@ impl<'a> Assigned<'a> {
         &self.calls
     }
 
+    /// Whether the argument at a place lends this variable to a parameter that the called function
+    /// assigns through, itself or by functions that it passes it to.
     fn arg_assigns(&self, name: &Name, callee: usize, place: usize, arg: &Arg) -> bool
         requires { callee < length self.now }
         ensures { result ≡ arg_assigns (map function_view self.now) name.now callee place
@@ -156,6 +163,8 @@ impl<'a> Assigned<'a> {
         }
     }
 
+    /// Whether an argument lends this variable to a parameter that the called function assigns
+    /// through.
     fn args_assign(&self, name: &Name, callee: usize, args: &[Arg]) -> bool
         requires { callee < length self.now }
         ensures { result ≡ args_assign (map function_view self.now) name.now callee 0
@@ -169,6 +178,8 @@ impl<'a> Assigned<'a> {
         false
     }
 
+    /// Whether a call assigns this variable through an argument; not so where there is no such
+    /// function.
     fn call_assigns(&self, name: &Name, call: &Call) -> bool
         ensures { result ≡ call_assigns (map function_view self.now) name.now (call_view call.now) }
     {
@@ -178,6 +189,7 @@ impl<'a> Assigned<'a> {
         }
     }
 
+    /// Whether one of these calls assigns this variable through an argument.
     fn some_assigns(&self, name: &Name, calls: &[&Call]) -> bool
         ensures { result
             ≡ list_any (call_assigns (map function_view self.now) name.now) (calls_seen calls.now) }
@@ -190,6 +202,8 @@ impl<'a> Assigned<'a> {
         false
     }
 
+    /// Whether a statement itself assigns this variable, as its target or through an argument of a
+    /// call in it. Err is want of memory.
     fn own_assigns(&self, alloc: Global, name: &Name, kind: &StmtKind) -> Result<bool, AllocError>
         ensures { IfOk result
             (λ b. b ≡ own_assigns (map function_view self.now) name.now (kind_view kind.now)) }
@@ -199,6 +213,7 @@ impl<'a> Assigned<'a> {
         Ok(is_target(kind, name) || self.some_assigns(name, calls.as_slice()))
     }
 
+    /// Whether one of these statements itself assigns this variable. Err is want of memory.
     fn kinds_assign(
         &self,
         alloc: Global,
@@ -217,6 +232,8 @@ impl<'a> Assigned<'a> {
         Ok(false)
     }
 
+    /// Whether a statement of a function assigns this nonvolatile variable where nothing hides it,
+    /// also through an argument of a call. Err is want of memory.
     fn function_assigns(
         &self,
         alloc: Global,
@@ -235,6 +252,8 @@ impl<'a> Assigned<'a> {
         self.kinds_assign(alloc, name, kinds.as_slice())
     }
 
+    /// Of each function, whether its own statements assign this nonvolatile variable. Err is want
+    /// of memory.
     fn tests(
         &self,
         alloc: Global,

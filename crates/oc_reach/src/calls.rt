@@ -40,6 +40,7 @@ fn add_links(
     Ok(())
 }
 
+/// A link from each function, by its place, to each function that it calls. Err is want of memory.
 fn call_links(
     alloc: Global,
     functions: &[Function],
@@ -68,6 +69,7 @@ pub fn has_param(params: &[Param], name: &Name) -> bool
     false
 }
 
+/// Whether the name stands in one of these statements itself.
 fn some_names(kinds: &[&StmtKind], name: &Name) -> bool
     ensures { result ≡ list_any (is_named name.now) (kinds_seen kinds.now) }
 {
@@ -79,6 +81,8 @@ fn some_names(kinds: &[&StmtKind], name: &Name) -> bool
     false
 }
 
+/// Whether a function names this nonvolatile variable where none of its own hides it. Err is want
+/// of memory.
 fn function_mentions(alloc: Global, function: &Function, name: &Name) -> Result<bool, AllocError>
     ensures { IfOk result (λ b. b ≡ function_mentions name.now (function_view function.now)) }
 {
@@ -90,6 +94,7 @@ fn function_mentions(alloc: Global, function: &Function, name: &Name) -> Result<
     Ok(some_names(kinds.as_slice(), name))
 }
 
+/// Of each function, whether it names this nonvolatile variable. Err is want of memory.
 fn mention_tests(
     alloc: Global,
     functions: &[Function],

@@ -8,6 +8,7 @@ ghost use Rattle.oc_reach.specs.Few.{few};
 use oc_tree::name::Name;
 use oc_tree::tree::{Arg, Call, Expr, Right, StmtKind};
 
+/// How often a name stands where one name stands: once, if it is the same one.
 fn once(same: bool) -> u8
     ensures value { result ≡ few (once same) }
     ensures small { result ≤ 2 }
@@ -15,6 +16,7 @@ fn once(same: bool) -> u8
     if same { 1 } else { 0 }
 }
 
+/// The sum of two such counts, where 2 stands for more than one.
 fn plus(a: u8, b: u8) -> u8
     requires a { a ≤ 2 }
     requires b { b ≤ 2 }
@@ -44,6 +46,7 @@ pub fn expr_mentions(expr: &Expr, name: &Name) -> u8
     }
 }
 
+/// How often a name stands in an argument: not, once, or 2 for more.
 #[cycle(mentions)]
 fn arg_mentions(arg: &Arg, name: &Name) -> u8
     ensures value { result ≡ few (arg_mentions name.now (arg_view arg.now)) }
@@ -55,6 +58,8 @@ fn arg_mentions(arg: &Arg, name: &Name) -> u8
     }
 }
 
+/// How often a name stands in the arguments of a call, also of one inside them: not, once, or 2 for
+/// more.
 #[cycle(mentions)]
 fn inner_mentions(call: &Call, name: &Name) -> u8
     ensures value { result ≡ few (inner_mentions name.now (call_view call.now)) }
@@ -67,6 +72,7 @@ fn inner_mentions(call: &Call, name: &Name) -> u8
     mentions
 }
 
+/// How often a name stands on the right side of a `let` or an assignment: not, once, or 2 for more.
 fn right_mentions(right: &Right, name: &Name) -> u8
     ensures value { result ≡ few (right_mentions name.now (right_view right.now)) }
     ensures small { result ≤ 2 }
@@ -78,6 +84,8 @@ fn right_mentions(right: &Right, name: &Name) -> u8
     }
 }
 
+/// How often a name stands in a statement's own expressions and arguments, with those inside a
+/// call: not, once, or 2 for more.
 fn kind_mentions(kind: &StmtKind, name: &Name) -> u8
     ensures value { result ≡ few (kind_mentions name.now (kind_view kind.now)) }
     ensures small { result ≤ 2 }
@@ -120,6 +128,7 @@ pub fn own_mentions(kind: &StmtKind, name: &Name) -> u8
     kind_mentions(kind, name)
 }
 
+/// Whether a statement assigns the variable of this name, an element of it, or what it refers to.
 fn targets(kind: &StmtKind, name: &Name) -> bool
     ensures { result ≡ targets name.now (kind_view kind.now) }
 {
@@ -131,6 +140,7 @@ fn targets(kind: &StmtKind, name: &Name) -> bool
     }
 }
 
+/// Whether a statement annotates the variable of this name.
 fn annotates(kind: &StmtKind, name: &Name) -> bool
     ensures { result ≡ annotates name.now (kind_view kind.now) }
 {

@@ -12,6 +12,7 @@ use oc_tree::tree::{Function, Param};
 use std::alloc::{AllocError, Global};
 use std::marker::Model;
 
+/// Adds the parameters of one function to those of all. Err is want of memory.
 fn add_params<'a>(params: &'a [Param], all: &mut Vec<&'a Param>) -> Result<(), AllocError>
     ensures { OnOk result (vec_len all.new ≡ vec_len all.old + length params.now) }
 {
@@ -37,6 +38,7 @@ fn first_params(alloc: Global, functions: &[Function]) -> Result<(Vec<usize>, us
     Ok((firsts, all.len()))
 }
 
+/// Whether a function takes `&mut` for its parameter at a place; not so where it has fewer.
 fn is_mutable_at(params: &[Param], place: usize) -> bool
     ensures { result ≡ get_or (map (λ p. is_mutable p.passing) params.now) place false }
 {

@@ -8,6 +8,7 @@ use oc_tree::name::Name;
 use oc_tree::tree::{Arg, Block, Call, Expr, Function, Right, StmtKind};
 use std::alloc::{AllocError, Global};
 
+/// Adds the calls in an expression, in the order in which they end. Err is want of memory.
 #[cycle(calls)]
 fn expr_calls<'a>(expr: &'a Expr, calls: &mut Vec<&'a Call>) -> Result<(), AllocError>
     ensures { OnOk result
@@ -30,6 +31,7 @@ fn expr_calls<'a>(expr: &'a Expr, calls: &mut Vec<&'a Call>) -> Result<(), Alloc
     }
 }
 
+/// Adds the calls in an argument, in the order in which they end. Err is want of memory.
 #[cycle(calls)]
 fn arg_calls<'a>(arg: &'a Arg, calls: &mut Vec<&'a Call>) -> Result<(), AllocError>
     ensures { OnOk result
@@ -55,6 +57,8 @@ fn call_calls<'a>(call: &'a Call, calls: &mut Vec<&'a Call>) -> Result<(), Alloc
     Ok(())
 }
 
+/// Adds the calls on the right side of a `let` or an assignment, in the order in which they end.
+/// Err is want of memory.
 fn right_calls<'a>(right: &'a Right, calls: &mut Vec<&'a Call>) -> Result<(), AllocError>
     ensures { OnOk result
         (calls_seen calls.new.items
@@ -94,6 +98,7 @@ pub fn own_calls<'a>(kind: &'a StmtKind, calls: &mut Vec<&'a Call>) -> Result<()
     }
 }
 
+/// Whether a variable of this name hides the one that is looked for, if any is.
 fn hides(of: Option<&Name>, name: &Name) -> bool
     ensures { result ≡ hides (name_seen of.entry) name.now }
 {
@@ -103,6 +108,7 @@ fn hides(of: Option<&Name>, name: &Name) -> bool
     }
 }
 
+/// Whether a statement declares a variable that hides the one that is looked for behind it.
 fn kind_hides(of: Option<&Name>, kind: &StmtKind) -> bool
     ensures { result ≡ kind_hides (name_seen of.entry) (kind_view kind.now) }
 {
@@ -112,6 +118,8 @@ fn kind_hides(of: Option<&Name>, kind: &StmtKind) -> bool
     }
 }
 
+/// Adds a statement and those inside it, in source order; of a name, those where no variable hides
+/// it. Err is want of memory.
 #[cycle(kinds)]
 fn kind_kinds<'a>(
     kind: &'a StmtKind,
@@ -143,6 +151,7 @@ fn kind_kinds<'a>(
     }
 }
 
+/// Adds the statements of an `else`, if there is one, and those inside them. Err is want of memory.
 #[cycle(kinds)]
 fn else_kinds<'a>(
     otherwise: &'a Option<Block>,

@@ -14,6 +14,7 @@ use oc_tree::name::Name;
 use oc_tree::tree::{Arg, Call, Expr, Function, StmtKind};
 use std::alloc::{AllocError, Global};
 
+/// The name of a variable that is a whole expression; none for any other expression.
 fn only_name(expr: &Expr) -> Option<&Name>
     ensures { name_seen result ≡ alone (expr_view expr.now) }
 {
@@ -23,6 +24,7 @@ fn only_name(expr: &Expr) -> Option<&Name>
     }
 }
 
+/// Adds a link where both of its ends are there. Err is want of memory.
 fn add_link(
     from: Option<usize>,
     to: Option<usize>,
@@ -44,6 +46,8 @@ fn add_link(
     }
 }
 
+/// Adds the link of a parameter that is itself the argument at a place, and so passed on to a
+/// `&mut` parameter of the called function. Err is want of memory.
 fn add_arg(
     params: &Params,
     first: usize,
@@ -69,6 +73,8 @@ fn add_arg(
     }
 }
 
+/// Adds the links of the parameters that these arguments pass on to the called function. Err is
+/// want of memory.
 fn add_args(
     params: &Params,
     first: usize,
@@ -90,6 +96,8 @@ fn add_args(
     Ok(())
 }
 
+/// Adds the links of the parameters that a call passes on; none where there is no such function.
+/// Err is want of memory.
 fn add_call(
     calls: &Calls,
     params: &Params,
@@ -110,6 +118,7 @@ fn add_call(
     }
 }
 
+/// Adds the links of the parameters that these calls pass on. Err is want of memory.
 fn add_calls(
     calls: &Calls,
     params: &Params,
@@ -131,6 +140,8 @@ fn add_calls(
     Ok(())
 }
 
+/// Adds the links of the parameters that a function passes on, of which the first has the number
+/// `first`. Err is want of memory.
 fn add_function(
     alloc: Global,
     calls: &Calls,
@@ -169,6 +180,7 @@ pub fn pass_links(
     Ok(links)
 }
 
+/// The name of the array or reference that a statement writes through.
 fn written_through(kind: &StmtKind) -> Option<&Name>
     ensures { name_seen result ≡ written_through (kind_view kind.now) }
 {
@@ -178,6 +190,8 @@ fn written_through(kind: &StmtKind) -> Option<&Name>
     }
 }
 
+/// Adds the numbers of the parameters that these statements write through, where the first of their
+/// function has the number `first`. Err is want of memory.
 fn add_written(
     first: usize,
     names: &Table,
@@ -198,6 +212,7 @@ fn add_written(
     Ok(())
 }
 
+/// Adds the numbers of the parameters that a function writes through itself. Err is want of memory.
 fn add_writes(
     alloc: Global,
     first: usize,

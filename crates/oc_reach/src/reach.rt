@@ -26,6 +26,7 @@ impl Model for Reach {
         × ((u v : ℕ) → is_in (get_or (rows r.leaders.items) v []) u ≡ linked r.links.items u v) };
 }
 
+/// Lists that are empty, one for each number below the bound. Err is want of memory.
 fn no_leaders(alloc: Global, bound: usize) -> Result<Vec<Vec<usize>>, AllocError>
     ensures bound { IfOk result (λ r. vec_len r ≡ bound) }
     ensures none { IfOk result (λ r. rows r.items ≡ replicate bound []) }
@@ -37,6 +38,7 @@ fn no_leaders(alloc: Global, bound: usize) -> Result<Vec<Vec<usize>>, AllocError
     Ok(leaders)
 }
 
+/// Of each number below the bound, those that lead to it directly. Err is want of memory.
 fn leaders_of(
     alloc: Global,
     bound: usize,

@@ -27,6 +27,7 @@ impl<'a> Model for Numbers<'a> {
 }
 
 impl<'a> Numbers<'a> {
+    /// No names.
     fn new(alloc: Global) -> Numbers<'a>
         ensures { result ≡ [] }
     {
@@ -35,6 +36,7 @@ impl<'a> Numbers<'a> {
         }
     }
 
+    /// The number of a name, where it is there.
     fn get(&self, name: &Name) -> Option<usize>
         ensures { result ≡ number_in self.now name.now }
     {
@@ -45,6 +47,7 @@ impl<'a> Numbers<'a> {
         }
     }
 
+    /// Adds a name that isn't there, with its number. Err is want of memory.
     fn add(&mut self, name: &'a Name, number: usize) -> Result<(), AllocError>
         requires { number_in self.old name.now ≡ None }
         ensures { OnOk result (self.new ≡ self.old ++ (name.now, number) ∷ []) }
@@ -69,6 +72,8 @@ impl<'a> Numbers<'a> {
     }
 }
 
+/// The names with their places, of several that are the same that of the first. Err is want of
+/// memory.
 fn numbers_of<'a>(alloc: Global, names: &[&'a Name]) -> Result<Numbers<'a>, AllocError>
     ensures { IfOk result (λ m. (x : List ℕ) → number_in m x ≡ place (names_seen names.now) x) }
 {

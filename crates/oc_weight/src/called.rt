@@ -14,6 +14,7 @@ use oc_reach::table::Table;
 use oc_tree::tree::{Call, Function};
 use std::alloc::{AllocError, Global};
 
+/// The places of the functions that these calls call, in their order. Err is want of memory.
 fn called_places(alloc: Global, table: &Table, calls: &[&Call]) -> Result<Vec<usize>, AllocError>
     ensures { IfOk result (λ v. v.items ≡ called_places table.now (calls_seen calls.now)) }
 {

@@ -12,6 +12,8 @@ use crate::caps::{cap, greater, plus, times};
 use oc_reach::table::{Table, result_at};
 use oc_tree::tree::{Arg, BinaryOp, Block, Call, Expr, Function, Right, StmtKind};
 
+/// How many instructions an operator takes at most, with its sides, which take `a` and `b`; the cap
+/// where there are more.
 fn binary_cost(op: BinaryOp, a: u64, b: u64) -> u64
     requires a { a ≤ weight_cap }
     requires b { b ≤ weight_cap }
@@ -35,6 +37,7 @@ fn binary_cost(op: BinaryOp, a: u64, b: u64) -> u64
     }
 }
 
+/// How many instructions an expression without pulls takes at most; the cap where there are more.
 #[tactic(auto, using(crate::proofs::CappedLaws::binary_capped))]
 fn expr_cost(expr: &Expr) -> u64
     ensures cost { result ≡ capped (expr_cost (expr_view expr.now)) }
@@ -50,6 +53,7 @@ fn expr_cost(expr: &Expr) -> u64
     }
 }
 
+/// How many instructions an argument takes at most; the cap where there are more.
 fn arg_cost(arg: &Arg) -> u64
     ensures cost { result ≡ capped (arg_cost (arg_view arg.now)) }
     ensures small { result ≤ weight_cap }
@@ -60,6 +64,7 @@ fn arg_cost(arg: &Arg) -> u64
     }
 }
 
+/// How many instructions arguments take at most together; the cap where there are more.
 fn args_cost(args: &[Arg]) -> u64
     ensures cost { result ≡ capped (args_cost (args_view args.now)) }
     ensures small { result ≤ weight_cap }
@@ -88,6 +93,8 @@ pub fn known_of(weights: &[u64], place: Option<usize>) -> u64
     }
 }
 
+/// How many instructions a call takes at most, with its arguments and the called function; the cap
+/// where there are more.
 fn call_cost(functions: &[Function], table: &Table, weights: &[u64], call: &Call) -> u64
     requires { table.now ≡ function_names (map function_view functions.now) }
     ensures cost { result
@@ -100,6 +107,8 @@ fn call_cost(functions: &[Function], table: &Table, weights: &[u64], call: &Call
     )
 }
 
+/// How many instructions the right side of a `let` or an assignment takes at most; the cap where
+/// there are more.
 fn right_cost(functions: &[Function], table: &Table, weights: &[u64], right: &Right) -> u64
     requires { table.now ≡ function_names (map function_view functions.now) }
     ensures cost { result
@@ -113,6 +122,7 @@ fn right_cost(functions: &[Function], table: &Table, weights: &[u64], right: &Ri
     }
 }
 
+/// Whether the called function has a result; not so where there is no such function.
 fn has_result(functions: &[Function], table: &Table, call: &Call) -> bool
     requires { table.now ≡ function_names (map function_view functions.now) }
     ensures { result ≡ has_result (map function_view functions.now) (call_view call.now) }
@@ -159,6 +169,7 @@ fn call_only_cost(functions: &[Function], table: &Table, weights: &[u64], call: 
     plus(call_cost(functions, table, weights, call), dropped)
 }
 
+/// How many turns a `for` from `from` up to, but without, `to` has.
 fn turns(from: i32, to: i32) -> u32
     ensures { result ≡ turns from to }
 {
@@ -242,6 +253,8 @@ fn while_cost(
     plus(6, times(bound, turn))
 }
 
+/// How many instructions a statement takes at most, with those inside it; the cap where there are
+/// more.
 #[cycle(cost)]
 #[tactic(auto, using(crate::proofs::CappedLaws::else_capped))]
 fn kind_cost(functions: &[Function], table: &Table, weights: &[u64], kind: &StmtKind) -> u64

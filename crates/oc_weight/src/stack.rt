@@ -12,6 +12,8 @@ use crate::cost::known_of;
 use oc_reach::table::Table;
 use oc_tree::tree::{Arg, BinaryOp, Block, Call, Expr, Function, Right, StmtKind};
 
+/// How many words of the frame a statement takes for the variables and counters that it and those
+/// inside it declare; the cap where there are more.
 #[cycle(slots)]
 fn kind_slots(kind: &StmtKind) -> u64
     ensures slots { result ≡ capped (kind_slots (kind_view kind.now)) }
@@ -30,6 +32,8 @@ fn kind_slots(kind: &StmtKind) -> u64
     }
 }
 
+/// How many words of the frame the statements of an `else` take, if there is one; the cap where
+/// there are more.
 #[cycle(slots)]
 fn else_slots(otherwise: &Option<Block>) -> u64
     ensures slots { result ≡ capped (else_slots (else_view otherwise.now)) }
@@ -41,6 +45,7 @@ fn else_slots(otherwise: &Option<Block>) -> u64
     }
 }
 
+/// How many words of the frame the statements of a block take; the cap where there are more.
 #[cycle(slots)]
 fn block_slots(block: &Block) -> u64
     ensures slots { result ≡ capped (block_slots (block_view block.now)) }
@@ -53,6 +58,7 @@ fn block_slots(block: &Block) -> u64
     slots
 }
 
+/// The words of a frame that lead back to the caller: two, or none for `main`.
 fn link_words(function: &Function) -> u64
     ensures { result ≡ link_words (function_view function.now) }
 {
@@ -63,6 +69,8 @@ fn link_words(function: &Function) -> u64
     }
 }
 
+/// The words of a function's frame: its parameters, the way back, and its variables; the cap where
+/// there are more.
 fn frame(function: &Function) -> u64
     ensures frame { result ≡ capped (frame (function_view function.now)) }
     ensures small { result ≤ weight_cap }
@@ -74,6 +82,8 @@ fn frame(function: &Function) -> u64
     )
 }
 
+/// How many words an operator takes at most on top of the frame, where its sides take `a` and `b`;
+/// the cap where there are more.
 fn binary_depth(op: BinaryOp, a: u64, b: u64) -> u64
     requires a { a ≤ weight_cap }
     requires b { b ≤ weight_cap }
@@ -96,6 +106,8 @@ fn binary_depth(op: BinaryOp, a: u64, b: u64) -> u64
     }
 }
 
+/// How many words an expression without pulls takes at most on top of the frame; the cap where
+/// there are more.
 #[tactic(auto, using(crate::proofs::StackLaws::binary_capped))]
 fn expr_depth(expr: &Expr) -> u64
     ensures depth { result ≡ capped (expr_depth (expr_view expr.now)) }
@@ -114,6 +126,7 @@ fn expr_depth(expr: &Expr) -> u64
     }
 }
 
+/// How many words an argument takes at most on top of the frame; the cap where there are more.
 fn arg_depth(arg: &Arg) -> u64
     ensures depth { result ≡ capped (arg_depth (arg_view arg.now)) }
     ensures small { result ≤ weight_cap }
@@ -138,6 +151,8 @@ fn args_depth(args: &[Arg]) -> u64
     greater(depth, waiting)
 }
 
+/// How many words a call takes at most on top of the frame, with the stack of the called function;
+/// the cap where there are more.
 fn call_depth(functions: &[Function], table: &Table, stacks: &[u64], call: &Call) -> u64
     requires { table.now ≡ function_names (map function_view functions.now) }
     ensures depth { result
@@ -148,6 +163,8 @@ fn call_depth(functions: &[Function], table: &Table, stacks: &[u64], call: &Call
     greater(1, greater(args_depth(call.args.as_slice()), callee))
 }
 
+/// How many words the right side of a `let` or an assignment takes at most on top of the frame; the
+/// cap where there are more.
 fn right_depth(functions: &[Function], table: &Table, stacks: &[u64], right: &Right) -> u64
     requires { table.now ≡ function_names (map function_view functions.now) }
     ensures depth { result
@@ -161,6 +178,8 @@ fn right_depth(functions: &[Function], table: &Table, stacks: &[u64], right: &Ri
     }
 }
 
+/// How many words an `else` takes at most on top of the frame, if there is one; the cap where there
+/// are more.
 #[cycle(depth)]
 fn else_depth(
     functions: &[Function],
@@ -180,6 +199,8 @@ fn else_depth(
     }
 }
 
+/// How many words a statement takes at most on top of the frame, with those inside it; the cap
+/// where there are more.
 #[cycle(depth)]
 fn kind_depth(functions: &[Function], table: &Table, stacks: &[u64], kind: &StmtKind) -> u64
     requires { table.now ≡ function_names (map function_view functions.now) }
@@ -225,6 +246,7 @@ fn kind_depth(functions: &[Function], table: &Table, stacks: &[u64], kind: &Stmt
     }
 }
 
+/// How many words a block takes at most on top of the frame; the cap where there are more.
 #[cycle(depth)]
 fn block_depth(functions: &[Function], table: &Table, stacks: &[u64], block: &Block) -> u64
     requires { table.now ≡ function_names (map function_view functions.now) }

@@ -26,6 +26,7 @@ use oc_tree::marked::{Marked, Region};
 use oc_tree::said::Target;
 use std::alloc::{AllocError, Global};
 
+/// How many words a target has.
 fn target_words(target: Target) -> u32
     ensures { result ≡ target_words target }
 {
@@ -98,6 +99,7 @@ fn all_budgets(
     Ok(budgets)
 }
 
+/// The greatest of these budgets, or 0 where there are none.
 fn greatest(budgets: &[u64]) -> u64
     ensures { result ≡ greatest 0 budgets.now }
 {
@@ -120,6 +122,8 @@ fn safe_for(stack: u32, budgets: &[u64]) -> u64
     }
 }
 
+/// What is told of a program with regions, of which this is the image, by the effects of its
+/// statements: each number as it is, or the greatest that fits 64 bits. Err is want of memory.
 fn all_told(
     alloc: Global,
     marked: &Marked,

@@ -6,6 +6,8 @@ ghost use Rattle.oc_tree.specs.Weight.{arg_cost, args_cost, binary_cost, expr_co
 use crate::sums::{greater, plus};
 use oc_tree::tree::{Arg, BinaryOp, Expr};
 
+/// How many instructions an operator takes at most, with its sides, which take `a` and `b`; none
+/// where the number doesn't fit 64 bits.
 fn binary_cost(op: BinaryOp, a: u64, b: u64) -> Option<u64>
     ensures { IsFitted result (binary_cost op a b) }
 {
@@ -41,6 +43,7 @@ pub fn expr_cost(expr: &Expr) -> Option<u64>
     }
 }
 
+/// How many instructions an argument takes at most; none where the number doesn't fit 64 bits.
 fn arg_cost(arg: &Arg) -> Option<u64>
     ensures { IsFitted result (arg_cost (arg_view arg.now)) }
 {

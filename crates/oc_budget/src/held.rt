@@ -59,6 +59,8 @@ fn own_cost(
     }
 }
 
+/// What the statements inside of a statement cost that stand directly in the region; none where the
+/// number doesn't fit 64 bits.
 #[cycle(spent)]
 fn kind_spent(known: &Known, callees: &[u64], region: &Region, kind: &StmtKind) -> Option<u64>
     requires { callees.now ≡ costs known.now }
@@ -82,6 +84,8 @@ fn kind_spent(known: &Known, callees: &[u64], region: &Region, kind: &StmtKind) 
     }
 }
 
+/// What the statements of an `else` cost that stand directly in the region; none where the number
+/// doesn't fit 64 bits.
 #[cycle(spent)]
 fn else_spent(
     known: &Known,
@@ -100,6 +104,8 @@ fn else_spent(
     }
 }
 
+/// What the statements of a block and those inside them cost that stand directly in the region;
+/// none where the number doesn't fit 64 bits.
 #[cycle(spent)]
 fn block_spent(known: &Known, callees: &[u64], region: &Region, block: &Block) -> Option<u64>
     requires { callees.now ≡ costs known.now }

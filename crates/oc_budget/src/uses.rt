@@ -29,6 +29,7 @@ fn fresh_variables(alloc: Global, effects: &[Effect]) -> Result<Vec<VarId>, Allo
     Ok(fresh)
 }
 
+/// Whether one of the named variables is among the fresh ones.
 fn names_fresh(fresh: &[VarId], named: &[VarId]) -> bool
     ensures { result ≡ list_any (λ v. list_any (same_variable v) fresh.now) named.now }
 {

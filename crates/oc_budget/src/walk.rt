@@ -22,6 +22,8 @@ pub fn known_of(costs: &[u64], place: Option<usize>) -> u64
     }
 }
 
+/// The cost of a call, with its arguments and the called function; none where it doesn't fit 64
+/// bits.
 fn call_cost(known: &Known, costs: &[u64], call: &Call) -> Option<u64>
     ensures { IsFitted result
         (call_cost known.now.program.functions costs.now (call_view call.now)) }
@@ -30,6 +32,7 @@ fn call_cost(known: &Known, costs: &[u64], call: &Call) -> Option<u64>
     plus(arguments, known_of(costs, known.place(&call.function)))
 }
 
+/// The cost of the right side of a `let` or an assignment; none where it doesn't fit 64 bits.
 fn right_cost(known: &Known, costs: &[u64], right: &Right) -> Option<u64>
     ensures { IsFitted result
         (right_cost known.now.program.functions costs.now (right_view right.now)) }
@@ -60,6 +63,7 @@ fn call_only_cost(known: &Known, costs: &[u64], call: &Call) -> Option<u64>
     plus(call_cost(known, costs, call)?, dropped)
 }
 
+/// How many turns a `for` from `from` up to, but without, `to` has.
 fn turns(from: i32, to: i32) -> u32
     ensures { result ≡ turns from to }
 {

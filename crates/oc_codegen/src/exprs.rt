@@ -24,6 +24,7 @@ enum Sides {
     FirstFalse,
 }
 
+/// Which sides an operator evaluates, and the operator of the code where these are both.
 fn sides_of(op: BinaryOp) -> Sides
     ensures { result ≡ sides_of op }
 {
@@ -98,6 +99,7 @@ fn element(code: &mut Buffer, n: u32, words: u32) -> Result<(), AllocError>
     code.put(n, Instr::Get)
 }
 
+/// A truth value as a word: 1 or 0.
 fn word_of(value: bool) -> i32
     ensures { result ≡ truth value }
 {

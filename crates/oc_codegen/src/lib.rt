@@ -29,6 +29,7 @@ use oc_writes::WriteSets;
 use program::raw_image;
 use std::alloc::{AllocError, Global};
 
+/// The image of a marked program, as its parts. Err is want of memory.
 fn raw(alloc: Global, marked: &Marked, writes: &WriteSets) -> Result<RawImage, AllocError>
     requires { writes.now ≡ may_write marked.now }
     ensures { IfOk result

@@ -69,6 +69,8 @@ pub fn close_while(
     close_count(code, n, slot, start)
 }
 
+/// The code that writes `initial` to one word of an array, at the index that the counter in `slot`
+/// says; the words of the array stand behind it. Err is want of memory.
 fn fill(code: &mut Buffer, n: u32, slot: u32, initial: i32, words: u32) -> Result<(), AllocError>
     requires slots { slot + 1 + words < 2147483648 }
     requires room { length code.old + 5 < 2147483648 }

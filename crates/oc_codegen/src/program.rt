@@ -59,6 +59,7 @@ fn declare_nvs<'a>(
     }
 }
 
+/// Where a parameter is that is passed in slot `s`: there, or by reference at the address in it.
 fn param_slot(passing: Passing, s: u32) -> Slot
     ensures { slot_view result ≡ param_slot passing s }
 {
@@ -69,6 +70,7 @@ fn param_slot(passing: Passing, s: u32) -> Slot
     }
 }
 
+/// Whether a statement may write a parameter: one by value or by `&mut`.
 fn may_write(passing: Passing) -> bool
     ensures { result ≡ may_write passing }
 {
@@ -79,6 +81,7 @@ fn may_write(passing: Passing) -> bool
     }
 }
 
+/// How many words a variable of this type has.
 fn kind_words(kind: ValueKind) -> u32
     ensures { result ≡ kind_words kind }
 {
@@ -89,6 +92,7 @@ fn kind_words(kind: ValueKind) -> u32
     }
 }
 
+/// Declares a function's parameters, in slots from 0 on. Err is want of memory.
 fn declare_params<'a>(scope: &mut Scope<'a>, params: &'a [Param]) -> Result<(), AllocError>
     requires { length params.now ≤ parameter_limit }
     ensures { OnOk result (scope.new ≡ params_scope params.now 0 scope.old) }
@@ -107,12 +111,15 @@ fn declare_params<'a>(scope: &mut Scope<'a>, params: &'a [Param]) -> Result<(), 
     Ok(())
 }
 
+/// The words of a frame that lead back to the caller: two, or none for `main`.
 fn link_words(function: &Function) -> u32
     ensures { result ≡ link_words (function_view function.now) }
 {
     if function.name.is_main() { 0 } else { 2 }
 }
 
+/// The end of a function's code: the `halt` of `main`, or the `ret` of a function without a result.
+/// Err is want of memory.
 fn close(code: &mut Buffer, function: &Function, params: u32) -> Result<(), AllocError>
     requires params { params ≡ length function.now.params.items }
     requires room { HasRoom code.old (close_code (function_view function.now)) }
@@ -179,6 +186,7 @@ fn function<'a>(
     })
 }
 
+/// The nonvolatile variables as an image has them. Err is want of memory.
 fn image_nvs(alloc: Global, nv: &[NvDecl]) -> Result<Vec<ImageNv>, AllocError>
     ensures { IfOk result (λ v. v.items ≡ map image_nv nv.now) }
 {

@@ -224,6 +224,7 @@ pub fn probe(code: &mut Buffer, n: u32, is: bool, kind: ProbeKind) -> Result<(),
     }
 }
 
+/// The begin of a region at the statement `n`, if one begins there. Err is want of memory.
 fn enter(code: &mut Buffer, n: u32, region: Option<u32>) -> Result<(), AllocError>
     requires { HasRoom code.old (enter_code n region) }
     ensures { OnOk result (code.new ≡ code.old ++ enter_code n region) }
@@ -234,6 +235,7 @@ fn enter(code: &mut Buffer, n: u32, region: Option<u32>) -> Result<(), AllocErro
     }
 }
 
+/// The end of a region at the statement `n`, if one ends there. Err is want of memory.
 fn commit(code: &mut Buffer, n: u32, region: Option<u32>) -> Result<(), AllocError>
     requires { HasRoom code.old (commit_code n region) }
     ensures { OnOk result (code.new ≡ code.old ++ commit_code n region) }
@@ -292,6 +294,8 @@ pub fn test(
     expr(code, scope, n, condition)
 }
 
+/// Whether a probe before a statement says that it uses a fresh variable. A `while` has a probe at
+/// each test.
 fn begins_use(scope: &Scope, kind: &StmtKind) -> bool
     ensures { result ≡ begins_use (is_fresh_in scope.now) (kind_view kind.now) }
 {
@@ -301,6 +305,8 @@ fn begins_use(scope: &Scope, kind: &StmtKind) -> bool
     }
 }
 
+/// Whether a probe behind a statement says that its use is over. A `while` and a `return` have
+/// theirs in their own code.
 fn ends_use(scope: &Scope, kind: &StmtKind) -> bool
     ensures { result ≡ ends_use (is_fresh_in scope.now) (kind_view kind.now) }
 {
@@ -330,6 +336,8 @@ pub fn before(
     probe(code, n, begins_use(scope, kind), ProbeKind::Use)
 }
 
+/// The end of the region that ends with the statement `n`, if one does; a `return` has it in its
+/// own code. Err is want of memory.
 fn last(code: &mut Buffer, n: u32, region: Option<u32>, kind: &StmtKind) -> Result<(), AllocError>
     requires { HasRoom code.old (last_code n region (kind_view kind.now)) }
     ensures { OnOk result (code.new ≡ code.old ++ last_code n region (kind_view kind.now)) }

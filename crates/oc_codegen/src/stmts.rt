@@ -42,6 +42,8 @@ fn close_then(code: &mut Buffer, n: u32, test: u32) -> Result<u32, AllocError>
     Ok(jump)
 }
 
+/// A `for` whose counter is in a slot. It answers the slot behind those of its variables and
+/// counters. Err is want of memory.
 #[cycle(stmts)]
 fn for_in<'a>(
     code: &mut Buffer,

@@ -9,6 +9,7 @@ ghost use Rattle.oc_code.specs.Scope.{is_fresh_in};
 use crate::scope::Scope;
 use oc_tree::tree::{Arg, Call, Expr, Right, StmtKind};
 
+/// Whether an expression names a fresh variable.
 #[cycle(fresh)]
 fn expr_has(scope: &Scope, expr: &Expr) -> bool
     ensures { result ≡ list_any (is_fresh_in scope.now) (expr_named (expr_view expr.now)) }
@@ -26,6 +27,7 @@ fn expr_has(scope: &Scope, expr: &Expr) -> bool
     }
 }
 
+/// Whether an argument names or lends a fresh variable.
 #[cycle(fresh)]
 fn arg_has(scope: &Scope, arg: &Arg) -> bool
     ensures { result ≡ list_any (is_fresh_in scope.now) (arg_named (arg_view arg.now)) }
@@ -37,6 +39,7 @@ fn arg_has(scope: &Scope, arg: &Arg) -> bool
     }
 }
 
+/// Whether one of these arguments names or lends a fresh variable.
 #[cycle(fresh)]
 fn args_have(scope: &Scope, args: &[Arg]) -> bool
     ensures { result ≡ list_any (is_fresh_in scope.now) (args_named (args_view args.now)) }
@@ -49,6 +52,7 @@ fn args_have(scope: &Scope, args: &[Arg]) -> bool
     false
 }
 
+/// Whether an argument of a call names or lends a fresh variable.
 #[cycle(fresh)]
 fn call_has(scope: &Scope, call: &Call) -> bool
     ensures { result ≡ list_any (is_fresh_in scope.now) (call_named (call_view call.now)) }
@@ -56,6 +60,7 @@ fn call_has(scope: &Scope, call: &Call) -> bool
     args_have(scope, call.args.as_slice())
 }
 
+/// Whether the right side of a `let` or an assignment names a fresh variable.
 fn right_has(scope: &Scope, right: &Right) -> bool
     ensures { result ≡ list_any (is_fresh_in scope.now) (right_named (right_view right.now)) }
 {
@@ -66,6 +71,8 @@ fn right_has(scope: &Scope, right: &Right) -> bool
     }
 }
 
+/// Whether a statement's own expressions or arguments name a fresh variable. A target is only
+/// assigned.
 fn kind_has(scope: &Scope, kind: &StmtKind) -> bool
     ensures { result ≡ list_any (is_fresh_in scope.now) (kind_named (kind_view kind.now)) }
 {

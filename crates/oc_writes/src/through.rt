@@ -99,6 +99,8 @@ impl<'a> Through<'a> {
         false
     }
 
+    /// Whether a call, if there is one, lends the variable to a parameter that the called function
+    /// assigns through, itself or by what it calls.
     fn call_assigns(&self, call: &Option<Called>, var: VarId) -> bool
         ensures { result ≡ call_assigns self.now (option_map called_view call.now) var }
     {

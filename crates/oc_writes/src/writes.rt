@@ -103,6 +103,8 @@ fn add_stored(
     Ok(())
 }
 
+/// Whether one of these statements may assign the parameter at a place, also by the functions that
+/// it lends it to.
 fn assigns_param(through: &Through, effects: &[&Effect], index: u32) -> bool
     ensures { result ≡ list_any (assigns through.now (AParam index)) (effects_seen effects.now) }
 {
@@ -114,6 +116,7 @@ fn assigns_param(through: &Through, effects: &[&Effect], index: u32) -> bool
     false
 }
 
+/// How many words a variable of this type has.
 fn words_of(kind: ValueKind) -> u32
     ensures { result ≡ words_of kind }
 {
@@ -147,6 +150,8 @@ fn add_params(
     Ok(())
 }
 
+/// What a region may overwrite: nonvolatile variables, then the parameters of its function. Err is
+/// want of memory.
 fn region_targets(
     alloc: Global,
     program: &Program,
@@ -177,6 +182,7 @@ fn region_targets(
     Ok(targets)
 }
 
+/// What each of these regions may overwrite. Err is want of memory.
 fn targets_of(
     alloc: Global,
     program: &Program,
@@ -203,6 +209,8 @@ fn targets_of(
     Ok(all)
 }
 
+/// What each of these regions may overwrite, where it is known which functions assign which
+/// nonvolatile variable. Err is want of memory.
 fn tabled_targets<'p>(
     alloc: Global,
     program: &'p Program,
@@ -230,6 +238,7 @@ fn tabled_targets<'p>(
     )
 }
 
+/// What each of these regions of a program may overwrite. Err is want of memory.
 fn all_targets(
     alloc: Global,
     program: &Program,
@@ -246,6 +255,8 @@ fn all_targets(
     tabled_targets(alloc, program, effects, &assigned, regions)
 }
 
+/// What each region of a marked program may overwrite; it leaves every other nonvolatile variable
+/// alone. Err is want of memory.
 fn marked_targets(
     alloc: Global,
     marked: &Marked,

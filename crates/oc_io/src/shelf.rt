@@ -34,6 +34,8 @@ pub trait Shelf {
 
     ghost faults: { Self → ℕ };
 
+    /// The bytes of the file under a name, where it has at most `limit` of them; else why they
+    /// don't come. What stands on the shelf stays.
     fn fetch(&mut self, alloc: Global, name: &str, limit: usize) -> Result<Vec<u8>, ShelfError>
         ensures short { IfOk result (λ v. length v.items ≤ limit) }
         ensures whole { IfOk result (λ v. Gives (holds self.old name.now) v.items) }

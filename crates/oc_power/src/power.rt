@@ -49,6 +49,7 @@ impl From<Memory> for PowerError {
 /// Sums of times stay below this.
 const LIMIT: u64 = 1 << 63;
 
+/// Whether the row at hand is the header of a power file: `on,off`.
 fn has_header(rows: &Rows) -> bool
     ensures { result ≡ is_header rows.now.row }
 {

@@ -47,6 +47,8 @@ impl Model for Trace {
     ghost invariant = { λ a. All (IsPlaced (length a.long.items)) a.entries.items };
 }
 
+/// A period of so many steps with power and so many ticks without, and whether its checkpoint is
+/// lost.
 fn period(on: u32, off: u32, cut: bool) -> Period
     ensures { result ≡ record { on = on; off = off; cut = cut } }
 {

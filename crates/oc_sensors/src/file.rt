@@ -79,6 +79,7 @@ fn find_sensor(names: &[Name], name: &[u8]) -> Option<u32>
     None
 }
 
+/// Whether the row at hand is the header of a sensor file: `time,sensor,value`.
 fn has_header(rows: &Rows) -> bool
     ensures { result ≡ is_header rows.now.row }
 {

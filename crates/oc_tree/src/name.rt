@@ -69,6 +69,7 @@ pub struct Names {
     pub nvs: Vec<Name>,
 }
 
+/// A copy of a list of names. Err is want of memory.
 fn clone_all(alloc: Global, names: &[Name]) -> Result<Vec<Name>, AllocError>
     ensures { IfOk result (λ n. n.items ≡ names.now) }
 {

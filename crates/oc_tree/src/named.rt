@@ -9,6 +9,7 @@ use crate::name::Name;
 use crate::tree::{Arg, Call, Expr, Right, StmtKind};
 use std::alloc::AllocError;
 
+/// Adds the variables that an expression names, from the left. Err is want of memory.
 #[cycle(names)]
 fn add_expr<'a>(expr: &'a Expr, names: &mut Vec<&'a Name>) -> Result<(), AllocError>
     ensures { OnOk result
@@ -34,6 +35,7 @@ fn add_expr<'a>(expr: &'a Expr, names: &mut Vec<&'a Name>) -> Result<(), AllocEr
     }
 }
 
+/// Adds the variables that an argument names or lends. Err is want of memory.
 #[cycle(names)]
 fn add_arg<'a>(arg: &'a Arg, names: &mut Vec<&'a Name>) -> Result<(), AllocError>
     ensures { OnOk result
@@ -48,6 +50,8 @@ fn add_arg<'a>(arg: &'a Arg, names: &mut Vec<&'a Name>) -> Result<(), AllocError
     }
 }
 
+/// Adds the variables that the arguments of a call name or lend, from the left. Err is want of
+/// memory.
 #[cycle(names)]
 fn add_call<'a>(call: &'a Call, names: &mut Vec<&'a Name>) -> Result<(), AllocError>
     ensures { OnOk result
@@ -60,6 +64,7 @@ fn add_call<'a>(call: &'a Call, names: &mut Vec<&'a Name>) -> Result<(), AllocEr
     Ok(())
 }
 
+/// Adds the variables that the right side of a `let` or an assignment names. Err is want of memory.
 fn add_right<'a>(right: &'a Right, names: &mut Vec<&'a Name>) -> Result<(), AllocError>
     ensures { OnOk result
         (names_seen names.new.items
@@ -72,6 +77,8 @@ fn add_right<'a>(right: &'a Right, names: &mut Vec<&'a Name>) -> Result<(), Allo
     }
 }
 
+/// Adds the variables that a statement's own expressions and arguments name. A target is only
+/// assigned. Err is want of memory.
 fn add_kind<'a>(kind: &'a StmtKind, names: &mut Vec<&'a Name>) -> Result<(), AllocError>
     ensures { OnOk result
         (names_seen names.new.items

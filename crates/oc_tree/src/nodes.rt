@@ -24,6 +24,7 @@ pub fn expr_nodes(expr: &Expr) -> u64
     }
 }
 
+/// How many nodes of expressions an argument has.
 #[cycle(expression_nodes)]
 fn arg_nodes(arg: &Arg) -> u64
     requires { arg_nodes (arg_view arg.now) < 2 ^ 64 }
@@ -48,6 +49,7 @@ pub fn call_nodes(call: &Call) -> u64
     nodes
 }
 
+/// How many nodes of expressions the right side of a `let` or an assignment has.
 fn right_nodes(right: &Right) -> u64
     requires { right_nodes (right_view right.now) < 2 ^ 64 }
     ensures { result ≡ right_nodes (right_view right.now) }
@@ -59,6 +61,7 @@ fn right_nodes(right: &Right) -> u64
     }
 }
 
+/// How many nodes of expressions a statement has, with those of the statements inside it.
 #[cycle(statement_nodes)]
 fn kind_nodes(kind: &StmtKind) -> u64
     requires { kind_nodes (kind_view kind.now) < 2 ^ 64 }

@@ -30,6 +30,7 @@ fn without_regions(alloc: Global, checked: Checked) -> Marked
       regions = [];
     } }
 {
+    // For the proof alone: it tells that the program is checked.
     let _program = checked.program();
     Marked::new(checked, Vec::new(alloc), Vec::new(alloc))
 }
@@ -120,6 +121,7 @@ fn put_sets<O: Sink>(alloc: Global, out: &mut O) -> anyhow::Result<()> {
     )
 }
 
+/// Writes the tables of all reports on the standard output.
 fn main(rt: HostRuntime) -> anyhow::Result<()> {
     let alloc = rt.alloc();
     let mut out = StreamSink::new(io::writer(&rt));

@@ -20,6 +20,7 @@ fn add(counts: &mut [u64], place: usize) {
 }
 
 impl Totals {
+    /// Nothing is counted yet.
     fn new() -> Totals {
         Totals {
             bad: 0,
@@ -28,6 +29,7 @@ impl Totals {
         }
     }
 
+    /// Counts a file with this answer.
     fn add(&mut self, answer: Answer) {
         match answer {
             Answer::Bad { .. } => self.bad = self.bad.saturating_add(1),
@@ -36,6 +38,7 @@ impl Totals {
         }
     }
 
+    /// Writes how many files are bad, and of each other answer that came how often it did.
     fn put<O: Sink>(&self, alloc: Global, out: &mut O) -> anyhow::Result<()> {
         let bad = format!(in alloc; "{} bad\n", self.bad)?;
         out.put(bad.as_bytes())?;

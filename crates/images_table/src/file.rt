@@ -49,6 +49,7 @@ fn count<T>(list: &[T]) -> u32 {
 }
 
 impl File {
+    /// Writes numbers of four bytes, the least byte first.
     fn put_numbers(&mut self, numbers: &[u32]) -> Result<(), AllocError> {
         for number in numbers {
             self.bytes.extend_from_slice(&number.to_le_bytes())?;
@@ -56,6 +57,7 @@ impl File {
         Ok(())
     }
 
+    /// Writes a text behind the number of its bytes.
     fn put_text(&mut self, text: &[u8]) -> Result<(), AllocError> {
         self.put_numbers(&[count(text)])?;
         self.bytes.extend_from_slice(text)?;
@@ -68,6 +70,7 @@ impl File {
         self.put_text(text.as_bytes())
     }
 
+    /// Writes so many names of this letter and a number, behind their count.
     fn put_names(&mut self, letter: char, count: u32) -> Result<(), AllocError> {
         self.put_numbers(&[count])?;
         for number in 0..count {
@@ -76,6 +79,7 @@ impl File {
         Ok(())
     }
 
+    /// Writes nonvolatile variables, each by its words and initial value, behind their count.
     fn put_words(&mut self, nvs: &[(u32, i32)]) -> Result<(), AllocError> {
         self.put_numbers(&[count(nvs)])?;
         let mut number: u32 = 0;
@@ -87,6 +91,8 @@ impl File {
         Ok(())
     }
 
+    /// Writes functions, each by its entry, parameters and frame, behind their count. The one that
+    /// the plan says is `main`.
     fn put_functions(&mut self, plan: &Plan) -> Result<(), AllocError> {
         self.put_numbers(&[count(plan.functions)])?;
         let mut number: u32 = 0;
@@ -102,6 +108,7 @@ impl File {
         Ok(())
     }
 
+    /// Writes so many regions, each with its targets, behind their count. Only the first has any.
     fn put_regions(&mut self, plan: &Plan) -> Result<(), AllocError> {
         self.put_numbers(&[plan.regions])?;
         for region in 0..plan.regions {

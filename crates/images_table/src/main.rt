@@ -52,6 +52,7 @@ fn put_case<O: Sink>(alloc: Global, name: &str, plan: &Plan, out: &mut O) -> any
     Ok(())
 }
 
+/// Writes what becomes of each of these images, under its name.
 fn put_cases<O: Sink>(alloc: Global, cases: &[Case], out: &mut O) -> anyhow::Result<()> {
     for (name, plan) in cases {
         put_case(alloc, name, plan, out)?;
@@ -130,6 +131,8 @@ fn put_change<O: Sink>(
     Ok(())
 }
 
+/// Writes what becomes of a file of an image, unchanged and with each of the changes that no image
+/// holds.
 fn put_fields<O: Sink>(alloc: Global, out: &mut O) -> anyhow::Result<()> {
     out.put(b"fields\n")?;
     let plan = fields::of_each_sort();
@@ -150,6 +153,7 @@ fn put_image<O: Sink>(alloc: Global, name: &str, plan: &Plan, out: &mut O) -> an
     put_changes(alloc, file_of(alloc, plan)?, out)
 }
 
+/// Writes the answers on all images and files on the standard output.
 fn main(rt: HostRuntime) -> anyhow::Result<()> {
     let alloc = rt.alloc();
     let mut out = StreamSink::new(io::writer(&rt));

@@ -10,12 +10,14 @@ use oc_tree::name::{Name, Names};
 use std::alloc::{AllocError, Global};
 use std::test::Fail;
 
+/// A list of this one name.
 fn named(alloc: Global, name: &[u8]) -> Result<Vec<Name>, AllocError> {
     let mut names = Vec::new(alloc);
     names.push(Name::new(Vec::from_slice(alloc, name)?))?;
     Ok(names)
 }
 
+/// The names of a sensor `t`, a port `r` and a nonvolatile variable `n`.
 fn sample_names(alloc: Global) -> Result<Names, AllocError> {
     let sensors = named(alloc, b"t")?;
     let ports = named(alloc, b"r")?;
@@ -45,6 +47,7 @@ fn lines_after(
     let mut out = MemorySink::new(alloc, 1000, fails)?;
     let mut sink = MeterSink::new(&mut out, &mut book);
     for piece in pieces {
+        // Where it fails, the pieces behind it are put all the same.
         let _ = sink.put(piece);
     }
     let mut err = MemorySink::new(alloc, 1000, Vec::new(alloc))?;

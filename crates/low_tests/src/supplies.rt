@@ -33,6 +33,8 @@ impl Supply for Dark {
     }
 }
 
+/// A period of so many steps with power and so many ticks without, and whether its checkpoint is
+/// lost.
 const fn period(on: u64, off: u64, cut: bool) -> Period {
     Period { on, off, cut }
 }

@@ -40,6 +40,7 @@ fn put_stmt<O: Sink>(alloc: Global, word: &str, stmt: u32, out: &mut O) -> anyho
     Ok(())
 }
 
+/// Writes what is said by an event, with names in the place of numbers.
 fn put_visible<O: Sink>(
     alloc: Global,
     names: &Names,
@@ -102,6 +103,7 @@ fn put_event<O: Sink>(
     Ok(())
 }
 
+/// How a run over the samples ended, as a word of the table.
 fn outcome_name(outcome: Outcome) -> &'static [u8] {
     match outcome {
         Outcome::Ended => b"Ended",
@@ -153,6 +155,7 @@ fn put_worked<O: Sink>(alloc: Global, worked: &Worked, out: &mut O) -> anyhow::R
     Ok(())
 }
 
+/// Writes the runs of all cases on the standard output.
 fn main(rt: HostRuntime) -> anyhow::Result<()> {
     let alloc = rt.alloc();
     let mut out = StreamSink::new(io::writer(&rt));

@@ -212,6 +212,7 @@ fn put_held<F: Shelf, O: Sink>(
     Ok(())
 }
 
+/// Writes on the standard output what each of the functions made.
 fn main(rt: HostRuntime) -> anyhow::Result<()> {
     let alloc = rt.alloc();
     let mut out = StreamSink::new(io::writer(&rt));

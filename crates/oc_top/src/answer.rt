@@ -220,6 +220,7 @@ pub fn put_lines<M: Meter, E: Sink>(
 {
     match put_all(answer, command, meters, err) {
         Ok(()) => {
+            // The sink counts a fault here, and the status is the answer's either way.
             let _ = err.flush();
         }
         Err(_) => {}

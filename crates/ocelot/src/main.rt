@@ -56,6 +56,8 @@ fn run(rt: &HostRuntime, words: &[String]) -> Result<u8, AllocError> {
     ocelot_with_standard(alloc, words, &mut shelf, &mut out, &mut err)
 }
 
+/// Does what the words of the command line ask for. Its exit status is that of the answer; words
+/// that aren't text are no command.
 fn main(rt: HostRuntime) -> ExitCode {
     let status = match words(&rt) {
         Ok(words) => run(&rt, words.as_slice()).unwrap_or(OUT_OF_MEMORY),

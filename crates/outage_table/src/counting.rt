@@ -14,6 +14,7 @@ use oc_isa::instr::{Instr, Placed};
 use oc_tree::name::Names;
 use std::alloc::{AllocError, Global};
 
+/// The program's names: one port. Err is want of memory.
 fn names(alloc: Global) -> Result<Names, AllocError>
     ensures { IfOk result (λ names. names_view names ≡ specs.names) }
 {
@@ -24,6 +25,7 @@ fn names(alloc: Global) -> Result<Names, AllocError>
     })
 }
 
+/// The program's code: four outputs and the end. Err is want of memory.
 fn code(alloc: Global) -> Result<Vec<Placed>, AllocError>
     ensures { IfOk result (λ code. code.items ≡ specs.code) }
 {

@@ -31,6 +31,7 @@ use program::{names, program};
 use std::alloc::Global;
 use std::io;
 
+/// A period of so many steps with power and so many ticks without, whose checkpoint is saved.
 fn period(on: u64, off: u64) -> Period
     ensures { result ≡ record { on = on; off = off; cut = false } }
 {
@@ -52,6 +53,7 @@ fn put_periods<O: Sink>(alloc: Global, periods: &[Period], out: &mut O) -> anyho
     Ok(())
 }
 
+/// The state of the area, as a word of the table.
 fn state_name(state: AreaState) -> &'static str {
     match state {
         AreaState::Fresh => "Fresh",
@@ -61,6 +63,7 @@ fn state_name(state: AreaState) -> &'static str {
     }
 }
 
+/// Writes the state of the area and its words, in one line.
 fn put_area<O: Sink>(alloc: Global, area: &Area, out: &mut O) -> anyhow::Result<()> {
     let state = format!(in alloc; "area {}", state_name(area.state()))?;
     out.put(state.as_bytes())?;
@@ -150,6 +153,7 @@ fn count_over<O: Sink>(
     put_count(alloc, "left", count_left(supply), out)
 }
 
+/// Writes all runs on the standard output.
 fn main(rt: HostRuntime) -> anyhow::Result<()> {
     let alloc = rt.alloc();
     let mut out = StreamSink::new(io::writer(&rt));

@@ -40,6 +40,7 @@ pub fn placed(site: u32, instr: Instr) -> Placed
     Placed { instr, site }
 }
 
+/// A probe of this kind of the statement `n`.
 fn probe(kind: ProbeKind, n: u32) -> Placed
     ensures { result ≡ specs.placed n (Instr.Probe kind n) }
 {
@@ -95,6 +96,7 @@ pub fn main_function(alloc: Global, frame: u32) -> Result<ImageFunction, AllocEr
     })
 }
 
+/// A nonvolatile variable of one word with this initial value.
 fn word(initial: i32) -> ImageNv
     ensures { result ≡ specs.word initial }
 {

@@ -11,8 +11,8 @@ use Rattle.oc_items.specs.Text.{full_text, is_over}
 use Rattle.oc_audit.specs.Files.{IsFile, IsReportFile, IsBadLine, ended, Begins}
 use Rattle.oc_audit.specs.Taking.{Taken, TakesItem, TakesWords, TakesNone, has_no_feed, IsRead, AreNames}
 
--- What was read begins a report file, and a line that isn't taken begins none behind it; a line that is taken is read; and
--- no report file ends where lines are missing, or in a line
+-- What was read begins a report file, and a line that isn't taken begins none behind it; a line that is taken is read;
+-- and no report file ends where lines are missing, or in a line
 pub record ReadsLines (names : NameLists) (sizes : List ℕ) : Type 0 where
   pub begun : (done : List (List ℕ)) (s : Taken)
       → IsRead names sizes done s → Begins names sizes done

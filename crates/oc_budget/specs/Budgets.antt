@@ -44,8 +44,8 @@ abbrev pub greatest : ℕ → List ℕ → ℕ
 greatest b [] = b
 greatest b (c ∷ cs) = greatest (max b c) cs
 
--- the steps of a period that suffice, with `w` words of stack: two steps to read the state and to resume, those of a restore,
--- those of a region's entry, and its budget
+-- the steps of a period that suffice, with `w` words of stack: two steps to read the state and to resume, those of a
+-- restore, those of a region's entry, and its budget
 abbrev pub safe_for : (w : ℕ) → List ℕ → ℕ
 safe_for w [] = w + 6
 safe_for w (b ∷ bs) = 2 * w + 9 + greatest b bs

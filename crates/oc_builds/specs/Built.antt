@@ -16,7 +16,8 @@ MarkedImagesBreakNoRule =
     (m : TMarked) → IsMarked m → (address rule : ℕ)
     → Broken (code_of m.program m.regions (may_write m)) address rule → ⊥
 
--- where its names are names of the language and its lengths fit the numbers of a file, a file of its bytes holds this image
+-- where its names are names of the language and its lengths fit
+-- the numbers of a file, a file of its bytes holds this image
 abbrev pub FitsFiles : Parts → Type 0
 FitsFiles image =
     IsSmall image → All (λ f. IsName f.name) image.functions → AreImage (image_bytes image) image

@@ -23,8 +23,8 @@ IsVariablePlace (Local l) = Unit {0}
 IsVariablePlace (Global g) = Unit {0}
 IsVariablePlace q = ⊥
 
--- Where a function runs over variables of its own, each variable that the rules see has a place of its own, the names of
--- nonvolatile variables stand for these alone, and a name is a reference where the rules say so.
+-- Where a function runs over variables of its own, each variable that the rules see has a place of its own, the names
+-- of nonvolatile variables stand for these alone, and a name is a reference where the rules say so.
 pub record Stands (p : TProgram) (scope : Scope) (env : List Binding) (σ : Store) : Type 0 where
   pub found : (x : Text) → is_variable p scope x ≡ true → place_of env x ≡ Nowhere → ⊥
   pub local : (x : Text) (l : ℕ) → place_of env x ≡ Local l → l < length σ.locals
@@ -108,8 +108,8 @@ StatementsMake =
 
 -- ---- a call as a whole
 
--- What a call that breaks no rule does: it runs the function's body over variables of its own, which stand as the rules see them,
--- and copies them back.
+-- What a call that breaks no rule does: it runs the function's body over variables of its own, which stand as the
+-- rules see them, and copies them back.
 pub record DoesCopy (p : TProgram)
     (regions : List TRegion) (depth : ℕ) (f : Text) (ps : List Passed) (σ : Store) : Type 0 where
   pub number : ℕ

@@ -61,9 +61,9 @@ begins c (Nv i) u = same_variable (Nv i) u
 begins c (Param i) u = is_among u (arg_at c i).named
 begins c v u = false
 
--- At the call of a statement, the caller's variable `v` stands for the callee's variable `y`, which ends a flow there: the
--- result is the variable that the statement sets, a `&mut` parameter is what is lent for it, and a nonvolatile variable
--- is itself.
+-- At the call of a statement, the caller's variable `v` stands for the callee's variable
+-- `y`, which ends a flow there: the result is the variable that the statement sets, a
+-- `&mut` parameter is what is lent for it, and a nonvolatile variable is itself.
 abbrev pub ends : TEffect → TCalled → (y v : VarId) → Bool
 ends a c (Nv i) v = same_variable (Nv i) v
 ends a c (Param i) v = is_variable_of (arg_at c i).lent v

@@ -40,8 +40,8 @@ ran_from inside n (e ∷ es) = ran_more e.said inside n e (λ o m. ran_from o m 
 abbrev pub ran : List Event → List Ran
 ran es = ran_from false 0 es
 
--- Each use, and its end, lies in one execution of a region with the inputs of its samples; so do the inputs of all samples on
--- which the tags of one instance of a consistent set depend.
+-- Each use, and its end, lies in one execution of a region with the inputs of its samples; so do the inputs of all
+-- samples on which the tags of one instance of a consistent set depend.
 pub record AreHeld (p : TProgram) (all : List Ran) : Type 0 where
   pub fresh : (a u : Ran) (j : ℕ) → IsOf a all → IsOf u all → IsInput j a.event → IsUse u.event.said
       → IsOf j u.event.samples → (x : ℕ) × (a.execution ≡ Some x) × (u.execution ≡ Some x)

@@ -1,5 +1,5 @@
--- When a report is timely: no outage lies between an input and a use of what depends on it, and none among the inputs of
--- a consistent set.
+-- When a report is timely: no outage lies between an input and a use of
+-- what depends on it, and none among the inputs of a consistent set.
 use Rattle.std.specs.Prelude.{◌≡◌, ℕ, suc, ℤ, pos, List, [], ◌∷◌, Option, Some, None}
 use Rattle.oc_tree.specs.Tree.{TKind, consistent, TProgram}
 use Rattle.oc_tree.specs.Members.{IsOf}
@@ -35,8 +35,8 @@ lives (Entered r) n es later = later n es
 lives (Committed r) n es later = later n es
 lives s n es later = live n es (later n)
 
--- The items of an erased report that tell events of the source, each with its event, the first of these items with the first
--- event. So many outages stand before the first item.
+-- The items of an erased report that tell events of the source, each with its event, the first of these items with the
+-- first event. So many outages stand before the first item.
 abbrev pub lived_from : ℕ → List Told → List Event → List Lived
 lived_from n [] es = []
 lived_from n (i ∷ is) es = lives i.said n es (λ m fs. lived_from m is fs)
@@ -85,8 +85,8 @@ pub record AreTogether (p : TProgram) (e d : Event) : Type 0 where
 
 -- ---- timely
 
--- no outage stands between a sample's input and a use, or the end of a use, that depends on it; and none between the inputs
--- of samples on which two tags of one instance of a set depend, or one tag
+-- no outage stands between a sample's input and a use, or the end of a use, that depends on it; and none between the
+-- inputs of samples on which two tags of one instance of a set depend, or one tag
 pub record AreTimely (p : TProgram) (all : List Lived) : Type 0 where
   pub fresh : (a u : Lived) (j : ℕ) → IsOf a all → IsOf u all
       → IsInput j a.event → IsUse u.event.said → IsOf j u.event.samples → a.offs ≡ u.offs

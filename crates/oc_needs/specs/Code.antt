@@ -92,8 +92,8 @@ sites_from p f xs s us = flat_map (λ u. sites_between p f s u xs) us
 abbrev pub source_sites : TProgram → ℕ → List VarId → List TSource → List ℕ
 source_sites p f xs ss = flat_map (λ s. sites_from p f xs s s.brought) ss
 
--- The same with fewer repetitions: a statement in no loop is its own site, once; and the sites of those in loops are the
--- same for all policies, so that each variable has one list of them.
+-- The same with fewer repetitions: a statement in no loop is its own site, once; and the sites of those in loops are
+-- the same for all policies, so that each variable has one list of them.
 abbrev pub flows_to_some : TProgram → ℕ → List VarId → VarId → Bool
 flows_to_some p f xs u = list_any (flows p f u) xs
 

@@ -1,5 +1,5 @@
--- Which functions assign through which of their parameters. A parameter is told by the place of its function, and by its
--- own place among the function's parameters, both from 0.
+-- Which functions assign through which of their parameters. A parameter is told by the place of its function, and by
+-- its own place among the function's parameters, both from 0.
 use Rattle.std.specs.Prelude.{◌≡◌, ◌<◌, ℕ, zero, suc, true, List, [], map, length, Option, Some, None, slice_get}
 use Rattle.std.proofs.Math.ListN.{get_or}
 use Rattle.oc_tree.specs.Names.{Text}
@@ -41,7 +41,8 @@ pub record Passes (fs : List TFunction) (u j v i : ℕ) : Type 0 where
   pub param : place (param_names function) name ≡ Some j
   pub mutable : takes_mutable fs v i ≡ true
 
--- the function at `u` assigns through its parameter `j`: by a statement of its own, or by a function that it passes it on to
+-- the function at `u` assigns through its parameter `j`: by a
+-- statement of its own, or by a function that it passes it on to
 pub data AssignsThrough (fs : List TFunction) : (u j : ℕ) → Type 0 where
   itself : {u j : ℕ} → Writes fs u j → AssignsThrough fs u j
   passed_on : {u j v i : ℕ} → Passes fs u j v i → AssignsThrough fs v i → AssignsThrough fs u j

@@ -30,7 +30,8 @@ abbrev pub block_regions : TProgram → (i : ℕ) → List ℕ → List TRegion
 block_regions p i [] = []
 block_regions p i (b ∷ bs) = block_region p i b ∷ block_regions p (i + 1) bs
 
--- a program whose regions are its outermost blocks: an outage outside of them is one outside of every execution of a block
+-- a program whose regions are its outermost blocks: an outage
+-- outside of them is one outside of every execution of a block
 abbrev pub blocks_marked : TChecked → List ℕ → TMarked
 blocks_marked c blocks =
     record {

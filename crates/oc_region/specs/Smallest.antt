@@ -39,8 +39,8 @@ abbrev pub groups_in : TProgram → List Group → (block : ℕ) → List ℕ �
 groups_in p groups block ss =
     flat_map (λ s. option_to_list (option_and_then (group_of p groups) (in_block p block s))) ss
 
--- a requirement's range, as a region without a number: in the innermost block in which all its sites stand, from the group
--- of the first of them to that of the last
+-- a requirement's range, as a region without a number: in the innermost block in which all its sites stand, from the
+-- group of the first of them to that of the last
 abbrev pub range_in : TProgram → List Group → TRequirement → (block : ℕ) → Option TRegion
 range_in p groups r block =
     option_map (λ g. record {

@@ -25,8 +25,8 @@ pub record Instance : Type 0 where
   pub number : ℕ
   pub age : List ℕ
 
--- A run under way over ages. Its store holds no event, no sample to come, and for `taken` the outages before; `over` says that
--- its last word was told
+-- A run under way over ages. Its store holds no event, no sample to come, and for `taken` the outages before; `over`
+-- says that its last word was told
 pub record Way : Type 0 where
   pub frames : List Frame
   pub out : Outcome

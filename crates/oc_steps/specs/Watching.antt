@@ -98,8 +98,8 @@ pub record IsGoing
   pub numbered : AreNumbered (lives_of e past) (offs_before 0 e)
   pub seen : IsSeen p (lives_of e past) (offs_before 0 e) sets
 
--- a run under way over these samples, of which the table says how many outages stand before each, and c before the next one:
--- whatever it says of later samples, over ages it is this
+-- a run under way over these samples, of which the table says how many outages stand before each, and c before the
+-- next one: whatever it says of later samples, over ages it is this
 pub record Follows (p : TProgram) (regions : List TRegion) (v : List ℤ) (table : List ℕ) (c : ℕ)
     (past : List Event) (fs : List Frame) (o : Outcome) (aged : List Frame) (aged_out : Outcome)
     : Type 0 where

@@ -28,8 +28,8 @@ use Rattle.oc_timely.specs.Covering.{IsCovering}
 
 -- ---- targets
 
--- A variable whose samples must be held at a statement: it is fresh and used there, it is annotated there as of a set, or it
--- stands for what a called function needs.
+-- A variable whose samples must be held at a statement: it is fresh and used there, it is annotated there as of a set,
+-- or it stands for what a called function needs.
 pub data Target (p : TProgram) (f : ℕ) (a : TEffect) : VarId → Type 0 where
   by_use : {x : VarId} → IsOf (record { function = f; kind = kinds.Fresh x }) (policies p)
       → is_among x a.named ≡ true → Target p f a x
@@ -82,7 +82,8 @@ module _ (m : TMarked) (guarded : ℕ → Bool) (f : ℕ) where
   abbrev pub Fits : (VarId → Type 0) → (TEffect → Type 0) → Type 0
   Fits C P = (a : TEffect) (x : VarId) → P a → Target m.program f a x → C x
 
-  -- what is asked of a statement outside of regions: its targets are clean, where C says what no local input has reached
+  -- what is asked of a statement outside of regions: its targets
+  -- are clean, where C says what no local input has reached
   abbrev pub OkOwn : (VarId → Type 0) → TEffect → Type 0
   OkOwn C a = ((x : VarId) → Target m.program f a x → C x) × Free a
 

@@ -67,7 +67,8 @@ abbrev pub IsShutMode : Option ℕ → Type 0
 IsShutMode None = Unit {0}
 IsShutMode (Some r) = ⊥
 
--- Statements are numbered from `n` on, regions begin and end in one list, and none begins where one of that list is open.
+-- Statements are numbered from `n` on, regions begin and end
+-- in one list, and none begins where one of that list is open.
 module _ (regions : List TRegion) where
   abbrev mutual
     -- in a statement, whose parts have numbers from `n` on, regions begin and end in one list of
@@ -100,9 +101,9 @@ module _ (regions : List TRegion) where
 
 -- ---- what is seen of variables at a statement
 
--- Beside what `Owns` says: the function's variables are there from `base` on; a variable that is alive was declared before the
--- statement `n`; nonvolatile ones are where they are everywhere; a name that is annotated as fresh stands for a variable of a
--- policy; and the rules see the names as they stand.
+-- Beside what `Owns` says: the function's variables are there from `base` on; a variable that is alive was declared
+-- before the statement `n`; nonvolatile ones are where they are everywhere; a name that is annotated as fresh stands
+-- for a variable of a policy; and the rules see the names as they stand.
 pub record Sees (p : TProgram)
     (f base n : ℕ) (spot : Spot) (env : List Binding) (w : Where) (σ : Store) : Type 0 where
   pub owns : Owns p f base spot env w σ

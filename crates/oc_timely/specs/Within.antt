@@ -39,7 +39,8 @@ start_where p f base (Param j) =
     if nat_lt j (length (params_at p f)) then Local (base + j) else Nowhere
 start_where p f base v = Nowhere
 
--- each name is bound where its variable is, each variable has a place of its own, and those of the function lie above `base`
+-- each name is bound where its variable is, each variable has a
+-- place of its own, and those of the function lie above `base`
 pub record Owns (p : TProgram)
     (f base : ℕ) (spot : Spot) (env : List Binding) (w : Where) (σ : Store) : Type 0 where
   pub named : (x : Text)
@@ -82,7 +83,8 @@ CameBack p f base P w w' σ (Gave v τ) =
     × ((j : ℕ) → IsOf j v.samples → Comes p f P (samples_of σ w) σ.taken Returned j)
 CameBack p f base P w w' σ (Stopped s τ) = Unit {0}
 
--- Each run of a function over variables of its own stays within the flow of its variables and what its statements bring.
+-- Each run of a function over variables of its own stays within
+-- the flow of its variables and what its statements bring.
 abbrev pub WithinFlow : Type 0
 WithinFlow =
     (p : TProgram) (groups : List Group) → IsChecked p groups

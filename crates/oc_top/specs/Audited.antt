@@ -10,8 +10,8 @@ use Rattle.oc_top.specs.Sources.{ReadsAs, faulty, breaks, program}
 use Rattle.oc_top.specs.Verdict.{Verdict, prints, refuses}
 use Rattle.oc_top.specs.declared.answer.Answer.TheVariants as answer
 
--- An audit of a report finds this for the program that the source spells, with its regions: the first line with which it stops
--- to be a report of this program, or the item at which it stops to be honest, or that it is honest
+-- An audit of a report finds this for the program that the source spells, with its regions: the first line with which
+-- it stops to be a report of this program, or the item at which it stops to be honest, or that it is honest
 pub record IsFound (source report : List ℕ) (f : Finding) : Type 0 where
   pub written : TProgram
   pub spelled : ReadsAs source (program written)
@@ -23,8 +23,8 @@ said_of (finding.BadLine n) = refuses (answer.BadReport n)
 said_of (finding.Breaks n) = refuses (answer.Dishonest n)
 said_of finding.Honest = prints (codes "honest\n")
 
--- This is the verdict on a source and a report. The source spells no program, or one that breaks a rule; or the report is
--- audited
+-- This is the verdict on a source and a report. The source spells
+-- no program, or one that breaks a rule; or the report is audited
 pub data IsAudit (source report : List ℕ) (run : Verdict) : Type 0 where
   no_program : (line : ℕ) → ReadsAs source (faulty line)
       → run ≡ refuses (answer.Syntax line) → IsAudit source report run

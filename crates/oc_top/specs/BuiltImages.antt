@@ -10,14 +10,15 @@ use Rattle.oc_top.specs.Meant.{program_code}
 use Rattle.oc_top.specs.Sources.{ReadsAs, program}
 use Rattle.oc_top.specs.Verdict.{Verdict, image_of, prints}
 
--- the bytes of the image of each program that a source of at most 1 MiB spells are those of an image that breaks no rule
+-- the bytes of the image of each program that a source of at
+-- most 1 MiB spells are those of an image that breaks no rule
 abbrev pub BuiltImagesAreAdmitted : Type 0
 BuiltImagesAreAdmitted =
     (source : List ℕ) (p : TProgram) → length source ≤ source_limit → ReadsAs source (program p)
     → IsAdmitted (image_of p) (program_code p)
 
--- where `build --image` prints this image of a source, the verdict on `exec` of it is the verdict on `run` of the source, with
--- the same supply, sensors and power
+-- where `build --image` prints this image of a source, the verdict on `exec` of it is the verdict on `run` of the
+-- source, with the same supply, sensors and power
 abbrev pub BuiltImagesRun : Type 0
 BuiltImagesRun =
     (source image sensors power : List ℕ)

@@ -36,8 +36,8 @@ pub record AcceptsBlocks (source : List ℕ) (p : TProgram) (blocks : List ℕ) 
   pub spelled : SpellsBlocks source p blocks
   pub unbroken : broken p ≡ None
 
--- this is the verdict on blocks of a checked program, and it is `Covered` exactly where each requirement is covered by one of
--- them or its function is guarded
+-- this is the verdict on blocks of a checked program, and it is `Covered` exactly where each requirement is covered by
+-- one of them or its function is guarded
 pub record AreJudged (p : TProgram) (blocks : List ℕ) (v : BlockVerdict) : Type 0 where
   pub verdict : IsVerdict p blocks v
   pub exact : Tells p blocks v
@@ -49,8 +49,8 @@ IsSaid p (Open policy function first second) run =
     (q : Policy) × (slice_get (policies p) policy ≡ Some q)
     × (run ≡ refuses (answer.Uncovered (gap_of p q function first second)))
 
--- This is the verdict on a source. It spells no program of the grammar with `atomic`, or one that breaks a rule; or its blocks
--- are judged
+-- This is the verdict on a source. It spells no program of the grammar
+-- with `atomic`, or one that breaks a rule; or its blocks are judged
 pub data IsCheck (source : List ℕ) (run : Verdict) : Type 0 where
   no_program : (line : ℕ)
       → ReadsIn true source (faulty line) → run ≡ refuses (answer.Syntax line) → IsCheck source run
@@ -64,8 +64,8 @@ pub data IsCheck (source : List ℕ) (run : Verdict) : Type 0 where
 abbrev pub checked_of : TProgram → TChecked
 checked_of p = record { program = expansion p; groups = program_groups p }
 
--- The blocks suffice for what the annotations of a checked program require. So each run is timely with outages anywhere but
--- within an execution of a block, as is every front part of it
+-- The blocks suffice for what the annotations of a checked program require. So each run is timely with outages
+-- anywhere but within an execution of a block, as is every front part of it
 pub record IsEnough (c : TChecked) (blocks : List ℕ) : Type 0 where
   pub verdict : IsVerdict c.program blocks Covered
   pub covered : AreCovered c.program blocks

@@ -103,8 +103,8 @@ abbrev pub names_of : List (List ℕ) → List ℕ → (count : ℕ) → List (L
 names_of words limits zero = []
 names_of words limits (suc k) = names_of words limits k ++ (word_at words k, limit_at limits k) ∷ []
 
--- why the file at a place wasn't fetched: the shelf's faults rose, or it tells that nothing is there; or the file is longer
--- than its limit; or there was no memory
+-- why the file at a place wasn't fetched: the shelf's faults rose, or it tells that nothing is there; or the file is
+-- longer than its limit; or there was no memory
 abbrev pub IsRefused : Held → ℕ → ℕ → Type 0 → Answer → Type 0
 IsRefused held limit place unread (answer.Unreadable file) =
     (file ≡ place) × (unread ⊎ (held ≡ nothing))

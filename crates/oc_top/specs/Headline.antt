@@ -35,16 +35,16 @@ abbrev pub reported : List Told → List ℤ → TReport
 reported items nv =
     record { items = items; nv = if is_over (map item_of items) then Some nv else None }
 
--- without its aborted attempts and without marks, the report is the whole run of the program as if it had no regions; and
--- these are the nonvolatile words that the program leaves, with regions too
+-- without its aborted attempts and without marks, the report is the whole run of the program as if it had no regions;
+-- and these are the nonvolatile words that the program leaves, with regions too
 pub record IsWholeRun (p : TProgram) (report : List Told) (nv : List ℤ) : Type 0 where
   pub shown : kept report ≡ plain_said p (kept_samples report)
   pub left : nv ≡ (program_run p (kept_samples report)).nv
   pub left_plain : nv ≡ (plain_run p (kept_samples report)).nv
 
--- The report is honest for the program with its regions. So without marks each prefix of it says what the program says as if
--- it had no regions, or a prefix of that. Each input has what its sensor had at that tick. And a prefix that ends with `end` or
--- `trap` is all of it, and the whole run
+-- The report is honest for the program with its regions. So without marks each prefix of it says what the program says
+-- as if it had no regions, or a prefix of that. Each input has what its sensor had at that tick. And a prefix that
+-- ends with `end` or `trap` is all of it, and the whole run
 pub record IsHonestThroughout
     (p : TProgram) (h : ℕ → ℕ → ℤ) (report : List Told) (nv : List ℤ) : Type 0 where
   pub honest : IsHonest (expansion p) (program_marked p).regions (reported report nv)

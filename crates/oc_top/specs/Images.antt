@@ -40,16 +40,17 @@ pub data IsRefusedImage (bytes : List ℕ) (end : Answer) : Type 0 where
   breaks_rule : (image : Parts) → AreImage bytes image → (address rule : ℕ)
       → Broken image address rule → end ≡ answer.Refused → IsRefusedImage bytes end
 
--- This is the verdict on an image and the files of its run, where the chosen supply has this plan. It is refused, or it is run
+-- This is the verdict on an image and the files of its run, where
+-- the chosen supply has this plan. It is refused, or it is run
 pub data IsExecution (files : Files) (plan : Plan) (run : Verdict) : Type 0 where
   no_run : (end : Answer)
       → IsRefusedImage files.source end → run ≡ refuses end → IsExecution files plan run
   executed : (image : Parts) → IsAdmitted files.source image
       → run ≡ with_parts image files plan → IsExecution files plan run
 
--- However often power fails, each front part of the report without its aborted attempts says what the device says without
--- outages over the kept samples, or a prefix of it, no outage lies in a region, and each input is the sensor's; and where the
--- run is over it says all of it, and leaves its nonvolatile words
+-- However often power fails, each front part of the report without its aborted attempts says what the device says
+-- without outages over the kept samples, or a prefix of it, no outage lies in a region, and each input is the
+-- sensor's; and where the run is over it says all of it, and leaves its nonvolatile words
 pub record OutagesDontShow (d : Device) (h : ℕ → ℕ → ℤ) (periods : List Period) : Type 0 where
   pub honest : (front rest : List Told)
       → front ++ rest ≡ (power_run d h periods).report → IsHonest d h (all_on periods) front

@@ -48,8 +48,8 @@ plain_run p samples = source_run (expansion p) samples
 abbrev pub plain_said : TProgram → List ℤ → List Said
 plain_said p samples = said_in (plain_run p samples)
 
--- over any samples, the run of the image says what the program says, with the marks, and leaves the nonvolatile words of
--- its run without regions, from some number of instructions on
+-- over any samples, the run of the image says what the program says, with the marks, and leaves the nonvolatile words
+-- of its run without regions, from some number of instructions on
 abbrev pub RunsAs : Parts → TProgram → Type 0
 RunsAs image p =
     (samples : List ℤ) → Shows

@@ -21,8 +21,8 @@ pub record IsRead
     (end : Answer) (names : NameLists) (old : Page) (text : List ℕ) (new : Page) : Type 0 where
   pub takes : (end ≡ answer.WriteFault → ⊥) → TakesBytes names old text new
 
--- there was no memory to read with, or a run was written that fits its types where it was written whole, and this is what
--- meters tell that began so
+-- there was no memory to read with, or a run was written that fits its types where it was written whole, and this is
+-- what meters tell that began so
 pub data IsReported (parts : Parts) (rows : List Row) (periods : List Period)
     (meters : Option (List Reading)) (sink : Writes) (told : List ℕ) (end : Answer) : Type 0 where
   unread : end ≡ answer.Memory

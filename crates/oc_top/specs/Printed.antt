@@ -17,8 +17,8 @@ pub record Tells (source : List ℕ) (t : Told) : Type 0 where
   pub budgets : budgets_view t.budgets ≡ limited_budgets t.marked
   pub details : HasDetails t.marked t.details
 
--- the source is refused with this answer, or there was no memory, and the sink takes nothing; or this text of its program is
--- written
+-- the source is refused with this answer, or there was no memory,
+-- and the sink takes nothing; or this text of its program is written
 pub data IsPrinted
     (source : List ℕ) (text : TProgram → List ℕ) (sink : Writes) (end : Answer) : Type 0 where
   not_built : IsNotBuilt source end → TookNothing sink → IsPrinted source text sink end

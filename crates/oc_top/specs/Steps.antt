@@ -107,8 +107,8 @@ pub record CanRun (machine : Running) (sensors : Told) (left : List Period) : Ty
   pub words : (sensor tick : ℕ) → is_word (history sensors.rows sensor tick) ≡ true
   pub sum : total left < 2 ^ 63
 
--- such a machine with an image that is this one, where the sensors show the rows of the sensor file, and the periods are
--- those that the supply tells of the rows of the power file
+-- such a machine with an image that is this one, where the sensors show the rows of the sensor file, and the periods
+-- are those that the supply tells of the rows of the power file
 pub record IsReadyFor (IsIt : Parts → Type 0) (files : Files)
     (plan : Plan) (machine : Running) (sensors : Told) (left : List Period) : Type 0 where
   pub can_run : CanRun machine sensors left

@@ -22,8 +22,8 @@ abbrev pub numbers_of : TStmts → List ℕ
 numbers_of no_stmts = []
 numbers_of (more (stmt id line k) ss) = id ∷ numbers_of ss
 
--- Statements that follow each other in the region's function, the first of them at the place `at`, and stand directly in
--- the region: all of the region's own, or some of them.
+-- Statements that follow each other in the region's function, the first of them at the place `at`, and stand directly
+-- in the region: all of the region's own, or some of them.
 pub record StandIn (p : TProgram) (r : TRegion) (at : Spot) (ss : TStmts) : Type 0 where
   pub function : TFunction
   pub front : List Placed
@@ -41,8 +41,8 @@ IsMade (Turn z) = Unit {0}
 IsMade (Global i) = ⊥
 IsMade Nowhere = ⊥
 
--- where a function finds its variable, if `passed` are the places of its parameters: those of a reference are the places
--- that its caller lent
+-- where a function finds its variable, if `passed` are the places of its
+-- parameters: those of a reference are the places that its caller lent
 abbrev pub IsFound : (passed : ℕ → Place) → Option VarId → Place → Type 0
 IsFound passed None q = q ≡ Nowhere
 IsFound passed (Some (Nv i)) q = q ≡ Global i
@@ -85,8 +85,8 @@ store_after (Went σ) = σ
 store_after (Gave v σ) = σ
 store_after (Stopped s σ) = σ
 
--- Each region's statements, in a run from any store and with calls of any depth, leave each nonvolatile variable that is
--- none of the region's targets as it was: its words and its samples.
+-- Each region's statements, in a run from any store and with calls of any depth, leave each nonvolatile variable that
+-- is none of the region's targets as it was: its words and its samples.
 abbrev pub OnlyTargets : TMarked → (sets : List (List Target)) → Type 0
 OnlyTargets m sets = (k : ℕ) (r : TRegion) → slice_get m.regions k ≡ Some r
     → (at : Spot) (ss : TStmts) → StandIn m.program r at ss

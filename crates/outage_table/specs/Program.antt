@@ -13,7 +13,8 @@ use Rattle.oc_isa.specs.declared.instr.Instr.{Instr}
 use Rattle.oc_isa.specs.declared.instr.Instr.TheVariants.{Push, Load, Store, Nload, Nstore, Bin, Sense, Emit, Probe, Enter, Commit, Halt}
 
 abbrev pub names : NameLists
-names = record { sensors = codes "t" ∷ []; ports = codes "r" ∷ []; nvs = codes "n" ∷ (codes "m" ∷ []) }
+names = record
+    { sensors = codes "t" ∷ []; ports = codes "r" ∷ []; nvs = codes "n" ∷ (codes "m" ∷ []) }
 
 abbrev pub placed : ℕ → Instr → Placed
 placed site instr = record { instr = instr; site = site }

@@ -12,7 +12,8 @@ use Rattle.oc_bounds.specs.Bounds.{Bounds, AreLong, AreSafe}
 
 -- Periods
 
--- no region is entered: where one is, `safe` has room for two stacks more
+-- by these bounds no region is entered: where one is, `safe` has the steps to restore one stack and
+-- to save another
 abbrev pub is_plain : Device → Bounds → Bool
 is_plain d b = nat_lt b.safe (2 * d.room + 9)
 

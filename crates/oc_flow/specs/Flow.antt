@@ -10,7 +10,7 @@ use Rattle.oc_flow.specs.Variables.{same_variable, is_among, is_variable_of, var
 abbrev pub Between : Type 0
 Between = ℕ → VarId → VarId → Bool
 
--- `u` leads to `v` by steps, with just these variables between
+-- `u` leads to `v` by one step or more, with none but these variables between
 abbrev pub chain : (VarId → VarId → Bool) → List VarId → VarId → VarId → Bool
 chain step [] u v = step u v
 chain step (w ∷ ws) u v = chain step ws u v || (chain step ws u w && chain step ws w v)

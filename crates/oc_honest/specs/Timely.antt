@@ -27,7 +27,8 @@ abbrev pub live : ℕ → List Event → (List Event → List Lived) → List Li
 live n [] later = []
 live n (e ∷ es) later = record { offs = n; event = e } ∷ later es
 
--- what an item adds, with n outages before it
+-- what an item adds to the events with their outages, where n stand before it: an `off` counts as
+-- one more for later items, `dark` and marks add nothing, and any other item tells the next event
 abbrev pub lives : Said → (n : ℕ) → List Event → (ℕ → List Event → List Lived) → List Lived
 lives (Off ticks) n es later = later (suc n) es
 lives Dark n es later = later n es

@@ -17,15 +17,15 @@ is_letter b = between 97 122 b || between 65 90 b
 abbrev pub is_digit : ℕ → Bool
 is_digit b = between 48 57 b
 
--- a name begins with such a byte: a letter or `_`
+-- a name begins with this byte: a letter or `_`
 unfoldable pub begins_name : ℕ → Bool
 begins_name b = is_letter b || b == 95
 
--- a name goes on with such bytes
+-- a name goes on with this byte: a letter, a digit or `_`
 unfoldable pub in_name : ℕ → Bool
 in_name b = begins_name b || is_digit b
 
--- a number goes on with such bytes
+-- a number goes on with this byte: a digit or `_`
 unfoldable pub in_number : ℕ → Bool
 in_number b = b == 95 || is_digit b
 

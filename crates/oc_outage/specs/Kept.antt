@@ -28,45 +28,48 @@ pub record Count : Type 0 where
   -- how many an attempt that is under way took
   pub tried : ℕ
 
--- so many instructions are kept, and no attempt took any
+-- the count where so many instructions are kept, and no attempt took any
 abbrev pub untried : (kept : ℕ) → Count
 untried kept = record { kept = kept; tried = 0 }
 
--- one instruction more at this depth: outside of regions it is kept, in an attempt it is tried
+-- the count with one instruction more at this depth: outside of regions it is kept, in an attempt
+-- it is tried
 abbrev pub takes_one : (depth : ℕ) → Count → Count
 takes_one zero c = untried (suc c.kept)
 takes_one (suc k) c = record { kept = c.kept; tried = suc c.tried }
 
--- one instruction more, with which the attempt that took it is kept
+-- the count with one instruction more, with which the attempt that took it is kept
 abbrev pub closes : Count → Count
 closes c = untried (suc (c.kept + c.tried))
 
--- a step that logs a word is no instruction
+-- the count after a step that goes on: one that logs a word is no instruction
 abbrev pub count_write : (logs : Option ℕ) → (depth : ℕ) → Count → Count
 count_write (Some addr) depth c = c
 count_write None depth c = takes_one depth c
 
--- of the steps of an outermost `enter` the last one, which arms, is the instruction, and it is kept
+-- the count after a step of an outermost `enter`: the last one, which arms, is the instruction, and
+-- it is kept
 abbrev pub count_entry : (done : ℕ) → Regs → Count → Count
 count_entry done to c = if nat_lt done (length (words_of to)) then c else takes_one 0 c
 
--- an `enter` at this depth begins
+-- the count after the first step of an `enter` at this depth
 abbrev pub count_enter : (depth : ℕ) → Regs → Count → Count
 count_enter zero to c = count_entry 0 to c
 count_enter (suc k) to c = takes_one (suc k) c
 
--- the outermost `commit` keeps the attempt; one at depth 0 is undefined
+-- the count after a `commit`: the outermost one keeps the attempt, and one at depth 0 is undefined
 abbrev pub count_commit : (depth : ℕ) → Count → Count
 count_commit zero c = c
 count_commit (suc zero) c = closes c
 count_commit (suc (suc k)) c = takes_one (suc k) c
 
--- the end of a run is an instruction; in an attempt, which a trap ends, it keeps what this took
+-- the count after the end of a run, which is an instruction; in an attempt, which a trap ends, it
+-- keeps what the attempt took
 abbrev pub count_end : (depth : ℕ) → Count → Count
 count_end zero c = takes_one 0 c
 count_end (suc k) c = closes c
 
--- a step at an instruction that does this
+-- the count after a step at an instruction that does this
 abbrev pub count_next : Next → State → Count → Count
 count_next (Goes to w shown) s c = count_write (to_log s.depth w s.log) s.depth c
 count_next (Senses x to) s c = takes_one s.depth c
@@ -75,7 +78,7 @@ count_next (Commits r to) s c = count_commit s.depth c
 count_next (Ends how) s c = count_end s.depth c
 count_next Stuck s c = c
 
--- a step of an outermost `enter` that is under way
+-- the count after a further step of an outermost `enter` that is under way
 abbrev pub count_entering : (done : ℕ) → Next → Count → Count
 count_entering done (Enters r to) c = count_entry done to c
 count_entering done n c = c

@@ -58,7 +58,8 @@ abbrev pub open_calls : TProgram → List ℕ → Links
 open_calls p blocks =
     flat_map (λ f. flat_map (open_call p blocks f) (effects_at p f)) (from 0 (length p.functions))
 
--- back from a function through such calls one comes to another, if there is one
+-- back from a function through these links, from called functions to their callers, one comes to
+-- another, if there is one
 abbrev pub comes_to : Links → ℕ → Option ℕ → ℕ → Bool
 comes_to links n None f = false
 comes_to links n (Some m) f = reaches links n f m

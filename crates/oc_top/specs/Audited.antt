@@ -10,8 +10,9 @@ use Rattle.oc_top.specs.Sources.{ReadsAs, faulty, breaks, program}
 use Rattle.oc_top.specs.Verdict.{Verdict, prints, refuses}
 use Rattle.oc_top.specs.declared.answer.Answer.TheVariants as answer
 
--- An audit of a report finds this for the program that the source spells, with its regions: the first line with which
--- it stops to be a report of this program, or the item at which it stops to be honest, or that it is honest
+-- An audit of a report finds this for the program that the source spells, with its regions: the
+-- first line with which it stops being a report of this program, or the item at which it stops
+-- being honest, or that it is honest
 pub record IsFound (source report : List ℕ) (f : Finding) : Type 0 where
   pub written : TProgram
   pub spelled : ReadsAs source (program written)

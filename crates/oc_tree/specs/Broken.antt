@@ -98,7 +98,7 @@ first_broken p n (e ∷ es) =
 abbrev pub broken_element : TProgram → Option Broken
 broken_element p = first_broken p nothing_counted (program_elements p)
 
--- The rules on weight and stack, which are looked at where none of the others is broken: a function
+-- The rules on weight and stack, which are looked at where no other rule is broken: a function
 -- weighs more than 2^32, or `main` takes more than 65,536 words of stack.
 abbrev pub size_rules : TProgram → Table
 size_rules p =

@@ -6,7 +6,7 @@ use Rattle.oc_tree.specs.Tree.{TKind, if_else, for_in, while_do, consistent, TEl
 use Rattle.oc_tree.specs.Weight.{expr_cost, kind_cost, turns}
 use Rattle.oc_tree.specs.Marked.{TRegion}
 
--- 1 where it holds, else 0
+-- 1 where a test holds, else 0
 abbrev pub one : Bool → ℕ
 one b = cond b 1 0
 

@@ -61,7 +61,8 @@ part_known p scope (sensed s) = is_name_of p.names.sensors s
 part_known p scope (called c) = is_some (function_place p.functions (callee c))
 part_known p scope e = true
 
--- so is the name that a statement assigns to, annotates or sends to
+-- the name that a statement assigns to, annotates or sends to is visible, and of the kind that is
+-- needed
 abbrev pub end_known : TProgram → Scope → TKind → Bool
 end_known p scope (assign x r) = is_variable p scope x
 end_known p scope (assign_index x i r) = is_variable p scope x

@@ -51,7 +51,7 @@ binary_depth And a b = max a b
 binary_depth Or a b = max a b
 binary_depth op a b = max a (1 + b)
 
--- the most stack words that an expression takes on top of the frame
+-- the most stack words that an expression of an expansion takes on top of the frame
 abbrev pub expr_depth : TExpr → ℕ
 expr_depth (index x e) = 1 + expr_depth e
 expr_depth (unary op e) = expr_depth e

@@ -11,7 +11,7 @@ use Rattle.oc_tree.specs.declared.tree.BinaryOp.TheVariants.{And, Or}
 use Rattle.oc_tree.specs.Calls.{function_place, callee}
 use Rattle.oc_tree.specs.Expansion.{expansion}
 
--- what is known of the function at a place, where there is one
+-- what is known of the function at a place, as its weight or its stack; 0 where there is none
 abbrev pub known_of : List ℕ → Option ℕ → ℕ
 known_of ws None = 0
 known_of ws (Some v) = get_or ws v 0
@@ -23,7 +23,7 @@ binary_cost And a b = a + b + 2
 binary_cost Or a b = a + 1 + max 2 b
 binary_cost op a b = a + b + 1
 
--- the instructions that an expression takes at most
+-- the instructions that an expression of an expansion takes at most; inputs and calls stand in none
 abbrev pub expr_cost : TExpr → ℕ
 expr_cost (index x e) = expr_cost e + 3
 expr_cost (deref x) = 2

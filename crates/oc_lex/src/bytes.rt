@@ -36,6 +36,7 @@ pub fn is_letter(byte: u8) -> bool
     matches!(byte, b'a'..=b'z' | b'A'..=b'Z')
 }
 
+/// Whether a name goes on with this byte: an ASCII letter, a digit or `_`.
 #[tactic(auto, unfolding(crate::specs::Bytes::begins_name, crate::specs::Bytes::in_name))]
 fn is_in_name(byte: u8) -> bool
     ensures { result ≡ in_name byte }
@@ -43,6 +44,7 @@ fn is_in_name(byte: u8) -> bool
     matches!(byte, b'a'..=b'z' | b'A'..=b'Z' | b'_' | b'0'..=b'9')
 }
 
+/// Whether a number goes on with this byte: a digit or `_`.
 #[tactic(auto, unfolding(crate::specs::Bytes::in_number))]
 fn is_in_number(byte: u8) -> bool
     ensures { result ≡ in_number byte }

@@ -58,6 +58,7 @@ pub fn lex(alloc: Global, source: &[u8]) -> Result<Vec<Token>, LexError>
     read_all(alloc, source)
 }
 
+/// The tokens of a source, or its first fault from the left, or want of memory.
 fn read_all(alloc: Global, source: &[u8]) -> Result<Vec<Token>, LexError>
     requires { length source.now ≤ source_limit }
     ensures { MatchResult result (λ tokens. AreTokens source.now tokens.items)
@@ -95,6 +96,7 @@ fn kind_of(piece: Piece, text: &[u8], after: &[u8], at: usize) -> Result<Option<
     }
 }
 
+/// Whether the first byte is an ASCII letter; not so where there is none.
 fn begins_with_letter(bytes: &[u8]) -> bool
     ensures { MatchBool result (BeginsWithLetter bytes.now) (¬ BeginsWithLetter bytes.now) }
 {
@@ -104,6 +106,7 @@ fn begins_with_letter(bytes: &[u8]) -> bool
     }
 }
 
+/// Adds the token of this kind between two places, if there is a kind. Err is want of memory.
 fn add(
     tokens: &mut Vec<Token>,
     kind: Option<Kind>,

@@ -4,6 +4,7 @@ ghost use Rattle.oc_lex.specs.Bytes.{value_of, with_digit};
 
 const LARGEST: u64 = 2147483647;
 
+/// The number with one more digit behind it; a `_` counts nothing.
 fn add_digit(total: u64, digit: u8) -> u64
     requires { total ≤ LARGEST }
     ensures { result ≡ with_digit total digit }

@@ -33,6 +33,8 @@ pub fn front(bytes: &[u8]) -> Option<(Piece, usize)>
     }
 }
 
+/// The longest piece in front that begins with this byte, which begins no blank, name or number: a
+/// comment or a mark, and its length; none where neither begins there.
 fn comment_or_mark(first: u8, rest: &[u8]) -> Option<(Piece, usize)>
     requires { class_of first ≡ Other }
     ensures { MatchOption result (BeginNoPiece (first ∷ rest.now))

@@ -34,6 +34,7 @@ fn words_like(text: &[u8]) -> &'static [Word]
     }
 }
 
+/// How a word of the language is spelled.
 fn spelling(word: Word) -> &'static [u8]
     ensures { result.now ≡ word_spelling word }
 {
@@ -64,6 +65,7 @@ fn spelling(word: Word) -> &'static [u8]
     }
 }
 
+/// The first of these words that is spelled so.
 fn find_among(words: &[Word], text: &[u8]) -> Option<Word>
     ensures { result ≡ find (λ w. bytes_eq (word_spelling w) text.now) words.now }
 {

@@ -182,6 +182,7 @@ impl Reader<'_> {
         Ok(args)
     }
 
+    /// Takes an argument of a call: an expression, where brackets have this room, `&x` or `&mut x`.
     #[cycle(expression)]
     #[tactic(auto, unfolding(oc_grammar::specs::ReadingExpressions::arg_at, oc_grammar::specs::ReadingExpressions::part_at, oc_grammar::specs::Reading::take_word))]
     fn arg(&mut self, room: u32) -> Result<Arg, Stop>

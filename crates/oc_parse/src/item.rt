@@ -30,6 +30,7 @@ impl Reader<'_> {
         }
     }
 
+    /// Takes a parameter: its name, how it is passed, and its type.
     #[tactic(auto, unfolding(oc_grammar::specs::ReadingPrograms::param_at))]
     fn param(&mut self) -> Result<Param, Stop>
         ensures exact { Reads (λ p. p) result (left self.new) (param_at (left self.old)) }
@@ -63,6 +64,7 @@ impl Reader<'_> {
         Ok(params)
     }
 
+    /// Takes the type of a scalar.
     #[tactic(auto, unfolding(oc_grammar::specs::ReadingPrograms::scalar_at))]
     fn scalar(&mut self) -> Result<Scalar, Stop>
         ensures exact { Reads (λ s. s) result (left self.new) (scalar_at (left self.old)) }

@@ -52,6 +52,7 @@ fn operator_in(level: u32, token: Token) -> Option<BinaryOp>
     if at == level { Some(op) } else { None }
 }
 
+/// Whether a token is this mark.
 fn is_mark(token: Token, mark: Mark) -> bool
     ensures { result ≡ mark_is mark token.kind }
 {
@@ -61,6 +62,7 @@ fn is_mark(token: Token, mark: Mark) -> bool
     }
 }
 
+/// Whether a word stands in the grammar: `atomic` in the larger one alone.
 fn says(atomic: bool, word: Word) -> bool
     ensures { result ≡ says atomic word }
 {
@@ -70,6 +72,7 @@ fn says(atomic: bool, word: Word) -> bool
     }
 }
 
+/// Whether a token is this word, and the word stands in the grammar.
 fn is_word(atomic: bool, token: Token, word: Word) -> bool
     ensures { result ≡ word_is atomic word token.kind }
 {

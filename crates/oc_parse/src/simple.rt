@@ -170,6 +170,7 @@ impl Reader<'_> {
         self.assignment(name)
     }
 
+    /// Takes a call as a statement, behind the function's name and the `(`.
     #[tactic(auto, unfolding(oc_grammar::specs::ReadingStatements::call_at))]
     fn call_statement(&mut self, function: Name) -> Result<StmtKind, Stop>
         ensures exact { Reads kind_view result (left self.new)
@@ -182,6 +183,7 @@ impl Reader<'_> {
         Ok(StmtKind::CallOnly { call })
     }
 
+    /// Takes an assignment to an element, behind the array's name and the `[`.
     #[tactic(auto, unfolding(oc_grammar::specs::ReadingStatements::element_to_at))]
     fn element_assignment(&mut self, name: Name) -> Result<StmtKind, Stop>
         ensures exact { Reads kind_view result (left self.new)
@@ -195,6 +197,7 @@ impl Reader<'_> {
         Ok(StmtKind::AssignIndex { name, index, right })
     }
 
+    /// Takes an assignment to a variable, behind its name and the `=`.
     #[tactic(auto, unfolding(oc_grammar::specs::ReadingStatements::assign_at))]
     fn assignment(&mut self, name: Name) -> Result<StmtKind, Stop>
         ensures exact { Reads kind_view result (left self.new)
@@ -218,6 +221,7 @@ impl Reader<'_> {
         Ok(StmtKind::AssignDeref { name, right })
     }
 
+    /// Takes an input as a statement, behind its `sense`.
     #[tactic(auto, unfolding(oc_grammar::specs::ReadingStatements::sense_at))]
     fn sense_statement(&mut self) -> Result<StmtKind, Stop>
         ensures exact { Reads kind_view result (left self.new) (sense_at (left self.old)) }
@@ -230,6 +234,7 @@ impl Reader<'_> {
         Ok(StmtKind::SenseOnly { sensor })
     }
 
+    /// Takes an output, behind its `emit`.
     #[tactic(auto, unfolding(oc_grammar::specs::ReadingStatements::emit_at))]
     fn emit_statement(&mut self) -> Result<StmtKind, Stop>
         ensures exact { Reads kind_view result (left self.new)
@@ -245,6 +250,7 @@ impl Reader<'_> {
         Ok(StmtKind::Emit { port, value })
     }
 
+    /// Takes an annotation of a fresh variable, behind its `Fresh`.
     #[tactic(auto, unfolding(oc_grammar::specs::ReadingStatements::fresh_at))]
     fn fresh_statement(&mut self) -> Result<StmtKind, Stop>
         ensures exact { Reads kind_view result (left self.new) (fresh_at (left self.old)) }
@@ -257,6 +263,7 @@ impl Reader<'_> {
         Ok(StmtKind::Fresh { name })
     }
 
+    /// Takes an annotation of a consistent set, behind its `Consistent`.
     #[tactic(auto, unfolding(oc_grammar::specs::ReadingStatements::consistent_at))]
     fn consistent_statement(&mut self) -> Result<StmtKind, Stop>
         ensures exact { Reads kind_view result (left self.new) (consistent_at (left self.old)) }
@@ -271,6 +278,7 @@ impl Reader<'_> {
         Ok(StmtKind::Consistent { name, id })
     }
 
+    /// Takes a `return`, behind its word.
     #[tactic(auto, unfolding(oc_grammar::specs::ReadingStatements::return_at))]
     fn return_statement(&mut self) -> Result<StmtKind, Stop>
         ensures exact { Reads kind_view result (left self.new)

@@ -74,6 +74,7 @@ impl Parser<'_> {
         }
     }
 
+    /// Takes an `if` and its `else`, if it has one, behind its word; blocks have this room.
     #[cycle(statement)]
     #[tactic(auto, unfolding(oc_grammar::specs::ReadingStatements::if_by))]
     fn if_statement(&mut self, room: u32) -> Result<StmtKind, Stop>
@@ -95,6 +96,7 @@ impl Parser<'_> {
         })
     }
 
+    /// Takes a `for`, behind its word; blocks have this room.
     #[cycle(statement)]
     #[tactic(auto, unfolding(oc_grammar::specs::ReadingStatements::for_by))]
     fn for_statement(&mut self, room: u32) -> Result<StmtKind, Stop>
@@ -119,6 +121,7 @@ impl Parser<'_> {
         })
     }
 
+    /// Takes a `while`, behind its word; blocks have this room.
     #[cycle(statement)]
     #[tactic(auto, unfolding(oc_grammar::specs::ReadingStatements::while_by))]
     fn while_statement(&mut self, room: u32) -> Result<StmtKind, Stop>

@@ -11,6 +11,7 @@ use crate::types::{is_same, type_of};
 use oc_tree::scope::{Origin, Var};
 use oc_tree::tree::{BlockId, StmtKind};
 
+/// Whether a variable was declared by a `let` directly in this block; not so where there is none.
 fn is_let_in(block: BlockId, variable: Option<Var>) -> bool
     ensures { result ≡ origin_is (is_let_in block) variable }
 {

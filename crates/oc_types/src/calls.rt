@@ -32,6 +32,7 @@ pub fn calls_main(statement: &Statement) -> bool
     false
 }
 
+/// Whether a variable is of this kind, by reference or not; not so where there is none.
 fn has_kind(kind: ValueKind, variable: Option<Var>) -> bool
     ensures { result ≡ has_kind kind variable }
 {
@@ -41,6 +42,7 @@ fn has_kind(kind: ValueKind, variable: Option<Var>) -> bool
     }
 }
 
+/// Whether an argument that is an expression is of its parameter's form and type.
 fn value_meets<'a>(
     top: &TopLevel<'a>,
     scope: &Scope<'a>,
@@ -61,6 +63,7 @@ fn value_meets<'a>(
     }
 }
 
+/// Whether `&x`, where `x` is this variable, goes to a parameter passed so and of this kind.
 fn shared_meets(passing: Passing, kind: ValueKind, variable: Option<Var>) -> bool
     ensures { result ≡ shared_meets passing kind variable }
 {
@@ -70,6 +73,7 @@ fn shared_meets(passing: Passing, kind: ValueKind, variable: Option<Var>) -> boo
     }
 }
 
+/// Whether `&mut x`, where `x` is this variable, goes to a parameter passed so and of this kind.
 fn mutable_meets(passing: Passing, kind: ValueKind, variable: Option<Var>) -> bool
     ensures { result ≡ mutable_meets passing kind variable }
 {
@@ -79,6 +83,7 @@ fn mutable_meets(passing: Passing, kind: ValueKind, variable: Option<Var>) -> bo
     }
 }
 
+/// Whether an argument is of its parameter's form and type.
 fn arg_meets<'a>(top: &TopLevel<'a>, scope: &Scope<'a>, param: &Param, arg: &Arg) -> bool
     ensures { result ≡ arg_meets (program_view top.now) scope.now param.now (arg_view arg.now) }
 {
@@ -93,6 +98,7 @@ fn arg_meets<'a>(top: &TopLevel<'a>, scope: &Scope<'a>, param: &Param, arg: &Arg
     }
 }
 
+/// Whether a call has as many arguments as there are parameters.
 #[tactic(auto, using(crate::proofs::Args::args_counted))]
 fn has_as_many(params: &[Param], call: &Call) -> bool
     ensures { result ≡ (length params.now == length (call_args (call_view call.now))) }
@@ -100,6 +106,7 @@ fn has_as_many(params: &[Param], call: &Call) -> bool
     params.len() == call.args.len()
 }
 
+/// Whether each argument is of its parameter's form and type, as far as there are both.
 fn args_meet<'a>(top: &TopLevel<'a>, scope: &Scope<'a>, params: &[Param], args: &[Arg]) -> bool
     ensures { result ≡ args_meet (program_view top.now) scope.now params.now (args_view args.now) }
 {
@@ -134,6 +141,7 @@ pub fn args_differ<'a>(top: &TopLevel<'a>, scope: &Scope<'a>, statement: &Statem
     false
 }
 
+/// Whether each of these calls has a result.
 fn have_results(top: &TopLevel, calls: &[&Call]) -> bool
     ensures { result ≡ list_all (λ c. is_some (call_type (program_view top.now) c))
         (calls_seen calls.now) }
@@ -173,6 +181,7 @@ pub fn result_missing(top: &TopLevel, statement: &Statement) -> bool
     !have_results(top, used_calls(statement))
 }
 
+/// Whether a call takes `&mut` only of what may be written, and `&` only of what is no reference.
 fn lends_rightly<'a>(top: &TopLevel<'a>, scope: &Scope<'a>, call: &Call) -> bool
     ensures { result
         ≡ list_all (arg_lends (program_view top.now) scope.now) (call_args (call_view call.now)) }
@@ -215,6 +224,7 @@ pub fn lent_name<'b>(param: &Param, arg: &'b Arg) -> Option<&'b Name>
     }
 }
 
+/// Whether a name stands once in the call's arguments; it does where there is none.
 fn is_alone(name: Option<&Name>, call: &Call) -> bool
     ensures { result ≡ passes (λ x. call_mentions x (call_view call.now) == 1) name.entry }
 {
@@ -224,6 +234,7 @@ fn is_alone(name: Option<&Name>, call: &Call) -> bool
     }
 }
 
+/// Whether each name that these arguments pass by `&mut` stands once in the call's arguments.
 fn all_alone(params: &[Param], args: &[Arg], call: &Call) -> bool
     ensures { result ≡ all_lent (λ x. call_mentions x (call_view call.now) == 1) params.now
         (args_view args.now) }

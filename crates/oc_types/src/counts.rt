@@ -20,6 +20,7 @@ use oc_tree::tree::{Function, NvDecl, StmtKind};
 use std::alloc::{AllocError, Global};
 use std::marker::Model;
 
+/// Whether two annotations ask for the same.
 fn same_policy(left: Annotated, right: Annotated) -> bool
     ensures { result ≡ same_policy left right }
 {
@@ -38,6 +39,7 @@ fn same_policy(left: Annotated, right: Annotated) -> bool
     }
 }
 
+/// Whether a policy is among these.
 fn is_noted(policies: &[Annotated], policy: Annotated) -> bool
     ensures { result ≡ list_any (same_policy policy) policies.now }
 {
@@ -60,6 +62,8 @@ fn note(policies: &mut Vec<Annotated>, policy: Annotated) -> Result<(), AllocErr
     Ok(())
 }
 
+/// Notes the policy that a statement asks for, if it asks for one that isn't there. Err is want of
+/// memory.
 fn note_policy<'a>(
     policies: &mut Vec<Annotated>,
     place: Place<'a>,
@@ -89,6 +93,7 @@ fn note_policy<'a>(
     }
 }
 
+/// How many variables a statement declares itself: 1 or 0.
 fn own_declares(kind: &StmtKind) -> u64
     ensures { result ≡ own_declares (kind_view kind.now) }
 {

@@ -20,6 +20,8 @@ use oc_tree::pulls::own_pulls;
 use oc_tree::tree::{Arg, Call, Param, StmtKind};
 use std::alloc::{AllocError, Global};
 
+/// Whether a name stands once in the statement's own expressions and arguments; it does where there
+/// is none.
 fn stands_once(name: Option<&Name>, kind: &StmtKind) -> bool
     ensures { result ≡ passes (λ x. own_mentions x (kind_view kind.now) == 1) name.entry }
 {
@@ -29,6 +31,7 @@ fn stands_once(name: Option<&Name>, kind: &StmtKind) -> bool
     }
 }
 
+/// Whether each name that these arguments pass by `&mut` stands once in the statement.
 fn all_apart(params: &[Param], args: &[Arg], kind: &StmtKind) -> bool
     ensures { result ≡ all_lent (λ x. own_mentions x (kind_view kind.now) == 1) params.now
         (args_view args.now) }
@@ -44,6 +47,7 @@ fn all_apart(params: &[Param], args: &[Arg], kind: &StmtKind) -> bool
     true
 }
 
+/// Whether what a call passes by `&mut` stands just there in the statement.
 fn lends_apart(top: &TopLevel, kind: &StmtKind, call: &Call) -> bool
     ensures { result
         ≡ lends_apart (program_view top.now) (kind_view kind.now) (call_view call.now) }
@@ -66,6 +70,8 @@ fn all_lend_apart(top: &TopLevel, statement: &Statement) -> bool
     true
 }
 
+/// Whether the called function has a mark: it assigns the nonvolatile variable, or calls one that
+/// does.
 fn callee_assigns(top: &TopLevel, name: &Name, marks: &Marks, call: &Call) -> bool
     requires { IsAssigning (program_view top.now) name.now marks.now }
     ensures { result
@@ -78,6 +84,8 @@ fn callee_assigns(top: &TopLevel, name: &Name, marks: &Marks, call: &Call) -> bo
     }
 }
 
+/// Whether a function that the statement calls assigns the nonvolatile variable, or calls one that
+/// does.
 fn some_callee_assigns(top: &TopLevel, name: &Name, marks: &Marks, statement: &Statement) -> bool
     requires { IsAssigning (program_view top.now) name.now marks.now }
     ensures { result
@@ -119,6 +127,8 @@ fn nv_disturbed(
     }
 }
 
+/// Whether some nonvolatile variable stands in a statement that calls a function which assigns it,
+/// or which calls one that does. Err is want of memory.
 fn some_nv_disturbed(
     alloc: Global,
     top: &TopLevel,

@@ -31,6 +31,7 @@ use oc_tree::name::Name;
 use oc_tree::tree::{Decl, DeclKind, Function, NvDecl, Program};
 use std::alloc::{AllocError, Global};
 
+/// The rule that is broken, if one is, with the line of the element that breaks it.
 fn at_line(line: u32, rule: Option<u8>) -> Option<Broken>
     ensures { (n : Tally) → outcome result n ≡ element line rule n }
 {
@@ -52,6 +53,8 @@ fn name_rule(top: &TopLevel, before: Before, name: &Name, full: bool) -> Option<
     if full { Some(LIMIT_PASSED) } else { None }
 }
 
+/// The lowest rule that the declaration of a nonvolatile variable breaks, where it is counted
+/// already.
 fn nv_rule(top: &TopLevel, before: Before, counts: &Counts, name: &Name, nv: NvDecl) -> Option<u8>
     ensures lowest { result
         ≡ lowest (item_rules (program_view top.now) counts.now before (nv_item name.now nv)) }
@@ -110,6 +113,8 @@ fn function_rule(
     }
 }
 
+/// Goes through the declaration of a nonvolatile variable: counts it, and answers the lowest rule
+/// that it breaks.
 #[tactic(auto, using(crate::proofs::SmallCounts::with_nv))]
 fn walk_nv(
     top: &TopLevel,
@@ -176,6 +181,7 @@ fn walk_body<'a>(
     }
 }
 
+/// Goes through the next function, if there is one: its head, and its body. Err is want of memory.
 fn walk_function<'a>(
     alloc: Global,
     top: &TopLevel<'a>,
@@ -235,6 +241,7 @@ fn walk_item<'a>(
     }
 }
 
+/// How many declarations there are behind one more of this kind.
 fn after_item(before: Before, kind: DeclKind) -> Before
     requires sensors { before.sensors < usize.MAX }
     requires ports { before.ports < usize.MAX }
@@ -263,6 +270,8 @@ fn end_rule(top: &TopLevel) -> Option<u8>
     }
 }
 
+/// Goes through all declarations and the end of the source, up to the first element that breaks a
+/// rule. Err is want of memory.
 fn walk_program<'a>(alloc: Global, top: &TopLevel<'a>) -> Result<Option<Broken>, AllocError>
     requires { program_nodes (program_view top.now) < 2 ^ 32 }
     ensures { IfOk result (λ r. Ends r (program_walk (program_view top.now))) }

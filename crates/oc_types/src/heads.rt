@@ -82,6 +82,7 @@ pub fn has_array_value(params: &[Param]) -> bool
     false
 }
 
+/// Whether a statement is a `return`.
 fn is_return(statement: &Stmt) -> bool
     ensures { result ≡ is_return (stmt_view statement.now) }
 {
@@ -91,6 +92,7 @@ fn is_return(statement: &Stmt) -> bool
     }
 }
 
+/// Whether the last of these statements is a `return`; not so where there is none.
 fn last_returns(statements: &[Stmt]) -> bool
     ensures { result ≡ stmts_return (stmts_view statements.now) }
 {
@@ -101,6 +103,7 @@ fn last_returns(statements: &[Stmt]) -> bool
     is_return(&statements[count - 1])
 }
 
+/// Whether the last statement of a block is a `return`.
 fn block_returns(block: &Block) -> bool
     ensures { result ≡ block_returns (block_view block.now) }
 {

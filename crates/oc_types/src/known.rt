@@ -21,18 +21,21 @@ pub fn takes_name<'a>(top: &TopLevel<'a>, scope: &Scope<'a>, kind: &StmtKind) ->
     }
 }
 
+/// Whether a name stands for a visible variable.
 fn is_variable<'a>(top: &TopLevel<'a>, scope: &Scope<'a>, name: &Name) -> bool
     ensures { result ≡ is_variable (program_view top.now) scope.now name.now }
 {
     top.variable(scope, name).is_some()
 }
 
+/// Whether a name is that of a sensor.
 fn is_sensor(top: &TopLevel, name: &Name) -> bool
     ensures { result ≡ is_name_of (program_view top.now).names.sensors name.now }
 {
     top.sensor_place(name).is_some()
 }
 
+/// Whether the names in an expression are visible, and of the kinds that are needed.
 #[cycle(known)]
 fn expr_known<'a>(top: &TopLevel<'a>, scope: &Scope<'a>, expr: &Expr) -> bool
     ensures { result ≡ expr_known (program_view top.now) scope.now (expr_view expr.now) }
@@ -50,6 +53,7 @@ fn expr_known<'a>(top: &TopLevel<'a>, scope: &Scope<'a>, expr: &Expr) -> bool
     }
 }
 
+/// Whether there is the called function, and the names in the call's arguments are visible.
 #[cycle(known)]
 fn call_known<'a>(top: &TopLevel<'a>, scope: &Scope<'a>, call: &Call) -> bool
     ensures { result ≡ call_known (program_view top.now) scope.now (call_view call.now) }
@@ -65,6 +69,7 @@ fn call_known<'a>(top: &TopLevel<'a>, scope: &Scope<'a>, call: &Call) -> bool
     true
 }
 
+/// Whether the names in an argument are visible, and of the kinds that are needed.
 #[cycle(known)]
 fn arg_known<'a>(top: &TopLevel<'a>, scope: &Scope<'a>, arg: &Arg) -> bool
     ensures { result ≡ arg_known (program_view top.now) scope.now (arg_view arg.now) }
@@ -75,6 +80,8 @@ fn arg_known<'a>(top: &TopLevel<'a>, scope: &Scope<'a>, arg: &Arg) -> bool
     }
 }
 
+/// Whether the names on the right side of a `let` or an assignment are visible, and of the kinds
+/// that are needed.
 fn right_known<'a>(top: &TopLevel<'a>, scope: &Scope<'a>, right: &Right) -> bool
     ensures { result ≡ right_known (program_view top.now) scope.now (right_view right.now) }
 {
@@ -85,6 +92,7 @@ fn right_known<'a>(top: &TopLevel<'a>, scope: &Scope<'a>, right: &Right) -> bool
     }
 }
 
+/// Whether the names that a statement itself uses are visible, and of the kinds that are needed.
 fn kind_known<'a>(top: &TopLevel<'a>, scope: &Scope<'a>, kind: &StmtKind) -> bool
     ensures { result ≡ kind_known (program_view top.now) scope.now (kind_view kind.now) }
 {

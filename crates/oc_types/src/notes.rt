@@ -51,6 +51,8 @@ impl<'a> Model for Notes<'a> {
         t.noted.items) };
 }
 
+/// Marks the functions that assign a nonvolatile variable, those that name it, and those that call
+/// one of them, directly or through others. Err is want of memory.
 fn note<'a>(
     alloc: Global,
     program: &Program,

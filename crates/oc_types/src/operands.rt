@@ -11,6 +11,7 @@ use crate::types::{
 use oc_tree::scope::Var;
 use oc_tree::tree::{Arg, BinaryOp, Call, Expr, Right, Scalar, StmtKind, UnaryOp};
 
+/// A variable, if there is one and it is a parameter by reference.
 fn only_reference(variable: Option<Var>) -> Option<Var>
     ensures { result ≡ only_reference variable }
 {
@@ -34,6 +35,7 @@ pub fn find_reference<'a>(top: &TopLevel<'a>, scope: &Scope<'a>, expr: &Expr) ->
     }
 }
 
+/// Whether a prefix operator takes an operand of this type.
 fn unary_fits(op: UnaryOp, operand: Option<Scalar>) -> bool
     ensures { result ≡ unary_fits op operand }
 {
@@ -43,6 +45,7 @@ fn unary_fits(op: UnaryOp, operand: Option<Scalar>) -> bool
     }
 }
 
+/// Whether an operator takes operands of these types.
 fn binary_fits(op: BinaryOp, left: Option<Scalar>, right: Option<Scalar>) -> bool
     ensures { result ≡ binary_fits op left right }
 {
@@ -53,6 +56,8 @@ fn binary_fits(op: BinaryOp, left: Option<Scalar>, right: Option<Scalar>) -> boo
     }
 }
 
+/// Whether the operands in an expression are of the types that their operators take, an index is a
+/// number into an array, and `*` stands on a reference to a scalar.
 #[cycle(fits)]
 fn expr_fits<'a>(top: &TopLevel<'a>, scope: &Scope<'a>, expr: &Expr) -> bool
     ensures { result ≡ expr_fits (program_view top.now) scope.now (expr_view expr.now) }
@@ -73,6 +78,7 @@ fn expr_fits<'a>(top: &TopLevel<'a>, scope: &Scope<'a>, expr: &Expr) -> bool
     }
 }
 
+/// Whether the operands in a call's arguments are of the types that their operators take.
 #[cycle(fits)]
 fn call_fits<'a>(top: &TopLevel<'a>, scope: &Scope<'a>, call: &Call) -> bool
     ensures { result ≡ call_fits (program_view top.now) scope.now (call_view call.now) }
@@ -85,6 +91,8 @@ fn call_fits<'a>(top: &TopLevel<'a>, scope: &Scope<'a>, call: &Call) -> bool
     true
 }
 
+/// Whether the operands in an argument are of the types that their operators take. A reference may
+/// stand there alone.
 #[cycle(fits)]
 fn arg_fits<'a>(top: &TopLevel<'a>, scope: &Scope<'a>, arg: &Arg) -> bool
     ensures { result ≡ arg_fits (program_view top.now) scope.now (arg_view arg.now) }
@@ -96,6 +104,8 @@ fn arg_fits<'a>(top: &TopLevel<'a>, scope: &Scope<'a>, arg: &Arg) -> bool
     }
 }
 
+/// Whether the operands on the right side of a `let` or an assignment are of the types that their
+/// operators take.
 fn right_fits<'a>(top: &TopLevel<'a>, scope: &Scope<'a>, right: &Right) -> bool
     ensures { result ≡ right_fits (program_view top.now) scope.now (right_view right.now) }
 {

@@ -7,6 +7,7 @@ ghost use Rattle.oc_tree.specs.Walks.{arg_skips, call_skips, expr_skips, kind_sk
 use oc_tree::pulls::expr_pulls;
 use oc_tree::tree::{Arg, BinaryOp, Call, Expr, Right, StmtKind};
 
+/// Whether an operator may skip its right operand: `&&` or `||`.
 fn may_skip(op: BinaryOp) -> bool
     ensures { result ≡ may_skip op }
 {
@@ -16,6 +17,7 @@ fn may_skip(op: BinaryOp) -> bool
     }
 }
 
+/// Whether an input or a call stands in the right operand of an `&&` or `||` in the expression.
 #[cycle(skips)]
 fn expr_skips(expr: &Expr) -> bool
     requires { expr_pulls (expr_view expr.now) < 2 ^ 32 }
@@ -36,6 +38,7 @@ fn expr_skips(expr: &Expr) -> bool
     }
 }
 
+/// Whether an input or a call stands in the right operand of an `&&` or `||` in a call's arguments.
 #[cycle(skips)]
 fn call_skips(call: &Call) -> bool
     requires { call_pulls (call_view call.now) < 2 ^ 32 }
@@ -49,6 +52,7 @@ fn call_skips(call: &Call) -> bool
     false
 }
 
+/// Whether an input or a call stands in the right operand of an `&&` or `||` in the argument.
 #[cycle(skips)]
 fn arg_skips(arg: &Arg) -> bool
     requires { arg_pulls (arg_view arg.now) < 2 ^ 32 }
@@ -60,6 +64,8 @@ fn arg_skips(arg: &Arg) -> bool
     }
 }
 
+/// Whether an input or a call stands in the right operand of an `&&` or `||` on the right side of a
+/// `let` or an assignment.
 fn right_skips(right: &Right) -> bool
     requires { right_pulls (right_view right.now) < 2 ^ 32 }
     ensures { result ≡ right_skips (right_view right.now) }
@@ -71,6 +77,8 @@ fn right_skips(right: &Right) -> bool
     }
 }
 
+/// Whether an input or a call stands in the right operand of an `&&` or `||` in a statement's own
+/// expressions, or in the condition of a `while`.
 fn kind_skips(kind: &StmtKind) -> bool
     requires { own_pulls (kind_view kind.now) < 2 ^ 32 }
     ensures { result ≡ kind_skips (kind_view kind.now) }

@@ -15,6 +15,8 @@ use oc_tree::name::Name;
 use oc_tree::tree::{Arg, Call};
 use std::alloc::{AllocError, Global};
 
+/// Whether the called function has a mark: it is the caller, or calls it directly or through
+/// others.
 fn leads_back(top: &TopLevel, number: usize, callers: &Marks, call: &Call) -> bool
     requires { IsCallers (program_view top.now) number callers.now }
     ensures { result
@@ -40,6 +42,8 @@ pub fn calls_back(top: &TopLevel, number: usize, callers: &Marks, statement: &St
     false
 }
 
+/// Whether the name is that of a nonvolatile variable, and the function at a place names it or
+/// calls one that does. Err is want of memory.
 fn name_exposes<'a>(
     alloc: Global,
     top: &TopLevel<'a>,
@@ -65,6 +69,8 @@ fn name_exposes<'a>(
     }
 }
 
+/// Whether an argument passes a nonvolatile variable by reference to the function at a place, which
+/// names it or calls one that does. Err is want of memory.
 fn arg_exposes<'a>(
     alloc: Global,
     top: &TopLevel<'a>,
@@ -84,6 +90,8 @@ fn arg_exposes<'a>(
     }
 }
 
+/// Whether one of these arguments passes a nonvolatile variable by reference to the function at a
+/// place, which names it or calls one that does. Err is want of memory.
 fn args_expose<'a>(
     alloc: Global,
     top: &TopLevel<'a>,
@@ -105,6 +113,8 @@ fn args_expose<'a>(
     Ok(false)
 }
 
+/// Whether a call passes a nonvolatile variable by reference to a function that names it or calls
+/// one that does. Err is want of memory.
 fn call_exposes<'a>(
     alloc: Global,
     top: &TopLevel<'a>,

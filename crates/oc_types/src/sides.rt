@@ -11,6 +11,8 @@ use crate::types::{
 };
 use oc_tree::tree::{Param, Scalar, StmtKind, ValueKind};
 
+/// Whether the type that is written in a `let` is another one than that of the right side; not so
+/// where none is written.
 fn written_differs(written: Option<ValueKind>, right: Option<Scalar>) -> bool
     ensures { result ≡ written_differs written right }
 {
@@ -20,6 +22,8 @@ fn written_differs(written: Option<ValueKind>, right: Option<Scalar>) -> bool
     }
 }
 
+/// Whether the type that is written in a `let` is no array of so many words; not so where none is
+/// written.
 fn written_array_differs(written: Option<ValueKind>, words: u32) -> bool
     ensures { result ≡ written_array_differs written words }
 {
@@ -62,6 +66,7 @@ pub fn condition_is_number<'a>(top: &TopLevel<'a>, scope: &Scope<'a>, kind: &Stm
     }
 }
 
+/// Whether an array may not have so many words: less than 1, or more than 65,536.
 fn is_bad_length(words: u32) -> bool
     ensures { result ≡ is_bad_length words }
 {
@@ -78,6 +83,8 @@ pub fn has_bad_length(kind: ValueKind) -> bool
     }
 }
 
+/// Whether the type that is written in a `let` is an array of a length that none may have; not so
+/// where none is written.
 fn written_bad_length(written: Option<ValueKind>) -> bool
     ensures { result ≡ written_bad_length written }
 {

@@ -30,6 +30,7 @@ const GREATEST_WEIGHT: u64 = 4294967296;
 /// The most words of stack that `main` may take.
 const MOST_WORDS: u64 = 65536;
 
+/// Whether one of these weights is greater than any that a function may have.
 fn some_too_heavy(weights: &[u64]) -> bool
     ensures { result ≡ list_any (nat_lt weight_limit) weights.now }
 {
@@ -80,6 +81,8 @@ fn size_rule(alloc: Global, program: &Program) -> Result<Option<u8>, AllocError>
     Ok(None)
 }
 
+/// The lowest rule on weight and stack that is broken, if one is, with the last line. Err is want
+/// of memory.
 fn broken_size(alloc: Global, program: &Program) -> Result<Option<Broken>, AllocError>
     requires { program_size (program_view program.now) ≤ statement_limit }
     ensures { IfOk result

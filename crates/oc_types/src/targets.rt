@@ -30,6 +30,7 @@ fn is_writable(origin: Origin) -> bool
     }
 }
 
+/// Whether a variable is a `let mut` or a nonvolatile one; not so where there is none.
 fn may_be_written(variable: Option<Var>) -> bool
     ensures { result ≡ origin_is is_writable variable }
 {
@@ -39,6 +40,8 @@ fn may_be_written(variable: Option<Var>) -> bool
     }
 }
 
+/// Whether an array may be written to: a `let mut`, a nonvolatile one, or a parameter by `&mut`;
+/// not so where there is none.
 fn is_writable_array(variable: Option<Var>) -> bool
     ensures { result ≡ origin_is is_writable_array variable }
 {
@@ -71,6 +74,7 @@ pub fn is_nv(variable: Option<Var>) -> bool
     }
 }
 
+/// Whether a variable is no reference; not so where there is none.
 fn is_own(variable: Option<Var>) -> bool
     ensures { result ≡ origin_is is_own variable }
 {

@@ -59,6 +59,7 @@ pub fn nv_kind(nv: NvDecl) -> ValueKind
     }
 }
 
+/// The table of these names by their places. Err is want of memory.
 fn names_table<'a>(alloc: Global, names: &'a [Name]) -> Result<Table<'a>, AllocError>
     ensures { IfOk result (λ t. t ≡ names.now) }
 {
@@ -69,6 +70,7 @@ fn names_table<'a>(alloc: Global, names: &'a [Name]) -> Result<Table<'a>, AllocE
     Table::new(alloc, seen)
 }
 
+/// Whether a place is among the first `count`; not so where there is none.
 fn stands_before(place: Option<usize>, count: usize) -> bool
     ensures { result ≡ stands_before place count }
 {
@@ -181,6 +183,7 @@ impl<'a> TopLevel<'a> {
         }
     }
 
+    /// The function with this number, if there is one.
     fn nth(&self, number: usize) -> Option<&'a Function>
         ensures { option_map (λ f. function_view f.now) result
             ≡ slice_get (program_view self.now).functions number }
@@ -210,6 +213,7 @@ impl<'a> TopLevel<'a> {
         }
     }
 
+    /// The nonvolatile variable of this name, if there is one.
     fn nv(&self, name: &Name) -> Option<Var>
         ensures { result ≡ nv_named (program_view self.now) name.now }
     {

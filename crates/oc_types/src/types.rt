@@ -138,6 +138,7 @@ pub fn has_elements(variable: Option<Var>) -> bool
     }
 }
 
+/// The type of a prefix operator's result.
 fn unary_type(op: UnaryOp) -> Scalar
     ensures { result ≡ unary_type op }
 {
@@ -147,6 +148,7 @@ fn unary_type(op: UnaryOp) -> Scalar
     }
 }
 
+/// Whether an operator is `+`, `-`, `*`, `/` or `%`, whose result is a number.
 fn is_arithmetic(op: BinaryOp) -> bool
     ensures { result ≡ is_arithmetic op }
 {
@@ -156,6 +158,7 @@ fn is_arithmetic(op: BinaryOp) -> bool
     }
 }
 
+/// The type of an operator's result.
 fn binary_type(op: BinaryOp) -> Scalar
     ensures { result ≡ binary_type op }
 {

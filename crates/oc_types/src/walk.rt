@@ -194,6 +194,7 @@ fn declare<'a>(
     Ok(())
 }
 
+/// Whether no statement is left from this place on.
 #[tactic(auto, using(crate::proofs::Ends::is_end_drop))]
 fn is_end(statements: &[Stmt], next: usize) -> bool
     ensures { result ≡ is_end (stmts_view (drop next statements.now)) }
@@ -242,6 +243,8 @@ pub fn walk_block<'a>(
     Ok(None)
 }
 
+/// Goes through a statement and those inside it, up to the first that breaks a rule. The scope is
+/// as before in the end. Err is want of memory.
 #[cycle(walk)]
 fn walk_stmt<'a>(
     alloc: Global,
@@ -307,6 +310,8 @@ fn rule_of<'a>(
     Ok(rule)
 }
 
+/// Goes through the statements inside a statement, up to the first that breaks a rule. The scope is
+/// as before in the end. Err is want of memory.
 #[cycle(walk)]
 fn walk_parts<'a>(
     alloc: Global,

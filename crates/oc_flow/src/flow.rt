@@ -15,6 +15,7 @@ use oc_io::Memory;
 use oc_tree::checked::Checked;
 use std::alloc::{AllocError, Global};
 
+/// The flow and the inputs of a checked program, by what its statements do. Err is want of memory.
 fn summaries_of(alloc: Global, checked: &Checked) -> Result<Summaries, AllocError>
     ensures summaries { IfOk result (λ s. s ≡ checked.now) }
     ensures checked { IfOk result (λ s. IsChecked s.program s.groups) }

@@ -19,6 +19,7 @@ use oc_tree::checked::Checked;
 use oc_tree::tree::VarId;
 use std::alloc::{AllocError, Global};
 
+/// Adds the nonvolatile variables, of which there are so many. Err is want of memory.
 fn add_nonvolatile(variables: &mut Vec<VarId>, count: u32) -> Result<(), AllocError>
     ensures { OnOk result (variables.new.items ≡ variables.old.items ++ map Nv (from 0 count)) }
 {
@@ -28,6 +29,7 @@ fn add_nonvolatile(variables: &mut Vec<VarId>, count: u32) -> Result<(), AllocEr
     Ok(())
 }
 
+/// Adds the parameters of a function that has so many. Err is want of memory.
 fn add_params(variables: &mut Vec<VarId>, count: u32) -> Result<(), AllocError>
     ensures { OnOk result (variables.new.items ≡ variables.old.items ++ map Param (from 0 count)) }
 {
@@ -37,6 +39,7 @@ fn add_params(variables: &mut Vec<VarId>, count: u32) -> Result<(), AllocError>
     Ok(())
 }
 
+/// Adds the variables that these statements declare. Err is want of memory.
 fn add_declared(variables: &mut Vec<VarId>, effects: &[Effect]) -> Result<(), AllocError>
     ensures { OnOk result
         (variables.new.items ≡ variables.old.items ++ declared_of (map effect_view effects.now)) }
@@ -56,6 +59,8 @@ struct Outer {
     params: u32,
 }
 
+/// The variables that a function doesn't declare: the nonvolatile ones, its parameters and its
+/// result. Err is want of memory.
 fn outer_of(alloc: Global, outer: Outer) -> Result<Vec<VarId>, AllocError>
     ensures { IfOk result (λ r. r.items ≡ outer_of outer.nonvolatile outer.params) }
 {
@@ -66,6 +71,8 @@ fn outer_of(alloc: Global, outer: Outer) -> Result<Vec<VarId>, AllocError>
     Ok(variables)
 }
 
+/// The variables of a function: those that it doesn't declare, and then those that its statements
+/// declare. Err is want of memory.
 fn variables_of(alloc: Global, outer: Outer, effects: &[Effect]) -> Result<Vec<VarId>, AllocError>
     ensures { IfOk result
         (λ r. r.items
@@ -76,6 +83,8 @@ fn variables_of(alloc: Global, outer: Outer, effects: &[Effect]) -> Result<Vec<V
     Ok(variables)
 }
 
+/// Which of a function's variables lead to which, directly or through each other, by its statements
+/// and by what is known of the functions that they call. Err is want of memory.
 fn table_of(
     alloc: Global,
     known: &[Option<Known>],
@@ -93,6 +102,8 @@ fn table_of(
     Ok(table)
 }
 
+/// What is known of a function by its statements and by what is known of the functions that they
+/// call. Err is want of memory.
 fn know(
     alloc: Global,
     known: &[Option<Known>],
@@ -108,6 +119,7 @@ fn know(
     Ok(Known::new(table, outer_of(alloc, outer)?, received))
 }
 
+/// How many variables the function at a place doesn't declare, besides its result.
 fn outer_at(checked: &Checked, f: usize) -> Outer
     requires { f < length checked.now.program.functions }
     ensures nonvolatile { result.nonvolatile ≡ length checked.now.program.names.nvs }
@@ -120,6 +132,7 @@ fn outer_at(checked: &Checked, f: usize) -> Outer
     }
 }
 
+/// Gets to know a function whose callees are known. Err is want of memory.
 fn learn_ready(
     alloc: Global,
     effects: &Effects,
@@ -145,6 +158,7 @@ fn learn_ready(
     Ok(())
 }
 
+/// Whether the function at a place is known; not so where there is no such function.
 fn is_known_at(known: &[Option<Known>], f: usize) -> bool
     ensures { result ≡ is_some (known_at known.now f) }
 {
@@ -191,6 +205,7 @@ fn learn_more(
     Ok(())
 }
 
+/// A list in which none of so many functions is known. Err is want of memory.
 fn nothing_known(alloc: Global, count: usize) -> Result<Vec<Option<Known>>, AllocError>
     ensures { IfOk result (λ r. r.items ≡ replicate count None) }
 {

@@ -12,6 +12,7 @@ use oc_effects::effect::{Called, Effect};
 use oc_tree::tree::VarId;
 use std::alloc::{AllocError, Global};
 
+/// Adds a variable, if there is one. Err is want of memory.
 fn add_variable(brought: &mut Vec<VarId>, variable: Option<VarId>) -> Result<(), AllocError>
     ensures { OnOk result
         (Gathers (λ v. is_variable_of variable v) brought.old.items brought.new.items) }
@@ -44,6 +45,8 @@ fn add_received(
     Ok(())
 }
 
+/// Adds the variables into which a call brings input, by what is known of the called function. Err
+/// is want of memory.
 fn add_from_callee(
     callee: &Known,
     effect: &Effect,
@@ -60,6 +63,7 @@ fn add_from_callee(
     Ok(())
 }
 
+/// What is known of the called function, if it is known.
 fn callee_of<'k>(known: &'k [Option<Known>], call: &Called) -> Option<&'k Known>
     ensures { option_map (λ k. k.now) result ≡ known_at known.now (called_view call.now).function }
 {
@@ -69,6 +73,8 @@ fn callee_of<'k>(known: &'k [Option<Known>], call: &Called) -> Option<&'k Known>
     }
 }
 
+/// Adds the variables into which a call brings input; none where the called function isn't known.
+/// Err is want of memory.
 fn add_by_call(
     known: &[Option<Known>],
     effect: &Effect,
@@ -88,6 +94,8 @@ fn add_by_call(
     }
 }
 
+/// Adds the variables into which a statement brings input by its call, if it has one. Err is want
+/// of memory.
 fn add_called(
     known: &[Option<Known>],
     effect: &Effect,
@@ -106,6 +114,7 @@ fn add_called(
     }
 }
 
+/// Adds the variable that a statement sets to an input, if it does so. Err is want of memory.
 fn add_sensed(effect: &Effect, brought: &mut Vec<VarId>) -> Result<(), AllocError>
     ensures { OnOk result
         (Gathers (λ v. (effect_view effect.now).senses &&
@@ -118,6 +127,8 @@ fn add_sensed(effect: &Effect, brought: &mut Vec<VarId>) -> Result<(), AllocErro
     Ok(())
 }
 
+/// Adds the variables into which a statement brings input, by itself or by its call. Err is want of
+/// memory.
 fn add_brought(
     known: &[Option<Known>],
     effect: &Effect,

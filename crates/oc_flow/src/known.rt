@@ -74,6 +74,7 @@ impl Known {
     }
 }
 
+/// The variable that a call lends for the parameter with this number, if it lends one.
 fn lent_at(call: &Called, i: u32) -> Option<VarId>
     ensures { result ≡ (arg_at (called_view call.now) i).lent }
 {

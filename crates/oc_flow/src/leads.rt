@@ -21,6 +21,7 @@ fn link_all(table: &mut Table, from: &[VarId], t: VarId)
     }
 }
 
+/// Lets the variables that an argument names lead to one; none where there is no such argument.
 fn link_named(table: &mut Table, call: &Called, i: u32, t: VarId)
     ensures { Adds (λ a b. is_among a (arg_at (called_view call.now) i).named && same_variable b t)
         table.old table.new }
@@ -42,6 +43,7 @@ fn link_begins(table: &mut Table, call: &Called, x: VarId, t: VarId)
     }
 }
 
+/// Lets variables lead to the one that a statement sets, by the value that it sets it to.
 fn value_leads(table: &mut Table, effect: &Effect)
     ensures { Adds (leads_by_value (effect_view effect.now)) table.old table.new }
 {
@@ -80,6 +82,7 @@ fn leads_from(table: &mut Table, callee: &Known, effect: &Effect, call: &Called,
     }
 }
 
+/// Lets the caller's variables lead to others by what is known of the called function.
 fn leads_to_callee(table: &mut Table, callee: &Known, effect: &Effect, call: &Called)
     ensures { Adds (λ a b. list_any
         (λ x. leads_from callee.now (effect_view effect.now) (called_view call.now) x a b)
@@ -90,6 +93,8 @@ fn leads_to_callee(table: &mut Table, callee: &Known, effect: &Effect, call: &Ca
     }
 }
 
+/// Lets the caller's variables lead to others by a call; to none where the called function isn't
+/// known.
 fn call_leads(table: &mut Table, known: &[Option<Known>], effect: &Effect, call: &Called)
     ensures { Adds (leads_called known.now (effect_view effect.now) (Some (called_view call.now)))
         table.old table.new }
@@ -99,6 +104,7 @@ fn call_leads(table: &mut Table, known: &[Option<Known>], effect: &Effect, call:
     }
 }
 
+/// Lets variables lead to others by one statement: by its value, and by its call.
 fn effect_leads(table: &mut Table, known: &[Option<Known>], effect: &Effect)
     ensures { Adds (leads_known known.now (effect_view effect.now)) table.old table.new }
 {
@@ -118,6 +124,7 @@ pub fn all_leads(table: &mut Table, known: &[Option<Known>], effects: &[Effect])
     }
 }
 
+/// Whether the function that a statement calls is known, or it calls none.
 fn is_known(known: &[Option<Known>], effect: &Effect) -> bool
     ensures { result ≡ is_ready known.now (effect_view effect.now).call }
 {

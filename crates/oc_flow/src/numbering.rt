@@ -80,6 +80,7 @@ impl Numbers {
         }
     }
 
+    /// The number at a slot, where there is one.
     fn get(&self, slot: usize) -> Option<usize>
         ensures { result ≡ entry_of self.now slot }
     {
@@ -119,6 +120,8 @@ impl Numbers {
     }
 }
 
+/// The numbers of these variables by their slots, in their order; of several that are the same that
+/// of the first. Err is want of memory.
 fn numbers_of(alloc: Global, variables: &[VarId]) -> Result<Numbers, AllocError>
     ensures { IfOk result (λ m. (v : VarId) → entry_of m (slot v) ≡ number_in variables.now v) }
 {

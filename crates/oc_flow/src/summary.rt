@@ -33,6 +33,7 @@ impl<'a> Model for Summaries<'a> {
     ghost invariant = { λ s. AllKnown s.effects.program s.known.items };
 }
 
+/// Whether `u` flows into `v` in the function at a place; not so where nothing is known of it.
 fn known_flows(known: &[Option<Known>], function: u32, u: VarId, v: VarId) -> bool
     ensures { result ≡ known_flows (known_at known.now function) u v }
 {

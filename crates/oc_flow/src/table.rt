@@ -41,6 +41,7 @@ fn no_rows(alloc: Global, count: usize) -> Result<Vec<Vec<bool>>, AllocError>
     Ok(rows)
 }
 
+/// Whether the cell in this row and column is set.
 fn at(rows: &[Vec<bool>], i: usize, j: usize) -> bool
     requires square { IsSquare (length rows.now) (cells_of rows.now) }
     requires row { i < length rows.now }
@@ -50,6 +51,7 @@ fn at(rows: &[Vec<bool>], i: usize, j: usize) -> bool
     rows[i][j]
 }
 
+/// A copy of a row. Err is want of memory.
 fn copy_of(alloc: Global, row: &[bool]) -> Result<Vec<bool>, AllocError>
     ensures { IfOk result (λ r. r.items ≡ row.now) }
 {
@@ -58,6 +60,7 @@ fn copy_of(alloc: Global, row: &[bool]) -> Result<Vec<bool>, AllocError>
     Ok(copy)
 }
 
+/// Sets the cell in this row and column.
 fn set(rows: &mut Vec<Vec<bool>>, i: usize, j: usize)
     requires square { IsSquare (length rows.old.items) (cells_of rows.old.items) }
     requires row { i < length rows.old.items }
@@ -77,6 +80,7 @@ fn join(cells: &mut [bool], others: &[bool])
     }
 }
 
+/// Sets in a row what is set in another of its length.
 fn join_row(row: &mut Vec<bool>, other: &[bool])
     requires { length other.now ≡ length row.old.items }
     ensures { Joined other.now row.old.items row.new.items }
@@ -185,6 +189,7 @@ impl Table {
         }
     }
 
+    /// Whether a variable has a mark; not so where it isn't in the table.
     fn is_marked(&self, marks: &[bool], v: VarId) -> bool
         requires { length marks.now ≡ length self.now.variables }
         ensures { result ≡ received_at marks.now (number_in self.now.variables v) }

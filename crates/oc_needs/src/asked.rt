@@ -24,6 +24,7 @@ pub struct Asked {
     pub held: Vec<StmtId>,
 }
 
+/// The variable that an annotation names.
 fn variable_of(note: Note) -> VarId
     ensures { result ≡ note_variable note }
 {
@@ -54,6 +55,8 @@ fn is_held(kind: PolicyKind, effect: &Effect) -> bool
     }
 }
 
+/// The variables that the annotations of a policy of this kind name, in the order of these
+/// statements. Err is want of memory.
 fn annotated_by(
     alloc: Global,
     kind: PolicyKind,
@@ -72,6 +75,8 @@ fn annotated_by(
     Ok(annotated)
 }
 
+/// Those of these statements that must be held together with the inputs of a policy of this kind.
+/// Err is want of memory.
 fn held_by(alloc: Global, kind: PolicyKind, effects: &[Effect]) -> Result<Vec<StmtId>, AllocError>
     ensures { IfOk result (λ s. s.items ≡ held_by kind (map effect_view effects.now)) }
 {

@@ -103,12 +103,14 @@ fn brought_by(
     Ok(kept)
 }
 
+/// How many nonvolatile variables the program has.
 fn nv_count(effects: &Effects) -> usize
     ensures { result ≡ length effects.now.program.names.nvs }
 {
     effects.checked().program().names.nvs.len()
 }
 
+/// How many parameters the function at a place has.
 fn param_count(effects: &Effects, function: usize) -> usize
     requires { function < length effects.now.program.functions }
     ensures { result ≡ length (params_at effects.now.program function) }
@@ -116,6 +118,7 @@ fn param_count(effects: &Effects, function: usize) -> usize
     effects.checked().program().functions[function].params.len()
 }
 
+/// Adds the nonvolatile variables, of which there are so many. Err is want of memory.
 fn add_nvs(variables: &mut Vec<VarId>, count: usize) -> Result<(), AllocError>
     ensures { OnOk result (variables.new.items ≡ variables.old.items ++ map Nv (from 0 count)) }
 {
@@ -126,6 +129,7 @@ fn add_nvs(variables: &mut Vec<VarId>, count: usize) -> Result<(), AllocError>
     Ok(())
 }
 
+/// Adds the parameters of a function that has so many. Err is want of memory.
 fn add_params(variables: &mut Vec<VarId>, count: usize) -> Result<(), AllocError>
     ensures { OnOk result (variables.new.items ≡ variables.old.items ++ map Param (from 0 count)) }
 {
@@ -136,6 +140,7 @@ fn add_params(variables: &mut Vec<VarId>, count: usize) -> Result<(), AllocError
     Ok(())
 }
 
+/// Adds the variables that these statements declare. Err is want of memory.
 fn add_declared(variables: &mut Vec<VarId>, effects: &[Effect]) -> Result<(), AllocError>
     ensures { OnOk result
         (variables.new.items ≡ variables.old.items ++ declared_by (map effect_view effects.now)) }
@@ -195,6 +200,8 @@ fn add_source(
     Ok(())
 }
 
+/// The statements of a function that bring input into any of its variables, in order. Err is want
+/// of memory.
 fn sources_of(
     alloc: Global,
     summaries: &Summaries,
@@ -214,6 +221,7 @@ fn sources_of(
     Ok(sources)
 }
 
+/// Adds the function that a statement calls, if it calls one. Err is want of memory.
 fn add_callee(callees: &mut Vec<u32>, effect: &Effect) -> Result<(), AllocError>
     ensures { OnOk result
         (callees.new.items ≡ callees.old.items ++ callee (effect_view effect.now).call) }
@@ -238,6 +246,7 @@ fn callees_of(alloc: Global, effects: &[Effect]) -> Result<Vec<u32>, AllocError>
     Ok(callees)
 }
 
+/// What is known of the function at a place for all policies. Err is want of memory.
 fn local_of(alloc: Global, summaries: &Summaries, function: usize) -> Result<Local, AllocError>
     requires { function < length summaries.now.program.functions }
     ensures { IfOk result (λ l. local_view l ≡ local_at summaries.now.program function) }

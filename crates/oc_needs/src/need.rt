@@ -21,6 +21,7 @@ use oc_tree::marked::Policy;
 use oc_tree::tree::VarId;
 use std::alloc::{AllocError, Global};
 
+/// Whether a caller gives the variable: a parameter or a nonvolatile one.
 fn is_given(v: VarId) -> bool
     ensures { result ≡ is_given v }
 {
@@ -192,6 +193,7 @@ fn ends_of(
     Ok(needing)
 }
 
+/// Whether a variable of the function flows into one of these.
 fn flows_to_any(body: &Body, w: VarId, needing: &[VarId]) -> bool
     ensures { result
         ≡ list_any (flows body.now.summaries.now.program body.now.function w) needing.now }
@@ -244,6 +246,7 @@ fn is_changed(changed: &[bool], function: u32) -> bool
     }
 }
 
+/// Whether the row of one of these functions may have changed.
 fn any_changed(changed: &[bool], functions: &[u32]) -> bool
     ensures { result ≡ list_any (λ f. get_or changed.now f true) functions.now }
 {
@@ -316,6 +319,7 @@ fn made_row(
     Ok((made, changed))
 }
 
+/// The row of a function as it was, and that it didn't change. Err is want of memory.
 fn kept_row(
     alloc: Global,
     rows: &[Vec<VarId>],

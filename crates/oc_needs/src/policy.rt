@@ -24,6 +24,7 @@ pub fn is_same_kind(a: PolicyKind, b: PolicyKind) -> bool
     }
 }
 
+/// Whether two policies are of one function and ask for the same.
 fn is_same_policy(a: Policy, b: Policy) -> bool
     ensures { result ≡ same_policy a b }
 {
@@ -40,6 +41,7 @@ pub fn kind_of(note: Note) -> PolicyKind
     }
 }
 
+/// Whether a policy is among those that were seen.
 fn is_seen(policy: Policy, seen: &[Policy]) -> bool
     ensures { result ≡ list_any (same_policy policy) seen.now }
 {

@@ -281,6 +281,7 @@ fn required_by(
     Ok(required)
 }
 
+/// The requirements of all policies of a program. Err is want of memory.
 fn all_required(alloc: Global, summaries: &Summaries) -> Result<Vec<Requirement>, AllocError>
     ensures { IfOk result (λ r. map requirement_view r.items ≡ requirements summaries.now.program) }
 {

@@ -82,6 +82,7 @@ fn put(set: (usize, i32), last: Instance, sets: &mut Vec<Instance>)
     match place_of(set, sets) {
         Some(place) => sets[place] = last,
         None => {
+            // There is room for one more set, so this wants no memory.
             let _ = sets.push(last);
         }
     }

@@ -90,12 +90,15 @@ fn code_end(image: &RawImage, function: usize) -> usize
     }
 }
 
+/// Whether an instruction returns with a result.
 fn is_retv(instr: Instr) -> bool
     ensures { result ≡ is_retv instr }
 {
     matches!(instr, Instr::Retv { .. })
 }
 
+/// Whether one of a function's instructions returns with a result, so that a call of it pushes a
+/// number.
 fn gives_result(image: &RawImage, function: usize) -> bool
     requires function { function < length (parts_of image.now).functions }
     requires laid { IsLaid (parts_of image.now) }
@@ -110,6 +113,7 @@ fn gives_result(image: &RawImage, function: usize) -> bool
     false
 }
 
+/// Of each function, whether a call of it pushes a number. Err is want of memory.
 fn results(alloc: Global, image: &RawImage) -> Result<Vec<bool>, AllocError>
     requires { IsLaid (parts_of image.now) }
     ensures sized { IfOk result (λ r. length r.items ≡ length (parts_of image.now).functions) }
@@ -123,6 +127,7 @@ fn results(alloc: Global, image: &RawImage) -> Result<Vec<bool>, AllocError>
     Ok(results)
 }
 
+/// How many parameters a function must have to begin a region with this target.
 fn words_taken(target: &Target) -> u64
     ensures { result ≡ need target.now }
 {
@@ -143,6 +148,7 @@ fn needs(targets: &[Target]) -> u64
     needs
 }
 
+/// Of each region, how many parameters a function must have to begin it. Err is want of memory.
 fn all_needs(alloc: Global, regions: &[Vec<Target>]) -> Result<Vec<u64>, AllocError>
     ensures { IfOk result (λ n. n.items ≡ map needs (map (λ r. r.items) regions.now)) }
 {
@@ -245,6 +251,8 @@ impl<'a> Facts<'a> {
         )
     }
 
+    /// Whether there is a region of this number, counted from 1, and the function has the
+    /// parameters that it overwrites.
     fn region_fits(&self, function: usize, region: u32) -> bool
         requires { function < length self.now.functions }
         ensures { result ≡ names_exist self.now function (Enter region) }

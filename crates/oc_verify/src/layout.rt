@@ -15,6 +15,7 @@ ghost use Rattle.oc_verify.specs.Rules.{
 use oc_isa::image::{ImageFunction, ImageNv, RawImage};
 use oc_tree::said::Target;
 
+/// Whether the entries of functions rise, none of them below `start`.
 fn rises_from(start: u64, functions: &[ImageFunction]) -> bool
     requires { start ≤ 2 ^ 32 }
     ensures { result ≡ rises_from start functions.now }
@@ -39,6 +40,7 @@ fn rises(functions: &[ImageFunction]) -> bool
     }
 }
 
+/// Whether the entry of each function is an address of the code, which has this size.
 fn enters_code(functions: &[ImageFunction], size: usize) -> bool
     ensures { result ≡ list_all (λ g. nat_lt g.entry size) functions.now }
 {
@@ -47,6 +49,7 @@ fn enters_code(functions: &[ImageFunction], size: usize) -> bool
         .all(|function| (function.entry as usize) < size)
 }
 
+/// How many functions are named `main`.
 fn mains(functions: &[ImageFunction]) -> usize
     ensures { result ≡ count_by is_main functions.now }
 {
@@ -70,6 +73,7 @@ fn has_frame(function: &ImageFunction) -> bool
     }
 }
 
+/// Whether each function's frame holds what it has to.
 fn have_frames(functions: &[ImageFunction]) -> bool
     ensures { result ≡ list_all has_frame functions.now }
 {
@@ -101,6 +105,7 @@ pub fn nv_words(nv: &[ImageNv]) -> u64
     words
 }
 
+/// Whether a target lies in so many nonvolatile words, or is a parameter.
 fn target_fits(words: u64, target: &Target) -> bool
     ensures { result ≡ fits_in words target.now }
 {
@@ -110,12 +115,14 @@ fn target_fits(words: u64, target: &Target) -> bool
     }
 }
 
+/// Whether each of these targets lies in so many nonvolatile words, or is a parameter.
 fn targets_fit(words: u64, targets: &[Target]) -> bool
     ensures { result ≡ list_all (fits_in words) targets.now }
 {
     targets.iter().all(|target| target_fits(words, target))
 }
 
+/// Whether each target of each region lies in so many nonvolatile words, or is a parameter.
 fn regions_fit(words: u64, regions: &[Vec<Target>]) -> bool
     ensures { result
         ≡ list_all (λ ts. list_all (fits_in words) ts) (map (λ r. r.items) regions.now) }

@@ -11,6 +11,7 @@ use oc_io::Memory;
 use std::alloc::Global;
 use std::marker::Model;
 
+/// Whether a name begins with this byte: an ASCII letter or `_`.
 #[tactic(auto, unfolding(oc_lex::specs::Bytes::begins_name))]
 fn may_begin(byte: u8) -> bool
     ensures { result ≡ begins_name byte }
@@ -18,6 +19,7 @@ fn may_begin(byte: u8) -> bool
     matches!(byte, b'a'..=b'z' | b'A'..=b'Z' | b'_')
 }
 
+/// Whether a name goes on with this byte: an ASCII letter, a digit or `_`.
 #[tactic(auto, unfolding(oc_lex::specs::Bytes::begins_name, oc_lex::specs::Bytes::in_name))]
 fn may_follow(byte: u8) -> bool
     ensures { result ≡ in_name byte }
@@ -25,6 +27,7 @@ fn may_follow(byte: u8) -> bool
     matches!(byte, b'a'..=b'z' | b'A'..=b'Z' | b'_' | b'0'..=b'9')
 }
 
+/// Whether a name goes on with each of these bytes.
 fn all_follow(bytes: &[u8]) -> bool
     ensures { result ≡ list_all in_name bytes.now }
 {
@@ -41,6 +44,7 @@ fn has_form(text: &[u8]) -> bool
     }
 }
 
+/// Whether a text is one of these words.
 fn is_any(words: &[&[u8]], text: &[u8]) -> bool
     ensures { result ≡ list_any (λ w. bytes_eq w.now text.now) words.now }
 {

@@ -44,18 +44,21 @@ fn nth<T: Copy>(table: &[T], number: u32, other: T) -> T
     }
 }
 
+/// The operator on two words with this number; `ge` for any number behind the last.
 fn binary_of(number: u32) -> BinOp
     ensures { result ≡ binary_by number }
 {
     nth(&BINARY, number, BinOp::Ge)
 }
 
+/// The operator on one word with this number; `not` for any number behind the last.
 fn unary_of(number: u32) -> UnaryOp
     ensures { result ≡ unary_by number }
 {
     nth(&UNARY, number, UnaryOp::Not)
 }
 
+/// What a probe with this number reports; `tag` for any number behind the last.
 fn probe_of(number: u32) -> ProbeKind
     ensures { result ≡ probe_by number }
 {

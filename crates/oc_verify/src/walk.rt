@@ -74,6 +74,7 @@ impl From<Memory> for VerifyError {
     }
 }
 
+/// Adds an address that is still to be looked at, with this pair.
 fn push(todo: &mut Vec<Todo>, at: u32, pair: (u32, u32)) -> Result<(), Memory>
     ensures { OnOk result (todo.new.items ≡ todo.old.items ++ (at, pair) ∷ []) }
 {

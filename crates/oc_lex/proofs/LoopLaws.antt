@@ -102,19 +102,14 @@ lexed_one source at n line p (Some k) l r e = subst (λ (x : ℕ). Lexed source 
 abbrev pub rest_of : List ℕ → ℕ → List ℕ
 rest_of source at = take (length source - at) (drop at source)
 
-abbrev pub after_of : List ℕ → ℕ → ℕ → List ℕ
-after_of source at n = take (length (rest_of source at) - n) (drop n (rest_of source at))
-
 pub lexed_more : (source : List ℕ) (at n line : ℕ) (front all : List Token) (p : Piece) (o : Option Kind) → Longest p n (rest_of source at)
-    → Reads p (take n (rest_of source at)) (after_of source at n) at (Ok o) → line ≡ 1 + line_feeds (take at source) → Lexed source 0 front at
+    → Reads p (take n (rest_of source at)) (drop n (rest_of source at)) at (Ok o) → line ≡ 1 + line_feeds (take at source) → Lexed source 0 front at
     → all ≡ front ++ tokens_of o at (at + n) line → Lexed source 0 all (at + n)
 lexed_more source at n line front all p o l r e d f =
     let w : rest_of source at ≡ drop at source = take_rest source at in
     let l2 : Longest p n (drop at source) = subst (λ (x : List ℕ). Longest p n x) w l in
-    let r2 : Reads p (take n (rest_of source at)) (drop n (rest_of source at)) at (Ok o) =
-    subst (λ (x : List ℕ). Reads p (take n (rest_of source at)) x at (Ok o)) (take_rest (rest_of source at) n) r in
-    let r3 : Reads p (take n (drop at source)) (drop n (drop at source)) at (Ok o) = subst (λ (x : List ℕ). Reads p (take n x) (drop n x) at (Ok o)) w r2 in
-    subst (λ (x : List Token). Lexed source 0 x (at + n)) (sym f) (lexed_append source d (tokens_of o at (at + n) line) (at + n) (lexed_one source at n line p o l2 r3 e))
+    let r2 : Reads p (take n (drop at source)) (drop n (drop at source)) at (Ok o) = subst (λ (x : List ℕ). Reads p (take n x) (drop n x) at (Ok o)) w r in
+    subst (λ (x : List Token). Lexed source 0 x (at + n)) (sym f) (lexed_append source d (tokens_of o at (at + n) line) (at + n) (lexed_one source at n line p o l2 r2 e))
 
 pub line_next : (source : List ℕ) (at n line next : ℕ) (p : Piece) → Longest p n (rest_of source at) → line ≡ 1 + line_feeds (take at source)
     → next ≡ line + feeds_of (get_or source at 0) → next ≡ 1 + line_feeds (take (at + n) source)

@@ -41,7 +41,7 @@ pub fn is_letter(byte: u8) -> bool
 fn is_in_name(byte: u8) -> bool
     ensures { result ≡ in_name byte }
 {
-    matches!(byte, b'a'..=b'z' | b'A'..=b'Z' | b'_' | b'0'..=b'9')
+    is_letter(byte) || is_in_number(byte)
 }
 
 /// Whether a number goes on with this byte: a digit or `_`.

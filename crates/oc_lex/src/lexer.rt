@@ -1,11 +1,12 @@
 //! From bytes to tokens.
-ghost use Rattle.std.specs.Prelude.{◌≡◌, ◌+◌, ◌≤◌, ◌<◌, ◌⊎◌, ◌++◌, List, Err, Ok, length, IfOk, IfErr, MatchResult, OnOk, MatchBool, All, ◌^◌};
+ghost use Rattle.std.specs.Prelude.{◌≡◌, ◌+◌, ◌≤◌, ◌<◌, ◌⊎◌, ◌++◌, List, Err, Ok, length, take, drop, IfOk, IfErr, MatchResult, OnOk, MatchBool, All, ◌^◌};
 ghost use Rattle.oc_lex.specs.Limits.{source_limit};
 ghost use Rattle.oc_lex.specs.Stands.{InOrder, StandsIn};
 ghost use Rattle.oc_lex.specs.Tokens.{AreTokens, HasFault, BeginsWithLetter, Reads, feeds_of, tokens_of};
 ghost use Rattle.oc_lex.specs.declared.token.Token.{Token as SomeToken};
 ghost use Rattle.oc_lex.specs.declared.lexer.LexError.{LexError as SomeError};
 ghost use Rattle.oc_lex.specs.declared.lexer.LexError.TheVariants.{Memory};
+ghost use Rattle.oc_lex.specs.declared.piece.Piece.TheVariants.{Number};
 
 use crate::bytes::is_letter;
 use crate::literal::value;
@@ -73,7 +74,7 @@ fn read_all(alloc: Global, source: &[u8]) -> Result<Vec<Token>, LexError>
             return Err(LexError::Byte { at });
         };
         let end = at + count;
-        let kind = kind_of(piece, &rest[..count], &rest[count..], at)?;
+        let kind = kind_of(piece, rest, count, at)?;
         add(&mut tokens, kind, at, end, line)?;
         line = line_after(line, source[at]);
         at = end;
@@ -81,18 +82,26 @@ fn read_all(alloc: Global, source: &[u8]) -> Result<Vec<Token>, LexError>
     Ok(tokens)
 }
 
-/// The kind of token that a piece is, or None for a blank or a comment.
-fn kind_of(piece: Piece, text: &[u8], after: &[u8], at: usize) -> Result<Option<Kind>, LexError>
-    ensures { Reads piece text.now after.now at result }
+/// The kind of token that the piece of so many bytes in front is, or None for a blank or a comment.
+fn kind_of(piece: Piece, bytes: &[u8], count: usize, at: usize) -> Result<Option<Kind>, LexError>
+    requires { count ≤ length bytes.now }
+    ensures { Reads piece (take count bytes.now) (drop count bytes.now) at result }
 {
     match piece {
         Piece::Blank | Piece::Comment => Ok(None),
-        Piece::Name => Ok(Some(word_of(text).map_or(Kind::Name, Kind::Word))),
+        Piece::Name => Ok(Some(word_of(&bytes[..count]).map_or(Kind::Name, Kind::Word))),
         Piece::Mark(mark) => Ok(Some(Kind::Mark(mark))),
-        Piece::Number => match value(text) {
-            Some(value) if !begins_with_letter(after) => Ok(Some(Kind::Number { value })),
-            _ => Err(LexError::Literal { at }),
-        },
+        Piece::Number => number(&bytes[..count], &bytes[count..], at),
+    }
+}
+
+/// The token that a number is, where what follows is no letter.
+fn number(text: &[u8], after: &[u8], at: usize) -> Result<Option<Kind>, LexError>
+    ensures { Reads Number text.now after.now at result }
+{
+    match value(text) {
+        Some(value) if !begins_with_letter(after) => Ok(Some(Kind::Number { value })),
+        _ => Err(LexError::Literal { at }),
     }
 }
 

@@ -23,6 +23,7 @@ pub fn double(first: u8, second: u8) -> Option<Mark>
 }
 
 /// The mark of one byte.
+#[inline(always)]
 pub fn single(first: u8) -> Option<Mark>
     ensures { MatchOption result (SpellsNoMark (first ∷ [])) (λ m. mark_spelling m ≡ first ∷ []) }
 {

@@ -9,12 +9,13 @@ ghost use Rattle.oc_tree.specs.View.{program_view};
 ghost use Rattle.oc_types.specs.Marks.{IsAssigning, IsNoted};
 
 use crate::statement::Statement;
+use indexmap::IndexMap;
 use oc_reach::assigned::Assigned;
 use oc_reach::marks::Marks;
-use oc_reach::mentions::own_mentions;
 use oc_reach::parts::block_kinds;
 use oc_tree::name::Name;
-use oc_tree::tree::{Function, Program, StmtKind};
+use oc_tree::named::own_names;
+use oc_tree::tree::{Program, StmtKind};
 use std::alloc::{AllocError, Global};
 use std::marker::Model;
 
@@ -72,30 +73,46 @@ fn note<'a>(
     })
 }
 
-/// The statements that call functions.
-fn collect_calling<'a>(
+/// Adds the variables that a statement names beside its calls, where it has some.
+fn add_names<'a>(
     alloc: Global,
-    functions: &'a [Function],
-) -> Result<Vec<Statement<'a>>, AllocError> {
-    let mut calling = Vec::new(alloc);
-    for function in functions {
+    kind: &'a StmtKind,
+    beside: &mut IndexMap<&'a [u8], bool>,
+) -> Result<(), AllocError> {
+    let statement = Statement::new(alloc, kind)?;
+    if statement.calls().is_empty() {
+        return Ok(());
+    }
+    let mut names = Vec::new(alloc);
+    own_names(kind, &mut names)?;
+    for name in &names {
+        beside.insert(name.bytes(), true)?;
+    }
+    Ok(())
+}
+
+/// The variables that stand beside calls, where nonvolatile ones may be among them.
+fn names_beside_calls<'a>(
+    alloc: Global,
+    program: &'a Program,
+) -> Result<IndexMap<&'a [u8], bool>, AllocError> {
+    let mut beside = IndexMap::new(alloc);
+    if program.names.nvs.is_empty() {
+        return Ok(beside);
+    }
+    for function in &program.functions {
         let mut kinds = Vec::new(alloc);
         block_kinds(&function.body, None, &mut kinds)?;
         for kind in &kinds {
-            let statement = Statement::new(alloc, *kind)?;
-            if !statement.calls().is_empty() {
-                calling.push(statement)?;
-            }
+            add_names(alloc, *kind, &mut beside)?;
         }
     }
-    Ok(calling)
+    Ok(beside)
 }
 
-/// Whether a name stands in one of these statements.
-fn stands_in_some(statements: &[Statement], name: &Name) -> bool {
-    statements
-        .iter()
-        .any(|statement| own_mentions(statement.kind(), name) > 0)
+/// Whether a name is one of these.
+fn is_among(names: &IndexMap<&[u8], bool>, name: &Name) -> bool {
+    names.get(&name.bytes()).is_some()
 }
 
 /// Marks for names that stand beside calls. Which of them are noted changes no answer.
@@ -109,10 +126,10 @@ fn note_all<'a>(
         (λ r. All (λ n. IsNoted (program_view program.now) n.name.now n.assigning n.mentioning)
         r.items) }
 {
-    let statements = collect_calling(alloc, program.functions.as_slice())?;
+    let beside = names_beside_calls(alloc, program)?;
     let mut noted = Vec::new(alloc);
     for name in program.names.nvs.as_slice().iter().take(MOST_NAMES) {
-        if stands_in_some(statements.as_slice(), name) {
+        if is_among(&beside, name) {
             noted.push(note(alloc, program, assigned, name)?)?;
         }
     }

@@ -1,17 +1,22 @@
 -- The loop over the statements of a block, one turn at a time.
-use Rattle.std.proofs.Common.{◌≡◌, ℕ, zero, suc, ◌+◌, ◌-◌, ◌<◌, List, [], ◌∷◌, ◌++◌, length, Some, None, Ok, Err, refl, sym, ap, ◌∙◌, arith, append_assoc}
+use Rattle.std.proofs.Common.{◌≡◌, ℕ, Bool, true, false, Result, zero, suc, ◌+◌, ◌-◌, ◌<◌, List, [], ◌∷◌, ◌++◌, length, Some, None, Ok, Err, refl, sym, ap, ◌∙◌, arith, append_assoc}
 use Rattle.std.proofs.lemmas.List.{append-nil}
-use Rattle.oc_tree.specs.Tree.{TStmt, block, no_stmts, more}
-use Rattle.oc_tree.specs.View.{stmts_of}
+use Rattle.oc_tree.specs.Tree.{TKind, TStmt, stmt, block, no_stmts, more}
+use Rattle.oc_tree.specs.View.{kind_view, stmts_of}
+use Rattle.oc_tree.specs.Names.{Text}
+use Rattle.oc_tree.specs.declared.tree.StmtKind.{StmtKind}
+use Rattle.oc_lex.specs.declared.token.Kind.{Kind}
+use Rattle.oc_lex.specs.declared.token.Kind.TheVariants as kinds
 use Rattle.oc_lex.specs.declared.token.Mark.TheVariants as marks
 use Rattle.oc_grammar.specs.Limits.{blocks_depth, the_depths}
-use Rattle.oc_grammar.specs.Lexemes.{Lexemes}
-use Rattle.oc_grammar.specs.Reading.{depth_fault, ◌>>=◌, strip_mark, expect_mark}
-use Rattle.oc_grammar.specs.ReadingStatements.{ReadNumbered, stmts_by, stmt_at, stmts_at, stmt_here, block_at, chained_at}
+use Rattle.oc_grammar.specs.Lexemes.{Lexeme, Lexemes, lexeme_by, line_of, says}
+use Rattle.oc_grammar.specs.Reading.{Read, depth_fault, ◌>>=◌, next_at, strip_mark, expect_mark}
+use Rattle.oc_grammar.specs.ReadingStatements.{ReadNumbered, simple_by, kind_by, stmts_by, stmt_at, stmts_at, stmt_here, block_at, else_at, chained_at}
 use Rattle.oc_grammar.proofs.StatementsRead.{stmt_is}
 use Rattle.oc_grammar.proofs.Turns.{onward, stmts_go}
 use Rattle.oc_parse.specs.declared.stop.Stop.{Stop}
-use Rattle.oc_parse.specs.Steps.{Stopped}
+use Rattle.oc_parse.specs.declared.statement.Parser.{Parser}
+use Rattle.oc_parse.specs.Steps.{Reads, ReadsTo, Stopped, left}
 use Rattle.oc_parse.proofs.Loops.{stopped_bind, stopped_along}
 
 -- what was read before, and then what is read
@@ -95,3 +100,25 @@ chained_stops room n b ts s h d =
 pub chained_is : (room n b : ℕ) (ts : Lexemes) (s : TStmt) (n' b' : ℕ) (us : Lexemes) → 0 < room → stmt_here the_depths (room - 1) n (b + 1) ts ≡ Ok (s, n', b', us)
     → chained_at the_depths room n b ts ≡ Ok (block b (more s no_stmts), n', b', us)
 chained_is room n b ts s n' b' us h e = chained_is_by room n b ts h ∙ rw e refl
+
+-- ---- one statement
+
+pub lexeme_line : (atomic : Bool) (line : ℕ) (text : Text) (k : Kind) → line_of (lexeme_by atomic line text k) ≡ line
+lexeme_line atomic line text kinds.Name = refl
+lexeme_line atomic line text (kinds.Number v) = refl
+lexeme_line atomic line text (kinds.Word w) = by_test (says atomic w) refl
+  where
+    by_test : (b : Bool) → says atomic w ≡ b → line_of (lexeme_by atomic line text (kinds.Word w)) ≡ line
+    by_test false e = rw e refl
+    by_test true e = rw e refl
+lexeme_line atomic line text (kinds.Mark m) = refl
+
+pub stmt_is_read : (room n b : ℕ) (ts us : Lexemes) (t : Lexeme) (line : ℕ) (k : TKind) (n' b' : ℕ) (vs : Lexemes) → next_at ts ≡ Ok (t, us) → line_of t ≡ line
+    → kind_by the_depths (block_at the_depths room) (else_at the_depths room) t (n + 1) b us ≡ Ok (k, n', b', vs) → stmt_here the_depths room n b ts ≡ Ok (stmt n line k, n', b', vs)
+unfolding stmt_here
+stmt_is_read room n b ts us t line k n' b' vs e l d = let q : suc n ≡ n + 1 = omega arith in rw (e, q, d, l) refl
+
+-- a statement without blocks leaves the numbers as they are
+pub simple_to : (r : Result StmtKind Stop) (p : Parser) (read : Read TKind) → Reads kind_view r (left p.reader) read → ReadsTo kind_view r p (simple_by p.statements p.blocks read)
+simple_to (Ok k) p read h = rw h refl
+simple_to (Err e) p read h = stopped_bind e read _ h

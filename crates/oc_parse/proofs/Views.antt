@@ -1,7 +1,7 @@
 -- The trees of expressions that the code makes.
 use Rattle.std.proofs.Common.{rules, ◌≡◌, ℕ, map}
-use Rattle.oc_tree.specs.Tree.{TExpr, TArg, TCall, unary, binary, called, call, TKind, TStmt, TBlock, block}
-use Rattle.oc_tree.specs.View.{expr_view, arg_view, call_view, args_of, arg_step, expr_step, call_step, block_view, stmt_view, stmts_of, kind_step, block_step, stmt_step}
+use Rattle.oc_tree.specs.Tree.{TExpr, TArg, TCall, unary, binary, called, call, TKind, TStmt, stmt, TBlock, block}
+use Rattle.oc_tree.specs.View.{expr_view, arg_view, call_view, args_of, arg_step, expr_step, call_step, block_view, kind_view, stmt_view, stmts_of, kind_step, block_step, stmt_step}
 use Rattle.oc_tree.specs.Names.{Text}
 use Rattle.oc_tree.specs.declared.tree.UnaryOp.{UnaryOp}
 use Rattle.oc_tree.specs.declared.tree.BinaryOp.{BinaryOp}
@@ -9,6 +9,8 @@ use Rattle.oc_tree.specs.declared.tree.Expr.{the_lemmas}
 use Rattle.oc_tree.specs.declared.tree.Expr as code
 use Rattle.oc_tree.specs.declared.tree.Call.{Call, roll-Call, fold-roll-Call}
 use Rattle.oc_tree.specs.declared.tree.Block.{roll-Block, fold-roll-Block}
+use Rattle.oc_tree.specs.declared.tree.Stmt.{roll-Stmt, fold-roll-Stmt}
+use Rattle.oc_tree.specs.declared.tree.StmtKind.{StmtKind}
 
 pub view_binary : (op : BinaryOp) (p q : _) → expr_view (code.Binary op p q) ≡ binary op (expr_view p.value) (expr_view q.value)
 view_binary op p q = search (rules, the_lemmas)
@@ -24,3 +26,6 @@ view_call f args = fold-roll-Call TArg TExpr TCall arg_step expr_step call_step 
 
 pub view_block : (b : ℕ) (ss : _) → block_view (roll-Block (record { id = b; statements = ss })) ≡ block b (stmts_of (map stmt_view ss.items))
 view_block b ss = fold-roll-Block TKind TBlock TStmt kind_step block_step stmt_step (record { id = b; statements = ss })
+
+pub view_stmt : (i l : ℕ) (k : StmtKind) → stmt_view (roll-Stmt (record { id = i; line = l; kind = k })) ≡ stmt i l (kind_view k)
+view_stmt i l k = fold-roll-Stmt TKind TBlock TStmt kind_step block_step stmt_step (record { id = i; line = l; kind = k })

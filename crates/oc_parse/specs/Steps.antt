@@ -1,6 +1,6 @@
 -- What the code reads, against the reading.
 use Rattle.std.specs.Prelude.{◌≡◌, ℕ, ◌+◌, ◌-◌, length, Result, Ok, Err, ◌<◌, ◌^◌}
-use Rattle.oc_tree.specs.Tree.{TExpr}
+use Rattle.oc_tree.specs.Tree.{TExpr, TStmt}
 use Rattle.oc_grammar.specs.Limits.{operators_depth, brackets_depth, blocks_depth, the_depths}
 use Rattle.oc_grammar.specs.Lexemes.{Lexemes, says, lexemes_in}
 use Rattle.oc_grammar.specs.Reading.{Fault, syntax_fault, depth_fault, Read}
@@ -9,7 +9,7 @@ use Rattle.std.specs.Prelude.{Bool, false, ◌&&◌}
 use Rattle.oc_lex.specs.declared.token.Kind.{Kind}
 use Rattle.oc_lex.specs.declared.token.Kind.TheVariants as kinds
 use Rattle.oc_lex.specs.declared.token.Mark.{Mark}
-use Rattle.std.specs.Prelude.{Option, None, List, [], ◌∷◌}
+use Rattle.std.specs.Prelude.{Option, None, List, [], ◌∷◌, ◌++◌}
 use Rattle.oc_lex.specs.declared.token.Word.{Word}
 use Rattle.oc_tree.specs.declared.tree.BinaryOp.{BinaryOp}
 use Rattle.oc_grammar.specs.Fronts.{infix_of, mark_operator}
@@ -21,7 +21,8 @@ use Rattle.oc_parse.specs.declared.statement.Parser.{Parser}
 use Rattle.oc_grammar.specs.ReadingStatements.{ReadNumbered}
 use Rattle.oc_grammar.specs.Depths.{IsDepth, IsSyntax}
 use Rattle.oc_tree.specs.Tree.{TProgram}
-use Rattle.oc_tree.specs.View.{program_view}
+use Rattle.oc_tree.specs.View.{program_view, stmt_view}
+use Rattle.oc_tree.specs.declared.tree.Stmt.{Stmt}
 use Rattle.oc_tree.specs.declared.tree.Program.{Program}
 use Rattle.oc_parse.specs.declared.program.ParseError.{ParseError}
 use Rattle.oc_parse.specs.declared.program.ParseError.TheVariants as errors
@@ -86,6 +87,19 @@ from read p = read p.statements p.blocks (left p.reader)
 abbrev pub ReadsTo : {X Y : Type 0} → (X → Y) → Result X Stop → Parser → ReadNumbered Y → Type 0
 ReadsTo view (Ok x) p read = read ≡ Ok (view x, p.statements, p.blocks, left p.reader)
 ReadsTo view (Err e) p read = Stopped e read
+
+-- a list has one statement more behind those before, which the reading reads up to where the parser
+-- is
+pub record Added (before after : List Stmt) (p : Parser) (read : ReadNumbered TStmt) : Type 0 where
+  pub one : Stmt
+  pub adds : after ≡ before ++ one ∷ []
+  pub reads : read ≡ Ok (stmt_view one, p.statements, p.blocks, left p.reader)
+
+-- the code adds the statement that the reading reads
+abbrev pub Adds : {X : Type 0}
+    → List Stmt → List Stmt → Result X Stop → Parser → ReadNumbered TStmt → Type 0
+Adds before after (Ok x) p read = Added before after p read
+Adds before after (Err e) p read = Stopped e read
 
 -- the numbers of the statements and blocks that may still come are below 2^32
 abbrev pub Fits : Parser → Type 0

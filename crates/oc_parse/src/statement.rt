@@ -4,7 +4,7 @@ ghost use Rattle.oc_tree.specs.View.{block_view, else_view, kind_view, stmt_view
 ghost use Rattle.oc_grammar.specs.Limits.{the_depths};
 ghost use Rattle.oc_grammar.specs.Lexemes.{lexeme_of};
 ghost use Rattle.oc_grammar.specs.ReadingStatements.{kind_by, if_by, for_by, while_by, atomic_by, stmt_here, stmts_at, block_at, chained_at, else_at};
-ghost use Rattle.oc_parse.specs.Steps.{Fits, ReadsTo, from, left};
+ghost use Rattle.oc_parse.specs.Steps.{Adds, Fits, ReadsTo, from};
 
 use crate::reader::Reader;
 use crate::stop::Stop;
@@ -23,12 +23,13 @@ pub struct Parser<'a> {
 }
 
 impl Parser<'_> {
-    /// Takes a statement, in which so many more blocks may be in one another.
+    /// Takes a statement, in which so many more blocks may be in one another, and adds it to those
+    /// of its block.
     #[cycle(statement)]
     #[tactic(auto, unfolding(oc_grammar::specs::ReadingStatements::stmt_here))]
-    fn statement(&mut self, room: u32) -> Result<Stmt, Stop>
+    fn statement(&mut self, room: u32, statements: &mut Vec<Stmt>) -> Result<(), Stop>
         requires { Fits self.old }
-        ensures exact { ReadsTo stmt_view result self.new
+        ensures exact { Adds statements.old.items statements.new.items result self.new
             (from (stmt_here the_depths room) self.old) }
         ensures fits { OnOk result (Fits self.new) }
         ensures shorter { OnOk result
@@ -38,15 +39,17 @@ impl Parser<'_> {
         let id = self.statements;
         self.statements += 1;
         let kind = self.kind(room, token)?;
-        Ok(Stmt {
+        statements.push(Stmt {
             id,
             line: token.line,
             kind,
-        })
+        })?;
+        Ok(())
     }
 
     /// Takes what a statement does, whose first token was just taken.
     #[cycle(statement)]
+    #[tactic(auto, using(crate::proofs::StatementLoops::simple_to))]
     fn kind(&mut self, room: u32, token: Token) -> Result<StmtKind, Stop>
         requires { Fits self.old }
         ensures exact { ReadsTo kind_view result self.new
@@ -67,10 +70,7 @@ impl Parser<'_> {
                     Err(self.reader.refuse_last())
                 }
             }
-            _ => {
-                let kind = self.reader.simple(token)?;
-                Ok(kind)
-            }
+            _ => self.reader.simple(token),
         }
     }
 
@@ -200,9 +200,8 @@ impl Parser<'_> {
         }
         let id = self.blocks;
         self.blocks += 1;
-        let statement = self.statement(room - 1)?;
         let mut statements = Vec::new(self.reader.alloc);
-        statements.push(statement)?;
+        self.statement(room - 1, &mut statements)?;
         Ok(Block { id, statements })
     }
 
@@ -238,8 +237,7 @@ impl Parser<'_> {
     {
         let mut statements = Vec::new(self.reader.alloc);
         while !self.reader.take(Mark::CloseCurly) {
-            let statement = self.statement(room)?;
-            statements.push(statement)?;
+            self.statement(room, &mut statements)?;
         }
         Ok(statements)
     }

@@ -1,12 +1,13 @@
 use Rattle.std.proofs.Common.{◌≡◌, [], ◌∷◌, ◌++◌, length, map, refl, arith}
 use Rattle.std.proofs.lemmas.Result.{err_from_is_err_and}
 use Rattle.std.proofs.lemmas.List.{map_push, length-map}
-use Rattle.oc_tree.specs.View.{stmt_view}
+use Rattle.oc_tree.specs.View.{kind_view, stmt_view}
+use Rattle.oc_tree.specs.declared.tree.Stmt.{roll-Stmt}
 use Rattle.oc_grammar.specs.Limits.{the_depths}
 use Rattle.oc_grammar.specs.ReadingStatements.{stmts_at}
 use Rattle.oc_parse.specs.Steps.{from, left}
-use Rattle.oc_parse.proofs.Views.{view_block}
-use Rattle.oc_parse.proofs.StatementLoops.{block_goes_on, block_stops, block_ends, expect_stops, block_too_deep, inside_stops, block_is, chained_too_deep, chained_stops, chained_is}
+use Rattle.oc_parse.proofs.Views.{view_block, view_stmt}
+use Rattle.oc_parse.proofs.StatementLoops.{block_goes_on, block_stops, block_ends, expect_stops, block_too_deep, inside_stops, block_is, chained_too_deep, chained_stops, chained_is, lexeme_line, stmt_is_read}
 use Rattle.oc_parse.proofs.statement.Parser.+statement.Goals as goal
 
 pub block-returns-in_err-expect-clause-exact : goal.block-returns-in_err-expect-clause-exact
@@ -44,9 +45,20 @@ else_if-returns-in_err-statement-clause-exact t c =
 
 pub else_if-returns-clause-exact : goal.else_if-returns-clause-exact
 else_if-returns-clause-exact t c =
-    let e : c.push.new.self.items ≡ c.in_ok-statement.statement ∷ [] = rw (c.in_ok-push.ensures.items, c.new-statements.ensures.items) refl in
-    rw (view_block, e) (chained_is c.args.room c.args.self.now.statements c.args.self.now.blocks (left c.args.self.now.reader) (stmt_view c.in_ok-statement.statement)
-    c.statement.new.self.statements c.statement.new.self.blocks (left c.statement.new.self.reader) (omega arith) c.in_ok-statement.ensures.exact)
+    let s = c.in_ok-statement.ensures.exact in
+    let e : c.statement.new.statements.items ≡ s.one ∷ [] = rw (s.adds, c.new-statements.ensures.items) refl in
+    rw (view_block, e) (chained_is c.args.room c.args.self.now.statements c.args.self.now.blocks (left c.args.self.now.reader) (stmt_view s.one)
+    c.statement.new.self.statements c.statement.new.self.blocks (left c.statement.new.self.reader) (omega arith) s.reads)
+
+pub statement-returns-clause-exact : goal.statement-returns-clause-exact
+statement-returns-clause-exact t c =
+    let l = lexeme_line c.next.new.self.atomic c.in_ok-token.token.line _ c.in_ok-token.token.kind in
+    record {
+      one = roll-Stmt (record { id = c.args.self.now.statements; line = c.in_ok-token.token.line; kind = c.in_ok-kind.kind });
+      adds = c.in_ok-push.ensures.items;
+      reads = rw view_stmt (stmt_is_read c.args.room c.args.self.now.statements c.args.self.now.blocks (left c.args.self.now.reader) _ _ c.in_ok-token.token.line
+          (kind_view c.in_ok-kind.kind) c.kind.new.self.statements c.kind.new.self.blocks (left c.kind.new.self.reader) c.in_ok-token.ensures.exact l c.in_ok-kind.ensures.exact);
+    }
 
 pub statements-returns-in_err-statement-clause-exact : goal.statements-returns-in_err-statement-clause-exact
 statements-returns-in_err-statement-clause-exact t c =
@@ -57,11 +69,12 @@ statements-returns-in_err-statement-clause-exact t c =
 
 pub statements-loop-self-preserved : goal.statements-loop-self-preserved
 statements-loop-self-preserved t c =
-    let e : map stmt_view c.push.new.self.items ≡ map stmt_view c.loop-self.statements.items ++ stmt_view c.in_ok-statement.statement ∷ [] =
-    rw c.in_ok-push.ensures.items (map_push _ c.loop-self.statements.items c.in_ok-statement.statement) in (
+    let s = c.in_ok-statement.ensures.exact in
+    let e : map stmt_view c.statement.new.statements.items ≡ map stmt_view c.loop-self.statements.items ++ stmt_view s.one ∷ [] =
+    rw s.adds (map_push _ c.loop-self.statements.items s.one) in (
       rw e (block_goes_on c.args.room (map stmt_view c.loop-self.statements.items) c.loop-self.self.statements c.loop-self.self.blocks (left c.loop-self.self.reader)
-          (stmt_view c.in_ok-statement.statement) c.statement.new.self.statements c.statement.new.self.blocks (left c.statement.new.self.reader)
-          (from (stmts_at the_depths c.args.room) c.args.self.now) c.loop-self-test.ensures.exact (rw c.loop-self-test.ensures.kept at c.in_ok-statement.ensures.exact) c.loop-self.invariant.0),
+          (stmt_view s.one) c.statement.new.self.statements c.statement.new.self.blocks (left c.statement.new.self.reader)
+          (from (stmts_at the_depths c.args.room) c.args.self.now) c.loop-self-test.ensures.exact (rw c.loop-self-test.ensures.kept at s.reads) c.loop-self.invariant.0),
       c.in_ok-statement.ensures.fits,
       omega (arith, c.loop-self-test.ensures.shorter, c.in_ok-statement.ensures.shorter),
     )

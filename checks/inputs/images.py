@@ -7,7 +7,7 @@ import math
 import struct
 import sys
 
-PUSH, LOAD, STORE, NLOAD, NSTORE, BIN, JUMP, JFALSE, CALL, RET, DROP = 1, 2, 3, 4, 5, 11, 13, 14, 15, 16, 18
+PUSH, LOAD, STORE, NLOAD, NSTORE, NADDR, BIN, JUMP, JFALSE, CALL, RET, DROP = 1, 2, 3, 4, 5, 7, 11, 13, 14, 15, 16, 18
 SENSE, EMIT, ENTER, COMMIT, HALT = 19, 20, 22, 23, 24
 GREATEST_STACK = 65536
 # What an image takes at most besides its code, but for its regions and for names of more than 8 bytes.
@@ -143,6 +143,52 @@ def product(n):
     return passing(n, depth, 127, depth)
 
 
+def called(code, count, parameters):
+    """Returns an image of this code of `main`, which calls so many functions, and where 65,536 words are nonvolatile."""
+    heads = [named(b"f%03d" % k, size(code) + k, parameters, parameters + 2) for k in range(count)]
+    return image(code + step(RET, parameters) * count, heads, names=((), (), [named(b"v", GREATEST_STACK, 0)]))
+
+
+def way(start, code):
+    """Returns code at this address that goes through the given code, which ends, and past it."""
+    return step(PUSH) + step(JFALSE, start + 2 + size(code)) + code
+
+
+def pair(n):
+    """127 functions with half as many parameters, each called with two stacks that differ below, refused from 1 MiB on"""
+    count = (many(n) - 127) // 2
+    depth = count - 4 - 127 * 4
+
+    def half(start, bottom):
+        code = step(NADDR, bottom) + step(PUSH) * depth
+        for k in range(127):
+            code += way(start + size(code), step(CALL, 1 + k) + step(HALT))
+        return code + step(HALT)
+
+    first = way(0, half(2, 0))
+    return called(first + half(size(first), 1), 127, depth + 1)
+
+
+def others(n):
+    """the most calls that each pass another stack of 4,000 words, alike below"""
+    depth = 4000
+    places = range((many(n) - depth - 2) // 6)
+    ways = [way(depth + 6 * k, step(NADDR, k % 65536) + step(NADDR, k // 65536) + step(CALL, 1) + step(HALT)) for k in places]
+    return called(step(PUSH) * depth + b"".join(ways) + step(HALT), 1, depth)
+
+
+def windows(n):
+    """the most calls that each pass other words of a stack as deep as the machine's, half of it"""
+    depth = min((GREATEST_STACK - 4) // 2, many(n) // 8)
+    turns = min(127, (many(n) - depth - 128) // (6 * depth))
+    code = [step(PUSH) * depth]
+    for turn in range(turns):
+        start = depth + 6 * depth * turn
+        code += [step(PUSH) + way(start + 5 * k + 1, step(CALL, 1 + turn) + step(HALT)) for k in range(depth)]
+        code.append(step(DROP) * depth)
+    return called(b"".join(code) + step(HALT), turns, depth)
+
+
 def entering(regions):
     return image(step(ENTER, 1) + step(COMMIT, 1) + step(HALT), regions=regions, names=((), (), [named(b"v", 1, 0)]))
 
@@ -204,7 +250,7 @@ def rule(n):
     return image(sums(many(n) // 4 - 1) + step(PUSH) * 3 + step(HALT), frame=1, stack=3)
 
 
-SHAPES = [straight, deep, deepest, names, longest, functions, ranks, calls, apart, wide, product, regions, targets, region, nested, jumps, joins, words, byte, rule]
+SHAPES = [straight, deep, deepest, names, longest, functions, ranks, calls, apart, wide, product, pair, others, windows, regions, targets, region, nested, jumps, joins, words, byte, rule]
 
 if len(sys.argv) == 3:
     shape = {made.__name__: made for made in SHAPES}[sys.argv[1]]

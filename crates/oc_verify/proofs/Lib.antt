@@ -7,6 +7,7 @@ pub mod Typed
 pub mod Exact
 pub mod Working
 pub mod StackLaws
+pub mod PlaceLaws
 pub mod WellMade
 pub mod MergeLaws
 pub mod ReadLaws

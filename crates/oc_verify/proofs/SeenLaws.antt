@@ -1,11 +1,13 @@
 -- The kinds that were passed, as the code keeps them.
 use Rattle.std.proofs.Common.{◌≡◌, ℕ, zero, suc, ◌+◌, ◌<◌, ◌≤◌, ◌≢◌, List, [], ◌∷◌, ◌++◌, length, take, map, ⊎_elim, Option, Some, None, refl, sym, ap, ◌∙◌, subst, arith}
-use Rattle.std.proofs.Common.{Vec, Global, Bool, true, false, nat_eq}
-use Rattle.std.specs.Prelude.{◌==◌, option_map, slice_get, slice_set, replicate}
+use Rattle.std.proofs.Common.{Vec, Global, Bool, true, false, cond, nat_cmp, inl, inr}
+use Rattle.std.specs.Prelude.{◌==◌, ◌⊎◌, option_map, slice_get, slice_set, replicate}
+use Rattle.std.specs.BTreeSet.{BTreeSet, Updates, contains}
+use Rattle.std.specs.Cmp.{unsigned_tied}
 use Rattle.std.proofs.lemmas.Bool.Decides.{eqb_tells}
 use Rattle.oc_tree.specs.Reach.{linked}
 use Rattle.oc_isa.specs.declared.image.ImageFunction.{ImageFunction}
-use Rattle.std.specs.List.{All, list_any}
+use Rattle.std.specs.List.{All}
 use Rattle.std.proofs.lemmas.List.{length-take-le}
 use Rattle.std.proofs.lemmas.List.Elements.{All-nil, All-cons, All-take}
 use Rattle.oc_isa.specs.declared.instr.Placed.{Placed}
@@ -20,7 +22,7 @@ use Rattle.oc_verify.specs.Own.{own_list}
 use Rattle.oc_verify.specs.Typing.{Pair, SuitAll, slots, slots_by}
 use Rattle.oc_verify.specs.Rules.{calls_of, code_at, laid_out, main_number, on_function, own_slots, params_of}
 use Rattle.oc_verify.specs.Work.{Marks}
-use Rattle.oc_verify.specs.Stacks.{Nodes, stack, with_node}
+use Rattle.oc_verify.specs.Stacks.{Nodes, stack}
 use Rattle.oc_verify.specs.Told.{kind_of, kinds, pair_of}
 use Rattle.oc_verify.specs.Walks.{table_marks}
 use Rattle.oc_verify.specs.Tables.{Calls, IsPassed, with_calls, codes_by, codes_of, Passed, passed_seen, pair_in, was_passed}
@@ -29,7 +31,6 @@ use Rattle.oc_verify.proofs.Calls.{call_linked}
 use Rattle.oc_verify.proofs.KindLaws.{kinds_long}
 use Rattle.oc_verify.proofs.MergeLaws.{all_stay}
 use Rattle.oc_verify.proofs.PassLaws.{calls_new, put_itself, put_other, pass_on, joins_them}
-use Rattle.oc_verify.proofs.StackLaws.{one_of_nodes}
 use Rattle.oc_verify.proofs.TopLaws.{all_small, leasts_take}
 
 abbrev Kept : Type 0
@@ -192,23 +193,30 @@ pub call_suits : (i : Parts) (t : Table) (f to g n : ℕ) (ps : Passed) (seen : 
 call_suits i t f to g n ps seen C P = subst (λ ops. SuitedBy i ps g ops) C.4 (P.suits f g C.0 C.1 (calls_new seen f to f C.0 refl C.2) C.3)
 
 -- it does so with each of these, by their numbers
-abbrev pub CallsEach : Parts → Table → (f to : ℕ) → Nodes → Type 0
-CallsEach i t f to ks = (k : ℕ) → list_any (nat_eq k) ks ≡ true → CallsWith i t f to (number_callee k) (number_stack k)
+abbrev pub CallsEach : Parts → Table → (f to : ℕ) → BTreeSet ℕ → Type 0
+CallsEach i t f to ks = (k : ℕ) → contains nat_cmp ks k ≡ true → CallsWith i t f to (number_callee k) (number_stack k)
+
+-- a number is one of the earlier ones, or the new one
+one_of_calls : (old new : BTreeSet ℕ) (x k : ℕ) → Updates nat_cmp old new x true → contains nat_cmp new k ≡ true → (contains nat_cmp old k ≡ true) ⊎ (k ≡ x)
+one_of_calls old new x k U m = ⊎_elim
+    (λ q. inr (sym q.1))
+    (λ q. inl (sym (ap (λ b. cond b true (contains nat_cmp old k)) (unsigned_tied x k ∙ q.0)) ∙ sym (U.0 k) ∙ m))
+    (eqb_tells x k)
 
 number_parts : (g n : ℕ) → n < 4294967296 → (number_callee (call_number g n) ≡ g) × (number_stack (call_number g n) ≡ n)
 number_parts g n l = (omega (arith, l), omega (arith, l))
 
-pub calls_on : (i : Parts) (t : Table) (f to : ℕ) (ks : Nodes) → CallsEach i t f to ks → CallsEach i t f (to + 1) ks
+pub calls_on : (i : Parts) (t : Table) (f to : ℕ) (ks : BTreeSet ℕ) → CallsEach i t f to ks → CallsEach i t f (to + 1) ks
 calls_on i t f to ks E k m = let C = E k m in (C.0, C.1, (let l = C.2 in omega (arith, l)), C.3, C.4)
 
-pub calls_one : (i : Parts) (t : Table) (f to g n : ℕ) (ks : Nodes) → CallsEach i t f to ks → n < 4294967296 → list_any (nat_eq (call_number g n)) ks ≡ true → CallsWith i t f to g n
+pub calls_one : (i : Parts) (t : Table) (f to g n : ℕ) (ks : BTreeSet ℕ) → CallsEach i t f to ks → n < 4294967296 → contains nat_cmp ks (call_number g n) ≡ true → CallsWith i t f to g n
 calls_one i t f to g n ks E l m =
     let e = number_parts g n l in
     subst (λ b. CallsWith i t f to b n) e.0 (subst (λ b. CallsWith i t f to (number_callee (call_number g n)) b) e.1 (E (call_number g n) m))
 
-pub calls_more : (i : Parts) (t : Table) (f a g : ℕ) (x : Placed) (n : ℕ × ℕ) (ks : Nodes) → code_at i f a ≡ Some x → x.instr ≡ Call g → slice_get t.cells.items a ≡ Some (Some n)
-    → n.0 < 4294967296 → CallsEach i t f a ks → CallsEach i t f (a + 1) (with_node ks (call_number g n.0))
-calls_more i t f a g x n ks c e s l E k m =
+pub calls_more : (i : Parts) (t : Table) (f a g : ℕ) (x : Placed) (n : ℕ × ℕ) (ks new : BTreeSet ℕ) → code_at i f a ≡ Some x → x.instr ≡ Call g → slice_get t.cells.items a ≡ Some (Some n)
+    → n.0 < 4294967296 → CallsEach i t f a ks → Updates nat_cmp ks new (call_number g n.0) true → CallsEach i t f (a + 1) new
+calls_more i t f a g x n ks new c e s l E U k m =
     let q = number_parts g n.0 l in
     let here : CallsWith i t f (a + 1) g n.0 = (a, pair_of t.tops t.regions n, omega arith, cell_call i t f g a x n c e s, refl) in
     let there : CallsWith i t f (a + 1) (number_callee (call_number g n.0)) (number_stack (call_number g n.0)) =
@@ -216,7 +224,7 @@ calls_more i t f a g x n ks c e s l E k m =
     ⊎_elim
     (λ o. calls_on i t f a ks E k o)
     (λ o. subst (λ b. CallsWith i t f (a + 1) (number_callee b) (number_stack b)) (sym o) there)
-    (one_of_nodes k (call_number g n.0) ks m)
+    (one_of_calls ks new (call_number g n.0) k U m)
 
 -- an address that wasn't looked at has no call, nor has another instruction
 pub no_call_blank : (i : Parts) (t : Table) (f a : ℕ) → slice_get t.cells.items a ≡ Some None → (g : ℕ) (p : Pair) → SeenCall i (table_marks t) f g a p → ⊥

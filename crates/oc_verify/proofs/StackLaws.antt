@@ -3,7 +3,6 @@ use Rattle.std.proofs.Common.{◌≡◌, ℕ, zero, suc, ◌<◌, ◌≤◌, ◌
 use Rattle.std.specs.Prelude.{slice_get, ◌||◌, ◌⊎◌, if◌then◌else◌}
 use Rattle.std.specs.List.{list_any}
 use Rattle.std.proofs.lemmas.Bool.Decides.{eqb_tells}
-use Rattle.oc_verify.proofs.Exact.{either, or_second}
 use Rattle.oc_verify.specs.Stacks.{Nodes, node, below_of, top_of, stack_to, stack_by, stack, AreNodes, with_node}
 
 -- there is such a node
@@ -72,7 +71,7 @@ get_within [] x i h = absurd (omega (arith, h))
 get_within (k ∷ ks) x zero h = refl
 get_within (k ∷ ks) x (suc i) h = get_within ks x i (omega (arith, h))
 
-get_last : (ks : Nodes) (x : ℕ) → slice_get (ks ++ x ∷ []) (length ks) ≡ Some x
+pub get_last : (ks : Nodes) (x : ℕ) → slice_get (ks ++ x ∷ []) (length ks) ≡ Some x
 get_last [] x = refl
 get_last (k ∷ ks) x = get_last ks x
 
@@ -128,21 +127,6 @@ more_nodes ks x a few n b = record {
 
     last : (i y : ℕ) → slice_get (ks ++ x ∷ []) i ≡ Some y → i ≡ length ks → x ≡ y
     last i y e q = let z : Some x ≡ Some y = sym (get_last ks x) ∙ ap (slice_get (ks ++ x ∷ [])) (sym q) ∙ e in (cc)
-
--- a node is one of the earlier ones, or the new one
-last_or_among : (ks : Nodes) (x k : ℕ) → list_any (nat_eq k) (ks ++ x ∷ []) ≡ true → (list_any (nat_eq k) ks ≡ true) ⊎ (k ≡ x)
-last_or_among [] x k e = ⊎_elim (λ q. inr (grind (arith, q))) (λ q. absurd (let z : false ≡ true = q in (cc))) (either (nat_eq k x) false e)
-last_or_among (y ∷ ks) x k e = ⊎_elim
-    (λ q. inl (ap (λ b. b || list_any (nat_eq k) ks) q))
-    (λ q. ⊎_elim (λ r. inl (or_second (nat_eq k y) (list_any (nat_eq k) ks) r)) (λ r. inr r) (last_or_among ks x k q))
-    (either (nat_eq k y) (list_any (nat_eq k) (ks ++ x ∷ [])) e)
-
-pub one_of_nodes : (k x : ℕ) (ks : Nodes) → list_any (nat_eq k) (with_node ks x) ≡ true → (list_any (nat_eq k) ks ≡ true) ⊎ (k ≡ x)
-one_of_nodes k x ks e = by (list_any (nat_eq x) ks) e
-  where
-    by : (c : Bool) → list_any (nat_eq k) (if c then ks else ks ++ x ∷ []) ≡ true → (list_any (nat_eq k) ks ≡ true) ⊎ (k ≡ x)
-    by true e = inl e
-    by false e = last_or_among ks x k e
 
 -- earlier stacks stay
 stays_to : (ks : Nodes) (x : ℕ) → AreNodes ks → (k n : ℕ) → n ≤ length ks → stack_to (ks ++ x ∷ []) k n ≡ stack_to ks k n

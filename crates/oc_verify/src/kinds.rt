@@ -15,7 +15,6 @@ ghost use Rattle.std.specs.Prelude.{
   false,
   length,
   map,
-  nat_eq,
   not,
   option_map,
   replicate,
@@ -27,7 +26,9 @@ ghost use Rattle.std.specs.Prelude.{
   IfSome,
   OnOk,
 };
-ghost use Rattle.std.specs.List.{All, list_any};
+ghost use Rattle.std.specs.BTreeSet.{Updates, contains};
+ghost use Rattle.std.specs.List.{All};
+ghost use Rattle.std.specs.Ordering.{nat_cmp};
 ghost use Rattle.oc_isa.specs.declared.instr.Placed.{Placed};
 ghost use Rattle.oc_tree.specs.Reach.{linked};
 ghost use Rattle.oc_verify.specs.Reading.{greatest};
@@ -44,7 +45,7 @@ ghost use Rattle.oc_verify.specs.Rules.{
   params_of,
   slot_right,
 };
-ghost use Rattle.oc_verify.specs.Stacks.{kind_limit, stack, with_node};
+ghost use Rattle.oc_verify.specs.Stacks.{kind_limit, stack};
 ghost use Rattle.oc_verify.specs.Tables.{
   BlamesMixed,
   BlamesSlot,
@@ -77,9 +78,9 @@ use crate::fault::VerifyError;
 use crate::slots::{Slots, is_plain_right};
 use crate::stacks::Stacks;
 use crate::walk::{Table, Walk};
-use indexmap::IndexSet;
 use oc_isa::instr::Instr;
 use std::alloc::{AllocError, Global};
+use std::collections::BTreeSet;
 
 /// The least of two kinds, by their numbers; none where a number meets a place.
 fn least(left: u64, right: u64) -> Option<u64>
@@ -215,16 +216,16 @@ fn pass(
 }
 
 /// Whether no call of this function with this stack was kept, which then is.
-fn is_new(calls: &mut IndexSet<u64>, callee: u32, ops: u32) -> Result<bool, VerifyError>
+fn is_new(calls: &mut BTreeSet<u64>, callee: u32, ops: u32) -> Result<bool, VerifyError>
     ensures kept { OnOk result
-        (calls.new.keys ≡ with_node calls.old.keys (call_number callee ops)) }
+        (Updates nat_cmp calls.old calls.new (call_number callee ops) true) }
     ensures new { IfOk result
-        (λ b. b ≡ not (list_any (nat_eq (call_number callee ops)) calls.old.keys)) }
+        (λ b. b ≡ not (contains nat_cmp calls.old (call_number callee ops))) }
     ensures small { ops < 2 ^ 32 }
     ensures fault { IfErr result (λ e. e ≡ errors.Memory) }
 {
-    match calls.insert_full(callee as u64 * 4294967296 + ops as u64) {
-        Ok((_, is_new)) => Ok(is_new),
+    match calls.insert(callee as u64 * 4294967296 + ops as u64) {
+        Ok(is_new) => Ok(is_new),
         Err(_) => Err(VerifyError::Memory),
     }
 }
@@ -257,7 +258,7 @@ fn pass_all(
 {
     let image = facts.image();
     let (entry, end) = facts.stretch(function);
-    let mut calls = IndexSet::new(alloc);
+    let mut calls = BTreeSet::new(alloc);
     for at in entry..end {
         if let Some((ops, _)) = table.cells[at] {
             if let Instr::Call { f } = image.code[at].instr {

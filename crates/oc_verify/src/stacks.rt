@@ -7,7 +7,9 @@ ghost use Rattle.std.specs.Prelude.{
   ℕ,
   [],
   ◌∷◌,
+  ◌++◌,
   length,
+  nat_eq,
   IfOk,
   IfSome,
   OnErr,
@@ -17,14 +19,15 @@ ghost use Rattle.std.specs.Prelude.{
   false,
   true,
 };
-ghost use Rattle.oc_verify.specs.Stacks.{kind_limit, stack, with_node, Grows};
+ghost use Rattle.std.specs.List.{list_any};
+ghost use Rattle.oc_verify.specs.Stacks.{kind_limit, stack, with_node, Grows, IsIndex};
 ghost use Rattle.oc_verify.specs.Told.{kinds, Tells, IsTop};
 ghost use Rattle.oc_verify.specs.Rules.{number, place, closing, dropping, none_open};
 
 use crate::fault::Fault;
-use indexmap::IndexSet;
 use oc_io::Memory;
 use std::alloc::Global;
+use std::collections::BTreeMap;
 use std::marker::Model;
 
 /// The numbers on a stack are below it.
@@ -33,21 +36,24 @@ const KIND_LIMIT: u64 = 8589934592;
 /// Stacks of numbers below 2^33, by numbers: 0 is the empty one, and equal stacks have one number.
 #[derive(Drop)]
 pub struct Stacks {
-    nodes: IndexSet<u64>,
+    nodes: Vec<u64>,
+    /// The place of each node, in an ordered map: no nodes of an image can make it slow.
+    places: BTreeMap<u64, u32>,
     /// The last answer of `without`: so many words off this stack leave that one.
     last: (u32, u32, u32),
 }
 
 impl Model for Stacks {
     ghost use Rattle.std.specs.Prelude.{ℕ, List};
-    ghost use Rattle.oc_verify.specs.Stacks.{AreNodes};
+    ghost use Rattle.oc_verify.specs.Stacks.{AreNodes, IsIndex};
     ghost use Rattle.oc_verify.specs.Told.{Leaves};
 
     ghost Value = { List ℕ };
 
-    ghost view = { λ s. s.nodes.keys };
+    ghost view = { λ s. s.nodes.items };
 
-    ghost invariant = { λ s. AreNodes s.nodes.keys × Leaves s.nodes.keys s.last };
+    ghost invariant = { λ s. AreNodes s.nodes.items × Leaves s.nodes.items s.last
+        × IsIndex s.nodes.items s.places };
 }
 
 impl Stacks {
@@ -56,7 +62,8 @@ impl Stacks {
         ensures { result ≡ [] }
     {
         Stacks {
-            nodes: IndexSet::new(alloc),
+            nodes: Vec::new(alloc),
+            places: BTreeMap::new(alloc),
             last: (0, 0, 0),
         }
     }
@@ -69,27 +76,60 @@ impl Stacks {
         ensures within { IfOk result (λ n. n ≤ length self.new) }
         ensures grows { OnOk result (Grows self.old self.new) }
     {
-        let index = place(&mut self.nodes, below as u64 * KIND_LIMIT + top)?;
-        Ok(index + 1)
+        let place = place(
+            &mut self.nodes,
+            &mut self.places,
+            below as u64 * KIND_LIMIT + top,
+        )?;
+        Ok(place + 1)
     }
 }
 
-/// The place of a node, which is added unless it is there.
-fn place(nodes: &mut IndexSet<u64>, node: u64) -> Result<u32, Memory>
-    ensures keys { OnOk result (nodes.new.keys ≡ with_node nodes.old.keys node) }
-    ensures found { IfOk result (λ n. slice_get nodes.new.keys n ≡ Some node) }
-    ensures few { OnOk result (length nodes.new.keys < 2147483648) }
-    ensures same { OnErr result (nodes.new.keys ≡ nodes.old.keys) }
-    ensures small { IfOk result (λ n. n < 2147483648) }
-    ensures within { IfOk result (λ n. n < length nodes.new.keys) }
+/// Adds a node that isn't there at the next place.
+fn add(
+    nodes: &mut Vec<u64>,
+    places: &mut BTreeMap<u64, u32>,
+    node: u64,
+    place: u32,
+) -> Result<u32, Memory>
+    requires fresh { list_any (nat_eq node) nodes.old.items ≡ false }
+    requires index { IsIndex nodes.old.items places.old }
+    requires next { place ≡ length nodes.old.items }
+    ensures nodes { OnOk result (nodes.new.items ≡ nodes.old.items ++ node ∷ []) }
+    ensures place { IfOk result (λ n. n ≡ length nodes.old.items) }
+    ensures same { OnErr result (nodes.new.items ≡ nodes.old.items) }
+    ensures index { IsIndex nodes.new.items places.new }
 {
-    if nodes.len() >= 2147483647 {
+    if nodes.push(node).is_err() {
         return Err(Memory);
     }
-    match nodes.insert_full(node) {
-        Ok((index, _)) => Ok(index as u32),
-        Err(_) => Err(Memory),
+    if places.insert(node, place).is_err() {
+        let _ = nodes.pop();
+        return Err(Memory);
     }
+    Ok(place)
+}
+
+/// The place of a node, which is added unless it is there.
+fn place(nodes: &mut Vec<u64>, places: &mut BTreeMap<u64, u32>, node: u64) -> Result<u32, Memory>
+    requires index { IsIndex nodes.old.items places.old }
+    requires few { length nodes.old.items < 2147483648 }
+    ensures keys { OnOk result (nodes.new.items ≡ with_node nodes.old.items node) }
+    ensures found { IfOk result (λ n. slice_get nodes.new.items n ≡ Some node) }
+    ensures few { OnOk result (length nodes.new.items < 2147483648) }
+    ensures same { OnErr result (nodes.new.items ≡ nodes.old.items) }
+    ensures small { IfOk result (λ n. n < 2147483648) }
+    ensures within { IfOk result (λ n. n < length nodes.new.items) }
+    ensures index { IsIndex nodes.new.items places.new }
+{
+    if let Some(place) = places.get(&node) {
+        return Ok(*place);
+    }
+    let count = nodes.len();
+    if count >= 2147483647 {
+        return Err(Memory);
+    }
+    add(nodes, places, node, count as u32)
 }
 
 impl Stacks {
@@ -103,7 +143,7 @@ impl Stacks {
         if number == 0 {
             return None;
         }
-        let node = *self.nodes.get_index(number as usize - 1)?;
+        let node = self.nodes[number as usize - 1];
         Some((node % KIND_LIMIT, (node / KIND_LIMIT) as u32))
     }
 

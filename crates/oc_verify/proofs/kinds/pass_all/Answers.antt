@@ -1,6 +1,7 @@
-use Rattle.std.proofs.Common.{rules, ◌≡◌, ◌≤◌, ◌<◌, ◌+◌, ℕ, [], Some, None, Option, true, false, length, get_or, nat_eq, nat_lt, ap, refl, sym, subst, ◌∙◌, ⊎_elim, arith}
+use Rattle.std.proofs.Common.{rules, ◌≡◌, ◌≤◌, ◌<◌, ◌+◌, ℕ, [], Some, None, Option, true, false, length, get_or, is_eq, nat_cmp, nat_lt, ap, refl, sym, subst, ◌∙◌, ⊎_elim, arith}
 use Rattle.std.specs.Prelude.{slice_get}
 use Rattle.std.specs.List.{list_any}
+use Rattle.std.specs.BTreeSet.{contains}
 use Rattle.std.proofs.lemmas.Option.{slice_get_read}
 use Rattle.oc_isa.specs.declared.instr.Placed.{Placed}
 use Rattle.oc_isa.specs.declared.instr.Instr.TheVariants.{Call}
@@ -59,7 +60,7 @@ loop-at-init c = record {
   passed = λ seen P. pass_begun c.args.facts.now (table_marks c.args.table.now) c.args.function (passed_seen c.args.passed.now.items) seen c.stretch-entry.result.0
       (λ g a p s. (outside c.args.facts.now (table_marks c.args.table.now) c.args.function c.stretch-entry.result c.stretch-entry.ensures g a p s).0) P;
   kept = λ k n. refl;
-  calls = λ k m. absurd (let e : c.new-calls.result.keys ≡ [] = search rules in let z : true ≡ false = sym m ∙ ap (list_any (nat_eq k)) e in (cc));
+  calls = λ k m. absurd (let e : c.new-calls.result.keys ≡ [] = search rules in let z : true ≡ false = sym m ∙ ap (list_any (λ x. is_eq (nat_cmp k x))) e in (cc));
 }
 
 pub returns-clause-passed : goal.returns-clause-passed
@@ -163,16 +164,17 @@ loop-at-preserved c =
             kept = λ k l. ap (λ v. slice_get (passed_seen v.items) k) w.passed-is
                 ∙ call_kept F c.image-image.ensures.laid.laid f place w.in-Call.f x (params_of F w.in-Call.f) (kinds t.tops w.in-Some.ops) old new s.1 w.in-Call.is J k l
                 ∙ c.loop-at.invariant.kept k l;
-            calls = subst (CallsEach F t f (place + 1)) (sym (ap (λ v. v.keys) w.calls-is ∙ w.in_ok-is_new.ensures.kept))
-                (calls_more F t f place w.in-Call.f x n c.loop-at.calls.keys s.1 w.in-Call.is (o ∙ ap Some w.in-Some.is) w.in_ok-is_new.ensures.small c.loop-at.invariant.calls);
+            calls = subst (CallsEach F t f (place + 1)) (sym w.calls-is)
+                (calls_more F t f place w.in-Call.f x n c.loop-at.calls w.is_new.new.calls s.1 w.in-Call.is (o ∙ ap Some w.in-Some.is) w.in_ok-is_new.ensures.small c.loop-at.invariant.calls
+                w.in_ok-is_new.ensures.kept);
           }
       | in-Some+in-Call+in_ok-is_new+else-branch w ↦
           let x = w.index-in-Some.result.now in
           let n : ℕ × ℕ = (w.in-Some.ops, w.in-Some.field-0-1) in
           let s = here (parts_of c.image-image.result.now) F c.image-image.ensures.image f c.stretch-entry.result c.stretch-entry.ensures place c.loop-at.auto.at
           c.loop-at-test.true x w.index-in-Some.ensures in
-          let again : list_any (nat_eq (call_number w.in-Call.f w.in-Some.ops)) c.loop-at.calls.keys ≡ true = search rules in
-          let one = calls_one F t f place w.in-Call.f w.in-Some.ops c.loop-at.calls.keys c.loop-at.invariant.calls w.in_ok-is_new.ensures.small again in
+          let again : contains nat_cmp c.loop-at.calls (call_number w.in-Call.f w.in-Some.ops) ≡ true = search rules in
+          let one = calls_one F t f place w.in-Call.f w.in-Some.ops c.loop-at.calls c.loop-at.invariant.calls w.in_ok-is_new.ensures.small again in
           let some = c.requires.passed.0 in
           let P = c.loop-at.invariant.passed some c.requires.passed.1 in
           let J = joins_again F (with_calls some f place) (table_marks t) old w.in-Call.f (kinds t.tops w.in-Some.ops) P (call_suits F t f place w.in-Call.f w.in-Some.ops old some one P) in
@@ -182,8 +184,9 @@ loop-at-preserved c =
             passed = λ seen P. subst (λ v. IsPassed F (with_calls seen f (place + 1)) (table_marks t) (passed_seen v.items)) (sym w.passed-is)
                 (call_passed F t f place first old c.loop-at.invariant.passed w.in-Call.f x n old s.1 w.in-Call.is (o ∙ ap Some w.in-Some.is) J deep seen P);
             kept = λ k l. ap (λ v. slice_get (passed_seen v.items) k) w.passed-is ∙ c.loop-at.invariant.kept k l;
-            calls = subst (CallsEach F t f (place + 1)) (sym (ap (λ v. v.keys) w.calls-is ∙ w.in_ok-is_new.ensures.kept))
-                (calls_more F t f place w.in-Call.f x n c.loop-at.calls.keys s.1 w.in-Call.is (o ∙ ap Some w.in-Some.is) w.in_ok-is_new.ensures.small c.loop-at.invariant.calls);
+            calls = subst (CallsEach F t f (place + 1)) (sym w.calls-is)
+                (calls_more F t f place w.in-Call.f x n c.loop-at.calls w.is_new.new.calls s.1 w.in-Call.is (o ∙ ap Some w.in-Some.is) w.in_ok-is_new.ensures.small c.loop-at.invariant.calls
+                w.in_ok-is_new.ensures.kept);
           }
       | in_default w ↦
           let none = no_call_blank F t f place (o ∙ ap Some (no_pair c.index.result.now w.in_default.not-Some)) in
@@ -191,7 +194,7 @@ loop-at-preserved c =
             passed = λ seen P. subst (λ v. IsPassed F (with_calls seen f (place + 1)) (table_marks t) (passed_seen v.items)) (sym w.passed-is)
                 (none_passed F t f place first old c.loop-at.invariant.passed none seen P);
             kept = λ k l. ap (λ v. slice_get (passed_seen v.items) k) w.passed-is ∙ c.loop-at.invariant.kept k l;
-            calls = subst (λ v. CallsEach F t f (place + 1) v.keys) (sym w.calls-is) (calls_on F t f place c.loop-at.calls.keys c.loop-at.invariant.calls);
+            calls = subst (CallsEach F t f (place + 1)) (sym w.calls-is) (calls_on F t f place c.loop-at.calls c.loop-at.invariant.calls);
           }
       | in-Some+in_default-instr w ↦
           let x = w.index-in-Some.result.now in
@@ -202,6 +205,6 @@ loop-at-preserved c =
             passed = λ seen P. subst (λ v. IsPassed F (with_calls seen f (place + 1)) (table_marks t) (passed_seen v.items)) (sym w.passed-is)
                 (none_passed F t f place first old c.loop-at.invariant.passed none seen P);
             kept = λ k l. ap (λ v. slice_get (passed_seen v.items) k) w.passed-is ∙ c.loop-at.invariant.kept k l;
-            calls = subst (λ v. CallsEach F t f (place + 1) v.keys) (sym w.calls-is) (calls_on F t f place c.loop-at.calls.keys c.loop-at.invariant.calls);
+            calls = subst (CallsEach F t f (place + 1)) (sym w.calls-is) (calls_on F t f place c.loop-at.calls c.loop-at.invariant.calls);
           }
     ]

@@ -12,5 +12,5 @@ invariant-loop-at l = record {
   passed : (seen : Calls) → IsPassed l.facts seen (table_marks l.table) (passed_seen l.initial.passed.items) → IsPassed l.facts (with_calls seen l.function l.at)
       (table_marks l.table) (passed_seen l.passed.items);
   kept : (k : ℕ) → linked (calls_of l.facts) l.function k ≡ false → slice_get (passed_seen l.passed.items) k ≡ slice_get (passed_seen l.initial.passed.items) k;
-  calls : CallsEach l.facts l.table l.function l.at l.calls.keys;
+  calls : CallsEach l.facts l.table l.function l.at l.calls;
 }

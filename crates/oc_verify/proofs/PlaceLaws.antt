@@ -1,5 +1,5 @@
 -- The places of nodes.
-use Rattle.std.proofs.Common.{◌≡◌, ℕ, zero, suc, ◌<◌, List, [], ◌∷◌, ◌++◌, length, Option, Some, None, refl, sym, ap, ◌∙◌, arith, Bool, true, false, cond, nat_eq, nat_cmp, Result, Ok, Err}
+use Rattle.std.proofs.Common.{◌≡◌, ℕ, zero, suc, ◌<◌, [], ◌∷◌, ◌++◌, length, Option, Some, None, refl, sym, ap, ◌∙◌, arith, Bool, true, false, cond, nat_eq, nat_cmp, Result, Ok, Err}
 use Rattle.std.specs.Prelude.{slice_get, option_map, ◌||◌, ◌==◌, if◌then◌else◌, IfOk, OnOk}
 use Rattle.std.specs.BTreeMap.{BTreeMap, Updates, get}
 use Rattle.std.specs.Cmp.{unsigned_tied}

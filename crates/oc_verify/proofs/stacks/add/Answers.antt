@@ -1,4 +1,4 @@
-use Rattle.std.proofs.Common.{rules, ◌≡◌, ◌∷◌, ◌++◌, [], Some, length, nat_cmp, sym, subst}
+use Rattle.std.proofs.Common.{rules, ◌≡◌, ◌∷◌, ◌++◌, [], Some, nat_cmp, sym, subst}
 use Rattle.std.specs.BTreeMap.{Updates}
 use Rattle.oc_verify.specs.Stacks.{Nodes, IsIndex}
 use Rattle.oc_verify.proofs.PlaceLaws.{index_more}

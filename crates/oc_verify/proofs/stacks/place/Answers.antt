@@ -1,4 +1,4 @@
-use Rattle.std.proofs.Common.{rules, ◌≡◌, ◌<◌, Some, length, refl, sym, ◌∙◌, arith}
+use Rattle.std.proofs.Common.{◌≡◌, ◌<◌, Some, refl, sym, ◌∙◌, arith}
 use Rattle.std.specs.Prelude.{option_copied}
 use Rattle.oc_verify.specs.Stacks.{place_in}
 use Rattle.oc_verify.proofs.PlaceLaws.{added_nodes, added_place, not_found, place_found, place_missing, with_found}

@@ -4,7 +4,9 @@ pub mod FlowLaw
 pub mod Ranks
 pub mod Numbers
 pub mod Cells
+pub mod Entered
 pub mod Added
+pub mod ByNumbers
 pub mod Built
 pub mod Knows
 pub mod Gathered

@@ -116,7 +116,9 @@ fn know(
     let variables = variables_of(alloc, outer, effects)?;
     let table = table_of(alloc, known, effects, variables)?;
     let received = which_receive(alloc, &table, known, effects)?;
-    Ok(Known::new(table, outer_of(alloc, outer)?, received))
+    let others = outer_of(alloc, outer)?;
+    let numbers = table.numbers(alloc, others.as_slice())?;
+    Ok(Known::new(table, others, numbers, received))
 }
 
 /// How many variables the function at a place doesn't declare, besides its result.

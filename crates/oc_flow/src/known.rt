@@ -1,9 +1,11 @@
 //! What is known of a function.
-ghost use Rattle.std.specs.Prelude.{◌≡◌, Option};
+ghost use Rattle.std.specs.Prelude.{◌≡◌, ◌<◌, length, map, Option};
+ghost use Rattle.std.proofs.Math.ListN.{get_or};
 ghost use Rattle.oc_tree.specs.declared.tree.VarId.{VarId};
+ghost use Rattle.oc_tree.specs.declared.tree.VarId.TheVariants.{Returned};
 ghost use Rattle.oc_effects.specs.View.{called_view, effect_view};
 ghost use Rattle.oc_flow.specs.Variables.{arg_at, is_variable_of};
-ghost use Rattle.oc_flow.specs.Known.{TKnown, end_of, known_receives, table_flows};
+ghost use Rattle.oc_flow.specs.Known.{TKnown, end_of, known_receives, number_in, table_flows};
 
 use crate::numbering::is_same;
 use crate::table::Table;
@@ -11,17 +13,19 @@ use oc_effects::effect::{Called, Effect};
 use oc_tree::tree::VarId;
 use std::marker::Model;
 
-/// What is known of a function: the flow of its variables, those that it doesn't declare, and which
-/// receive input.
+/// What is known of a function: the flow of its variables, those that it doesn't declare with their
+/// numbers, and which receive input.
 #[derive(Drop)]
 pub struct Known {
     table: Table,
     outer: Vec<VarId>,
+    numbers: Vec<Option<usize>>,
     received: Vec<bool>,
 }
 
 impl Model for Known {
-    ghost use Rattle.oc_flow.specs.Known.{TKnown};
+    ghost use Rattle.std.specs.Prelude.{◌≡◌, map};
+    ghost use Rattle.oc_flow.specs.Known.{TKnown, number_in};
 
     ghost Value = { TKnown };
 
@@ -30,17 +34,26 @@ impl Model for Known {
       outer = k.outer.items;
       received = k.received.items;
     } };
+
+    ghost invariant = { λ k. k.numbers.items ≡ map (number_in k.table.variables) k.outer.items };
 }
 
 impl Known {
-    /// A function with this table, these variables and what they receive.
-    pub fn new(table: Table, outer: Vec<VarId>, received: Vec<bool>) -> Known
+    /// A function with this table, these variables with their numbers, and what variables receive.
+    pub fn new(
+        table: Table,
+        outer: Vec<VarId>,
+        numbers: Vec<Option<usize>>,
+        received: Vec<bool>,
+    ) -> Known
+        requires { numbers.items ≡ map (number_in table.variables) outer.items }
         ensures { result ≡ record
             { table = table; outer = outer.items; received = received.items } }
     {
         Known {
             table,
             outer,
+            numbers,
             received,
         }
     }
@@ -49,8 +62,9 @@ impl Known {
     pub fn outer(&self) -> &[VarId]
         ensures { result.now ≡ self.now.outer }
     {
-        // For the proof alone: the view or the invariant speaks of this field.
+        // For the proof alone: the view or the invariant speaks of these fields.
         let _table = &self.table;
+        let _numbers = &self.numbers;
         self.outer.as_slice()
     }
 
@@ -58,9 +72,24 @@ impl Known {
     pub fn flows(&self, u: VarId, v: VarId) -> bool
         ensures { result ≡ table_flows self.now.table u v }
     {
-        // For the proof alone: the view or the invariant speaks of this field.
+        // For the proof alone: the view or the invariant speaks of these fields.
         let _outer = &self.outer;
+        let _numbers = &self.numbers;
         self.table.flows(u, v)
+    }
+
+    /// Whether one of the variables that the function doesn't declare flows into another, by their
+    /// places.
+    pub fn flows_at(&self, i: usize, j: usize) -> bool
+        requires i { i < length self.now.outer }
+        requires j { j < length self.now.outer }
+        ensures { result ≡ table_flows self.now.table (get_or self.now.outer i Returned)
+            (get_or self.now.outer j Returned) }
+    {
+        match (self.numbers[i], self.numbers[j]) {
+            (Some(m), Some(n)) => m == n || self.table.has(m, n),
+            _ => false,
+        }
     }
 
     /// Whether a variable receives input.

@@ -1,11 +1,13 @@
 //! Which variables of a function lead to which by its statements.
-ghost use Rattle.std.specs.Prelude.{◌≡◌, ◌<◌, ◌&&◌, map, Option, Some};
+ghost use Rattle.std.specs.Prelude.{◌≡◌, ◌<◌, ◌&&◌, length, map, Option, Some};
+ghost use Rattle.std.proofs.Math.ListN.{get_or};
 ghost use Rattle.std.specs.List.{list_all, list_any};
 ghost use Rattle.oc_tree.specs.declared.tree.VarId.{VarId};
+ghost use Rattle.oc_tree.specs.declared.tree.VarId.TheVariants.{Returned};
 ghost use Rattle.oc_effects.specs.View.{called_view, effect_view};
-ghost use Rattle.oc_flow.specs.Variables.{arg_at, begins, ends, is_among, same_variable};
+ghost use Rattle.oc_flow.specs.Variables.{arg_at, begins, is_among, same_variable};
 ghost use Rattle.oc_flow.specs.Flow.{leads_by_value};
-ghost use Rattle.oc_flow.specs.Known.{Adds, is_ready, leads_called, leads_from, leads_known, leads_to_callee, table_flows};
+ghost use Rattle.oc_flow.specs.Known.{Adds, is_ready, leads_along, leads_called, leads_from, leads_known, leads_to_callee};
 
 use crate::known::{Known, end_of};
 use crate::table::Table;
@@ -52,33 +54,36 @@ fn value_leads(table: &mut Table, effect: &Effect)
     }
 }
 
-/// Two variables of a callee.
+/// Two variables that a callee doesn't declare, by their places.
 #[derive(Clone, Copy)]
 struct Flow {
-    from: VarId,
-    to: VarId,
+    from: usize,
+    to: usize,
 }
 
 /// By a callee's variables, where one flows into the other.
 fn leads_along(table: &mut Table, callee: &Known, effect: &Effect, call: &Called, flow: Flow)
-    ensures { Adds (λ a b. begins (called_view call.now) flow.from a &&
-        (table_flows callee.now.table flow.from flow.to && ends (effect_view effect.now)
-        (called_view call.now) flow.to b)) table.old table.new }
+    requires from { flow.from < length callee.now.outer }
+    requires to { flow.to < length callee.now.outer }
+    ensures { Adds (leads_along callee.now (effect_view effect.now) (called_view call.now)
+        (get_or callee.now.outer flow.from Returned) (get_or callee.now.outer flow.to Returned))
+        table.old table.new }
 {
-    if callee.flows(flow.from, flow.to) {
-        if let Some(t) = end_of(effect, call, flow.to) {
-            link_begins(table, call, flow.from, t);
+    if callee.flows_at(flow.from, flow.to) {
+        if let Some(t) = end_of(effect, call, callee.outer()[flow.to]) {
+            link_begins(table, call, callee.outer()[flow.from], t);
         }
     }
 }
 
 /// By the flows of a callee's variable.
-fn leads_from(table: &mut Table, callee: &Known, effect: &Effect, call: &Called, x: VarId)
-    ensures { Adds (leads_from callee.now (effect_view effect.now) (called_view call.now) x)
-        table.old table.new }
+fn leads_from(table: &mut Table, callee: &Known, effect: &Effect, call: &Called, from: usize)
+    requires { from < length callee.now.outer }
+    ensures { Adds (leads_from callee.now (effect_view effect.now) (called_view call.now)
+        (get_or callee.now.outer from Returned)) table.old table.new }
 {
-    for y in callee.outer() {
-        leads_along(table, callee, effect, call, Flow { from: x, to: *y });
+    for to in 0..callee.outer().len() {
+        leads_along(table, callee, effect, call, Flow { from, to });
     }
 }
 
@@ -88,8 +93,8 @@ fn leads_to_callee(table: &mut Table, callee: &Known, effect: &Effect, call: &Ca
         (λ x. leads_from callee.now (effect_view effect.now) (called_view call.now) x a b)
         callee.now.outer) table.old table.new }
 {
-    for x in callee.outer() {
-        leads_from(table, callee, effect, call, *x);
+    for from in 0..callee.outer().len() {
+        leads_from(table, callee, effect, call, from);
     }
 }
 

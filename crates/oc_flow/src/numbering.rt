@@ -1,5 +1,7 @@
 //! The variables of a function by numbers.
-ghost use Rattle.std.specs.Prelude.{◌≡◌, ◌<◌, ℕ, [], length, Option, Some, None, cond, nat_eq, OnOk, IfOk, IfSome};
+ghost use Rattle.std.specs.Prelude.{◌≡◌, ◌<◌, ◌^◌, ℕ, length, replicate, Option, Some, None, cond, nat_eq, OnOk, IfOk, IfSome};
+ghost use Rattle.std.proofs.Math.ListN.{get_or};
+ghost use Rattle.oc_tree.specs.declared.tree.VarId.{VarId};
 ghost use Rattle.oc_flow.specs.Variables.{is_among, same_variable};
 ghost use Rattle.oc_flow.specs.Known.{Entries, entry_of, number_in, or_else, slot};
 
@@ -23,7 +25,8 @@ pub fn is_among(v: VarId, variables: &[VarId]) -> bool
 
 /// Different variables have different slots.
 fn slot(v: VarId) -> usize
-    ensures { result ≡ slot v }
+    ensures slot { result ≡ slot v }
+    ensures small { result < 2 ^ 34 }
 {
     match v {
         VarId::Nv { index } => 3 * index as usize + 1,
@@ -43,20 +46,16 @@ fn short(number: usize) -> Result<u32, AllocError>
     }
 }
 
-/// Makes room for a slot.
-#[tactic(auto, using(crate::proofs::Numbers::entry_more))]
-fn reach(places: &mut Vec<Option<u32>>, slot: usize) -> Result<(), AllocError>
-    ensures room { OnOk result (slot < length places.new.items) }
-    ensures same { OnOk result
-        ((x : ℕ) → entry_of places.new.items x ≡ entry_of places.old.items x) }
+/// A number above the slots of variables.
+fn room_for(variables: &[VarId]) -> usize
+    ensures { (i : ℕ) (v : VarId) → i < length variables.now
+        → slot (get_or variables.now i v) < result }
 {
-    for _i in places.len()..slot {
-        places.push(None)?;
+    let mut room = 0;
+    for v in variables {
+        room = room.max(slot(*v) + 1);
     }
-    if places.len() <= slot {
-        places.push(None)?;
-    }
-    Ok(())
+    room
 }
 
 /// The number at each slot, where there is one.
@@ -72,12 +71,12 @@ impl Model for Numbers {
 }
 
 impl Numbers {
-    fn new(alloc: Global) -> Numbers
-        ensures { result ≡ [] }
+    /// No number yet, with room for so many slots.
+    fn new(alloc: Global, room: usize) -> Result<Numbers, AllocError>
+        ensures { IfOk result (λ n. n ≡ replicate room None) }
     {
-        Numbers {
-            places: Vec::new(alloc),
-        }
+        let places = vec![in alloc; None; room]?;
+        Ok(Numbers { places })
     }
 
     /// The number at a slot, where there is one.
@@ -93,19 +92,20 @@ impl Numbers {
         }
     }
 
-    fn put(&mut self, slot: usize, number: u32) -> Result<(), AllocError>
-        requires { entry_of self.old slot ≡ None }
-        ensures { OnOk result ((x : ℕ)
-            → entry_of self.new x ≡ cond (nat_eq x slot) (Some number) (entry_of self.old x)) }
+    fn put(&mut self, slot: usize, number: u32)
+        requires { slot < length self.old }
+        ensures room { length self.new ≡ length self.old }
+        ensures entry { (x : ℕ)
+            → entry_of self.new x ≡ cond (nat_eq x slot) (Some number) (entry_of self.old x) }
     {
-        reach(&mut self.places, slot)?;
         self.places[slot] = Some(number);
-        Ok(())
     }
 
     /// Adds a slot, unless it is there.
     fn add_first(&mut self, slot: usize, number: usize) -> Result<(), AllocError>
-        ensures { OnOk result ((x : ℕ) (rest : Option ℕ)
+        requires { slot < length self.old }
+        ensures room { length self.new ≡ length self.old }
+        ensures entry { OnOk result ((x : ℕ) (rest : Option ℕ)
             → or_else (entry_of self.new x) rest
             ≡ or_else (entry_of self.old x) (cond (nat_eq x slot) (Some number) rest)) }
     {
@@ -113,7 +113,7 @@ impl Numbers {
             Some(_) => Ok(()),
             None => {
                 let number = short(number)?;
-                self.put(slot, number)?;
+                self.put(slot, number);
                 Ok(())
             }
         }
@@ -125,7 +125,7 @@ impl Numbers {
 fn numbers_of(alloc: Global, variables: &[VarId]) -> Result<Numbers, AllocError>
     ensures { IfOk result (λ m. (v : VarId) → entry_of m (slot v) ≡ number_in variables.now v) }
 {
-    let mut numbers = Numbers::new(alloc);
+    let mut numbers = Numbers::new(alloc, room_for(variables))?;
     for (i, v) in variables.iter().enumerate() {
         numbers.add_first(slot(*v), i)?;
     }

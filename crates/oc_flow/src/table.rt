@@ -5,7 +5,7 @@ ghost use Rattle.std.proofs.Math.ListN.{get_or};
 ghost use Rattle.oc_tree.specs.declared.tree.VarId.{VarId};
 ghost use Rattle.oc_flow.specs.Variables.{is_among, same_variable};
 ghost use Rattle.oc_flow.specs.Flow.{chain};
-ghost use Rattle.oc_flow.specs.Known.{IsSquare, Joined, JoinedEach, Links, MarkedRow, Marks, TTable, cell, cells_of, linked, number_in, received_at, set_cell, table_flows};
+ghost use Rattle.oc_flow.specs.Known.{AreEntered, HasAtMost, IsSquare, Joined, JoinedEach, Links, MarkedRow, Marks, TTable, cell, cells_of, linked, number_in, received_at, set_cell, table_flows};
 
 use crate::numbering::{Numbering, is_same};
 use oc_tree::tree::VarId;
@@ -104,15 +104,53 @@ fn join_each(rows: &mut Vec<Vec<bool>>, number: usize, other: &[bool])
     }
 }
 
-/// Sets in each row that has the number what is set in the row of that number.
-fn join_through(alloc: Global, rows: &mut Vec<Vec<bool>>, number: usize) -> Result<(), AllocError>
+/// The numbers that some row of another number has.
+fn entered_numbers(alloc: Global, rows: &[Vec<bool>]) -> Result<Vec<bool>, AllocError>
+    requires square { IsSquare (length rows.now) (cells_of rows.now) }
+    ensures entered { IfOk result (λ r. AreEntered (cells_of rows.now) r.items) }
+{
+    let mut entered = vec![in alloc; false; rows.len()]?;
+    for i in 0..rows.len() {
+        let own = entered[i];
+        join_row(&mut entered, rows[i].as_slice());
+        entered[i] = own;
+    }
+    Ok(entered)
+}
+
+/// Whether a row has any number but this one. With no branch, so that many are looked at at once.
+fn has_another(row: &[bool], number: usize) -> bool
+    ensures { result ≡ false → HasAtMost number row.now }
+{
+    let mut found = false;
+    for i in 0..row.len() {
+        found |= row[i] & (i != number);
+    }
+    found
+}
+
+/// Sets in each row that has the number what is set in the row of that number. There is nothing to
+/// set where no other row has it, and where its row has no other number.
+fn join_through(
+    alloc: Global,
+    rows: &mut Vec<Vec<bool>>,
+    number: usize,
+    entered: &[bool],
+) -> Result<(), AllocError>
     requires square { IsSquare (length rows.old.items) (cells_of rows.old.items) }
     requires number { number < length rows.old.items }
+    requires entered { AreEntered (cells_of rows.old.items) entered.now }
     ensures square { IsSquare (length rows.old.items) (cells_of rows.new.items) }
     ensures cells { OnOk result
         (JoinedEach number (get_or (cells_of rows.old.items) number []) (cells_of rows.old.items)
         (cells_of rows.new.items)) }
 {
+    if !entered[number] {
+        return Ok(());
+    }
+    if !has_another(rows[number].as_slice(), number) {
+        return Ok(());
+    }
     let other = copy_of(alloc, rows[number].as_slice())?;
     join_each(rows, number, other.as_slice());
     Ok(())
@@ -156,6 +194,33 @@ impl Table {
         // For the proof alone: the view or the invariant speaks of this field.
         let _rows = &self.rows;
         self.numbering.number(v)
+    }
+
+    /// The numbers of these variables.
+    pub fn numbers(
+        &self,
+        alloc: Global,
+        variables: &[VarId],
+    ) -> Result<Vec<Option<usize>>, AllocError>
+        ensures { IfOk result
+            (λ r. r.items ≡ map (number_in self.now.variables) variables.now) }
+    {
+        let mut numbers = Vec::new(alloc);
+        for v in variables {
+            numbers.push(self.number(*v))?;
+        }
+        Ok(numbers)
+    }
+
+    /// Whether the variable of one number leads to that of the other.
+    pub fn has(&self, i: usize, j: usize) -> bool
+        requires row { i < length self.now.variables }
+        requires column { j < length self.now.variables }
+        ensures { result ≡ cell self.now.cells i j }
+    {
+        // For the proof alone: the view or the invariant speaks of this field.
+        let _numbering = &self.numbering;
+        at(self.rows.as_slice(), i, j)
     }
 
     /// Whether one variable leads to the other.
@@ -245,15 +310,17 @@ impl Table {
     }
 
     /// Lets variables lead on through this one, which is in the table.
-    fn through(&mut self, alloc: Global, w: VarId) -> Result<(), AllocError>
-        requires { is_among w self.now.variables ≡ true }
+    fn through(&mut self, alloc: Global, w: VarId, entered: &[bool]) -> Result<(), AllocError>
+        requires among { is_among w self.old.variables ≡ true }
+        requires entered { AreEntered self.old.cells entered.now }
         ensures variables { self.new.variables ≡ self.old.variables }
         ensures links { OnOk result
             (Links self.new (λ a b. linked self.old a b ||
             (linked self.old a w && linked self.old w b))) }
+        ensures entered { OnOk result (AreEntered self.new.cells entered.now) }
     {
         if let Some(k) = self.number(w) {
-            join_through(alloc, &mut self.rows, k)?;
+            join_through(alloc, &mut self.rows, k, entered)?;
         }
         Ok(())
     }
@@ -264,10 +331,11 @@ impl Table {
         ensures links { OnOk result
             (Links self.new (λ a b. chain (linked self.old) self.old.variables a b)) }
     {
+        let entered = entered_numbers(alloc, self.rows.as_slice())?;
         let count = self.variables().len();
         for i in 0..count {
             let w = self.variables()[count - 1 - i];
-            self.through(alloc, w)?;
+            self.through(alloc, w, entered.as_slice())?;
         }
         Ok(())
     }

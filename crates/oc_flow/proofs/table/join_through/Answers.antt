@@ -4,5 +4,5 @@ use Rattle.oc_flow.proofs.table.join_through.Goals as goal
 
 pub join_each-requires-clause-other : goal.join_each-requires-clause-other
 join_each-requires-clause-other c =
-    ap length c.as_slice-2.ensures.value ∙ ap length c.in_ok-other.ensures ∙ ap length c.as_slice.ensures.value
-    ∙ row_width c.args.rows.now.items c.args.number (length c.args.rows.now.items) c.index.result.now c.index.result.now c.requires.number c.requires.square refl c.index.ensures
+    ap length c.as_slice-3.ensures.value ∙ ap length c.in_ok-other.ensures ∙ ap length c.as_slice-2.ensures.value
+    ∙ row_width c.args.rows.now.items c.args.number (length c.args.rows.now.items) c.index-2.result.now c.index-2.result.now c.requires.number c.requires.square refl c.index-2.ensures

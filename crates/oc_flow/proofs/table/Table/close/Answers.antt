@@ -1,7 +1,7 @@
-use Rattle.std.proofs.Common.{◌≡◌, ◌<◌, ◌-◌, ◌+◌, suc, ap, ◌∙◌, arith, length}
+use Rattle.std.proofs.Common.{◌≡◌, ◌<◌, ◌-◌, ◌+◌, suc, ap, ◌∙◌, arith, length, subst}
 use Rattle.std.proofs.Math.ListN.{get_or}
 use Rattle.oc_tree.specs.declared.tree.VarId.TheVariants.{Nv}
-use Rattle.oc_flow.specs.Known.{linked}
+use Rattle.oc_flow.specs.Known.{AreEntered, linked}
 use Rattle.oc_flow.proofs.Cells.{closed_more}
 use Rattle.oc_flow.proofs.table.Table.close.Goals as goal
 
@@ -22,4 +22,5 @@ loop-i-preserved c =
       same = c.in_ok-through.ensures.variables ∙ same;
       links = closed_more (linked c.args.self.now) vs (count - (i + 1)) (count - i) (get_or c.variables.result.now ((count - 1) - i) (Nv 0)) (Nv 0) c.loop-i.self c.through.new.self
           same c.in_ok-through.ensures.variables inside next at c.loop-i.invariant.links c.in_ok-through.ensures.links;
+      entered = subst (λ marks. AreEntered c.through.new.self.cells marks) c.as_slice-in-loop-i.ensures.value c.in_ok-through.ensures.entered;
     }

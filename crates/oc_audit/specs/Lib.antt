@@ -5,3 +5,4 @@ pub mod Taking
 pub mod Laws
 pub mod Errors
 pub mod Findings
+pub mod Examples

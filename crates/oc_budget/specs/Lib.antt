@@ -4,3 +4,4 @@ pub mod Budgets
 pub mod View
 pub mod Spent
 pub mod Bounding
+pub mod Examples

@@ -3,3 +3,4 @@ pub mod Relations
 pub mod Flow
 pub mod Laws
 pub mod Known
+pub mod Examples

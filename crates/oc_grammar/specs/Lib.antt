@@ -10,3 +10,4 @@ pub mod Programs
 pub mod ReadingPrograms
 pub mod Depths
 pub mod Plain
+pub mod Examples

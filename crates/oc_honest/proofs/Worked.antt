@@ -1,6 +1,7 @@
 -- The worked reports pass the tests.
 use Rattle.std.proofs.Common.{refl}
-use Rattle.oc_honest.specs.Worked.{WorkedReports, fresh_input, fresh_writes, set_of_two, carried_input}
+use Rattle.oc_tree.specs.Worked.{fresh_input, fresh_writes, set_of_two, carried_input}
+use Rattle.oc_honest.specs.Worked.{WorkedReports}
 use Rattle.oc_honest.proofs.Deciding.{tests_tell}
 
 pub worked_reports : WorkedReports

@@ -4,3 +4,4 @@ pub mod Honest
 pub mod Deciding
 pub mod Worked
 pub mod Ended
+pub mod Examples

@@ -5,3 +5,6 @@ pub mod Run
 pub mod Power
 pub mod Listing
 pub mod Bytes
+pub mod Worked
+pub mod InstructionExamples
+pub mod PowerExamples

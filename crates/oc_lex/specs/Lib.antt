@@ -5,3 +5,4 @@ pub mod Pieces
 pub mod Tokens
 pub mod Stands
 pub mod Limits
+pub mod Examples

@@ -13,3 +13,4 @@ pub mod Executed
 pub mod Operands
 pub mod Places
 pub mod Scopes
+pub mod Examples

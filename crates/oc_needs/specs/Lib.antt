@@ -5,3 +5,4 @@ pub mod Requirements
 pub mod View
 pub mod Code
 pub mod CodeView
+pub mod Examples

@@ -5,3 +5,4 @@ pub mod Looping
 pub mod Power
 pub mod Causes
 pub mod Total
+pub mod Examples

@@ -3,3 +3,4 @@ pub mod Enough
 pub mod BlockMarks
 pub mod Laws
 pub mod Code
+pub mod Examples

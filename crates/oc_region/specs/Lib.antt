@@ -3,3 +3,4 @@ pub mod Regions
 pub mod Law
 pub mod Views
 pub mod United
+pub mod Examples

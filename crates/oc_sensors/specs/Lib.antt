@@ -2,3 +2,4 @@ pub mod File
 pub mod Causes
 pub mod History
 pub mod Keeping
+pub mod Examples

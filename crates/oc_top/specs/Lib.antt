@@ -24,3 +24,5 @@ pub mod Checked
 pub mod Audited
 pub mod Judged
 pub mod Vouched
+pub mod CommandExamples
+pub mod TextExamples

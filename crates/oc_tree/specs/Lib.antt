@@ -34,3 +34,8 @@ pub mod Checked
 pub mod Marked
 pub mod Regions
 pub mod Members
+pub mod Worked
+pub mod WordExamples
+pub mod ExpansionExamples
+pub mod RuleExamples
+pub mod PlaceExamples

@@ -13,3 +13,4 @@ pub mod Blames
 pub mod Tables
 pub mod Walks
 pub mod Room
+pub mod Examples

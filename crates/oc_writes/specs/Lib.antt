@@ -1,3 +1,4 @@
 pub mod Targets
 pub mod Seen
 pub mod Kept
+pub mod Examples

@@ -1,0 +1,34 @@
+-- Tokens, operators and expressions, by examples.
+use Rattle.std.specs.Prelude.{◌≡◌, refl, pos, true, false, [], ◌∷◌, Some, None, codes}
+use Rattle.oc_tree.specs.Tree.{number, variable, binary, called, value, call, no_args, more_args}
+use Rattle.oc_tree.specs.declared.tree.BinaryOp.TheVariants as ops
+use Rattle.oc_lex.specs.declared.token.Kind.TheVariants as kinds
+use Rattle.oc_lex.specs.declared.token.Word.TheVariants as words
+use Rattle.oc_lex.specs.declared.token.Mark.TheVariants as marks
+use Rattle.oc_grammar.specs.Lexemes.{named, numeral, keyword, sign, reserved, lexeme_by}
+use Rattle.oc_grammar.specs.Fronts.{mark_operator, a_name, a_numeral}
+use Rattle.oc_grammar.specs.Limits.{the_depths}
+use Rattle.oc_grammar.specs.Expressions.{operators, Spells, literal}
+
+-- `atomic` stands in the larger grammar alone
+pub lexeme_by_example :
+    lexeme_by false 3 (codes "atomic") (kinds.Word words.Atomic) ≡ reserved 3
+lexeme_by_example = refl
+
+pub lexeme_by_example_larger :
+    lexeme_by true 3 (codes "atomic") (kinds.Word words.Atomic) ≡ keyword 3 words.Atomic
+lexeme_by_example_larger = refl
+
+pub mark_operator_example : mark_operator marks.LessEqual ≡ Some (ops.Le, 3)
+mark_operator_example = refl
+
+-- `1 + f(2 * 3)`: the operators of an argument are its own
+pub operators_example :
+    operators (binary ops.Add (number (pos 1))
+    (called (call (codes "f")
+    (more_args (value (binary ops.Mul (number (pos 2)) (number (pos 3)))) no_args)))) ≡ 1
+operators_example = refl
+
+-- the token `7` spells the number 7
+pub Spells_example : Spells the_depths 33 0 (number (pos 7)) (numeral 1 (pos 7) ∷ []) []
+Spells_example = literal a_numeral

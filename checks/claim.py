@@ -9,8 +9,11 @@ crates/*/specs and, of crates/*/src, the types, traits and contracts that defini
 all pages, but keep none. --selftest reads a small made-up repository with each form of the language. --rests prints what
 a word rests on, as in 'claim.py --rests oc_top/Headline.IsRun'.
 
+Below a definition stand its examples, from the files specs/*Examples.antt: values that the prover computes.
+
 Ends with 1 at a word that can't be placed, a field that no page means, a link that leads nowhere, a file that is too
-large, a count that isn't true, and a name in docs/PROVED.md or docs/TRUSTED.md that nothing has.
+large, a count that isn't true, a name in docs/PROVED.md or docs/TRUSTED.md that nothing has, an example of nothing, and
+a definition of claim/examples.py that has no example.
 """
 import pathlib
 import sys
@@ -20,6 +23,7 @@ sys.dont_write_bytecode = True
 from claim import selftest
 from claim.counts import compared
 from claim.documents import lost_names
+from claim.examples import examples_of
 from claim.files import faults_of, files_of, write
 from claim.laws import laws_of
 from claim.markup import count
@@ -38,6 +42,7 @@ def made(out=None, is_written=False):
     claim = Claim(Repository(TOP))
     pages = list(claim.pages.values())
     laws_of(claim.repository, pages)
+    examples_of(claim)
     files = files_of(claim)
     told = [*faults_of(files), *lost_names(TOP), *long_pages(pages)]
     if out:

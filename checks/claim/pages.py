@@ -23,6 +23,8 @@ class Page:
         self.handed = []         # (page, word): where it hands over
         self.all = {}            # key -> word: all that it rests on
         self.laws = []           # laws about its words
+        self.examples = {}       # key -> examples of a word
+        self.spoken = []         # words that only examples speak of
 
     @property
     def is_promise(self):

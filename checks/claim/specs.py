@@ -6,7 +6,8 @@ from claim.words import Word
 
 TYPE = re.compile(r"(?:pub )?(record|data) (\S+)")
 SIGNATURE = re.compile(r"(?:(?:abbrev|unfoldable|pub|instance) )*(\S+) :(?=\s|$)")
-SKIPPED = re.compile(r"(pub )?mod |infix[lr]? ")
+# `unfolding` says what a proof computes by.
+SKIPPED = re.compile(r"(pub )?mod |infix[lr]? |unfolding ")
 WHERE = re.compile(r"\bwhere\b")
 MEMBER = re.compile(r"(?:pub )?((?:[^\s(){}]+ )*?[^\s(){}]+) :(?=\s)")
 

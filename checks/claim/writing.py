@@ -27,7 +27,7 @@ class Writer:
         for key, name in claim.homes.items():
             self.lead[key] = self.pages[name]
         for page in self.pages.values():
-            for word in law_words(page):
+            for word in law_words(page) + page.spoken:
                 self.lead.setdefault(word.key, page)
         self.refuse_one_anchor_for_two()
 
@@ -61,11 +61,20 @@ class Writer:
     # ---- definitions
 
     def definition(self, word, users):
-        """A definition with its comment, its place, its text, and what uses it."""
+        """A definition with its comment, its place, its text, what uses it, and its examples."""
         used = ", ".join(self.link(user, user.name) for user in users)
         head = f"<a href={quoted('#' + fragment(word.anchor))}>{escaped(word.name)}</a><small>{escaped(word.place)}</small>"
         return (f"<section id={quoted(word.anchor)}><h3>{head}</h3>{paragraphs(word.comment)}{self.code(word)}"
-                + (f"<p class=u>used by {used}</p>" if used else "") + "</section>")
+                + (f"<p class=u>used by {used}</p>" if used else "")
+                + "".join(self.example(example) for example in self.page.examples.get(word.key, ())) + "</section>")
+
+    def example(self, example):
+        """What an example says, with its comment and its place."""
+        links = {a: (b, target) for a, b, target in links_of(example)}
+        _, a, b = example.parts[0]
+        rows = [self.line(example.source.text, at, stop, 0, links, "u") for at, stop in line_spans(example.source.text, a, b)]
+        return (f"<div class=e><p>for example <small>{escaped(example.place)}</small></p>{paragraphs(example.comment)}"
+                f"<pre>{''.join(rows)}</pre></div>")
 
     def code(self, word):
         """The text of a definition as it stands, with links; parts that aren't meant on this page are dim."""
@@ -116,7 +125,7 @@ class Writer:
                     lines = count(sum(word.lines() for word in here), "line")
                     body.append(f"<h2 id={crate}>{crate} <small>{count(len(here), 'definition')}, {lines}</small></h2>")
                 body += [self.definition(word, users[word.key]) for word in here]
-            body += self.laws()
+            body += [*self.laws(), *self.spoken()]
             if part < last:
                 body.append(f"<p class=l><a href={part_file(page, part + 1)}>What this rests on goes on in part {part + 2}"
                             "</a></p>")
@@ -130,6 +139,13 @@ class Writer:
             yield "<h2 id=laws>Laws <small>what else is proved of these words; nothing above rests on it</small></h2>"
         yield from (self.definition(word, []) for word in here)
 
+    def spoken(self):
+        """The words that only examples speak of."""
+        here = [word for word in self.page.spoken if self.page.parts[word.key] == self.part]
+        if here:
+            yield "<h2 id=spoken>Of examples <small>what examples speak of; nothing above rests on it</small></h2>"
+        yield from (self.definition(word, []) for word in here)
+
     def head(self):
         """Title, sentence, counts, and where the page hands over."""
         page, order = self.page, list(self.pages)
@@ -139,7 +155,7 @@ class Writer:
         alone = sum(1 for word in page.words if sum(word in other.words for other in self.pages.values()) == 1)
         return (f"<nav><a href=index.html>The claim</a> · {near}</nav><h1><small>{escaped(short_kind(page))}</small>"
                 f"{prose(page.title)}</h1><p class=l>{prose(page.says)}</p><p class=n><b>{len(page.words)}</b> definitions "
-                f"<b>{page.lines():,}</b> lines <b>{alone}</b> of them on no other page</p>{self.handed()}")
+                f"<b>{page.lines():,}</b> lines <b>{alone}</b> of them on no other page</p>{examples_line(page)}{self.handed()}")
 
     def handed(self):
         """Where the page hands over, by which words, and how much it rests on with all of that."""
@@ -192,14 +208,25 @@ def is_dim(word, fields, at):
 def parted(page):
     """Says in which part of its page each word stands, by what its text with its links takes."""
     begun, parts, part, size = [word for word, _ in page.roots], {}, 0, 12_000
-    for word in begun + [word for word in page.words if word not in begun] + law_words(page):
-        text = word.text() + "".join(word.comment)
-        takes = 280 + len(text.encode()) + 32 * len(links_of(word)) + 50 * len(list(targets(word)))
+    for word in begun + [word for word in page.words if word not in begun] + law_words(page) + page.spoken:
+        takes = 50 * len(list(targets(word))) + sum(map(size_of, [word, *page.examples.get(word.key, ())]))
         if size + takes > PART:
             part, size = part + 1, 12_000
         size += takes
         parts[word.key] = part
     return parts
+
+
+def size_of(word):
+    """About how many bytes the text of a word takes, with its comment and its links."""
+    return 280 + len((word.text() + "".join(word.comment)).encode()) + 32 * len(links_of(word))
+
+
+def examples_line(page):
+    """Says how many examples a page has."""
+    number = sum(map(len, page.examples.values()))
+    return (f"<p>Below definitions stand <b>{count(number, 'example')}</b>. The prover has computed each; no promise rests on "
+            "one, and none is counted.</p>") if number else ""
 
 
 def law_words(page):

@@ -1,8 +1,7 @@
 -- Periods and their steps, by examples.
-use Rattle.std.specs.Prelude.{◌≡◌, ◌≤◌, refl, ℕ, true, false, List, [], ◌∷◌}
+use Rattle.std.specs.Prelude.{◌≡◌, ◌≤◌, refl, false, List, [], ◌∷◌}
 use Rattle.oc_io.specs.declared.period.Period.{Period}
-use Rattle.oc_tree.specs.declared.said.Said.{Said}
-use Rattle.oc_tree.specs.declared.said.Said.TheVariants.{Sensed, Committed, Aborted}
+use Rattle.oc_tree.specs.declared.said.Said.TheVariants.{Committed, Aborted}
 use Rattle.oc_bounds.specs.Attempts.{steps_after, Closes}
 use Rattle.oc_bounds.specs.Bounds.{AreLong}
 

@@ -9,7 +9,7 @@ use Rattle.oc_budget.specs.Budgets.{logged, safe_for, budgets}
 pub logged_example : logged fresh_writes writes_region ≡ 2
 logged_example = refl
 
--- without regions: two steps to read the state and to resume, four saved words at least, and the stack
+-- without regions: six steps, and one for each word of the stack
 pub safe_for_example : safe_for 3 [] ≡ 9
 safe_for_example = refl
 

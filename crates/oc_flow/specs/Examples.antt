@@ -3,7 +3,7 @@ use Rattle.std.specs.Prelude.{◌≡◌, refl, true, false, [], ◌∷◌, map}
 use Rattle.oc_tree.specs.declared.tree.VarId.TheVariants as variables
 use Rattle.oc_tree.specs.Worked.{fresh_input, fresh_writes, carried_input}
 use Rattle.oc_effects.specs.Effects.{effects_at}
-use Rattle.oc_flow.specs.Flow.{flows, flows_to, brings, brings_to, brings_at}
+use Rattle.oc_flow.specs.Flow.{flows, flows_to, brings, brings_to}
 
 -- in `fresh_writes`, `x` flows into `n`, which has the number 0, and on into `m`
 pub flows_example : flows fresh_writes 0 (variables.Declared 1) (variables.Nv 1) ≡ true
@@ -21,11 +21,9 @@ pub brings_example :
 unfolding flows_to brings_to
 brings_example = refl
 
--- in `carried_input`, the call of `grab`, which is statement 6, brings input into `n`
-pub brings_at_example : brings_at carried_input 6 (variables.Nv 0) ≡ true
+-- in `main` of `carried_input`, the call of `grab` alone brings input into `n`
+pub brings_example_call :
+    map (λ a. brings carried_input a (variables.Nv 0)) (effects_at carried_input 3)
+    ≡ true ∷ false ∷ false ∷ []
 unfolding flows_to brings_to
-brings_at_example = refl
-
-pub brings_at_example_other : brings_at carried_input 7 (variables.Nv 0) ≡ false
-unfolding flows_to brings_to
-brings_at_example_other = refl
+brings_example_call = refl

@@ -1,12 +1,12 @@
 -- Tokens, operators and expressions, by examples.
-use Rattle.std.specs.Prelude.{◌≡◌, refl, pos, true, false, [], ◌∷◌, Some, None, codes}
-use Rattle.oc_tree.specs.Tree.{number, variable, binary, called, value, call, no_args, more_args}
+use Rattle.std.specs.Prelude.{◌≡◌, refl, pos, true, false, [], ◌∷◌, Some, codes}
+use Rattle.oc_tree.specs.Tree.{number, binary, called, value, call, no_args, more_args}
 use Rattle.oc_tree.specs.declared.tree.BinaryOp.TheVariants as ops
 use Rattle.oc_lex.specs.declared.token.Kind.TheVariants as kinds
 use Rattle.oc_lex.specs.declared.token.Word.TheVariants as words
 use Rattle.oc_lex.specs.declared.token.Mark.TheVariants as marks
-use Rattle.oc_grammar.specs.Lexemes.{named, numeral, keyword, sign, reserved, lexeme_by}
-use Rattle.oc_grammar.specs.Fronts.{mark_operator, a_name, a_numeral}
+use Rattle.oc_grammar.specs.Lexemes.{numeral, keyword, reserved, lexeme_by}
+use Rattle.oc_grammar.specs.Fronts.{mark_operator, a_numeral}
 use Rattle.oc_grammar.specs.Limits.{the_depths}
 use Rattle.oc_grammar.specs.Expressions.{operators, Spells, literal}
 

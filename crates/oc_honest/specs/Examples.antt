@@ -1,5 +1,5 @@
 -- Outages before events, and consistent sets, by examples.
-use Rattle.std.specs.Prelude.{◌≡◌, refl, ℕ, pos, List, [], ◌∷◌, map, Some, None}
+use Rattle.std.specs.Prelude.{◌≡◌, refl, pos, List, [], ◌∷◌, map, Some, None}
 use Rattle.oc_tree.specs.Said.{Told}
 use Rattle.oc_tree.specs.declared.said.Said.TheVariants.{Sensed, Showed, Off}
 use Rattle.oc_tree.specs.declared.said.Shown.TheVariants.{Used}

@@ -1,11 +1,10 @@
 -- What instructions do, and their numbers in a file, by examples.
-use Rattle.std.specs.Prelude.{◌≡◌, refl, ◌++◌, ℕ, ℤ, pos, negsuc, List, [], ◌∷◌, Some, None, codes, decimal}
+use Rattle.std.specs.Prelude.{◌≡◌, refl, ◌++◌, ℤ, pos, negsuc, List, [], ◌∷◌, Some, None, codes, decimal}
 use Rattle.oc_tree.specs.declared.said.TrapKind.TheVariants as trap
 use Rattle.oc_tree.specs.declared.said.Ending.TheVariants.{Trapped}
 use Rattle.oc_tree.specs.declared.said.Shown.TheVariants.{Emitted}
 use Rattle.oc_isa.specs.declared.instr.BinOp.TheVariants.{Div}
 use Rattle.oc_isa.specs.declared.instr.Instr.TheVariants.{Push, Store, Nstore, Index, Bin, Jump, Emit}
-use Rattle.oc_isa.specs.Image.{Parts}
 use Rattle.oc_isa.specs.Next.{Regs, Goes, Ends, Stuck}
 use Rattle.oc_isa.specs.Table.{operand, act}
 use Rattle.oc_isa.specs.Bytes.{number_bytes, instr_numbers}

@@ -1,5 +1,5 @@
 -- Runs of an image, without outages and under power, by examples.
-use Rattle.std.specs.Prelude.{◌≡◌, refl, ℕ, ℤ, pos, true, false, List, [], ◌∷◌}
+use Rattle.std.specs.Prelude.{◌≡◌, refl, ℕ, ℤ, pos, true, false, [], ◌∷◌}
 use Rattle.oc_io.specs.declared.period.Period.{Period}
 use Rattle.oc_tree.specs.Said.{Told}
 use Rattle.oc_tree.specs.declared.said.Said.{Said}
@@ -64,6 +64,7 @@ power_run_example_over = refl
 
 -- a checkpoint is lost, before the region is entered
 pub power_run_example_lost :
-    (power_run (device_of fresh_image) the_tick (record { on = 2; off = 5; cut = true } ∷ [])).state.phase
+    (power_run (device_of fresh_image)
+    the_tick (record { on = 2; off = 5; cut = true } ∷ [])).state.phase
     ≡ Lost
 power_run_example_lost = refl

@@ -4,8 +4,7 @@ use Rattle.std.specs.Fmt.{signed_decimal}
 use Rattle.oc_tree.specs.Names.{NameLists}
 use Rattle.oc_tree.specs.Said.{Told}
 use Rattle.oc_tree.specs.declared.said.Said.{Said}
-use Rattle.oc_tree.specs.declared.said.Said.TheVariants.{Sensed, Showed, Entered, Committed, Aborted, Off, Dark, Ended}
-use Rattle.oc_tree.specs.declared.said.Shown.TheVariants.{Emitted}
+use Rattle.oc_tree.specs.declared.said.Said.TheVariants.{Sensed, Entered, Committed, Aborted, Off, Ended}
 use Rattle.oc_tree.specs.declared.said.TrapKind.TheVariants as traps
 use Rattle.oc_tree.specs.declared.said.Ending.TheVariants.{Halted}
 use Rattle.oc_items.specs.declared.item.Item.TheVariants as item

@@ -1,5 +1,5 @@
 -- Runs of sources, by examples.
-use Rattle.std.specs.Prelude.{◌≡◌, refl, ℕ, ℤ, pos, negsuc, true, List, [], ◌∷◌, map, codes}
+use Rattle.std.specs.Prelude.{◌≡◌, refl, pos, negsuc, true, [], ◌∷◌, map, codes}
 use Rattle.oc_tree.specs.Tree.{truth, if_else, consistent, number, emit, no_else, stmt, block, no_stmts, more}
 use Rattle.oc_tree.specs.declared.said.Said.TheVariants.{Sensed, Showed, Entered, Committed, Ended}
 use Rattle.oc_tree.specs.declared.said.Shown.TheVariants.{Emitted, Used, Finished, Tagged}
@@ -8,7 +8,7 @@ use Rattle.oc_tree.specs.Worked.{fresh_input, fresh_writes, set_of_two, fresh_re
 use Rattle.oc_meaning.specs.Blocks.{set_home}
 use Rattle.oc_meaning.specs.Store.{happened}
 use Rattle.oc_meaning.specs.Exec.{Went, kind_run}
-use Rattle.oc_meaning.specs.Run.{AtEnd, AtShort, first_store, source_run, marked_run, said_in}
+use Rattle.oc_meaning.specs.Run.{AtShort, first_store, source_run, marked_run, said_in}
 
 pub source_run_example :
     said_in (source_run fresh_input (pos 21 ∷ []))
@@ -47,7 +47,8 @@ marked_run_example_short = refl
 
 -- `emit(r, 7);`, whatever calls and sets are
 pub kind_run_example :
-    kind_run fresh_input.names [] (λ f ps σ. Went σ) (λ k. 0) [] 1 (emit (codes "r") (number (pos 7)))
+    kind_run fresh_input.names [] (λ f ps σ. Went σ) (λ k. 0) [] 1
+    (emit (codes "r") (number (pos 7)))
     (first_store fresh_input [])
     ≡ Went (happened (record { said = Showed (Emitted 0 (pos 7)); samples = []; instance = 0 })
     (first_store fresh_input []))
@@ -56,7 +57,8 @@ kind_run_example = refl
 -- `if true { Consistent(x, 1); }`, as block 2 in block 1
 pub set_home_example :
     set_home (block 1 (more (stmt 1 1 (if_else (truth true)
-    (block 2 (more (stmt 2 1 (consistent (codes "x") (pos 1))) no_stmts)) no_else)) no_stmts)) (pos 1)
+    (block 2 (more (stmt 2 1 (consistent (codes "x") (pos 1))) no_stmts)) no_else)) no_stmts))
+    (pos 1)
     ≡ 2
 set_home_example = refl
 

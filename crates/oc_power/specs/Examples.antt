@@ -28,6 +28,7 @@ power_of_example = refl
 
 -- the file `on,off`, `40,6`, `40`
 pub power_of_example_bad :
-    power_of ((codes "on" ∷ codes "off" ∷ []) ∷ (codes "40" ∷ codes "6" ∷ []) ∷ (codes "40" ∷ []) ∷ [])
+    power_of ((codes "on" ∷ codes "off" ∷ []) ∷ (codes "40" ∷ codes "6" ∷ [])
+    ∷ (codes "40" ∷ []) ∷ [])
     ≡ bad 3
 power_of_example_bad = refl

@@ -1,5 +1,5 @@
 -- When blocks suffice, by examples.
-use Rattle.std.specs.Prelude.{◌≡◌, refl, true, false, [], ◌∷◌, Some, None}
+use Rattle.std.specs.Prelude.{◌≡◌, refl, true, false, [], ◌∷◌, Some}
 use Rattle.oc_tree.specs.Worked.{fresh_input, set_of_two}
 use Rattle.oc_flow.specs.Flow.{flows_to, brings_to}
 use Rattle.oc_regcheck.specs.Enough.{is_covered, first_open}

@@ -1,5 +1,5 @@
 -- Ranges and regions, by examples.
-use Rattle.std.specs.Prelude.{◌≡◌, refl, ℕ, List, [], ◌∷◌, map, Some, None}
+use Rattle.std.specs.Prelude.{◌≡◌, refl, ℕ, List, [], ◌∷◌, Some}
 use Rattle.oc_tree.specs.Checked.{Group}
 use Rattle.oc_tree.specs.Marked.{TRegion}
 use Rattle.oc_tree.specs.Worked.{fresh_input, set_of_two, fresh_marked}

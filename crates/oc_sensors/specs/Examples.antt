@@ -36,7 +36,8 @@ pub sensor_row_example :
 sensor_row_example = refl
 
 -- a time below that of the row before is refused
-pub sensor_row_example_order : sensor_row two_names 10 (codes "9" ∷ codes "a" ∷ codes "1" ∷ []) ≡ None
+pub sensor_row_example_order :
+    sensor_row two_names 10 (codes "9" ∷ codes "a" ∷ codes "1" ∷ []) ≡ None
 sensor_row_example_order = refl
 
 -- the file `time,sensor,value`, `0,a,5`

@@ -1,9 +1,9 @@
 -- What words ask for, and statuses of answers, by examples.
-use Rattle.std.specs.Prelude.{◌≡◌, refl, true, false, [], ◌∷◌, Some, None, codes}
+use Rattle.std.specs.Prelude.{◌≡◌, refl, false, [], ◌∷◌, Some, None, codes}
 use Rattle.oc_tree.specs.declared.said.Ending.TheVariants.{Halted}
 use Rattle.oc_isa.specs.declared.phase.Phase.TheVariants.{Waking, Over, Lost}
 use Rattle.oc_top.specs.declared.answer.Answer.TheVariants as answer
-use Rattle.oc_top.specs.Commands.{Run, Drill, command_of}
+use Rattle.oc_top.specs.Commands.{Run, command_of}
 use Rattle.oc_top.specs.Answers.{status_of, line_of}
 use Rattle.oc_top.specs.Reports.{answer_of}
 

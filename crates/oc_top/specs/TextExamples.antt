@@ -1,7 +1,5 @@
 -- What is printed of a program, by examples.
-use Rattle.std.specs.Prelude.{◌≡◌, refl, ◌++◌, ℕ, ℤ, pos, false, List, [], ◌∷◌, codes, decimal}
-use Rattle.std.specs.Fmt.{signed_decimal}
-use Rattle.oc_io.specs.declared.period.Period.{Period}
+use Rattle.std.specs.Prelude.{◌≡◌, refl, ◌++◌, pos, false, [], ◌∷◌, codes, decimal}
 use Rattle.oc_tree.specs.Stack.{stacks_to}
 use Rattle.oc_tree.specs.Worked.{fresh_input, fresh_region, fresh_marked}
 use Rattle.oc_isa.specs.Power.{power_run}

@@ -1,9 +1,9 @@
 -- Expansions of statements, by examples.
 use Rattle.std.specs.Prelude.{◌≡◌, refl, pos, false, [], ◌∷◌, ◌++◌, None, codes, decimal}
-use Rattle.oc_tree.specs.Tree.{TExpr, number, variable, binary, sensed, called, value, call, no_args, more_args, TRight, right_value, right_sense, right_call, let_to, call_only, emit, stmt, TStmts, no_stmts, more}
+use Rattle.oc_tree.specs.Tree.{TExpr, number, variable, binary, sensed, called, value, call, no_args, more_args, right_sense, right_call, let_to, emit, stmt, TStmts, no_stmts, more}
 use Rattle.oc_tree.specs.declared.tree.BinaryOp.TheVariants.{Add}
 use Rattle.oc_tree.specs.Worked.{main_of, program_of}
-use Rattle.oc_tree.specs.Expansion.{temporary, pulled, left_expr, expand_stmts, stmts_groups, program_size, expansion, program_groups}
+use Rattle.oc_tree.specs.Expansion.{temporary, pulled, left_expr, expand_stmts, stmts_groups, expansion, program_groups}
 
 -- `sense(s) + f(sense(t))`
 abbrev pub nested : TExpr

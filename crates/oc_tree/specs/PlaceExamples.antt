@@ -1,5 +1,5 @@
 -- Where statements stand, by examples.
-use Rattle.std.specs.Prelude.{◌≡◌, refl, ℕ, true, false, List, [], ◌∷◌, Some, None}
+use Rattle.std.specs.Prelude.{◌≡◌, refl, true, false, [], ◌∷◌, Some, None}
 use Rattle.oc_tree.specs.Places.{block_of, placed}
 use Rattle.oc_tree.specs.Marked.{TRegion, function_of, around, covers}
 use Rattle.oc_tree.specs.Worked.{set_of_two, carried_input}

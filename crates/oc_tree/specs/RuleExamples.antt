@@ -1,9 +1,7 @@
 -- Programs that break a rule or none, by examples.
-use Rattle.std.specs.Prelude.{◌≡◌, refl, ℕ, pos, true, false, List, [], ◌∷◌, Some, None, codes}
-use Rattle.oc_tree.specs.Tree.{number, truth, variable, for_in, while_do, emit, stmt, TStmt, block, no_stmts, TProgram}
-use Rattle.oc_tree.specs.declared.tree.Decl.{Decl}
+use Rattle.std.specs.Prelude.{◌≡◌, refl, pos, true, false, List, [], ◌∷◌, Some, None, codes}
+use Rattle.oc_tree.specs.Tree.{number, truth, for_in, emit, stmt, TStmt, block, no_stmts, TProgram}
 use Rattle.oc_tree.specs.declared.tree.DeclKind.TheVariants as decls
-use Rattle.oc_tree.specs.declared.broken.Broken.{Broken}
 use Rattle.oc_tree.specs.Worked.{fresh_input, let_value, main_of, name, program_of}
 use Rattle.oc_tree.specs.Weight.{weights_to}
 use Rattle.oc_tree.specs.Stack.{stacks_to}

@@ -1,5 +1,5 @@
 -- Sums, products and quotients of words, and sets of samples, by examples.
-use Rattle.std.specs.Prelude.{◌≡◌, refl, ℤ, pos, negsuc, true, false, List, [], ◌∷◌, Some, None}
+use Rattle.std.specs.Prelude.{◌≡◌, refl, pos, negsuc, true, false, [], ◌∷◌, Some, None}
 use Rattle.oc_tree.specs.declared.tree.UnaryOp.TheVariants.{Neg, Not}
 use Rattle.oc_tree.specs.Word.{is_word, sum_of, difference_of, product_of, quotient_of, remainder_of, unary_of}
 use Rattle.oc_tree.specs.Samples.{with_sample, union}

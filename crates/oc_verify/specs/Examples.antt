@@ -6,7 +6,7 @@ use Rattle.oc_isa.specs.Worked.{fresh_image}
 use Rattle.oc_verify.specs.declared.kind.Kind.TheVariants.{Number}
 use Rattle.oc_verify.specs.Typing.{pair}
 use Rattle.oc_verify.specs.Reading.{number_at}
-use Rattle.oc_verify.specs.Rules.{laid_out, names_exist, judge, successors}
+use Rattle.oc_verify.specs.Rules.{laid_out, names_exist, judge}
 
 pub laid_out_example : laid_out fresh_image ≡ true
 laid_out_example = refl

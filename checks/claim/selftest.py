@@ -5,6 +5,7 @@ import tempfile
 
 from claim.counts import compared
 from claim.documents import lost_names
+from claim.examples import examples_of
 from claim.files import faults_of, files_of
 from claim.laws import laws_of
 from claim.pages import Claim, closure
@@ -15,7 +16,9 @@ from claim.words import Member
 
 MADE_UP = pathlib.Path(__file__).parent / "made-up"
 HOMES = {"p01": "oc_top/Works.Works", "read": "oc_base/Points.total"}
+DECIDING = "oc_base/Points.total"
 FORMS, POINTS, TOP = "crates/oc_base/specs/Forms.antt", "crates/oc_base/specs/Points.antt", "crates/oc_top/specs/Works.antt"
+EXAMPLES, NONE = "crates/oc_base/specs/Examples.antt", "pub total_example_none : total [] ≡ 0\ntotal_example_none = refl"
 
 # What a word rests on.
 RESTS = {
@@ -85,6 +88,11 @@ REFUSED = [
     ("docs/PROVED.md", "`Reader::count`", "`Reader::tally`", "says that `Reader::tally` carries something"),
     ("docs/TRUSTED.md", "| nothing |", "| the case `none` |", "docs/TRUSTED.md names `none`, which is no case"),
     ("docs/PROVED.md", "<!-- end of the counts -->\n", "", "docs/PROVED.md lacks the line <!-- end of the counts -->"),
+    (EXAMPLES, NONE, NONE.replace("total_", "totals_"),
+     "Examples.antt:14: totals_example_none is an example of nothing: the file brings in no totals"),
+    (EXAMPLES, NONE, NONE.replace("total []", "point_of 0"), "the type of total_example_none doesn't speak of total"),
+    (EXAMPLES, NONE, NONE.replace("total", "by_pattern"), "no page has oc_base/specs/Points.antt:by_pattern"),
+    (EXAMPLES, "≡ 7", "≡ seven", "Examples.antt:10: can't place 'seven' in total_example"),
 ]
 
 # A list of homes, and what must be said of it.
@@ -135,10 +143,11 @@ def wrong_words(repository):
         yield "Name isn't shown as contracts see it"
 
 
-def made(top, homes=HOMES):
+def made(top, homes=HOMES, deciding=DECIDING):
     """Returns the pages of a repository, and their files."""
     claim = Claim(Repository(top), homes)
     laws_of(claim.repository, list(claim.pages.values()))
+    examples_of(claim, deciding)
     return claim, files_of(claim)
 
 
@@ -153,6 +162,7 @@ def wrong_pages(top):
     laws = {name: [law.name for law, _ in page.laws] for name, page in claim.pages.items() if page.laws}
     if laws != {"read": ["one_total()"]}:
         yield f"the laws are {laws}"
+    yield from wrong_examples(claim.pages["read"], files["read.html"])
     yield from faults_of(files)
     text = files["p01.html"]
     if 'id=top.Works.IsSum' not in text or "read.html#base.Points.total" not in text or "<s>" in text:
@@ -166,6 +176,17 @@ def wrong_pages(top):
         yield "a file that is too large is let by"
 
 
+def wrong_examples(page, text):
+    """Yields what isn't as it must be of the examples on a page."""
+    names = {key: [example.name for example in examples] for key, examples in page.examples.items()}
+    if names != {"oc_base/specs/Points.antt:total": ["total_example", "total_example_none"]}:
+        yield f"the examples are {names}"
+    if [word.name for word in page.spoken] != ["two_points"] or any(word.name == "two_points" for word in page.words):
+        yield "what an example speaks of doesn't stand at the end of the page"
+    if "<p>3 and 4 are 7</p>" not in text or "href=#base.Examples.two_points" not in text or "refl" in text:
+        yield "read.html doesn't show an example as it stands"
+
+
 def wrong_refusals():
     """Yields each edit that is let by, or refused with other words."""
     for file, old, new, expected in REFUSED:
@@ -176,11 +197,14 @@ def wrong_refusals():
         said = told_of("README.md", "# Made up", "# Made", homes)
         if expected not in said:
             yield f"with the homes {homes}: {said or 'let by'}"
+    said = told_of("README.md", "# Made up", "# Made", deciding=DECIDING + " oc_base/Points.point_of")
+    if said != "oc_base/Points.point_of has no example":
+        yield f"a definition without an example: {said or 'let by'}"
     if "differs" not in told_of("README.md", "*1 line.*", "*2 lines.*"):
         yield "a count that isn't true is let by"
 
 
-def told_of(file, old, new, homes=HOMES):
+def told_of(file, old, new, homes=HOMES, deciding=DECIDING):
     """Returns what is said of the made-up repository with an edit."""
     with tempfile.TemporaryDirectory() as folder:
         top = pathlib.Path(folder) / "top"
@@ -190,7 +214,7 @@ def told_of(file, old, new, homes=HOMES):
             return f"{old!r} stands there {text.count(old)} times"
         (top / file).write_text(text.replace(old, new))
         try:
-            claim, _ = made(top, homes)
+            claim, _ = made(top, homes, deciding)
             differ = compared(top, list(claim.pages.values()), False)
             return "\n".join(lost_names(top)) or ("differs" if "README.md" in differ else "")
         except Unplaced as fault:

@@ -3,7 +3,7 @@ use Rattle.std.specs.Prelude.{◌≡◌, ◌≤◌, refl, false, List, [], ◌�
 use Rattle.oc_io.specs.declared.period.Period.{Period}
 use Rattle.oc_tree.specs.declared.said.Said.TheVariants.{Committed, Aborted}
 use Rattle.oc_bounds.specs.Attempts.{steps_after, Closes}
-use Rattle.oc_bounds.specs.Bounds.{AreLong}
+use Rattle.oc_bounds.specs.Bounds.{Bounds, AreLong, AreSafe}
 
 -- 10 steps, 5 ticks without power, and 20 steps
 abbrev pub two_periods : List Period
@@ -30,3 +30,19 @@ pub AreLong_example :
     AreLong 12 2 two_periods
     ≡ ((12 ≤ 10) × (false ≡ false) × ((12 ≤ 20) × (false ≡ false) × Unit {0}))
 AreLong_example = refl
+
+-- bounds of which a period is safe with 10 steps
+abbrev pub safe_with_ten : Bounds
+safe_with_ten =
+    record { spent = λ r. 1; logged = λ r. 0; total = 3; steps = 3; safe = 10 }
+
+-- that the first period is safe asks what it has
+pub AreSafe_example :
+    AreSafe safe_with_ten 1 two_periods ≡ ((10 ≤ 10) × (false ≡ false) × Unit {0})
+AreSafe_example = refl
+
+-- and that three are asks for one more
+pub AreSafe_example_more :
+    AreSafe safe_with_ten 3 two_periods
+    ≡ ((10 ≤ 10) × (false ≡ false) × ((10 ≤ 20) × (false ≡ false) × ⊥))
+AreSafe_example_more = refl

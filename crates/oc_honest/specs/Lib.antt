@@ -5,3 +5,4 @@ pub mod Deciding
 pub mod Worked
 pub mod Ended
 pub mod Examples
+pub mod HonestExamples

@@ -1,15 +1,18 @@
 -- What is printed of a program, by examples.
 use Rattle.std.specs.Prelude.{◌≡◌, refl, ◌++◌, pos, false, [], ◌∷◌, codes, decimal}
+use Rattle.oc_tree.specs.Costs.{costs_to}
 use Rattle.oc_tree.specs.Stack.{stacks_to}
 use Rattle.oc_tree.specs.Worked.{fresh_input, fresh_region, fresh_marked}
 use Rattle.oc_isa.specs.Power.{power_run}
 use Rattle.oc_isa.specs.Table.{device_of}
+use Rattle.oc_isa.specs.Listing.{listing_text}
 use Rattle.oc_isa.specs.Worked.{fresh_image}
 use Rattle.oc_flow.specs.Flow.{flows_to, brings_to}
 use Rattle.oc_items.specs.Text.{report_text}
 use Rattle.oc_items.specs.declared.item.Item.TheVariants as item
 use Rattle.oc_top.specs.RegionLines.{region_line, total_lines}
 use Rattle.oc_top.specs.Meant.{program_marked, program_code}
+use Rattle.oc_top.specs.Verdict.{regions_of, listing_of}
 use Rattle.oc_top.specs.Reports.{text_of}
 
 pub program_marked_example : program_marked fresh_input ≡ fresh_marked
@@ -40,3 +43,15 @@ pub text_of_example :
     ≡ report_text fresh_image.names (item.Enter 5 1 ∷ item.Sense 6 0 (pos 30) ∷ item.Use 8 3
     ∷ item.Emit 10 0 (pos 30) ∷ item.Done 11 3 ∷ item.Commit 12 1 ∷ item.End 13 ∷ []) ++ []
 text_of_example = refl
+
+-- the region, that `x` asks for it, and the numbers of `fresh_input`
+pub regions_of_example :
+    regions_of fresh_input
+    ≡ ((region_line fresh_input fresh_region 0 7 ++ (codes "fresh main x\n" ++ [])) ++ [])
+    ++ total_lines 9 20
+unfolding flows_to brings_to costs_to stacks_to
+regions_of_example = refl
+
+pub listing_of_example : listing_of fresh_input ≡ listing_text fresh_image
+unfolding flows_to brings_to stacks_to
+listing_of_example = refl

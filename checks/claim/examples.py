@@ -35,6 +35,7 @@ DECIDING = """
     oc_lex/Bytes.begins_name oc_lex/Bytes.in_name oc_grammar/Lexemes.lexeme_by oc_grammar/Fronts.mark_operator
     oc_grammar/Expressions.operators oc_grammar/Expressions.Spells oc_verify/Rules.laid_out
     oc_verify/Rules.names_exist oc_verify/Rules.judge oc_verify/Reading.number_at oc_audit/Files.lines
+    oc_audit/Findings.IsFinding
     oc_top/Commands.command_of oc_top/Answers.status_of oc_top/Answers.line_of oc_top/Reports.answer_of
     oc_top/Reports.text_of oc_top/RegionLines.region_line oc_top/RegionLines.total_lines
     oc_top/Meant.program_marked oc_top/Meant.program_code oc_top/Verdict.regions_of oc_top/Verdict.listing_of

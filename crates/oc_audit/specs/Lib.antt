@@ -6,3 +6,4 @@ pub mod Laws
 pub mod Errors
 pub mod Findings
 pub mod Examples
+pub mod FindingExamples

@@ -6,3 +6,4 @@ pub mod Tokens
 pub mod Stands
 pub mod Limits
 pub mod Examples
+pub mod TokenExamples

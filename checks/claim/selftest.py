@@ -16,7 +16,7 @@ from claim.words import Member
 
 MADE_UP = pathlib.Path(__file__).parent / "made-up"
 HOMES = {"p01": "oc_top/Works.Works", "read": "oc_base/Points.total"}
-DECIDING = "oc_base/Points.total"
+DECIDING = "oc_base/Points: total"
 FORMS, POINTS, TOP = "crates/oc_base/specs/Forms.antt", "crates/oc_base/specs/Points.antt", "crates/oc_top/specs/Works.antt"
 EXAMPLES, NONE = "crates/oc_base/specs/Examples.antt", "pub total_example_none : total [] ≡ 0\ntotal_example_none = refl"
 
@@ -197,7 +197,7 @@ def wrong_refusals():
         said = told_of("README.md", "# Made up", "# Made", homes)
         if expected not in said:
             yield f"with the homes {homes}: {said or 'let by'}"
-    said = told_of("README.md", "# Made up", "# Made", deciding=DECIDING + " oc_base/Points.point_of")
+    said = told_of("README.md", "# Made up", "# Made", deciding=DECIDING + " point_of")
     if said != "oc_base/Points.point_of has no example":
         yield f"a definition without an example: {said or 'let by'}"
     if "differs" not in told_of("README.md", "*1 line.*", "*2 lines.*"):

@@ -1,9 +1,12 @@
 -- Periods and their steps, by examples.
-use Rattle.std.specs.Prelude.{◌≡◌, ◌≤◌, refl, false, List, [], ◌∷◌}
+use Rattle.std.specs.Prelude.{◌≡◌, ◌≤◌, refl, ℕ, false, List, [], ◌∷◌}
 use Rattle.oc_io.specs.declared.period.Period.{Period}
 use Rattle.oc_tree.specs.declared.said.Said.TheVariants.{Committed, Aborted}
+use Rattle.oc_isa.specs.Table.{device_of}
+use Rattle.oc_isa.specs.Worked.{fresh_image}
 use Rattle.oc_bounds.specs.Attempts.{steps_after, Closes}
 use Rattle.oc_bounds.specs.Bounds.{Bounds, AreLong, AreSafe}
+use Rattle.oc_bounds.specs.Headway.{least, AddUp}
 
 -- 10 steps, 5 ticks without power, and 20 steps
 abbrev pub two_periods : List Period
@@ -31,18 +34,32 @@ pub AreLong_example :
     ≡ ((12 ≤ 10) × (false ≡ false) × ((12 ≤ 20) × (false ≡ false) × Unit {0}))
 AreLong_example = refl
 
--- bounds of which a period is safe with 10 steps
-abbrev pub safe_with_ten : Bounds
-safe_with_ten =
-    record { spent = λ r. 1; logged = λ r. 0; total = 3; steps = 3; safe = 10 }
+-- bounds by which a period is safe with so many steps
+abbrev pub safe_with : (safe : ℕ) → Bounds
+safe_with safe =
+    record { spent = λ r. 7; logged = λ r. 0; total = 9; steps = 14; safe = safe }
 
 -- that the first period is safe asks what it has
 pub AreSafe_example :
-    AreSafe safe_with_ten 1 two_periods ≡ ((10 ≤ 10) × (false ≡ false) × Unit {0})
+    AreSafe (safe_with 10) 1 two_periods ≡ ((10 ≤ 10) × (false ≡ false) × Unit {0})
 AreSafe_example = refl
 
 -- and that three are asks for one more
 pub AreSafe_example_more :
-    AreSafe safe_with_ten 3 two_periods
+    AreSafe (safe_with 10) 3 two_periods
     ≡ ((10 ≤ 10) × (false ≡ false) × ((10 ≤ 20) × (false ≡ false) × ⊥))
 AreSafe_example_more = refl
+
+-- `fresh_image` has a stack of 2 words: a boot with a full stack and what comes next take 13 steps,
+-- and a safe period of 20 steps has 14 of them for an attempt
+pub least_example : least (device_of fresh_image) (safe_with 20) ≡ 14
+least_example = refl
+
+-- from 14 steps on, a period of 16 steps has 3
+pub AddUp_example :
+    AddUp 14 3 (record { on = 16; off = 0; cut = false } ∷ []) ≡ ((false ≡ false) × Unit {0})
+AddUp_example = refl
+
+pub AddUp_example_few :
+    AddUp 14 4 (record { on = 16; off = 0; cut = false } ∷ []) ≡ ((false ≡ false) × ⊥)
+AddUp_example_few = refl

@@ -4,7 +4,7 @@ use Rattle.std.specs.Prelude.{◌≡◌, refl, FitsSigned, [], None}
 use Rattle.std.specs.Int.{w32}
 use Rattle.oc_tree.specs.Worked.{fresh_input}
 use Rattle.oc_items.specs.OneText.{IsItem}
-use Rattle.oc_honest.specs.HonestExamples.{IsHonest_example}
+use Rattle.oc_honest.specs.HonestExamples.{IsHonest_example_empty}
 use Rattle.oc_audit.specs.Findings.{IsFinding}
 use Rattle.oc_audit.specs.declared.audit.Finding.TheVariants as finding
 
@@ -27,5 +27,5 @@ IsFinding_example = (
     };
     is = refl;
   },
-  IsHonest_example,
+  IsHonest_example_empty,
 )

@@ -1,5 +1,5 @@
 -- When reports are timely and honest, by examples.
-use Rattle.std.proofs.Common.{true≢false, ap, sym, ◌∙◌, inl, inr}
+use Rattle.std.proofs.Common.{true≢false, ap, sym, subst, ◌∙◌, inl, inr}
 use Rattle.std.specs.Prelude.{◌≡◌, refl, ℕ, zero, suc, pos, Bool, true, false, List, [], ◌∷◌, ◌++◌, None, Some}
 use Rattle.oc_tree.specs.Tree.{TProgram}
 use Rattle.oc_tree.specs.Members.{IsOf}
@@ -66,14 +66,52 @@ IsWhole_example = record {
   left = refl;
 }
 
+-- ---- front parts
+
+-- `fresh_input` has read its sensor
+abbrev pub one_input : List Told
+one_input = told_at 1 (Sensed 0 (pos 21)) ∷ []
+
 abbrev is_empty : List Told → Bool
 is_empty [] = true
 is_empty (i ∷ is) = false
 
-no_end : (how : Ending) (before : List Told) (tick : ℕ)
+abbrev tail_of : List Told → List Told
+tail_of [] = []
+tail_of (i ∷ is) = is
+
+abbrev first_of : List Told → List Told
+first_of [] = []
+first_of (i ∷ is) = i ∷ []
+
+abbrev is_input : Said → Bool
+is_input (Sensed sensor value) = true
+is_input s = false
+
+abbrev begins_with_input : List Told → Bool
+begins_with_input (i ∷ is) = is_input i.said
+begins_with_input [] = false
+
+none_ends : (how : Ending) (before : List Told) (tick : ℕ)
     → [] ≡ before ++ told_at tick (Ended how) ∷ [] → ⊥
-no_end how [] tick e = true≢false (ap is_empty e)
-no_end how (i ∷ before) tick e = true≢false (ap is_empty e)
+none_ends how [] tick e = true≢false (ap is_empty e)
+none_ends how (i ∷ before) tick e = true≢false (ap is_empty e)
+
+input_ends : (how : Ending) (before : List Told) (tick : ℕ)
+    → one_input ≡ before ++ told_at tick (Ended how) ∷ [] → ⊥
+input_ends how [] tick e = true≢false (ap begins_with_input e)
+input_ends how (i ∷ before) tick e = none_ends how before tick (ap tail_of e)
+
+only_one : (l a : Lived) → IsOf a (l ∷ []) → a.offs ≡ l.offs
+only_one l a (inl e) = ap (λ k. k.offs) e
+only_one l a (inr o) = absurd o
+
+one_timely : (p : TProgram) (l : Lived) → AreTimely p (l ∷ [])
+one_timely p l = record {
+  fresh = λ a u j ina inu i it o. only_one l a ina ∙ sym (only_one l u inu);
+  consistent = λ a b t u j k ina inb int inu i q tags o r.
+      only_one l a ina ∙ sym (only_one l b inb);
+}
 
 -- a report that says nothing yet
 pub IsHonestSoFar_example : IsHonestSoFar fresh_input [] None []
@@ -84,31 +122,58 @@ IsHonestSoFar_example = record {
     fresh = λ a u j ina inu i it o. absurd ina;
     consistent = λ a b t u j k ina inb int inu i l tags o q. absurd ina;
   };
-  whole = λ how end. absurd (no_end how end.0 end.1 end.2);
+  whole = λ how end. absurd (none_ends how end.0 end.1 end.2);
 }
 
-only_empty : (q rest : List Told) → q ++ rest ≡ [] → IsHonestSoFar fresh_input [] None q
-only_empty [] rest e = IsHonestSoFar_example
-only_empty (i ∷ q) rest e = absurd (true≢false (sym (ap is_empty e)))
+-- behind the input the program says the use, the output, the end of the use, and that it ends
+pub IsHonestSoFar_example_input : IsHonestSoFar fresh_input [] None one_input
+IsHonestSoFar_example_input = record {
+  said = (
+    Showed (Used 3) ∷ Showed (Emitted 0 (pos 21)) ∷ Showed (Finished 3) ∷ Ended Halted ∷ [],
+    refl,
+  );
+  outside = (tt, tt);
+  timely = one_timely fresh_input _;
+  whole = λ how end. absurd (input_ends how end.0 end.1 end.2);
+}
 
-pub IsHonest_example : IsHonest fresh_input [] (record { items = []; nv = None })
-IsHonest_example = only_empty
+fronts : (q rest : List Told) → q ++ rest ≡ one_input → IsHonestSoFar fresh_input [] None q
+fronts [] rest e = IsHonestSoFar_example
+fronts (i ∷ []) rest e =
+    subst (λ q. IsHonestSoFar fresh_input [] None q) (sym (ap first_of e))
+    IsHonestSoFar_example_input
+fronts (i ∷ j ∷ q) rest e = absurd (true≢false (sym (ap (λ is. is_empty (tail_of is)) e)))
 
--- a use before any input
-abbrev pub used_first : TReport
-used_first = record { items = told_at 1 (Showed (Used 3)) ∷ []; nv = None }
+pub IsHonest_example : IsHonest fresh_input [] (record { items = one_input; nv = None })
+IsHonest_example = fronts
 
-abbrev says_none : List Said → Bool
-says_none [] = true
-says_none (s ∷ ss) = false
+no_front : (q rest : List Told) → q ++ rest ≡ [] → IsHonestSoFar fresh_input [] None q
+no_front [] rest e = IsHonestSoFar_example
+no_front (i ∷ q) rest e = absurd (true≢false (sym (ap is_empty e)))
 
-pub BreaksAt_example : BreaksAt fresh_input [] used_first 1
+pub IsHonest_example_empty : IsHonest fresh_input [] (record { items = []; nv = None })
+IsHonest_example_empty = no_front
+
+-- an output that stands before the use begins
+abbrev pub output_first : TReport
+output_first =
+    record {
+      items = one_input ++ told_at 2 (Showed (Emitted 0 (pos 21))) ∷ [];
+      nv = None;
+    }
+
+abbrev second_is_output : List Said → Bool
+second_is_output (s ∷ Showed (Emitted port value) ∷ ss) = true
+second_is_output ss = false
+
+-- its second item isn't honest
+pub BreaksAt_example : BreaksAt fresh_input [] output_first 2
 BreaksAt_example = record {
-  before = [];
-  item = told_at 1 (Showed (Used 3));
+  before = one_input;
+  item = told_at 2 (Showed (Emitted 0 (pos 21)));
   rest = [];
   split = refl;
   number = refl;
-  honest = only_empty;
-  broken = λ h. true≢false (sym (ap says_none h.said.1));
+  honest = fronts;
+  broken = λ h. true≢false (ap second_is_output h.said.1);
 }

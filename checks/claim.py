@@ -9,7 +9,7 @@ crates/*/specs and, of crates/*/src, the types, traits and contracts that defini
 all pages, but keep none. --selftest reads a small made-up repository with each form of the language. --rests prints what
 a word rests on, as in 'claim.py --rests oc_top/Headline.IsRun'.
 
-Below a definition stand its examples, from the files specs/*Examples.antt: values that the prover computes.
+Below a definition stand its examples, from the files specs/*Examples.antt, which the prover checks.
 
 Ends with 1 at a word that can't be placed, a field that no page means, a link that leads nowhere, a file that is too
 large, a count that isn't true, a name in docs/PROVED.md or docs/TRUSTED.md that nothing has, an example of nothing, and

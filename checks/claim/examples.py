@@ -1,4 +1,4 @@
-"""Examples: values of definitions, each of which the prover computes, and which definitions must have one."""
+"""Examples: what definitions give for some values, which the prover checks, and which definitions must have one."""
 import re
 
 from claim.resolve import links_of, targets

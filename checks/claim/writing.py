@@ -225,7 +225,7 @@ def size_of(word):
 def examples_line(page):
     """Says how many examples a page has."""
     number = sum(map(len, page.examples.values()))
-    return (f"<p>Below definitions stand <b>{count(number, 'example')}</b>. The prover has computed each; no promise rests on "
+    return (f"<p>Below definitions stand <b>{count(number, 'example')}</b>. The prover has checked each; no promise rests on "
             "one, and none is counted.</p>") if number else ""
 
 

@@ -1,6 +1,6 @@
 -- What an audit finds, by an example.
 use Rattle.std.proofs.lemmas.List.Elements.{All-nil}
-use Rattle.std.specs.Prelude.{◌≡◌, refl, FitsSigned, [], None}
+use Rattle.std.specs.Prelude.{refl, FitsSigned, [], None}
 use Rattle.std.specs.Int.{w32}
 use Rattle.oc_tree.specs.Worked.{fresh_input}
 use Rattle.oc_items.specs.OneText.{IsItem}

@@ -23,6 +23,7 @@ used_at_once =
     record { offs = 0; event = event (Sensed 0 (pos 21)) (0 ∷ []) 0 }
     ∷ record { offs = 0; event = event (Showed (Used 3)) (0 ∷ []) 0 } ∷ []
 
+-- no outage stands before either of them
 before_none : (a : Lived) → IsOf a used_at_once → a.offs ≡ 0
 before_none a (inl e) = ap (λ l. l.offs) e
 before_none a (inr (inl e)) = ap (λ l. l.offs) e
@@ -35,6 +36,7 @@ AreTimely_example p = record {
       before_none a ina ∙ sym (before_none b inb);
 }
 
+-- a number is 0
 abbrev is_none : ℕ → Bool
 is_none zero = true
 is_none (suc n) = false
@@ -54,6 +56,7 @@ whole_report =
     ∷ told_at 3 (Showed (Emitted 0 (pos 21))) ∷ told_at 4 (Showed (Finished 3))
     ∷ told_at 5 (Ended Halted) ∷ []
 
+-- a run found no sample left
 abbrev is_short : RunEnding → Bool
 is_short AtShort = true
 is_short e = false
@@ -72,40 +75,49 @@ IsWhole_example = record {
 abbrev pub one_input : List Told
 one_input = told_at 1 (Sensed 0 (pos 21)) ∷ []
 
+-- a report has no item
 abbrev is_empty : List Told → Bool
 is_empty [] = true
 is_empty (i ∷ is) = false
 
+-- the items behind the first
 abbrev tail_of : List Told → List Told
 tail_of [] = []
 tail_of (i ∷ is) = is
 
+-- the first item alone
 abbrev first_of : List Told → List Told
 first_of [] = []
 first_of (i ∷ is) = i ∷ []
 
+-- what was said is an input
 abbrev is_input : Said → Bool
 is_input (Sensed sensor value) = true
 is_input s = false
 
+-- the first item is an input
 abbrev begins_with_input : List Told → Bool
 begins_with_input (i ∷ is) = is_input i.said
 begins_with_input [] = false
 
+-- an empty report ends with nothing
 none_ends : (how : Ending) (before : List Told) (tick : ℕ)
     → [] ≡ before ++ told_at tick (Ended how) ∷ [] → ⊥
 none_ends how [] tick e = true≢false (ap is_empty e)
 none_ends how (i ∷ before) tick e = true≢false (ap is_empty e)
 
+-- a report of one input doesn't end a run
 input_ends : (how : Ending) (before : List Told) (tick : ℕ)
     → one_input ≡ before ++ told_at tick (Ended how) ∷ [] → ⊥
 input_ends how [] tick e = true≢false (ap begins_with_input e)
 input_ends how (i ∷ before) tick e = none_ends how before tick (ap tail_of e)
 
+-- there is one number of outages in a list of one event
 only_one : (l a : Lived) → IsOf a (l ∷ []) → a.offs ≡ l.offs
 only_one l a (inl e) = ap (λ k. k.offs) e
 only_one l a (inr o) = absurd o
 
+-- so it is timely
 one_timely : (p : TProgram) (l : Lived) → AreTimely p (l ∷ [])
 one_timely p l = record {
   fresh = λ a u j ina inu i it o. only_one l a ina ∙ sym (only_one l u inu);
@@ -137,6 +149,7 @@ IsHonestSoFar_example_input = record {
   whole = λ how end. absurd (input_ends how end.0 end.1 end.2);
 }
 
+-- a report of one input has two front parts
 fronts : (q rest : List Told) → q ++ rest ≡ one_input → IsHonestSoFar fresh_input [] None q
 fronts [] rest e = IsHonestSoFar_example
 fronts (i ∷ []) rest e =
@@ -147,6 +160,7 @@ fronts (i ∷ j ∷ q) rest e = absurd (true≢false (sym (ap (λ is. is_empty (
 pub IsHonest_example : IsHonest fresh_input [] (record { items = one_input; nv = None })
 IsHonest_example = fronts
 
+-- an empty report has one
 no_front : (q rest : List Told) → q ++ rest ≡ [] → IsHonestSoFar fresh_input [] None q
 no_front [] rest e = IsHonestSoFar_example
 no_front (i ∷ q) rest e = absurd (true≢false (sym (ap is_empty e)))
@@ -162,6 +176,7 @@ output_first =
       nv = None;
     }
 
+-- an output is said second
 abbrev second_is_output : List Said → Bool
 second_is_output (s ∷ Showed (Emitted port value) ∷ ss) = true
 second_is_output ss = false

@@ -4,7 +4,6 @@ use Rattle.std.specs.Prelude.{refl, [], ◌∷◌, codes}
 use Rattle.oc_lex.specs.declared.piece.Piece.TheVariants as piece
 use Rattle.oc_lex.specs.declared.token.Kind.TheVariants as kinds
 use Rattle.oc_lex.specs.declared.token.Mark.TheVariants as marks
-use Rattle.oc_lex.specs.Pieces.{Longest}
 use Rattle.oc_lex.specs.Tokens.{AreTokens, none, between, token}
 
 -- a blank is no token

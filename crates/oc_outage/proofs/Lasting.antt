@@ -1,6 +1,6 @@
 -- How a run is left: by its last item, and by its checkpoints. No image has to be sound for this.
-use Rattle.std.proofs.Common.{◌≡◌, ℕ, zero, suc, ℤ, List, [], ◌∷◌, ◌++◌, length, Option, Some, None, refl, sym, ap, ◌∙◌, subst, Bool, true, false}
-use Rattle.std.specs.Prelude.{nat_lt, not, if◌then◌else◌, ◌↔◌}
+use Rattle.std.proofs.Common.{◌≡◌, ℕ, zero, suc, ℤ, List, [], ◌∷◌, ◌++◌, Option, Some, refl, sym, ap, ◌∙◌, subst, Bool, true, false}
+use Rattle.std.specs.Prelude.{not, if◌then◌else◌, ◌↔◌}
 use Rattle.oc_io.specs.declared.period.Period.{Period}
 use Rattle.oc_tree.specs.Said.{Told}
 use Rattle.oc_tree.specs.declared.said.Ending.{Ending}
@@ -10,78 +10,11 @@ use Rattle.oc_ckpt.specs.declared.AreaState.{AreaState}
 use Rattle.oc_ckpt.specs.declared.AreaState.TheVariants.{Fresh, Open, Sealed, Armed}
 use Rattle.oc_isa.specs.declared.phase.Phase.{Phase}
 use Rattle.oc_isa.specs.declared.phase.Phase.TheVariants.{Waking, Undoing, Restoring, Running, Entering, Over, Lost}
-use Rattle.oc_isa.specs.Next.{Regs, Next, Goes, Senses, Enters, Commits, Ends, Stuck, Device}
-use Rattle.oc_isa.specs.Power.{State, Stepped, checkpoint, World, with_said, held, undo_phase, wake, restore, resume, enter, enters, enter_on, commits, goes, to_log, run_next, next_at}
-use Rattle.oc_isa.specs.Power.{words_of, ticked, tick_on, ticks_on, power_fails, darkness, one_period, through, first_world, power_run}
+use Rattle.oc_isa.specs.Next.{Device}
+use Rattle.oc_isa.specs.Power.{State, Stepped, checkpoint, World, with_said, next_at, ticked, tick_on, ticks_on, power_fails, darkness, one_period, through, first_world, power_run}
 use Rattle.oc_outage.specs.Honest.{IsLeft, is_armed, loses, loses_checkpoint}
 use Rattle.oc_items.specs.Reports.{EndsWith}
-
--- a step of a run that isn't over loses no checkpoint, and ends the run only where it says so
-abbrev IsTold : Phase → Option Said → Type 0
-IsTold (Over how) said = said ≡ Some (Ended how)
-IsTold Lost said = ⊥
-IsTold p said = Unit {0}
-
-abbrev Tells : Stepped → Type 0
-Tells r = IsTold r.state.phase r.said
-
-abbrev in_phase : State → Phase → State
-in_phase s p = record s { phase = p }
-
-told_undoing : (k : ℕ) → IsTold (undo_phase k) None
-told_undoing zero = tt
-told_undoing (suc k) = tt
-
-wake_tells : (d : Device) (a : AreaState) (s : State) → Tells (wake d a (in_phase s Waking))
-wake_tells d Fresh s = tt
-wake_tells d Open s = tt
-wake_tells d Sealed s = tt
-wake_tells d Armed s = told_undoing (length s.log)
-
-resume_tells : (d : Device) (a : AreaState) (done : ℕ) (s : State) → Tells (resume d a (in_phase s (Restoring done)))
-resume_tells d Fresh done s = tt
-resume_tells d Open done s = tt
-resume_tells d Sealed done s = tt
-resume_tells d Armed done s = tt
-
-choice_tells : (b : Bool) (x y : Stepped) → Tells x → Tells y → Tells (if b then x else y)
-choice_tells true x y p q = p
-choice_tells false x y p q = q
-
-restore_tells : (d : Device) (done : ℕ) (s : State) → Tells (restore d done (in_phase s (Restoring done)))
-restore_tells d done s = choice_tells (nat_lt done (held s.words)) _ _ tt (resume_tells d s.area done s)
-
-enter_tells : (done r : ℕ) (to : Regs) (s : State) → Tells (enter done r to s)
-enter_tells done r to s = choice_tells (nat_lt done (length (words_of to))) _ _ tt tt
-
-enters_tells : (depth r : ℕ) (to : Regs) (s : State) → Tells (enters depth r to s)
-enters_tells zero r to s = enter_tells 0 r to s
-enters_tells (suc k) r to s = tt
-
-enter_on_tells : (done : ℕ) (n : Next) (s : State) → Tells (enter_on done n (in_phase s (Entering done)))
-enter_on_tells done (Goes to w v) s = tt
-enter_on_tells done (Senses x to) s = tt
-enter_on_tells done (Enters r to) s = enter_tells done r to (in_phase s (Entering done))
-enter_on_tells done (Commits r to) s = tt
-enter_on_tells done (Ends how) s = tt
-enter_on_tells done Stuck s = tt
-
-commits_tells : (depth r : ℕ) (to : Regs) (s : State) → Tells (commits depth r to (in_phase s Running))
-commits_tells zero r to s = tt
-commits_tells (suc zero) r to s = tt
-commits_tells (suc (suc k)) r to s = tt
-
-goes_tells : (a : Option ℕ) (to : Regs) (w : _) (v : _) (s : State) → Tells (goes a to w v (in_phase s Running))
-goes_tells None to w v s = tt
-goes_tells (Some a) to w v s = tt
-
-next_tells : (sample : ℕ → ℤ) (n : Next) (s : State) → Tells (run_next sample n (in_phase s Running))
-next_tells sample (Goes to w v) s = goes_tells (to_log s.depth w s.log) to w v s
-next_tells sample (Senses x to) s = tt
-next_tells sample (Enters r to) s = enters_tells s.depth r to (in_phase s Running)
-next_tells sample (Commits r to) s = commits_tells s.depth r to s
-next_tells sample (Ends how) s = refl
-next_tells sample Stuck s = tt
+use Rattle.oc_outage.proofs.Telling.{IsTold, TellsItsEnd, world_in, told_undoing, wake_tells, restore_tells, enter_on_tells, next_tells}
 
 -- a run that is over has its last item; a step or an outage leaves that alone
 abbrev IsClosed : Phase → List Told → Type 0
@@ -115,16 +48,13 @@ told_unlost (Entering k) said q = refl
 told_unlost (Over how) said q = refl
 told_unlost Lost said q = absurd q
 
-abbrev world_in : World → Phase → World
-world_in w p = record w { state = record w.state { phase = p } }
-
 -- what a tick, an outage or the end keep: the last item, and whether a checkpoint was lost
 pub record Keeps (w v : World) : Type 0 where
   pub closed : HasClosed w → HasClosed v
   pub lost : is_lost v.state.phase ≡ is_lost w.state.phase
 
 module _ (d : Device) (h : ℕ → ℕ → ℤ) where
-  keeps_of : (w : World) (r : Stepped) → is_lost w.state.phase ≡ false → Tells r → Keeps w (ticked w r)
+  keeps_of : (w : World) (r : Stepped) → is_lost w.state.phase ≡ false → TellsItsEnd r → Keeps w (ticked w r)
   keeps_of w r u q = record { closed = λ z. closes r.state.phase r.said w.report w.tick q; lost = told_unlost r.state.phase r.said q ∙ sym u }
 
   tick_by : (p : Phase) (w : World) → Keeps (world_in w p) (tick_on d h (world_in w p))

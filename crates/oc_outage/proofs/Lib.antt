@@ -12,7 +12,9 @@ pub mod Booting
 pub mod Outages
 pub mod Standing
 pub mod Runs
+pub mod Telling
 pub mod Lasting
+pub mod Ending
 pub mod Enters
 pub mod Going
 pub mod Resting

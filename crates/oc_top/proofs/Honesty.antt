@@ -22,13 +22,13 @@ use Rattle.oc_outage.specs.Honest.{AreRead, all_on}
 use Rattle.oc_outage.proofs.Enters.{device_fit}
 use Rattle.oc_outage.proofs.Growing.{marked_ended}
 use Rattle.oc_outage.proofs.Lasting.{over_exactly}
+use Rattle.oc_outage.proofs.Ending.{ends_whole}
 use Rattle.oc_outage.proofs.Runs.{every_prefix_later, over_is_whole}
 use Rattle.oc_honest.specs.Honest.{IsWhole, IsHonest}
 use Rattle.oc_honest.specs.Timely.{RunsAreTimely}
 use Rattle.oc_honest.proofs.Shorts.{ended_not_short}
 use Rattle.oc_top.specs.Meant.{RunsAs, program_marked, program_said, plain_run, plain_said}
 use Rattle.oc_top.specs.Headline.{reported, IsWholeRun, IsHonestThroughout}
-use Rattle.oc_top.proofs.Ending.{ends_whole}
 use Rattle.oc_top.proofs.Stopping.{over_is}
 use Rattle.oc_top.proofs.Unmarking.{plain_is, same_words, prefix_unmarked}
 

@@ -2,7 +2,6 @@ pub mod Taking
 pub mod Fetching
 pub mod Readings
 pub mod Unmarking
-pub mod Ending
 pub mod Honesty
 pub mod Building
 pub mod Preparing

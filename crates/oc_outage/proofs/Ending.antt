@@ -1,6 +1,5 @@
 -- Nothing is told after the item that ends a run.
-use Rattle.std.proofs.Common.{◌≡◌, ℕ, zero, suc, ℤ, List, [], ◌∷◌, ◌++◌, length, Option, Some, None, refl, sym, ap, ◌∙◌, subst, Bool, true, false}
-use Rattle.std.specs.Prelude.{nat_lt, if◌then◌else◌}
+use Rattle.std.proofs.Common.{◌≡◌, ℕ, zero, suc, ℤ, List, [], ◌∷◌, ◌++◌, Option, Some, None, refl, sym, ap, ◌∙◌, subst, Bool, true, false}
 use Rattle.oc_io.specs.declared.period.Period.{Period}
 use Rattle.oc_tree.specs.Said.{Told}
 use Rattle.oc_tree.specs.declared.said.Ending.{Ending}
@@ -10,17 +9,12 @@ use Rattle.oc_ckpt.specs.declared.AreaState.{AreaState}
 use Rattle.oc_ckpt.specs.declared.AreaState.TheVariants.{Fresh, Open, Sealed, Armed}
 use Rattle.oc_isa.specs.declared.phase.Phase.{Phase}
 use Rattle.oc_isa.specs.declared.phase.Phase.TheVariants.{Waking, Undoing, Restoring, Running, Entering, Over, Lost}
-use Rattle.oc_tree.specs.declared.said.Shown.{Shown}
-use Rattle.oc_isa.specs.Next.{Regs, Next, Goes, Senses, Enters, Commits, Ends, Stuck, Device}
-use Rattle.oc_isa.specs.Power.{State, Stepped, checkpoint, World, with_said, held, undo_phase, wake, restore, resume, enter, enters, enter_on, commits, goes, to_log, run_next, next_at}
-use Rattle.oc_isa.specs.Power.{shown_of, words_of, ticked, tick_on, ticks_on, abort_of, power_fails, darkness, one_period, through, first_world, power_run, step}
+use Rattle.oc_isa.specs.Next.{Device}
+use Rattle.oc_isa.specs.Power.{State, Stepped, checkpoint, World, with_said, next_at, ticked, tick_on, ticks_on, abort_of, power_fails, darkness, one_period, through, first_world, power_run, step}
 use Rattle.oc_items.specs.Reports.{EndsWith}
+use Rattle.oc_outage.proofs.Telling.{IsNoEnd, TellsNoEnd, IsTold, TellsItsEnd, world_in, told_undoing, wake_tells, restore_tells, enter_on_tells, next_tells}
 
 -- ---- lists of items
-
-abbrev IsNoEnd : Said → Type 0
-IsNoEnd (Ended how) = ⊥
-IsNoEnd s = Unit {0}
 
 abbrev HasNoEnd : List Told → Type 0
 HasNoEnd [] = Unit {0}
@@ -57,78 +51,6 @@ split_end : (before rest : List Told) (t : Told) → (before ++ t ∷ []) ++ res
 split_end [] rest t = refl
 split_end (b ∷ before) rest t = ap (λ (ts : List Told). b ∷ ts) (split_end before rest t)
 
--- ---- what is said
-
-abbrev Says : Phase → Option Said → Type 0
-Says (Over how) said = Unit {0}
-Says p None = Unit {0}
-Says p (Some s) = IsNoEnd s
-
-abbrev Tells : Stepped → Type 0
-Tells r = Says r.state.phase r.said
-
-abbrev in_phase : State → Phase → State
-in_phase s p = record s { phase = p }
-
-told_undoing : (k : ℕ) → Says (undo_phase k) None
-told_undoing zero = tt
-told_undoing (suc k) = tt
-
-wake_tells : (d : Device) (a : AreaState) (s : State) → Tells (wake d a (in_phase s Waking))
-wake_tells d Fresh s = tt
-wake_tells d Open s = tt
-wake_tells d Sealed s = tt
-wake_tells d Armed s = told_undoing (length s.log)
-
-resume_tells : (d : Device) (a : AreaState) (done : ℕ) (s : State) → Tells (resume d a (in_phase s (Restoring done)))
-resume_tells d Fresh done s = tt
-resume_tells d Open done s = tt
-resume_tells d Sealed done s = tt
-resume_tells d Armed done s = tt
-
-choice_tells : (b : Bool) (x y : Stepped) → Tells x → Tells y → Tells (if b then x else y)
-choice_tells true x y p q = p
-choice_tells false x y p q = q
-
-restore_tells : (d : Device) (done : ℕ) (s : State) → Tells (restore d done (in_phase s (Restoring done)))
-restore_tells d done s = choice_tells (nat_lt done (held s.words)) _ _ tt (resume_tells d s.area done s)
-
-enter_tells : (done r : ℕ) (to : Regs) (s : State) → Tells (enter done r to s)
-enter_tells done r to s = choice_tells (nat_lt done (length (words_of to))) _ _ tt tt
-
-enters_tells : (depth r : ℕ) (to : Regs) (s : State) → Tells (enters depth r to s)
-enters_tells zero r to s = enter_tells 0 r to s
-enters_tells (suc k) r to s = tt
-
-enter_on_tells : (done : ℕ) (n : Next) (s : State) → Tells (enter_on done n (in_phase s (Entering done)))
-enter_on_tells done (Goes to w v) s = tt
-enter_on_tells done (Senses x to) s = tt
-enter_on_tells done (Enters r to) s = enter_tells done r to (in_phase s (Entering done))
-enter_on_tells done (Commits r to) s = tt
-enter_on_tells done (Ends how) s = tt
-enter_on_tells done Stuck s = tt
-
-commits_tells : (depth r : ℕ) (to : Regs) (s : State) → Tells (commits depth r to (in_phase s Running))
-commits_tells zero r to s = tt
-commits_tells (suc zero) r to s = tt
-commits_tells (suc (suc k)) r to s = tt
-
-shown_tells : (to : Option Shown) → Says Running (shown_of to)
-shown_tells None = tt
-shown_tells (Some what) = tt
-
-goes_tells : (a : Option ℕ) (to : Regs) (w : _) (v : Option Shown) (s : State) → Tells (goes a to w v (in_phase s Running))
-goes_tells None to w v s = shown_tells v
-goes_tells (Some a) to w v s = tt
-
-next_tells : (sample : ℕ → ℤ) (n : Next) (s : State) → Tells (run_next sample n (in_phase s Running))
-next_tells sample (Goes to w v) s = goes_tells (to_log s.depth w s.log) to w v s
-next_tells sample (Senses x to) s = tt
-next_tells sample (Enters r to) s = enters_tells s.depth r to (in_phase s Running)
-next_tells sample (Commits r to) s = commits_tells s.depth r to s
-next_tells sample (Ends how) s = tt
-next_tells sample Stuck s = tt
-
 -- ---- runs
 
 -- a run that is over has told its end at most as its last item, and another none
@@ -136,7 +58,7 @@ abbrev IsClear : Phase → List Told → Type 0
 IsClear (Over how) report = EndsOnlyLast report
 IsClear p report = HasNoEnd report
 
-more : (report : List Told) (t : ℕ) (said : Option Said) → HasNoEnd report → Says Running said → HasNoEnd (with_said report t said)
+more : (report : List Told) (t : ℕ) (said : Option Said) → HasNoEnd report → TellsNoEnd said → HasNoEnd (with_said report t said)
 more report t None n q = n
 more report t (Some s) n q = no_end_more report (record { tick = t; said = s }) n q
 
@@ -144,19 +66,14 @@ last : (report : List Told) (t : ℕ) (said : Option Said) → HasNoEnd report �
 last report t None n = only_last report n
 last report t (Some s) n = last_more report (record { tick = t; said = s }) n
 
-stays_clear : (p : Phase) (report : List Told) (t : ℕ) (said : Option Said) → HasNoEnd report → Says p said → IsClear p (with_said report t said)
+stays_clear : (p : Phase) (report : List Told) (t : ℕ) (said : Option Said) → HasNoEnd report → IsTold p said → IsClear p (with_said report t said)
 stays_clear (Over how) report t said n q = last report t said n
-stays_clear Waking report t None n q = n
-stays_clear Waking report t (Some s) n q = no_end_more report (record { tick = t; said = s }) n q
-stays_clear (Undoing k) report t None n q = n
-stays_clear (Undoing k) report t (Some s) n q = no_end_more report (record { tick = t; said = s }) n q
-stays_clear (Restoring k) report t None n q = n
-stays_clear (Restoring k) report t (Some s) n q = no_end_more report (record { tick = t; said = s }) n q
+stays_clear Waking report t said n q = more report t said n q
+stays_clear (Undoing k) report t said n q = more report t said n q
+stays_clear (Restoring k) report t said n q = more report t said n q
 stays_clear Running report t said n q = more report t said n q
-stays_clear (Entering k) report t None n q = n
-stays_clear (Entering k) report t (Some s) n q = no_end_more report (record { tick = t; said = s }) n q
-stays_clear Lost report t None n q = n
-stays_clear Lost report t (Some s) n q = no_end_more report (record { tick = t; said = s }) n q
+stays_clear (Entering k) report t said n q = more report t said n q
+stays_clear Lost report t said n q = absurd q
 
 awake_clear : (cut : Bool) (a : AreaState) (s : State) (report : List Told) → HasNoEnd report → IsClear ((checkpoint cut a s).phase) report
 awake_clear true Fresh s report n = n
@@ -168,7 +85,7 @@ awake_clear false Open s report n = n
 awake_clear false Sealed s report n = n
 awake_clear false Armed s report n = n
 
-abort_says : (d : Device) (a : AreaState) (words : List ℤ) → Says Running (abort_of d a words)
+abort_says : (d : Device) (a : AreaState) (words : List ℤ) → TellsNoEnd (abort_of d a words)
 abort_says d Fresh words = tt
 abort_says d Open words = tt
 abort_says d Sealed words = tt
@@ -183,11 +100,8 @@ dark_last report t n = last_more report (record { tick = t; said = Dark }) n
 abbrev HasCleared : World → Type 0
 HasCleared w = IsClear w.state.phase w.report
 
-abbrev world_in : World → Phase → World
-world_in w p = record w { state = record w.state { phase = p } }
-
 module _ (d : Device) (h : ℕ → ℕ → ℤ) where
-  ticked_clear : (w : World) (r : Stepped) → HasNoEnd w.report → Tells r → HasCleared (ticked w r)
+  ticked_clear : (w : World) (r : Stepped) → HasNoEnd w.report → TellsItsEnd r → HasCleared (ticked w r)
   ticked_clear w r n q = stays_clear r.state.phase w.report w.tick r.said n q
 
   -- the step of a world in this phase

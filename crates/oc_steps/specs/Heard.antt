@@ -6,13 +6,10 @@ use Rattle.oc_tree.specs.declared.said.Said.{Said}
 use Rattle.oc_meaning.specs.Store.{Event, Store}
 use Rattle.oc_meaning.specs.Exec.{Outcome, Went, Returned, Stopped}
 use Rattle.oc_meaning.specs.Run.{in_order, main_run, marked_run, said_in}
+use Rattle.oc_meaning.specs.Cuts.{events_in}
+use Rattle.oc_items.specs.Reports.{IsPrefixOf}
 use Rattle.oc_steps.specs.Steps.{Frame}
 use Rattle.oc_steps.specs.Follow.{with_more, resume}
-
-abbrev pub events_in : Outcome → List Event
-events_in (Went σ) = σ.events
-events_in (Returned v σ) = σ.events
-events_in (Stopped s σ) = σ.events
 
 -- the store of it, without its events
 abbrev pub cleared : Outcome → Outcome
@@ -24,9 +21,6 @@ abbrev pub store_in : Outcome → Store
 store_in (Went σ) = σ
 store_in (Returned v σ) = σ
 store_in (Stopped s σ) = σ
-
-abbrev pub IsPrefixOf : List Said → List Said → Type 0
-IsPrefixOf xs ys = (rest : List Said) × (xs ++ rest ≡ ys)
 
 -- what was said, from the first to the last
 abbrev pub said_so_far : List Event → List Said

@@ -1,6 +1,6 @@
 -- Bodies of a checked program are lawful: they name nothing hidden, assign no parameter by `&`, and lend it to such ones alone.
 use Rattle.std.proofs.Common.{◌≡◌, ℕ, ◌+◌, Bool, true, false, true≢false, List, [], ◌∷◌, ◌++◌, length, Option, Some, None, cond, refl, ap, sym, ◌∙◌, subst, arith}
-use Rattle.std.specs.Prelude.{◌&&◌, ◌||◌, ◌==◌, not, nat_lt, is_some, slice_get, option_and_then, if◌then◌else◌}
+use Rattle.std.specs.Prelude.{◌&&◌, ◌||◌, ◌==◌, nat_lt, is_some, slice_get, option_and_then, if◌then◌else◌}
 use Rattle.std.specs.Str.{bytes_eq}
 use Rattle.std.proofs.lemmas.Bool.{eqb-true, ltb-false, and_parts}
 use Rattle.std.proofs.lemmas.Slice.Eq.{bytes_eq-Decides}
@@ -38,6 +38,7 @@ use Rattle.oc_copies.proofs.Twins.{Flags, flag_of, is_shared, flags_behind, Show
 use Rattle.oc_copies.proofs.TwinCalls.{start_flags}
 use Rattle.oc_copies.proofs.LeadToNone.{EachKind, kinds_front, kinds_back}
 use Rattle.oc_copies.proofs.Reached.{none_names, none_called}
+use Rattle.oc_copies.proofs.Passing.{not_not}
 use Rattle.oc_copies.proofs.LawfulArgs.{ForHidden, unhidden, shown_join, shown_expr, shown_call, AllFlags, unflagged, all_lawful}
 
 -- ---- a function by its name
@@ -68,10 +69,6 @@ three false false c h = (refl, refl, h)
 
 none_less : (n : ℕ) → nat_lt 0 n ≡ false → n ≡ 0
 none_less n h = let l = ltb-false 0 n h in omega (arith, l)
-
-other_or : (b : Bool) → not b ≡ false → b ≡ true
-other_or true h = refl
-other_or false h = absurd (true≢false h)
 
 module _ (p : TProgram) (hidden : Text → Bool) (nv : ForHidden hidden (λ y. is_name_of p.names.nvs y ≡ true)) where
   -- a function of this number leads to no mention of what is hidden
@@ -253,17 +250,17 @@ module _ (p : TProgram) (hidden : Text → Bool) (nv : ForHidden hidden (λ y. i
     kind_lawful h fs (let_array m x t z n) s u fine free goes = tt
     kind_lawful h fs (assign x r) s u fine free goes =
         assign_lawful h fs x r is_writable refl s (target_shown x (assign x r) (λ y. refl) (λ y e. (free y e).0))
-        (and_parts (is_variable p h.scope x) (right_known p h.scope r) u.known).1 u.calls goes.0 (mentions_none (assign x r) (λ y e. (free y e).0)) (other_or _ u.target)
+        (and_parts (is_variable p h.scope x) (right_known p h.scope r) u.known).1 u.calls goes.0 (mentions_none (assign x r) (λ y e. (free y e).0)) (not_not _ u.target)
     kind_lawful h fs (assign_deref x r) s u fine free goes =
         assign_lawful h fs x r is_mutable_param refl s (target_shown x (assign_deref x r) (λ y. refl) (λ y e. (free y e).0))
-        (and_parts (is_variable p h.scope x) (right_known p h.scope r) u.known).1 u.calls goes.0 (mentions_none (assign_deref x r) (λ y e. (free y e).0)) (other_or _ u.pointee)
+        (and_parts (is_variable p h.scope x) (right_known p h.scope r) u.known).1 u.calls goes.0 (mentions_none (assign_deref x r) (λ y e. (free y e).0)) (not_not _ u.pointee)
     kind_lawful h fs (assign_index x i r) s u fine free goes =
         let none = mentions_none (assign_index x i r) (λ y e. (free y e).0) in
         let known = (and_parts (is_variable p h.scope x) (expr_known p h.scope i && right_known p h.scope r) u.known).1 in
         let rest = assign_lawful h fs x r is_writable_array refl s (target_shown x (assign_index x i r) (λ y. refl) (λ y e. (free y e).0))
         (and_parts (expr_known p h.scope i) (right_known p h.scope r) known).1
         (calls_back (CallFine p h) (expr_calls i) (right_calls r) u.calls) (calls_back Goal (expr_calls i) (right_calls r) goes.0)
-        (λ y k. let q : expr_mentions y i + right_mentions y r ≡ 0 = none y k in omega (arith, q)) (other_or _ u.array) in
+        (λ y k. let q : expr_mentions y i + right_mentions y r ≡ 0 = none y k in omega (arith, q)) (not_not _ u.array) in
         (rest.0, rest.1, shown_expr hidden i (λ y k. let q : expr_mentions y i + right_mentions y r ≡ 0 = none y k in omega (arith, q)), rest.2)
     kind_lawful h fs (if_else c a b) s u fine free goes = (
       shown_expr hidden c (mentions_none (if_else c a b) (λ y e. (free y e).0)),

@@ -5,7 +5,7 @@ use Rattle.oc_tree.specs.declared.said.Said.{Said}
 use Rattle.oc_meaning.specs.Store.{Held, Place, Local, Global, Turn, Nowhere, Store, at, nothing, held_at, put, made, left_at, noted}
 use Rattle.oc_meaning.specs.Exec.{opened, closed, used, done}
 use Rattle.oc_copies.specs.Copies.{beside}
-use Rattle.oc_copies.proofs.Cells.{at_past, at_drop, drop_length, IsCell, has_place, there, held_put, held_put_other, put_locals, put_nv}
+use Rattle.oc_copies.proofs.Cells.{at_past, at_drop, drop_length, IsCell, same_cell, has_place, there, held_put, held_put_other, put_locals, put_nv}
 
 -- how places of the one store are called in the other
 pub record Renaming : Type 0 where
@@ -49,26 +49,6 @@ module _ (r : Renaming) (is : IsRenaming r) (start other_start : Store) where
 
   -- ---- writes
 
-  same_or_not : (p q : Place) → IsCell p → (p ≡ q) ⊎ (p ≡ q → ⊥)
-  same_or_not (Local l) (Local m) c = by (l == m) refl
-    where
-      by : (b : Bool) → (l == m) ≡ b → (Local l ≡ Local m) ⊎ (Local l ≡ Local m → ⊥)
-      by true e = let n : l ≡ m = grind (arith, e) in inl (ap Local n)
-      by false e = inr (λ q. let n : l ≡ m = cc in absurd (grind (arith, e, n)))
-  same_or_not (Global l) (Global m) c = by (l == m) refl
-    where
-      by : (b : Bool) → (l == m) ≡ b → (Global l ≡ Global m) ⊎ (Global l ≡ Global m → ⊥)
-      by true e = let n : l ≡ m = grind (arith, e) in inl (ap Global n)
-      by false e = inr (λ q. let n : l ≡ m = cc in absurd (grind (arith, e, n)))
-  same_or_not (Local l) (Global m) c = inr (λ q. absurd (cc))
-  same_or_not (Local l) (Turn m) c = inr (λ q. absurd (cc))
-  same_or_not (Local l) Nowhere c = inr (λ q. absurd (cc))
-  same_or_not (Global l) (Local m) c = inr (λ q. absurd (cc))
-  same_or_not (Global l) (Turn m) c = inr (λ q. absurd (cc))
-  same_or_not (Global l) Nowhere c = inr (λ q. absurd (cc))
-  same_or_not (Turn l) q c = absurd c
-  same_or_not Nowhere q c = absurd c
-
   -- where neither is there, neither holds the value
   either_put : (b c : Bool) (h x y : Held) → b ≡ c → x ≡ y → (if b then h else x) ≡ (if c then h else y)
   either_put b c h x y e f = ap (λ t. if t then h else x) e ∙ ap (λ z. if c then h else z) f
@@ -85,7 +65,7 @@ module _ (r : Renaming) (is : IsRenaming r) (start other_start : Store) where
     other_count = put_locals τ (r.to a) h ∙ m.other_count;
     stored = put_nv σ a h ∙ m.stored;
     other_stored = put_nv τ (r.to a) h ∙ m.other_stored;
-    holds = λ b k. elim (same_or_not a b c) [
+    holds = λ b k. elim (same_cell a b c) [
       | inl e ↦ subst (λ q. held_at (put σ a h) q ≡ held_at (put τ (r.to a) h) (r.to q)) e
           (held_put σ a h ∙ either_put (there σ a) (there τ (r.to a)) h (held_at σ a) (held_at τ (r.to a)) (cell_there σ τ m a l f) (m.holds a l) ∙ sym (held_put τ (r.to a) h))
       | inr n ↦ held_put_other σ a b h n ∙ m.holds b k ∙ sym (held_put_other τ (r.to a) (r.to b) h (λ e. n (is.apart a b l k f c e)))
@@ -133,7 +113,7 @@ module _ (r : Renaming) (is : IsRenaming r) (start other_start : Store) where
     other_count = omega (arith, m.other_count);
     stored = m.stored;
     other_stored = m.other_stored;
-    holds = λ b k. elim (same_or_not new b tt) [
+    holds = λ b k. elim (same_cell new b tt) [
       | inl e ↦ subst (λ q. held_at (made h σ) q ≡ held_at (made h τ) (r.to q)) e (new_holds σ h (r.low + m.more) m.count ∙ sym (new_holds τ h (r.other_low + m.more) m.other_count)
           ∙ ap (held_at (made h τ)) (sym (is.later m.more)))
       | inr n ↦ old_holds σ h b (λ e. n (sym (e ∙ ap Local m.count))) ∙ m.holds b k

@@ -1,5 +1,5 @@
 -- What may be passed makes fine entries.
-use Rattle.std.proofs.Common.{◌≡◌, ◌⊎◌, inl, inr, ℕ, suc, ◌<◌, ◌≤◌, Bool, true, false, true≢false, not, List, [], ◌∷◌, Some, refl, sym, ap, subst, arith}
+use Rattle.std.proofs.Common.{◌≡◌, ◌⊎◌, inl, inr, ℕ, suc, ◌<◌, ◌≤◌, Bool, true, false, true≢false, not, List, [], ◌∷◌, Some, refl, sym, ap, arith}
 use Rattle.std.specs.Prelude.{ℤ}
 use Rattle.oc_tree.specs.declared.tree.Param.{Param}
 use Rattle.oc_tree.specs.declared.tree.Passing.{Passing}
@@ -9,7 +9,7 @@ use Rattle.oc_meaning.specs.Exec.{Passed, Copied, Lent}
 use Rattle.oc_copies.specs.Copies.{lent_place, passing_at}
 use Rattle.oc_copies.proofs.Cells.{IsCell}
 use Rattle.oc_tree.specs.Assigned.{is_mutable}
-use Rattle.oc_copies.proofs.Root.{Entry, entries, after_values, IsLow, ApartAll, Fine}
+use Rattle.oc_copies.proofs.Root.{entries, after_values, IsLow, ApartAll, Fine}
 
 pub more_values : (qs : List Param) (ps : List Passed) (n : ℕ) → n ≤ after_values qs ps n
 more_values [] ps n = omega arith
@@ -71,9 +71,6 @@ module _ (base nvs : ℕ) where
   cell_of (Global g) i h = tt
   cell_of (Turn z) i h = absurd (h z refl)
   cell_of Nowhere i h = absurd i
-
-  fine_more : (n m : ℕ) (es : List Entry) → n ≡ m → Fine n nvs es → Fine m nvs es
-  fine_more n m es e h = subst (λ k. Fine k nvs es) e h
 
   pub fine_entries : (qs : List Param) (ps : List Passed) (n : ℕ) → base ≤ n → Lows ps →
       ((i j : ℕ) (q : Place) → passing_at qs i ≡ Some passings.Mutable → lent_place ps i ≡ Some q → lent_place ps j ≡ Some q → i ≡ j) →

@@ -5,41 +5,28 @@ use Rattle.std.specs.Str.{bytes_eq}
 use Rattle.std.proofs.lemmas.Slice.Eq.{bytes_eq-Decides}
 use Rattle.std.proofs.lemmas.Option.{none-some, same_Some}
 use Rattle.oc_tree.specs.Names.{Text}
-use Rattle.oc_tree.specs.Tree.{TKind, let_to, let_array, assign, assign_index, assign_deref, if_else, for_in, while_do, call_only, sense_only, emit, fresh, consistent, return, TStmts, TCall, TProgram}
+use Rattle.oc_tree.specs.Tree.{TCall, TProgram}
 use Rattle.oc_tree.specs.declared.tree.NvDecl.{NvDecl}
 use Rattle.oc_tree.specs.declared.tree.Param.{Param}
 use Rattle.oc_tree.specs.declared.scope.Var.{Var}
 use Rattle.oc_tree.specs.Calls.{place_from, place}
 use Rattle.oc_tree.specs.Scope.{Scope, variable_in, variable_of, or_nv, nv_var, is_variable, is_in_scope, is_declared, is_taken, param_var, with_param, with_params, takes_param}
 use Rattle.oc_tree.specs.Types.{is_reference}
-use Rattle.oc_tree.specs.Elements.{Here, turn_var, scope_after, function_item}
+use Rattle.oc_tree.specs.Elements.{Here, turn_var, function_item}
 use Rattle.oc_tree.specs.Broken.{item_rules}
-use Rattle.oc_tree.specs.Rules.{origin_is, takes_name}
+use Rattle.oc_tree.specs.Rules.{origin_is}
 use Rattle.oc_tree.specs.Walks.{call_known}
 use Rattle.oc_meaning.specs.Store.{Place, Local, Global, Turn, Nowhere, Store, Binding, binding_of, place_of}
-use Rattle.oc_meaning.specs.Exec.{Passed, Copied, Lent, bound_to, in_turn, grown}
+use Rattle.oc_meaning.specs.Exec.{Passed, Copied, Lent}
 use Rattle.oc_meaning.specs.Run.{Frame, nv_env}
 use Rattle.oc_desugar.proofs.FineCalls.{CallFine}
+use Rattle.oc_desugar.proofs.PullSplits.{found_last, found_before}
 use Rattle.oc_desugar.proofs.Unbroken.{Passes, none_broken}
 use Rattle.oc_checked.proofs.BodiesPass.{first_fails, second_fails, function_fine}
 use Rattle.oc_copies.specs.Copies.{own_param, own_params, nv_name}
-use Rattle.oc_copies.specs.Stands.{IsVariablePlace, Stands, AreFormed, IsRuledCall, FramesStand, makes}
+use Rattle.oc_copies.specs.Stands.{IsVariablePlace, Stands, AreFormed, IsRuledCall, FramesStand}
 use Rattle.oc_copies.proofs.Back.{IsShared, nv_shared}
 use Rattle.oc_copies.proofs.Copied.{nv_of_name}
-
--- ---- one name more at the end of a scope
-
-found_last : (s : Scope) (x : Text) (v : Var) → variable_in s x ≡ None → variable_in (s ++ (x, v) ∷ []) x ≡ Some v
-found_last [] x v e = ap (λ b. cond b (Some v) None) ((bytes_eq-Decides x x).1 refl)
-found_last (z ∷ s) x v e = by (bytes_eq x z.0) e (found_last s x v)
-  where
-    by : (b : Bool) → cond b (Some z.1) (variable_in s x) ≡ None → (variable_in s x ≡ None → variable_in (s ++ (x, v) ∷ []) x ≡ Some v) → cond b (Some z.1) (variable_in (s ++ (x, v) ∷ []) x) ≡ Some v
-    by true n k = absurd (none-some _ (sym n))
-    by false n k = k n
-
-found_other : (s : Scope) (x y : Text) (v : Var) → bytes_eq y x ≡ false → variable_in (s ++ (x, v) ∷ []) y ≡ variable_in s y
-found_other [] x y v e = ap (λ b. cond b (Some v) None) e
-found_other (z ∷ s) x y v e = ap (λ o. cond (bytes_eq y z.0) (Some z.1) o) (found_other s x y v e)
 
 not_there : (o : Option Var) → is_some o ≡ false → o ≡ None
 not_there None e = refl
@@ -109,7 +96,7 @@ module _ (p : TProgram) where
 
     found_new : (y : Text) (c : Bool) → bytes_eq y b.name ≡ c → is_variable p after y ≡ true → (chosen c y).place ≡ Nowhere → ⊥
     found_new y true is known e = not_nowhere e
-    found_new y false is known e = h.found y (ap (λ o. is_some (or_nv p y o)) (sym (found_other s b.name y v is)) ∙ known) e
+    found_new y false is known e = h.found y (ap (λ o. is_some (or_nv p y o)) (sym (found_before s y b.name v is)) ∙ known) e
 
     local_new : (y : Text) (l : ℕ) (c : Bool) → (chosen c y).place ≡ Local l → l < length τ.locals
     local_new y l true e = its_local l e
@@ -117,18 +104,18 @@ module _ (p : TProgram) where
 
     stored_new : (y : Text) (k : ℕ) (c : Bool) → bytes_eq y b.name ≡ c → (chosen c y).place ≡ Global k → (nv_name p k ≡ Some y) × (variable_in after y ≡ None)
     stored_new y k true is e = absurd (not_global k e)
-    stored_new y k false is e = let q = h.stored y k e in (q.0, found_other s b.name y v is ∙ q.1)
+    stored_new y k false is e = let q = h.stored y k e in (q.0, found_before s y b.name v is ∙ q.1)
 
     found_as : (y : Text) → bytes_eq y b.name ≡ true → variable_in after y ≡ Some v
     found_as y is = ap (variable_in after) ((bytes_eq-Decides y b.name).0 is) ∙ found_last s b.name v none
 
     turn_new : (y : Text) (z : ℤ) (c : Bool) → bytes_eq y b.name ≡ c → (chosen c y).place ≡ Turn z → variable_in after y ≡ Some turn_var
     turn_new y z true is e = found_as y is ∙ ap Some (its_turn z e)
-    turn_new y z false is e = found_other s b.name y v is ∙ h.turn y z e
+    turn_new y z false is e = found_before s y b.name v is ∙ h.turn y z e
 
     reference_new : (y : Text) (c : Bool) → bytes_eq y b.name ≡ c → (chosen c y).reference ≡ origin_is is_reference (variable_of p after y)
     reference_new y true is = reference ∙ sym (ap (λ o. origin_is is_reference (or_nv p y o)) (found_as y is))
-    reference_new y false is = h.reference y ∙ sym (ap (λ o. origin_is is_reference (or_nv p y o)) (found_other s b.name y v is))
+    reference_new y false is = h.reference y ∙ sym (ap (λ o. origin_is is_reference (or_nv p y o)) (found_before s y b.name v is))
 
     apart_new : (x y : Text) (c d : Bool) → bytes_eq x b.name ≡ c → bytes_eq y b.name ≡ d → IsVariablePlace (chosen c x).place → (chosen c x).place ≡ (chosen d y).place → x ≡ y
     apart_new x y true true i j cell e = (bytes_eq-Decides x b.name).0 i ∙ sym ((bytes_eq-Decides y b.name).0 j)
@@ -146,30 +133,6 @@ module _ (p : TProgram) where
       reference = λ y. reference_new y (bytes_eq y b.name) refl;
       apart = λ x y cell e. apart_new x y (bytes_eq x b.name) (bytes_eq y b.name) refl refl cell e;
     }
-
-  -- in a turn of a `for`
-  pub stands_in_turn : (s : Scope) (env : List Binding) (σ : Store) (x : Text) (i : ℤ) → is_taken p s x ≡ false → Stands p s env σ → Stands p (s ++ (x, turn_var) ∷ []) (in_turn x i ∷ env) σ
-  stands_in_turn s env σ x i taken h = stands_more s env σ σ (in_turn x i) turn_var (not_in_scope p s x taken) (inr (i, refl, refl)) (omega arith) refl h
-
-  -- behind a statement, which made its variable and left the others
-  pub stands_behind : (h : Here) (id : ℕ) (k : TKind) (rest : TStmts) (env : List Binding) (σ τ : Store) → takes_name p h.scope k ≡ false → length σ.locals + makes k ≤ length τ.locals →
-      Stands p h.scope env σ → Stands p (scope_after p h id k) (grown k rest env σ) τ
-  stands_behind h id (let_to m x t r) rest env σ τ taken more s =
-      stands_more h.scope env σ τ (bound_to x rest σ) _ (not_in_scope p h.scope x taken) (inl (refl, omega (arith, more))) (omega (arith, more)) refl s
-  stands_behind h id (let_array m x t z n) rest env σ τ taken more s =
-      stands_more h.scope env σ τ (bound_to x rest σ) _ (not_in_scope p h.scope x taken) (inl (refl, omega (arith, more))) (omega (arith, more)) refl s
-  stands_behind h id (assign x r) rest env σ τ taken more s = stands_longer h.scope env σ τ (omega (arith, more)) s
-  stands_behind h id (assign_index x i r) rest env σ τ taken more s = stands_longer h.scope env σ τ (omega (arith, more)) s
-  stands_behind h id (assign_deref x r) rest env σ τ taken more s = stands_longer h.scope env σ τ (omega (arith, more)) s
-  stands_behind h id (if_else c a b) rest env σ τ taken more s = stands_longer h.scope env σ τ (omega (arith, more)) s
-  stands_behind h id (for_in x m n b) rest env σ τ taken more s = stands_longer h.scope env σ τ (omega (arith, more)) s
-  stands_behind h id (while_do c n b) rest env σ τ taken more s = stands_longer h.scope env σ τ (omega (arith, more)) s
-  stands_behind h id (call_only c) rest env σ τ taken more s = stands_longer h.scope env σ τ (omega (arith, more)) s
-  stands_behind h id (sense_only q) rest env σ τ taken more s = stands_longer h.scope env σ τ (omega (arith, more)) s
-  stands_behind h id (emit q e) rest env σ τ taken more s = stands_longer h.scope env σ τ (omega (arith, more)) s
-  stands_behind h id (fresh x) rest env σ τ taken more s = stands_longer h.scope env σ τ (omega (arith, more)) s
-  stands_behind h id (consistent x n) rest env σ τ taken more s = stands_longer h.scope env σ τ (omega (arith, more)) s
-  stands_behind h id (return e) rest env σ τ taken more s = stands_longer h.scope env σ τ (omega (arith, more)) s
 
   -- ---- at the start
 

@@ -1,12 +1,12 @@
 -- What the statics take of numbers: what is around a statement has a lower number, the outermost the lowest.
-use Rattle.std.proofs.Common.{◌≡◌, ◌⊎◌, inl, inr, ℕ, zero, suc, ◌+◌, ◌<◌, ◌≤◌, Bool, true, false, true≢false, List, [], ◌∷◌, ◌++◌, map, length, Option, Some, None, nat_eq, cond}
+use Rattle.std.proofs.Common.{◌≡◌, inl, inr, ℕ, zero, suc, ◌+◌, ◌<◌, ◌≤◌, Bool, true, false, true≢false, List, [], ◌∷◌, map, length, Option, Some, None, nat_eq, cond}
 use Rattle.std.proofs.Common.{refl, sym, ap, ◌∙◌, subst, arith}
 use Rattle.std.specs.Prelude.{◌==◌, ◌&&◌, not, slice_get, find, flat_map}
 use Rattle.std.specs.List.{list_any}
 use Rattle.std.proofs.Math.ListN.{get_or}
 use Rattle.std.proofs.lemmas.Bool.{eqb-true, and_parts}
 use Rattle.std.proofs.lemmas.Option.{none-some, same_Some}
-use Rattle.oc_tree.specs.Tree.{TKind, let_to, let_array, assign, assign_index, assign_deref, if_else, for_in, while_do, call_only, sense_only, emit, fresh, consistent, return}
+use Rattle.oc_tree.specs.Tree.{TKind, if_else, for_in, while_do}
 use Rattle.oc_tree.specs.Tree.{TElse, no_else, else_do, stmt, TBlock, block, TStmts, no_stmts, more, TFunction, TProgram}
 use Rattle.oc_tree.specs.Numbers.{kind_statements, else_statements, block_statements, stmts_statements, program_statements}
 use Rattle.oc_tree.specs.Places.{Place, Placed, in_branch, in_loop, behind, kind_placed, else_placed, block_placed, stmts_placed, at_start, program_placed, placed}
@@ -17,7 +17,7 @@ use Rattle.oc_tree.specs.Members.{IsOf}
 use Rattle.oc_needs.specs.Sites.{stands_in, is_outside}
 use Rattle.oc_needs.proofs.Tests.{any_of}
 use Rattle.oc_desugar.proofs.NumberLists.{Follow, first_of, parts}
-use Rattle.oc_timely.proofs.Lies.{in_append}
+use Rattle.oc_timely.proofs.Members.{in_append, by_side}
 
 -- ---- numbers that don't rise
 
@@ -50,26 +50,12 @@ mutual
   kind_nested : (id : ℕ) (at : Place) (k : TKind) → IsNested id at.around → Follow (suc id) (kind_statements k) → (q : Placed) → IsOf q (kind_placed at id k) → Nested q
   kind_nested id at (if_else c a b) h f q o =
       let s = parts (suc id) (block_statements a) (else_statements b) f in
-      by (in_append q (block_placed (in_branch at id) a) (else_placed (in_branch at id) b) o)
+      by_side (in_append q (block_placed (in_branch at id) a) (else_placed (in_branch at id) b) o)
       (block_nested (suc id) (in_branch at id) a (nest_in id at.around h) s.0 q)
       (else_nested (suc id + length (block_statements a)) (in_branch at id) b (nest (suc id) (suc id + length (block_statements a)) (id ∷ at.around) (omega arith) (nest_in id at.around h)) s.1 q)
-    where
-      by : {A B C : Type 0} → A ⊎ B → (A → C) → (B → C) → C
-      by (inl x) f g = f x
-      by (inr y) f g = g y
   kind_nested id at (for_in x m n b) h f q o = block_nested (suc id) (in_loop at id ((x, variables.Declared id) ∷ [])) b (nest_in id at.around h) f q o
   kind_nested id at (while_do c n b) h f q o = block_nested (suc id) (in_loop at id []) b (nest_in id at.around h) f q o
-  kind_nested id at (let_to m x t r) h f q o = absurd o
-  kind_nested id at (let_array m x t z n) h f q o = absurd o
-  kind_nested id at (assign x r) h f q o = absurd o
-  kind_nested id at (assign_index x e r) h f q o = absurd o
-  kind_nested id at (assign_deref x r) h f q o = absurd o
-  kind_nested id at (call_only c) h f q o = absurd o
-  kind_nested id at (sense_only s) h f q o = absurd o
-  kind_nested id at (emit p e) h f q o = absurd o
-  kind_nested id at (fresh x) h f q o = absurd o
-  kind_nested id at (consistent x n) h f q o = absurd o
-  kind_nested id at (return e) h f q o = absurd o
+  kind_nested id at k h f q o = absurd o
 
   else_nested : (i : ℕ) (at : Place) (b : TElse) → IsNested i at.around → Follow i (else_statements b) → (q : Placed) → IsOf q (else_placed at b) → Nested q
   else_nested i at no_else h f q o = absurd o
@@ -86,16 +72,9 @@ mutual
       let next = i + length (id ∷ kind_statements k) in
       let here : IsNested id at.around = subst (λ n. IsNested n at.around) (sym own.0) h in
       let inside : Follow (suc id) (kind_statements k) = subst (λ n. Follow (suc n) (kind_statements k)) (sym own.0) own.1 in
-      by o here (kind_nested id at k here inside q) (stmts_nested next (behind at id k) ss (nest i next at.around (omega arith) h) s.1 q)
-    where
-      by : IsOf q (record { id = id; line = line; kind = k; at = at } ∷ (kind_placed at id k ++ stmts_placed (behind at id k) ss)) → IsNested id at.around → (IsOf q (kind_placed at id k) → Nested q) →
-          (IsOf q (stmts_placed (behind at id k) ss) → Nested q) → Nested q
-      by (inl e) here f g = subst Nested (sym e) here
-      by (inr o) here f g = more_by (in_append q (kind_placed at id k) (stmts_placed (behind at id k) ss) o)
-        where
-          more_by : IsOf q (kind_placed at id k) ⊎ IsOf q (stmts_placed (behind at id k) ss) → Nested q
-          more_by (inl x) = f x
-          more_by (inr x) = g x
+      by_side o (λ (e : q ≡ record { id = id; line = line; kind = k; at = at }). subst Nested (sym e) here)
+      (λ j. by_side (in_append q (kind_placed at id k) (stmts_placed (behind at id k) ss) j) (kind_nested id at k here inside q)
+      (stmts_nested next (behind at id k) ss (nest i next at.around (omega arith) h) s.1 q))
 
 -- ---- functions
 
@@ -116,12 +95,8 @@ functions_nested : (i : ℕ) (fs : List TFunction) → Follow i (flat_map (λ f.
 functions_nested i [] h q o = absurd o
 functions_nested i (f ∷ fs) h q o =
     let s = parts i (block_statements f.body) (flat_map (λ z. block_statements z.body) fs) h in
-    by (in_append q (block_placed (at_start f) f.body) (flat_map (λ z. block_placed (at_start z) z.body) fs) o) (block_nested i (at_start f) f.body (none_around i) s.0 q)
+    by_side (in_append q (block_placed (at_start f) f.body) (flat_map (λ z. block_placed (at_start z) z.body) fs) o) (block_nested i (at_start f) f.body (none_around i) s.0 q)
     (functions_nested (i + length (block_statements f.body)) fs s.1 q)
-  where
-    by : {A B C : Type 0} → A ⊎ B → (A → C) → (B → C) → C
-    by (inl x) f g = f x
-    by (inr y) f g = g y
 
 found_of : (s : ℕ) (qs : List Placed) (q : Placed) → find (λ a. a.id == s) qs ≡ Some q → IsOf q qs × (q.id ≡ s)
 found_of s [] q e = absurd (none-some q e)

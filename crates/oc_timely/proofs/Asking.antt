@@ -14,8 +14,7 @@ use Rattle.oc_effects.specs.Effects.{TEffect, effects, effects_at}
 use Rattle.oc_tree.specs.Members.{IsOf}
 use Rattle.oc_flow.proofs.Lists.{in_any, same_is}
 use Rattle.oc_needs.specs.Policies.{kind_of_note, same_kind, same_policy, asked_from, each_once, policies}
-use Rattle.oc_timely.proofs.Lies.{in_append}
-use Rattle.oc_timely.proofs.Inside.{of_left, of_right}
+use Rattle.oc_timely.proofs.Members.{of_left, of_right, in_append}
 
 pub same_int : (k j : ℤ) → int_eq k j ≡ true → k ≡ j
 same_int k j h = grind (arith, h)

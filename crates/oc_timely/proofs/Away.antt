@@ -3,8 +3,8 @@ use Rattle.std.proofs.Common.{◌≡◌, inl, inr, ◌<◌, ◌≤◌, ℕ, zero
 use Rattle.std.specs.Prelude.{ℤ, ◌||◌, slice_get, option_map, option_and_then}
 use Rattle.std.proofs.lemmas.Option.{same_Some}
 use Rattle.oc_tree.specs.Names.{Text}
-use Rattle.oc_tree.specs.Tree.{call, TKind, let_to, let_array, assign, assign_index, assign_deref, if_else, for_in, while_do, call_only, sense_only, emit, fresh, consistent}
-use Rattle.oc_tree.specs.Tree.{return, TElse, no_else, else_do, stmt, TBlock, block, TStmts, no_stmts, more, TFunction, TProgram}
+use Rattle.oc_tree.specs.Tree.{call, TKind, if_else, for_in, while_do, consistent}
+use Rattle.oc_tree.specs.Tree.{TElse, no_else, else_do, stmt, TBlock, block, TStmts, no_stmts, more, TFunction, TProgram}
 use Rattle.oc_tree.specs.declared.tree.VarId.TheVariants as variables
 use Rattle.oc_tree.specs.Calls.{function_place}
 use Rattle.oc_tree.specs.Checked.{Group, IsChecked}
@@ -18,7 +18,7 @@ use Rattle.oc_effects.specs.Effects.{call_of, called_at, called_by, effect_of}
 use Rattle.oc_tree.specs.Members.{IsOf}
 use Rattle.oc_flow.proofs.Fixpoint.{Ranked}
 use Rattle.oc_timely.proofs.Callees.{callee_at}
-use Rattle.oc_timely.proofs.Inside.{of_left, of_right}
+use Rattle.oc_timely.proofs.Members.{of_left, of_right}
 use Rattle.oc_timely.proofs.Owned.{set_here}
 use Rattle.oc_timely.proofs.Stated.{effect}
 use Rattle.oc_timely.proofs.Tagged.{Since, SinceOut, since_like, NoteFits, Fits, KindFits, ElseFits, BlockFits, StmtsFit, block_since}
@@ -57,19 +57,7 @@ module _ (p : TProgram) (groups : List Group) (checked : IsChecked p groups) (ra
             let same : g ≡ h = same_Some g h (sym at ∙ ap (slice_get p.functions) (sym r.0) ∙ is) in
             let i = its x (e ∙ ap (consistent x) r.1) r.0 in
             (i.0, ap (λ (z : TFunction). set_home z.body k) same ∙ ap (set_home h.body) (sym r.1), i.1)
-        note (let_to m x t r) e = tt
-        note (let_array m x t z n) e = tt
-        note (assign x r) e = tt
-        note (assign_index x y r) e = tt
-        note (assign_deref x r) e = tt
-        note (if_else d x y) e = tt
-        note (for_in x m n b) e = tt
-        note (while_do d n b) e = tt
-        note (call_only d) e = tt
-        note (sense_only s) e = tt
-        note (emit q d) e = tt
-        note (fresh x) e = tt
-        note (return d) e = tt
+        note k e = tt
 
     -- all that stand in a tree
     module _ (call_at : Text → List Passed → Store → Outcome) (home : ℤ → ℕ) where

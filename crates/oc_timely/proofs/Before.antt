@@ -1,10 +1,10 @@
 -- What is visible at a statement was declared by an earlier one.
-use Rattle.std.proofs.Common.{◌≡◌, ◌⊎◌, inl, inr, ℕ, suc, ◌+◌, ◌<◌, ◌≤◌, Bool, true, false, List, [], ◌∷◌, ◌++◌, length, Option, Some, None, cond, refl, sym, ◌∙◌, subst, arith, append-nil}
+use Rattle.std.proofs.Common.{◌≡◌, ℕ, suc, ◌+◌, ◌<◌, ◌≤◌, Bool, true, false, List, [], ◌∷◌, ◌++◌, length, Option, Some, None, cond, refl, sym, ◌∙◌, subst, arith, append-nil}
 use Rattle.std.specs.Prelude.{slice_get}
 use Rattle.std.specs.Str.{bytes_eq}
 use Rattle.std.proofs.lemmas.Option.{none-some}
 use Rattle.oc_tree.specs.Names.{Text}
-use Rattle.oc_tree.specs.Tree.{TKind, let_to, let_array, assign, assign_index, assign_deref, if_else, for_in, while_do, call_only, sense_only, emit, fresh, consistent, return}
+use Rattle.oc_tree.specs.Tree.{TKind, let_to, let_array, if_else, for_in, while_do}
 use Rattle.oc_tree.specs.Tree.{TElse, no_else, else_do, stmt, TBlock, block, TStmts, no_stmts, more, TFunction, TProgram}
 use Rattle.oc_tree.specs.declared.tree.Param.{Param}
 use Rattle.oc_tree.specs.declared.tree.VarId.{VarId}
@@ -13,7 +13,7 @@ use Rattle.oc_tree.specs.Numbers.{kind_statements, else_statements, block_statem
 use Rattle.oc_tree.specs.Places.{Place, Placed, Variables, find_variable, let_variables, param_variables, at_start, in_branch, in_loop, behind, kind_placed, else_placed, block_placed, stmts_placed}
 use Rattle.oc_tree.specs.Members.{IsOf}
 use Rattle.oc_desugar.proofs.NumberLists.{Follow, first_of, parts}
-use Rattle.oc_timely.proofs.Lies.{in_append}
+use Rattle.oc_timely.proofs.Members.{in_append, by_side}
 use Rattle.oc_timely.proofs.Around.{body_follows}
 use Rattle.oc_timely.proofs.SeesOn.{find_found, find_not}
 
@@ -50,30 +50,16 @@ on_behind id k vs kind l h = none_more id k vs (omega (arith, l)) h
 abbrev Declares : Placed → Type 0
 Declares q = IsBefore q.id q.at.variables
 
-either : {A B C : Type 0} → A ⊎ B → (A → C) → (B → C) → C
-either (inl x) f g = f x
-either (inr y) f g = g y
-
 mutual
   kind_before : (id : ℕ) (at : Place) (k : TKind) → IsBefore id at.variables → Follow (suc id) (kind_statements k) → (q : Placed) → IsOf q (kind_placed at id k) → Declares q
   kind_before id at (if_else c a b) h f q o =
       let s = parts (suc id) (block_statements a) (else_statements b) f in
-      either (in_append q (block_placed (in_branch at id) a) (else_placed (in_branch at id) b) o)
+      by_side (in_append q (block_placed (in_branch at id) a) (else_placed (in_branch at id) b) o)
       (block_before (suc id) (in_branch at id) a (later id (suc id) at.variables (omega arith) h) s.0 q)
       (else_before (suc id + length (block_statements a)) (in_branch at id) b (later id (suc id + length (block_statements a)) at.variables (omega arith) h) s.1 q)
   kind_before id at (for_in x m n b) h f q o = block_before (suc id) (in_loop at id ((x, variables.Declared id) ∷ [])) b (one_more id at.variables x h) f q o
   kind_before id at (while_do c n b) h f q o = block_before (suc id) (in_loop at id []) b (none_more id (suc id) at.variables (omega arith) h) f q o
-  kind_before id at (let_to m x t r) h f q o = absurd o
-  kind_before id at (let_array m x t z n) h f q o = absurd o
-  kind_before id at (assign x r) h f q o = absurd o
-  kind_before id at (assign_index x e r) h f q o = absurd o
-  kind_before id at (assign_deref x r) h f q o = absurd o
-  kind_before id at (call_only c) h f q o = absurd o
-  kind_before id at (sense_only s) h f q o = absurd o
-  kind_before id at (emit p e) h f q o = absurd o
-  kind_before id at (fresh x) h f q o = absurd o
-  kind_before id at (consistent x n) h f q o = absurd o
-  kind_before id at (return e) h f q o = absurd o
+  kind_before id at k h f q o = absurd o
 
   else_before : (i : ℕ) (at : Place) (b : TElse) → IsBefore i at.variables → Follow i (else_statements b) → (q : Placed) → IsOf q (else_placed at b) → Declares q
   else_before i at no_else h f q o = absurd o
@@ -91,8 +77,8 @@ mutual
       let here : IsBefore id at.variables = subst (λ n. IsBefore n at.variables) (sym own.0) h in
       let inside : Follow (suc id) (kind_statements k) = subst (λ n. Follow (suc n) (kind_statements k)) (sym own.0) own.1 in
       let low : suc id ≤ next = (let e = own.0 in omega (arith, e)) in
-      either o (λ (e : q ≡ record { id = id; line = line; kind = k; at = at }). subst Declares (sym e) here)
-      (λ j. either (in_append q (kind_placed at id k) (stmts_placed (behind at id k) ss) j) (kind_before id at k here inside q)
+      by_side o (λ (e : q ≡ record { id = id; line = line; kind = k; at = at }). subst Declares (sym e) here)
+      (λ j. by_side (in_append q (kind_placed at id k) (stmts_placed (behind at id k) ss) j) (kind_before id at k here inside q)
       (stmts_before next (behind at id k) ss (on_behind id next at.variables k low here) s.1 q))
 
 -- parameters are declared by no statement

@@ -6,7 +6,7 @@ use Rattle.std.specs.Str.{bytes_eq}
 use Rattle.std.proofs.lemmas.Slice.Eq.{bytes_eq-Decides}
 use Rattle.oc_tree.specs.Names.{Text}
 use Rattle.oc_tree.specs.Tree.{TFunction, TProgram}
-use Rattle.oc_tree.specs.Calls.{place, place_from}
+use Rattle.oc_tree.specs.Calls.{place_from}
 use Rattle.oc_tree.specs.Places.{find_variable, or_nonvolatile, param_variables, at_start}
 use Rattle.oc_tree.specs.declared.tree.Param.{Param}
 use Rattle.oc_tree.specs.declared.tree.VarId.{VarId}
@@ -23,7 +23,9 @@ use Rattle.oc_copies.specs.Stands.{Stands}
 use Rattle.oc_timely.specs.Scopes.{scope_of}
 use Rattle.oc_timely.specs.Modes.{Sees}
 use Rattle.oc_copies.proofs.Frames.{all_many}
-use Rattle.oc_timely.proofs.Sources.{same_self, any_first, any_second, among_front, among_back}
+use Rattle.oc_timely.proofs.Sources.{among_front, among_back}
+use Rattle.oc_flow.proofs.Lists.{same_itself}
+use Rattle.oc_tree.proofs.ReachLaws.{or_left, or_right}
 
 -- ---- variables that a function has
 
@@ -32,8 +34,8 @@ from_has c n zero i l u = absurd (omega (arith, l, u))
 from_has c n (suc count) i l u = by (n == i) refl (λ l'. from_has c (n + 1) count i l' (omega (arith, u)))
   where
     by : (b : Bool) → (n == i) ≡ b → (n + 1 ≤ i → is_among (c i) (map c (from (n + 1) count)) ≡ true) → same_variable (c i) (c n) || is_among (c i) (map c (from (n + 1) count)) ≡ true
-    by true e rest = let s : n ≡ i = grind (arith, e) in any_first (same_variable (c i) (c n)) (is_among (c i) (map c (from (n + 1) count))) (ap (λ k. same_variable (c i) (c k)) s ∙ same_self (c i))
-    by false e rest = any_second (same_variable (c i) (c n)) (is_among (c i) (map c (from (n + 1) count))) (rest (let s : n ≡ i → ⊥ = grind (arith, e) in grind (arith, s, l)))
+    by true e rest = let s : n ≡ i = grind (arith, e) in or_left (same_variable (c i) (c n)) (is_among (c i) (map c (from (n + 1) count))) (ap (λ k. same_variable (c i) (c k)) s ∙ same_itself (c i))
+    by false e rest = or_right (same_variable (c i) (c n)) (is_among (c i) (map c (from (n + 1) count))) (rest (let s : n ≡ i → ⊥ = grind (arith, e) in grind (arith, s, l)))
 
 -- ---- names
 

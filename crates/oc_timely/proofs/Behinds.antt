@@ -3,20 +3,19 @@ use Rattle.std.proofs.Common.{◌≡◌, inl, inr, ℕ, suc, ◌+◌, ◌<◌, t
 use Rattle.std.specs.Prelude.{ℤ, cond}
 use Rattle.std.proofs.lemmas.Slice.Eq.{bytes_eq-Decides}
 use Rattle.oc_tree.specs.Names.{Text}
-use Rattle.oc_tree.specs.Tree.{TKind, let_to, let_array, assign, assign_index, assign_deref, if_else, for_in, while_do, call_only, sense_only, emit, fresh, consistent, return}
-use Rattle.oc_tree.specs.Tree.{stmt, TBlock, TStmts, more, TProgram}
+use Rattle.oc_tree.specs.Tree.{TKind, let_to, let_array, for_in, stmt, TBlock, TStmts, more, TProgram}
 use Rattle.oc_tree.specs.Places.{Place as Spot, Placed, find_variable, or_nonvolatile, behind, in_loop, stmts_placed}
 use Rattle.oc_tree.specs.Marked.{TRegion}
 use Rattle.oc_tree.specs.declared.tree.VarId.TheVariants as variables
 use Rattle.oc_tree.specs.declared.marked.PolicyKind.TheVariants as kinds
 use Rattle.oc_meaning.specs.Uses.{is_annotated}
 use Rattle.oc_meaning.specs.Store.{Local, Turn, Store, Binding}
-use Rattle.oc_meaning.specs.Exec.{Outcome, Went, Passed, bound_to, in_turn, kind_run}
+use Rattle.oc_meaning.specs.Exec.{Outcome, Went, Passed, bound_to, in_turn, grown, kind_run}
 use Rattle.oc_flow.specs.Variables.{is_variable}
 use Rattle.oc_tree.specs.Members.{IsOf}
 use Rattle.oc_needs.specs.Policies.{policies}
 use Rattle.oc_copies.specs.Copies.{HasStored}
-use Rattle.oc_copies.specs.Stands.{Stands}
+use Rattle.oc_copies.specs.Stands.{Stands, makes}
 use Rattle.oc_timely.specs.Scopes.{var_declared, scope_of}
 use Rattle.oc_timely.proofs.Scopes.{stands_let, stands_turn}
 use Rattle.oc_timely.specs.Within.{Where}
@@ -63,122 +62,28 @@ module _ (p : TProgram) (regions : List TRegion) (call : Text → List Passed �
       (names.declared _ one refl) (inr (i, refl)) (omega arith) (λ h. absurd (cc))
       (stands_turn p f spot.variables env σ σ id sees.stands x i (names.unused _ x one refl) (ap (var_declared p (scope_of p f spot.variables)) (names.found _ one))) sees
 
+  -- behind a straight statement
+  straight_sees : (spot : Spot) (id line : ℕ) (k : TKind) (rest : TStmts) → ((z : Placed) → IsOf z (stmts_placed spot (more (stmt id line k) rest)) → IsOf z body) →
+      (env : List Binding) (w : Where) (first σ υ : Store) → length first.locals ≡ length σ.locals → length υ.locals ≡ makes k + length σ.locals → Sees p f base id spot env w σ
+      → Sees p f base (suc id) (behind spot id k) (grown k rest env first) (where_behind w id k first) υ
+  straight_sees spot id line (let_to m x t r) rest sub env w first σ υ same many sees =
+      let_sees spot id line (let_to m x t r) x rest (sub _ (inl refl)) (names.unused _ x (sub _ (inl refl)) refl) (λ y s. names.before _ y s (sub _ (inl refl)))
+      (names.declared _ (sub _ (inl refl)) refl) refl (λ z h. sub z (inr h)) env w first σ υ same many sees
+  straight_sees spot id line (let_array m x t z n) rest sub env w first σ υ same many sees =
+      let_sees spot id line (let_array m x t z n) x rest (sub _ (inl refl)) (names.unused _ x (sub _ (inl refl)) refl) (λ y s. names.before _ y s (sub _ (inl refl)))
+      (names.declared _ (sub _ (inl refl)) refl) refl (λ z h. sub z (inr h)) env w first σ υ same many sees
+  straight_sees spot id line k rest sub env w first σ υ same many sees = kept_sees spot (behind spot id k) id env w σ υ refl (omega (arith, many)) sees
+
   module _ (calls : CallsGo p regions call home f base body) where
     pub straight_goes : (spot : Spot) (id line : ℕ) (k : TKind) (rest : TStmts) → IsStraight k → In p regions call home f base body (stmts_placed spot (more (stmt id line k) rest)) →
         (env : List Binding) (w : Where) (first σ υ : Store) → length first.locals ≡ length σ.locals → Sees p f base id spot env w σ → AreTaken σ → HasStored p σ →
         kind_run p.names regions call home env id k σ ≡ Went υ → Goes p regions call home f base body spot id line k rest env w first σ υ
-    straight_goes spot id line (let_to m x t r) rest s sub env w first σ υ same sees taken stored e =
-        let l = straight_leaves p regions call home f base body names calls spot id line (let_to m x t r) s (sub _ (inl refl)) env w first σ υ same sees taken stored e in
+    straight_goes spot id line k rest s sub env w first σ υ same sees taken stored e =
+        let l = straight_leaves p regions call home f base body names calls spot id line k s (sub _ (inl refl)) env w first σ υ same sees taken stored e in
         record {
-          came = came_wider p f base (IsThis p regions call home f base body (record { id = id; line = line; kind = let_to m x t r; at = spot }))
-              (Among p (own_placed spot id line (let_to m x t r))) (λ a i. (_, inl refl, i)) w (where_behind w id (let_to m x t r) first) σ υ l.came;
-          sees =
-              let_sees spot id line (let_to m x t r) x rest (sub _ (inl refl)) (names.unused _ x (sub _ (inl refl)) refl) (λ y s. names.before _ y s (sub _ (inl refl)))
-              (names.declared _ (sub _ (inl refl)) refl) refl (λ z h. sub z (inr h)) env w first σ υ same l.many sees;
+          came = came_wider p f base (IsThis p regions call home f base body (record { id = id; line = line; kind = k; at = spot })) (Among p (own_placed spot id line k)) (λ a i. (_, inl refl, i)) w
+              (where_behind w id k first) σ υ l.came;
+          sees = straight_sees spot id line k rest sub env w first σ υ same l.many sees;
           steady = l.steady;
           more = let m = l.many in omega (arith, m);
         }
-    straight_goes spot id line (let_array m x t z n) rest s sub env w first σ υ same sees taken stored e =
-        let l = straight_leaves p regions call home f base body names calls spot id line (let_array m x t z n) s (sub _ (inl refl)) env w first σ υ same sees taken stored e in
-        record {
-          came = came_wider p f base (IsThis p regions call home f base body (record { id = id; line = line; kind = let_array m x t z n; at = spot }))
-              (Among p (own_placed spot id line (let_array m x t z n))) (λ a i. (_, inl refl, i)) w (where_behind w id (let_array m x t z n) first) σ υ l.came;
-          sees =
-              let_sees spot id line (let_array m x t z n) x rest (sub _ (inl refl)) (names.unused _ x (sub _ (inl refl)) refl) (λ y s. names.before _ y s (sub _ (inl refl)))
-              (names.declared _ (sub _ (inl refl)) refl) refl (λ z h. sub z (inr h)) env w first σ υ same l.many sees;
-          steady = l.steady;
-          more = let m = l.many in omega (arith, m);
-        }
-    straight_goes spot id line (assign x r) rest s sub env w first σ υ same sees taken stored e =
-        let l = straight_leaves p regions call home f base body names calls spot id line (assign x r) s (sub _ (inl refl)) env w first σ υ same sees taken stored e in
-        record {
-          came = came_wider p f base (IsThis p regions call home f base body (record { id = id; line = line; kind = assign x r; at = spot }))
-              (Among p (own_placed spot id line (assign x r))) (λ a i. (_, inl refl, i)) w (where_behind w id (assign x r) first) σ υ l.came;
-          sees =
-              kept_sees spot (behind spot id (assign x r)) id env w σ υ refl (let m = l.many in omega (arith, m)) sees;
-          steady = l.steady;
-          more = let m = l.many in omega (arith, m);
-        }
-    straight_goes spot id line (assign_index x i r) rest s sub env w first σ υ same sees taken stored e =
-        let l = straight_leaves p regions call home f base body names calls spot id line (assign_index x i r) s (sub _ (inl refl)) env w first σ υ same sees taken stored e in
-        record {
-          came = came_wider p f base (IsThis p regions call home f base body (record { id = id; line = line; kind = assign_index x i r; at = spot }))
-              (Among p (own_placed spot id line (assign_index x i r))) (λ a i. (_, inl refl, i)) w (where_behind w id (assign_index x i r) first) σ υ l.came;
-          sees =
-              kept_sees spot (behind spot id (assign_index x i r)) id env w σ υ refl (let m = l.many in omega (arith, m)) sees;
-          steady = l.steady;
-          more = let m = l.many in omega (arith, m);
-        }
-    straight_goes spot id line (assign_deref x r) rest s sub env w first σ υ same sees taken stored e =
-        let l = straight_leaves p regions call home f base body names calls spot id line (assign_deref x r) s (sub _ (inl refl)) env w first σ υ same sees taken stored e in
-        record {
-          came = came_wider p f base (IsThis p regions call home f base body (record { id = id; line = line; kind = assign_deref x r; at = spot }))
-              (Among p (own_placed spot id line (assign_deref x r))) (λ a i. (_, inl refl, i)) w (where_behind w id (assign_deref x r) first) σ υ l.came;
-          sees =
-              kept_sees spot (behind spot id (assign_deref x r)) id env w σ υ refl (let m = l.many in omega (arith, m)) sees;
-          steady = l.steady;
-          more = let m = l.many in omega (arith, m);
-        }
-    straight_goes spot id line (call_only c) rest s sub env w first σ υ same sees taken stored e =
-        let l = straight_leaves p regions call home f base body names calls spot id line (call_only c) s (sub _ (inl refl)) env w first σ υ same sees taken stored e in
-        record {
-          came = came_wider p f base (IsThis p regions call home f base body (record { id = id; line = line; kind = call_only c; at = spot }))
-              (Among p (own_placed spot id line (call_only c))) (λ a i. (_, inl refl, i)) w (where_behind w id (call_only c) first) σ υ l.came;
-          sees =
-              kept_sees spot (behind spot id (call_only c)) id env w σ υ refl (let m = l.many in omega (arith, m)) sees;
-          steady = l.steady;
-          more = let m = l.many in omega (arith, m);
-        }
-    straight_goes spot id line (sense_only q) rest s sub env w first σ υ same sees taken stored e =
-        let l = straight_leaves p regions call home f base body names calls spot id line (sense_only q) s (sub _ (inl refl)) env w first σ υ same sees taken stored e in
-        record {
-          came = came_wider p f base (IsThis p regions call home f base body (record { id = id; line = line; kind = sense_only q; at = spot }))
-              (Among p (own_placed spot id line (sense_only q))) (λ a i. (_, inl refl, i)) w (where_behind w id (sense_only q) first) σ υ l.came;
-          sees =
-              kept_sees spot (behind spot id (sense_only q)) id env w σ υ refl (let m = l.many in omega (arith, m)) sees;
-          steady = l.steady;
-          more = let m = l.many in omega (arith, m);
-        }
-    straight_goes spot id line (emit q x) rest s sub env w first σ υ same sees taken stored e =
-        let l = straight_leaves p regions call home f base body names calls spot id line (emit q x) s (sub _ (inl refl)) env w first σ υ same sees taken stored e in
-        record {
-          came = came_wider p f base (IsThis p regions call home f base body (record { id = id; line = line; kind = emit q x; at = spot }))
-              (Among p (own_placed spot id line (emit q x))) (λ a i. (_, inl refl, i)) w (where_behind w id (emit q x) first) σ υ l.came;
-          sees =
-              kept_sees spot (behind spot id (emit q x)) id env w σ υ refl (let m = l.many in omega (arith, m)) sees;
-          steady = l.steady;
-          more = let m = l.many in omega (arith, m);
-        }
-    straight_goes spot id line (fresh x) rest s sub env w first σ υ same sees taken stored e =
-        let l = straight_leaves p regions call home f base body names calls spot id line (fresh x) s (sub _ (inl refl)) env w first σ υ same sees taken stored e in
-        record {
-          came = came_wider p f base (IsThis p regions call home f base body (record { id = id; line = line; kind = fresh x; at = spot }))
-              (Among p (own_placed spot id line (fresh x))) (λ a i. (_, inl refl, i)) w (where_behind w id (fresh x) first) σ υ l.came;
-          sees =
-              kept_sees spot (behind spot id (fresh x)) id env w σ υ refl (let m = l.many in omega (arith, m)) sees;
-          steady = l.steady;
-          more = let m = l.many in omega (arith, m);
-        }
-    straight_goes spot id line (consistent x n) rest s sub env w first σ υ same sees taken stored e =
-        let l = straight_leaves p regions call home f base body names calls spot id line (consistent x n) s (sub _ (inl refl)) env w first σ υ same sees taken stored e in
-        record {
-          came = came_wider p f base (IsThis p regions call home f base body (record { id = id; line = line; kind = consistent x n; at = spot }))
-              (Among p (own_placed spot id line (consistent x n))) (λ a i. (_, inl refl, i)) w (where_behind w id (consistent x n) first) σ υ l.came;
-          sees =
-              kept_sees spot (behind spot id (consistent x n)) id env w σ υ refl (let m = l.many in omega (arith, m)) sees;
-          steady = l.steady;
-          more = let m = l.many in omega (arith, m);
-        }
-    straight_goes spot id line (return x) rest s sub env w first σ υ same sees taken stored e =
-        let l = straight_leaves p regions call home f base body names calls spot id line (return x) s (sub _ (inl refl)) env w first σ υ same sees taken stored e in
-        record {
-          came = came_wider p f base (IsThis p regions call home f base body (record { id = id; line = line; kind = return x; at = spot }))
-              (Among p (own_placed spot id line (return x))) (λ a i. (_, inl refl, i)) w (where_behind w id (return x) first) σ υ l.came;
-          sees =
-              kept_sees spot (behind spot id (return x)) id env w σ υ refl (let m = l.many in omega (arith, m)) sees;
-          steady = l.steady;
-          more = let m = l.many in omega (arith, m);
-        }
-    straight_goes spot id line (if_else c a b) rest s sub env w first σ υ same sees taken stored e = absurd s
-    straight_goes spot id line (for_in x c d b) rest s sub env w first σ υ same sees taken stored e = absurd s
-    straight_goes spot id line (while_do c t b) rest s sub env w first σ υ same sees taken stored e = absurd s

@@ -36,11 +36,11 @@ use Rattle.oc_timely.specs.Modes.{Sees, IsSteady}
 use Rattle.oc_timely.proofs.Callees.{params_here}
 use Rattle.oc_timely.proofs.Came.{stays, only_one}
 use Rattle.oc_timely.proofs.Going.{left_or}
-use Rattle.oc_timely.proofs.Sources.{same_self}
 use Rattle.oc_timely.proofs.SeesOn.{AreNamed}
 use Rattle.oc_timely.proofs.StraightGoes.{IsThis, CallsGo, RightGone, RightLeft}
 use Rattle.oc_timely.proofs.Lent.{Back, back_or, Lends, lent_named}
 use Rattle.oc_timely.proofs.Entering.{stands_for, own_taken}
+use Rattle.oc_flow.proofs.Lists.{same_itself}
 
 -- ---- functions
 
@@ -209,7 +209,7 @@ module _ (p : TProgram) (groups : List Group) (checked : IsChecked p groups) (re
           let same : t ≡ v = only_one p f base P b.at env w σ sees.owns (w v) t v (cell_of τ (w v) j h) there refl in
           let has : nat_lt i (length (params_at p u)) ≡ true = grind (arith, few) in
           let inside : IsOf j (samples_of υ start (variables.Param i)) = subst (λ c. IsOf j (held_at υ (if c then Local (n + i) else Nowhere)).samples) (sym has) k in
-          through (variables.Param i) v (ap (λ o. is_variable_of o v) (l.is ∙ e ∙ ap Some same) ∙ same_self v) (known v τ j h) j (came.within (variables.Param i) j inside)
+          through (variables.Param i) v (ap (λ o. is_variable_of o v) (l.is ∙ e ∙ ap Some same) ∙ same_itself v) (known v τ j h) j (came.within (variables.Param i) j inside)
 
       -- what is left as the callee left it
       stored_comes : (v : VarId) (j i : ℕ) → IsOf j (samples_of τ w v) → w v ≡ Global i → IsOf j (held_at υ (Global i)).samples → To v j
@@ -221,7 +221,7 @@ module _ (p : TProgram) (groups : List Group) (checked : IsChecked p groups) (re
           by : (c : Bool) → nat_lt i (length p.names.nvs) ≡ c → To v j
           by true t =
               let inside : IsOf j (samples_of υ start (variables.Nv i)) = subst (λ c. IsOf j (held_at υ (if c then Global i else Nowhere)).samples) (sym t) k in
-              through (variables.Nv i) v (ap (same_variable (variables.Nv i)) v_is ∙ same_self (variables.Nv i)) (known v τ j h) j (came.within (variables.Nv i) j inside)
+              through (variables.Nv i) v (ap (same_variable (variables.Nv i)) v_is ∙ same_itself (variables.Nv i)) (known v τ j h) j (came.within (variables.Nv i) j inside)
           by false t =
               let past : length υ.nv ≤ i = (let a : length p.names.nvs ≤ i = grind (arith, t) in let c = came.stored ∙ stored in omega (arith, a, c)) in
               absurd (subst (λ (x : Held). IsOf j x.samples) (none_past υ.nv i past) k)
@@ -251,7 +251,7 @@ module _ (p : TProgram) (groups : List Group) (checked : IsChecked p groups) (re
           RightGone p regions calls home f base body b w σ τ v
       gone v from = record {
         came = came_back;
-        comes = λ t is_target is_var j h. through variables.Returned t (ap (λ o. is_variable_of o t) is_target ∙ same_self t) is_var j (from j h).0;
+        comes = λ t is_target is_var j h. through variables.Returned t (ap (λ o. is_variable_of o t) is_target ∙ same_itself t) is_var j (from j h).0;
         steady = subst (IsSteady σ) (sym copied) (behind_steady n g ps υ enough σ (record { taken = steady.taken; deep = steady.deep; since = steady.since }));
         below = λ j h. let l = (from j h).1 in let e = ap (λ (z : Store). z.taken) back.rest in omega (arith, l, e);
         many = back.locals;

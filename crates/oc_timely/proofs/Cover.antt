@@ -1,11 +1,9 @@
 -- A body whose targets are met passes the judgement.
-use Rattle.std.proofs.Common.{◌≡◌, ◌⊎◌, inl, inr, ℕ, suc, ◌<◌, ◌≤◌, Bool, true, false, true≢false, List, [], ◌∷◌, ◌++◌, Option, Some, None, refl, sym, ap, ◌∙◌, subst, arith}
-use Rattle.std.specs.Prelude.{option_map, ◌&&◌, ◌||◌, nat_eq, ◌==◌, if◌then◌else◌, nat_le}
-use Rattle.std.specs.List.{list_any}
+use Rattle.std.proofs.Common.{◌≡◌, ◌⊎◌, inl, inr, ℕ, suc, ◌<◌, ◌≤◌, Bool, true, false, true≢false, List, [], ◌∷◌, Option, Some, None, refl, sym, ap, ◌∙◌, subst, arith}
+use Rattle.std.specs.Prelude.{option_map, ◌&&◌, nat_eq}
 use Rattle.oc_tree.specs.Tree.{TKind, if_else, for_in, while_do, TElse, no_else, else_do, stmt, TBlock, block, TStmts, no_stmts, more, TProgram}
 use Rattle.oc_tree.specs.declared.tree.VarId.{VarId}
 use Rattle.oc_tree.specs.declared.tree.VarId.TheVariants as variables
-use Rattle.oc_tree.specs.Checked.{same_block}
 use Rattle.oc_tree.specs.Places.{Place as Spot, Placed, placed, block_of, behind, in_branch, in_loop, kind_placed, else_placed, block_placed, stmts_placed}
 use Rattle.oc_tree.specs.Marked.{TRegion, TMarked, around, is_in_region, covers}
 use Rattle.oc_meaning.specs.Exec.{begun_by, ended_by}
@@ -15,99 +13,12 @@ use Rattle.oc_needs.specs.Sites.{is_loop_at, is_outside, site, is_input}
 use Rattle.oc_timely.specs.Enough.{Target, Apart, Calm, next_mode, Fits, OkOwn, OkStep, OkClean, OkKind, OkElse, OkBlock, OkStmts}
 use Rattle.oc_timely.specs.Modes.{Among, own_placed}
 use Rattle.oc_timely.specs.Laid.{IsClosed, LaidKind, LaidElse, LaidBlock, LaidStmts, Static}
+use Rattle.oc_flow.proofs.Lists.{any_in}
+use Rattle.oc_needs.proofs.Tests.{any_of}
 use Rattle.oc_timely.proofs.Came.{flow_on}
+use Rattle.oc_timely.proofs.Members.{of_left, of_right}
+use Rattle.oc_timely.proofs.Directly.{begun_none, begun_some, Direct, direct_of, either, Clear, OpenAt, AtStatement, at_statement}
 use Rattle.oc_timely.proofs.Lies.{Lies, up_kind, up_stmts, closed_block, closed_kind, lies_kind, lies_else, lies_block, lies_stmts}
-
--- ---- tests of marks
-
-of_left : (x : Placed) (xs ys : List Placed) → IsOf x xs → IsOf x (xs ++ ys)
-of_left x [] ys h = absurd h
-of_left x (y ∷ xs) ys (inl e) = inl e
-of_left x (y ∷ xs) ys (inr h) = inr (of_left x xs ys h)
-
-of_right : (x : Placed) (xs ys : List Placed) → IsOf x ys → IsOf x (xs ++ ys)
-of_right x [] ys h = h
-of_right x (y ∷ xs) ys h = inr (of_right x xs ys h)
-
-any_of : {A : Type 0} (t : A → Bool) (xs : List A) → list_any t xs ≡ true → (x : A) × IsOf x xs × (t x ≡ true)
-any_of t [] e = absurd (true≢false (sym e))
-any_of t (x ∷ xs) e = by (t x) refl e (any_of t xs)
-  where
-    by : (b : Bool) → t x ≡ b → list_any t (x ∷ xs) ≡ true → (list_any t xs ≡ true → (y : _) × IsOf y xs × (t y ≡ true)) → (y : _) × IsOf y (x ∷ xs) × (t y ≡ true)
-    by true q z rest = (x, inl refl, q)
-    by false q z rest = let r = rest (grind (arith, q, z)) in (r.0, inr r.1, r.2)
-
-pub begun_none : (rs : List TRegion) (n : ℕ) (r : TRegion) → begun_by rs n ≡ None → IsOf r rs → r.first ≡ n → ⊥
-begun_none [] n r e h q = absurd h
-begun_none (x ∷ rs) n r e h q = by (n == x.first) refl e h (begun_none rs n r)
-  where
-    by : (b : Bool) → (n == x.first) ≡ b → (if b then Some x.id else begun_by rs n) ≡ None → (r ≡ x) ⊎ IsOf r rs → (begun_by rs n ≡ None → IsOf r rs → r.first ≡ n → ⊥) → ⊥
-    by true z k i rest = absurd (cc (sym k))
-    by false z k (inl i) rest = let w : r.first ≡ x.first = ap (λ (y : TRegion). y.first) i in absurd (grind (arith, z, w, q))
-    by false z k (inr i) rest = rest k i q
-
-pub begun_some : (rs : List TRegion) (n q : ℕ) → begun_by rs n ≡ Some q → (r : TRegion) × IsOf r rs × (r.first ≡ n)
-begun_some [] n q e = absurd (cc e)
-begun_some (x ∷ rs) n q e = by (n == x.first) refl e (begun_some rs n q)
-  where
-    by : (b : Bool) → (n == x.first) ≡ b → (if b then Some x.id else begun_by rs n) ≡ Some q → (begun_by rs n ≡ Some q → (r : TRegion) × IsOf r rs × (r.first ≡ n)) →
-        (r : TRegion) × IsOf r (x ∷ rs) × (r.first ≡ n)
-    by true z k rest = (x, inl refl, grind (arith, z))
-    by false z k rest = let r = rest k in (r.0, inr r.1, r.2)
-
-pub ended_none : (rs : List TRegion) (n : ℕ) (r : TRegion) → ended_by rs n ≡ None → IsOf r rs → r.last ≡ n → ⊥
-ended_none [] n r e h q = absurd h
-ended_none (x ∷ rs) n r e h q = by (n == x.last) refl e h (ended_none rs n r)
-  where
-    by : (b : Bool) → (n == x.last) ≡ b → (if b then Some x.id else ended_by rs n) ≡ None → (r ≡ x) ⊎ IsOf r rs → (ended_by rs n ≡ None → IsOf r rs → r.last ≡ n → ⊥) → ⊥
-    by true z k i rest = absurd (cc (sym k))
-    by false z k (inl i) rest = let w : r.last ≡ x.last = ap (λ (y : TRegion). y.last) i in absurd (grind (arith, z, w, q))
-    by false z k (inr i) rest = rest k i q
-
-pub ended_some : (rs : List TRegion) (n q : ℕ) → ended_by rs n ≡ Some q → (r : TRegion) × IsOf r rs × (r.last ≡ n)
-ended_some [] n q e = absurd (cc e)
-ended_some (x ∷ rs) n q e = by (n == x.last) refl e (ended_some rs n q)
-  where
-    by : (b : Bool) → (n == x.last) ≡ b → (if b then Some x.id else ended_by rs n) ≡ Some q → (ended_by rs n ≡ Some q → (r : TRegion) × IsOf r rs × (r.last ≡ n)) →
-        (r : TRegion) × IsOf r (x ∷ rs) × (r.last ≡ n)
-    by true z k rest = (x, inl refl, grind (arith, z))
-    by false z k rest = let r = rest k in (r.0, inr r.1, r.2)
-
--- a statement stands directly in a region
-pub record Direct (p : TProgram) (r : TRegion) (s : ℕ) : Type 0 where
-  pub there : block_of p s ≡ Some r.block
-  pub low : r.first ≤ s
-  pub high : s ≤ r.last
-
-pub direct_of : (p : TProgram) (r : TRegion) (s : ℕ) → is_in_region p r s ≡ true → Direct p r s
-direct_of p r s e = by (block_of p s) refl e
-  where
-    same : (b : ℕ) → (b == r.block) ≡ true → Some b ≡ Some r.block
-    same b z = let n : b ≡ r.block = grind (arith, z) in ap Some n
-
-    split : (x y z : Bool) → x && (y && z) ≡ true → (x ≡ true) × (y ≡ true) × (z ≡ true)
-    split true true true q = (refl, refl, refl)
-    split true true false q = absurd (true≢false (sym q))
-    split true false z q = absurd (true≢false (sym q))
-    split false y z q = absurd (true≢false (sym q))
-
-    by : (o : Option ℕ) → block_of p s ≡ o → same_block o (Some r.block) && (nat_le r.first s && nat_le s r.last) ≡ true → Direct p r s
-    by None q z = absurd (true≢false (sym z))
-    by (Some b) q z =
-        let k = split (b == r.block) (nat_le r.first s) (nat_le s r.last) z in record { there = q ∙ same b k.0; low = let a = k.1 in grind (arith, a); high = let a = k.2 in grind (arith, a) }
-
-pub of_direct : (p : TProgram) (r : TRegion) (s : ℕ) → Direct p r s → is_in_region p r s ≡ true
-of_direct p r s d = subst (λ o. same_block o (Some r.block) && (nat_le r.first s && nat_le s r.last) ≡ true) (sym d.there)
-    (both (r.block == r.block) (nat_le r.first s) (nat_le s r.last) (grind arith) (let a = d.low in grind (arith, a)) (let a = d.high in grind (arith, a)))
-  where
-    both : (x y z : Bool) → x ≡ true → y ≡ true → z ≡ true → x && (y && z) ≡ true
-    both true true true a b c = refl
-    both true true false a b c = absurd (true≢false (sym c))
-    both true false z a b c = absurd (true≢false (sym b))
-    both false y z a b c = absurd (true≢false (sym a))
-
-pub either : (k r : ℕ) → (r ≤ k) ⊎ (k < r)
-either k r = grind arith
 
 module _ (m : TMarked) (guarded : ℕ → Bool) (f : ℕ) (body : List Placed) (facts : Static m guarded f body) (loose : guarded f ≡ false) where
   abbrev p : TProgram
@@ -203,10 +114,6 @@ module _ (m : TMarked) (guarded : ℕ → Bool) (f : ℕ) (body : List Placed) (
 
   -- ---- the modes of a list
 
-  -- no region of the block is open at `n`
-  abbrev Clear : ℕ → (block : ℕ) → Type 0
-  Clear n i = (r : TRegion) → IsOf r m.regions → r.block ≡ i → r.first < n → n ≤ r.last → ⊥
-
   abbrev FitsOut : (VarId → Type 0) → ℕ → List Placed → Type 0
   FitsOut C n bs = (b : Placed) (x : VarId) → IsOf b bs → Target p f (effect_of p b) x → C x × Later n b x
 
@@ -214,18 +121,9 @@ module _ (m : TMarked) (guarded : ℕ → Bool) (f : ℕ) (body : List Placed) (
   abbrev FitsIn : TRegion → (C0 C : VarId → Type 0) → ℕ → List Placed → Type 0
   FitsIn r C0 C n bs = (b : Placed) (x : VarId) → IsOf b bs → Target p f (effect_of p b) x → C0 x × ((covers p r b.id ≡ true) ⊎ (C x × Later n b x))
 
-  record OpenAt (r : TRegion) (n : ℕ) (spot : Spot) : Type 0 where
-    one : IsOf r m.regions
-    block : r.block ≡ spot.block
-    before : r.first < n
-    behind : n ≤ r.last
-
   abbrev State : (inside : Option ℕ) → ℕ → (C0 C : VarId → Type 0) → Spot → List Placed → Type 0
-  State None n C0 C spot bs = Clear n spot.block × FitsOut C n bs
-  State (Some q) n C0 C spot bs = (r : TRegion) × OpenAt r n spot × FitsIn r C0 C n bs
-
-  some_is : (a b : ℕ) → ◌≡◌ {A = Option ℕ} (Some a) (Some b) → a ≡ b
-  some_is a b e = cc e
+  State None n C0 C spot bs = Clear m n spot.block × FitsOut C n bs
+  State (Some q) n C0 C spot bs = (r : TRegion) × OpenAt m r n spot.block × FitsIn r C0 C n bs
 
   module _ (spot : Spot) (id line : ℕ) (k : TKind) (rest : TStmts) (mid end : ℕ) (laid : LaidKind p (suc id) k mid) (behind_laid : LaidStmts p mid rest end)
       (sub : (b : Placed) → IsOf b (stmts_placed spot (more (stmt id line k) rest)) → IsOf b body) (free : Free spot) where
@@ -239,28 +137,14 @@ module _ (m : TMarked) (guarded : ℕ → Bool) (f : ℕ) (body : List Placed) (
     Heads = Among p (own_placed spot id line k)
 
     sub_kind : (b : Placed) → IsOf b (kind_placed spot id k) → IsOf b body
-    sub_kind b i = sub b (inr (left b (kind_placed spot id k) (stmts_placed Next rest) i))
-      where
-        left : (x : Placed) (xs ys : List Placed) → IsOf x xs → IsOf x (xs ++ ys)
-        left x [] ys h = absurd h
-        left x (y ∷ xs) ys (inl e) = inl e
-        left x (y ∷ xs) ys (inr h) = inr (left x xs ys h)
+    sub_kind b i = sub b (inr (of_left b (kind_placed spot id k) (stmts_placed Next rest) i))
 
     in_rest : (b : Placed) → IsOf b (stmts_placed Next rest) → IsOf b (stmts_placed spot (more (stmt id line k) rest))
-    in_rest b i = inr (right b (kind_placed spot id k) (stmts_placed Next rest) i)
-      where
-        right : (x : Placed) (xs ys : List Placed) → IsOf x ys → IsOf x (xs ++ ys)
-        right x [] ys h = h
-        right x (y ∷ xs) ys h = inr (right x xs ys h)
+    in_rest b i = inr (of_right b (kind_placed spot id k) (stmts_placed Next rest) i)
 
     in_own : (b : Placed) → IsOf b (own_placed spot id line k) → IsOf b (stmts_placed spot (more (stmt id line k) rest))
     in_own b (inl e) = inl e
-    in_own b (inr i) = inr (left b (kind_placed spot id k) (stmts_placed Next rest) i)
-      where
-        left : (x : Placed) (xs ys : List Placed) → IsOf x xs → IsOf x (xs ++ ys)
-        left x [] ys h = absurd h
-        left x (y ∷ xs) ys (inl e) = inl e
-        left x (y ∷ xs) ys (inr h) = inr (left x xs ys h)
+    in_own b (inr i) = inr (of_left b (kind_placed spot id k) (stmts_placed Next rest) i)
 
     one : IsOf This body
     one = sub This (inl refl)
@@ -268,54 +152,22 @@ module _ (m : TMarked) (guarded : ℕ → Bool) (f : ℕ) (body : List Placed) (
     here_block : block_of p id ≡ Some spot.block
     here_block = its_block spot id line k mid end laid one sub_kind free
 
-    up : suc id ≤ mid
-    up = up_kind p (suc id) k mid laid
-
-    direct_here : (r : TRegion) → r.block ≡ spot.block → r.first ≤ id → id ≤ r.last → Direct p r id
-    direct_here r e l h = record { there = here_block ∙ ap Some (sym e); low = l; high = h }
-
-    same_here : (r q : TRegion) → IsOf r m.regions → IsOf q m.regions → Direct p r id → Direct p q id → r ≡ q
-    same_here r q i j d e = facts.one_region r q id i j (of_direct p r id d) (of_direct p q id e)
-
-    begins_here : (r : TRegion) → IsOf r m.regions → r.first ≡ id → Direct p r id
-    begins_here r i e = record { there = subst (λ s. block_of p s ≡ Some r.block) e (facts.region r i).1; low = omega (arith, e); high = let o = (facts.region r i).0 in omega (arith, o, e) }
-
-    ends_here : (r : TRegion) → IsOf r m.regions → r.last ≡ id → Direct p r id
-    ends_here r i e = record { there = subst (λ s. block_of p s ≡ Some r.block) e (facts.region r i).2; low = let o = (facts.region r i).0 in omega (arith, o, e); high = omega (arith, e) }
-
-    block_here : (r : TRegion) → Direct p r id → r.block ≡ spot.block
-    block_here r d = some_is r.block spot.block (sym d.there ∙ here_block)
-
-    -- a statement of this block isn't inside
-    not_in : (s : ℕ) → block_of p s ≡ Some spot.block → (s ≤ id) ⊎ (mid ≤ s)
-    not_in s e = go (either id s) (either s mid)
-      where
-        go : (s ≤ id) ⊎ (id < s) → (mid ≤ s) ⊎ (s < mid) → (s ≤ id) ⊎ (mid ≤ s)
-        go (inl x) y = inl x
-        go (inr x) (inl y) = inr y
-        go (inr x) (inr y) = let q = (closed_kind p (suc id) k mid laid s id spot.block x y e here_block).0 in absurd (omega (arith, q))
-
-    clear_on : Clear id spot.block → ((r : TRegion) → IsOf r m.regions → r.first ≡ id → mid ≤ r.last → ⊥) → Clear mid spot.block
-    clear_on c never r i e h l = go (not_in r.first ((facts.region r i).1 ∙ ap Some e)) (either r.first id)
-      where
-        go : (r.first ≤ id) ⊎ (mid ≤ r.first) → (id ≤ r.first) ⊎ (r.first < id) → ⊥
-        go (inr x) y = omega (arith, x, h)
-        go (inl x) (inl y) = never r i (omega (arith, x, y)) l
-        go (inl x) (inr y) = let u = up in c r i e y (omega (arith, l, u))
+    here : AtStatement m spot.block id mid
+    here = at_statement m guarded f body facts spot.block id k mid laid here_block
 
     -- outside of regions none holds the statement itself, and none is around what stands in it
-    no_direct : begun_by m.regions id ≡ None → Clear id spot.block → (r : TRegion) → IsOf r m.regions → Direct p r id → ⊥
+    no_direct : begun_by m.regions id ≡ None → Clear m id spot.block → (r : TRegion) → IsOf r m.regions → Direct p r id → ⊥
     no_direct e c r i d = go (either r.first id)
       where
         go : (id ≤ r.first) ⊎ (r.first < id) → ⊥
         go (inl y) = let l = d.low in begun_none m.regions id r e i (omega (arith, l, y))
-        go (inr y) = c r i (block_here r d) y d.high
+        go (inr y) = c r i (here.its_block r d) y d.high
 
-    free_in : begun_by m.regions id ≡ None → Clear id spot.block → (r : TRegion) (t : ℕ) → IsOf r m.regions → IsOf t (id ∷ spot.around) → Direct p r t → ⊥
+    free_in : begun_by m.regions id ≡ None → Clear m id spot.block → (r : TRegion) (t : ℕ) → IsOf r m.regions → IsOf t (id ∷ spot.around) → Direct p r t → ⊥
     free_in e c r t i (inl q) d = no_direct e c r i (subst (Direct p r) q d)
     free_in e c r t i (inr q) d = free r t i q d
 
-    uncovered : begun_by m.regions id ≡ None → Clear id spot.block → (r : TRegion) → IsOf r m.regions → covers p r id ≡ true → ⊥
+    uncovered : begun_by m.regions id ≡ None → Clear m id spot.block → (r : TRegion) → IsOf r m.regions → covers p r id ≡ true → ⊥
     uncovered e c r i h =
         let t = any_of (is_in_region p r) (id ∷ around (placed p id)) h in
         let d = direct_of p r t.0 t.2 in
@@ -325,11 +177,11 @@ module _ (m : TMarked) (guarded : ℕ → Bool) (f : ℕ) (body : List Placed) (
         ]
 
     -- so its own targets have no inputs at all
-    own_apart : begun_by m.regions id ≡ None → Clear id spot.block → (x : VarId) → Later id This x → Apart p f All x
+    own_apart : begun_by m.regions id ≡ None → Clear m id spot.block → (x : VarId) → Later id This x → Apart p f All x
     own_apart e c x (inl none) = none
     own_apart e c x (inr met) = absurd (uncovered e c met.0 met.1.0 met.1.1)
 
-    free_call : begun_by m.regions id ≡ None → Clear id spot.block → (c : TCalled) → (effect_of p This).call ≡ Some c → guarded c.function ≡ false
+    free_call : begun_by m.regions id ≡ None → Clear m id spot.block → (c : TCalled) → (effect_of p This).call ≡ Some c → guarded c.function ≡ false
     free_call e c t q = by (guarded t.function) refl
       where
         by : (b : Bool) → guarded t.function ≡ b → b ≡ false
@@ -355,16 +207,8 @@ module _ (m : TMarked) (guarded : ℕ → Bool) (f : ℕ) (body : List Placed) (
     ends_before r b i j l e =
         let t = chain r mid end Next b i (sub b (in_rest b j)) (lies_rest b j) free e in
         let h = t.1.high in
-        let u = up in
+        let u = here.up in
         omega (arith, h, l, u, t.2)
-
-    -- it doesn't end inside
-    reaches : (r : TRegion) → IsOf r m.regions → r.block ≡ spot.block → id ≤ r.last → (r.last ≡ id → ⊥) → mid ≤ r.last
-    reaches r i e l n = go (not_in r.last ((facts.region r i).2 ∙ ap Some e))
-      where
-        go : (r.last ≤ id) ⊎ (mid ≤ r.last) → mid ≤ r.last
-        go (inl x) = absurd (n (omega (arith, x, l)))
-        go (inr x) = x
 
     abbrev Result : (C0 C : VarId → Type 0) → (inside o e : Option ℕ) → Type 0
     Result C0 C inside o e =
@@ -372,7 +216,7 @@ module _ (m : TMarked) (guarded : ℕ → Bool) (f : ℕ) (body : List Placed) (
         × OkStmts m guarded f (next_mode inside o e) (OkClean m guarded f inside C0 C o) (C' C) Next rest
 
     module _ (C0 C : VarId → Type 0) (later : (inside : Option ℕ) (D : VarId → Type 0) → State inside mid D (C' C) Next (stmts_placed Next rest) → OkStmts m guarded f inside D (C' C) Next rest)
-        (inner : begun_by m.regions id ≡ None → Clear id spot.block → FitsOut C id (stmts_placed spot (more (stmt id line k) rest)) → OkKind m guarded f C spot id line k) where
+        (inner : begun_by m.regions id ≡ None → Clear m id spot.block → FitsOut C id (stmts_placed spot (more (stmt id line k) rest)) → OkKind m guarded f C spot id line k) where
       -- all targets of the statement and of those inside
       fits_all : (D : VarId → Type 0) → ((b : Placed) (x : VarId) → IsOf b (stmts_placed spot (more (stmt id line k) rest)) → Target p f (effect_of p b) x → D x) → Fits m guarded f D Heads
       fits_all D h a x i t = h i.0 x (in_own i.0 i.1) (subst (λ (z : TEffect). Target p f z x) i.2 t)
@@ -380,7 +224,7 @@ module _ (m : TMarked) (guarded : ℕ → Bool) (f : ℕ) (body : List Placed) (
       plain_step : (e : Option ℕ) → begun_by m.regions id ≡ None → ended_by m.regions id ≡ e → State None id C0 C spot (stmts_placed spot (more (stmt id line k) rest)) → Result C0 C None None e
       plain_step e n q s =
           let st : State None mid C0 (C' C) Next (stmts_placed Next rest) =
-          (clear_on s.0 (λ r i a l. begun_none m.regions id r n i a), λ b x i t. step C b x i (λ r j c a. begun_none m.regions id r n j a) (s.1 b x (in_rest b i) t)) in
+          (here.clear_on s.0 (λ r i a l. begun_none m.regions id r n i a), λ b x i t. step C b x i (λ r j c a. begun_none m.regions id r n j a) (s.1 b x (in_rest b i) t)) in
           (((λ x t. (s.1 This x (inl refl) t).0, free_call n s.0), inner n s.0 s.1), go e st)
         where
           go : (e : Option ℕ) → State None mid C0 (C' C) Next (stmts_placed Next rest) → OkStmts m guarded f (next_mode None None e) C0 (C' C) Next rest
@@ -389,18 +233,10 @@ module _ (m : TMarked) (guarded : ℕ → Bool) (f : ℕ) (body : List Placed) (
 
       begin_step : (q : ℕ) (e : Option ℕ) → begun_by m.regions id ≡ Some q → ended_by m.regions id ≡ e → State None id C0 C spot (stmts_placed spot (more (stmt id line k) rest)) →
           Result C0 C None (Some q) e
-      begin_step q None n z s = (fits_all C (λ b x i t. (s.1 b x i t).0), later (Some q) C (r.0, at', fits))
+      begin_step q None n z s = (fits_all C (λ b x i t. (s.1 b x i t).0), later (Some q) C (r.0, here.starts r.0 r.1 r.2 z, fits))
         where
           r : (r : TRegion) × IsOf r m.regions × (r.first ≡ id)
           r = begun_some m.regions id q n
-
-          d : Direct p r.0 id
-          d = begins_here r.0 r.1 r.2
-
-          at' : OpenAt r.0 mid Next
-          at' =
-              let u = up in let e = r.2 in
-              record { one = r.1; block = block_here r.0 d; before = omega (arith, u, e); behind = reaches r.0 r.1 (block_here r.0 d) d.high (λ l. ended_none m.regions id r.0 z r.1 l) }
 
           by : (b : Placed) (x : VarId) → IsOf b (stmts_placed Next rest) → C x → Later id b x → (covers p r.0 b.id ≡ true) ⊎ (C' C x × Later mid b x)
           by b x i c (inl none) = inr ((c, apart_all Heads x (λ a h. (heads_low spot id line k mid end laid one sub_kind free a h).0) none), inl none)
@@ -408,7 +244,7 @@ module _ (m : TMarked) (guarded : ℕ → Bool) (f : ℕ) (body : List Placed) (
             where
               at_or : (v : TRegion) → MetBy v b x → id ≤ v.first → (v.first ≤ id) ⊎ (id < v.first) → (covers p r.0 b.id ≡ true) ⊎ (C' C x × Later mid b x)
               at_or v w h (inl y) =
-                  let same : v ≡ r.0 = same_here v r.0 w.0 r.1 (begins_here v w.0 (omega (arith, h, y))) d in
+                  let same : v ≡ r.0 = here.same v r.0 w.0 r.1 (here.begins v w.0 (omega (arith, h, y))) (here.begins r.0 r.1 r.2) in
                   inl (subst (λ (z : TRegion). covers p z b.id ≡ true) same w.1)
               at_or v w h (inr y) =
                   let q = pass_by spot id line k mid end laid one sub_kind free Next b x free (sub b (in_rest b i)) (lies_rest b i) v w (omega (arith, y)) in
@@ -418,70 +254,27 @@ module _ (m : TMarked) (guarded : ℕ → Bool) (f : ℕ) (body : List Placed) (
           fits b x i t = let h = s.1 b x (in_rest b i) t in (h.0, by b x i h.0 h.1)
       begin_step q (Some y) n z s = (fits_all C (λ b x i t. (s.1 b x i t).0), later None C (clear, fits))
         where
-          r : (r : TRegion) × IsOf r m.regions × (r.first ≡ id)
-          r = begun_some m.regions id q n
-
-          l : (r : TRegion) × IsOf r m.regions × (r.last ≡ id)
-          l = ended_some m.regions id y z
-
-          short : (t : TRegion) → IsOf t m.regions → t.first ≡ id → t.last ≡ id
-          short t i e = let same : t ≡ l.0 = same_here t l.0 i l.1 (begins_here t i e) (ends_here l.0 l.1 l.2) in ap (λ (v : TRegion). v.last) same ∙ l.2
-
-          clear : Clear mid spot.block
-          clear = clear_on s.0 (λ t i e h. let o = short t i e in let u = up in omega (arith, o, h, u))
+          clear : Clear m mid spot.block
+          clear = here.clear_on s.0 (λ r i e h. let l = here.short y z r i e in let u = here.up in omega (arith, l, h, u))
 
           fits : FitsOut (C' C) mid (stmts_placed Next rest)
-          fits b x i t = step C b x i (λ v j c e. let o = short v j e in ends_before v b j i (omega (arith, o)) c) (s.1 b x (in_rest b i) t)
+          fits b x i t = step C b x i (λ v j c e. let l = here.short y z v j e in ends_before v b j i (omega (arith, l)) c) (s.1 b x (in_rest b i) t)
 
       open_step : (q : ℕ) (o e : Option ℕ) → begun_by m.regions id ≡ o → ended_by m.regions id ≡ e → State (Some q) id C0 C spot (stmts_placed spot (more (stmt id line k) rest)) →
           Result C0 C (Some q) o e
-      open_step q (Some y) e n z s = absurd (go (begun_some m.regions id y n))
+      open_step q (Some y) e n z s = absurd (here.no_other s.0 s.1 y n)
+      open_step q None None n z s = (fits_all C0 (λ b x i t. (s.2 b x i t).0), later (Some q) C0 (s.0, here.goes_on s.0 s.1 z, fits))
         where
-          go : (r : TRegion) × IsOf r m.regions × (r.first ≡ id) → ⊥
-          go r =
-              let a = s.1.before in
-              let same : r.0 ≡ s.0 = same_here r.0 s.0 r.1 s.1.one (begins_here r.0 r.1 r.2) (direct_here s.0 s.1.block (omega (arith, a)) s.1.behind) in
-              let b : r.0.first ≡ s.0.first = ap (λ (v : TRegion). v.first) same in
-              let c = r.2 in
-              omega (arith, a, b, c)
-      open_step q None None n z s = (fits_all C0 (λ b x i t. (s.2 b x i t).0), later (Some q) C0 (s.0, at', fits))
-        where
-          at' : OpenAt s.0 mid Next
-          at' =
-              let u = up in let a = s.1.before in
-              record { one = s.1.one; block = s.1.block; before = omega (arith, u, a); behind = reaches s.0 s.1.one s.1.block s.1.behind (λ l. ended_none m.regions id s.0 z s.1.one l) }
-
           by : (b : Placed) (x : VarId) → IsOf b (stmts_placed Next rest) → (covers p s.0 b.id ≡ true) ⊎ (C x × Later id b x) → (covers p s.0 b.id ≡ true) ⊎ (C' C x × Later mid b x)
           by b x i (inl c) = inl c
           by b x i (inr h) = inr (step C b x i (λ r j c a. begun_none m.regions id r n j a) h)
 
           fits : FitsIn s.0 C0 (C' C) mid (stmts_placed Next rest)
           fits b x i t = let h = s.2 b x (in_rest b i) t in (h.0, by b x i h.1)
-      open_step q None (Some y) n z s = (fits_all C0 (λ b x i t. (s.2 b x i t).0), later None C0 (clear, fits))
+      open_step q None (Some y) n z s = (fits_all C0 (λ b x i t. (s.2 b x i t).0), later None C0 (here.clear_behind s.0 s.1 y z, fits))
         where
-          l : (r : TRegion) × IsOf r m.regions × (r.last ≡ id)
-          l = ended_some m.regions id y z
-
-          open_here : Direct p s.0 id
-          open_here = let a = s.1.before in direct_here s.0 s.1.block (omega (arith, a)) s.1.behind
-
-          ends : s.0.last ≡ id
-          ends = let same : s.0 ≡ l.0 = same_here s.0 l.0 s.1.one l.1 open_here (ends_here l.0 l.1 l.2) in ap (λ (v : TRegion). v.last) same ∙ l.2
-
-          clear : Clear mid spot.block
-          clear r i e h j = go (not_in r.first ((facts.region r i).1 ∙ ap Some e))
-            where
-              go : (r.first ≤ id) ⊎ (mid ≤ r.first) → ⊥
-              go (inr x) = omega (arith, x, h)
-              go (inl x) =
-                  let u = up in
-                  let same : r ≡ s.0 = same_here r s.0 i s.1.one (direct_here r e x (omega (arith, u, j))) open_here in
-                  let a : r.last ≡ s.0.last = ap (λ (v : TRegion). v.last) same in
-                  let b = ends in
-                  omega (arith, a, b, j, u)
-
           by : (b : Placed) (x : VarId) → IsOf b (stmts_placed Next rest) → (covers p s.0 b.id ≡ true) ⊎ (C x × Later id b x) → C' C x × Later mid b x
-          by b x i (inl c) = absurd (let e = ends in ends_before s.0 b s.1.one i (omega (arith, e)) c)
+          by b x i (inl c) = absurd (let e = here.ends s.0 s.1 y z in ends_before s.0 b s.1.one i (omega (arith, e)) c)
           by b x i (inr h) = step C b x i (λ r j c a. begun_none m.regions id r n j a) h
 
           fits : FitsOut (C' C) mid (stmts_placed Next rest)
@@ -504,19 +297,6 @@ module _ (m : TMarked) (guarded : ℕ → Bool) (f : ℕ) (body : List Placed) (
         by (inr met) = inr (met.0, met.1, let n : met.0.first ≡ id → ⊥ = (λ a. begun_none m.regions id met.0 e met.1.0 a) in let l = met.2 in grind (arith, n, l))
 
   -- ---- loops
-
-  any_in : {A : Type 0} (t : A → Bool) (xs : List A) (x : A) → IsOf x xs → t x ≡ true → list_any t xs ≡ true
-  any_in t [] x h e = absurd h
-  any_in t (y ∷ xs) x (inl q) e = first (t y) (list_any t xs) (ap t (sym q) ∙ e)
-    where
-      first : (a b : Bool) → a ≡ true → a || b ≡ true
-      first true b z = refl
-      first false b z = absurd (true≢false (sym z))
-  any_in t (y ∷ xs) x (inr h) e = second (t y) (list_any t xs) (any_in t xs x h e)
-    where
-      second : (a b : Bool) → b ≡ true → a || b ≡ true
-      second true b z = refl
-      second false b z = z
 
   loop_at : (b : Placed) → IsOf b body → (effect_of p b).is_loop ≡ true → is_loop_at p f b.id ≡ true
   loop_at b i e = any_in (λ a. is_numbered b.id a && a.is_loop) (effects_at p f) (effect_of p b) (facts.effect b i) (both (nat_eq b.id b.id) (effect_of p b).is_loop (grind arith) e)

@@ -17,10 +17,8 @@ use Rattle.oc_timely.specs.Within.{Where, samples_of, start_where}
 use Rattle.oc_timely.specs.Steps.{AreTaken}
 use Rattle.oc_timely.specs.Modes.{Sees}
 use Rattle.oc_timely.proofs.Handed.{passed_samples, own_older, own_held, arg_named}
-use Rattle.oc_timely.proofs.Sources.{same_self}
-
-either : (k r : ℕ) → (r ≤ k) ⊎ (k < r)
-either k r = grind arith
+use Rattle.oc_flow.proofs.Lists.{same_itself}
+use Rattle.oc_timely.proofs.Directly.{either}
 
 module _ (p : TProgram) (f base : ℕ) (b : Placed) (args : TArgs) (env : List Binding) (w : Where) (σ : Store) (sees : Sees p f base b.id b.at env w σ) (taken : AreTaken σ)
     (u : ℕ) (g : TFunction) (params : params_at p u ≡ g.params) (ps : List Passed) (passes : args_of env σ args ≡ Passes ps) (many : length ps ≡ length g.params) where
@@ -41,7 +39,7 @@ module _ (p : TProgram) (f base : ℕ) (b : Placed) (args : TArgs) (env : List B
       by false e k = absurd k
       by true e k =
           let l : i < length p.names.nvs = grind (arith, e) in
-          (variables.Nv i, same_self (variables.Nv i), subst (λ r. IsOf j (held_at σ r).samples) (sym (sees.global i l)) k)
+          (variables.Nv i, same_itself (variables.Nv i), subst (λ r. IsOf j (held_at σ r).samples) (sym (sees.global i l)) k)
   stands_for (variables.Param k) j h = by (nat_lt k (length (params_at p u))) h
     where
       by : (c : Bool) → IsOf j (held_at own (if c then Local (length σ.locals + k) else Nowhere)).samples → StandsFor (variables.Param k) j

@@ -21,15 +21,13 @@ use Rattle.oc_timely.specs.Steps.{AreTaken}
 use Rattle.oc_timely.specs.Modes.{Sees, IsStep, PairedKind, PairedElse, PairedBlock, PairedStmts, Goes, In, Among, own_placed, with_place, where_behind, Flows}
 use Rattle.oc_timely.proofs.Came.{came_on}
 use Rattle.oc_timely.proofs.Marks.{like_sees, sees_length, sees_later, sees_spot, IsQuiet, quiet_used, quiet_done, quiet_taken, quiet_entered, like_opened, like_closed}
-use Rattle.oc_timely.proofs.Inside.{of_left, of_right, count_open}
+use Rattle.oc_timely.proofs.Inside.{count_open}
+use Rattle.oc_timely.proofs.Members.{of_left, of_right}
 use Rattle.oc_timely.proofs.Writes.{came_wider}
 use Rattle.oc_timely.proofs.SeesOn.{AreNamed}
-use Rattle.oc_timely.proofs.StraightGoes.{CallsGo, by_value_run}
+use Rattle.oc_timely.proofs.StraightGoes.{CallsGo, by_value_run, same_store}
 use Rattle.oc_timely.proofs.Behinds.{kept_sees, turn_sees, straight_goes}
 use Rattle.oc_timely.proofs.Going.{step_counts, opens, closes, where_kept, like_came, BlockGone, quiet_gone, gone_on, turn_gone, ListGone, block_left}
-
-same_went : (σ τ : Store) → Went σ ≡ Went τ → σ ≡ τ
-same_went σ τ e = cc
 
 module _ (p : TProgram) (regions : List TRegion) (call : Text → List Passed → Store → Outcome) (home : ℤ → ℕ) (f base : ℕ) (body : List Placed) (names : AreNamed p f body)
     (calls : CallsGo p regions call home f base body) where
@@ -57,7 +55,7 @@ module _ (p : TProgram) (regions : List TRegion) (call : Text → List Passed �
       record { sees = like_sees p f base n spot env w σ τ q.like k.sees; taken = quiet_taken σ τ q k.taken; stored = ap (λ (xs : List Held). length xs) q.like.nv ∙ k.stored }
 
   none_gone : (n : ℕ) (spot : Spot) (env : List Binding) (bs : List Placed) (w : Where) (σ υ : Store) → Known n spot env w σ → Went σ ≡ Went υ → Gone bs w σ υ
-  none_gone n spot env bs w σ υ k e = subst (Gone bs w σ) (same_went σ υ e) (quiet_gone p f base (Among p bs) spot env w σ σ k.sees.owns k.taken (quiet_done false 0 [] σ))
+  none_gone n spot env bs w σ υ k e = subst (Gone bs w σ) (same_store σ υ e) (quiet_gone p f base (Among p bs) spot env w σ σ k.sees.owns k.taken (quiet_done false 0 [] σ))
 
   -- ---- loops
 
@@ -76,7 +74,7 @@ module _ (p : TProgram) (regions : List TRegion) (call : Text → List Passed �
     while_gone : (t id : ℕ) (is : Bool) (samples : Store → List ℕ) (test : Store → Got) (turn : Store → Outcome) → ((σ τ : Store) → Known n spot env w σ → turn σ ≡ Went τ → Gone bs w σ τ) →
         (before : List ℕ) (σ υ : Store) → Known n spot env w σ → while_turns t id is samples test turn before σ ≡ Went υ → Gone bs w σ υ
     while_gone zero id is samples test turn each before σ υ k e =
-        subst (Gone bs w σ) (same_went (done is id before σ) υ e) (quiet_gone p f base (Among p bs) spot env w σ (done is id before σ) k.sees.owns k.taken (quiet_done is id before σ))
+        subst (Gone bs w σ) (same_store (done is id before σ) υ e) (quiet_gone p f base (Among p bs) spot env w σ (done is id before σ) k.sees.owns k.taken (quiet_done is id before σ))
     while_gone (suc t) id is samples test turn each before σ υ k e =
         gone_on p f base (Among p bs) w σ began υ (quiet_gone p f base (Among p bs) spot env w σ began k.sees.owns k.taken quiet)
         (by_value_run (test began) id began _ υ (Gone bs w began υ) e (λ v i h. by (is_zero v.num) h (λ τ k' e'. while_gone t id is samples test turn each (union before (samples σ)) τ υ k' e')))
@@ -99,7 +97,7 @@ module _ (p : TProgram) (regions : List TRegion) (call : Text → List Passed �
         by : (z : Bool) → (if z then Went (done is id (union before (samples σ)) began) else then_do (turn began) (while_turns t id is samples test turn (union before (samples σ)))) ≡ Went υ →
             ((τ : Store) → Known n spot env w τ → while_turns t id is samples test turn (union before (samples σ)) τ ≡ Went υ → Gone bs w τ υ) → Gone bs w began υ
         by true h rest =
-            subst (Gone bs w began) (same_went (done is id (union before (samples σ)) began) υ h)
+            subst (Gone bs w began) (same_store (done is id (union before (samples σ)) began) υ h)
             (quiet_gone p f base (Among p bs) spot env w began (done is id (union before (samples σ)) began) at.sees.owns at.taken (quiet_done is id (union before (samples σ)) began))
         by false h rest = through (turn began) refl h rest
 

@@ -14,12 +14,13 @@ use Rattle.oc_meaning.specs.Exec.{kind_run, block_run, stmts_run}
 use Rattle.oc_flow.specs.Variables.{is_variable}
 use Rattle.oc_tree.specs.Members.{IsOf}
 use Rattle.oc_timely.specs.Within.{Where, samples_of, Comes}
-use Rattle.oc_timely.specs.Enough.{since, next_mode}
+use Rattle.oc_timely.specs.Enough.{next_mode}
 use Rattle.oc_timely.specs.Steps.{AreTaken}
 use Rattle.oc_timely.specs.Modes.{IsShutMode, IsStep, PairedBlock, PairedStmts, Goes, Among, where_behind}
 use Rattle.oc_timely.proofs.Came.{comes_back}
 use Rattle.oc_timely.proofs.Marks.{IsLike, like_sees, sees_later, sees_spot, IsQuiet, quiet_used, quiet_done, quiet_taken, quiet_entered, like_opened, like_closed}
-use Rattle.oc_timely.proofs.Inside.{of_right, count_open}
+use Rattle.oc_timely.proofs.Inside.{count_open}
+use Rattle.oc_timely.proofs.Members.{of_right}
 use Rattle.oc_timely.proofs.SeesOn.{AreNamed}
 use Rattle.oc_timely.proofs.Writes.{comes_wider}
 use Rattle.oc_timely.proofs.StraightGoes.{IsThis, CallsGo, value_to, value_below}

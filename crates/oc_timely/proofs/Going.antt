@@ -17,7 +17,8 @@ use Rattle.oc_timely.specs.Modes.{Sees, IsSteady, IsStep, with_place, where_behi
 use Rattle.oc_copies.proofs.Cells.{at_drop, drop_length, at_past}
 use Rattle.oc_timely.proofs.Came.{stays, came_on}
 use Rattle.oc_timely.proofs.Marks.{IsLike, like_samples, IsQuiet, quiet_taken, quiet_entered, begun_is, ended_is}
-use Rattle.oc_timely.proofs.Inside.{same_is, count_open, turn_samples, samples_turn}
+use Rattle.oc_timely.proofs.Inside.{count_open, turn_samples, samples_turn}
+use Rattle.oc_flow.proofs.Lists.{same_is}
 
 -- ---- marks
 

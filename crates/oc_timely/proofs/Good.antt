@@ -2,7 +2,7 @@
 use Rattle.std.proofs.Common.{◌≡◌, ◌⊎◌, inl, inr, ℕ, suc, ◌<◌, ◌≤◌, Bool, true, false, true≢false, List, [], ◌∷◌, ◌++◌, Some, refl, sym, ap, ◌∙◌, subst, arith}
 use Rattle.oc_tree.specs.Tree.{TProgram}
 use Rattle.oc_tree.specs.declared.said.Said.{Said}
-use Rattle.oc_tree.specs.declared.said.Said.TheVariants.{Sensed, Showed, Entered, Committed, Aborted, Off, Dark, Ended}
+use Rattle.oc_tree.specs.declared.said.Said.TheVariants.{Showed, Entered, Committed}
 use Rattle.oc_tree.specs.declared.said.Shown.TheVariants.{Used, Finished, Tagged}
 use Rattle.oc_meaning.specs.Store.{Event}
 use Rattle.oc_meaning.specs.Run.{in_order}
@@ -10,6 +10,7 @@ use Rattle.oc_tree.specs.Members.{IsOf}
 use Rattle.oc_honest.specs.Timely.{IsInput, IsUse, AreTogether}
 use Rattle.oc_honest.specs.Held.{Ran, within, ran_more, ran_from, ran, AreHeld}
 use Rattle.oc_timely.specs.Enough.{sense_count, taken_in, open_after, is_open, since_after, since, AreSince, AreGathered, IsGood, AllGood}
+use Rattle.oc_timely.proofs.Gathers.{count_more}
 
 abbrev begun_after : Said → ℕ → ℕ
 begun_after (Entered r) n = suc n
@@ -104,16 +105,6 @@ newest : (r : Ran) (s : Said) (e : Event) (b : Bool) (n : ℕ) (rest : List Ran)
 newest r (Entered q) e b n rest h = inr h
 newest r (Committed q) e b n rest h = inr h
 newest r s e b n rest h = h
-
-count_more : (s : Said) (n : ℕ) → n ≤ sense_count s n
-count_more (Sensed q z) n = omega arith
-count_more (Showed w) n = omega arith
-count_more (Entered r) n = omega arith
-count_more (Committed r) n = omega arith
-count_more (Aborted r) n = omega arith
-count_more (Off t) n = omega arith
-count_more Dark n = omega arith
-count_more (Ended w) n = omega arith
 
 -- a use or an annotation
 abbrev IsHeldAt : Said → Type 0

@@ -1,5 +1,5 @@
 -- Where a set's block stands in its function, all tags that a run of the function tells are of later instances than those before.
-use Rattle.std.proofs.Common.{◌≡◌, ◌⊎◌, inl, inr, ℕ, zero, ◌+◌, ◌≤◌, ◌==◌, Bool, true, false, List, [], ◌∷◌, Option, Some, None, refl, ap, sym, ◌∙◌, arith}
+use Rattle.std.proofs.Common.{◌≡◌, ◌⊎◌, inl, inr, ℕ, ◌+◌, ◌≤◌, ◌==◌, Bool, true, false, List, [], ◌∷◌, Option, Some, None, refl, ap, sym, ◌∙◌, arith}
 use Rattle.std.specs.Prelude.{ℤ, ◌||◌, slice_get, unwrap_or, if◌then◌else◌}
 use Rattle.std.proofs.lemmas.Bool.{eqb-true, eq-eqb}
 use Rattle.std.proofs.lemmas.Option.{none-some, same_Some}
@@ -18,8 +18,9 @@ use Rattle.oc_flow.proofs.Fixpoint.{Ranked}
 use Rattle.oc_timely.specs.Modes.{own_placed}
 use Rattle.oc_timely.proofs.Away.{calls_away, fits, AllFit, kind_fits, else_fits, block_fits, stmts_fit}
 use Rattle.oc_timely.proofs.Innermost.{NoneNoted, else_clear, block_clear, own_clear, stmts_clear, home_there}
-use Rattle.oc_timely.proofs.Inside.{of_left, of_right}
+use Rattle.oc_timely.proofs.Members.{of_left, of_right}
 use Rattle.oc_timely.proofs.Tagged.{Since, SinceOut, Fits, KindFits, ElseFits, BlockFits, StmtsFit, kind_since, else_since, block_since, stmts_since}
+use Rattle.oc_tree.proofs.ReachLaws.{or_right}
 
 -- ---- homes
 
@@ -186,17 +187,13 @@ module _ (p : TProgram) (groups : List Group) (checked : IsChecked p groups) (ra
           BlockFits p f g k older c Any regions call_at home i b
       block_in n i spot (block id ss) sub m h = by (block_split k n its_home id ss h) (stmts_in n (i || (its_home == id)) (record spot { block = id }) ss sub m)
         where
-          or_true : (i b : Bool) → b ≡ true → i || b ≡ true
-          or_true true b e = refl
-          or_true false b e = e
-
           by : (stmts_home k n ss ≡ Some its_home) ⊎ ((stmts_home k n ss ≡ None) × (id ≡ its_home)) →
               (stmts_home k n ss ≡ Some its_home → StmtsFit p f g k older c Any regions call_at home (i || (its_home == id)) ss) →
               StmtsFit p f g k older c Any regions call_at home (i || (its_home == id)) ss
           by (inl l) x = x l
           by (inr r) x =
               stmts_fit p groups checked ranked regions f g at k older c Any call_at home (i || (its_home == id)) (record spot { block = id }) ss
-              (any_fit (i || (its_home == id)) (stmts_placed (record spot { block = id }) ss) sub (λ b o x e. or_true i (its_home == id) (eq-eqb its_home id (sym r.1))))
+              (any_fit (i || (its_home == id)) (stmts_placed (record spot { block = id }) ss) sub (λ b o x e. or_right i (its_home == id) (eq-eqb its_home id (sym r.1))))
 
       stmts_in : (n : ℕ) (i : Bool) (spot : Spot) (ss : TStmts) → Within (stmts_placed spot ss) → stmts_notes k ss ≡ n → stmts_home k n ss ≡ Some its_home →
           StmtsFit p f g k older c Any regions call_at home i ss

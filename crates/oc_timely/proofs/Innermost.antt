@@ -1,10 +1,10 @@
 -- The block of a set is the innermost one that has all its annotations. Where a region covers them all and none of it is around, the region stands in that block.
-use Rattle.std.proofs.Common.{◌≡◌, ◌⊎◌, inl, inr, ℕ, zero, suc, ◌<◌, ◌≤◌, ◌==◌, Bool, true, false, List, [], ◌∷◌, Option, Some, None, refl, ap, sym, subst, ◌∙◌, arith}
+use Rattle.std.proofs.Common.{◌≡◌, ◌⊎◌, inl, inr, ℕ, suc, ◌<◌, ◌≤◌, ◌==◌, Bool, true, false, List, [], ◌∷◌, Option, Some, None, refl, ap, sym, subst, ◌∙◌, arith}
 use Rattle.std.specs.Prelude.{ℤ, option_map, if◌then◌else◌}
 use Rattle.std.specs.Ordering.{int_eq}
 use Rattle.std.proofs.lemmas.Bool.{eq-eqb}
-use Rattle.std.proofs.lemmas.Option.{none-some}
-use Rattle.oc_tree.specs.Tree.{TKind, let_to, let_array, assign, assign_index, assign_deref, if_else, for_in, while_do, call_only, sense_only, emit, fresh, consistent, return}
+use Rattle.std.proofs.lemmas.Option.{none-some, same_Some}
+use Rattle.oc_tree.specs.Tree.{TKind, if_else, for_in, while_do, consistent}
 use Rattle.oc_tree.specs.Tree.{TElse, no_else, else_do, stmt, TBlock, block, TStmts, no_stmts, more, TProgram}
 use Rattle.oc_tree.specs.declared.tree.VarId.TheVariants as variables
 use Rattle.oc_tree.specs.Places.{Place as Spot, Placed, placed, block_of, behind, in_branch, in_loop, kind_placed, else_placed, block_placed, stmts_placed}
@@ -15,9 +15,9 @@ use Rattle.oc_needs.proofs.Tests.{any_of}
 use Rattle.oc_timely.specs.Modes.{own_placed}
 use Rattle.oc_timely.specs.Laid.{IsClosed, LaidKind, LaidElse, LaidStmts}
 use Rattle.oc_timely.proofs.Asking.{same_int}
-use Rattle.oc_timely.proofs.Cover.{Direct, direct_of, either}
-use Rattle.oc_timely.proofs.Inside.{of_left, of_right}
-use Rattle.oc_timely.proofs.Lies.{Lies, in_append, up_kind, closed_block, closed_kind, lies_kind, lies_else, lies_block, lies_stmts}
+use Rattle.oc_timely.proofs.Directly.{Direct, direct_of, either}
+use Rattle.oc_timely.proofs.Members.{of_left, of_right, in_append}
+use Rattle.oc_timely.proofs.Lies.{Lies, up_kind, closed_block, closed_kind, lies_kind, lies_else, lies_block, lies_stmts}
 
 -- ---- annotations of the set
 
@@ -181,17 +181,7 @@ module _ (k : ℤ) where
             other b laid.2 (omega (arith, e, zero)) none.1 l
     kind_inner n spot id (for_in x c d b) mid laid sub free low high e h = home_there n b e h
     kind_inner n spot id (while_do c t b) mid laid sub free low high e h = home_there n b e h
-    kind_inner n spot id (let_to m x t r) mid laid sub free low high e h = omega (arith, laid, low, high)
-    kind_inner n spot id (let_array m x t z c) mid laid sub free low high e h = omega (arith, laid, low, high)
-    kind_inner n spot id (assign x r) mid laid sub free low high e h = omega (arith, laid, low, high)
-    kind_inner n spot id (assign_index x i r) mid laid sub free low high e h = omega (arith, laid, low, high)
-    kind_inner n spot id (assign_deref x r) mid laid sub free low high e h = omega (arith, laid, low, high)
-    kind_inner n spot id (call_only c) mid laid sub free low high e h = omega (arith, laid, low, high)
-    kind_inner n spot id (sense_only s) mid laid sub free low high e h = omega (arith, laid, low, high)
-    kind_inner n spot id (emit s d) mid laid sub free low high e h = omega (arith, laid, low, high)
-    kind_inner n spot id (fresh x) mid laid sub free low high e h = omega (arith, laid, low, high)
-    kind_inner n spot id (consistent x i) mid laid sub free low high e h = omega (arith, laid, low, high)
-    kind_inner n spot id (return d) mid laid sub free low high e h = omega (arith, laid, low, high)
+    kind_inner n spot id k mid laid sub free low high e h = omega (arith, laid, low, high)
 
     -- where a statement of this block stands
     pub lies_own : (spot : Spot) (id line : ℕ) (s : TKind) (mid : ℕ) → LaidKind p (suc id) s mid → (b : Placed) → IsOf b (own_placed spot id line s) → Lies id mid spot b
@@ -256,10 +246,7 @@ module _ (k : ℤ) where
         stmts_home k n ss ≡ None → q.block ≡ spot.block
     innermost n start e spot ss laid sub free some m h = by (q.block == spot.block) refl
       where
-        some_is : (a b : ℕ) → ◌≡◌ {A = Option ℕ} (Some a) (Some b) → a ≡ b
-        some_is a b e = cc e
-
         by : (c : Bool) → (q.block == spot.block) ≡ c → q.block ≡ spot.block
         by true t = grind (arith, t)
         by false t = absurd (stmts_inner n start e spot ss laid sub free
-            (λ u i d. let same : q.block ≡ spot.block = some_is q.block spot.block (sym d.there ∙ ids_block spot ss sub u i) in grind (arith, t, same)) some m h)
+            (λ u i d. let same : q.block ≡ spot.block = same_Some q.block spot.block (sym d.there ∙ ids_block spot ss sub u i) in grind (arith, t, same)) some m h)

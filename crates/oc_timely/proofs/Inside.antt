@@ -1,5 +1,5 @@
 -- In an execution of a region, all that a function adds is fine.
-use Rattle.std.proofs.Common.{◌≡◌, inl, inr, ℕ, zero, suc, ◌+◌, ◌<◌, ◌≤◌, Bool, true, false, List, [], ◌∷◌, ◌++◌, length, Option, Some, None, refl, sym, ap, ◌∙◌, subst, arith, append-nil}
+use Rattle.std.proofs.Common.{◌≡◌, inl, inr, ℕ, zero, suc, ◌+◌, ◌<◌, ◌≤◌, Bool, true, false, List, [], ◌∷◌, length, Option, Some, None, refl, sym, ap, ◌∙◌, subst, arith, append-nil}
 use Rattle.std.specs.Prelude.{ℤ, pos, ◌+ℤ◌, ◌-ℤ◌, if◌then◌else◌}
 use Rattle.oc_tree.specs.Names.{Text}
 use Rattle.oc_tree.specs.Tree.{TExpr, TKind, if_else, for_in, while_do, TElse, no_else, else_do, stmt, TBlock, block, TStmts, no_stmts, more, TProgram}
@@ -28,6 +28,8 @@ use Rattle.oc_timely.proofs.Sampled.{in_union}
 use Rattle.oc_timely.proofs.Marks.{IsLike, like_held, like_samples, sees_length, like_sees, sees_later, like_stored, IsQuiet, quiet_used, quiet_done, quiet_taken, sees_spot}
 use Rattle.oc_timely.proofs.Marks.{quiet_entered, like_opened, like_closed, is_deep, begun_is, ended_is}
 use Rattle.oc_timely.proofs.Straight.{fine_value, fine_used, fine_done, fine_closed, fine_opened, use_target, straight_fine}
+use Rattle.oc_timely.proofs.Members.{of_left, of_right}
+use Rattle.oc_flow.proofs.Lists.{same_is}
 
 -- ---- outcomes
 
@@ -53,24 +55,6 @@ fine_if false o q a c = c
 
 -- ---- a turn's own variable holds no samples
 
-pub same_is : (u v : VarId) → same_variable u v ≡ true → u ≡ v
-same_is (variables.Nv i) (variables.Nv k) e = let n : i ≡ k = grind (arith, e) in ap variables.Nv n
-same_is (variables.Param i) (variables.Param k) e = let n : i ≡ k = grind (arith, e) in ap variables.Param n
-same_is (variables.Declared i) (variables.Declared k) e = let n : i ≡ k = grind (arith, e) in ap variables.Declared n
-same_is variables.Returned variables.Returned e = refl
-same_is (variables.Nv i) (variables.Param k) e = absurd (grind (arith, e))
-same_is (variables.Nv i) (variables.Declared k) e = absurd (grind (arith, e))
-same_is (variables.Nv i) variables.Returned e = absurd (grind (arith, e))
-same_is (variables.Param i) (variables.Nv k) e = absurd (grind (arith, e))
-same_is (variables.Param i) (variables.Declared k) e = absurd (grind (arith, e))
-same_is (variables.Param i) variables.Returned e = absurd (grind (arith, e))
-same_is (variables.Declared i) (variables.Nv k) e = absurd (grind (arith, e))
-same_is (variables.Declared i) (variables.Param k) e = absurd (grind (arith, e))
-same_is (variables.Declared i) variables.Returned e = absurd (grind (arith, e))
-same_is variables.Returned (variables.Nv k) e = absurd (grind (arith, e))
-same_is variables.Returned (variables.Param k) e = absurd (grind (arith, e))
-same_is variables.Returned (variables.Declared k) e = absurd (grind (arith, e))
-
 pub turn_samples : (σ : Store) (w : Where) (id : ℕ) (i : ℤ) (v : VarId) (j : ℕ) → IsOf j (samples_of σ (with_place w id (Turn i)) v) → IsOf j (samples_of σ w v)
 turn_samples σ w id i v j h = by (same_variable v (variables.Declared id)) h
   where
@@ -84,15 +68,6 @@ samples_turn σ w id i v j e h = by (same_variable v (variables.Declared id)) re
     by : (b : Bool) → same_variable v (variables.Declared id) ≡ b → IsOf j (held_at σ (if b then Turn i else w v)).samples
     by true q = absurd (subst (λ r. IsOf j (held_at σ r).samples) (ap w (same_is v (variables.Declared id) q) ∙ e) h)
     by false q = h
-
-pub of_left : {A : Type 0} (x : A) (xs ys : List A) → IsOf x xs → IsOf x (xs ++ ys)
-of_left x [] ys h = absurd h
-of_left x (y ∷ xs) ys (inl e) = inl e
-of_left x (y ∷ xs) ys (inr h) = inr (of_left x xs ys h)
-
-pub of_right : {A : Type 0} (x : A) (xs ys : List A) → IsOf x ys → IsOf x (xs ++ ys)
-of_right x [] ys h = h
-of_right x (y ∷ xs) ys h = inr (of_right x xs ys h)
 
 -- taken in the execution that is open
 abbrev pub SinceAt : Store → ℕ → Type 0

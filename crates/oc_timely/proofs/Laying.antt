@@ -3,7 +3,7 @@ use Rattle.std.proofs.Common.{◌≡◌, ◌<◌, ◌≤◌, inl, inr, ℕ, zero
 use Rattle.std.proofs.Common.{length-append, append-nil, flat_map}
 use Rattle.std.specs.Prelude.{slice_get}
 use Rattle.std.proofs.lemmas.Option.{none-some, same_Some}
-use Rattle.oc_tree.specs.Tree.{TKind, let_to, let_array, assign, assign_index, assign_deref, if_else, for_in, while_do, call_only, sense_only, emit, fresh, consistent, return}
+use Rattle.oc_tree.specs.Tree.{TKind, if_else, for_in, while_do}
 use Rattle.oc_tree.specs.Tree.{TElse, no_else, else_do, stmt, TBlock, block, TStmts, no_stmts, more, TFunction, TProgram}
 use Rattle.oc_tree.specs.Form.{Numbered}
 use Rattle.oc_tree.specs.Numbers.{kind_statements, else_statements, block_statements, stmts_statements, kind_blocks, else_blocks, block_blocks, stmts_blocks}
@@ -57,17 +57,7 @@ module _ (p : TProgram) where
         )
     kind_laid i j (for_in x m n b) f g h = block_laid i j b f g h
     kind_laid i j (while_do c n b) f g h = block_laid i j b f g h
-    kind_laid i j (let_to m x t r) f g h = straight i
-    kind_laid i j (let_array m x t z n) f g h = straight i
-    kind_laid i j (assign x r) f g h = straight i
-    kind_laid i j (assign_index x e r) f g h = straight i
-    kind_laid i j (assign_deref x r) f g h = straight i
-    kind_laid i j (call_only c) f g h = straight i
-    kind_laid i j (sense_only s) f g h = straight i
-    kind_laid i j (emit q e) f g h = straight i
-    kind_laid i j (fresh x) f g h = straight i
-    kind_laid i j (consistent x n) f g h = straight i
-    kind_laid i j (return e) f g h = straight i
+    kind_laid i j k f g h = straight i
 
     else_laid : (i j : ℕ) (b : TElse) → Follow i (else_statements b) → Follow j (else_blocks b) → Part p i j (else_statements b) (else_blocks b) (else_pairs b) →
         LaidElse p i b (i + length (else_statements b))

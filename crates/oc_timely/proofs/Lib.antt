@@ -9,6 +9,8 @@ pub mod Marks
 pub mod Inside
 pub mod Outside
 pub mod Lies
+pub mod Members
+pub mod Directly
 pub mod Cover
 pub mod Bodies
 pub mod Pairs

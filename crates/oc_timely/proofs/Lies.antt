@@ -1,15 +1,11 @@
 -- Where the statements of a part of a tree lie.
-use Rattle.std.proofs.Common.{◌≡◌, ◌⊎◌, inl, inr, ℕ, suc, ◌<◌, ◌≤◌, List, [], ◌∷◌, ◌++◌, Some, refl, sym, subst, arith}
+use Rattle.std.proofs.Common.{◌≡◌, ◌⊎◌, inl, inr, ℕ, suc, ◌<◌, ◌≤◌, [], ◌∷◌, Some, refl, sym, subst, arith}
 use Rattle.oc_tree.specs.Tree.{TKind, if_else, for_in, while_do, TElse, no_else, else_do, stmt, TBlock, block, TStmts, no_stmts, more, TProgram}
 use Rattle.oc_tree.specs.declared.tree.VarId.TheVariants as variables
 use Rattle.oc_tree.specs.Places.{Place as Spot, Placed, behind, in_branch, in_loop, kind_placed, else_placed, block_placed, stmts_placed, block_of}
 use Rattle.oc_tree.specs.Members.{IsOf}
 use Rattle.oc_timely.specs.Laid.{IsClosed, LaidKind, LaidElse, LaidBlock, LaidStmts}
-
-pub in_append : {A : Type 0} (x : A) (xs ys : List A) → IsOf x (xs ++ ys) → IsOf x xs ⊎ IsOf x ys
-in_append x [] ys h = inr h
-in_append x (y ∷ xs) ys (inl e) = inl (inl e)
-in_append x (y ∷ xs) ys (inr h) = elim (in_append x xs ys h) [ inl l ↦ inl (inr l) | inr r ↦ inr r ]
+use Rattle.oc_timely.proofs.Members.{in_append}
 
 -- its number lies between these, and so does what is around it here
 pub record Lies (n k : ℕ) (spot : Spot) (b : Placed) : Type 0 where

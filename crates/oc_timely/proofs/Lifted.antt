@@ -14,8 +14,7 @@ use Rattle.oc_flow.specs.Flow.{flows}
 use Rattle.oc_flow.specs.Laws.{FlowsIsFlow}
 use Rattle.oc_flow.proofs.Lists.{any_in, in_any, same_is}
 use Rattle.oc_needs.specs.Sites.{is_loop_at, is_outside, carries, lifts, site}
-use Rattle.oc_timely.proofs.Lies.{in_append}
-use Rattle.oc_timely.proofs.Inside.{of_left, of_right}
+use Rattle.oc_timely.proofs.Members.{of_left, of_right, in_append}
 use Rattle.oc_timely.proofs.Inputs.{Up, decide_true, site_low, site_lifted}
 use Rattle.oc_timely.proofs.Around.{Falls, effects_nested}
 

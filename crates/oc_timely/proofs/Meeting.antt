@@ -27,7 +27,7 @@ use Rattle.oc_timely.specs.Covering.{IsCovering, IsMet}
 use Rattle.oc_timely.specs.Within.{AnyOf}
 use Rattle.oc_timely.specs.Enough.{Target, by_use, by_tag, by_call, Met, apart, covered}
 use Rattle.oc_timely.specs.Steps.{RequirementsMeet}
-use Rattle.oc_timely.proofs.Inside.{of_left, of_right}
+use Rattle.oc_timely.proofs.Members.{of_left, of_right}
 use Rattle.oc_timely.proofs.Inputs.{decide_true, input_is}
 use Rattle.oc_timely.proofs.Lifted.{there, flow_from}
 use Rattle.oc_timely.proofs.Asking.{is_policy}

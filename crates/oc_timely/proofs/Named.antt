@@ -9,8 +9,10 @@ use Rattle.oc_tree.specs.declared.tree.VarId.TheVariants as variables
 use Rattle.oc_effects.specs.Effects.{TEffect, effect_of, effects_at, function_effects, params_at}
 use Rattle.oc_flow.specs.Variables.{same_variable, is_among, is_variable, from}
 use Rattle.oc_tree.specs.Members.{IsOf}
-use Rattle.oc_timely.proofs.Sources.{same_self, any_first, any_second, among_back}
+use Rattle.oc_timely.proofs.Sources.{among_back}
 use Rattle.oc_timely.proofs.NoCalls.{stands_at}
+use Rattle.oc_flow.proofs.Lists.{same_itself}
+use Rattle.oc_tree.proofs.ReachLaws.{or_left, or_right}
 
 of_map : (p : TProgram) (b : Placed) (bs : List Placed) → IsOf b bs → IsOf (effect_of p b) (map (effect_of p) bs)
 of_map p b [] h = absurd h
@@ -31,12 +33,12 @@ declared_among a [] h d = absurd h
 declared_among a (x ∷ es) (inl e) d =
     subst (λ (y : TEffect). is_among (variables.Declared a.stmt) (map (λ a. variables.Declared a.stmt) (cond y.declares (y ∷ filter (λ a. a.declares) es) (filter (λ a. a.declares) es))) ≡ true) e
     (ap (λ c. is_among (variables.Declared a.stmt) (map (λ a. variables.Declared a.stmt) (cond c (a ∷ filter (λ a. a.declares) es) (filter (λ a. a.declares) es)))) d
-    ∙ any_first (same_variable (variables.Declared a.stmt) (variables.Declared a.stmt)) _ (same_self (variables.Declared a.stmt)))
+    ∙ or_left (same_variable (variables.Declared a.stmt) (variables.Declared a.stmt)) _ (same_itself (variables.Declared a.stmt)))
 declared_among a (x ∷ es) (inr h) d = by x.declares (declared_among a es h d)
   where
     by : (c : Bool) → is_among (variables.Declared a.stmt) (map (λ a. variables.Declared a.stmt) (filter (λ a. a.declares) es)) ≡ true →
         is_among (variables.Declared a.stmt) (map (λ a. variables.Declared a.stmt) (cond c (x ∷ filter (λ a. a.declares) es) (filter (λ a. a.declares) es))) ≡ true
-    by true r = any_second (same_variable (variables.Declared a.stmt) (variables.Declared x.stmt)) _ r
+    by true r = or_right (same_variable (variables.Declared a.stmt) (variables.Declared x.stmt)) _ r
     by false r = r
 
 -- what it declares
@@ -46,4 +48,4 @@ has_declared p f g at b h d =
     and_from _ _ (let l = stands_at p.functions f g at in grind (arith, l))
     (among_back (variables.Declared b.id) (map variables.Nv (from 0 (length p.names.nvs))) _
     (among_back (variables.Declared b.id) (map variables.Param (from 0 (length (params_at p f)))) _
-    (any_second (same_variable (variables.Declared b.id) variables.Returned) _ (declared_among (effect_of p b) (effects_at p f) (has_effect p f g at b h) d))))
+    (or_right (same_variable (variables.Declared b.id) variables.Returned) _ (declared_among (effect_of p b) (effects_at p f) (has_effect p f g at b h) d))))

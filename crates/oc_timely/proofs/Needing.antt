@@ -16,7 +16,7 @@ use Rattle.oc_needs.specs.Policies.{kind_of_note, note_variable, same_kind, is_n
 use Rattle.oc_needs.specs.Need.{by_annotation, by_call as need_by_call, is_empty}
 use Rattle.oc_needs.proofs.Tests.{in_filter}
 use Rattle.oc_timely.specs.Enough.{by_use, by_tag, by_call}
-use Rattle.oc_timely.proofs.Inside.{of_left, of_right}
+use Rattle.oc_timely.proofs.Members.{of_left, of_right}
 use Rattle.oc_timely.proofs.Asking.{asked_for, is_policy}
 use Rattle.oc_timely.proofs.Bodies.{TargetsNeed}
 

@@ -15,7 +15,8 @@ use Rattle.oc_effects.specs.declared.effect.Note.TheVariants as notes
 use Rattle.oc_effects.specs.Effects.{TEffect, effect_of, effects, effects_at, variable_at, note_of}
 use Rattle.oc_tree.specs.Members.{IsOf}
 use Rattle.oc_needs.specs.Policies.{policies, same_policy, same_kind, kind_of_note, asked_from, each_once}
-use Rattle.oc_timely.proofs.Inside.{same_is, of_left, of_right}
+use Rattle.oc_timely.proofs.Members.{of_left, of_right}
+use Rattle.oc_flow.proofs.Lists.{same_is}
 
 abbrev asked : ℕ → VarId → Policy
 asked f v = record { function = f; kind = kinds.Fresh v }

@@ -14,8 +14,7 @@ use Rattle.oc_flow.proofs.Lists.{any_in}
 use Rattle.oc_needs.proofs.Tests.{any_of}
 use Rattle.oc_desugar.proofs.NumberLists.{Follow, parts}
 use Rattle.oc_honest.specs.Timely.{set_in, set_at, set_of}
-use Rattle.oc_timely.proofs.Inside.{of_left}
-use Rattle.oc_timely.proofs.Lies.{in_append}
+use Rattle.oc_timely.proofs.Members.{of_left, in_append}
 use Rattle.oc_timely.proofs.Positions.{position_first, position_later}
 use Rattle.oc_timely.proofs.Stated.{found}
 

@@ -61,9 +61,8 @@ use Rattle.oc_timely.proofs.Handed.{passed_samples, own_older, own_held, arg_nam
 use Rattle.oc_timely.proofs.Homes.{clear_block, later_body}
 use Rattle.oc_timely.proofs.Innermost.{NoneNoted, block_clear, home_there}
 use Rattle.oc_timely.proofs.Inputs.{input_is}
-use Rattle.oc_timely.proofs.Inside.{of_right}
+use Rattle.oc_timely.proofs.Members.{of_right, in_append}
 use Rattle.oc_timely.proofs.Known.{flows_are, brings_are, needs_are, known}
-use Rattle.oc_timely.proofs.Lies.{in_append}
 use Rattle.oc_timely.proofs.Marks.{was_deep}
 use Rattle.oc_timely.proofs.Meeting.{all_of, is_required, own_required, site_in}
 use Rattle.oc_timely.proofs.Needing.{set_by, set_held, held_there, is_annotated, none_there}

@@ -1,5 +1,5 @@
 -- A set whose annotations one region covers is parted by no run of its function: the region is executed once in each execution of the set's block, or is open around it.
-use Rattle.std.proofs.Common.{◌≡◌, ◌⊎◌, inl, inr, ℕ, zero, suc, ◌<◌, ◌≤◌, ◌==◌, Bool, true, false, List, [], ◌∷◌, length, Option, Some, None, cond, refl, ap, sym, subst, ◌∙◌, arith, true≢false}
+use Rattle.std.proofs.Common.{◌≡◌, ◌⊎◌, inl, inr, ℕ, suc, ◌<◌, ◌≤◌, ◌==◌, Bool, true, false, List, [], ◌∷◌, length, Option, Some, None, cond, refl, ap, sym, subst, ◌∙◌, arith, true≢false}
 use Rattle.std.specs.Prelude.{ℤ, ◌-ℤ◌, option_map, slice_get}
 use Rattle.std.proofs.lemmas.Bool.{eq-eqb}
 use Rattle.std.proofs.lemmas.Option.{none-some}
@@ -23,13 +23,14 @@ use Rattle.oc_timely.specs.Modes.{own_placed, PairedKind, PairedElse, PairedBloc
 use Rattle.oc_timely.specs.Laid.{LaidKind, LaidElse, LaidBlock, LaidStmts, Static}
 use Rattle.oc_timely.specs.Sets.{Adds, AreNoMarks, times}
 use Rattle.oc_timely.proofs.Closed.{IsNoTag, IsClosed, KOut, k_opened, k_closed, k_used, k_done, k_finished, k_leave, k_trap, k_value, k_if, k_for, k_while}
-use Rattle.oc_timely.proofs.Cover.{Direct, direct_of, of_direct, either}
+use Rattle.oc_timely.proofs.Directly.{Direct, direct_of, of_direct, either, beside}
 use Rattle.oc_timely.proofs.Homes.{call_at, Any, split_first, kind_many, else_many, block_many, stmts_many, block_split, clear_kind, clear_else, clear_block, clear_stmts, any_kind, later_kind}
 use Rattle.oc_timely.proofs.Innermost.{NoneNoted, else_clear, block_clear, own_clear, stmts_clear, IsFree, chain, lies_own, innermost}
-use Rattle.oc_timely.proofs.Inside.{of_left, of_right, count_open}
-use Rattle.oc_timely.proofs.Lies.{in_append, up_kind, up_stmts}
+use Rattle.oc_timely.proofs.Inside.{count_open}
+use Rattle.oc_timely.proofs.Members.{of_left, of_right, in_append}
+use Rattle.oc_timely.proofs.Lies.{up_kind, up_stmts}
 use Rattle.oc_timely.proofs.Quiet.{IsReturn, Deep, Quiet, quiet_used, quiet_done, kind_quiet}
-use Rattle.oc_timely.proofs.RegionOpen.{none_begins, none_ends, open_at, beside}
+use Rattle.oc_timely.proofs.RegionOpen.{none_begins, none_ends, open_at}
 use Rattle.oc_timely.proofs.Tagged.{IsOne, AreNumbered, Since, SinceOut, since_like, since_told, since_opened, since_closed, since_used, since_done, since_entered, times_entered}
 use Rattle.oc_timely.proofs.Weak.{AreWeak, same_front, weak_clean, weak_join}
 
@@ -163,7 +164,7 @@ module _ (m : TMarked) (guarded : ℕ → Bool) (ranked : Ranked m.program) (che
 
     -- the region begins at this statement or before, or behind it
     apart : q.block ≡ spot.block → (q.first ≤ id) ⊎ (mid ≤ q.first)
-    apart e = beside m guarded f all facts q one id s mid spot.block laid here q.first (first_there ∙ ap Some e)
+    apart e = beside m guarded f all facts spot.block id s mid laid here q.first (first_there ∙ ap Some e)
 
     kept_begin : Kept σ → Kept begin
     kept_begin h = k_used Kept stays (begins_use (is_fresh env) s) id (use_samples env s σ) marked (k_opened Kept stays (begun_by m.regions id) σ h)
@@ -298,7 +299,7 @@ module _ (m : TMarked) (guarded : ℕ → Bool) (ranked : Ranked m.program) (che
       let i = in_own spot id line s rest mid laid sub free env σ z o in
       let t = chain k p all facts.found q first_there covered id mid spot z i (lies_own k p all facts.found q first_there covered spot id line s mid laid z o) free (covered z i x e) in
       let h = here spot id line s rest mid laid sub free env σ in
-      by t.0 t.1 t.2 t.3 (beside m guarded f all facts q one id s mid spot.block laid h t.0 (t.1.there ∙ ap Some b))
+      by t.0 t.1 t.2 t.3 (beside m guarded f all facts spot.block id s mid laid h t.0 (t.1.there ∙ ap Some b))
     where
       by : (t : ℕ) → Direct p q t → id ≤ t → t < mid → (t ≤ id) ⊎ (mid ≤ t) → ⊥
       by t d l u (inr v) = omega (arith, u, v)

@@ -1,12 +1,12 @@
 -- What the rules leave of each statement of a function, with the scope that its variables tell: names that are declared are new, and
 -- calls break no rule.
-use Rattle.std.proofs.Common.{◌≡◌, ◌⊎◌, inl, inr, ℕ, true, false, List, [], ◌∷◌, ◌++◌, Some, None, refl, sym, ap, ◌∙◌, subst, append-nil}
+use Rattle.std.proofs.Common.{◌≡◌, inl, inr, ℕ, true, false, List, [], ◌∷◌, ◌++◌, Some, None, refl, sym, ap, ◌∙◌, subst, append-nil}
 use Rattle.std.proofs.lemmas.Bool.{and_parts}
 use Rattle.std.specs.Prelude.{slice_get, ◌&&◌}
 use Rattle.std.proofs.lemmas.Option.{none-some, same_Some}
 use Rattle.oc_tree.specs.Names.{Text}
 use Rattle.oc_tree.specs.Tree.{TCall, call, TRight, right_value, right_sense, right_call, TKind, let_to, let_array, assign, assign_index, assign_deref, if_else, for_in, while_do}
-use Rattle.oc_tree.specs.Tree.{call_only, sense_only, emit, fresh, consistent, return, TElse, no_else, else_do, stmt, TBlock, block, TStmts, no_stmts, more, TFunction, TProgram}
+use Rattle.oc_tree.specs.Tree.{call_only, TElse, no_else, else_do, stmt, TBlock, block, TStmts, no_stmts, more, TFunction, TProgram}
 use Rattle.oc_tree.specs.Calls.{expr_calls, args_calls, call_calls, right_calls}
 use Rattle.oc_tree.specs.Checked.{Group, IsChecked}
 use Rattle.oc_tree.specs.declared.tree.VarId.TheVariants as variables
@@ -23,8 +23,7 @@ use Rattle.oc_checked.proofs.BodiesPass.{AllFine, fine_front, fine_back, functio
 use Rattle.oc_copies.specs.Stands.{IsRuledCall}
 use Rattle.oc_copies.proofs.StandsOn.{not_in_scope, ruled_call}
 use Rattle.oc_timely.specs.Scopes.{declared_var, var_declared, scope_of}
-use Rattle.oc_timely.proofs.Lies.{in_append}
-use Rattle.oc_timely.proofs.Inside.{of_left, of_right}
+use Rattle.oc_timely.proofs.Members.{of_left, of_right, in_append, by_side}
 use Rattle.oc_timely.proofs.SeesOn.{declared_name}
 use Rattle.oc_timely.proofs.NoCalls.{params_of}
 use Rattle.oc_timely.proofs.Scopes.{none_back, scope_more, scope_start}
@@ -34,10 +33,6 @@ pub record IsPassed (p : TProgram) (f : ℕ) (q : Placed) : Type 0 where
   pub here : Here
   pub scope : here.scope ≡ scope_of p f q.at.variables
   pub unbroken : Unbroken p here q.kind
-
-either : {A B C : Type 0} → A ⊎ B → (A → C) → (B → C) → C
-either (inl x) f g = f x
-either (inr y) f g = g y
 
 module _ (p : TProgram) (f : ℕ) (body : List Placed) (found : (b : Placed) → IsOf b body → placed p b.id ≡ Some b) where
   -- the rules' place is the statement's
@@ -66,7 +61,7 @@ module _ (p : TProgram) (f : ℕ) (body : List Placed) (found : (b : Placed) →
     kind_passed : (h : Here) (at : Place) (id line : ℕ) (k : TKind) → Fits h at → placed p id ≡ Some (record { id = id; line = line; kind = k; at = at }) → AllFine p (kind_elements p h k) →
         InBody (kind_placed at id k) → (q : Placed) → IsOf q (kind_placed at id k) → IsPassed p f q
     kind_passed h at id line (if_else c a b) fits e fine sub q o =
-        either (in_append q (block_placed (in_branch at id) a) (else_placed (in_branch at id) b) o)
+        by_side (in_append q (block_placed (in_branch at id) a) (else_placed (in_branch at id) b) o)
         (block_passed (inside h) (in_branch at id) a fits (fine_front p (block_elements p (inside h) a) (else_elements p (inside h) b) fine)
         (λ z i. sub z (of_left z (block_placed (in_branch at id) a) (else_placed (in_branch at id) b) i)) q)
         (else_passed (inside h) (in_branch at id) b fits (fine_back p (block_elements p (inside h) a) (else_elements p (inside h) b) fine)
@@ -75,17 +70,7 @@ module _ (p : TProgram) (f : ℕ) (body : List Placed) (found : (b : Placed) →
         block_passed (in_turn h x) (in_loop at id ((x, variables.Declared id) ∷ [])) b (var_more h at id line (for_in x m n b) x fits e, fits.1) fine sub q o
     kind_passed h at id line (while_do c n b) fits e fine sub q o =
         block_passed (inside h) (in_loop at id []) b (fits.0 ∙ ap (scope_of p f) (sym (append-nil at.variables)), fits.1) fine sub q o
-    kind_passed h at id line (let_to m x t r) fits e fine sub q o = absurd o
-    kind_passed h at id line (let_array m x t z n) fits e fine sub q o = absurd o
-    kind_passed h at id line (assign x r) fits e fine sub q o = absurd o
-    kind_passed h at id line (assign_index x i r) fits e fine sub q o = absurd o
-    kind_passed h at id line (assign_deref x r) fits e fine sub q o = absurd o
-    kind_passed h at id line (call_only c) fits e fine sub q o = absurd o
-    kind_passed h at id line (sense_only s) fits e fine sub q o = absurd o
-    kind_passed h at id line (emit t x) fits e fine sub q o = absurd o
-    kind_passed h at id line (fresh x) fits e fine sub q o = absurd o
-    kind_passed h at id line (consistent x n) fits e fine sub q o = absurd o
-    kind_passed h at id line (return x) fits e fine sub q o = absurd o
+    kind_passed h at id line k fits e fine sub q o = absurd o
 
     else_passed : (h : Here) (at : Place) (b : TElse) → Fits h at → AllFine p (else_elements p h b) → InBody (else_placed at b) → (q : Placed) → IsOf q (else_placed at b) → IsPassed p f q
     else_passed h at no_else fits fine sub q o = absurd o
@@ -102,8 +87,8 @@ module _ (p : TProgram) (f : ℕ) (body : List Placed) (found : (b : Placed) →
         let rest = fine_back p (stmt_elements p here (stmt id line k)) (stmts_elements p (after_stmt p h (stmt id line k)) ss) fine in
         let e = found (record { id = id; line = line; kind = k; at = at }) (sub _ (inl refl)) in
         let one : IsPassed p f (record { id = id; line = line; kind = k; at = at }) = record { here = here; scope = fits.0; unbroken = unbroken p own.0.0 here k own.0.1 } in
-        either o (λ s. subst (IsPassed p f) (sym s) one)
-        (λ i. either (in_append q (kind_placed at id k) (stmts_placed (behind at id k) ss) i)
+        by_side o (λ s. subst (IsPassed p f) (sym s) one)
+        (λ i. by_side (in_append q (kind_placed at id k) (stmts_placed (behind at id k) ss) i)
         (kind_passed here at id line k fits e own.1 (λ z j. sub z (inr (of_left z (kind_placed at id k) (stmts_placed (behind at id k) ss) j))) q)
         (stmts_passed (after_stmt p h (stmt id line k)) (behind at id k) ss (fits_behind h at id line k fits e, fits.1) rest
         (λ z j. sub z (inr (of_right z (kind_placed at id k) (stmts_placed (behind at id k) ss) j))) q))
@@ -126,15 +111,7 @@ kind_ruled p h (assign_index x i r) u c is =
     right_ruled p h r (and_parts (expr_known p h.scope i) (right_known p h.scope r) known).1 (each_back (CallFine p h) (expr_calls i) (right_calls r) u.calls) c is
 kind_ruled p h (assign_deref x r) u c is = right_ruled p h r (and_parts (is_variable p h.scope x) (right_known p h.scope r) u.known).1 u.calls c is
 kind_ruled p h (call_only d) u c is = subst (IsRuledCall p h.scope) (same_Some d c is) (ruled_call p h d u.known (call_whole p h d u.calls))
-kind_ruled p h (let_array m x t z n) u c is = absurd (none-some c is)
-kind_ruled p h (if_else x a b) u c is = absurd (none-some c is)
-kind_ruled p h (for_in x m n b) u c is = absurd (none-some c is)
-kind_ruled p h (while_do x n b) u c is = absurd (none-some c is)
-kind_ruled p h (sense_only s) u c is = absurd (none-some c is)
-kind_ruled p h (emit q x) u c is = absurd (none-some c is)
-kind_ruled p h (fresh x) u c is = absurd (none-some c is)
-kind_ruled p h (consistent x n) u c is = absurd (none-some c is)
-kind_ruled p h (return x) u c is = absurd (none-some c is)
+kind_ruled p h k u c is = absurd (none-some c is)
 
 -- ---- new names
 
@@ -142,17 +119,7 @@ new_name : (p : TProgram) (s : Scope) (k : TKind) (x : Text) → takes_name p s 
 new_name p s (let_to m y t r) x h e = not_in_scope p s x (subst (λ z. is_taken p s z ≡ false) (same_Some y x e) h)
 new_name p s (let_array m y t z n) x h e = not_in_scope p s x (subst (λ z. is_taken p s z ≡ false) (same_Some y x e) h)
 new_name p s (for_in y m n b) x h e = not_in_scope p s x (subst (λ z. is_taken p s z ≡ false) (same_Some y x e) h)
-new_name p s (assign y r) x h e = absurd (none-some x e)
-new_name p s (assign_index y i r) x h e = absurd (none-some x e)
-new_name p s (assign_deref y r) x h e = absurd (none-some x e)
-new_name p s (if_else y a b) x h e = absurd (none-some x e)
-new_name p s (while_do y n b) x h e = absurd (none-some x e)
-new_name p s (call_only d) x h e = absurd (none-some x e)
-new_name p s (sense_only q) x h e = absurd (none-some x e)
-new_name p s (emit q y) x h e = absurd (none-some x e)
-new_name p s (fresh y) x h e = absurd (none-some x e)
-new_name p s (consistent y n) x h e = absurd (none-some x e)
-new_name p s (return y) x h e = absurd (none-some x e)
+new_name p s k x h e = absurd (none-some x e)
 
 -- ---- a function of a checked program
 

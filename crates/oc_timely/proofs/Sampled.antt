@@ -12,6 +12,7 @@ use Rattle.oc_meaning.specs.Eval.{Got, Val, Traps, is_zero, apply, given, and_go
 use Rattle.oc_tree.specs.Parts.{expr_parts}
 use Rattle.oc_tree.specs.Named.{part_names, expr_names}
 use Rattle.oc_tree.specs.Members.{IsOf}
+use Rattle.oc_timely.proofs.Members.{of_left, of_right}
 
 in_with : (j n : ℕ) (ms : List ℕ) → IsOf j (with_sample n ms) → (j ≡ n) ⊎ IsOf j ms
 in_with j n [] h = h
@@ -30,15 +31,6 @@ in_union j (n ∷ a) b h = elim (in_with j n (union a b) h) [
   | inr k ↦ elim (in_union j a b k) [ inl l ↦ inl (inr l) | inr l ↦ inr l ]
 ]
 
-pub of_front : (x : Text) (xs ys : List Text) → IsOf x xs → IsOf x (xs ++ ys)
-of_front x [] ys h = absurd h
-of_front x (y ∷ xs) ys (inl e) = inl e
-of_front x (y ∷ xs) ys (inr h) = inr (of_front x xs ys h)
-
-pub of_back : (x : Text) (xs ys : List Text) → IsOf x ys → IsOf x (xs ++ ys)
-of_back x [] ys h = h
-of_back x (y ∷ xs) ys h = inr (of_back x xs ys h)
-
 abbrev pub got_samples : Got → List ℕ
 got_samples (Val v) = v.samples
 got_samples (Traps k) = []
@@ -49,10 +41,10 @@ module _ (env : List Binding) (σ : Store) (j : ℕ) where
   From xs = (x : Text) × IsOf x xs × IsOf j (held_at σ (place_of env x)).samples
 
   from_front : (xs ys : List Text) → From xs → From (xs ++ ys)
-  from_front xs ys f = (f.0, of_front f.0 xs ys f.1, f.2)
+  from_front xs ys f = (f.0, of_left f.0 xs ys f.1, f.2)
 
   from_back : (xs ys : List Text) → From ys → From (xs ++ ys)
-  from_back xs ys f = (f.0, of_back f.0 xs ys f.1, f.2)
+  from_back xs ys f = (f.0, of_right f.0 xs ys f.1, f.2)
 
   given_samples : (o : Option ℤ) (s : List ℕ) → IsOf j (got_samples (given o s)) → IsOf j s
   given_samples None s h = absurd h

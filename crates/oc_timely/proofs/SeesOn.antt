@@ -20,8 +20,8 @@ use Rattle.oc_copies.specs.Stands.{Stands, IsRuledCall}
 use Rattle.oc_timely.specs.Within.{Where, place_in}
 use Rattle.oc_timely.specs.Scopes.{scope_of}
 use Rattle.oc_timely.specs.Modes.{Sees, with_place}
-use Rattle.oc_timely.proofs.Inside.{same_is, of_right}
-use Rattle.oc_timely.proofs.Sources.{same_self}
+use Rattle.oc_timely.proofs.Members.{of_right}
+use Rattle.oc_flow.proofs.Lists.{same_is, same_itself}
 
 -- ---- names in lists of variables
 
@@ -96,7 +96,7 @@ module _ (p : TProgram) (f base id : ℕ) (spot next : Spot) (env : List Binding
       by (Some u) e = find_found spot.variables ((b.name, variables.Declared id) ∷ []) y u e
 
   there : b.place ≡ at_new (same_variable (variables.Declared id) (variables.Declared id)) (variables.Declared id)
-  there = ap (λ c. at_new c (variables.Declared id)) (sym (same_self (variables.Declared id)))
+  there = ap (λ c. at_new c (variables.Declared id)) (sym (same_itself (variables.Declared id)))
 
   -- what was found is where it was
   was_there : (y : Text) (o : Option VarId) → find_variable spot.variables y ≡ o → place_in w (or_nonvolatile p y o) ≡ place_in (with_place w id b.place) (or_nonvolatile p y o)

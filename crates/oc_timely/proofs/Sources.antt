@@ -5,27 +5,14 @@ use Rattle.oc_tree.specs.Names.{Text}
 use Rattle.oc_tree.specs.Tree.{TProgram}
 use Rattle.oc_tree.specs.Places.{Placed}
 use Rattle.oc_tree.specs.declared.tree.VarId.{VarId}
-use Rattle.oc_tree.specs.declared.tree.VarId.TheVariants.{Nv, Param, Declared, Returned}
 use Rattle.oc_meaning.specs.Store.{Store, Binding, held_at, place_of}
 use Rattle.oc_effects.specs.Effects.{TEffect, variable_at, variables_at, source_names, effect_of, effects_at}
 use Rattle.oc_flow.specs.Variables.{same_variable, is_among, is_variable}
 use Rattle.oc_tree.specs.Members.{IsOf}
 use Rattle.oc_flow.specs.Relations.{itself, by_value}
 use Rattle.oc_timely.specs.Within.{Where, place_in, samples_of, Owns, Comes, old}
-
-pub same_self : (v : VarId) → same_variable v v ≡ true
-same_self (Nv i) = grind arith
-same_self (Param i) = grind arith
-same_self (Declared s) = grind arith
-same_self Returned = refl
-
-pub any_first : (b c : Bool) → b ≡ true → b || c ≡ true
-any_first true c e = refl
-any_first false c e = absurd (grind (arith, e))
-
-pub any_second : (b c : Bool) → c ≡ true → b || c ≡ true
-any_second true c e = refl
-any_second false c e = e
+use Rattle.oc_flow.proofs.Lists.{same_itself}
+use Rattle.oc_tree.proofs.ReachLaws.{or_left, or_right}
 
 pub among_front : (u : VarId) (xs ys : List VarId) → is_among u xs ≡ true → is_among u (xs ++ ys) ≡ true
 among_front u [] ys e = absurd (grind (arith, e))
@@ -37,7 +24,7 @@ among_front u (x ∷ xs) ys e = by (same_variable u x) e (among_front u xs ys)
 
 pub among_back : (u : VarId) (xs ys : List VarId) → is_among u ys ≡ true → is_among u (xs ++ ys) ≡ true
 among_back u [] ys e = e
-among_back u (x ∷ xs) ys e = any_second (same_variable u x) (is_among u (xs ++ ys)) (among_back u xs ys e)
+among_back u (x ∷ xs) ys e = or_right (same_variable u x) (is_among u (xs ++ ys)) (among_back u xs ys e)
 
 module _ (p : TProgram) (b : Placed) where
   -- what a name stands for is among what the names stand for
@@ -45,7 +32,7 @@ module _ (p : TProgram) (b : Placed) where
   named_among x u [] h e = absurd h
   named_among x u (y ∷ xs) (inl s) e =
       let same : variable_at p b y ≡ Some u = ap (variable_at p b) (sym s) ∙ e in
-      subst (λ o. is_among u (option_to_list o ++ variables_at p b xs) ≡ true) (sym same) (any_first (same_variable u u) (is_among u (variables_at p b xs)) (same_self u))
+      subst (λ o. is_among u (option_to_list o ++ variables_at p b xs) ≡ true) (sym same) (or_left (same_variable u u) (is_among u (variables_at p b xs)) (same_itself u))
   named_among x u (y ∷ xs) (inr h) e = among_back u (option_to_list (variable_at p b y)) (variables_at p b xs) (named_among x u xs h e)
 
 module _ (p : TProgram) (f base : ℕ) (P : TEffect → Type 0) (b : Placed) (env : List Binding) (w : Where) (σ : Store) (owns : Owns p f base b.at env w σ)

@@ -13,7 +13,7 @@ use Rattle.oc_effects.specs.Effects.{effect_of, effects_at}
 use Rattle.oc_tree.specs.Members.{IsOf}
 use Rattle.oc_needs.proofs.Tests.{any_of}
 use Rattle.oc_desugar.proofs.NumberLists.{Follow}
-use Rattle.oc_timely.proofs.Inside.{of_left, of_right}
+use Rattle.oc_timely.proofs.Members.{of_left, of_right}
 use Rattle.oc_timely.proofs.Callees.{effects_here}
 
 -- ---- found

@@ -21,18 +21,18 @@ use Rattle.oc_tree.specs.Members.{IsOf}
 use Rattle.oc_flow.specs.Relations.{itself, by_input}
 use Rattle.oc_copies.specs.Copies.{HasStored}
 use Rattle.oc_timely.specs.Within.{Where, place_in, samples_of, Comes, new, Came}
-use Rattle.oc_timely.specs.Enough.{since}
 use Rattle.oc_timely.specs.Steps.{AreTaken}
 use Rattle.oc_timely.specs.Modes.{Sees, IsSteady, with_place, where_behind}
 use Rattle.oc_copies.specs.Stands.{makes}
 use Rattle.oc_copies.proofs.Cells.{put_locals}
-use Rattle.oc_timely.proofs.Sampled.{in_union, got_samples, of_front, of_back, value_from}
+use Rattle.oc_timely.proofs.Sampled.{in_union, got_samples, value_from}
 use Rattle.oc_timely.proofs.Came.{comes_back, stays}
 use Rattle.oc_timely.proofs.Sources.{source_comes}
 use Rattle.oc_timely.proofs.Marks.{like_samples, IsQuiet, quiet_taken, sees_length}
 use Rattle.oc_timely.proofs.Straight.{IsStraight}
 use Rattle.oc_timely.proofs.Writes.{steady_put, steady_made, put_later, made_later}
 use Rattle.oc_timely.proofs.SeesOn.{AreNamed}
+use Rattle.oc_timely.proofs.Members.{of_left, of_right}
 
 -- ---- outcomes
 
@@ -40,7 +40,7 @@ pub by_value_run : (g : Got) (n : ℕ) (σ : Store) (go : Value → Outcome) (υ
 by_value_run (Val v) n σ go υ A e k = k v refl e
 by_value_run (Traps t) n σ go υ A e k = absurd (cc)
 
-same_store : (σ τ : Store) → Went σ ≡ Went τ → σ ≡ τ
+pub same_store : (σ τ : Store) → Went σ ≡ Went τ → σ ≡ τ
 same_store σ τ e = cc
 
 steady_self : (σ : Store) → AreTaken σ → IsSteady σ σ
@@ -253,10 +253,10 @@ module _ (p : TProgram) (regions : List TRegion) (call : Text → List Passed �
     straight_leaves (assign_index x i0 r) s one env w first σ υ same sees taken stored e =
         by_result (this (assign_index x i0 r)) w σ (right_run p.names regions call home env id σ r)
         (λ v τ. with_value (value_of env τ i0) id τ (λ i. element_written (place_of env x) (element_of (length (held_at τ (place_of env x)).words) i.num) i v id τ)) υ _
-        (right_left names calls (this (assign_index x i0 r)) one env w σ sees taken stored r refl (λ x i. of_back x (expr_names i0) (value_names r) i) (λ c q. ap right_call_of q)) e
+        (right_left names calls (this (assign_index x i0 r)) one env w σ sees taken stored r refl (λ x i. of_right x (expr_names i0) (value_names r) i) (λ c q. ap right_call_of q)) e
         (λ v τ g h. by_value_run (value_of env τ i0) id τ (λ i. element_written (place_of env x) (element_of (length (held_at τ (place_of env x)).words) i.num) i v id τ) υ _ h
         (λ i is h'. element_left names calls (this (assign_index x i0 r)) one env w σ sees taken stored x i0 (element_of (length (held_at τ (place_of env x)).words) i.num) i v τ υ
-        g is refl (λ y n. of_front y (expr_names i0) (value_names r) n) h'))
+        g is refl (λ y n. of_left y (expr_names i0) (value_names r) n) h'))
     straight_leaves (call_only c) s one env w first σ υ same sees taken stored e =
         by_result (this (call_only c)) w σ (call_run p.names regions call home env id σ c) (λ v τ. Went τ) υ _ (calls (this (call_only c)) one c refl env w σ sees taken stored) e
         (λ v τ g h. to_store names calls (this (call_only c)) one env w σ sees taken stored w 0 τ υ h (right_only names calls (this (call_only c)) one env w σ sees taken stored τ v g))

@@ -1,5 +1,5 @@
 -- A walk over a function's statements that keeps what is known of the tags of one set, with the names as they stand, what was taken, and where samples come from.
-use Rattle.std.proofs.Common.{◌≡◌, ◌⊎◌, inl, inr, ℕ, zero, suc, ◌+◌, ◌<◌, ◌≤◌, Bool, true, false, List, [], ◌∷◌, length, Option, Some, None, refl, sym, ap, ◌∙◌, subst, arith}
+use Rattle.std.proofs.Common.{◌≡◌, ◌⊎◌, inl, inr, ℕ, zero, suc, ◌+◌, ◌<◌, ◌≤◌, Bool, true, List, [], ◌∷◌, length, Option, Some, None, refl, sym, ap, ◌∙◌, subst, arith}
 use Rattle.std.proofs.Common.{append-nil, true≢false}
 use Rattle.std.specs.Prelude.{ℤ, pos, ◌+ℤ◌, ◌-ℤ◌}
 use Rattle.oc_tree.specs.Names.{Text}
@@ -27,7 +27,8 @@ use Rattle.oc_timely.specs.Modes.{Sees, Flows, Goes, In, Among, own_placed, IsSt
 use Rattle.oc_timely.proofs.Came.{flow_on}
 use Rattle.oc_timely.proofs.Marks.{like_samples, sees_length, like_sees, sees_later, like_stored, IsQuiet, quiet_used, quiet_done, quiet_taken, sees_spot, quiet_entered}
 use Rattle.oc_timely.proofs.Marks.{like_opened, like_closed, begun_is, ended_is}
-use Rattle.oc_timely.proofs.Inside.{turn_samples, samples_turn, of_left, of_right, count_open}
+use Rattle.oc_timely.proofs.Inside.{turn_samples, samples_turn, count_open}
+use Rattle.oc_timely.proofs.Members.{of_left, of_right}
 use Rattle.oc_timely.proofs.Closed.{IsClosed, KOut, k_opened, k_closed, k_used, k_done, k_put, k_then, k_finished, k_leave, k_result, k_value, k_if, k_sense, k_element}
 
 -- ---- marks counted

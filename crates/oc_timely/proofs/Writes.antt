@@ -14,7 +14,7 @@ use Rattle.oc_timely.specs.Steps.{AreTaken}
 use Rattle.oc_timely.specs.Modes.{with_place, IsSteady}
 use Rattle.oc_copies.proofs.Cells.{IsCell, there, held_put, held_put_other, put_nv, at_put_other, at_past}
 use Rattle.oc_timely.proofs.Came.{same_cell, only_one}
-use Rattle.oc_timely.proofs.Inside.{same_is}
+use Rattle.oc_flow.proofs.Lists.{same_is}
 
 either : (j : ℕ) (b : Bool) (x y : Held) → IsOf j (if b then x else y).samples → IsOf j x.samples ⊎ IsOf j y.samples
 either j true x y h = inl h

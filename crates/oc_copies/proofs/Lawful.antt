@@ -168,7 +168,6 @@ module _ (p : TProgram) (hidden : Text → Bool) (nv : ForHidden hidden (λ y. i
   -- what a statement names
   kind_shown : (k : TKind) → ForHidden hidden (λ y. kind_mentions y k ≡ 0) → Shown hidden (kind_named k)
   kind_shown (let_to m x t r) free = right_shown r free
-  kind_shown (let_array m x t z n) free = tt
   kind_shown (assign x r) free = right_shown r free
   kind_shown (assign_index x e r) free =
       shown_join hidden (expr_named e) (right_named r)
@@ -176,14 +175,11 @@ module _ (p : TProgram) (hidden : Text → Bool) (nv : ForHidden hidden (λ y. i
       (right_shown r (λ y k. let s : expr_mentions y e + right_mentions y r ≡ 0 = free y k in omega (arith, s)))
   kind_shown (assign_deref x r) free = right_shown r free
   kind_shown (if_else c a b) free = shown_expr hidden c free
-  kind_shown (for_in x m n b) free = tt
   kind_shown (while_do c n b) free = shown_expr hidden c free
   kind_shown (call_only c) free = shown_call hidden c free
-  kind_shown (sense_only q) free = tt
   kind_shown (emit q e) free = shown_expr hidden e free
-  kind_shown (fresh x) free = tt
-  kind_shown (consistent x n) free = tt
   kind_shown (return e) free = shown_expr hidden e free
+  kind_shown k free = tt
 
   own_shown : (k : TKind) → ForHidden hidden (λ y. kind_mentions y k ≡ 0) → Shown hidden (said_names k)
   own_shown k free = subst (λ xs. Shown hidden xs) (sym (names_of_own k)) (kind_shown k free)
@@ -213,35 +209,14 @@ module _ (p : TProgram) (hidden : Text → Bool) (nv : ForHidden hidden (λ y. i
   hides_none : (h : Here) (k : TKind) → takes_name p h.scope k ≡ false → ForHidden hidden (λ y. kind_hides (Some y) k ≡ false)
   hides_none h (let_to m x t r) taken y e = new_name h.scope x taken y e
   hides_none h (let_array m x t z n) taken y e = new_name h.scope x taken y e
-  hides_none h (assign x r) taken y e = refl
-  hides_none h (assign_index x i r) taken y e = refl
-  hides_none h (assign_deref x r) taken y e = refl
-  hides_none h (if_else c a b) taken y e = refl
-  hides_none h (for_in x m n b) taken y e = refl
-  hides_none h (while_do c n b) taken y e = refl
-  hides_none h (call_only c) taken y e = refl
-  hides_none h (sense_only q) taken y e = refl
   hides_none h (emit q e) taken y k = refl
-  hides_none h (fresh x) taken y e = refl
-  hides_none h (consistent x n) taken y e = refl
   hides_none h (return e) taken y k = refl
+  hides_none h k taken y e = refl
 
   -- a statement is the first of its list
   head_free : (k : TKind) → AllFree (λ y. kind_kinds (Some y) k) → ForHidden hidden (λ y. Free y k)
   head_free (let_to m x t r) h y e = (h y e).0
-  head_free (let_array m x t z n) h y e = (h y e).0
-  head_free (assign x r) h y e = (h y e).0
-  head_free (assign_index x i r) h y e = (h y e).0
-  head_free (assign_deref x r) h y e = (h y e).0
-  head_free (if_else c a b) h y e = (h y e).0
-  head_free (for_in x m n b) h y e = (h y e).0
-  head_free (while_do c n b) h y e = (h y e).0
-  head_free (call_only c) h y e = (h y e).0
-  head_free (sense_only q) h y e = (h y e).0
-  head_free (emit q a) h y e = (h y e).0
-  head_free (fresh x) h y e = (h y e).0
-  head_free (consistent x n) h y e = (h y e).0
-  head_free (return a) h y e = (h y e).0
+  head_free k h y e = (h y e).0
 
   mutual
     kind_lawful : (h : Here) (fs : Flags) (k : TKind) → AllFlags h.scope fs → Unbroken p h k → AllFine p (kind_elements p h k) → AllFree (λ y. kind_kinds (Some y) k) →

@@ -124,16 +124,9 @@ module _ (p : TProgram) (scope : Scope) (fs : Flags) (flags : AllFlags scope fs)
 
   careful_arg : (q : Param) (a : TArg) (x : Text) → arg_meets p scope q a ≡ true → arg_lends p scope a ≡ true → handed a ≡ Some x → flag_of fs x ≡ true → is_shared q.passing ≡ true
   careful_arg q (value (variable z)) x m l e k = value_careful q.passing q.kind z m (ap (flag_of fs) (same_Some z x e) ∙ k)
-  careful_arg q (value (number z)) x m l e k = absurd (none-some x e)
-  careful_arg q (value (truth b)) x m l e k = absurd (none-some x e)
-  careful_arg q (value (index z i)) x m l e k = absurd (none-some x e)
-  careful_arg q (value (deref z)) x m l e k = absurd (none-some x e)
-  careful_arg q (value (unary op i)) x m l e k = absurd (none-some x e)
-  careful_arg q (value (binary op i j)) x m l e k = absurd (none-some x e)
-  careful_arg q (value (sensed s)) x m l e k = absurd (none-some x e)
-  careful_arg q (value (called c)) x m l e k = absurd (none-some x e)
   careful_arg q (shared z) x m l e k = shared_careful q.passing q.kind (variable_of p scope z) m
   careful_arg q (mutable z) x m l e k = absurd (true≢false (sym k ∙ sym (ap (flag_of fs) (same_Some z x e)) ∙ unflagged is_writable refl z l))
+  careful_arg q (value expr) x m l e k = absurd (none-some x e)
 
   pub all_lawful : (hidden : Text → Bool) (qs : List Param) (args : TArgs) → length qs ≡ length (args_list args) → args_meet p scope qs args ≡ true →
       list_all (arg_lends p scope) (args_list args) ≡ true → ForHidden hidden (λ y. args_mentions y args ≡ 0) → AreLawful hidden fs qs args

@@ -35,15 +35,8 @@ use Rattle.oc_copies.proofs.Lawful.{found_named}
 -- ---- tests that agree on each name agree on what is lent
 
 lone_same : (s t : Text → Bool) → ((x : Text) → s x ≡ t x) → (e : TExpr) → lone_is s e ≡ lone_is t e
-lone_same s t same (number z) = refl
-lone_same s t same (truth b) = refl
 lone_same s t same (variable x) = same x
-lone_same s t same (index x e) = refl
-lone_same s t same (deref x) = refl
-lone_same s t same (unary op e) = refl
-lone_same s t same (binary op a b) = refl
-lone_same s t same (sensed x) = refl
-lone_same s t same (called c) = refl
+lone_same s t same x = refl
 
 lent_same : (s t : Text → Bool) → ((x : Text) → s x ≡ t x) → (q : Param) (a : TArg) → lent_is s q a ≡ lent_is t q a
 lent_same s t same q (value e) = by q.passing
@@ -90,16 +83,9 @@ nv_is_nv (Some d) h = refl
 
 handed_mention : (a : TArg) (x : Text) → handed a ≡ Some x → 1 ≤ arg_mentions x a
 handed_mention (value (variable z)) x e = subst (λ b. 1 ≤ once b) (sym ((bytes_eq-Decides x z).1 (sym (same_Some z x e)))) (omega arith)
-handed_mention (value (number z)) x e = absurd (none-some x e)
-handed_mention (value (truth b)) x e = absurd (none-some x e)
-handed_mention (value (index z i)) x e = absurd (none-some x e)
-handed_mention (value (deref z)) x e = absurd (none-some x e)
-handed_mention (value (unary op i)) x e = absurd (none-some x e)
-handed_mention (value (binary op i j)) x e = absurd (none-some x e)
-handed_mention (value (sensed s)) x e = absurd (none-some x e)
-handed_mention (value (called c)) x e = absurd (none-some x e)
 handed_mention (shared z) x e = subst (λ b. 1 ≤ once b) (sym ((bytes_eq-Decides x z).1 (sym (same_Some z x e)))) (omega arith)
 handed_mention (mutable z) x e = subst (λ b. 1 ≤ once b) (sym ((bytes_eq-Decides x z).1 (sym (same_Some z x e)))) (omega arith)
+handed_mention (value expr) x e = absurd (none-some x e)
 
 abbrev nth_arg : TArgs → ℕ → Option TArg
 nth_arg no_args i = None
@@ -147,14 +133,7 @@ module _ (p : TProgram) (scope : Scope) (env : List Binding) (σ : Store) (s : S
           (y : Text) × (variable x ≡ variable y) × ((binding_of env y).reference ≡ true) × (q ≡ place_of env y)
       by true e k = (x, refl, e, sym (same_Some _ _ k))
       by false e k = absurd (none-some q k)
-  on_name (number z) q h = absurd (none-some q h)
-  on_name (truth b) q h = absurd (none-some q h)
-  on_name (index x e) q h = absurd (none-some q h)
-  on_name (deref x) q h = absurd (none-some q h)
-  on_name (unary op e) q h = absurd (none-some q h)
-  on_name (binary op a b) q h = absurd (none-some q h)
-  on_name (sensed t) q h = absurd (none-some q h)
-  on_name (called c) q h = absurd (none-some q h)
+  on_name x q h = absurd (none-some q h)
 
   value_given : (e : TExpr) (rest : TArgs) (r : Given) → ((qs : List Passed) → r ≡ Passes qs → AreGivenBy rest qs) → (ps : List Passed) (o : Option Place) (g : Got) → passed_on env e ≡ o →
       value_first o g r ≡ Passes ps → AreGivenBy (more_args (value e) rest) ps
@@ -190,14 +169,7 @@ module _ (p : TProgram) (scope : Scope) (env : List Binding) (σ : Store) (s : S
       by : (b : Bool) → (binding_of env x).reference ≡ b → (if b then Some (place_of env x) else None) ≡ None → only_reference (variable_of p scope x) ≡ None
       by true e k = absurd (none-some _ (sym k))
       by false e k = only_none (variable_of p scope x) (sym (s.reference x) ∙ e)
-  not_passed (number z) h = refl
-  not_passed (truth b) h = refl
-  not_passed (index x e) h = refl
-  not_passed (deref x) h = refl
-  not_passed (unary op e) h = refl
-  not_passed (binary op a b) h = refl
-  not_passed (sensed t) h = refl
-  not_passed (called c) h = refl
+  not_passed x h = refl
 
   copied_form : (w : Passing) (kind : ValueKind) (e : TExpr) → value_meets p scope w kind e ≡ true → passed_on env e ≡ None → is_by_reference w ≡ false
   copied_form passings.Value kind e m h = refl

@@ -161,8 +161,6 @@ module _ (hidden : Text → Bool) (r : Renaming) (is : IsRenaming r) (start othe
     held_twin x h = m.holds (place_of env x) (sees.named x h).live ∙ ap (held_at τ) (sym (sees.named x h).place)
 
     value_twin : (e : TExpr) → Shown hidden (expr_named e) → value_of env σ e ≡ value_of env' τ e
-    value_twin (number z) h = refl
-    value_twin (truth b) h = refl
     value_twin (variable x) h = ap (λ v. Val (value_in v)) (held_twin x h.0)
     value_twin (deref x) h = ap (λ v. Val (value_in v)) (held_twin x h.0)
     value_twin (index x e) h =
@@ -172,8 +170,7 @@ module _ (hidden : Text → Bool) (r : Renaming) (is : IsRenaming r) (start othe
     value_twin (binary op a b) h =
         ap (λ g. combined op g (value_of env σ b)) (value_twin a (shown_front hidden (expr_named a) (expr_named b) h))
         ∙ ap (combined op (value_of env' τ a)) (value_twin b (shown_back hidden (expr_named a) (expr_named b) h))
-    value_twin (sensed s) h = refl
-    value_twin (called c) h = refl
+    value_twin x h = refl
 
     fresh_twin : (xs : List Text) → Shown hidden xs → samples_of_fresh env σ xs ≡ samples_of_fresh env' τ xs
     fresh_twin [] h = refl

@@ -129,15 +129,8 @@ module _ (p : TProgram) (scope : Scope) (γ : List Named) (all : AllFound p scop
 
   -- an expression with a type passes no reference on
   none_passed : (e : TExpr) → is_some (type_of p scope e) ≡ true → passed_slot γ e ≡ None
-  none_passed (number z) h = refl
-  none_passed (truth b) h = refl
   none_passed (variable x) h = own_value x h
-  none_passed (index x e) h = refl
-  none_passed (deref x) h = refl
-  none_passed (unary op e) h = refl
-  none_passed (binary op a b) h = refl
-  none_passed (sensed s) h = refl
-  none_passed (called c) h = refl
+  none_passed x h = refl
 
   -- a reference that is passed on
   lent_on : (kind : ValueKind) (x : Text) (o : Option Var) → 1 ≤ kind_words kind → only_reference (variable_of p scope x) ≡ o → has_kind kind o ≡ true → NamesLent γ (variable x) (kind_words kind)
@@ -157,26 +150,12 @@ module _ (p : TProgram) (scope : Scope) (γ : List Named) (all : AllFound p scop
   -- an expression for a parameter by reference is such a name
   passed_shared : (kind : ValueKind) (e : TExpr) → 1 ≤ kind_words kind → has_kind kind (passed_on p scope e) ≡ true → NamesLent γ e (kind_words kind)
   passed_shared kind (variable x) l h = lent_on kind x (only_reference (variable_of p scope x)) l refl h
-  passed_shared kind (number z) l h = absurd (true≢false (sym h))
-  passed_shared kind (truth b) l h = absurd (true≢false (sym h))
-  passed_shared kind (index x e) l h = absurd (true≢false (sym h))
-  passed_shared kind (deref x) l h = absurd (true≢false (sym h))
-  passed_shared kind (unary op e) l h = absurd (true≢false (sym h))
-  passed_shared kind (binary op a b) l h = absurd (true≢false (sym h))
-  passed_shared kind (sensed s) l h = absurd (true≢false (sym h))
-  passed_shared kind (called c) l h = absurd (true≢false (sym h))
+  passed_shared kind x l h = absurd (true≢false (sym h))
 
   -- one for a parameter by `&mut` is writable
   passed_writable : (e : TExpr) → origin_is is_mutable_param (passed_on p scope e) ≡ true → NamesWritable γ e
   passed_writable (variable x) h = writes_on x (only_reference (variable_of p scope x)) refl h
-  passed_writable (number z) h = absurd (true≢false (sym h))
-  passed_writable (truth b) h = absurd (true≢false (sym h))
-  passed_writable (index x e) h = absurd (true≢false (sym h))
-  passed_writable (deref x) h = absurd (true≢false (sym h))
-  passed_writable (unary op e) h = absurd (true≢false (sym h))
-  passed_writable (binary op a b) h = absurd (true≢false (sym h))
-  passed_writable (sensed s) h = absurd (true≢false (sym h))
-  passed_writable (called c) h = absurd (true≢false (sym h))
+  passed_writable x h = absurd (true≢false (sym h))
 
   -- an argument that is an expression has its parameter's form
   value_passed : (passing : Passing) (kind : ValueKind) (e : TExpr) → 1 ≤ kind_words kind → value_meets p scope passing kind e ≡ true → IsPassed γ passing (kind_words kind) (value e)

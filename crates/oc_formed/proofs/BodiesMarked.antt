@@ -46,17 +46,7 @@ mutual
   kind_unmarked (if_else c a b) = (block_unmarked a, else_unmarked b)
   kind_unmarked (for_in x m n b) = block_unmarked b
   kind_unmarked (while_do c n b) = block_unmarked b
-  kind_unmarked (let_to m x t r) = tt
-  kind_unmarked (let_array m x t z n) = tt
-  kind_unmarked (assign x r) = tt
-  kind_unmarked (assign_index x e r) = tt
-  kind_unmarked (assign_deref x r) = tt
-  kind_unmarked (call_only c) = tt
-  kind_unmarked (sense_only x) = tt
-  kind_unmarked (emit q e) = tt
-  kind_unmarked (fresh x) = tt
-  kind_unmarked (consistent x n) = tt
-  kind_unmarked (return e) = tt
+  kind_unmarked k = tt
 
   -- what stands behind `else`
   else_unmarked : (b : TElse) → ElseMarked [] b

@@ -55,8 +55,6 @@ module _ (n : ℕ) where
 
   -- an expression
   pub expr_short : (γ : List Named) (p : ℕ) (e : TExpr) → length (expr_code n γ p e) ≤ 4 * expr_nodes e
-  expr_short γ p (number z) = omega arith
-  expr_short γ p (truth b) = omega arith
   expr_short γ p (variable x) = omega (arith, read_short (slot_of γ x))
   expr_short γ p (deref x) = omega (arith, read_short (slot_of γ x))
   expr_short γ p (index x e) =
@@ -64,8 +62,7 @@ module _ (n : ℕ) where
       omega (arith, length-append (base_code n (slot_of γ x)) (expr_code n γ (p + 1) e ++ last), length-append (expr_code n γ (p + 1) e) last, base_short (slot_of γ x), expr_short γ (p + 1) e)
   expr_short γ p (unary op e) = omega (arith, length-append (expr_code n γ p e) (one n (Un op)), expr_short γ p e)
   expr_short γ p (binary op a b) = binary_short p op (expr_code n γ p a) (λ q. expr_code n γ q b) (expr_nodes a) (expr_nodes b) (expr_short γ p a) (λ q. expr_short γ q b)
-  expr_short γ p (sensed s) = omega arith
-  expr_short γ p (called c) = omega arith
+  expr_short γ p x = omega arith
 
   -- an argument that is an expression
   value_short : (o : Option ℕ) (c : List Placed) (m : ℕ) → length c ≤ m → length (value_code n o c) ≤ m + 1

@@ -55,20 +55,8 @@ module _ (n : ℕ) where
 
   -- the mark behind a statement
   last_short : (o : Option ℕ) (k : TKind) → length (last_code n o k) ≤ 1
-  last_short o (let_to m x t r) = commit_short o
-  last_short o (let_array m x t z c) = commit_short o
-  last_short o (assign x r) = commit_short o
-  last_short o (assign_index x i r) = commit_short o
-  last_short o (assign_deref x r) = commit_short o
-  last_short o (if_else c a b) = commit_short o
-  last_short o (for_in x c d b) = commit_short o
-  last_short o (while_do c t b) = commit_short o
-  last_short o (call_only c) = commit_short o
-  last_short o (sense_only s) = commit_short o
-  last_short o (emit q e) = commit_short o
-  last_short o (fresh x) = commit_short o
-  last_short o (consistent x z) = commit_short o
   last_short o (return e) = omega arith
+  last_short o k = commit_short o
 
   -- what stands before a statement's code
   before_short : (o : Option ℕ) (is : Bool) → length (before_code n o is) ≤ 2
@@ -166,7 +154,6 @@ module _ (names : NameLists) (fs : List TFunction) (regions : List TRegion) (k :
     -- a statement's own code
     kind_short : (γ : List Named) (n s p : ℕ) (d : TKind) → KindsCall FewArgs (kind_kinds None d) → length (kind_code names fs regions k γ n s p d) ≤ 4 * kind_nodes d + 16 + 20 * inner_size d
     kind_short γ n s p (let_to m x t r) few = omega (arith, length-append (right_code names fs regions k n γ p r) (one n (Store s)), right_short n γ p r few.0)
-    kind_short γ n s p (let_array m x t z c) few = omega arith
     kind_short γ n s p (assign x r) few = omega (arith, assign_short n γ p x r few.0)
     kind_short γ n s p (assign_index x e r) few = omega (arith, element_short n γ p x e r (each_back FewArgs (expr_calls e) (right_calls r) few.0))
     kind_short γ n s p (assign_deref x r) few = omega (arith, assign_short n γ p x r few.0)
@@ -196,11 +183,9 @@ module _ (names : NameLists) (fs : List TFunction) (regions : List TRegion) (k :
     kind_short γ n s p (call_only c) few =
         let cc = call_code names fs regions k n γ p c in
         omega (arith, length-append cc (if has_result fs c then one n Drop else []), drop_short n (has_result fs c), call_short n γ p c (last_call FewArgs c few.0))
-    kind_short γ n s p (sense_only x) few = omega arith
     kind_short γ n s p (emit q e) few = omega (arith, length-append (expr_code n γ p e) (one n (Emit (number_in names.ports q))), expr_short n γ p e)
-    kind_short γ n s p (fresh x) few = omega arith
-    kind_short γ n s p (consistent x z) few = omega arith
     kind_short γ n s p (return e) few = omega (arith, return_short n γ p e)
+    kind_short γ n s p k few = omega arith
 
     -- an `if`, whose test and first block have these codes
     else_short : (γ : List Named) (n s p : ℕ) (c a : List Placed) (slots : ℕ) (b : TElse) → KindsCall FewArgs (else_kinds None b)

@@ -116,13 +116,7 @@ mutual
 right_form : (e : TExpr) → ExprInForm IsName e → RightInForm IsName (right_of e)
 right_form (sensed s) h = h
 right_form (called c) h = h
-right_form (number n) h = (tt, h)
-right_form (truth b) h = (tt, h)
-right_form (variable x) h = (tt, h)
-right_form (index x e) h = (tt, h)
-right_form (deref x) h = (tt, h)
-right_form (unary op e) h = (tt, h)
-right_form (binary op a b) h = (tt, h)
+right_form x h = (tt, h)
 
 right_in : {limits : Limits} {r : TRight} {from rest : Lexemes} → SpellsRight limits r from rest → LexemesInForm from → RightInForm IsName r × LexemesInForm rest
 right_in (a_right {e = e} d s) h = let a = expr_in d.spelled h in (right_form e a.0, sign_in s a.1)

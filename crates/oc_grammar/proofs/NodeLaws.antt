@@ -18,14 +18,7 @@ use Rattle.oc_grammar.proofs.ProgramLaws.{params_shorter, result_shorter, item_s
 
 right_fewer : (e : TExpr) → right_nodes (right_of e) ≤ expr_nodes e
 right_fewer (sensed s) = omega arith
-right_fewer (called c) = omega arith
-right_fewer (number n) = omega arith
-right_fewer (truth b) = omega arith
-right_fewer (variable x) = omega arith
-right_fewer (index x e) = omega arith
-right_fewer (deref x) = omega arith
-right_fewer (unary op e) = omega arith
-right_fewer (binary op a b) = omega arith
+right_fewer x = omega arith
 
 one_more : (fs : List TFunction) (f : TFunction) → sum_by (λ f. block_nodes f.body) (fs ++ f ∷ []) ≡ sum_by (λ f. block_nodes f.body) fs + block_nodes f.body
 one_more fs f = sum_by-append (λ f. block_nodes f.body) fs (f ∷ []) ∙ rw zero-add refl

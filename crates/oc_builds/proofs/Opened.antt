@@ -249,17 +249,7 @@ module _ (p : TProgram) (numbered : Numbered p) (policies : ℕ) (regions : List
         )
     kind_is_paired i j (for_in x m n b) f g h = block_is_paired i j b f g h
     kind_is_paired i j (while_do c n b) f g h = block_is_paired i j b f g h
-    kind_is_paired i j (let_to m x t r) f g h = tt
-    kind_is_paired i j (let_array m x t z n) f g h = tt
-    kind_is_paired i j (assign x r) f g h = tt
-    kind_is_paired i j (assign_index x e r) f g h = tt
-    kind_is_paired i j (assign_deref x r) f g h = tt
-    kind_is_paired i j (call_only c) f g h = tt
-    kind_is_paired i j (sense_only s) f g h = tt
-    kind_is_paired i j (emit q e) f g h = tt
-    kind_is_paired i j (fresh x) f g h = tt
-    kind_is_paired i j (consistent x n) f g h = tt
-    kind_is_paired i j (return e) f g h = tt
+    kind_is_paired i j k f g h = tt
 
     else_is_paired : (i j : ℕ) (b : TElse) → Follow i (else_statements b) → Follow j (else_blocks b) → Part p i j (else_statements b) (else_blocks b) (else_pairs b) → ElsePaired regions b
     else_is_paired i j no_else f g h = tt

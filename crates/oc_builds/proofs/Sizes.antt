@@ -27,7 +27,6 @@ module _ (names : NameLists) (fs : List TFunction) (regions : List TRegion) (ran
 
   mutual
     kind_room : (k : TKind) (γ : List Named) (s : ℕ) → kind_formed names fs regions rank own γ s k → kind_slots k ≤ 65537 * (1 + length (kind_statements k))
-    kind_room (let_to m x t r) γ s h = omega arith
     kind_room (let_array m x t z n) γ s h = let low = h.1 in omega (arith, low)
     kind_room (if_else c a no_else) γ s h = let l = block_room a γ s h.0 in omega (arith, l, length-append (block_statements a) [])
     kind_room (if_else c a (else_do b)) γ s h =
@@ -36,15 +35,7 @@ module _ (names : NameLists) (fs : List TFunction) (regions : List TRegion) (ran
         omega (arith, l, r, length-append (block_statements a) (block_statements b))
     kind_room (for_in x c d b) γ s h = let l = block_room b (for_named x s ∷ γ) (s + 1) h.2 in omega (arith, l)
     kind_room (while_do c n b) γ s h = let l = block_room b γ (s + 1) h.1 in omega (arith, l)
-    kind_room (assign x r) γ s h = omega arith
-    kind_room (assign_index x e r) γ s h = omega arith
-    kind_room (assign_deref x r) γ s h = omega arith
-    kind_room (call_only c) γ s h = omega arith
-    kind_room (sense_only x) γ s h = omega arith
-    kind_room (emit p e) γ s h = omega arith
-    kind_room (fresh x) γ s h = omega arith
-    kind_room (consistent x i) γ s h = omega arith
-    kind_room (return e) γ s h = omega arith
+    kind_room k γ s h = omega arith
 
     block_room : (b : TBlock) (γ : List Named) (s : ℕ) → block_formed names fs regions rank own γ s b → block_slots b ≤ 65537 * length (block_statements b)
     block_room (block id ss) γ s h = stmts_room ss false 0 γ s h

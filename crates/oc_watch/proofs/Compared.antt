@@ -214,7 +214,6 @@ module _ (names : NameLists) (fs : List TFunction) (regions : List TRegion) (ran
     pub kind_less : (γ : List Named) (n s : ℕ) (k : TKind) → kind_formed names fs regions rank own γ s k → (is_use (is_fresh_in γ) k ≡ true → uses n ≡ true) → kind_counted uses γ s k
         → kind_spent fs regions cost γ n s k ≤ inner_cost fs uses regions ws n k
     kind_less γ n s (let_to m x t r) fm u c = omega (arith, right_less γ r c)
-    kind_less γ n s (let_array m x t z i) fm u c = omega arith
     kind_less γ n s (assign x r) fm u c = omega (arith, right_less γ r c, write_one n (slot_of γ x) fm.2)
     kind_less γ n s (assign_index x e r) fm u c = omega (arith, right_less γ r c.0, spent_less γ e c.1)
     kind_less γ n s (assign_deref x r) fm u c = omega (arith, right_less γ r c, write_two n (slot_of γ x))
@@ -232,11 +231,9 @@ module _ (names : NameLists) (fs : List TFunction) (regions : List TRegion) (ran
         (omega arith) in
         omega (arith, q, same, probe_less n is (uses n) Done u)
     kind_less γ n s (call_only k) fm u c = only_less γ n s k c
-    kind_less γ n s (sense_only x) fm u c = omega arith
     kind_less γ n s (emit q e) fm u c = omega (arith, spent_less γ e c)
-    kind_less γ n s (fresh x) fm u c = omega arith
-    kind_less γ n s (consistent x i) fm u c = omega arith
     kind_less γ n s (return e) fm u c = absurd fm
+    kind_less γ n s k fm u c = omega arith
 
     pub block_less : (γ : List Named) (s : ℕ) (b : TBlock) → block_formed names fs regions rank own γ s b → block_counted uses γ s b
         → block_spent fs regions cost γ s b ≤ block_cost fs uses regions ws b

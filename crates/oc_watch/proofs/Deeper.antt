@@ -27,7 +27,6 @@ module _ (fs : List TFunction) (regions : List TRegion) (c c' : Text → ℕ) (l
   mutual
     kind_more : (γ : List Named) (n s : ℕ) (k : TKind) → kind_spent fs regions c γ n s k ≤ kind_spent fs regions c' γ n s k
     kind_more γ n s (let_to m x t r) = omega (arith, right_more γ r)
-    kind_more γ n s (let_array m x t z i) = omega arith
     kind_more γ n s (assign x r) = omega (arith, right_more γ r)
     kind_more γ n s (assign_index x e r) = omega (arith, right_more γ r)
     kind_more γ n s (assign_deref x r) = omega (arith, right_more γ r)
@@ -42,11 +41,7 @@ module _ (fs : List TFunction) (regions : List TRegion) (c c' : Text → ℕ) (l
         let q : t * (10 + bc + block_spent fs regions c γ (s + 1) b) ≤ t * (10 + bc + block_spent fs regions c' γ (s + 1) b) = mul-le-mul_left t (omega (arith, block_more γ (s + 1) b)) in
         omega (arith, q)
     kind_more γ n s (call_only k) = omega (arith, call_more γ k)
-    kind_more γ n s (sense_only x) = omega arith
-    kind_more γ n s (emit q e) = omega arith
-    kind_more γ n s (fresh x) = omega arith
-    kind_more γ n s (consistent x i) = omega arith
-    kind_more γ n s (return e) = omega arith
+    kind_more γ n s k = omega arith
 
     block_more : (γ : List Named) (s : ℕ) (b : TBlock) → block_spent fs regions c γ s b ≤ block_spent fs regions c' γ s b
     block_more γ s (block id ss) = stmts_more γ s ss

@@ -37,20 +37,10 @@ module _ (regions : List TRegion) (writes : Access) (within : TCall → Type 0) 
 
   mutual
     kind_sum : (γ : List Named) (s : ℕ) (k : TKind) → ((r : ℕ) → kind_spent (picks r) cost k ≤ most r) → kind_lawful regions writes within fits γ s k → kind_lawful regions writes within next γ s k
-    kind_sum γ s (let_to m x t r) h l = l
-    kind_sum γ s (let_array m x t z n) h l = l
-    kind_sum γ s (assign x r) h l = l
-    kind_sum γ s (assign_index x e r) h l = l
-    kind_sum γ s (assign_deref x r) h l = l
     kind_sum γ s (if_else e a b) h l = (block_sum γ s a (λ r. omega (arith, h r)) l.0, else_sum γ (s + block_slots a) b (λ r. omega (arith, h r)) l.1)
     kind_sum γ s (for_in x a d b) h l = block_sum (for_named x s ∷ γ) (s + 1) b h l
     kind_sum γ s (while_do e n b) h l = block_sum γ (s + 1) b h l
-    kind_sum γ s (call_only k) h l = l
-    kind_sum γ s (sense_only x) h l = l
-    kind_sum γ s (emit p e) h l = l
-    kind_sum γ s (fresh x) h l = l
-    kind_sum γ s (consistent x i) h l = l
-    kind_sum γ s (return e) h l = l
+    kind_sum γ s k h l = l
 
     else_sum : (γ : List Named) (s : ℕ) (b : TElse) → ((r : ℕ) → else_spent (picks r) cost b ≤ most r) → else_lawful regions writes within fits γ s b → else_lawful regions writes within next γ s b
     else_sum γ s no_else h l = l

@@ -52,8 +52,3 @@ marked_bodies_formed p groups checked rank falls regions marked i f stands =
     (All-get_or (FunctionInForm AnyName) p.functions i f (slice_get_within p.functions i f stands) checked.form.spellable.functions) in
     body_is_formed p long regions rank f i (function_scope p f) (length f.params + link_words f) f.body (marked i f stands) (start_found p f checked.form.spellable.nv head.free)
     form.body (each_kind (Lower p rank (rank f.name)) (block_kinds None f.body) (falls i f stands)) own.body (result_returned (is_some f.result) (block_returns f.body) head.returns)
-
--- the same without regions
-pub bodies_formed : (p : TProgram) (groups : List Group) → IsChecked p groups → (rank : Text → ℕ) → RanksFall p rank → (i : ℕ) (f : TFunction) → slice_get p.functions i ≡ Some f
-    → body_formed p.names p.functions [] rank (rank f.name) (is_some f.result) (function_scope p f) (length f.params + link_words f) f.body
-bodies_formed p groups checked rank falls = marked_bodies_formed p groups checked rank falls [] (λ i f stands. block_unmarked f.body)

@@ -157,16 +157,9 @@ module _ (gap : Depth → ℕ) (asks : Lexeme → Type 0) where
   pub fair_wide : {I K X Y : Type 0} {s : Shape I K X Y} {r : Reading X} {q : Reading Y} → Fair s false r q → Fair s true r q
   fair_wide g = record { online = λ n. wider gap asks true (g.online n); live = g.live }
 
-  pub good_wide : {I K X Y : Type 0} {s : Shape I K X Y} {r : Reading X} {q : Reading Y} → Good s false r q → Good s true r q
-  good_wide g = record { online = λ n. wider gap asks true (g.online n); ready = g.ready }
-
   pub good_same : {I K X Y : Type 0} {s : Shape I K X Y} {b : Bool} {r : Reading X} {q : Reading Y} (r' : Reading X) (q' : Reading Y) → ((ts : Lexemes) → r ts ≡ r' ts)
       → ((ts : Lexemes) → q ts ≡ q' ts) → Good s b r q → Good s b r' q'
   good_same {s = s} {q = q} r' q' e f g = record { online = λ n. same gap asks (g.online n) r' q' e f; ready = ready_same s.whole s.large q q' f g.ready }
-
-  pub fair_same : {I K X Y : Type 0} {s : Shape I K X Y} {b : Bool} {r : Reading X} {q : Reading Y} (r' : Reading X) (q' : Reading Y) → ((ts : Lexemes) → r ts ≡ r' ts)
-      → ((ts : Lexemes) → q ts ≡ q' ts) → Fair s b r q → Fair s b r' q'
-  fair_same {s = s} {q = q} r' q' e f g = record { online = λ n. same gap asks (g.online n) r' q' e f; live = live_same s.whole s.large q q' f g.live }
 
   -- something is given at once
   pub given : {I K X Y : Type 0} {x : I → Lexemes → X} {y : K → Lexemes → Y} {keep : I → K} {b : Bool} (i : I) → Good (shaped x y keep) b (λ ts. Ok (x i ts)) (λ ts. Ok (y (keep i) ts))
@@ -384,12 +377,6 @@ module _ (gap : Depth → ℕ) (asks : Lexeme → Type 0) where
     online = λ n. bind gap asks x y (λ i. i) u false true k l (widen true) (λ t a e i. (h i).ready t a e) (g.online n) (λ i. (h i).online n);
     live = λ t a e. live_bind u.whole y u.large q l g.live (λ i. (h i).ready t a e);
   }
-
-  pub lately : {I K X Y : Type 0} {s : Shape I K X Y} {r : Reading X} {q : Reading Y} → Fair s false r q → Lately s r q
-  lately f = record { online = λ n. wider gap asks true (f.online n); live = λ t a e. f.live }
-
-  pub mostly_good : {I K X Y : Type 0} {s : Shape I K X Y} {r : Reading X} {q : Reading Y} → Good s false r q → Mostly s r q
-  mostly_good f = record { online = λ n. wider gap asks true (f.online n); ready = λ t a e. f.ready }
 
   -- a name, and then what need not begin plainly
   pub name_then : {J H Z W : Type 0} (u : Shape J H Z W) (k : Text × Lexemes → Result Z Fault) (l : Text × Lexemes → Result W Fault)

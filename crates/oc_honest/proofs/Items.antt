@@ -147,10 +147,6 @@ abbrev Later : Bool → (k n x m : ℕ) → Type 0
 Later true k n x m = (k ≤ x) × (x ≡ k → m ≡ n)
 Later false k n x m = k < x
 
--- the execution x of both
-abbrev InOne : Both → Both → ℕ → Type 0
-InOne b c x = (b.execution ≡ Some x) × (c.execution ≡ Some x)
-
 entered_later : (inside : Bool) (k n x m : ℕ) → Later true (suc k) n x m → Later inside k n x m
 entered_later true k n x m h = (omega (arith, h.0), λ e. absurd (omega (arith, h.0, e)))
 entered_later false k n x m h = omega (arith, h.0)

@@ -67,9 +67,6 @@ module _ (n : ℕ) (g : TFunction) (ps : List Passed) (υ : Store) (enough : n �
   same_beside : beside behind ≡ beside υ
   same_beside = copied_beside υ n g.params ps (left_at n υ)
 
-  behind_many : length behind.locals ≡ n
-  behind_many = copied_locals υ n g.params ps (left_at n υ) ∙ left_length υ n enough
-
   behind_or : (r : Place) (j : ℕ) → IsOf j (held_at behind r).samples → Back υ n g.params ps r j ⊎ IsOf j (held_at υ r).samples
   behind_or r j h = elim (back_or υ n g.params ps (left_at n υ) r j h) [ inl k ↦ inl k | inr k ↦ inr (left_or υ n enough r j k) ]
 

@@ -17,26 +17,6 @@ flow_on p v (itself i) q = q
 flow_on p v (by_value a i j s t r) q = by_value a i j s t (flow_on p v r q)
 flow_on p v (by_call a c i k j b fl e r) q = by_call a c i k j b fl e (flow_on p v r q)
 
-pub same_cell : (p q : Place) → IsCell p → (p ≡ q) ⊎ (p ≡ q → ⊥)
-same_cell (Local l) (Local m) c = by (l == m) refl
-  where
-    by : (b : Bool) → (l == m) ≡ b → (Local l ≡ Local m) ⊎ (Local l ≡ Local m → ⊥)
-    by true e = let n : l ≡ m = grind (arith, e) in inl (ap Local n)
-    by false e = inr (λ q. let n : l ≡ m = cc in absurd (grind (arith, e, n)))
-same_cell (Global l) (Global m) c = by (l == m) refl
-  where
-    by : (b : Bool) → (l == m) ≡ b → (Global l ≡ Global m) ⊎ (Global l ≡ Global m → ⊥)
-    by true e = let n : l ≡ m = grind (arith, e) in inl (ap Global n)
-    by false e = inr (λ q. let n : l ≡ m = cc in absurd (grind (arith, e, n)))
-same_cell (Local l) (Global m) c = inr (λ q. absurd (cc))
-same_cell (Local l) (Turn m) c = inr (λ q. absurd (cc))
-same_cell (Local l) Nowhere c = inr (λ q. absurd (cc))
-same_cell (Global l) (Local m) c = inr (λ q. absurd (cc))
-same_cell (Global l) (Turn m) c = inr (λ q. absurd (cc))
-same_cell (Global l) Nowhere c = inr (λ q. absurd (cc))
-same_cell (Turn l) q c = absurd c
-same_cell Nowhere q c = absurd c
-
 module _ (p : TProgram) (f base : ℕ) (P : TEffect → Type 0) where
   -- on along a chain
   comes_on : (S : VarId → List ℕ) (taken : ℕ) (u v : VarId) (j : ℕ) → Flow p f u v → Comes p f P S taken u j → Comes p f P S taken v j
@@ -74,48 +54,3 @@ module _ (p : TProgram) (f base : ℕ) (P : TEffect → Type 0) where
     only_one (Global i) u v c a b = owns.stored u i a ∙ sym (owns.stored v i b)
     only_one (Turn z) u v c a b = absurd c
     only_one Nowhere u v c a b = absurd c
-
-    if_samples : (j : ℕ) (b : Bool) (x y : Held) → IsOf j (if b then x else y).samples → IsOf j x.samples ⊎ IsOf j y.samples
-    if_samples j true x y h = inl h
-    if_samples j false x y h = inr h
-
-    -- a variable is written with samples that may come to it
-    put_cell : (q : Place) (t : VarId) (x : Held) → IsCell q → w t ≡ q → ((j : ℕ) → IsOf j x.samples → Comes p f P (samples_of σ w) σ.taken t j) → Came p f base P w w σ (put σ q x)
-    put_cell q t x c e from = record {
-      within = λ v j h. elim (same_cell q (w v) c) [
-        | inl s ↦ at_it v j s (subst (λ r. IsOf j (held_at (put σ q x) r).samples) (sym s) h)
-        | inr n ↦ was v j (subst (λ (y : Held). IsOf j y.samples) (held_put_other σ q (w v) x n) h)
-      ];
-      later = omega (arith, taken_same q);
-      stored = put_nv σ q x;
-      below = λ l b. below_same q e l b;
-    }
-      where
-        at_it : (v : VarId) (j : ℕ) → q ≡ w v → IsOf j (held_at (put σ q x) q).samples → Comes p f P (samples_of σ w) σ.taken v j
-        at_it v j s h =
-            let one : t ≡ v = only_one q t v c e (sym s) in
-            elim (if_samples j (there σ q) x (held_at σ q) (subst (λ (y : Held). IsOf j y.samples) (held_put σ q x) h)) [
-              | inl k ↦ subst (λ u. Comes p f P (samples_of σ w) σ.taken u j) one (from j k)
-              | inr k ↦ was v j (subst (λ r. IsOf j (held_at σ r).samples) s k)
-            ]
-
-        taken_same : (r : Place) → (put σ r x).taken ≡ σ.taken
-        taken_same (Local l) = refl
-        taken_same (Global g) = refl
-        taken_same (Turn z) = refl
-        taken_same Nowhere = refl
-
-        below_same : (r : Place) → w t ≡ r → (l : ℕ) → l < base → at (put σ r x).locals l ≡ at σ.locals l
-        below_same (Local m) k l b = at_put_other σ.locals m l x (λ s. let o = (owns.own t m k).0 in absurd (omega (arith, s, b, o)))
-        below_same (Global g) k l b = refl
-        below_same (Turn z) k l b = refl
-        below_same Nowhere k l b = refl
-
-    pub put_came : (t : VarId) (x : Held) → ((j : ℕ) → IsOf j x.samples → Comes p f P (samples_of σ w) σ.taken t j) → Came p f base P w w σ (put σ (w t) x)
-    put_came t x from = by (w t) refl
-      where
-        by : (q : Place) → w t ≡ q → Came p f base P w w σ (put σ q x)
-        by (Local l) e = put_cell (Local l) t x tt e from
-        by (Global i) e = put_cell (Global i) t x tt e from
-        by (Turn z) e = stays
-        by Nowhere e = stays

@@ -41,9 +41,6 @@ abbrev begun_from : ℕ → List Event → ℕ
 begun_from n [] = n
 begun_from n (e ∷ es) = begun_from (begun_after e.said n) es
 
-more_on : (P : Bool → ℕ → List Ran → Type 0) (s : Said) (b : Bool) (n : ℕ) (e : Event) (later : Bool → ℕ → List Ran) → Type 0
-more_on P s b n e later = P b n (ran_more s b n e later)
-
 last_more : (r : Ran) (s : Said) (b : Bool) (n : ℕ) (e : Event) (xs : List Event) (d : Event) →
     ((b : Bool) (n : ℕ) → IsOf r (ran_from b n (xs ++ d ∷ [])) → IsOf r (ran_from b n xs) ⊎ IsOf r (back_more d.said d (open_from b xs) (begun_from n xs) [])) →
     IsOf r (ran_more s b n e (λ o m. ran_from o m (xs ++ d ∷ [])))

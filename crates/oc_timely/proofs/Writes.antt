@@ -12,8 +12,8 @@ use Rattle.oc_tree.specs.Members.{IsOf}
 use Rattle.oc_timely.specs.Within.{Where, samples_of, Owns, Comes, old, new, Came}
 use Rattle.oc_timely.specs.Steps.{AreTaken}
 use Rattle.oc_timely.specs.Modes.{with_place, IsSteady}
-use Rattle.oc_copies.proofs.Cells.{IsCell, there, held_put, held_put_other, put_nv, at_put_other, at_past}
-use Rattle.oc_timely.proofs.Came.{same_cell, only_one}
+use Rattle.oc_copies.proofs.Cells.{IsCell, there, held_put, held_put_other, put_nv, at_put_other, at_past, same_cell}
+use Rattle.oc_timely.proofs.Came.{only_one}
 use Rattle.oc_flow.proofs.Lists.{same_is}
 
 either : (j : ℕ) (b : Bool) (x y : Held) → IsOf j (if b then x else y).samples → IsOf j x.samples ⊎ IsOf j y.samples

@@ -11,7 +11,7 @@ use Rattle.oc_ckpt.specs.declared.AreaState.TheVariants.{Sealed, Armed}
 use Rattle.oc_isa.specs.declared.phase.Phase.TheVariants.{Waking, Undoing, Restoring, Running}
 use Rattle.oc_isa.specs.Next.{Regs, Device}
 use Rattle.oc_isa.specs.Run.{core_at}
-use Rattle.oc_isa.specs.Power.{State, wake, held, undone, undo_phase, undo_step, restore, resume, quietly}
+use Rattle.oc_isa.specs.Power.{State, wake, held, undone, undo_phase, undo_step, restore, resume, quietly, restore_one}
 use Rattle.oc_items.specs.Erase.{marked, kept_samples}
 use Rattle.oc_outage.specs.Kept.{Count}
 use Rattle.oc_outage.proofs.Continues as continues
@@ -20,7 +20,7 @@ use Rattle.oc_outage.proofs.Erasing.{item}
 use Rattle.oc_outage.proofs.Facts.{state_at, regs_at, IsSealed, IsRestoring, IsWaking, IsUndoing, IsUndone, IsSettled, OnArmed, AreHonest, Stays}
 use Rattle.oc_outage.proofs.Reports.{settled_later, entry_later, honest_later, at_more, grown}
 use Rattle.oc_outage.proofs.Undone.{undo-set, undo-last, entry_number}
-use Rattle.oc_outage.proofs.Restored.{restored_one, none_restored, more_restored, all_restored}
+use Rattle.oc_outage.proofs.Restored.{none_restored, more_restored, all_restored}
 
 module _ (d : Device) (report : List Told) (c : Count) (made : ℕ) where
   pub sealed_later : (nv words : List ℤ) → IsSealed d report c.kept made nv words → IsSealed d report c.kept (suc made) nv words
@@ -36,7 +36,7 @@ module _ (d : Device) (h : ℕ → ℕ → ℤ) (report : List Told) (c : Count)
   sealed_here = state_at (Restoring done) pc fp depth stack nv log Sealed words
 
   restores_sealed : (more : Bool) → IsRestoring d report c.kept made done pc fp stack nv words → log ≡ [] → nat_lt done (held words) ≡ more
-      → Stays d h report c made t (if more then restored_one d done sealed_here else resume d Sealed sealed_here)
+      → Stays d h report c made t (if more then restore_one d done sealed_here else resume d Sealed sealed_here)
   restores_sealed false s y q =
       let e = all_restored d words s.sealed.saved s.sealed.is_saved done pc fp stack s.restored (ltb-false done (held words) q) in
       ((subst (λ r. IsSettled d report c.kept (suc made) r nv) (sym e) (settled_later d report c.kept made s.sealed.saved nv s.sealed.settled), y), honest_later d h report made a, sized)
@@ -124,7 +124,7 @@ module _ (d : Device) (h : ℕ → ℕ → ℤ) (report : List Told) (c : Count)
       )
 
   restores_armed : (done : ℕ) (more : Bool) → IsUndone d report c made done pc fp stack nv log words → nat_lt done (held words) ≡ more
-      → Stays d h report c made t (if more then restored_one d done (state_at (Restoring done) pc fp depth stack nv log Armed words) else resume d Armed
+      → Stays d h report c made t (if more then restore_one d done (state_at (Restoring done) pc fp depth stack nv log Armed words) else resume d Armed
       (state_at (Restoring done) pc fp depth stack nv log Armed words))
   restores_armed done false s q =
       resumes s.waking s.same (all_restored d words s.waking.region.saved s.waking.region.is_saved done pc fp stack s.restored (ltb-false done (held words) q))

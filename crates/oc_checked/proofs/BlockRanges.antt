@@ -79,17 +79,7 @@ mutual
       (else_ranged (i + length (block_statements a)) (j + length (block_blocks a)) b s.1 t.1)
   kind_ranged i j (for_in x m n b) f g = block_ranged i j b f g
   kind_ranged i j (while_do c n b) f g = block_ranged i j b f g
-  kind_ranged i j (let_to m x t r) f g = tt
-  kind_ranged i j (let_array m x t z n) f g = tt
-  kind_ranged i j (assign x r) f g = tt
-  kind_ranged i j (assign_index x e r) f g = tt
-  kind_ranged i j (assign_deref x r) f g = tt
-  kind_ranged i j (call_only c) f g = tt
-  kind_ranged i j (sense_only s) f g = tt
-  kind_ranged i j (emit q e) f g = tt
-  kind_ranged i j (fresh x) f g = tt
-  kind_ranged i j (consistent x n) f g = tt
-  kind_ranged i j (return e) f g = tt
+  kind_ranged i j k f g = tt
 
   -- what stands behind `else`
   pub else_ranged : (i j : ℕ) (b : TElse) → Follow i (else_statements b) → Follow j (else_blocks b) → EachPair (Ranged i (i + length (else_statements b)) j (j + length (else_blocks b))) (else_pairs b)

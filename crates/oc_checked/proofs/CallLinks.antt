@@ -63,19 +63,7 @@ module _ (P : TCall → Type 0) where
 -- without a name nothing is hidden
 pub none_hides : (k : TKind) → kind_hides None k ≡ false
 none_hides (let_to m x t r) = refl
-none_hides (let_array m x t z n) = refl
-none_hides (assign x r) = refl
-none_hides (assign_index x i r) = refl
-none_hides (assign_deref x r) = refl
-none_hides (if_else c a b) = refl
-none_hides (for_in x m n b) = refl
-none_hides (while_do c n b) = refl
-none_hides (call_only c) = refl
-none_hides (sense_only s) = refl
-none_hides (emit q e) = refl
-none_hides (fresh x) = refl
-none_hides (consistent x n) = refl
-none_hides (return e) = refl
+none_hides k = refl
 
 -- ---- what holds of each call of a body
 
@@ -88,23 +76,13 @@ module _ (p : TProgram) (u : ℕ) (P : TCall → Type 0) (gives : (h : Here) →
   mutual
     -- of a statement and those in it
     kind_so : (h : Here) → h.number ≡ u → (k : TKind) → Each P (own_calls k) → AllFine p (kind_elements p h k) → KindsCall P (kind_kinds None k)
-    kind_so h e (let_to m x t r) c f = (c, tt)
-    kind_so h e (let_array m x t z n) c f = (c, tt)
-    kind_so h e (assign x r) c f = (c, tt)
-    kind_so h e (assign_index x i r) c f = (c, tt)
-    kind_so h e (assign_deref x r) c f = (c, tt)
     kind_so h e (if_else t a b) c f =
         let first = block_so (inside h) e a (fine_front p (block_elements p (inside h) a) (else_elements p (inside h) b) f) in
         let second = else_so (inside h) e b (fine_back p (block_elements p (inside h) a) (else_elements p (inside h) b) f) in
         (c, kinds_join P (block_kinds None a) (else_kinds None b) first second)
     kind_so h e (for_in x m n b) c f = (c, block_so (in_turn h x) e b f)
     kind_so h e (while_do t n b) c f = (c, block_so (inside h) e b f)
-    kind_so h e (call_only d) c f = (c, tt)
-    kind_so h e (sense_only s) c f = (c, tt)
-    kind_so h e (emit q a) c f = (c, tt)
-    kind_so h e (fresh x) c f = (c, tt)
-    kind_so h e (consistent x n) c f = (c, tt)
-    kind_so h e (return a) c f = (c, tt)
+    kind_so h e k c f = (c, tt)
 
     -- of what stands behind `else`
     else_so : (h : Here) → h.number ≡ u → (b : TElse) → AllFine p (else_elements p h b) → KindsCall P (else_kinds None b)

@@ -67,20 +67,10 @@ module _ (p : TProgram) where
   mutual
     -- the statements in a statement
     kind_no_words : (h : Here) (k : TKind) → NoWords (kind_elements p h k)
-    kind_no_words h (let_to m x t r) n = refl
-    kind_no_words h (let_array m x t z c) n = refl
-    kind_no_words h (assign x r) n = refl
-    kind_no_words h (assign_index x i r) n = refl
-    kind_no_words h (assign_deref x r) n = refl
     kind_no_words h (if_else c a b) n = no_words_join (block_elements p (inside h) a) (else_elements p (inside h) b) (block_no_words (inside h) a) (else_no_words (inside h) b) n
     kind_no_words h (for_in x c d b) n = block_no_words (in_turn h x) b n
     kind_no_words h (while_do c t b) n = block_no_words (inside h) b n
-    kind_no_words h (call_only c) n = refl
-    kind_no_words h (sense_only s) n = refl
-    kind_no_words h (emit q e) n = refl
-    kind_no_words h (fresh x) n = refl
-    kind_no_words h (consistent x z) n = refl
-    kind_no_words h (return e) n = refl
+    kind_no_words h k n = refl
 
     -- those behind `else`
     else_no_words : (h : Here) (b : TElse) → NoWords (else_elements p h b)

@@ -18,7 +18,7 @@ use Rattle.oc_meaning.specs.Cuts.{Begins, events_in}
 use Rattle.oc_meaning.proofs.Beginning.{trace_begins}
 use Rattle.oc_items.specs.Reports.{IsPrefixOf}
 use Rattle.oc_steps.specs.Heard.{cleared, said_so_far, Under}
-use Rattle.oc_steps.specs.Hearing.{GoesOn, TakesOne, BeginsIt, IsShort, IsOver, SaysOne, Hears}
+use Rattle.oc_steps.specs.Hearing.{GoesOn, TakesOne, BeginsIt, IsShort, IsOver, SaysNoOther, Hears}
 use Rattle.oc_steps.proofs.Keeping.{steps_keep}
 use Rattle.oc_meaning.proofs.Growing.{used_keeps, done_keeps, closed_keeps, put_keeps, value_keeps, then_keeps, result_keeps, finished_keeps, leave_keeps, element_keeps, for_keeps}
 use Rattle.oc_meaning.proofs.Growing.{either_keeps, while_keeps, kind_keeps, block_keeps, stmts_keeps, call_to_keeps}
@@ -150,7 +150,7 @@ module _ (p : TProgram) (regions : List TRegion) where
       let k : Keeps p regions Over fs o = subst (λ q. Keeps p regions q fs o) e (steps_keep p regions fs o) in
       ap (λ q. trace_of q) (ap (main_run p regions) (sym (append-nil v)) ∙ u.run [] ∙ k past [])
 
-says_one : SaysOne
+says_one : SaysNoOther
 says_one [] [] a b h k = absurd (cc (h.1))
 says_one [] (c ∷ all) a b h k = cc (h.1, k.1)
 says_one (s ∷ ss) [] a b h k = absurd (cc (h.1))

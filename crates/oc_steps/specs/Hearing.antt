@@ -54,8 +54,8 @@ module _ (p : TProgram) (regions : List TRegion) where
       → marked_run p regions v ≡ trace_of (with_more past [] o)
 
 -- two things that one run says first are the same
-abbrev pub SaysOne : Type 0
-SaysOne =
+abbrev pub SaysNoOther : Type 0
+SaysNoOther =
     (ss all : List Said) (a b : Said)
     → IsPrefixOf (ss ++ a ∷ []) all → IsPrefixOf (ss ++ b ∷ []) all → a ≡ b
 
@@ -65,4 +65,4 @@ pub record Hears : Type 0 where
   pub begins_it : (p : TProgram) (regions : List TRegion) → BeginsIt p regions
   pub is_short : (p : TProgram) (regions : List TRegion) → IsShort p regions
   pub is_over : (p : TProgram) (regions : List TRegion) → IsOver p regions
-  pub says_one : SaysOne
+  pub says_one : SaysNoOther

@@ -16,7 +16,7 @@ use Rattle.oc_flow.specs.Variables.{is_among, variables as all_variables, is_var
 use Rattle.oc_tree.specs.Members.{IsOf}
 use Rattle.oc_copies.specs.Copies.{own_frame, own_run}
 use Rattle.oc_timely.specs.Within.{start_where, AnyOf}
-use Rattle.oc_timely.specs.Modes.{Among, PairedBlock}
+use Rattle.oc_timely.specs.Modes.{IsEffectAmong, PairedBlock}
 use Rattle.oc_timely.proofs.CallsGoes.{FlowsOut, RunsFlow, calls_go}
 use Rattle.oc_timely.proofs.Distinct.{checked_sees}
 use Rattle.oc_timely.specs.Modes.{AllFlows}
@@ -78,21 +78,21 @@ module _ (m : TMarked) (marked : IsMarked m) where
       known : Known p m.regions (call_to p m.regions depth) (set_home g.body) f base (body g) names (calls f g at base) first (at_start g) (own_frame p g ps σ).env (start_where p f base) own
       known = record { sees = checked_sees p m.groups marked.checked f g at first ps σ formed; taken = taken; stored = stored }
 
-      any : (a : TEffect) → Among p (body g) a → AnyOf p f a
+      any : (a : TEffect) → IsEffectAmong p (body g) a → AnyOf p f a
       any a i = subst (λ e. IsOf e (effects_at p f)) (sym i.2) (names.effect i.0 i.1)
 
       by : (o : Outcome) → own_run p m.regions depth g ps σ ≡ o → FlowsOut p f base own o
       by (Went τ) e =
           let r = block_goes p m.regions (call_to p m.regions depth) (set_home g.body) f base (body g) names (calls f g at base) (at_start g) first g.body (λ z i. i) (paired f g at)
           (own_frame p g ps σ).env (start_where p f base) own τ known e in
-          (came_wider p f base (Among p (body g)) (AnyOf p f) any (start_where p f base) (start_where p f base) own τ r.came, r.steady, r.many)
+          (came_wider p f base (IsEffectAmong p (body g)) (AnyOf p f) any (start_where p f base) (start_where p f base) own τ r.came, r.steady, r.many)
       by (Returned v τ) e =
           let r = block_gives p m.regions (call_to p m.regions depth) (set_home g.body) f base (body g) names (calls f g at base) (has_result p f g at) (at_start g) first g.body
           (body_ends p m.groups marked.checked f g at) (λ z i. i) (paired f g at) (own_frame p g ps σ).env (start_where p f base) own τ v known e in (
-            came_wider p f base (Among p (body g)) (AnyOf p f) any (start_where p f base) (start_where p f base) own τ r.gone.came,
+            came_wider p f base (IsEffectAmong p (body g)) (AnyOf p f) any (start_where p f base) (start_where p f base) own τ r.gone.came,
             r.gone.steady,
             r.gone.many,
-            λ j h. (comes_wider p f (Among p (body g)) (AnyOf p f) any _ own.taken variables.Returned j (r.gave.comes j h), r.gave.below j h),
+            λ j h. (comes_wider p f (IsEffectAmong p (body g)) (AnyOf p f) any _ own.taken variables.Returned j (r.gave.comes j h), r.gave.below j h),
           )
       by (Stopped s τ) e = tt
 

@@ -20,7 +20,7 @@ use Rattle.oc_timely.specs.Scopes.{var_declared, scope_of}
 use Rattle.oc_timely.proofs.Scopes.{stands_let, stands_turn}
 use Rattle.oc_timely.specs.Within.{Where}
 use Rattle.oc_timely.specs.Steps.{AreTaken}
-use Rattle.oc_timely.specs.Modes.{Sees, Goes, In, Among, own_placed, with_place, where_behind}
+use Rattle.oc_timely.specs.Modes.{Sees, Goes, In, IsEffectAmong, own_placed, with_place, where_behind}
 use Rattle.oc_timely.proofs.Marks.{sees_length, sees_later, sees_spot}
 use Rattle.oc_timely.proofs.Straight.{IsStraight}
 use Rattle.oc_timely.proofs.Writes.{came_wider}
@@ -81,7 +81,7 @@ module _ (p : TProgram) (regions : List TRegion) (call : Text → List Passed �
     straight_goes spot id line k rest s sub env w first σ υ same sees taken stored e =
         let l = straight_leaves p regions call home f base body names calls spot id line k s (sub _ (inl refl)) env w first σ υ same sees taken stored e in
         record {
-          came = came_wider p f base (IsThis p regions call home f base body (record { id = id; line = line; kind = k; at = spot })) (Among p (own_placed spot id line k)) (λ a i. (_, inl refl, i)) w
+          came = came_wider p f base (IsThis p regions call home f base body (record { id = id; line = line; kind = k; at = spot })) (IsEffectAmong p (own_placed spot id line k)) (λ a i. (_, inl refl, i)) w
               (where_behind w id k first) σ υ l.came;
           sees = straight_sees spot id line k rest sub env w first σ υ same l.many sees;
           steady = l.steady;

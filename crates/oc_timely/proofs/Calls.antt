@@ -24,7 +24,7 @@ use Rattle.oc_copies.specs.Stands.{AreFormed}
 use Rattle.oc_timely.specs.Within.{Where, samples_of, start_where}
 use Rattle.oc_timely.specs.Enough.{Target, by_call, is_open, since}
 use Rattle.oc_timely.specs.Steps.{AreTaken}
-use Rattle.oc_timely.specs.Modes.{AllFine, FineOut, Sees, IsHeld, CallFine}
+use Rattle.oc_timely.specs.Modes.{AllFine, FineOut, Sees, IsTakenHere, CallFine}
 use Rattle.oc_timely.proofs.Entering.{stands_for, own_taken}
 
 -- ---- copied back, nothing is told
@@ -89,7 +89,7 @@ module _ (m : TMarked) (groups : List Group) (checked : IsChecked m.program grou
   p = m.program
 
   module _ (b : Placed) (x : Text) (args : _) (is : call_of b.kind ≡ Some (call x args)) (env : List Binding) (w : Where) (σ : Store) (sees : Sees p f base b.id b.at env w σ) (taken : AreTaken σ)
-      (deep : (t : TCalled) → (effect_of p b).call ≡ Some t → guarded t.function ≡ true → is_open σ.events ≡ true) (held : (x : VarId) → Target p f (effect_of p b) x → IsHeld w σ x)
+      (deep : (t : TCalled) → (effect_of p b).call ≡ Some t → guarded t.function ≡ true → is_open σ.events ≡ true) (held : (x : VarId) → Target p f (effect_of p b) x → IsTakenHere w σ x)
       (u : ℕ) (g : TFunction) (place : function_place p.functions x ≡ Some u) (params : params_at p u ≡ g.params) (ps : List Passed) (passes : args_of env σ args ≡ Passes ps)
       (many : length ps ≡ length g.params) where
     called : (effect_of p b).call ≡ Some (called_at p b args u)

@@ -10,8 +10,8 @@ use Rattle.oc_meaning.specs.Exec.{begun_by, ended_by}
 use Rattle.oc_effects.specs.Effects.{TCalled, TEffect, effect_of, effects_at, is_numbered}
 use Rattle.oc_tree.specs.Members.{IsOf}
 use Rattle.oc_needs.specs.Sites.{is_loop_at, is_outside, site, is_input}
-use Rattle.oc_timely.specs.Enough.{Target, Apart, Calm, next_mode, Fits, OkOwn, OkStep, OkClean, OkKind, OkElse, OkBlock, OkStmts}
-use Rattle.oc_timely.specs.Modes.{Among, own_placed}
+use Rattle.oc_timely.specs.Enough.{Target, Apart, Calm, next_mode, AllTargets, OkOwn, OkStep, OkClean, OkKind, OkElse, OkBlock, OkStmts}
+use Rattle.oc_timely.specs.Modes.{IsEffectAmong, own_placed}
 use Rattle.oc_timely.specs.Laid.{IsClosed, LaidKind, LaidElse, LaidBlock, LaidStmts, Static}
 use Rattle.oc_flow.proofs.Lists.{any_in}
 use Rattle.oc_needs.proofs.Tests.{any_of}
@@ -87,7 +87,7 @@ module _ (m : TMarked) (guarded : ℕ → Bool) (f : ℕ) (body : List Placed) (
   module _ (spot : Spot) (id line : ℕ) (k : TKind) (mid end : ℕ) (laid : LaidKind p (suc id) k mid) (one : IsOf (record { id = id; line = line; kind = k; at = spot }) body)
       (subs : (b : Placed) → IsOf b (kind_placed spot id k) → IsOf b body) (free : Free spot) where
     abbrev Before : TEffect → Type 0
-    Before = Among p (own_placed spot id line k)
+    Before = IsEffectAmong p (own_placed spot id line k)
 
     head_low : (b : Placed) → IsOf b (own_placed spot id line k) → IsOf b body × (b.id < mid)
     head_low b (inl e) = let u = up_kind p (suc id) k mid laid in (subst (λ (z : Placed). IsOf z body) (sym e) one, let q : b.id ≡ id = ap (λ (z : Placed). z.id) e in omega (arith, u, q))
@@ -134,7 +134,7 @@ module _ (m : TMarked) (guarded : ℕ → Bool) (f : ℕ) (body : List Placed) (
     Next = behind spot id k
 
     abbrev Heads : TEffect → Type 0
-    Heads = Among p (own_placed spot id line k)
+    Heads = IsEffectAmong p (own_placed spot id line k)
 
     sub_kind : (b : Placed) → IsOf b (kind_placed spot id k) → IsOf b body
     sub_kind b i = sub b (inr (of_left b (kind_placed spot id k) (stmts_placed Next rest) i))
@@ -212,13 +212,13 @@ module _ (m : TMarked) (guarded : ℕ → Bool) (f : ℕ) (body : List Placed) (
 
     abbrev Result : (C0 C : VarId → Type 0) → (inside o e : Option ℕ) → Type 0
     Result C0 C inside o e =
-        OkStep m guarded f inside o (Fits m guarded f C0 Heads) (Fits m guarded f C Heads) (OkOwn m guarded f C (effect_of p This) × OkKind m guarded f C spot id line k)
+        OkStep m guarded f inside o (AllTargets m guarded f C0 Heads) (AllTargets m guarded f C Heads) (OkOwn m guarded f C (effect_of p This) × OkKind m guarded f C spot id line k)
         × OkStmts m guarded f (next_mode inside o e) (OkClean m guarded f inside C0 C o) (C' C) Next rest
 
     module _ (C0 C : VarId → Type 0) (later : (inside : Option ℕ) (D : VarId → Type 0) → State inside mid D (C' C) Next (stmts_placed Next rest) → OkStmts m guarded f inside D (C' C) Next rest)
         (inner : begun_by m.regions id ≡ None → Clear m id spot.block → FitsOut C id (stmts_placed spot (more (stmt id line k) rest)) → OkKind m guarded f C spot id line k) where
       -- all targets of the statement and of those inside
-      fits_all : (D : VarId → Type 0) → ((b : Placed) (x : VarId) → IsOf b (stmts_placed spot (more (stmt id line k) rest)) → Target p f (effect_of p b) x → D x) → Fits m guarded f D Heads
+      fits_all : (D : VarId → Type 0) → ((b : Placed) (x : VarId) → IsOf b (stmts_placed spot (more (stmt id line k) rest)) → Target p f (effect_of p b) x → D x) → AllTargets m guarded f D Heads
       fits_all D h a x i t = h i.0 x (in_own i.0 i.1) (subst (λ (z : TEffect). Target p f z x) i.2 t)
 
       plain_step : (e : Option ℕ) → begun_by m.regions id ≡ None → ended_by m.regions id ≡ e → State None id C0 C spot (stmts_placed spot (more (stmt id line k) rest)) → Result C0 C None None e
@@ -308,7 +308,7 @@ module _ (m : TMarked) (guarded : ℕ → Bool) (f : ℕ) (body : List Placed) (
 
   -- a region inside a loop begins behind it, so what its inputs are carried by is declared in the loop
   calm : (id : ℕ) (bs : List Placed) → is_loop_at p f id ≡ true → ((b : Placed) → IsOf b bs → IsOf b body × IsOf id b.at.around) → (b : Placed) (x : VarId) → Later (suc id) b x →
-      Calm p f id (Among p bs) x
+      Calm p f id (IsEffectAmong p bs) x
   calm id bs l h b x (inl none) a u w i br fl fl' = absurd (none a u (subst All (sym i.2) (facts.effect i.0 (h i.0 i.1).0)) br (flow_on p x fl fl'))
   calm id bs l h b x (inr met) a u w i br fl fl' = by (is_outside p f id w) refl
     where
@@ -347,7 +347,7 @@ module _ (m : TMarked) (guarded : ℕ → Bool) (f : ℕ) (body : List Placed) (
           )),
     )
     ok_kind C spot id line (for_in y c d b) mid laid this sub free own fits =
-        ok_block (λ v. C v × Calm p f id (Among p (kind_placed spot id (for_in y c d b))) v) (in_loop spot id ((y, variables.Declared id) ∷ [])) (suc id) b mid laid sub free
+        ok_block (λ v. C v × Calm p f id (IsEffectAmong p (kind_placed spot id (for_in y c d b))) v) (in_loop spot id ((y, variables.Declared id) ∷ [])) (suc id) b mid laid sub free
         (λ z x i t. let h = fits z x i t in (
           (
             h.0,
@@ -359,7 +359,7 @@ module _ (m : TMarked) (guarded : ℕ → Bool) (f : ℕ) (body : List Placed) (
         ))
     ok_kind C spot id line (while_do c n b) mid laid this sub free own fits = (
       (λ x t a u w i br fl fl'. absurd (own x t a u (subst All (sym i.2) (facts.effect i.0 (sub i.0 i.1))) br (flow_on p x fl fl'))),
-      ok_block (λ v. C v × Calm p f id (Among p (kind_placed spot id (while_do c n b))) v) (in_loop spot id []) (suc id) b mid laid sub free
+      ok_block (λ v. C v × Calm p f id (IsEffectAmong p (kind_placed spot id (while_do c n b))) v) (in_loop spot id []) (suc id) b mid laid sub free
           (λ z x i t. let h = fits z x i t in (
             (
               h.0,
@@ -394,7 +394,7 @@ module _ (m : TMarked) (guarded : ℕ → Bool) (f : ℕ) (body : List Placed) (
     ok_stmts inside C0 C spot n no_stmts k laid sub free st = tt
     ok_stmts inside C0 C spot n (more (stmt id line s) rest) k laid sub free st =
         ok_step spot id line s rest laid.1 k laid.2 laid.3 sub free C0 C
-        (λ next D st'. ok_stmts next D (λ v. C v × Apart p f (Among p (own_placed spot id line s)) v) (behind spot id s) laid.1 rest k laid.3
+        (λ next D st'. ok_stmts next D (λ v. C v × Apart p f (IsEffectAmong p (own_placed spot id line s)) v) (behind spot id s) laid.1 rest k laid.3
         (λ z i. sub z (in_rest spot id line s rest laid.1 k laid.2 laid.3 sub free z i)) free st')
         (λ e c fits. ok_kind C spot id line s laid.1 laid.2 (one spot id line s rest laid.1 k laid.2 laid.3 sub free) (sub_kind spot id line s rest laid.1 k laid.2 laid.3 sub free)
         (free_in spot id line s rest laid.1 k laid.2 laid.3 sub free e c)

@@ -18,7 +18,7 @@ use Rattle.oc_copies.specs.Copies.{HasStored}
 use Rattle.oc_timely.specs.Within.{Where, Came}
 use Rattle.oc_timely.specs.Enough.{since, next_mode}
 use Rattle.oc_timely.specs.Steps.{AreTaken}
-use Rattle.oc_timely.specs.Modes.{Sees, IsStep, PairedKind, PairedElse, PairedBlock, PairedStmts, Goes, In, Among, own_placed, with_place, where_behind, Flows}
+use Rattle.oc_timely.specs.Modes.{Sees, IsStep, PairedKind, PairedElse, PairedBlock, PairedStmts, Goes, In, IsEffectAmong, own_placed, with_place, where_behind, Flows}
 use Rattle.oc_timely.proofs.Came.{came_on}
 use Rattle.oc_timely.proofs.Marks.{like_sees, sees_length, sees_later, sees_spot, IsQuiet, quiet_used, quiet_done, quiet_taken, quiet_entered, like_opened, like_closed}
 use Rattle.oc_timely.proofs.Inside.{count_open}
@@ -32,14 +32,14 @@ use Rattle.oc_timely.proofs.Going.{step_counts, opens, closes, where_kept, like_
 module _ (p : TProgram) (regions : List TRegion) (call : Text → List Passed → Store → Outcome) (home : ℤ → ℕ) (f base : ℕ) (body : List Placed) (names : AreNamed p f body)
     (calls : CallsGo p regions call home f base body) where
   abbrev pub Gone : List Placed → Where → Store → Store → Type 0
-  Gone bs w σ τ = BlockGone p f base (Among p bs) w σ τ
+  Gone bs w σ τ = BlockGone p f base (IsEffectAmong p bs) w σ τ
 
   abbrev pub InBody : List Placed → Type 0
   InBody bs = In p regions call home f base body bs
 
   -- by more statements
-  pub wider : (bs cs : List Placed) → ((b : Placed) → IsOf b bs → IsOf b cs) → (w x : Where) (σ τ : Store) → Came p f base (Among p bs) w x σ τ → Came p f base (Among p cs) w x σ τ
-  wider bs cs sub w x σ τ c = came_wider p f base (Among p bs) (Among p cs) (λ a i. (i.0, sub i.0 i.1, i.2)) w x σ τ c
+  pub wider : (bs cs : List Placed) → ((b : Placed) → IsOf b bs → IsOf b cs) → (w x : Where) (σ τ : Store) → Came p f base (IsEffectAmong p bs) w x σ τ → Came p f base (IsEffectAmong p cs) w x σ τ
+  wider bs cs sub w x σ τ c = came_wider p f base (IsEffectAmong p bs) (IsEffectAmong p cs) (λ a i. (i.0, sub i.0 i.1, i.2)) w x σ τ c
 
   -- what is known at a store of a list
   pub record Known (n : ℕ) (spot : Spot) (env : List Binding) (w : Where) (σ : Store) : Type 0 where
@@ -55,7 +55,7 @@ module _ (p : TProgram) (regions : List TRegion) (call : Text → List Passed �
       record { sees = like_sees p f base n spot env w σ τ q.like k.sees; taken = quiet_taken σ τ q k.taken; stored = ap (λ (xs : List Held). length xs) q.like.nv ∙ k.stored }
 
   none_gone : (n : ℕ) (spot : Spot) (env : List Binding) (bs : List Placed) (w : Where) (σ υ : Store) → Known n spot env w σ → Went σ ≡ Went υ → Gone bs w σ υ
-  none_gone n spot env bs w σ υ k e = subst (Gone bs w σ) (same_store σ υ e) (quiet_gone p f base (Among p bs) spot env w σ σ k.sees.owns k.taken (quiet_done false 0 [] σ))
+  none_gone n spot env bs w σ υ k e = subst (Gone bs w σ) (same_store σ υ e) (quiet_gone p f base (IsEffectAmong p bs) spot env w σ σ k.sees.owns k.taken (quiet_done false 0 [] σ))
 
   -- ---- loops
 
@@ -67,16 +67,16 @@ module _ (p : TProgram) (regions : List TRegion) (call : Text → List Passed �
       where
         by : (o : Outcome) → turn i σ ≡ o → then_do o (for_turns t (i +ℤ pos 1) turn) ≡ Went υ → ((τ : Store) → Known n spot env w τ → for_turns t (i +ℤ pos 1) turn τ ≡ Went υ → Gone bs w τ υ) →
             Gone bs w σ υ
-        by (Went τ) is h rest = let g = each i σ τ k is in gone_on p f base (Among p bs) w σ τ υ g (rest τ (known_on n spot env bs w σ τ k g) h)
+        by (Went τ) is h rest = let g = each i σ τ k is in gone_on p f base (IsEffectAmong p bs) w σ τ υ g (rest τ (known_on n spot env bs w σ τ k g) h)
         by (Returned v τ) is h rest = absurd (cc)
         by (Stopped s τ) is h rest = absurd (cc)
 
     while_gone : (t id : ℕ) (is : Bool) (samples : Store → List ℕ) (test : Store → Got) (turn : Store → Outcome) → ((σ τ : Store) → Known n spot env w σ → turn σ ≡ Went τ → Gone bs w σ τ) →
         (before : List ℕ) (σ υ : Store) → Known n spot env w σ → while_turns t id is samples test turn before σ ≡ Went υ → Gone bs w σ υ
     while_gone zero id is samples test turn each before σ υ k e =
-        subst (Gone bs w σ) (same_store (done is id before σ) υ e) (quiet_gone p f base (Among p bs) spot env w σ (done is id before σ) k.sees.owns k.taken (quiet_done is id before σ))
+        subst (Gone bs w σ) (same_store (done is id before σ) υ e) (quiet_gone p f base (IsEffectAmong p bs) spot env w σ (done is id before σ) k.sees.owns k.taken (quiet_done is id before σ))
     while_gone (suc t) id is samples test turn each before σ υ k e =
-        gone_on p f base (Among p bs) w σ began υ (quiet_gone p f base (Among p bs) spot env w σ began k.sees.owns k.taken quiet)
+        gone_on p f base (IsEffectAmong p bs) w σ began υ (quiet_gone p f base (IsEffectAmong p bs) spot env w σ began k.sees.owns k.taken quiet)
         (by_value_run (test began) id began _ υ (Gone bs w began υ) e (λ v i h. by (is_zero v.num) h (λ τ k' e'. while_gone t id is samples test turn each (union before (samples σ)) τ υ k' e')))
       where
         began : Store
@@ -90,7 +90,7 @@ module _ (p : TProgram) (regions : List TRegion) (call : Text → List Passed �
 
         through : (o : Outcome) → turn began ≡ o → then_do o (while_turns t id is samples test turn (union before (samples σ))) ≡ Went υ →
             ((τ : Store) → Known n spot env w τ → while_turns t id is samples test turn (union before (samples σ)) τ ≡ Went υ → Gone bs w τ υ) → Gone bs w began υ
-        through (Went τ) i h rest = let g = each began τ at i in gone_on p f base (Among p bs) w began τ υ g (rest τ (known_on n spot env bs w began τ at g) h)
+        through (Went τ) i h rest = let g = each began τ at i in gone_on p f base (IsEffectAmong p bs) w began τ υ g (rest τ (known_on n spot env bs w began τ at g) h)
         through (Returned v τ) i h rest = absurd (cc)
         through (Stopped s τ) i h rest = absurd (cc)
 
@@ -98,7 +98,7 @@ module _ (p : TProgram) (regions : List TRegion) (call : Text → List Passed �
             ((τ : Store) → Known n spot env w τ → while_turns t id is samples test turn (union before (samples σ)) τ ≡ Went υ → Gone bs w τ υ) → Gone bs w began υ
         by true h rest =
             subst (Gone bs w began) (same_store (done is id (union before (samples σ)) began) υ h)
-            (quiet_gone p f base (Among p bs) spot env w began (done is id (union before (samples σ)) began) at.sees.owns at.taken (quiet_done is id (union before (samples σ)) began))
+            (quiet_gone p f base (IsEffectAmong p bs) spot env w began (done is id (union before (samples σ)) began) at.sees.owns at.taken (quiet_done is id (union before (samples σ)) began))
         by false h rest = through (turn began) refl h rest
 
   -- ---- a statement of a list
@@ -181,14 +181,14 @@ module _ (p : TProgram) (regions : List TRegion) (call : Text → List Passed �
       pub still_open : count_open next ≤ (behind_it τ).depth
       still_open = omega (arith, depth_behind, counts, deep)
 
-      pub came_here : Came p f base (Among p all) w w' σ (behind_it τ)
+      pub came_here : Came p f base (IsEffectAmong p all) w w' σ (behind_it τ)
       came_here =
-          came_on p f base (Among p all) w w w' σ marked (behind_it τ) (like_came p f base (Among p all) spot env w σ marked known.sees.owns (like_opened begun σ))
-          (came_on p f base (Among p all) w w w' marked start (behind_it τ) (like_came p f base (Among p all) spot env w marked start at_mark.sees.owns quiet.like)
-          (came_on p f base (Among p all) w w' w' start τ (behind_it τ)
+          came_on p f base (IsEffectAmong p all) w w w' σ marked (behind_it τ) (like_came p f base (IsEffectAmong p all) spot env w σ marked known.sees.owns (like_opened begun σ))
+          (came_on p f base (IsEffectAmong p all) w w w' marked start (behind_it τ) (like_came p f base (IsEffectAmong p all) spot env w marked start at_mark.sees.owns quiet.like)
+          (came_on p f base (IsEffectAmong p all) w w' w' start τ (behind_it τ)
           (wider (own_placed spot id line k) all (λ b i. of_left b (own_placed spot id line k) (stmts_placed (behind spot id k) rest) i) w w' start τ g.came)
-          (came_on p f base (Among p all) w' w' w' τ (used_up τ) (behind_it τ) (like_came p f base (Among p all) (behind spot id k) (grown k rest env σ) w' τ (used_up τ) g.sees.owns quiet_end.like)
-          (like_came p f base (Among p all) (behind spot id k) (grown k rest env σ) w' (used_up τ) (behind_it τ) at_done.sees.owns (like_closed ended (used_up τ))))))
+          (came_on p f base (IsEffectAmong p all) w' w' w' τ (used_up τ) (behind_it τ) (like_came p f base (IsEffectAmong p all) (behind spot id k) (grown k rest env σ) w' τ (used_up τ) g.sees.owns quiet_end.like)
+          (like_came p f base (IsEffectAmong p all) (behind spot id k) (grown k rest env σ) w' (used_up τ) (behind_it τ) at_done.sees.owns (like_closed ended (used_up τ))))))
 
       since_here : count_open inside < σ.depth → since (behind_it τ).events ≡ since σ.events
       since_here d =
@@ -206,11 +206,11 @@ module _ (p : TProgram) (regions : List TRegion) (call : Text → List Passed �
       first_none : w (variables.Declared id) ≡ Nowhere
       first_none = elim (known.sees.older id) [ inl e ↦ e | inr l ↦ absurd (omega (arith, l)) ]
 
-      pub list_gone : ListGone p f base (Among p (stmts_placed (behind spot id k) rest)) next w' (behind_it τ) υ → ListGone p f base (Among p all) inside w σ υ
+      pub list_gone : ListGone p f base (IsEffectAmong p (stmts_placed (behind spot id k) rest)) next w' (behind_it τ) υ → ListGone p f base (IsEffectAmong p all) inside w σ υ
       list_gone r = record {
         after = r.after;
         came =
-            came_on p f base (Among p all) w w' r.after σ (behind_it τ) υ came_here
+            came_on p f base (IsEffectAmong p all) w w' r.after σ (behind_it τ) υ came_here
             (wider (stmts_placed (behind spot id k) rest) all (λ b i. inr (of_right b (kind_placed spot id k) (stmts_placed (behind spot id k) rest) i)) w' r.after (behind_it τ) υ r.came);
         kept = λ v. elim (where_kept w id k σ first_none v) [
           | inl e ↦ inl e
@@ -225,12 +225,12 @@ module _ (p : TProgram) (regions : List TRegion) (call : Text → List Passed �
     -- the statement, and then the others
     stmt_goes : ((τ : Store) → kind_run p.names regions call home env id k start ≡ Went τ → Goes p regions call home f base body spot id line k rest env w σ start τ) →
         ((τ : Store) → Known (suc id) (behind spot id k) (grown k rest env σ) w' τ → count_open next ≤ τ.depth → stmts_run p.names regions call home (grown k rest env σ) rest τ
-        ≡ Went υ → ListGone p f base (Among p (stmts_placed (behind spot id k) rest)) next w' τ υ) →
-        stmts_run p.names regions call home env (more (stmt id line k) rest) σ ≡ Went υ → ListGone p f base (Among p all) inside w σ υ
+        ≡ Went υ → ListGone p f base (IsEffectAmong p (stmts_placed (behind spot id k) rest)) next w' τ υ) →
+        stmts_run p.names regions call home env (more (stmt id line k) rest) σ ≡ Went υ → ListGone p f base (IsEffectAmong p all) inside w σ υ
     stmt_goes one others e = by (kind_run p.names regions call home env id k start) refl e
       where
         by : (o : Outcome) → kind_run p.names regions call home env id k start ≡ o → then_do (finished behind_it o) (stmts_run p.names regions call home (grown k rest env σ) rest) ≡ Went υ →
-            ListGone p f base (Among p all) inside w σ υ
+            ListGone p f base (IsEffectAmong p all) inside w σ υ
         by (Went τ) is h = let g = one τ is in list_gone τ g (others (behind_it τ) (at_behind τ g) (still_open τ g) h)
         by (Returned v τ) is h = absurd (cc)
         by (Stopped s τ) is h = absurd (cc)
@@ -295,7 +295,7 @@ module _ (p : TProgram) (regions : List TRegion) (call : Text → List Passed �
     kind_goes spot id line (for_in x c d b) rest sub pair env w first σ υ same known e =
         let g : Gone (own_placed spot id line (for_in x c d b)) w σ υ =
         for_gone id spot env (own_placed spot id line (for_in x c d b)) w (count_of (d -ℤ c)) c (λ i. block_run p.names regions call home (in_turn x i ∷ env) b)
-        (λ i σ τ k h. turn_gone p f base (Among p (own_placed spot id line (for_in x c d b))) w id i σ τ (none_here spot id env w σ k)
+        (λ i σ τ k h. turn_gone p f base (IsEffectAmong p (own_placed spot id line (for_in x c d b))) w id i σ τ (none_here spot id env w σ k)
         (wide_gone (block_placed (in_loop spot id ((x, variables.Declared id) ∷ [])) b) (own_placed spot id line (for_in x c d b)) (λ z j. inr j) (with_place w id (Turn i)) σ τ
         (block_goes (in_loop spot id ((x, variables.Declared id) ∷ [])) (suc id) b
         (in_all spot id line (for_in x c d b) rest (block_placed (in_loop spot id ((x, variables.Declared id) ∷ [])) b) sub (λ z j. j)) pair (in_turn x i ∷ env) (with_place w id (Turn i)) σ τ
@@ -336,7 +336,7 @@ module _ (p : TProgram) (regions : List TRegion) (call : Text → List Passed �
     pub block_goes : (spot : Spot) (n : ℕ) (b : TBlock) → InBody (block_placed spot b) → PairedBlock regions n b → (env : List Binding) (w : Where) (σ τ : Store) → Known n spot env w σ →
         block_run p.names regions call home env b σ ≡ Went τ → Gone (block_placed spot b) w σ τ
     block_goes spot n (block id ss) sub pair env w σ τ known e =
-        block_left p f base (Among p (block_placed spot (block id ss))) spot n id env w σ τ (stmts_run p.names regions call home env ss (entered id σ)) known.sees
+        block_left p f base (IsEffectAmong p (block_placed spot (block id ss))) spot n id env w σ τ (stmts_run p.names regions call home env ss (entered id σ)) known.sees
         (λ υ h. stmts_goes (record spot { block = id }) n None ss sub pair env w (entered id σ) υ
         (record {
           sees = sees_spot p f base n spot (record spot { block = id }) env w (entered id σ) refl
@@ -347,7 +347,7 @@ module _ (p : TProgram) (regions : List TRegion) (call : Text → List Passed �
         }) (omega arith) h) e
 
     stmts_goes : (spot : Spot) (n : ℕ) (inside : Option ℕ) (ss : TStmts) → InBody (stmts_placed spot ss) → PairedStmts regions n inside ss → (env : List Binding) (w : Where) (σ υ : Store) →
-        Known n spot env w σ → count_open inside ≤ σ.depth → stmts_run p.names regions call home env ss σ ≡ Went υ → ListGone p f base (Among p (stmts_placed spot ss)) inside w σ υ
+        Known n spot env w σ → count_open inside ≤ σ.depth → stmts_run p.names regions call home env ss σ ≡ Went υ → ListGone p f base (IsEffectAmong p (stmts_placed spot ss)) inside w σ υ
     stmts_goes spot n None no_stmts sub pair env w σ υ known deep e =
         let g = none_gone n spot env [] w σ υ known e in
         record {

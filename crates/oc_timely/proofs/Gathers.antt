@@ -8,8 +8,8 @@ use Rattle.oc_meaning.specs.Store.{Event}
 use Rattle.oc_tree.specs.Members.{IsOf}
 use Rattle.oc_honest.specs.Timely.{AreTogether}
 use Rattle.oc_timely.specs.Enough.{sense_count, taken_in, open_after, is_open, since_after, since, AreSince, AreGathered}
-use Rattle.oc_timely.specs.Sets.{IsNoMark, AreNoMarks, IsBehind, AreUnparted}
-use Rattle.oc_timely.specs.Modes.{IsFine, AllFine, Gathers, AllGathered}
+use Rattle.oc_timely.specs.Sets.{IsNoMark, AreNoMarks, IsUnparted, AreUnparted}
+use Rattle.oc_timely.specs.Modes.{IsFine, AllFine, IsGathered, AllGathered}
 
 pub count_more : (s : Said) (n : ℕ) → n ≤ sense_count s n
 count_more (Sensed q z) n = omega arith
@@ -48,7 +48,7 @@ tag_since s n x es q h = subst (λ t. IsFine t x es) q h
 tag_no_mark : (s : Said) (n : ℕ) → s ≡ Showed (Tagged n) → IsNoMark s
 tag_no_mark s n q = subst IsNoMark (sym q) tt
 
-gathered : (p : TProgram) (e : Event) (es : List Event) → AllFine es → ((x : Event) (j : ℕ) → IsOf x es → AreTogether p x e → IsOf j x.samples → IsBehind x es) → AreGathered p e es
+gathered : (p : TProgram) (e : Event) (es : List Event) → AllFine es → ((x : Event) (j : ℕ) → IsOf x es → AreTogether p x e → IsOf j x.samples → IsUnparted x es) → AreGathered p e es
 gathered p e es f h x i t j k =
     let b = h x j i t k in
     let g = fine_part b.more (x ∷ b.older) (subst AllFine b.is f) in
@@ -56,7 +56,7 @@ gathered p e es f h x i t j k =
     let c = since_more x.samples (x ∷ []) b.older (tag_no_mark x.said t.one t.first, tt) a in
     subst (λ ds. AreSince ds x.samples) (sym b.is) (since_more x.samples b.more (x ∷ b.older) b.marks c) j k
 
-gathers_one : (p : TProgram) (s : Said) (e : Event) (es : List Event) → AreGathered p e es → Gathers p s e es
+gathers_one : (p : TProgram) (s : Said) (e : Event) (es : List Event) → AreGathered p e es → IsGathered p s e es
 gathers_one p (Showed (Tagged n)) e es g = g
 gathers_one p s e es g = tt
 

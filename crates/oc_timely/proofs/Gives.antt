@@ -16,7 +16,7 @@ use Rattle.oc_tree.specs.Members.{IsOf}
 use Rattle.oc_timely.specs.Within.{Where, samples_of, Comes}
 use Rattle.oc_timely.specs.Enough.{next_mode}
 use Rattle.oc_timely.specs.Steps.{AreTaken}
-use Rattle.oc_timely.specs.Modes.{IsShutMode, IsStep, PairedBlock, PairedStmts, Goes, Among, where_behind}
+use Rattle.oc_timely.specs.Modes.{IsShutMode, IsStep, PairedBlock, PairedStmts, Goes, IsEffectAmong, where_behind}
 use Rattle.oc_timely.proofs.Came.{comes_back}
 use Rattle.oc_timely.proofs.Marks.{IsLike, like_sees, sees_later, sees_spot, IsQuiet, quiet_used, quiet_done, quiet_taken, quiet_entered, like_opened, like_closed}
 use Rattle.oc_timely.proofs.Inside.{count_open}
@@ -43,12 +43,12 @@ module _ (p : TProgram) (regions : List TRegion) (call : Text → List Passed �
     (result : is_variable p f variables.Returned ≡ true) where
   -- a value that statements gave
   pub record Gave (bs : List Placed) (w : Where) (σ υ : Store) (v : Value) : Type 0 where
-    pub comes : (j : ℕ) → IsOf j v.samples → Comes p f (Among p bs) (samples_of σ w) σ.taken variables.Returned j
+    pub comes : (j : ℕ) → IsOf j v.samples → Comes p f (IsEffectAmong p bs) (samples_of σ w) σ.taken variables.Returned j
     pub below : (j : ℕ) → IsOf j v.samples → j < υ.taken
 
   -- what a list leaves that gave one
   pub record ListGave (bs : List Placed) (inside : Option ℕ) (w : Where) (σ υ : Store) (v : Value) : Type 0 where
-    pub gone : ListGone p f base (Among p bs) inside w σ υ
+    pub gone : ListGone p f base (IsEffectAmong p bs) inside w σ υ
     pub gave : Gave bs w σ υ v
 
   -- a `return` gives its value
@@ -101,10 +101,10 @@ module _ (p : TProgram) (regions : List TRegion) (call : Text → List Passed �
     shuts : Closes (ended_by regions id) ended_use end
     shuts = closes (ended_by regions id) ended_use (quiet_taken began ended_use quiet_end began_taken) (omega (arith, counts, depth, deep))
 
-    return_gone : ListGone p f base (Among p all) inside w σ end
+    return_gone : ListGone p f base (IsEffectAmong p all) inside w σ end
     return_gone = record {
       after = w;
-      came = like_came p f base (Among p all) spot env w σ end known.sees.owns like_end;
+      came = like_came p f base (IsEffectAmong p all) spot env w σ end known.sees.owns like_end;
       kept = λ v. inr refl;
       taken = shuts.taken;
       deep = let d = shuts.deep in omega (arith, d, depth, counts);
@@ -114,7 +114,7 @@ module _ (p : TProgram) (regions : List TRegion) (call : Text → List Passed �
 
     return_gave : (z : Value) → value_of env began e ≡ Val z → Gave all w σ end z
     return_gave z is = record {
-      comes = λ j h. comes_wider p f (IsThis p regions call home f base body this) (Among p all) (λ a i. (this, inl refl, i)) (samples_of σ w) σ.taken variables.Returned j
+      comes = λ j h. comes_wider p f (IsThis p regions call home f base body this) (IsEffectAmong p all) (λ a i. (this, inl refl, i)) (samples_of σ w) σ.taken variables.Returned j
           (value_to p regions call home f base body names calls this one env w σ known.sees known.taken known.stored began
           (like_came p f base (IsThis p regions call home f base body this) spot env w σ began known.sees.owns like_began)
           (ap (λ (xs : List Held). length xs) like_began.locals) e z is (λ x i. i) variables.Returned refl result j h);
@@ -154,9 +154,9 @@ module _ (p : TProgram) (regions : List TRegion) (call : Text → List Passed �
     list_on τ g r = record {
       gone = list_gone p regions call home f base body names calls spot id line k rest inside env w σ υ known deep step τ g r.gone;
       gave = record {
-        comes = λ j h. comes_back p f base (Among p whole) w (where_behind w id k σ) σ (behind_it τ)
+        comes = λ j h. comes_back p f base (IsEffectAmong p whole) w (where_behind w id k σ) σ (behind_it τ)
             (came_here p regions call home f base body names calls spot id line k rest inside env w σ υ known deep step τ g) variables.Returned j
-            (comes_wider p f (Among p later) (Among p whole) (λ a i. (i.0, inr (of_right i.0 (kind_placed spot id k) later i.1), i.2)) (samples_of (behind_it τ) (where_behind w id k σ))
+            (comes_wider p f (IsEffectAmong p later) (IsEffectAmong p whole) (λ a i. (i.0, inr (of_right i.0 (kind_placed spot id k) later i.1), i.2)) (samples_of (behind_it τ) (where_behind w id k σ))
             (behind_it τ).taken variables.Returned j (r.gave.comes j h));
         below = r.gave.below;
       };
@@ -223,7 +223,7 @@ module _ (p : TProgram) (regions : List TRegion) (call : Text → List Passed �
 
   -- what a body leaves that gave a value
   pub record BlockGave (b : List Placed) (w : Where) (σ τ : Store) (v : Value) : Type 0 where
-    pub gone : BlockGone p f base (Among p b) w σ τ
+    pub gone : BlockGone p f base (IsEffectAmong p b) w σ τ
     pub gave : Gave b w σ τ v
 
   pub block_gives : (spot : Spot) (n : ℕ) (b : TBlock) → EndsBlock b → InBody p regions call home f base body names calls (block_placed spot b) → PairedBlock regions n b →
@@ -243,9 +243,9 @@ module _ (p : TProgram) (regions : List TRegion) (call : Text → List Passed �
 
       from : (υ : Store) → ListGave bs None w (entered id σ) υ v → BlockGave bs w σ (left_at (length σ.locals) υ) v
       from υ g = record {
-        gone = left_gone p f base (Among p bs) spot n env w σ υ known.sees (list_from p f base (Among p bs) spot env w σ (entered id σ) υ known.sees.owns (quiet_entered id σ) g.gone);
+        gone = left_gone p f base (IsEffectAmong p bs) spot n env w σ υ known.sees (list_from p f base (IsEffectAmong p bs) spot env w σ (entered id σ) υ known.sees.owns (quiet_entered id σ) g.gone);
         gave = record {
-          comes = λ j h. comes_back p f base (Among p bs) w w σ (entered id σ) (like_came p f base (Among p bs) spot env w σ (entered id σ) known.sees.owns
+          comes = λ j h. comes_back p f base (IsEffectAmong p bs) w w σ (entered id σ) (like_came p f base (IsEffectAmong p bs) spot env w σ (entered id σ) known.sees.owns
               (quiet_entered id σ).like) variables.Returned j (g.gave.comes j h);
           below = g.gave.below;
         };

@@ -22,7 +22,7 @@ use Rattle.oc_copies.specs.Copies.{HasStored}
 use Rattle.oc_timely.specs.Within.{Where, samples_of, Comes, old, new, Came}
 use Rattle.oc_timely.specs.Enough.{Target, next_mode, taken_in, is_open, since}
 use Rattle.oc_timely.specs.Steps.{AreTaken}
-use Rattle.oc_timely.specs.Modes.{AllFine, FineOut, Sees, CallFine, Flows, Goes, In, Among, own_placed, IsSteady, with_place, where_behind, IsStep, PairedKind, PairedElse, PairedBlock, PairedStmts}
+use Rattle.oc_timely.specs.Modes.{AllFine, FineOut, Sees, CallFine, Flows, Goes, In, IsEffectAmong, own_placed, IsSteady, with_place, where_behind, IsStep, PairedKind, PairedElse, PairedBlock, PairedStmts}
 use Rattle.oc_timely.proofs.Came.{flow_on}
 use Rattle.oc_timely.proofs.Sampled.{in_union}
 use Rattle.oc_timely.proofs.Marks.{IsLike, like_held, like_samples, sees_length, like_sees, sees_later, like_stored, IsQuiet, quiet_used, quiet_done, quiet_taken, sees_spot}
@@ -173,7 +173,7 @@ module _ (m : TMarked) (guarded : ℕ → Bool) (call : Text → List Passed →
             all = fine_closed (Some r) σ o.all;
           }
 
-  pub fits_part : (C : VarId → Type 0) (bs cs : List Placed) → ((b : Placed) → IsOf b bs → IsOf b cs) → FitsAt C (Among p cs) → FitsAt C (Among p bs)
+  pub fits_part : (C : VarId → Type 0) (bs cs : List Placed) → ((b : Placed) → IsOf b bs → IsOf b cs) → FitsAt C (IsEffectAmong p cs) → FitsAt C (IsEffectAmong p bs)
   fits_part C bs cs h k a x i t = k a x (i.0, h i.0 i.1, i.2) t
 
   -- a target's samples are since
@@ -199,7 +199,7 @@ module _ (m : TMarked) (guarded : ℕ → Bool) (call : Text → List Passed →
 
   -- those of the uses of a statement
   pub use_open : (C : VarId → Type 0) (w : Where) (n : ℕ) (b : Placed) (bs : List Placed) (env : List Binding) (σ τ : Store) → Sees p f base b.id b.at env w σ → IsLike σ τ → Open C w n τ → IsOf b bs →
-      FitsAt C (Among p bs) → (j : ℕ) → IsOf j (use_samples env b.kind σ) → SinceAt τ j
+      FitsAt C (IsEffectAmong p bs) → (j : ℕ) → IsOf j (use_samples env b.kind σ) → SinceAt τ j
   use_open C w n b bs env σ τ s l o i fit j h =
       let u = use_target p f base b.id b env w σ s j h in
       open_since C w n b.id b.at env τ (like_sees p f base b.id b.at env w σ τ l s) o u.0 (fit (effect_of p b) u.0 (b, i, refl) u.1) j
@@ -226,7 +226,7 @@ module _ (m : TMarked) (guarded : ℕ → Bool) (call : Text → List Passed →
 
       -- those of a `while`
       while_open : (c : TExpr) (z : ℕ) (b : TBlock) → In m.program m.regions call home f base body (own_placed spot id line (while_do c z b)) → PairedBlock m.regions (suc id) b →
-          FitsAt C (Among p (own_placed spot id line (while_do c z b))) →
+          FitsAt C (IsEffectAmong p (own_placed spot id line (while_do c z b))) →
           ((σ : Store) → Sees p f base (suc id) (in_loop spot id []) env w σ → Open C w 0 σ → FineOut (block_run p.names m.regions call home env b σ)) →
           (t : ℕ) (before : List ℕ) (σ : Store) → ((j : ℕ) → IsOf j before → SinceAt σ j) → Sees p f base id spot env w σ → Open C w 0 σ →
           FineOut (while_turns t id (is_use (is_fresh env) (while_do c z b)) (use_samples env (while_do c z b)) (λ τ. value_of env τ c) (block_run p.names m.regions call home env b) before σ)
@@ -271,7 +271,7 @@ module _ (m : TMarked) (guarded : ℕ → Bool) (call : Text → List Passed →
     -- a statement of a list: where it begins, and behind it
     module _ (spot : Spot) (id line : ℕ) (k : TKind) (rest : TStmts) (inside : Option ℕ) (env : List Binding) (w : Where) (σ : Store) (s : Sees p f base id spot env w σ)
         (o : Open C w (count_open inside) σ) (sub : In m.program m.regions call home f base body (stmts_placed spot (more (stmt id line k) rest)))
-        (fit : FitsAt C (Among p (stmts_placed spot (more (stmt id line k) rest)))) where
+        (fit : FitsAt C (IsEffectAmong p (stmts_placed spot (more (stmt id line k) rest)))) where
       abbrev begun : Option ℕ
       begun = begun_by m.regions id
 
@@ -318,10 +318,10 @@ module _ (m : TMarked) (guarded : ℕ → Bool) (call : Text → List Passed →
         gone = flows.goes spot id line k rest sub pair env w σ start τ same_length sees_start at_start.taken at_start.stored e
 
         at_end : Open C (where_behind w id k σ) (count_open inside + count_open begun) τ
-        at_end = open_on C (Among p (own_placed spot id line k)) w (where_behind w id k σ) (count_open inside + count_open begun) start τ gone.came gone.steady a at_start
+        at_end = open_on C (IsEffectAmong p (own_placed spot id line k)) w (where_behind w id k σ) (count_open inside + count_open begun) start τ gone.came gone.steady a at_start
 
         uses_still : (j : ℕ) → IsOf j uses → SinceAt τ j
-        uses_still j h = since_on (Among p (own_placed spot id line k)) w (where_behind w id k σ) start τ j at_start.taken (let d = at_start.deep in omega (arith, d)) gone.came
+        uses_still j h = since_on (IsEffectAmong p (own_placed spot id line k)) w (where_behind w id k σ) start τ j at_start.taken (let d = at_start.deep in omega (arith, d)) gone.came
             gone.steady (since_quiet marked start j quiet (uses_then j h))
 
         abbrev used_up : Store
@@ -346,7 +346,7 @@ module _ (m : TMarked) (guarded : ℕ → Bool) (call : Text → List Passed →
     InBody bs = In m.program m.regions call home f base body bs
 
     mutual
-      pub kind_open : (spot : Spot) (id line : ℕ) (k : TKind) → InBody (own_placed spot id line k) → PairedKind m.regions (suc id) k → FitsAt C (Among p (own_placed spot id line k)) →
+      pub kind_open : (spot : Spot) (id line : ℕ) (k : TKind) → InBody (own_placed spot id line k) → PairedKind m.regions (suc id) k → FitsAt C (IsEffectAmong p (own_placed spot id line k)) →
           (env : List Binding) (w : Where) (σ : Store) → Sees p f base id spot env w σ → Open C w 0 σ → FineOut (kind_run p.names m.regions call home env id k σ)
       kind_open spot id line (if_else c a b) sub pair fit env w σ s o =
           fine_value (value_of env σ c) id σ _ o.all (λ v. fine_if (is_zero v.num) (else_run p.names m.regions call home env b σ) (block_run p.names m.regions call home env a σ)
@@ -376,12 +376,12 @@ module _ (m : TMarked) (guarded : ℕ → Bool) (call : Text → List Passed →
             all = o.all;
           })
 
-      else_open : (spot : Spot) (n : ℕ) (b : TElse) → InBody (else_placed spot b) → PairedElse m.regions n b → FitsAt C (Among p (else_placed spot b)) → (env : List Binding) (w : Where) (σ : Store) →
+      else_open : (spot : Spot) (n : ℕ) (b : TElse) → InBody (else_placed spot b) → PairedElse m.regions n b → FitsAt C (IsEffectAmong p (else_placed spot b)) → (env : List Binding) (w : Where) (σ : Store) →
           Sees p f base n spot env w σ → Open C w 0 σ → FineOut (else_run p.names m.regions call home env b σ)
       else_open spot n no_else sub pair fit env w σ s o = o.all
       else_open spot n (else_do b) sub pair fit env w σ s o = block_open spot n b sub pair fit env w σ s o
 
-      pub block_open : (spot : Spot) (n : ℕ) (b : TBlock) → InBody (block_placed spot b) → PairedBlock m.regions n b → FitsAt C (Among p (block_placed spot b)) →
+      pub block_open : (spot : Spot) (n : ℕ) (b : TBlock) → InBody (block_placed spot b) → PairedBlock m.regions n b → FitsAt C (IsEffectAmong p (block_placed spot b)) →
           (env : List Binding) (w : Where) (σ : Store) → Sees p f base n spot env w σ → Open C w 0 σ → FineOut (block_run p.names m.regions call home env b σ)
       block_open spot n (block bid ss) sub pair fit env w σ s o =
           fine_leave (length σ.locals) (stmts_run p.names m.regions call home env ss (entered bid σ))
@@ -389,7 +389,7 @@ module _ (m : TMarked) (guarded : ℕ → Bool) (call : Text → List Passed →
           (sees_spot p f base n spot (record spot { block = bid }) env w (entered bid σ) refl (like_sees p f base n spot env w σ (entered bid σ) (quiet_entered bid σ).like s))
           (open_quiet C w 0 σ (entered bid σ) (quiet_entered bid σ) o.all o))
 
-      stmts_open : (spot : Spot) (n : ℕ) (inside : Option ℕ) (ss : TStmts) → InBody (stmts_placed spot ss) → PairedStmts m.regions n inside ss → FitsAt C (Among p (stmts_placed spot ss)) →
+      stmts_open : (spot : Spot) (n : ℕ) (inside : Option ℕ) (ss : TStmts) → InBody (stmts_placed spot ss) → PairedStmts m.regions n inside ss → FitsAt C (IsEffectAmong p (stmts_placed spot ss)) →
           (env : List Binding) (w : Where) (σ : Store) → Sees p f base n spot env w σ → Open C w (count_open inside) σ → FineOut (stmts_run p.names m.regions call home env ss σ)
       stmts_open spot n inside no_stmts sub pair fit env w σ s o = o.all
       stmts_open spot n inside (more (stmt id line k) rest) sub pair fit env w σ s o =

@@ -22,7 +22,7 @@ use Rattle.oc_copies.specs.Copies.{HasStored}
 use Rattle.oc_timely.specs.Within.{Where, samples_of, Comes, old, new, Came}
 use Rattle.oc_timely.specs.Enough.{Target, Apart, Calm, next_mode, OkOwn, OkStep, OkClean, OkKind, OkElse, OkBlock, OkStmts, taken_in, is_open, since}
 use Rattle.oc_timely.specs.Steps.{AreTaken}
-use Rattle.oc_timely.specs.Modes.{AllFine, FineOut, Sees, CallFine, Flows, Goes, In, Among, own_placed, IsSteady, with_place, where_behind, IsStep, PairedKind, PairedElse, PairedBlock, PairedStmts}
+use Rattle.oc_timely.specs.Modes.{AllFine, FineOut, Sees, CallFine, Flows, Goes, In, IsEffectAmong, own_placed, IsSteady, with_place, where_behind, IsStep, PairedKind, PairedElse, PairedBlock, PairedStmts}
 use Rattle.oc_timely.proofs.Came.{flow_on}
 use Rattle.oc_timely.proofs.Sampled.{in_union}
 use Rattle.oc_timely.proofs.Marks.{like_held, like_samples, sees_length, like_sees, sees_later, like_stored, IsQuiet, quiet_used, quiet_done, quiet_taken, sees_spot, quiet_entered}
@@ -235,30 +235,30 @@ module _ (m : TMarked) (guarded : ℕ → Bool) (call : Text → List Passed →
   module _ (C : VarId → Type 0) (spot : Spot) (id line : ℕ) (env : List Binding) (w : Where) where
     for_shut : (x : Text) (c d : ℤ) (b : TBlock) → InBody (own_placed spot id line (for_in x c d b)) → PairedBlock m.regions (suc id) b →
         ((i : ℤ) (σ : Store) → Sees p f base (suc id) (in_loop spot id ((x, variables.Declared id) ∷ [])) (in_turn x i ∷ env) (with_place w id (Turn i)) σ
-        → Shut (CleanTurn C id (Among p (kind_placed spot id (for_in x c d b)))) (with_place w id (Turn i)) 0 σ → FineOut (block_run p.names m.regions call home (in_turn x i ∷ env) b σ)) →
-        (t : ℕ) (i : ℤ) (σ : Store) → Sees p f base id spot env w σ → Shut (CleanTurn C id (Among p (kind_placed spot id (for_in x c d b)))) w 0 σ
+        → Shut (CleanTurn C id (IsEffectAmong p (kind_placed spot id (for_in x c d b)))) (with_place w id (Turn i)) 0 σ → FineOut (block_run p.names m.regions call home (in_turn x i ∷ env) b σ)) →
+        (t : ℕ) (i : ℤ) (σ : Store) → Sees p f base id spot env w σ → Shut (CleanTurn C id (IsEffectAmong p (kind_placed spot id (for_in x c d b)))) w 0 σ
         → FineOut (for_turns t i (λ i. block_run p.names m.regions call home (in_turn x i ∷ env) b) σ)
     for_shut x c d b sub pair each zero i σ s o = o.all
     for_shut x c d b sub pair each (suc t) i σ s o =
         let s' = flows.turn spot id line x c d b (sub _ (inl refl)) env w σ i s in
-        let o' : Shut (CleanTurn C id (Among p (kind_placed spot id (for_in x c d b)))) (with_place w id (Turn i)) 0 σ =
+        let o' : Shut (CleanTurn C id (IsEffectAmong p (kind_placed spot id (for_in x c d b)))) (with_place w id (Turn i)) 0 σ =
         record { taken = o.taken; stored = o.stored; marks = o.marks; entered = o.entered; clean = λ y k v j h fl. o.clean y k v j (turn_samples σ w id i v j h) fl; all = o.all } in
         fine_then (block_run p.names m.regions call home (in_turn x i ∷ env) b σ) _ (each i σ s' o') (λ τ e a.
         let r = flows.block (in_loop spot id ((x, variables.Declared id) ∷ [])) (suc id) b (λ z h. sub z (inr h)) pair (in_turn x i ∷ env) (with_place w id (Turn i)) σ τ s' o.taken o.stored e in
         let gone : w (variables.Declared id) ≡ Nowhere = elim (s.older id) [ inl g ↦ g | inr l ↦ absurd (omega (arith, l)) ] in
         for_shut x c d b sub pair each t (i +ℤ pos 1) τ (sees_length p f base id spot env w σ τ r.2 s)
-        (shut_turn C id (Among p (kind_placed spot id (for_in x c d b))) w (with_place w id (Turn i)) σ τ s.older (λ v j h. samples_turn τ w id i v j gone h) r.0 r.1 a o'))
+        (shut_turn C id (IsEffectAmong p (kind_placed spot id (for_in x c d b))) w (with_place w id (Turn i)) σ τ s.older (λ v j h. samples_turn τ w id i v j gone h) r.0 r.1 a o'))
 
     while_shut : (c : TExpr) (z : ℕ) (b : TBlock) → InBody (own_placed spot id line (while_do c z b)) → PairedBlock m.regions (suc id) b →
-        ((x : VarId) → Target p f (effect_of p (record { id = id; line = line; kind = while_do c z b; at = spot })) x → CleanTurn C id (Among p (kind_placed spot id (while_do c z b))) x) →
-        ((σ : Store) → Sees p f base (suc id) (in_loop spot id []) env w σ → Shut (CleanTurn C id (Among p (kind_placed spot id (while_do c z b)))) w 0 σ
+        ((x : VarId) → Target p f (effect_of p (record { id = id; line = line; kind = while_do c z b; at = spot })) x → CleanTurn C id (IsEffectAmong p (kind_placed spot id (while_do c z b))) x) →
+        ((σ : Store) → Sees p f base (suc id) (in_loop spot id []) env w σ → Shut (CleanTurn C id (IsEffectAmong p (kind_placed spot id (while_do c z b)))) w 0 σ
         → FineOut (block_run p.names m.regions call home env b σ)) →
         (t : ℕ) (before : List ℕ) (σ : Store) → ((j : ℕ) → IsOf j before → (d0 ≡ true) × (s0 ≤ j) × (j < taken_in σ.events)) → Sees p f base id spot env w σ
-        → Shut (CleanTurn C id (Among p (kind_placed spot id (while_do c z b)))) w 0 σ →
+        → Shut (CleanTurn C id (IsEffectAmong p (kind_placed spot id (while_do c z b)))) w 0 σ →
         FineOut (while_turns t id (is_use (is_fresh env) (while_do c z b)) (use_samples env (while_do c z b)) (λ τ. value_of env τ c) (block_run p.names m.regions call home env b) before σ)
     while_shut c z b sub pair fit each zero before σ h s o =
         fine_done (is_use (is_fresh env) (while_do c z b)) id before σ
-        (λ j i. let k = h j i in clean_since (CleanTurn C id (Among p (kind_placed spot id (while_do c z b)))) w 0 σ o j (k.0, k.1) k.2) o.all
+        (λ j i. let k = h j i in clean_since (CleanTurn C id (IsEffectAmong p (kind_placed spot id (while_do c z b)))) w 0 σ o j (k.0, k.1) k.2) o.all
     while_shut c z b sub pair fit each (suc t) before σ h s o =
         fine_value (value_of env first c) id first _ seen.all (λ v.
         fine_if (is_zero v.num) (Went (done is id (union before uses) first)) _
@@ -268,10 +268,10 @@ module _ (m : TMarked) (guarded : ℕ → Bool) (call : Text → List Passed →
         while_shut c z b sub pair fit each t (union before uses) τ
         (λ j i. let k = all_clean j i in let l = r.0.later in let x = seen.taken.count in let y = r.1.taken.count in (k.0, k.1, omega (arith, k.2, l, x, y)))
         (sees_length p f base id spot env w first τ r.2 outer)
-        (shut_turn C id (Among p (kind_placed spot id (while_do c z b))) w w first τ s.older (λ v j q. q) r.0 r.1 a seen))))
+        (shut_turn C id (IsEffectAmong p (kind_placed spot id (while_do c z b))) w w first τ s.older (λ v j q. q) r.0 r.1 a seen))))
       where
         CC : VarId → Type 0
-        CC = CleanTurn C id (Among p (kind_placed spot id (while_do c z b)))
+        CC = CleanTurn C id (IsEffectAmong p (kind_placed spot id (while_do c z b)))
 
         is : Bool
         is = is_use (is_fresh env) (while_do c z b)
@@ -308,7 +308,7 @@ module _ (m : TMarked) (guarded : ℕ → Bool) (call : Text → List Passed →
   module _ (spot : Spot) (id line : ℕ) (k : TKind) (rest : TStmts) (inside : Option ℕ) (C0 C : VarId → Type 0) (plain : Type 0) (env : List Binding) (w : Where) (σ : Store)
       (s : Sees p f base id spot env w σ) (o : Shut C w (count_open inside) σ) (sub : InBody (stmts_placed spot (more (stmt id line k) rest)))
       (own : plain → (x : VarId) → Target p f (effect_of p (record { id = id; line = line; kind = k; at = spot })) x → C x)
-      (mode : ModeAt inside (begun_by m.regions id) C0 C (Among p (own_placed spot id line k)) plain w σ) where
+      (mode : ModeAt inside (begun_by m.regions id) C0 C (IsEffectAmong p (own_placed spot id line k)) plain w σ) where
     abbrev begun : Option ℕ
     begun = begun_by m.regions id
 
@@ -376,7 +376,7 @@ module _ (m : TMarked) (guarded : ℕ → Bool) (call : Text → List Passed →
     after τ = closed ended (done (ends_use (is_fresh env) k) id uses τ)
 
     abbrev C' : VarId → Type 0
-    C' x = C x × Apart p f (Among p (own_placed spot id line k)) x
+    C' x = C x × Apart p f (IsEffectAmong p (own_placed spot id line k)) x
 
     abbrev w' : Where
     w' = where_behind w id k σ
@@ -386,11 +386,11 @@ module _ (m : TMarked) (guarded : ℕ → Bool) (call : Text → List Passed →
       went = flows.goes spot id line k rest sub pair env w σ start τ same_length sees_start at_start.taken at_start.stored e
 
       at_end : Shut C' w' count τ
-      at_end = shut_on C (Among p (own_placed spot id line k)) w w' count start τ went.came went.steady a at_start
+      at_end = shut_on C (IsEffectAmong p (own_placed spot id line k)) w w' count start τ went.came went.steady a at_start
 
       since_on_start : (j : ℕ) → IsOf j uses → 0 < start.depth → SinceAt τ j
       since_on_start j h d =
-          since_on m guarded call home f base body calls flows (Among p (own_placed spot id line k)) w w' start τ j at_start.taken d went.came went.steady
+          since_on m guarded call home f base body calls flows (IsEffectAmong p (own_placed spot id line k)) w w' start τ j at_start.taken d went.came went.steady
           (since_quiet marked start j quiet (uses_then j h))
 
       uses_still : (j : ℕ) → IsOf j uses → SinceAt τ j
@@ -411,7 +411,7 @@ module _ (m : TMarked) (guarded : ℕ → Bool) (call : Text → List Passed →
       open_after : IsStep inside begun ended → OpenIf (next_mode inside begun ended) D w' (after τ)
       open_after h = open_next inside begun ended D w' used_up h (elim mode [
         | inl i ↦ open_or inside begun D w' used_up (open_quiet m guarded call home f base body calls flows D w' 0 τ used_up quiet_end all_end
-            (open_on m guarded call home f base body calls flows D (Among p (own_placed spot id line k)) w w' 0 start τ went.came went.steady a
+            (open_on m guarded call home f base body calls flows D (IsEffectAmong p (own_placed spot id line k)) w w' 0 start τ went.came went.steady a
             (open_quiet m guarded call home f base body calls flows D w 0 marked start quiet all_start i.0)))
         | inr i ↦ i.1 w' used_up
       ])
@@ -443,13 +443,13 @@ module _ (m : TMarked) (guarded : ℕ → Bool) (call : Text → List Passed →
         (branch_sees spot id env w σ s) o))
     kind_shut C spot id line (for_in x c d b) sub pair own ok env w σ s o =
         for_shut C spot id line env w x c d b sub pair
-        (λ i τ s' o'. block_shut (CleanTurn C id (Among p (kind_placed spot id (for_in x c d b)))) (in_loop spot id ((x, variables.Declared id) ∷ [])) (suc id) b
+        (λ i τ s' o'. block_shut (CleanTurn C id (IsEffectAmong p (kind_placed spot id (for_in x c d b)))) (in_loop spot id ((x, variables.Declared id) ∷ [])) (suc id) b
         (λ z h. sub z (inr h)) pair ok (in_turn x i ∷ env) (with_place w id (Turn i)) τ s' o')
-        (count_of (d -ℤ c)) c σ s (shut_part C (CleanTurn C id (Among p (kind_placed spot id (for_in x c d b)))) w 0 σ (λ x d. d.0) o)
+        (count_of (d -ℤ c)) c σ s (shut_part C (CleanTurn C id (IsEffectAmong p (kind_placed spot id (for_in x c d b)))) w 0 σ (λ x d. d.0) o)
     kind_shut C spot id line (while_do c t b) sub pair own ok env w σ s o =
         while_shut C spot id line env w c t b sub pair (λ x z. (own.0 x z, ok.0 x z))
-        (λ τ s' o'. block_shut (CleanTurn C id (Among p (kind_placed spot id (while_do c t b)))) (in_loop spot id []) (suc id) b (λ z h. sub z (inr h)) pair ok.1 env w τ s' o')
-        t [] σ (λ j h. absurd h) s (shut_part C (CleanTurn C id (Among p (kind_placed spot id (while_do c t b)))) w 0 σ (λ x d. d.0) o)
+        (λ τ s' o'. block_shut (CleanTurn C id (IsEffectAmong p (kind_placed spot id (while_do c t b)))) (in_loop spot id []) (suc id) b (λ z h. sub z (inr h)) pair ok.1 env w τ s' o')
+        t [] σ (λ j h. absurd h) s (shut_part C (CleanTurn C id (IsEffectAmong p (kind_placed spot id (while_do c t b)))) w 0 σ (λ x d. d.0) o)
     kind_shut C spot id line k sub pair own ok env w σ s o =
         straight_fine m guarded call home f base body calls spot id line k env w σ tt (record {
           one = sub _ (inl refl);
@@ -480,14 +480,14 @@ module _ (m : TMarked) (guarded : ℕ → Bool) (call : Text → List Passed →
     stmts_shut C0 C spot n inside no_stmts sub pair ok env w σ s o i = o.all
     stmts_shut C0 C spot n inside (more (stmt id line k) rest) sub pair ok env w σ s o i =
         let s' = sees_later p f base n id spot env w σ pair.0 s in
-        let md = mode_at inside (begun_by m.regions id) C0 C (Among p (own_placed spot id line k)) (Plain C spot id line k) w σ ok.0 o i in
+        let md = mode_at inside (begun_by m.regions id) C0 C (IsEffectAmong p (own_placed spot id line k)) (Plain C spot id line k) w σ ok.0 o i in
         fine_finished (kind_run p.names m.regions call home env id k (start spot id line k rest inside C0 C (Plain C spot id line k) env w σ s' o sub (λ pl x t. pl.0.0 x t) md))
         (after spot id line k rest inside C0 C (Plain C spot id line k) env w σ s' o sub (λ pl x t. pl.0.0 x t) md) (stmts_run p.names m.regions call home (grown k rest env σ) rest)
         (kind_fine spot id line k rest inside C0 C (Plain C spot id line k) env w σ s' o sub (λ pl x t. pl.0.0 x t) md pair.2
         (λ pl o'. kind_shut C spot id line k (λ z h. sub z (of_left z (own_placed spot id line k) (stmts_placed (behind spot id k) rest) h)) pair.2 pl.0 pl.1 env w
         (start spot id line k rest inside C0 C (Plain C spot id line k) env w σ s' o sub (λ pl x t. pl.0.0 x t) md)
         (sees_start spot id line k rest inside C0 C (Plain C spot id line k) env w σ s' o sub (λ pl x t. pl.0.0 x t) md) o'))
-        (λ τ e a. stmts_shut (OkClean m guarded f inside C0 C (begun_by m.regions id)) (λ v. C v × Apart p f (Among p (own_placed spot id line k)) v) (behind spot id k) (suc id)
+        (λ τ e a. stmts_shut (OkClean m guarded f inside C0 C (begun_by m.regions id)) (λ v. C v × Apart p f (IsEffectAmong p (own_placed spot id line k)) v) (behind spot id k) (suc id)
         (next_mode inside (begun_by m.regions id) (ended_by m.regions id)) rest (λ z h. sub z (of_right z (own_placed spot id line k) (stmts_placed (behind spot id k) rest) h)) pair.3 ok.1
         (grown k rest env σ) (where_behind w id k σ) (after spot id line k rest inside C0 C (Plain C spot id line k) env w σ s' o sub (λ pl x t. pl.0.0 x t) md τ)
         (sees_after spot id line k rest inside C0 C (Plain C spot id line k) env w σ s' o sub (λ pl x t. pl.0.0 x t) md pair.2 τ e a)

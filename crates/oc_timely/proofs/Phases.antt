@@ -21,7 +21,7 @@ use Rattle.oc_flow.proofs.Fixpoint.{Ranked}
 use Rattle.oc_timely.specs.Enough.{next_mode}
 use Rattle.oc_timely.specs.Modes.{own_placed, PairedKind, PairedElse, PairedBlock, PairedStmts}
 use Rattle.oc_timely.specs.Laid.{LaidKind, LaidElse, LaidBlock, LaidStmts, Static}
-use Rattle.oc_timely.specs.Sets.{Adds, AreNoMarks, times}
+use Rattle.oc_timely.specs.Sets.{AddsNoMarks, AreNoMarks, times}
 use Rattle.oc_timely.proofs.Closed.{IsNoTag, IsClosed, KOut, k_opened, k_closed, k_used, k_done, k_finished, k_leave, k_trap, k_value, k_if, k_for, k_while}
 use Rattle.oc_timely.proofs.Directly.{Direct, direct_of, of_direct, either, beside}
 use Rattle.oc_timely.proofs.Homes.{call_at, Any, split_first, kind_many, else_many, block_many, stmts_many, block_split, clear_kind, clear_else, clear_block, clear_stmts, any_kind, later_kind}
@@ -64,7 +64,7 @@ module _ (p : TProgram) (f : ℕ) (g : TFunction) (k : ℤ) where
   clear_out σ c i (Stopped z τ) s h = kept_clear σ τ c i s h
 
   -- where no mark was told, and tags of later instances alone
-  pub kept_adds : (older : List Event) (c : ℕ) (own : ℕ → Type 0) (i : Bool) (τ : Store) → Since p f g k older c own i τ → Adds older τ.events → ((e : Event) → IsOf e older → One e → e.instance < c) →
+  pub kept_adds : (older : List Event) (c : ℕ) (own : ℕ → Type 0) (i : Bool) (τ : Store) → Since p f g k older c own i τ → AddsNoMarks older τ.events → ((e : Event) → IsOf e older → One e → e.instance < c) →
       AreWeak p f g k older → IsKept τ
   kept_adds older c own i τ s a early w = record {
     numbered = s.numbered;

@@ -22,7 +22,7 @@ use Rattle.oc_meaning.specs.Cuts.{events_in}
 use Rattle.oc_meaning.specs.Run.{Frame, with_params, function_named, nv_env, function_run, call_to}
 use Rattle.oc_timely.specs.Enough.{next_mode}
 use Rattle.oc_timely.specs.Modes.{IsStep, PairedKind, PairedElse, PairedBlock, PairedStmts}
-use Rattle.oc_timely.specs.Sets.{IsNoMark, Adds, InsideTellsNone}
+use Rattle.oc_timely.specs.Sets.{IsNoMark, AddsNoMarks, InsideTellsNone}
 use Rattle.oc_timely.proofs.Inside.{count_open}
 
 -- it may close a region by itself
@@ -34,13 +34,13 @@ module _ (es : List Event) where
   -- so many regions are open at least, and no mark was told
   pub record Deep (d : ℕ) (σ : Store) : Type 0 where
     pub deep : d ≤ σ.depth
-    pub adds : Adds es σ.events
+    pub adds : AddsNoMarks es σ.events
 
   -- a statement that goes through leaves `d` open, one that returns `r`
   abbrev pub Quiet : (r d : ℕ) → Outcome → Type 0
   Quiet r d (Went τ) = Deep d τ
   Quiet r d (Returned v τ) = Deep r τ
-  Quiet r d (Stopped s τ) = Adds es τ.events
+  Quiet r d (Stopped s τ) = AddsNoMarks es τ.events
 
   less : (d k : ℕ) (σ : Store) → k ≤ d → Deep d σ → Deep k σ
   less d k σ l h = record { deep = (let a = h.deep in omega (arith, a, l)); adds = h.adds }
@@ -53,14 +53,14 @@ module _ (es : List Event) where
   quiet_opened d (Some r) σ l h =
       let a = h.deep in
       let e : (σ.depth == 0) ≡ false = ne_eqb σ.depth 0 (λ q. omega (arith, a, l, q)) in
-      record { deep = omega (arith, a); adds = subst (λ b. Adds es (told_if b (Entered r) σ.events)) (sym e) h.adds }
+      record { deep = omega (arith, a); adds = subst (λ b. AddsNoMarks es (told_if b (Entered r) σ.events)) (sym e) h.adds }
 
   pub quiet_closed : (d : ℕ) (o : Option ℕ) (σ : Store) → 0 < d → Deep (d + count_open o) σ → Deep d (closed o σ)
   quiet_closed d None σ l h = less (d + 0) d σ (omega arith) h
   quiet_closed d (Some r) σ l h =
       let a = h.deep in
       let e : (σ.depth == 1) ≡ false = ne_eqb σ.depth 1 (λ q. omega (arith, a, l, q)) in
-      record { deep = omega (arith, a); adds = subst (λ b. Adds es (told_if b (Committed r) σ.events)) (sym e) h.adds }
+      record { deep = omega (arith, a); adds = subst (λ b. AddsNoMarks es (told_if b (Committed r) σ.events)) (sym e) h.adds }
 
   pub quiet_used : (d : ℕ) (b : Bool) (n : ℕ) (s : List ℕ) (σ : Store) → Deep d σ → Deep d (used b n s σ)
   quiet_used d true n s σ h = told d _ σ tt h
@@ -241,7 +241,7 @@ module _ (es : List Event) where
     calls_quiet zero d x ps σ l h = h
     calls_quiet (suc depth) d x ps σ l h = function_quiet (call_to p regions depth) (calls_quiet depth) d x (function_named p.functions x) refl ps σ l h
 
-pub quiet_adds : (es : List Event) (r d : ℕ) (o : Outcome) → Quiet es r d o → Adds es (events_in o)
+pub quiet_adds : (es : List Event) (r d : ℕ) (o : Outcome) → Quiet es r d o → AddsNoMarks es (events_in o)
 quiet_adds es r d (Went τ) h = h.adds
 quiet_adds es r d (Returned v τ) h = h.adds
 quiet_adds es r d (Stopped s τ) h = h

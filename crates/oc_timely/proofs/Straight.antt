@@ -22,7 +22,7 @@ use Rattle.oc_copies.specs.Copies.{HasStored}
 use Rattle.oc_timely.specs.Within.{Where, place_in, samples_of}
 use Rattle.oc_timely.specs.Enough.{Target, by_use, by_tag, taken_in, is_open, since}
 use Rattle.oc_timely.specs.Steps.{AreTaken}
-use Rattle.oc_timely.specs.Modes.{AllFine, FineOut, Sees, IsHeld, CallFine}
+use Rattle.oc_timely.specs.Modes.{AllFine, FineOut, Sees, IsTakenHere, CallFine}
 use Rattle.oc_timely.proofs.Sampled.{in_union}
 use Rattle.oc_timely.proofs.Sources.{named_among}
 
@@ -115,11 +115,11 @@ module _ (m : TMarked) (guarded : ℕ → Bool) (call : Text → List Passed →
   p = m.program
 
   -- a sample of a target that is held is in the open execution, and was taken
-  pub held_since : (w : Where) (σ : Store) (x : VarId) → AreTaken σ → IsHeld w σ x → (j : ℕ) → IsOf j (samples_of σ w x) → (is_open σ.events ≡ true) × (since σ.events ≤ j) × (j < taken_in σ.events)
+  pub held_since : (w : Where) (σ : Store) (x : VarId) → AreTaken σ → IsTakenHere w σ x → (j : ℕ) → IsOf j (samples_of σ w x) → (is_open σ.events ≡ true) × (since σ.events ≤ j) × (j < taken_in σ.events)
   held_since w σ x t h j i = let a = h j i in let c = t.held (w x) j i in let e = t.count in (a.0, a.1, omega (arith, c, e))
 
   module _ (b : Placed) (one : IsOf b body) (env : List Binding) (w : Where) (σ : Store) (sees : Sees p f base b.id b.at env w σ) (taken : AreTaken σ) (stored : HasStored p σ)
-      (deep : (t : TCalled) → (effect_of p b).call ≡ Some t → guarded t.function ≡ true → is_open σ.events ≡ true) (held : (x : VarId) → Target p f (effect_of p b) x → IsHeld w σ x)
+      (deep : (t : TCalled) → (effect_of p b).call ≡ Some t → guarded t.function ≡ true → is_open σ.events ≡ true) (held : (x : VarId) → Target p f (effect_of p b) x → IsTakenHere w σ x)
       (all : AllFine σ.events) where
     -- a use of the statement
     pub uses_since : (j : ℕ) → IsOf j (use_samples env b.kind σ) → (is_open σ.events ≡ true) × (since σ.events ≤ j) × (j < taken_in σ.events)
@@ -149,7 +149,7 @@ module _ (m : TMarked) (guarded : ℕ → Bool) (call : Text → List Passed →
       pub taken : AreTaken σ
       pub stored : HasStored p σ
       pub deep : (t : TCalled) → (effect_of p (There k)).call ≡ Some t → guarded t.function ≡ true → is_open σ.events ≡ true
-      pub held : (x : VarId) → Target p f (effect_of p (There k)) x → IsHeld w σ x
+      pub held : (x : VarId) → Target p f (effect_of p (There k)) x → IsTakenHere w σ x
       pub all : AllFine σ.events
 
     right : (k : TKind) (r : TRight) (env : List Binding) (w : Where) (σ : Store) → Finds k env w σ → ((c : TCall) → r ≡ right_call c → call_of k ≡ Some c) →

@@ -23,7 +23,7 @@ use Rattle.oc_copies.specs.Copies.{HasStored}
 use Rattle.oc_timely.specs.Within.{Where, samples_of, Comes, old, new, Came}
 use Rattle.oc_timely.specs.Enough.{Apart, Calm, next_mode, OkOwn, OkStep, OkClean, OkKind, OkElse, OkBlock, OkStmts}
 use Rattle.oc_timely.specs.Steps.{AreTaken}
-use Rattle.oc_timely.specs.Modes.{Sees, Flows, Goes, In, Among, own_placed, IsSteady, with_place, where_behind, IsStep, PairedKind, PairedElse, PairedBlock, PairedStmts}
+use Rattle.oc_timely.specs.Modes.{Sees, Flows, Goes, In, IsEffectAmong, own_placed, IsSteady, with_place, where_behind, IsStep, PairedKind, PairedElse, PairedBlock, PairedStmts}
 use Rattle.oc_timely.proofs.Came.{flow_on}
 use Rattle.oc_timely.proofs.Marks.{like_samples, sees_length, like_sees, sees_later, like_stored, IsQuiet, quiet_used, quiet_done, quiet_taken, sees_spot, quiet_entered}
 use Rattle.oc_timely.proofs.Marks.{like_opened, like_closed, begun_is, ended_is}
@@ -87,10 +87,10 @@ module _ (K : Store → Type 0) (stays : IsClosed K) where
       track_quiet w σ τ q k t =
           record { taken = quiet_taken σ τ q t.taken; stored = like_stored p σ τ q.like t.stored; old = λ x c v j h fl. t.old x c v j (like_samples σ τ q.like w v j h) fl; kept = k }
 
-      track_on : (bs : List Placed) (w w' : Where) (σ τ : Store) → In m.program m.regions call home f base body bs → Came p f base (Among p bs) w w' σ τ → IsSteady σ τ → K τ → Track w σ → Track w' τ
+      track_on : (bs : List Placed) (w w' : Where) (σ τ : Store) → In m.program m.regions call home f base body bs → Came p f base (IsEffectAmong p bs) w w' σ τ → IsSteady σ τ → K τ → Track w σ → Track w' τ
       track_on bs w w' σ τ sub r s k t = record { taken = s.taken; stored = r.stored ∙ t.stored; old = λ x c v j h fl. go x c v j fl (r.within v j h); kept = k }
         where
-          go : (x : VarId) → X x → (v : VarId) (j : ℕ) → Flow p f v x → Comes p f (Among p bs) (samples_of σ w) σ.taken v j → j < T
+          go : (x : VarId) → X x → (v : VarId) (j : ℕ) → Flow p f v x → Comes p f (IsEffectAmong p bs) (samples_of σ w) σ.taken v j → j < T
           go x c v j fl (old u i fl') = t.old x c u j i (flow_on p x fl' fl)
           go x c v j fl (new b u i br fl' le) = absurd (apart x c b u (subst (λ (e : TEffect). IsOf e (effects_at p f)) (sym i.2) (effect i.0 (sub i.0 i.1))) br (flow_on p x fl' fl))
 
@@ -270,7 +270,7 @@ module _ (K : Store → Type 0) (stays : IsClosed K) where
           marks_after = let c = step_count inside begun ended step in let d = after_depth in let k = marks in omega (arith, c, d, k)
 
           mode_after : (count_open (next_mode inside begun ended) < (after τ).depth) ⊎ OkStmts m guarded f (next_mode inside begun ended) (OkClean m guarded f inside C0 C begun)
-              (λ v. C v × Apart p f (Among p (own_placed spot id line s)) v) (behind spot id s) rest
+              (λ v. C v × Apart p f (IsEffectAmong p (own_placed spot id line s)) v) (behind spot id s) rest
           mode_after = elim mode [
             | inl l ↦ let c = step_count inside begun ended step in let d = after_depth in inl (omega (arith, c, d, l))
             | inr ok ↦ inr ok.1
@@ -286,7 +286,7 @@ module _ (K : Store → Type 0) (stays : IsClosed K) where
       guards_of C spot id line s σ (inr pl) t e g = absurd (true≢false (sym g ∙ pl.0.1 t e))
 
       abbrev Turned : (VarId → Type 0) → Spot → ℕ → TKind → VarId → Type 0
-      Turned C spot id s v = C v × Calm p f id (Among p (kind_placed spot id s)) v
+      Turned C spot id s v = C v × Calm p f id (IsEffectAmong p (kind_placed spot id s)) v
 
       mutual
         kind_track : (C : VarId → Type 0) (spot : Spot) (id line : ℕ) (s : TKind) → InBody (own_placed spot id line s) → PairedKind m.regions (suc id) s →
@@ -364,7 +364,7 @@ module _ (K : Store → Type 0) (stays : IsClosed K) where
             (start spot id line s rest inside C0 C env w σ s0 t marks sub pair.2 pair.1 mode)
             (mode_start spot id line s rest inside C0 C env w σ s0 t marks sub pair.2 pair.1 mode)
             (sees_start spot id line s rest inside C0 C env w σ s0 t marks sub pair.2 pair.1 mode) (at_start spot id line s rest inside C0 C env w σ s0 t marks sub pair.2 pair.1 mode))
-            (λ τ e a. stmts_track (OkClean m guarded f inside C0 C (begun_by m.regions id)) (λ v. C v × Apart p f (Among p (own_placed spot id line s)) v) (behind spot id s)
+            (λ τ e a. stmts_track (OkClean m guarded f inside C0 C (begun_by m.regions id)) (λ v. C v × Apart p f (IsEffectAmong p (own_placed spot id line s)) v) (behind spot id s)
             (suc id) (next_mode inside (begun_by m.regions id) (ended_by m.regions id)) rest
             (λ z h. sub z (of_right z (own_placed spot id line s) (stmts_placed (behind spot id s) rest) h)) pair.3 (grown s rest env σ) (where_behind w id s σ)
             (after spot id line s rest inside C0 C env w σ s0 t marks sub pair.2 pair.1 mode τ)

@@ -11,7 +11,7 @@ use Rattle.oc_tree.specs.Members.{IsOf}
 use Rattle.oc_honest.specs.Timely.{set_of, AreTogether}
 use Rattle.oc_timely.specs.Enough.{taken_in, open_after, is_open, since_after, since}
 use Rattle.oc_timely.specs.Modes.{AllFine}
-use Rattle.oc_timely.specs.Sets.{AreNoMarks, IsBehind, AreUnparted}
+use Rattle.oc_timely.specs.Sets.{AreNoMarks, IsUnparted, AreUnparted}
 use Rattle.oc_timely.proofs.Gathers.{count_more, fine_part, tag_since}
 use Rattle.oc_timely.proofs.Members.{in_append}
 use Rattle.oc_timely.proofs.Closed.{tag_number}
@@ -83,7 +83,7 @@ module _ (p : TProgram) (f : ℕ) (g : TFunction) (k : ℤ) where
 
   abbrev pub AreWeak : List Event → Type 0
   AreWeak [] = Unit {0}
-  AreWeak (e ∷ es) = ((x : Event) (j : ℕ) → IsOf x es → AreTogether p x e → One x → IsOf j x.samples → IsBehind x es ⊎ IsStale x j es) × AreWeak es
+  AreWeak (e ∷ es) = ((x : Event) (j : ℕ) → IsOf x es → AreTogether p x e → One x → IsOf j x.samples → IsUnparted x es ⊎ IsStale x j es) × AreWeak es
 
   -- what is together with a tag of the set is one
   same_set : (x e : Event) → AreTogether p x e → One x → One e
@@ -106,10 +106,10 @@ module _ (p : TProgram) (f : ℕ) (g : TFunction) (k : ℤ) where
   parts_tail e newer older (inr h) = inr (h.0, λ x i o j q. h.1 x (inr i) o j q)
 
   -- a tag of what was told has nothing behind it, or is stale
-  in_newer : (newer older : List Event) → PartsNone newer older → (x : Event) (j : ℕ) → IsOf x newer → One x → IsOf j x.samples → IsBehind x (newer ++ older) ⊎ IsStale x j (newer ++ older)
+  in_newer : (newer older : List Event) → PartsNone newer older → (x : Event) (j : ℕ) → IsOf x newer → One x → IsOf j x.samples → IsUnparted x (newer ++ older) ⊎ IsStale x j (newer ++ older)
   in_newer newer older how x j i o q = by how (split_at x newer i)
     where
-      by : PartsNone newer older → (a : List Event) × (b : List Event) × (newer ≡ a ++ x ∷ b) → IsBehind x (newer ++ older) ⊎ IsStale x j (newer ++ older)
+      by : PartsNone newer older → (a : List Event) × (b : List Event) × (newer ≡ a ++ x ∷ b) → IsUnparted x (newer ++ older) ⊎ IsStale x j (newer ++ older)
       by (inl h) s =
           inl (record { more = s.0; older = s.1 ++ older; is = ap (λ l. l ++ older) s.2 ∙ append_assoc s.0 (x ∷ s.1) older; marks = no_marks_split newer s.0 (x ∷ s.1) s.2 h })
       by (inr h) s =
@@ -127,7 +127,7 @@ module _ (p : TProgram) (f : ℕ) (g : TFunction) (k : ℤ) where
   weak_join (e ∷ newer) older c late early how w =
       (λ x j i t o q. by x j t o q (in_append x newer older i), weak_join newer older c (λ y i. late y (inr i)) early (parts_tail e newer older how) w)
     where
-      by : (x : Event) (j : ℕ) → AreTogether p x e → One x → IsOf j x.samples → IsOf x newer ⊎ IsOf x older → IsBehind x (newer ++ older) ⊎ IsStale x j (newer ++ older)
+      by : (x : Event) (j : ℕ) → AreTogether p x e → One x → IsOf j x.samples → IsOf x newer ⊎ IsOf x older → IsUnparted x (newer ++ older) ⊎ IsStale x j (newer ++ older)
       by x j t o q (inl i) = in_newer newer older (parts_tail e newer older how) x j i o q
       by x j t o q (inr i) = let a = late e (inl refl) (same_set x e t o) in let b = early x i o in let s = t.instance in absurd (omega (arith, a, b, s))
 
@@ -149,6 +149,6 @@ unparted p (e ∷ es) fine weak stands = (
       (λ f g k at. (weak f g k at).1) stands,
 )
   where
-    by : (x : Event) (j : ℕ) → AreTogether p x e → IsOf j x.samples → IsBehind x es ⊎ IsStale x j es → IsBehind x es
+    by : (x : Event) (j : ℕ) → AreTogether p x e → IsOf j x.samples → IsUnparted x es ⊎ IsStale x j es → IsUnparted x es
     by x j t q (inl b) = b
     by x j t q (inr s) = absurd (not_stale x j es t.one t.first q fine.1 s)

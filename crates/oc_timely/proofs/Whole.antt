@@ -13,13 +13,13 @@ use Rattle.oc_meaning.specs.Run.{function_named, function_run, call_to, first_st
 use Rattle.oc_copies.specs.Copies.{CallsCopy, HasStored, MayPass, own_run, lent_run}
 use Rattle.oc_copies.specs.Stands.{AreFormed}
 use Rattle.oc_timely.specs.Enough.{IsGood, AllGood}
-use Rattle.oc_timely.specs.Modes.{IsFine, AllFine, Gathers, AllGathered, FineOut}
+use Rattle.oc_timely.specs.Modes.{IsFine, AllFine, IsGathered, AllGathered, FineOut}
 use Rattle.oc_timely.proofs.Calls.{FindsOwn, CalleeAt, fine_copies}
 use Rattle.oc_timely.proofs.Sound.{Knows, runs_fine}
 
 -- ---- good is fine and gathered
 
-good_one : (p : TProgram) (s : Said) (e : Event) (es : List Event) → IsFine s e es → Gathers p s e es → IsGood p s e es
+good_one : (p : TProgram) (s : Said) (e : Event) (es : List Event) → IsFine s e es → IsGathered p s e es → IsGood p s e es
 good_one p (Sensed n z) e es f g = f
 good_one p (Showed (Used n)) e es f g = f
 good_one p (Showed (Finished n)) e es f g = f

@@ -79,8 +79,8 @@ module _ (m : TMarked) (guarded : ℕ → Bool) (f : ℕ) where
   abbrev pub Free : TEffect → Type 0
   Free a = (c : TCalled) → a.call ≡ Some c → guarded c.function ≡ false
 
-  abbrev pub Fits : (VarId → Type 0) → (TEffect → Type 0) → Type 0
-  Fits C P = (a : TEffect) (x : VarId) → P a → Target m.program f a x → C x
+  abbrev pub AllTargets : (VarId → Type 0) → (TEffect → Type 0) → Type 0
+  AllTargets C P = (a : TEffect) (x : VarId) → P a → Target m.program f a x → C x
 
   -- what is asked of a statement outside of regions: its targets
   -- are clean, where C says what no local input has reached
@@ -128,7 +128,7 @@ module _ (m : TMarked) (guarded : ℕ → Bool) (f : ℕ) where
     OkStmts inside C0 C spot no_stmts = Unit {0}
     OkStmts inside C0 C spot (more (stmt id line k) rest) =
         OkStep inside (begun_by m.regions id)
-        (Fits C0 (InStmt spot id line k)) (Fits C (InStmt spot id line k))
+        (AllTargets C0 (InStmt spot id line k)) (AllTargets C (InStmt spot id line k))
         (OkOwn C (Own spot id line k) × OkKind C spot id line k)
         × OkStmts (next_mode inside (begun_by m.regions id) (ended_by m.regions id))
         (OkClean inside C0 C (begun_by m.regions id))

@@ -40,13 +40,13 @@ AllFine [] = Unit {0}
 AllFine (e ∷ es) = IsFine e.said e es × AllFine es
 
 -- and what they gathered: this is left of `AllGood`
-abbrev pub Gathers : TProgram → Said → Event → List Event → Type 0
-Gathers p (Showed (Tagged n)) e es = AreGathered p e es
-Gathers p s e es = Unit {0}
+abbrev pub IsGathered : TProgram → Said → Event → List Event → Type 0
+IsGathered p (Showed (Tagged n)) e es = AreGathered p e es
+IsGathered p s e es = Unit {0}
 
 abbrev pub AllGathered : TProgram → List Event → Type 0
 AllGathered p [] = Unit {0}
-AllGathered p (e ∷ es) = Gathers p e.said e es × AllGathered p es
+AllGathered p (e ∷ es) = IsGathered p e.said e es × AllGathered p es
 
 abbrev pub FineOut : Outcome → Type 0
 FineOut (Went τ) = AllFine τ.events
@@ -134,8 +134,8 @@ pub record IsSteady (σ τ : Store) : Type 0 where
   pub since : 0 < σ.depth → since τ.events ≡ since σ.events
 
 -- an effect is that of one of these statements
-abbrev pub Among : TProgram → List Placed → TEffect → Type 0
-Among p bs a = (b : Placed) × IsOf b bs × (a ≡ effect_of p b)
+abbrev pub IsEffectAmong : TProgram → List Placed → TEffect → Type 0
+IsEffectAmong p bs a = (b : Placed) × IsOf b bs × (a ≡ effect_of p b)
 
 -- a statement and those inside it, where they stand
 abbrev pub own_placed : Spot → (id line : ℕ) → TKind → List Placed
@@ -152,7 +152,7 @@ module _ (p : TProgram) (regions : List TRegion) (call : Text → List Passed �
   -- is as it must be
   pub record Goes (spot : Spot) (id line : ℕ) (k : TKind)
       (rest : TStmts) (env : List Binding) (w : Where) (first σ τ : Store) : Type 0 where
-    pub came : Came p f base (Among p (own_placed spot id line k)) w (where_behind w id k first) σ τ
+    pub came : Came p f base (IsEffectAmong p (own_placed spot id line k)) w (where_behind w id k first) σ τ
     pub sees : Sees p f base
         (suc id) (behind spot id k) (grown k rest env first) (where_behind w id k first) τ
     pub steady : IsSteady σ τ
@@ -171,7 +171,7 @@ module _ (p : TProgram) (regions : List TRegion) (call : Text → List Passed �
         → In (block_placed spot b) → PairedBlock regions n b
         → (env : List Binding) (w : Where) (σ τ : Store) → Sees p f base n spot env w σ → AreTaken σ
         → HasStored p σ → block_run p.names regions call home env b σ ≡ Went τ
-        → Came p f base (Among p (block_placed spot b)) w w σ τ
+        → Came p f base (IsEffectAmong p (block_placed spot b)) w w σ τ
         × IsSteady σ τ × (length τ.locals ≡ length σ.locals)
     -- a turn of a `for`
     pub turn : (spot : Spot) (id line : ℕ) (x : Text) (c d : ℤ) (b : TBlock)
@@ -183,8 +183,8 @@ module _ (p : TProgram) (regions : List TRegion) (call : Text → List Passed �
 -- ---- calls
 
 -- all samples of a variable were taken in the execution that is open
-abbrev pub IsHeld : Where → Store → VarId → Type 0
-IsHeld w σ x =
+abbrev pub IsTakenHere : Where → Store → VarId → Type 0
+IsTakenHere w σ x =
     (j : ℕ) → IsOf j (samples_of σ w x) → (is_open σ.events ≡ true) × (since σ.events ≤ j)
 
 -- What a call adds is fine, where it finds what it needs.
@@ -196,7 +196,7 @@ CallFine m guarded call home f base body =
     → Sees m.program f base b.id b.at env w σ → AreTaken σ → HasStored m.program σ
     → ((t : TCalled) → (effect_of m.program b).call ≡ Some t
     → guarded t.function ≡ true → is_open σ.events ≡ true)
-    → ((x : VarId) → Target m.program f (effect_of m.program b) x → IsHeld w σ x)
+    → ((x : VarId) → Target m.program f (effect_of m.program b) x → IsTakenHere w σ x)
     → AllFine σ.events → FineOut (call_run m.program.names m.regions call home env b.id σ c)
 
 -- ---- what the law of flow and of marks is to say of each function

@@ -27,7 +27,7 @@ AreNoMarks [] = Unit {0}
 AreNoMarks (e ∷ es) = IsNoMark e.said × AreNoMarks es
 
 -- an earlier event stands among these, and no mark of a region came since
-pub record IsBehind (x : Event) (es : List Event) : Type 0 where
+pub record IsUnparted (x : Event) (es : List Event) : Type 0 where
   pub more : List Event
   pub older : List Event
   pub is : es ≡ more ++ x ∷ older
@@ -37,14 +37,14 @@ pub record IsBehind (x : Event) (es : List Event) : Type 0 where
 abbrev pub AreUnparted : TProgram → List Event → Type 0
 AreUnparted p [] = Unit {0}
 AreUnparted p (e ∷ es) =
-    ((x : Event) (j : ℕ) → IsOf x es → AreTogether p x e → IsOf j x.samples → IsBehind x es)
+    ((x : Event) (j : ℕ) → IsOf x es → AreTogether p x e → IsOf j x.samples → IsUnparted x es)
     × AreUnparted p es
 
 -- ---- a region is open around a whole call
 
 -- events were added in front of these, and none of them is a mark of a region
-abbrev pub Adds : List Event → List Event → Type 0
-Adds es ds = (more : List Event) × (ds ≡ more ++ es) × AreNoMarks more
+abbrev pub AddsNoMarks : List Event → List Event → Type 0
+AddsNoMarks es ds = (more : List Event) × (ds ≡ more ++ es) × AreNoMarks more
 
 -- in each function regions begin and end in one list
 abbrev pub ArePaired : TProgram → List TRegion → Type 0
@@ -57,7 +57,7 @@ abbrev pub InsideTellsNone : Type 0
 InsideTellsNone =
     (p : TProgram) (regions : List TRegion)
     → ArePaired p regions → (depth : ℕ) (x : Text) (ps : List Passed) (σ : Store)
-    → 0 < σ.depth → Adds σ.events (events_in (call_to p regions depth x ps σ))
+    → 0 < σ.depth → AddsNoMarks σ.events (events_in (call_to p regions depth x ps σ))
 
 -- ---- what is kept of one set
 

@@ -68,28 +68,18 @@ last report t (Some s) n = last_more report (record { tick = t; said = s }) n
 
 stays_clear : (p : Phase) (report : List Told) (t : ℕ) (said : Option Said) → HasNoEnd report → IsTold p said → IsClear p (with_said report t said)
 stays_clear (Over how) report t said n q = last report t said n
-stays_clear Waking report t said n q = more report t said n q
-stays_clear (Undoing k) report t said n q = more report t said n q
-stays_clear (Restoring k) report t said n q = more report t said n q
-stays_clear Running report t said n q = more report t said n q
-stays_clear (Entering k) report t said n q = more report t said n q
 stays_clear Lost report t said n q = absurd q
+stays_clear phase report t said n q = more report t said n q
 
 awake_clear : (cut : Bool) (a : AreaState) (s : State) (report : List Told) → HasNoEnd report → IsClear ((checkpoint cut a s).phase) report
 awake_clear true Fresh s report n = n
-awake_clear true Open s report n = n
-awake_clear true Sealed s report n = n
-awake_clear true Armed s report n = n
+awake_clear true area s report n = n
 awake_clear false Fresh s report n = n
-awake_clear false Open s report n = n
-awake_clear false Sealed s report n = n
-awake_clear false Armed s report n = n
+awake_clear false area s report n = n
 
 abort_says : (d : Device) (a : AreaState) (words : List ℤ) → TellsNoEnd (abort_of d a words)
 abort_says d Fresh words = tt
-abort_says d Open words = tt
-abort_says d Sealed words = tt
-abort_says d Armed words = tt
+abort_says d area words = tt
 
 off_more : (report : List Told) (t off : ℕ) → HasNoEnd report → HasNoEnd (with_said report t (Some (Off off)))
 off_more report t off n = no_end_more report (record { tick = t; said = Off off }) n tt
@@ -134,13 +124,9 @@ module _ (d : Device) (h : ℕ → ℕ → ℤ) where
   fails_by p Lost w n = n
 
   dark_by : (p : Phase) (w : World) → HasCleared (world_in w p) → EndsOnlyLast (darkness (world_in w p)).report
-  dark_by Waking w n = dark_last w.report w.tick n
-  dark_by (Undoing k) w n = dark_last w.report w.tick n
-  dark_by (Restoring k) w n = dark_last w.report w.tick n
-  dark_by Running w n = dark_last w.report w.tick n
-  dark_by (Entering k) w n = dark_last w.report w.tick n
   dark_by (Over how) w n = n
   dark_by Lost w n = only_last w.report n
+  dark_by phase w n = dark_last w.report w.tick n
 
   through_by : (periods : List Period) (w : World) → HasCleared w → EndsOnlyLast (through d h periods w).report
   through_by [] w c = dark_by w.state.phase w c

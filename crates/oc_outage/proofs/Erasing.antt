@@ -23,22 +23,12 @@ ArePlain (i ∷ is) = IsPlain i.said × ArePlain is
 plain_mark : (s : Said) (m : Option Said) → IsPlain s → mark_or s m ≡ m
 plain_mark (Sensed a b) m p = refl
 plain_mark (Showed a) m p = refl
-plain_mark (Entered a) m p = absurd p
-plain_mark (Committed a) m p = absurd p
-plain_mark (Aborted a) m p = absurd p
-plain_mark (Off a) m p = absurd p
-plain_mark Dark m p = absurd p
-plain_mark (Ended a) m p = absurd p
+plain_mark said m p = absurd p
 
 plain_goes_on : (s : Said) → IsPlain s → goes_on s ≡ true
 plain_goes_on (Sensed a b) p = refl
 plain_goes_on (Showed a) p = refl
-plain_goes_on (Entered a) p = absurd p
-plain_goes_on (Committed a) p = absurd p
-plain_goes_on (Aborted a) p = absurd p
-plain_goes_on (Off a) p = absurd p
-plain_goes_on Dark p = absurd p
-plain_goes_on (Ended a) p = absurd p
+plain_goes_on said p = absurd p
 
 mark_after : (body ys : List Told) → ArePlain body → next_mark (body ++ ys) ≡ next_mark ys
 mark_after [] ys p = refl

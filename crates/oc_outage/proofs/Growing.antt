@@ -13,13 +13,7 @@ use Rattle.oc_items.proofs.Joined.{NoAbort, erase-append}
 
 without_off-append : (s : Said) (xs ys : List Said) → without_off s (xs ++ ys) ≡ without_off s xs ++ ys
 without_off-append (Sensed a b) xs ys = refl
-without_off-append (Showed a) xs ys = refl
-without_off-append (Entered a) xs ys = refl
-without_off-append (Committed a) xs ys = refl
-without_off-append (Aborted a) xs ys = refl
-without_off-append (Off a) xs ys = refl
-without_off-append Dark xs ys = refl
-without_off-append (Ended a) xs ys = refl
+without_off-append said xs ys = refl
 
 without_offs-append : (xs ys : List Told) → without_offs (xs ++ ys) ≡ without_offs xs ++ without_offs ys
 without_offs-append [] ys = refl
@@ -27,13 +21,7 @@ without_offs-append (i ∷ xs) ys = ap (without_off i.said) (without_offs-append
 
 without_mark-append : (s : Said) (xs ys : List Said) → without_mark s (xs ++ ys) ≡ without_mark s xs ++ ys
 without_mark-append (Sensed a b) xs ys = refl
-without_mark-append (Showed a) xs ys = refl
-without_mark-append (Entered a) xs ys = refl
-without_mark-append (Committed a) xs ys = refl
-without_mark-append (Aborted a) xs ys = refl
-without_mark-append (Off a) xs ys = refl
-without_mark-append Dark xs ys = refl
-without_mark-append (Ended a) xs ys = refl
+without_mark-append said xs ys = refl
 
 without_marks-append : (xs ys : List Said) → without_marks (xs ++ ys) ≡ without_marks xs ++ without_marks ys
 without_marks-append [] ys = refl
@@ -41,13 +29,7 @@ without_marks-append (s ∷ xs) ys = ap (without_mark s) (without_marks-append x
 
 sampled-append : (s : Said) (xs ys : List ℤ) → sampled s (xs ++ ys) ≡ sampled s xs ++ ys
 sampled-append (Sensed a b) xs ys = refl
-sampled-append (Showed a) xs ys = refl
-sampled-append (Entered a) xs ys = refl
-sampled-append (Committed a) xs ys = refl
-sampled-append (Aborted a) xs ys = refl
-sampled-append (Off a) xs ys = refl
-sampled-append Dark xs ys = refl
-sampled-append (Ended a) xs ys = refl
+sampled-append said xs ys = refl
 
 samples_of-append : (xs ys : List Said) → samples_of (xs ++ ys) ≡ samples_of xs ++ samples_of ys
 samples_of-append [] ys = refl

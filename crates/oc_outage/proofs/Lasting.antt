@@ -26,13 +26,9 @@ abbrev HasClosed : World → Type 0
 HasClosed w = IsClosed w.state.phase w.report
 
 closes : (p : Phase) (said : Option Said) (report : List Told) (t : ℕ) → IsTold p said → IsClosed p (with_said report t said)
-closes Waking said report t q = tt
-closes (Undoing k) said report t q = tt
-closes (Restoring k) said report t q = tt
-closes Running said report t q = tt
-closes (Entering k) said report t q = tt
 closes (Over how) said report t q = (report, t, ap (with_said report t) q)
 closes Lost said report t q = absurd q
+closes phase said report t q = tt
 
 abbrev is_lost : Phase → Bool
 is_lost Lost = true
@@ -40,13 +36,8 @@ is_lost p = false
 
 -- a step ends the run only by its last item, and loses no checkpoint
 told_unlost : (p : Phase) (said : Option Said) → IsTold p said → is_lost p ≡ false
-told_unlost Waking said q = refl
-told_unlost (Undoing k) said q = refl
-told_unlost (Restoring k) said q = refl
-told_unlost Running said q = refl
-told_unlost (Entering k) said q = refl
-told_unlost (Over how) said q = refl
 told_unlost Lost said q = absurd q
+told_unlost phase said q = refl
 
 -- what a tick, an outage or the end keep: the last item, and whether a checkpoint was lost
 pub record Keeps (w v : World) : Type 0 where
@@ -80,19 +71,13 @@ module _ (d : Device) (h : ℕ → ℕ → ℤ) where
   awake_closed true Sealed s report t off = (off, (report, t, refl))
   awake_closed true Armed s report t off = tt
   awake_closed false Fresh s report t off = tt
-  awake_closed false Open s report t off = tt
-  awake_closed false Sealed s report t off = tt
-  awake_closed false Armed s report t off = tt
+  awake_closed false area s report t off = tt
 
   awake_lost : (cut : Bool) (a : AreaState) (s : State) → is_lost ((checkpoint cut a s).phase) ≡ (if cut then not (is_armed a) else false)
   awake_lost true Fresh s = refl
-  awake_lost true Open s = refl
-  awake_lost true Sealed s = refl
-  awake_lost true Armed s = refl
+  awake_lost true area s = refl
   awake_lost false Fresh s = refl
-  awake_lost false Open s = refl
-  awake_lost false Sealed s = refl
-  awake_lost false Armed s = refl
+  awake_lost false area s = refl
 
   -- an outage ends a run exactly where it loses the checkpoint
   pub record Fails (p : Period) (w : World) : Type 0 where
@@ -126,13 +111,9 @@ module _ (d : Device) (h : ℕ → ℕ → ℤ) where
     pub lost_is : is_lost v.state.phase ≡ (if is_lost w.state.phase then true else lost)
 
   dark_by : (p : Phase) (w : World) → Ends_as (world_in w p) (darkness (world_in w p)) false
-  dark_by Waking w = record { last = λ c. (w.report, w.tick, refl); lost_is = refl }
-  dark_by (Undoing k) w = record { last = λ c. (w.report, w.tick, refl); lost_is = refl }
-  dark_by (Restoring k) w = record { last = λ c. (w.report, w.tick, refl); lost_is = refl }
-  dark_by Running w = record { last = λ c. (w.report, w.tick, refl); lost_is = refl }
-  dark_by (Entering k) w = record { last = λ c. (w.report, w.tick, refl); lost_is = refl }
   dark_by (Over how) w = record { last = λ c. c; lost_is = refl }
   dark_by Lost w = record { last = λ c. c; lost_is = refl }
+  dark_by phase w = record { last = λ c. (w.report, w.tick, refl); lost_is = refl }
 
   choice_assoc : (a b c : Bool) → (if (if a then true else b) then true else c) ≡ (if a then true else (if b then true else c))
   choice_assoc true b c = refl
@@ -161,13 +142,8 @@ module _ (d : Device) (h : ℕ → ℕ → ℤ) where
   last_item periods = (run_left periods).last tt
 
   lost_is : (p : Phase) → is_lost p ≡ true → p ≡ Lost
-  lost_is Waking e = absurd (cc)
-  lost_is (Undoing k) e = absurd (cc)
-  lost_is (Restoring k) e = absurd (cc)
-  lost_is Running e = absurd (cc)
-  lost_is (Entering k) e = absurd (cc)
-  lost_is (Over how) e = absurd (cc)
   lost_is Lost e = refl
+  lost_is phase e = absurd (cc)
 
   pub lost_exactly : (periods : List Period) → ((power_run d h periods).state.phase ≡ Lost) ↔ (loses_checkpoint d h periods (first_world d) ≡ true)
   lost_exactly periods =
@@ -188,13 +164,9 @@ ends_same : (report : List Told) (r s : Said) → EndsWith report r → EndsWith
 ends_same report r s a b = ap (λ (i : Told). i.said) (last_same a.0 b.0 _ _ (sym a.2 ∙ b.2))
 
 pub ended_over : (p : Phase) (report : List Told) (how : Ending) → IsLeft p report → EndsWith report (Ended how) → p ≡ Over how
-ended_over Waking report how l e = let s = ends_same report Dark (Ended how) l e in absurd (cc)
-ended_over (Undoing k) report how l e = let s = ends_same report Dark (Ended how) l e in absurd (cc)
-ended_over (Restoring k) report how l e = let s = ends_same report Dark (Ended how) l e in absurd (cc)
-ended_over Running report how l e = let s = ends_same report Dark (Ended how) l e in absurd (cc)
-ended_over (Entering k) report how l e = let s = ends_same report Dark (Ended how) l e in absurd (cc)
 ended_over (Over other) report how l e = let s = ends_same report (Ended other) (Ended how) l e in cc
 ended_over Lost report how l e = let s = ends_same report (Off l.0) (Ended how) l.1 e in absurd (cc)
+ended_over phase report how l e = let s = ends_same report Dark (Ended how) l e in absurd (cc)
 
 over_ended : (p : Phase) (report : List Told) (how : Ending) → IsLeft p report → p ≡ Over how → EndsWith report (Ended how)
 over_ended p report how l e = subst (λ p. IsLeft p report) e l

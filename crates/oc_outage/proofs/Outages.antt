@@ -111,12 +111,7 @@ module _ (d : Device) (h : ℕ → ℕ → ℤ) (report : List Told) (c : Count)
   fails_by : (cut : Bool) (area : AreaState) (phase : Phase) (pc fp depth : ℕ) → Holds d area phase depth (state_at phase pc fp depth stack nv log area words) report c made
       → IsGood d h (untried c.kept) made (after cut (state_at phase pc fp depth stack nv log area words))
   fails_by cut Fresh Waking pc fp depth s = record { holds = (settled_off d report c.kept made t off d.start nv s.0, s.1); honest = off_honest d h report made t off a s.0.closed; sized = sized }
-  fails_by cut Fresh (Undoing k) pc fp depth s = absurd s
-  fails_by cut Fresh (Restoring k) pc fp depth s = absurd s
-  fails_by cut Fresh Running pc fp depth s = absurd s
-  fails_by cut Fresh (Entering k) pc fp depth s = absurd s
-  fails_by cut Fresh (Over how) pc fp depth s = absurd s
-  fails_by cut Fresh Lost pc fp depth s = absurd s
+  fails_by cut Fresh phase pc fp depth s = absurd s
   fails_by cut Open Waking pc fp depth s = absurd s
   fails_by cut Open (Undoing k) pc fp depth s = absurd s
   fails_by cut Open (Restoring k) pc fp depth s = absurd s
@@ -126,13 +121,9 @@ module _ (d : Device) (h : ℕ → ℕ → ℤ) (report : List Told) (c : Count)
   fails_by cut Open (Over how) pc fp depth s = record { holds = s; honest = a; sized = sized }
   fails_by cut Open Lost pc fp depth s = record { holds = s; honest = a; sized = sized }
   fails_by cut Sealed Waking pc fp depth s = record { holds = (sealed_off d report c.kept made t off nv words s.0, s.1); honest = off_honest d h report made t off a s.0.settled.closed; sized = sized }
-  fails_by cut Sealed (Undoing k) pc fp depth s = absurd s
   fails_by cut Sealed (Restoring k) pc fp depth s =
       record { holds = (sealed_off d report c.kept made t off nv words s.0.sealed, s.1); honest = off_honest d h report made t off a s.0.sealed.settled.closed; sized = sized }
-  fails_by cut Sealed Running pc fp depth s = absurd s
-  fails_by cut Sealed (Entering k) pc fp depth s = absurd s
-  fails_by cut Sealed (Over how) pc fp depth s = absurd s
-  fails_by cut Sealed Lost pc fp depth s = absurd s
+  fails_by cut Sealed phase pc fp depth s = absurd s
   fails_by cut Armed Waking pc fp depth s = record { holds = waking_off d report c made t off nv log words s; honest = off_honest d h report made t off a s.entry.closed; sized = sized }
   fails_by cut Armed (Undoing k) pc fp depth s =
       record { holds = waking_off d report c made t off nv log words s.waking; honest = off_honest d h report made t off a s.waking.entry.closed; sized = sized }

@@ -31,12 +31,7 @@ module _ (d : Device) (h : ℕ → ℕ → ℤ) (fit : IsFit d) (words_of_h : (s
     step_keeps : (area : AreaState) (phase : Phase) (pc fp depth : ℕ) → Holds d area phase depth (state_at phase pc fp depth stack nv log area words) report c made
         → Stays d h report (counted d phase (state_at phase pc fp depth stack nv log area words) c) made t (step_in d (λ s. h s t) phase (state_at phase pc fp depth stack nv log area words))
     step_keeps Fresh Waking pc fp depth s = ((settled_later d report c.kept made d.start nv s.0, s.1), honest_later d h report made a, sized)
-    step_keeps Fresh (Undoing k) pc fp depth s = absurd s
-    step_keeps Fresh (Restoring k) pc fp depth s = absurd s
-    step_keeps Fresh Running pc fp depth s = absurd s
-    step_keeps Fresh (Entering k) pc fp depth s = absurd s
-    step_keeps Fresh (Over how) pc fp depth s = absurd s
-    step_keeps Fresh Lost pc fp depth s = absurd s
+    step_keeps Fresh phase pc fp depth s = absurd s
     step_keeps Open Waking pc fp depth s = absurd s
     step_keeps Open (Undoing k) pc fp depth s = absurd s
     step_keeps Open (Restoring k) pc fp depth s = absurd s
@@ -46,12 +41,8 @@ module _ (d : Device) (h : ℕ → ℕ → ℤ) (fit : IsFit d) (words_of_h : (s
     step_keeps Open (Over how) pc fp depth s = (ended_later d report c.kept made nv s, honest_later d h report made a, sized)
     step_keeps Open Lost pc fp depth s = (record { regs = s.regs; settled = settled_later d report c.kept made s.regs nv s.settled }, honest_later d h report made a, sized)
     step_keeps Sealed Waking pc fp depth s = ((record { sealed = sealed_later d report c made nv words s.0; restored = none_restored d pc fp stack _ }, s.1), honest_later d h report made a, sized)
-    step_keeps Sealed (Undoing k) pc fp depth s = absurd s
     step_keeps Sealed (Restoring k) pc fp depth s = sealed_keeps d h report c made t k pc fp depth stack nv log words a sized s.0 s.1
-    step_keeps Sealed Running pc fp depth s = absurd s
-    step_keeps Sealed (Entering k) pc fp depth s = absurd s
-    step_keeps Sealed (Over how) pc fp depth s = absurd s
-    step_keeps Sealed Lost pc fp depth s = absurd s
+    step_keeps Sealed phase pc fp depth s = absurd s
     step_keeps Armed Waking pc fp depth s = armed_wakes d h report c made t pc fp depth stack nv log words a sized s
     step_keeps Armed (Undoing k) pc fp depth s = undo_keeps d h report c made t pc fp depth stack nv log words a sized k s
     step_keeps Armed (Restoring k) pc fp depth s = undone_keeps d h report c made t pc fp depth stack nv log words a sized k s
@@ -75,13 +66,9 @@ module _ (d : Device) (h : ℕ → ℕ → ℤ) (fit : IsFit d) (words_of_h : (s
 
   tick_by : (phase : Phase) (c : Count) (made : ℕ) (w : World) → IsGood d h c made (in_phase w phase)
       → IsGood d h (counted d phase (in_phase w phase).state c) (suc made) (tick_on d h (in_phase w phase))
-  tick_by Waking c made w g = good_after Waking c made w g
-  tick_by (Undoing k) c made w g = good_after (Undoing k) c made w g
-  tick_by (Restoring k) c made w g = good_after (Restoring k) c made w g
-  tick_by Running c made w g = good_after Running c made w g
-  tick_by (Entering k) c made w g = good_after (Entering k) c made w g
   tick_by (Over how) c made w g = let s = step_stays (Over how) c made w g in record { holds = s.0; honest = s.1; sized = s.2 }
   tick_by Lost c made w g = let s = step_stays Lost c made w g in record { holds = s.0; honest = s.1; sized = s.2 }
+  tick_by phase c made w g = good_after phase c made w g
 
   tick_keeps : (c : Count) (made : ℕ) (w : World) → IsGood d h c made w → IsGood d h (counted d w.state.phase w.state c) (suc made) (tick_on d h w)
   tick_keeps c made w g = tick_by w.state.phase c made w g

@@ -70,12 +70,7 @@ module _ (d : Device) where
     pub asleep_stands : (area : AreaState) (phase : Phase) → is_awake phase ≡ false → Holds d area phase depth (state_at phase pc fp depth stack nv log area words) report c made
         → StandsAfter d phase c.kept (state_at phase pc fp depth stack nv log area words) report
     asleep_stands Fresh Waking q s = settled_stands d.start s.0
-    asleep_stands Fresh (Undoing j) q s = absurd s
-    asleep_stands Fresh (Restoring j) q s = absurd s
-    asleep_stands Fresh Running q s = absurd s
-    asleep_stands Fresh (Entering j) q s = absurd s
-    asleep_stands Fresh (Over how) q s = absurd s
-    asleep_stands Fresh Lost q s = absurd s
+    asleep_stands Fresh phase q s = absurd s
     asleep_stands Open Waking q s = absurd s
     asleep_stands Open (Undoing j) q s = absurd s
     asleep_stands Open (Restoring j) q s = absurd s
@@ -84,12 +79,8 @@ module _ (d : Device) where
     asleep_stands Open (Over how) q s = s.whole
     asleep_stands Open Lost q s = (s.regs, settled_stands s.regs s.settled)
     asleep_stands Sealed Waking q s = sealed_stands s.0
-    asleep_stands Sealed (Undoing j) q s = absurd s
     asleep_stands Sealed (Restoring j) q s = sealed_stands s.0.sealed
-    asleep_stands Sealed Running q s = absurd s
-    asleep_stands Sealed (Entering j) q s = absurd s
-    asleep_stands Sealed (Over how) q s = absurd s
-    asleep_stands Sealed Lost q s = absurd s
+    asleep_stands Sealed phase q s = absurd s
     asleep_stands Armed Waking q s = waking_stands s
     asleep_stands Armed (Undoing j) q s = waking_stands s.waking
     asleep_stands Armed (Restoring j) q s = waking_stands s.waking
@@ -113,22 +104,14 @@ module _ (d : Device) where
   -- behind an outage nothing is awake
   asleep_at : (cut : Bool) (area : AreaState) (s : State) → is_awake (fail_in d cut Running (record s { area = area })).state.phase ≡ false
   asleep_at true Fresh s = refl
-  asleep_at true Open s = refl
-  asleep_at true Sealed s = refl
-  asleep_at true Armed s = refl
+  asleep_at true area s = refl
   asleep_at false Fresh s = refl
-  asleep_at false Open s = refl
-  asleep_at false Sealed s = refl
-  asleep_at false Armed s = refl
+  asleep_at false area s = refl
 
   asleep_by : (phase : Phase) (p : Period) (w : World) → is_awake (power_fails d p (record w { state = record w.state { phase = phase } })).state.phase ≡ false
-  asleep_by Waking p w = refl
-  asleep_by (Undoing j) p w = refl
-  asleep_by (Restoring j) p w = refl
   asleep_by Running p w = asleep_at p.cut w.state.area (record w.state { phase = Running })
   asleep_by (Entering j) p w = asleep_at p.cut w.state.area (record w.state { phase = Entering j })
-  asleep_by (Over how) p w = refl
-  asleep_by Lost p w = refl
+  asleep_by phase p w = refl
 
   pub asleep : (p : Period) (w : World) → is_awake (power_fails d p w).state.phase ≡ false
   asleep p w = asleep_by w.state.phase p w

@@ -47,9 +47,7 @@ wake_tells d Armed s = told_undoing (length s.log)
 
 resume_tells : (d : Device) (a : AreaState) (done : ℕ) (s : State) → TellsItsEnd (resume d a (in_phase s (Restoring done)))
 resume_tells d Fresh done s = tt
-resume_tells d Open done s = tt
-resume_tells d Sealed done s = tt
-resume_tells d Armed done s = tt
+resume_tells d area done s = tt
 
 choice_tells : (b : Bool) (x y : Stepped) → TellsItsEnd x → TellsItsEnd y → TellsItsEnd (if b then x else y)
 choice_tells true x y p q = p
@@ -66,12 +64,8 @@ enters_tells zero r to s = enter_tells 0 r to s
 enters_tells (suc k) r to s = tt
 
 pub enter_on_tells : (done : ℕ) (n : Next) (s : State) → TellsItsEnd (enter_on done n (in_phase s (Entering done)))
-enter_on_tells done (Goes to w v) s = tt
-enter_on_tells done (Senses x to) s = tt
 enter_on_tells done (Enters r to) s = enter_tells done r to (in_phase s (Entering done))
-enter_on_tells done (Commits r to) s = tt
-enter_on_tells done (Ends how) s = tt
-enter_on_tells done Stuck s = tt
+enter_on_tells done x s = tt
 
 commits_tells : (depth r : ℕ) (to : Regs) (s : State) → TellsItsEnd (commits depth r to (in_phase s Running))
 commits_tells zero r to s = tt

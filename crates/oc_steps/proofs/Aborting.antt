@@ -28,14 +28,10 @@ stays_last m [] u = refl
 stays_last m (i ∷ is) u = by i.said u.0 ∙ stays_last m is u.1
   where
     by : (s : Said) → IsUnmarked s → last_mark (newer s m) is ≡ last_mark m is
-    by (Sensed a b) h = refl
-    by (Showed a) h = refl
     by (Entered a) h = absurd h
     by (Committed a) h = absurd h
     by (Aborted a) h = absurd h
-    by (Off a) h = refl
-    by Dark h = refl
-    by (Ended a) h = refl
+    by said h = refl
 
 last_of : (m : Option Said) (front body : List Told) (t k : ℕ) → AreUnmarked body → last_mark m (front ++ item t (Entered k) ∷ body) ≡ Some (Entered k)
 last_of m [] body t k u = stays_last (Some (Entered k)) body u

@@ -20,13 +20,7 @@ without_offs-append (i ∷ xs) ys = ap (without_off i.said) (without_offs-append
   where
     by : (s : Said) → without_off s (without_offs xs ++ without_offs ys) ≡ without_off s (without_offs xs) ++ without_offs ys
     by (Sensed a b) = refl
-    by (Showed a) = refl
-    by (Entered a) = refl
-    by (Committed a) = refl
-    by (Aborted a) = refl
-    by (Off a) = refl
-    by Dark = refl
-    by (Ended a) = refl
+    by said = refl
 
 pub without_marks-append : (xs ys : List Said) → without_marks (xs ++ ys) ≡ without_marks xs ++ without_marks ys
 without_marks-append [] ys = refl
@@ -34,13 +28,7 @@ without_marks-append (x ∷ xs) ys = ap (without_mark x) (without_marks-append x
   where
     by : (s : Said) → without_mark s (without_marks xs ++ without_marks ys) ≡ without_mark s (without_marks xs) ++ without_marks ys
     by (Sensed a b) = refl
-    by (Showed a) = refl
-    by (Entered a) = refl
-    by (Committed a) = refl
-    by (Aborted a) = refl
-    by (Off a) = refl
-    by Dark = refl
-    by (Ended a) = refl
+    by said = refl
 
 samples_of-append : (xs ys : List Said) → samples_of (xs ++ ys) ≡ samples_of xs ++ samples_of ys
 samples_of-append [] ys = refl
@@ -48,13 +36,7 @@ samples_of-append (x ∷ xs) ys = ap (sampled x) (samples_of-append xs ys) ∙ b
   where
     by : (s : Said) → sampled s (samples_of xs ++ samples_of ys) ≡ sampled s (samples_of xs) ++ samples_of ys
     by (Sensed a b) = refl
-    by (Showed a) = refl
-    by (Entered a) = refl
-    by (Committed a) = refl
-    by (Aborted a) = refl
-    by (Off a) = refl
-    by Dark = refl
-    by (Ended a) = refl
+    by said = refl
 
 pub samples_in-append : (xs ys : List Told) → samples_in (xs ++ ys) ≡ samples_in xs ++ samples_in ys
 samples_in-append xs ys =
@@ -75,26 +57,19 @@ lived-append n (i ∷ e) f es rest h = by i.said es h (λ m fs k. lived-append m
     by Dark es h ih = ih n es h
     by (Entered r) es h ih = ih n es h
     by (Committed r) es h ih = ih n es h
-    by (Sensed a b) [] h ih = absurd (cc (h))
     by (Sensed a b) (x ∷ es) h ih = ap (λ l. record { offs = n; event = x } ∷ l) (ih n es (cc (h)))
-    by (Showed a) [] h ih = absurd (cc (h))
     by (Showed a) (x ∷ es) h ih = ap (λ l. record { offs = n; event = x } ∷ l) (ih n es (cc (h)))
-    by (Aborted a) [] h ih = absurd (cc (h))
     by (Aborted a) (x ∷ es) h ih = ap (λ l. record { offs = n; event = x } ∷ l) (ih n es (cc (h)))
-    by (Ended a) [] h ih = absurd (cc (h))
     by (Ended a) (x ∷ es) h ih = ap (λ l. record { offs = n; event = x } ∷ l) (ih n es (cc (h)))
+    by said [] h ih = absurd (cc (h))
 
 -- ---- one item more
 
 newer_unmarked : (s : Said) → IsUnmarked s → (m : Option Said) → newer s m ≡ m
-newer_unmarked (Sensed a b) h m = refl
-newer_unmarked (Showed a) h m = refl
 newer_unmarked (Entered a) h m = absurd h
 newer_unmarked (Committed a) h m = absurd h
 newer_unmarked (Aborted a) h m = absurd h
-newer_unmarked (Off a) h m = refl
-newer_unmarked Dark h m = refl
-newer_unmarked (Ended a) h m = refl
+newer_unmarked said h m = refl
 
 module _ (t : ℕ) (s : Said) where
   abbrev pub end : List Told
@@ -111,13 +86,7 @@ module _ (t : ℕ) (s : Said) where
     where
       by : (x : Said) (a b : List ℕ) → with_input x n (a ++ b) ≡ with_input x n a ++ b
       by (Sensed k z) a b = refl
-      by (Showed k) a b = refl
-      by (Entered k) a b = refl
-      by (Committed k) a b = refl
-      by (Aborted k) a b = refl
-      by (Off k) a b = refl
-      by Dark a b = refl
-      by (Ended k) a b = refl
+      by said a b = refl
 
   pub is_inside-more : (b : Bool) (e : List Told) → is_inside b (e ++ end) ≡ inside_after (is_inside b e) s
   is_inside-more b [] = refl

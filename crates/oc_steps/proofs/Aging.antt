@@ -398,15 +398,7 @@ module _ (before : ℕ → ℕ) (c : ℕ) where
         ≡ P (step_returned p regions union suc f v fs σ)
     returned_aged (Take env n k) v fs σ = taken_aged env n k v fs σ
     returned_aged (Leave n) v fs σ = ap (λ τ. Goes (map F fs) (Returned (aged_value before v) τ)) (left_aged n σ)
-    returned_aged (Rest f env ss) v fs σ = refl
-    returned_aged (Use f env n u k) v fs σ = refl
-    returned_aged (Work f env n k) v fs σ = refl
-    returned_aged (Done is n u) v fs σ = refl
-    returned_aged (Close r) v fs σ = refl
-    returned_aged (Turns f x t i b env) v fs σ = refl
-    returned_aged (Loop f env n e t b u) v fs σ = refl
-    returned_aged (Test f env n e t b u) v fs σ = refl
-    returned_aged (Back w r) v fs σ = refl
+    returned_aged frame v fs σ = refl
 
     step_aged : (fs : List steps.Frame) (o : Outcome) → step p regions join_ages (λ n. n) (map F fs) (aged_outcome before c o) ≡ P (step p regions union suc fs o)
     step_aged [] o = refl

@@ -103,36 +103,21 @@ shown_own (Tagged n) = eq-eqb n n refl
 -- what equals what was said
 one_entered : (s : Said) (r : ℕ) → is_said s (Entered r) ≡ true → s ≡ Entered r
 one_entered (Entered k) r e = ap (λ x. Entered x) (eqb-true k r e)
-one_entered (Sensed a b) r e = absurd (cc (e))
-one_entered (Showed a) r e = absurd (cc (e))
-one_entered (Committed a) r e = absurd (cc (e))
-one_entered (Aborted a) r e = absurd (cc (e))
-one_entered (Off a) r e = absurd (cc (e))
-one_entered Dark r e = absurd (cc (e))
 one_entered (Ended Halted) r e = absurd (cc (e))
 one_entered (Ended (Trapped k n)) r e = absurd (cc (e))
+one_entered said r e = absurd (cc (e))
 
 one_committed : (s : Said) (r : ℕ) → is_said s (Committed r) ≡ true → s ≡ Committed r
 one_committed (Committed k) r e = ap (λ x. Committed x) (eqb-true k r e)
-one_committed (Sensed a b) r e = absurd (cc (e))
-one_committed (Showed a) r e = absurd (cc (e))
-one_committed (Entered a) r e = absurd (cc (e))
-one_committed (Aborted a) r e = absurd (cc (e))
-one_committed (Off a) r e = absurd (cc (e))
-one_committed Dark r e = absurd (cc (e))
 one_committed (Ended Halted) r e = absurd (cc (e))
 one_committed (Ended (Trapped k n)) r e = absurd (cc (e))
+one_committed said r e = absurd (cc (e))
 
 one_showed : (s : Said) (a : Shown) → is_said s (Showed a) ≡ true → s ≡ Showed a
 one_showed (Showed b) a e = ap (λ x. Showed x) (one_shown b a e)
-one_showed (Sensed c b) a e = absurd (cc (e))
-one_showed (Entered c) a e = absurd (cc (e))
-one_showed (Committed c) a e = absurd (cc (e))
-one_showed (Aborted c) a e = absurd (cc (e))
-one_showed (Off c) a e = absurd (cc (e))
-one_showed Dark a e = absurd (cc (e))
 one_showed (Ended Halted) a e = absurd (cc (e))
 one_showed (Ended (Trapped k n)) a e = absurd (cc (e))
+one_showed said a e = absurd (cc (e))
 
 one_ended : (s : Said) (how : Ending) → is_said s (Ended how) ≡ true → s ≡ Ended how
 one_ended (Ended Halted) Halted e = refl
@@ -142,12 +127,7 @@ one_ended (Ended (Trapped k n)) (Trapped j m) e =
     let h = and_parts (is_kind k j) (n == m) e in
     ap (λ x. Ended (Trapped x n)) (one_kind k j h.0) ∙ ap (λ x. Ended (Trapped j x)) (eqb-true n m h.1)
 one_ended (Sensed a b) how e = absurd (cc (e))
-one_ended (Showed a) how e = absurd (cc (e))
-one_ended (Entered a) how e = absurd (cc (e))
-one_ended (Committed a) how e = absurd (cc (e))
-one_ended (Aborted a) how e = absurd (cc (e))
-one_ended (Off a) how e = absurd (cc (e))
-one_ended Dark how e = absurd (cc (e))
+one_ended said how e = absurd (cc (e))
 
 said_own : (s : Said) → IsTelling s → is_said s s ≡ true
 said_own (Sensed a z) k = ap (λ b. b && int_eq z z) (eq-eqb a a refl) ∙ int_own z
@@ -240,14 +220,7 @@ module _ (p : TProgram) (regions : List TRegion) (nv : Option (List ℤ)) (q : L
 
       answers : (s : Said) → (IsHonestSoFar p regions nv (with s) → ⊥) → IsAnswer p regions nv (with s) (on_end p nv w s w.now)
       answers (Ended Halted) never = halts w.now.out never
-      answers (Ended (Trapped a b)) never = never
-      answers (Sensed a b) never = never
-      answers (Showed a) never = never
-      answers (Entered a) never = never
-      answers (Committed a) never = never
-      answers (Aborted a) never = never
-      answers (Off a) never = never
-      answers Dark never = never
+      answers said never = never
 
   -- ---- a run under way
 
@@ -622,13 +595,10 @@ module _ (p : TProgram) (regions : List TRegion) (nv : Option (List ℤ)) (q : L
 
       wants : (s : Said) → IsTelling s → IsAnswer p regions nv (with s) (on_want p nv regions w s sensor gs τ)
       wants (Sensed a z) l = sensed_right z a (a == sensor) refl
-      wants (Showed a) l = short (Showed a) l tt
-      wants (Entered r) l = short (Entered r) l tt
-      wants (Committed r) l = short (Committed r) l tt
-      wants (Ended how) l = short (Ended how) l tt
       wants (Aborted r) l = absurd l
       wants (Off m) l = absurd l
       wants Dark l = absurd l
+      wants said l = short said l tt
 
     -- ---- it stands at its end
 
@@ -707,14 +677,10 @@ module _ (p : TProgram) (regions : List TRegion) (nv : Option (List ℤ)) (q : L
 
       stands : (s : Said) → IsTelling s → IsAnswer p regions nv (with s) (on_end p nv w s now)
       stands (Ended Halted) l = subst (λ o. IsAnswer p regions nv (with (Ended Halted)) (at_end p nv w now o)) (y.follows.out_age known knows) (halts y.o refl)
-      stands (Ended (Trapped a b)) l = no_other (Ended (Trapped a b)) l (λ d. absurd (cc (d)))
-      stands (Sensed a z) l = no_other (Sensed a z) l (λ d. absurd (cc (d)))
-      stands (Showed a) l = no_other (Showed a) l (λ d. absurd (cc (d)))
-      stands (Entered r) l = no_other (Entered r) l (λ d. absurd (cc (d)))
-      stands (Committed r) l = no_other (Committed r) l (λ d. absurd (cc (d)))
       stands (Aborted r) l = absurd l
       stands (Off m) l = absurd l
       stands Dark l = absurd l
+      stands said l = no_other said l (λ d. absurd (cc (d)))
 
 -- where a run under way is counted, so is what it does next
 next_counted : (p : TProgram) (regions : List TRegion) (q : List Told) (w : Watch) (n : ℕ) (numbered : Numbered p) → IsWatch p regions q w

@@ -47,11 +47,7 @@ hears_right p regions nv q i w a numbered h k e = by i.tick i.said e
     by t (Off m) e = subst (IsAnswer p regions nv (q ++ item t (Off m) ∷ [])) (sym e) (rests_right.offs p regions nv q t m w so k)
     by t Dark e = subst (IsAnswer p regions nv (q ++ item t Dark ∷ [])) (sym e) (rests_right.dark p regions nv q t w so k)
     by t (Aborted r) e = subst (IsAnswer p regions nv (q ++ item t (Aborted r) ∷ [])) (sym e) (aborts_right p regions nv q t r w h k)
-    by t (Sensed b z) e = subst (IsAnswer p regions nv (q ++ item t (Sensed b z) ∷ [])) (sym e.2) (tells_right p regions nv q t (Sensed b z) w e.0 numbered so k tt e.1)
-    by t (Showed b) e = subst (IsAnswer p regions nv (q ++ item t (Showed b) ∷ [])) (sym e.2) (tells_right p regions nv q t (Showed b) w e.0 numbered so k tt e.1)
-    by t (Entered r) e = subst (IsAnswer p regions nv (q ++ item t (Entered r) ∷ [])) (sym e.2) (tells_right p regions nv q t (Entered r) w e.0 numbered so k tt e.1)
-    by t (Committed r) e = subst (IsAnswer p regions nv (q ++ item t (Committed r) ∷ [])) (sym e.2) (tells_right p regions nv q t (Committed r) w e.0 numbered so k tt e.1)
-    by t (Ended b) e = subst (IsAnswer p regions nv (q ++ item t (Ended b) ∷ [])) (sym e.2) (tells_right p regions nv q t (Ended b) w e.0 numbered so k tt e.1)
+    by t said e = subst (IsAnswer p regions nv (q ++ item t said ∷ [])) (sym e.2) (tells_right p regions nv q t said w e.0 numbered so k tt e.1)
 
 -- ---- before the first item
 

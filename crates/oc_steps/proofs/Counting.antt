@@ -107,9 +107,7 @@ module _ (p : TProgram) where
 
     put_since : (σ : Store) (q : Place) (x : Held) → IsStill before σ → IsSince before (put σ q x)
     put_since σ (Local l) x h = still σ h
-    put_since σ (Global g) x h = still σ h
-    put_since σ (Turn z) x h = still σ h
-    put_since σ Nowhere x h = still σ h
+    put_since σ place x h = still σ h
 
     tagged_since : (body : TBlock) (n : ℕ) (k : ℤ) (u : List ℕ) (σ : Store) → IsNoted p body n k → IsStill before σ → IsSince before (tagged (set_home body k) n u σ)
     tagged_since body n k u σ fine h = (same_blocks σ.blocks h.1, tags)
@@ -251,16 +249,7 @@ module _ (p : TProgram) where
 
       returned_counts : (f : Frame) (v : Value) (fs : List Frame) (σ : Store) → FramesNoted p (f ∷ fs) → IsStill before σ → Counts before (step_returned p regions join next f v fs σ)
       returned_counts (Take env n k) v fs σ m h = taken_counts env n k v fs σ m.1 h
-      returned_counts (Leave n) v fs σ m h = (m.1, still σ h)
-      returned_counts (Rest f env ss) v fs σ m h = (m.1, still σ h)
-      returned_counts (Use f env n u k) v fs σ m h = (m.1, still σ h)
-      returned_counts (Work f env n k) v fs σ m h = (m.1, still σ h)
-      returned_counts (Done is n u) v fs σ m h = (m.1, still σ h)
-      returned_counts (Close r) v fs σ m h = (m.1, still σ h)
-      returned_counts (Turns f x t i b env) v fs σ m h = (m.1, still σ h)
-      returned_counts (Loop f env n e t b u) v fs σ m h = (m.1, still σ h)
-      returned_counts (Test f env n e t b u) v fs σ m h = (m.1, still σ h)
-      returned_counts (Back w r) v fs σ m h = (m.1, still σ h)
+      returned_counts frame v fs σ m h = (m.1, still σ h)
 
       pub step_counts : (fs : List Frame) (o : Outcome) → FramesNoted p fs → IsStill before (store_in o) → Counts before (step p regions join next fs o)
       step_counts [] o m h = tt

@@ -11,24 +11,16 @@ use Rattle.oc_items.proofs.Joined.{NoAbort, HasAhead, begins-abort, ahead_on, er
 -- marks
 
 unmarked_mark : (s : Said) (m : Option Said) → IsUnmarked s → mark_or s m ≡ m
-unmarked_mark (Sensed a b) m p = refl
-unmarked_mark (Showed a) m p = refl
 unmarked_mark (Entered a) m p = absurd p
 unmarked_mark (Committed a) m p = absurd p
 unmarked_mark (Aborted a) m p = absurd p
-unmarked_mark (Off a) m p = refl
-unmarked_mark Dark m p = refl
-unmarked_mark (Ended a) m p = refl
+unmarked_mark said m p = refl
 
 unmarked_goes_on : (s : Said) → IsUnmarked s → goes_on s ≡ true
-unmarked_goes_on (Sensed a b) p = refl
-unmarked_goes_on (Showed a) p = refl
 unmarked_goes_on (Entered a) p = absurd p
 unmarked_goes_on (Committed a) p = absurd p
 unmarked_goes_on (Aborted a) p = absurd p
-unmarked_goes_on (Off a) p = refl
-unmarked_goes_on Dark p = refl
-unmarked_goes_on (Ended a) p = refl
+unmarked_goes_on said p = refl
 
 mark_after : (body ys : List Told) → AreUnmarked body → next_mark (body ++ ys) ≡ next_mark ys
 mark_after [] ys p = refl
@@ -40,14 +32,10 @@ hides m [] e h = absurd (cc (h))
 hides m (i ∷ is) e h = by i.said (λ k. hides m is e k) h
   where
     by : (s : Said) → (last_mark None is ≡ Some e → last_mark m is ≡ Some e) → last_mark (newer s None) is ≡ Some e → last_mark (newer s m) is ≡ Some e
-    by (Sensed a b) ih h = ih h
-    by (Showed a) ih h = ih h
     by (Entered a) ih h = h
     by (Committed a) ih h = h
     by (Aborted a) ih h = h
-    by (Off a) ih h = ih h
-    by Dark ih h = ih h
-    by (Ended a) ih h = ih h
+    by said ih h = ih h
 
 module _ (t r : ℕ) where
   skips_all : (body : List Told) → AreUnmarked body → erase_from true (body ++ item t (Aborted r) ∷ []) ≡ []
@@ -75,24 +63,14 @@ module _ (t r : ℕ) where
       by : (s : Said) → last_mark (newer s (Some (Entered k))) is ≢ Some (Entered r)
           → (last_mark (Some (Entered k)) is ≢ Some (Entered r) → begins_stretch (Entered k) (next_mark (is ++ end)) ≡ begins_stretch (Entered k) (next_mark is))
           → begins_stretch (Entered k) (mark_or s (next_mark (is ++ end))) ≡ begins_stretch (Entered k) (mark_or s (next_mark is))
-      by (Sensed a b) h ih = ih h
-      by (Showed a) h ih = ih h
       by (Entered a) h ih = refl
       by (Committed a) h ih = refl
       by (Aborted a) h ih = refl
-      by (Off a) h ih = ih h
-      by Dark h ih = ih h
-      by (Ended a) h ih = ih h
+      by said h ih = ih h
 
   begins_same : (s : Said) (is : List Told) → last_mark (newer s None) is ≢ Some (Entered r) → begins_stretch s (next_mark (is ++ end)) ≡ begins_stretch s (next_mark is)
   begins_same (Entered k) is h = entered_same k is h
-  begins_same (Sensed a b) is h = refl
-  begins_same (Showed a) is h = refl
-  begins_same (Committed a) is h = refl
-  begins_same (Aborted a) is h = refl
-  begins_same (Off a) is h = refl
-  begins_same Dark is h = refl
-  begins_same (Ended a) is h = refl
+  begins_same said is h = refl
 
   choice : (c : Bool) (i : Told) (is : List Told) → begins_stretch i.said (next_mark is) ≡ c → (HasAhead true is → erase_from true (is ++ end) ≡ erase_from true is ++ end)
       → erase_from false (is ++ end) ≡ erase_from false is ++ end → (if c then erase_from true (is ++ end) else i ∷ erase_from false (is ++ end))
@@ -111,14 +89,8 @@ module _ (t r : ℕ) where
       (left_from false is tt (λ e. h (hides (newer i.said None) is (Entered r) e)))
 
 one_added : (t : ℕ) (s : Said) → Rattle.oc_steps.specs.Erasing.IsNoAbort s → (NoAbort (mark_or s None)) × (erase (item t s ∷ []) ≡ item t s ∷ [])
-one_added t (Sensed a b) h = (tt, refl)
-one_added t (Showed a) h = (tt, refl)
-one_added t (Entered a) h = (tt, refl)
-one_added t (Committed a) h = (tt, refl)
 one_added t (Aborted a) h = absurd h
-one_added t (Off a) h = (tt, refl)
-one_added t Dark h = (tt, refl)
-one_added t (Ended a) h = (tt, refl)
+one_added t said h = (tt, refl)
 
 pub erases : Erases
 erases = record {

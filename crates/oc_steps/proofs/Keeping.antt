@@ -93,16 +93,7 @@ module _ (p : TProgram) (regions : List TRegion) (past : List Event) where
     where
       stopped : (f : Frame) (s : Stop) (σ : Store) → after p regions f (Stopped s σ) ≡ Stopped s σ
       stopped (Rest f env ss) s σ = refl
-      stopped (Use f env n u k) s σ = refl
-      stopped (Work f env n k) s σ = refl
-      stopped (Done is n u) s σ = refl
-      stopped (Close r) s σ = refl
-      stopped (Take env n k) s σ = refl
-      stopped (Leave n) s σ = refl
-      stopped (Turns f x t i b env) s σ = refl
-      stopped (Loop f env n c t b before) s σ = refl
-      stopped (Test f env n c t b all) s σ = refl
-      stopped (Back v r) s σ = refl
+      stopped frame s σ = refl
 
   -- an input under the frames that take its value
   makes_sense : (s : ℕ) (f : Frame) (fs : List Frame) (σ : Store) → Makes (Asks s (f ∷ fs) σ) fs (λ t. after p regions f (exec.sense s t (with_left past t σ)))
@@ -282,16 +273,10 @@ module _ (p : TProgram) (regions : List TRegion) (past : List Event) where
 
   makes_returned : (f : Frame) (v : Value) (fs : List Frame) (σ : Store) → Makes (step_returned p regions union suc f v fs σ) fs (λ t. after p regions f (Returned v (with_left past t σ)))
   makes_returned (Take env n k) v fs σ = makes_taken env n k v fs σ
-  makes_returned (Leave n) v fs σ = λ t. refl
-  makes_returned (Rest f env ss) v fs σ = λ t. refl
-  makes_returned (Use f env n u k) v fs σ = λ t. refl
-  makes_returned (Work f env n k) v fs σ = λ t. refl
-  makes_returned (Done is n u) v fs σ = λ t. refl
-  makes_returned (Close r) v fs σ = λ t. refl
   makes_returned (Turns f x t i b env) v fs σ = λ t. refl
   makes_returned (Loop f env n c t b before) v fs σ = λ t. refl
   makes_returned (Test f env n c t b all) v fs σ = λ t. refl
-  makes_returned (Back w r) v fs σ = λ t. refl
+  makes_returned frame v fs σ = λ t. refl
 
   stays_stopped : (fs : List Frame) (s : Stop) (σ : Store) → resume p regions fs (Stopped s σ) ≡ Stopped s σ
   stays_stopped [] s σ = refl
@@ -299,16 +284,7 @@ module _ (p : TProgram) (regions : List TRegion) (past : List Event) where
     where
       stopped : (f : Frame) → after p regions f (Stopped s σ) ≡ Stopped s σ
       stopped (Rest f env ss) = refl
-      stopped (Use f env n u k) = refl
-      stopped (Work f env n k) = refl
-      stopped (Done is n u) = refl
-      stopped (Close r) = refl
-      stopped (Take env n k) = refl
-      stopped (Leave n) = refl
-      stopped (Turns f x t i b env) = refl
-      stopped (Loop f env n c t b before) = refl
-      stopped (Test f env n c t b all) = refl
-      stopped (Back v r) = refl
+      stopped frame = refl
 
 module _ (p : TProgram) (regions : List TRegion) where
   keeps_made : (s : Step) (f : Frame) (fs : List Frame) (o : Outcome) → ((past : List Event) → Makes p regions past s fs (λ t. after p regions f (with_more past t o))) → Keeps p regions s (f ∷ fs) o

@@ -19,9 +19,7 @@ use Rattle.oc_steps.specs.Follow.{with_left, with_more}
 module _ (past : List Event) (t : List ℤ) where
   pub held_left : (σ : Store) (q : Place) → held_at (with_left past t σ) q ≡ held_at σ q
   held_left σ (Local l) = refl
-  held_left σ (Global g) = refl
-  held_left σ (Turn z) = refl
-  held_left σ Nowhere = refl
+  held_left σ place = refl
 
   combined_same : (op : BinaryOp) (g h : Got) → combined op g h ≡ combined_by union op g h
   combined_same And g h = refl
@@ -75,9 +73,7 @@ module _ (past : List Event) (t : List ℤ) where
 
   pub put_left : (σ : Store) (q : Place) (h : Held) → put (with_left past t σ) q h ≡ with_left past t (put σ q h)
   put_left σ (Local l) h = refl
-  put_left σ (Global g) h = refl
-  put_left σ (Turn z) h = refl
-  put_left σ Nowhere h = refl
+  put_left σ place h = refl
 
   told_left : (b : Bool) (s : Said) (es : List Event) → told_if b s (es ++ past) ≡ told_if b s es ++ past
   told_left true s es = refl
@@ -107,6 +103,4 @@ module _ (past : List Event) (t : List ℤ) where
   pub written_left : (q : Place) (o : Option ℕ) (i v : Value) (n : ℕ) (σ : Store) → element_written q o i v n (with_left past t σ) ≡ with_more past t (element_written_by union q o i v n σ)
   written_left q None i v n σ = refl
   written_left (Local l) (Some e) i v n σ = refl
-  written_left (Global g) (Some e) i v n σ = refl
-  written_left (Turn z) (Some e) i v n σ = refl
-  written_left Nowhere (Some e) i v n σ = refl
+  written_left place (Some e) i v n σ = refl

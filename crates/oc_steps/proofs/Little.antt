@@ -54,9 +54,7 @@ module _ (m : ℕ) where
 
   put_none : (σ : Store) (q : Place) (x : Held) → IsSilent m σ → AtMostOne m (put σ q x).taken (put σ q x).events
   put_none σ (Local l) x h = (h.1, inl h.0)
-  put_none σ (Global g) x h = (h.1, inl h.0)
-  put_none σ (Turn z) x h = (h.1, inl h.0)
-  put_none σ Nowhere x h = (h.1, inl h.0)
+  put_none σ place x h = (h.1, inl h.0)
 
   written_one : (q : Place) (o : Option ℕ) (i v : Value) (n : ℕ) (σ : Store) → IsSilent m σ → SaysOne m (element_written_by union q o i v n σ)
   written_one q None i v n σ h = traps_one traps.Index n σ h
@@ -166,16 +164,7 @@ module _ (m : ℕ) where
 
     returned_little : (f : Frame) (v : Value) (fs : List Frame) (σ : Store) → IsSilent m σ → Little m (step_returned p regions union suc f v fs σ)
     returned_little (Take env n k) v fs σ h = taken_little env n k v fs σ h
-    returned_little (Leave n) v fs σ h = (h.1, inl h.0)
-    returned_little (Rest f env ss) v fs σ h = (h.1, inl h.0)
-    returned_little (Use f env n u k) v fs σ h = (h.1, inl h.0)
-    returned_little (Work f env n k) v fs σ h = (h.1, inl h.0)
-    returned_little (Done is n u) v fs σ h = (h.1, inl h.0)
-    returned_little (Close r) v fs σ h = (h.1, inl h.0)
-    returned_little (Turns f x t i b env) v fs σ h = (h.1, inl h.0)
-    returned_little (Loop f env n e t b u) v fs σ h = (h.1, inl h.0)
-    returned_little (Test f env n e t b u) v fs σ h = (h.1, inl h.0)
-    returned_little (Back w r) v fs σ h = (h.1, inl h.0)
+    returned_little frame v fs σ h = (h.1, inl h.0)
 
 pub says_little : SaysLittle
 says_little p regions [] o h = tt

@@ -48,12 +48,7 @@ unmarked_said (x ∷ es) = by x.said refl (unmarked_said es)
         → map (λ e. e.said) (if is_mark s then unmarked es else x ∷ unmarked es) ≡ without_mark s (without_marks (map (λ e. e.said) es))
     by (Entered r) e h = h
     by (Committed r) e h = h
-    by (Sensed a b) e h = ap (λ l. x.said ∷ l) h ∙ ap (λ s. s ∷ without_marks (map (λ e. e.said) es)) e
-    by (Showed a) e h = ap (λ l. x.said ∷ l) h ∙ ap (λ s. s ∷ without_marks (map (λ e. e.said) es)) e
-    by (Aborted a) e h = ap (λ l. x.said ∷ l) h ∙ ap (λ s. s ∷ without_marks (map (λ e. e.said) es)) e
-    by (Off a) e h = ap (λ l. x.said ∷ l) h ∙ ap (λ s. s ∷ without_marks (map (λ e. e.said) es)) e
-    by Dark e h = ap (λ l. x.said ∷ l) h ∙ ap (λ s. s ∷ without_marks (map (λ e. e.said) es)) e
-    by (Ended a) e h = ap (λ l. x.said ∷ l) h ∙ ap (λ s. s ∷ without_marks (map (λ e. e.said) es)) e
+    by it e h = ap (λ l. x.said ∷ l) h ∙ ap (λ s. s ∷ without_marks (map (λ e. e.said) es)) e
 
 pub told_last : (e : Event) (past : List Event) → said_so_far (e ∷ past) ≡ said_so_far past ++ e.said ∷ []
 told_last e past = map-append (λ x. x.said) (in_order past) (e ∷ [])
@@ -65,23 +60,14 @@ too_long (x ∷ ss) s h = too_long ss s (h.0, cc (h.1))
 
 tell_facts : (t : ℕ) (s : Said) → IsTelling s → IsNoAbort s × (without_offs (item t s ∷ []) ≡ s ∷ []) × ((n : ℕ) → off_more s n ≡ n) × ((b : Bool) → MayStand b s)
 tell_facts t (Sensed a b) k = (tt, refl, λ n. refl, λ b. tt)
-tell_facts t (Showed a) k = (tt, refl, λ n. refl, λ b. tt)
-tell_facts t (Entered a) k = (tt, refl, λ n. refl, λ b. tt)
-tell_facts t (Committed a) k = (tt, refl, λ n. refl, λ b. tt)
-tell_facts t (Ended a) k = (tt, refl, λ n. refl, λ b. tt)
 tell_facts t (Aborted a) k = absurd k
 tell_facts t (Off a) k = absurd k
 tell_facts t Dark k = absurd k
+tell_facts t said k = (tt, refl, λ n. refl, λ b. tt)
 
 pub silent_facts : (t : ℕ) (s : Said) → IsNoInput s → (samples_in (item t s ∷ []) ≡ []) × ((n : ℕ) → with_input s n [] ≡ [])
 silent_facts t (Sensed a b) k = absurd k
-silent_facts t (Showed a) k = (refl, λ n. refl)
-silent_facts t (Entered a) k = (refl, λ n. refl)
-silent_facts t (Committed a) k = (refl, λ n. refl)
-silent_facts t (Ended a) k = (refl, λ n. refl)
-silent_facts t (Aborted a) k = (refl, λ n. refl)
-silent_facts t (Off a) k = (refl, λ n. refl)
-silent_facts t Dark k = (refl, λ n. refl)
+silent_facts t said k = (refl, λ n. refl)
 
 module _ (p : TProgram) (regions : List TRegion) where
   pub begins_now : (v : List ℤ) (past : List Event) (fs : List Frame) (o : Outcome) → Under p regions v past fs o → Begins (in_order past) (marked_run p regions v).events

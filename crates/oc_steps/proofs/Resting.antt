@@ -36,22 +36,12 @@ IsQuiet s = ⊥
 quiet_adds : (s : Said) → IsQuiet s → IsNoAbort s × ((how : Ending) → s ≡ Ended how → ⊥)
 quiet_adds (Off m) k = (tt, λ how e. absurd (cc (e)))
 quiet_adds Dark k = (tt, λ how e. absurd (cc (e)))
-quiet_adds (Sensed a b) k = absurd k
-quiet_adds (Showed a) k = absurd k
-quiet_adds (Entered a) k = absurd k
-quiet_adds (Committed a) k = absurd k
-quiet_adds (Aborted a) k = absurd k
-quiet_adds (Ended a) k = absurd k
+quiet_adds said k = absurd k
 
 quiet_says : (t : ℕ) (s : Said) → IsQuiet s → (without_offs (item t s ∷ []) ≡ []) × ((n : ℕ) → with_input s n [] ≡ []) × ((b : Bool) → inside_after b s ≡ b)
 quiet_says t (Off m) k = (refl, λ n. refl, λ b. refl)
 quiet_says t Dark k = (refl, λ n. refl, λ b. refl)
-quiet_says t (Sensed a b) k = absurd k
-quiet_says t (Showed a) k = absurd k
-quiet_says t (Entered a) k = absurd k
-quiet_says t (Committed a) k = absurd k
-quiet_says t (Aborted a) k = absurd k
-quiet_says t (Ended a) k = absurd k
+quiet_says t said k = absurd k
 
 module _ (t : ℕ) (s : Said) (k : IsQuiet s) where
   abbrev end : List Told
@@ -75,12 +65,7 @@ module _ (t : ℕ) (s : Said) (k : IsQuiet s) where
       by : (s : Said) → IsQuiet s → lives s n es (λ m fs. []) ≡ []
       by (Off m) k = refl
       by Dark k = refl
-      by (Sensed a b) k = absurd k
-      by (Showed a) k = absurd k
-      by (Entered a) k = absurd k
-      by (Committed a) k = absurd k
-      by (Aborted a) k = absurd k
-      by (Ended a) k = absurd k
+      by said k = absurd k
   same_lived n (i ∷ e) es = by i.said es (λ m fs. same_lived m e fs)
     where
       by : (x : Said) (es : List Event) → ((m : ℕ) (fs : List Event) → lived_from m (e ++ end) fs ≡ lived_from m e fs) → lives x n es (λ m fs. lived_from m (e ++ end) fs)
@@ -89,14 +74,11 @@ module _ (t : ℕ) (s : Said) (k : IsQuiet s) where
       by Dark es ih = ih n es
       by (Entered r) es ih = ih n es
       by (Committed r) es ih = ih n es
-      by (Sensed a b) [] ih = refl
       by (Sensed a b) (x ∷ es) ih = ap (λ l. record { offs = n; event = x } ∷ l) (ih n es)
-      by (Showed a) [] ih = refl
       by (Showed a) (x ∷ es) ih = ap (λ l. record { offs = n; event = x } ∷ l) (ih n es)
-      by (Aborted a) [] ih = refl
       by (Aborted a) (x ∷ es) ih = ap (λ l. record { offs = n; event = x } ∷ l) (ih n es)
-      by (Ended a) [] ih = refl
       by (Ended a) (x ∷ es) ih = ap (λ l. record { offs = n; event = x } ∷ l) (ih n es)
+      by said [] ih = refl
 
   module _ (p : TProgram) (regions : List TRegion) (nv : Option (List ℤ)) (q : List Told) where
     e' : erase (q ++ end) ≡ erase q ++ end

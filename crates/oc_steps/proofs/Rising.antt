@@ -57,16 +57,7 @@ module _ (p : TProgram) (sets : List Instance) (fs : List Frame) (blocks : List 
 
       by : (s : Said) → e.said ≡ s → falls p s e sets ≡ false
       by (Showed (Tagged n)) h = set n h (set_of p n) refl
-      by (Showed (Emitted q z)) h = refl
-      by (Showed (Used n)) h = refl
-      by (Showed (Finished n)) h = refl
-      by (Sensed s z) h = refl
-      by (Entered r) h = refl
-      by (Committed r) h = refl
-      by (Aborted r) h = refl
-      by (Off m) h = refl
-      by Dark h = refl
-      by (Ended how) h = refl
+      by said h = refl
 
   -- what is remembered with it
   pub tag_counted : (s : ℕ × ℤ) → e.instance ≡ times p s blocks → AreCounted p (with_tag (Some s) e sets) fs blocks

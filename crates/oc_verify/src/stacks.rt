@@ -8,6 +8,7 @@ ghost use Rattle.std.specs.Prelude.{
   [],
   ◌∷◌,
   ◌++◌,
+  drop,
   length,
   nat_eq,
   IfOk,
@@ -21,7 +22,7 @@ ghost use Rattle.std.specs.Prelude.{
 };
 ghost use Rattle.std.specs.List.{list_any};
 ghost use Rattle.oc_verify.specs.Stacks.{kind_limit, stack, with_node, Grows, IsIndex};
-ghost use Rattle.oc_verify.specs.Told.{kinds, Tells, IsTop};
+ghost use Rattle.oc_verify.specs.Told.{kinds, Leaves, Tells, IsTop};
 ghost use Rattle.oc_verify.specs.Rules.{number, place, closing, dropping, none_open};
 
 use crate::fault::Fault;
@@ -39,7 +40,7 @@ pub struct Stacks {
     nodes: Vec<u64>,
     /// The place of each node, in an ordered map: no nodes of an image can make it slow.
     places: BTreeMap<u64, u32>,
-    /// The last answer of `without`: so many words off this stack leave that one.
+    /// The last answer of `drop_arguments`: so many words off this stack leave that one.
     last: (u32, u32, u32),
 }
 
@@ -224,28 +225,43 @@ impl Stacks {
         ensures within { IfOk result (λ n. n ≤ length self.old) }
         ensures same { self.new ≡ self.old }
     {
-        let (last_count, last_ops, last_rest) = self.last;
-        if count == last_count && ops == last_ops {
-            return Ok(last_rest);
-        }
-        let rest = self.below(count, ops)?;
+        let rest = self.below(count, ops, self.last)?;
         self.last = (count, ops, rest);
         Ok(rest)
     }
 
-    /// The kinds below so many arguments, one by one.
-    fn below(&self, count: u32, ops: u32) -> Result<u32, Fault>
-        requires { ops ≤ length self.now }
+    /// The stack below the topmost word; the empty one has itself below it.
+    fn under(&self, number: u32) -> u32
+        requires { number ≤ length self.now }
+        ensures under { kinds self.now result ≡ drop 1 (kinds self.now number) }
+        ensures within { result ≤ length self.now }
+    {
+        match self.top(number) {
+            Some((_, below)) => below,
+            None => 0,
+        }
+    }
+
+    /// The kinds below so many arguments, one by one, until the stack goes on as that of the last
+    /// answer does.
+    fn below(&self, count: u32, ops: u32, last: (u32, u32, u32)) -> Result<u32, Fault>
+        requires ops { ops ≤ length self.now }
+        requires last { Leaves self.now last }
         ensures exact { Tells (λ n. kinds self.now n) result
             (dropping count (kinds self.now ops)) }
         ensures within { IfOk result (λ n. n ≤ length self.now) }
     {
         let mut rest = ops;
+        let mut beside = last.1;
         for _done in 0..count {
+            if rest == beside && count == last.0 {
+                return Ok(last.2);
+            }
             match self.top(rest) {
                 Some((_, below)) => rest = below,
                 None => return Err(Fault::Broken { rule: 5 }),
             }
+            beside = self.under(beside);
         }
         Ok(rest)
     }

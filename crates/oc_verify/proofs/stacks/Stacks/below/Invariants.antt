@@ -7,4 +7,6 @@ invariant-loop-done l = record {
   rest : l.rest ≤ length l.self;
   below : kinds l.self l.rest ≡ drop l._done (kinds l.self l.ops);
   deep : l._done ≤ length (kinds l.self l.ops);
+  other : l.beside ≤ length l.self;
+  along : kinds l.self l.beside ≡ drop l._done (kinds l.self l.last.1);
 }

@@ -1,14 +1,16 @@
 -- Statements, calls and functions for which nothing is to be done.
-use Rattle.std.proofs.Common.{◌≡◌, refl, ap, ◌∙◌, ℕ, Bool, true, false, true≢false, List, [], ◌∷◌, cond, filter, Option, Some, None}
-use Rattle.std.specs.Prelude.{◌&&◌, is_some}
+use Rattle.std.proofs.Common.{◌≡◌, refl, ap, ◌∙◌, ℕ, Bool, true, false, true≢false, List, [], ◌∷◌, ◌++◌, cond, filter, Option, Some, None}
+use Rattle.std.specs.Prelude.{◌&&◌, ◌||◌, flat_map, is_some, not}
+use Rattle.std.specs.List.{list_any}
 use Rattle.oc_tree.specs.Tree.{TProgram}
 use Rattle.oc_tree.specs.declared.tree.VarId.{VarId}
 use Rattle.oc_effects.specs.Effects.{TCalled, TEffect, effects_at}
 use Rattle.oc_flow.specs.Variables.{variables, is_given}
 use Rattle.oc_flow.specs.Flow.{brings_at, may_bring_at}
 use Rattle.oc_flow.proofs.Nothing.{no_bringer}
-use Rattle.oc_needs.specs.Requirements.{with_inputs}
-use Rattle.oc_needs.specs.Code.{loops_by, source_of, source_list, sources, stands_for, needed_in_call, is_given_to, sites_for, call_list}
+use Rattle.oc_needs.specs.Need.{is_empty}
+use Rattle.oc_needs.specs.Requirements.{rising, with_inputs}
+use Rattle.oc_needs.specs.Code.{TSource, is_looped, looped_sites, sites_from, sites_inside, loops_by, source_of, source_list, sources, stands_for, needed_in_call, is_given_to, sites_for, call_list}
 use Rattle.oc_needs.proofs.SiteLists.{no_sites}
 
 none_kept : {A : Type 0} (t : A → Bool) (xs : List A) → ((x : A) → t x ≡ false) → filter t xs ≡ []
@@ -42,3 +44,16 @@ pub none_listed : (p : TProgram) (g : ℕ) (rows : List (List VarId)) (a : TEffe
 none_listed p g rows a h =
     ap (λ vs. sites_for p g vs (a.stmt ∷ [])) (none_needed rows (variables p g) a.call h)
     ∙ ap (λ ns. with_inputs ns (a.stmt ∷ [])) (no_sites p g (sources p g (effects_at p g)))
+
+-- where no statement with inputs stands in a loop, no variable has sites of such
+pub none_looped : (p : TProgram) (f : ℕ) (x : VarId) (ss : List TSource) → list_any is_looped ss ≡ false → looped_sites p f ss x ≡ []
+none_looped p f x ss h = ap rising (none ss h)
+  where
+    none : (ss : List TSource) → list_any is_looped ss ≡ false → flat_map (sites_inside p f x) ss ≡ []
+    none [] h = refl
+    none (s ∷ ss) h = by (is_empty s.loops) h (none ss)
+      where
+        by : (b : Bool) → not b || list_any is_looped ss ≡ false → (list_any is_looped ss ≡ false → flat_map (sites_inside p f x) ss ≡ [])
+            → cond b [] (sites_from p f (x ∷ []) s s.brought) ++ flat_map (sites_inside p f x) ss ≡ []
+        by true h rest = rest h
+        by false h rest = absurd (true≢false h)

@@ -15,3 +15,4 @@ pub mod RequiredLaw
 pub mod NeedLaw
 pub mod SiteTables
 pub mod Idle
+pub mod Own

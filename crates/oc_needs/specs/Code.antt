@@ -79,6 +79,10 @@ source_list s = cond (is_empty s.brought) [] (s ∷ [])
 abbrev pub sources : TProgram → ℕ → List TEffect → List TSource
 sources p f es = flat_map (λ a. source_list (source_of p f a)) es
 
+-- it stands in a loop
+abbrev pub is_looped : TSource → Bool
+is_looped s = not (is_empty s.loops)
+
 -- the site of an input that it brings into `u`, for `x`
 abbrev pub source_site : TProgram → ℕ → TSource → (u x : VarId) → ℕ
 source_site p f s u x = unwrap_or (find (lifts_by p f u x) s.loops) s.stmt
@@ -125,16 +129,18 @@ callee (Some c) = c.function ∷ []
 abbrev pub callees : List TEffect → List ℕ
 callees es = flat_map (λ a. callee a.call) es
 
--- the variables of a function, the statements that bring input, and its callees
+-- the variables of a function, the statements that bring input and whether one of them stands in a loop, and its callees
 pub record TLocal : Type 0 where
   pub variables : List VarId
   pub sources : List TSource
+  pub has_looped : Bool
   pub callees : List ℕ
 
 abbrev pub local_at : TProgram → ℕ → TLocal
 local_at p f = record {
   variables = variables p f;
   sources = sources p f (effects_at p f);
+  has_looped = list_any is_looped (sources p f (effects_at p f));
   callees = callees (effects_at p f);
 }
 

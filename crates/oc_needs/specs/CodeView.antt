@@ -21,6 +21,7 @@ abbrev pub local_view : Local → TLocal
 local_view l = record {
   variables = l.variables.items;
   sources = map source_view l.sources.items;
+  has_looped = l.has_looped;
   callees = l.callees.items;
 }
 
@@ -43,6 +44,7 @@ pub record IsBody (b : Body) : Type 0 where
       ≡ (local_at b.summaries.now.program b.function).variables
   pub sources : map source_view b.local.now.sources.items
       ≡ (local_at b.summaries.now.program b.function).sources
+  pub has_looped : b.local.now.has_looped ≡ (local_at b.summaries.now.program b.function).has_looped
   pub callees : b.local.now.callees.items ≡ (local_at b.summaries.now.program b.function).callees
   pub looped : IsLooped b.summaries.now.program b.function (sites_view b.looped.now)
 

@@ -1,12 +1,13 @@
 //! What is known of a function for all policies.
-ghost use Rattle.std.specs.Prelude.{◌≡◌, ◌<◌, ◌+◌, ◌++◌, [], map, filter, length, IfOk, OnOk};
+ghost use Rattle.std.specs.Prelude.{◌≡◌, ◌<◌, ◌+◌, ◌++◌, ◌∷◌, [], cond, map, filter, length, IfOk, OnOk};
 ghost use Rattle.std.proofs.Math.ListN.{get_or};
 ghost use Rattle.oc_tree.specs.declared.tree.VarId.TheVariants.{Nv, Param};
 ghost use Rattle.oc_effects.specs.Effects.{effects_at, params_at};
 ghost use Rattle.oc_effects.specs.View.{effect_view};
-ghost use Rattle.oc_flow.specs.Flow.{brings_at};
+ghost use Rattle.std.specs.List.{list_any};
+ghost use Rattle.oc_flow.specs.Flow.{brings_at, flows};
 ghost use Rattle.oc_flow.specs.Variables.{from, is_among, variables};
-ghost use Rattle.oc_needs.specs.Code.{callee, callees, declared_by, is_loop_by, all_locals, local_at, looped_at, loops_by, source_list, source_of, sources};
+ghost use Rattle.oc_needs.specs.Code.{callee, callees, declared_by, is_loop_by, is_looped, all_locals, local_at, looped_at, loops_by, source_list, source_of, sources};
 ghost use Rattle.oc_needs.specs.CodeView.{local_view, sites_view, source_view, tables_view, IsBody};
 
 use crate::place::{function_count, number_of};
@@ -25,12 +26,13 @@ pub struct Source {
     pub brought: Vec<VarId>,
 }
 
-/// The variables of a function, the statements that bring input into any of them, and the functions
-/// that its statements call.
+/// The variables of a function, the statements that bring input into any of them and whether one of
+/// these stands in a loop, and the functions that its statements call.
 #[derive(Drop)]
 pub struct Local {
     pub variables: Vec<VarId>,
     pub sources: Vec<Source>,
+    pub has_looped: bool,
     pub callees: Vec<u32>,
 }
 
@@ -88,18 +90,63 @@ fn keep_among(
         .collect(alloc)
 }
 
-/// The variables into which a statement brings input.
+/// A variable, if the function at a place has it: then it flows into itself.
+fn keep_own(
+    alloc: Global,
+    summaries: &Summaries,
+    function: u32,
+    v: VarId,
+) -> Result<Vec<VarId>, AllocError>
+    ensures { IfOk result
+        (λ r. r.items ≡ cond (flows summaries.now.program function v v) (v ∷ []) []) }
+{
+    let mut kept = Vec::new(alloc);
+    if summaries.flows(function, v, v) {
+        kept.push(v)?;
+    }
+    Ok(kept)
+}
+
+/// Those of a function's variables that are among others, of which there is mostly one.
+fn keep_each(
+    alloc: Global,
+    summaries: &Summaries,
+    function: u32,
+    others: &[VarId],
+    own: &[VarId],
+) -> Result<Vec<VarId>, AllocError>
+    requires function { function < length summaries.now.program.functions }
+    requires own { own.now ≡ variables summaries.now.program function }
+    ensures { IfOk result (λ v. v.items ≡ filter (λ v. is_among v others.now) own.now) }
+{
+    let effects = summaries.effects();
+    // For the proof alone: it tells that the program is checked.
+    let _program = effects.checked().program();
+    if others.len() == 1 {
+        let only = others[0];
+        let kept = keep_own(alloc, summaries, function, only)?;
+        return Ok(kept);
+    }
+    let kept = keep_among(alloc, others, own)?;
+    Ok(kept)
+}
+
+/// The variables of a function into which a statement brings input.
 fn brought_by(
     alloc: Global,
     summaries: &Summaries,
+    function: usize,
     s: StmtId,
-    variables: &[VarId],
+    own: &[VarId],
 ) -> Result<Vec<VarId>, AllocError>
+    requires function { function < length summaries.now.program.functions }
+    requires own { own.now ≡ variables summaries.now.program function }
     ensures { IfOk result
-        (λ v. v.items ≡ filter (brings_at summaries.now.program s) variables.now) }
+        (λ v. v.items ≡ filter (brings_at summaries.now.program s) own.now) }
 {
+    let number = number_of(function)?;
     let brought = summaries.brought(alloc, s)?;
-    let kept = keep_among(alloc, brought.as_slice(), variables)?;
+    let kept = keep_each(alloc, summaries, number, brought.as_slice(), own)?;
     Ok(kept)
 }
 
@@ -185,7 +232,7 @@ fn add_source(
     if !summaries.may_bring(effect.stmt) {
         return Ok(());
     }
-    let brought = brought_by(alloc, summaries, effect.stmt, own)?;
+    let brought = brought_by(alloc, summaries, function, effect.stmt, own)?;
     if brought.is_empty() {
         return Ok(());
     }
@@ -221,6 +268,25 @@ fn sources_of(
     Ok(sources)
 }
 
+/// Whether an input stands in a loop.
+fn is_looped(source: &Source) -> bool
+    ensures { result ≡ is_looped (source_view source.now) }
+{
+    !source.loops.is_empty()
+}
+
+/// Whether a statement that brings input stands in a loop.
+fn has_looped(sources: &[Source]) -> bool
+    ensures { result ≡ list_any is_looped (map source_view sources.now) }
+{
+    for source in sources {
+        if is_looped(source) {
+            return true;
+        }
+    }
+    false
+}
+
 /// Adds the function that a statement calls, if it calls one. Err is want of memory.
 fn add_callee(callees: &mut Vec<u32>, effect: &Effect) -> Result<(), AllocError>
     ensures { OnOk result
@@ -253,10 +319,12 @@ fn local_of(alloc: Global, summaries: &Summaries, function: usize) -> Result<Loc
 {
     let variables = variables_of(alloc, summaries.effects(), function)?;
     let sources = sources_of(alloc, summaries, function, variables.as_slice())?;
+    let looped = has_looped(sources.as_slice());
     let callees = callees_of(alloc, summaries.effects().of_function(function))?;
     Ok(Local {
         variables,
         sources,
+        has_looped: looped,
         callees,
     })
 }

@@ -225,6 +225,9 @@ pub fn looped_sites(alloc: Global, body: &Body, x: VarId) -> Result<Vec<StmtId>,
         (sources body.now.summaries.now.program body.now.function
         (effects_at body.now.summaries.now.program body.now.function)) x) }
 {
+    if !body.local.has_looped {
+        return Ok(Vec::new(alloc));
+    }
     let mut sites = inside_sites(alloc, body, body.local.sources.as_slice(), x)?;
     sort_once(&mut sites);
     Ok(sites)

@@ -27,6 +27,7 @@ returns-clause-body c =
       here = subst (λ k. k < length p.functions) (sym number) few;
       variables = ap (λ l. l.variables) same;
       sources = ap (λ l. l.sources) same;
+      has_looped = ap (λ l. l.has_looped) same;
       callees = ap (λ l. l.callees) same;
       looped = subst (λ r. IsLooped p n r) (sym c.table_at-looped.ensures) (subst (λ k. IsLooped p k (get_or (tables_view c.args.looped.now) i [])) (sym number) known);
     }

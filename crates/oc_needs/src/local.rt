@@ -268,14 +268,14 @@ fn sources_of(
     Ok(sources)
 }
 
-/// Whether an input stands in a loop.
+/// Whether a statement that brings input stands in a loop.
 fn is_looped(source: &Source) -> bool
     ensures { result ≡ is_looped (source_view source.now) }
 {
     !source.loops.is_empty()
 }
 
-/// Whether a statement that brings input stands in a loop.
+/// Whether one of the statements that bring input stands in a loop.
 fn has_looped(sources: &[Source]) -> bool
     ensures { result ≡ list_any is_looped (map source_view sources.now) }
 {

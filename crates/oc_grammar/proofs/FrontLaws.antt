@@ -56,32 +56,7 @@ mark_of n = get_or marks_in_order n marks.Range
 mark_back : (m : Mark) → mark_of (mark_number m) ≡ m
 unfolding mark_of marks_in_order
 mark_back marks.OpenRound = refl
-mark_back marks.CloseRound = refl
-mark_back marks.OpenCurly = refl
-mark_back marks.CloseCurly = refl
-mark_back marks.OpenSquare = refl
-mark_back marks.CloseSquare = refl
-mark_back marks.Semicolon = refl
-mark_back marks.Colon = refl
-mark_back marks.Comma = refl
-mark_back marks.Arrow = refl
-mark_back marks.Assign = refl
-mark_back marks.Equal = refl
-mark_back marks.NotEqual = refl
-mark_back marks.Less = refl
-mark_back marks.LessEqual = refl
-mark_back marks.Greater = refl
-mark_back marks.GreaterEqual = refl
-mark_back marks.Plus = refl
-mark_back marks.Minus = refl
-mark_back marks.Star = refl
-mark_back marks.Slash = refl
-mark_back marks.Percent = refl
-mark_back marks.And = refl
-mark_back marks.Or = refl
-mark_back marks.Not = refl
-mark_back marks.Ampersand = refl
-mark_back marks.Range = refl
+mark_back x = refl
 
 words_in_order : List Word
 words_in_order = words.Sensor ∷ words.Port ∷ words.Nonvolatile ∷ words.Function ∷ words.Let ∷ words.Mutable ∷ words.If ∷ words.Else ∷ words.For ∷ words.In ∷ words.While ∷
@@ -93,28 +68,7 @@ word_of n = get_or words_in_order n words.Underscore
 word_back : (w : Word) → word_of (word_number w) ≡ w
 unfolding word_of words_in_order
 word_back words.Sensor = refl
-word_back words.Port = refl
-word_back words.Nonvolatile = refl
-word_back words.Function = refl
-word_back words.Let = refl
-word_back words.Mutable = refl
-word_back words.If = refl
-word_back words.Else = refl
-word_back words.For = refl
-word_back words.In = refl
-word_back words.While = refl
-word_back words.Bound = refl
-word_back words.Return = refl
-word_back words.True = refl
-word_back words.False = refl
-word_back words.Emit = refl
-word_back words.Sense = refl
-word_back words.Fresh = refl
-word_back words.Consistent = refl
-word_back words.Int = refl
-word_back words.Bool = refl
-word_back words.Atomic = refl
-word_back words.Underscore = refl
+word_back x = refl
 
 pub one_mark : (a b : Mark) → mark_number a ≡ mark_number b → a ≡ b
 one_mark a b e = sym (mark_back a) ∙ ap mark_of e ∙ mark_back b

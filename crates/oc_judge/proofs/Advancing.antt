@@ -9,7 +9,7 @@ use Rattle.oc_meaning.specs.Exec.{Outcome}
 use Rattle.oc_meaning.specs.Run.{first_store}
 use Rattle.oc_meaning.specs.Cuts.{events_in}
 use Rattle.oc_steps.specs.Steps.{Frame, Step, Goes, Over, step_passed}
-use Rattle.oc_steps.specs.Ages.{join_ages}
+use Rattle.oc_steps.specs.Ages.{join_ages, of_ages}
 use Rattle.oc_steps.specs.Heard.{cleared}
 use Rattle.oc_steps.specs.Fold.{Way, Next, Went_on, Says, Stands, after_step, at_first, start, told_by, steps_on, then_next, next_of}
 use Rattle.oc_judge.specs.Stores.{completion_at, event_view, told}
@@ -22,7 +22,7 @@ use Rattle.oc_judge.specs.declared.store.Completion.TheVariants as completions
 use Rattle.oc_judge.specs.declared.store.Event.{Event}
 
 abbrev pub main_from : TProgram → List TRegion → Step
-main_from p rs = step_passed p rs join_ages (λ n. n) (suc (length p.functions)) (codes "main") [] [] (first_store p [])
+main_from p rs = step_passed p rs join_ages of_ages (suc (length p.functions)) (codes "main") [] [] (first_store p [])
 
 events_at : (c : Completion) (σ : Store) → events_in (completion_at c σ) ≡ σ.events
 events_at completions.Went σ = refl

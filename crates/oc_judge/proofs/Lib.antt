@@ -6,3 +6,4 @@ mod NoteLaws
 mod Words
 mod Turning
 mod Hearing
+mod Tallies

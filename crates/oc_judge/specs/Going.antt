@@ -7,7 +7,7 @@ use Rattle.oc_tree.specs.View.{program_view}
 use Rattle.oc_tree.specs.Regions.{region_view}
 use Rattle.oc_meaning.specs.Store.{Binding, Store, Value}
 use Rattle.oc_meaning.specs.Exec.{Outcome, Passed}
-use Rattle.oc_steps.specs.Ages.{join_ages}
+use Rattle.oc_steps.specs.Ages.{join_ages, of_ages}
 use Rattle.oc_steps.specs.Steps.{Frame, Inside, Step, Goes, Asks, Over}
 use Rattle.oc_steps.specs.Steps as steps
 use Rattle.oc_judge.specs.Stores.{completion_at}
@@ -36,35 +36,35 @@ abbrev pub regions_of : Running → List TRegion
 regions_of r = map region_view r.regions.now
 
 abbrev pub function_here : Running → ℕ → Option TFunction → List Passed → List Frame → Store → Step
-function_here r = steps.step_function (program_of r) (regions_of r) join_ages (λ n. n)
+function_here r = steps.step_function (program_of r) (regions_of r) join_ages of_ages
 
 abbrev pub passed_here : Running → ℕ → Text → List Passed → List Frame → Store → Step
-passed_here r = steps.step_passed (program_of r) (regions_of r) join_ages (λ n. n)
+passed_here r = steps.step_passed (program_of r) (regions_of r) join_ages of_ages
 
 -- `main` is called
 abbrev pub main_here : Running → List Frame → Store → Step
 main_here r = passed_here r (suc (length (program_of r).functions)) (codes "main") []
 
 abbrev pub call_here : Running → Inside → List Binding → ℕ → TCall → List Frame → Store → Step
-call_here r = steps.step_call (program_of r) (regions_of r) join_ages (λ n. n)
+call_here r = steps.step_call (program_of r) (regions_of r) join_ages of_ages
 
 abbrev pub right_here : Running → Inside → List Binding → ℕ → TRight → List Frame → Store → Step
-right_here r = steps.step_right (program_of r) (regions_of r) join_ages (λ n. n)
+right_here r = steps.step_right (program_of r) (regions_of r) join_ages of_ages
 
 abbrev pub taken_here : Running → List Binding → ℕ → TKind → Value → List Frame → Store → Step
-taken_here r = steps.taken (program_of r) (regions_of r) join_ages (λ n. n)
+taken_here r = steps.taken (program_of r) (regions_of r) join_ages of_ages
 
 abbrev pub work_here : Running → Inside → List Binding → ℕ → TKind → List Frame → Store → Step
-work_here r = steps.work (program_of r) (regions_of r) join_ages (λ n. n)
+work_here r = steps.work (program_of r) (regions_of r) join_ages of_ages
 
 abbrev pub rest_here : Running → Inside → List Binding → TStmts → List Frame → Store → Step
-rest_here r = steps.step_rest (program_of r) (regions_of r) join_ages (λ n. n)
+rest_here r = steps.step_rest (program_of r) (regions_of r) join_ages of_ages
 
 abbrev pub went_here : Running → Frame → List Frame → Store → Step
-went_here r = steps.step_went (program_of r) (regions_of r) join_ages (λ n. n)
+went_here r = steps.step_went (program_of r) (regions_of r) join_ages of_ages
 
 abbrev pub returned_here : Running → Frame → Value → List Frame → Store → Step
-returned_here r = steps.step_returned (program_of r) (regions_of r) join_ages (λ n. n)
+returned_here r = steps.step_returned (program_of r) (regions_of r) join_ages of_ages
 
 abbrev pub step_here : Running → List Frame → Outcome → Step
-step_here r = steps.step (program_of r) (regions_of r) join_ages (λ n. n)
+step_here r = steps.step (program_of r) (regions_of r) join_ages of_ages

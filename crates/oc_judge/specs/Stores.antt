@@ -16,7 +16,7 @@ abbrev pub told : Option Event → List meant.Event
 told None = []
 told (Some e) = event_view e ∷ []
 
--- local variables and blocks stand newest first
+-- local variables stand newest first
 abbrev pub store_view : Inside → meant.Store
 store_view s =
     record {

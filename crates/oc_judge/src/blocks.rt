@@ -1,6 +1,7 @@
 //! Blocks and calls that begin.
 ghost use Rattle.std.specs.Prelude.{◌≡◌, map, Some, IfOk};
 ghost use Rattle.oc_tree.specs.View.{block_view, call_view, function_view};
+ghost use Rattle.oc_steps.specs.Ages.{of_ages};
 ghost use Rattle.oc_steps.specs.Steps.{Goes, begin};
 ghost use Rattle.oc_judge.specs.Frames.{frames_view, inside_view};
 ghost use Rattle.oc_judge.specs.Going.{call_here, function_here, passed_here};
@@ -30,7 +31,7 @@ pub fn begin<'a>(
 ) -> Result<Completion, AllocError>
     ensures { IfOk result
         (λ o. Goes (frames_view frames.new.items) (completion_at o store.new)
-        ≡ begin (inside_view inside.entry) scope.now.value (block_view block.now)
+        ≡ begin of_ages (inside_view inside.entry) scope.now.value (block_view block.now)
         (frames_view frames.old.items) store.old) }
 {
     frames.push(Frame::Leave {

@@ -1,28 +1,23 @@
-//! The executed blocks.
-ghost use Rattle.std.specs.Prelude.{◌≡◌, ℕ, ◌<◌, ◌==◌, [], ◌∷◌, count_by, length, slice_index_or, IfOk, OnOk};
+//! How often each block was executed.
+ghost use Rattle.std.specs.Prelude.{◌≡◌, ◌<◌, [], length, slice_index_or, IfOk, OnOk};
+ghost use Rattle.oc_steps.specs.Ages.{one_more};
 
-use crate::pieces::Pieces;
 use oc_tree::tree::BlockId;
 use std::alloc::{AllocError, Global};
 use std::marker::Model;
 
-/// The executed blocks, which contracts see newest first, and how often each was executed, by its
-/// number.
+/// How often each block was executed, by its number.
 #[derive(Drop)]
 pub struct Executed {
-    blocks: Pieces,
-    counts: Vec<u32>,
+    counts: Vec<u64>,
 }
 
 impl Model for Executed {
-    ghost use Rattle.std.specs.Prelude.{ℕ, List, reverse};
-    ghost use Rattle.oc_meaning.specs.Executed.{IsCounted};
+    ghost use Rattle.std.specs.Prelude.{ℕ, List};
 
     ghost Value = { List ℕ };
 
-    ghost view = { λ e. reverse e.blocks };
-
-    ghost invariant = { λ e. IsCounted e.counts.items e.blocks };
+    ghost view = { λ e. e.counts.items };
 }
 
 impl Executed {
@@ -31,7 +26,6 @@ impl Executed {
         ensures { result ≡ [] }
     {
         Executed {
-            blocks: Pieces::new(alloc),
             counts: Vec::new(alloc),
         }
     }
@@ -41,46 +35,44 @@ impl Executed {
         ensures { IfOk result (λ e. e ≡ self.now) }
     {
         Ok(Executed {
-            blocks: self.blocks.copy()?,
             counts: Vec::from_slice(alloc, &self.counts)?,
         })
     }
 
     /// One more block is executed.
     pub fn add(&mut self, block: BlockId) -> Result<(), AllocError>
-        ensures { OnOk result (self.new ≡ block ∷ self.old) }
+        ensures { OnOk result (self.new ≡ one_more block self.old) }
     {
         grow(&mut self.counts, block)?;
         let count = entry(&self.counts, block).checked_add(1).ok_or(AllocError)?;
-        self.blocks.push(block)?;
         self.counts[block as usize] = count;
         Ok(())
     }
 
     /// How often a block was executed.
-    pub fn count(&self, block: BlockId) -> u32
-        ensures { result ≡ count_by (λ id. block == id) self.now }
+    pub fn count(&self, block: BlockId) -> u64
+        ensures { result ≡ slice_index_or self.now block 0 }
     {
         entry(&self.counts, block)
     }
 }
 
 /// The entry of a block, which is 0 where it has none.
-fn entry(counts: &[u32], block: BlockId) -> u32
+fn entry(counts: &[u64], block: BlockId) -> u64
     ensures { result ≡ slice_index_or counts.now block 0 }
 {
     counts.get(block as usize).copied().unwrap_or(0)
 }
 
 /// Gives a block an entry.
-fn grow(counts: &mut Vec<u32>, block: BlockId) -> Result<(), AllocError>
+#[tactic(auto, using(crate::proofs::Tallies::entry_more))]
+fn grow(counts: &mut Vec<u64>, block: BlockId) -> Result<(), AllocError>
     ensures within { OnOk result (block < length counts.new.items) }
-    ensures same { (k : ℕ)
-        → slice_index_or counts.new.items k 0 ≡ slice_index_or counts.old.items k 0 }
+    ensures same { OnOk result
+        (one_more block counts.new.items ≡ one_more block counts.old.items) }
 {
-    let at = block as usize;
-    if counts.len() <= at {
-        counts.resize(at + 1, 0)?;
+    for _entry in counts.len()..block as usize + 1 {
+        counts.push(0)?;
     }
     Ok(())
 }

@@ -14,7 +14,6 @@ mod going;
 mod held;
 pub mod judge;
 mod notes;
-mod pieces;
 mod running;
 mod sets;
 mod step;

@@ -2,11 +2,12 @@
 ghost use Rattle.std.specs.Prelude.{◌≡◌, [], length, option_map, slice_get, slice_index_or, slice_set, suc, if◌then◌else◌, IfOk, OnOk};
 ghost use Rattle.oc_meaning.specs.Store.{happened, held_at, left_at, made, nothing, noted, put, replaced, value_in};
 ghost use Rattle.oc_meaning.specs.Eval.{element_of};
-ghost use Rattle.oc_meaning.specs.Exec.{closed, entered, opened, tagged, trapped};
+ghost use Rattle.oc_meaning.specs.Exec.{closed, opened, trapped};
 ghost use Rattle.oc_meaning.specs.Run.{first_values, words_of};
 ghost use Rattle.oc_meaning.specs.Places.{place_view, absent, held_or};
-ghost use Rattle.oc_steps.specs.Ages.{join_ages};
+ghost use Rattle.oc_steps.specs.Ages.{join_ages, of_ages, one_more};
 ghost use Rattle.oc_steps.specs.Sets.{element_by, element_written_by, with_element_by};
+ghost use Rattle.oc_steps.specs.Steps.{tagged_by};
 ghost use Rattle.oc_judge.specs.Values.{age_view, got_view, value_view};
 ghost use Rattle.oc_judge.specs.Stores.{completion_at, event_view, told};
 
@@ -25,7 +26,7 @@ use std::marker::Model;
 pub struct Event {
     pub said: Said,
     pub age: Age,
-    pub instance: u32,
+    pub instance: u64,
 }
 
 /// What came of a step: it went through, it returned a value, or the run trapped in it.
@@ -39,9 +40,9 @@ pub enum Completion {
     Trapped,
 }
 
-/// The variables, the outages so far, the open regions, the executed blocks, and what was said
-/// last. Where something was said that wasn't taken yet, no more can be said.
-/// Contracts see the local variables and the blocks newest first.
+/// The variables, the outages so far, the open regions, how often each block was executed, and what
+/// was said last. Where something was said that wasn't taken yet, no more can be said.
+/// Contracts see the local variables newest first.
 #[derive(Drop)]
 pub struct Store {
     locals: Vec<Held>,
@@ -296,7 +297,7 @@ impl Store {
 
     /// An annotation of the set of the block `home`.
     pub fn tag(&mut self, home: BlockId, stmt: StmtId, age: Age) -> Result<(), AllocError>
-        ensures { OnOk result (self.new ≡ tagged home stmt (age_view age) self.old) }
+        ensures { OnOk result (self.new ≡ tagged_by of_ages home stmt (age_view age) self.old) }
     {
         let instance = self.blocks.count(home);
         let what = Shown::Tagged { stmt };
@@ -310,7 +311,8 @@ impl Store {
 
     /// A block is executed.
     pub fn enter(&mut self, block: BlockId) -> Result<(), AllocError>
-        ensures { OnOk result (self.new ≡ entered block self.old) }
+        ensures { OnOk result
+            (self.new ≡ record self.old { blocks = one_more block self.old.blocks }) }
     {
         self.blocks.add(block)?;
         Ok(())

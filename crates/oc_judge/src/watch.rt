@@ -4,7 +4,7 @@ ghost use Rattle.oc_tree.specs.declared.said.Said.TheVariants.{Committed, Ended,
 ghost use Rattle.oc_tree.specs.Tree.{TProgram};
 ghost use Rattle.oc_items.specs.Told.{told_of};
 ghost use Rattle.oc_meaning.specs.Run.{words_of};
-ghost use Rattle.oc_steps.specs.Ages.{join_ages};
+ghost use Rattle.oc_steps.specs.Ages.{join_ages, of_ages};
 ghost use Rattle.oc_steps.specs.Auditing.{IsHeard, first_watch};
 ghost use Rattle.oc_steps.specs.Fold.{aborted, has_words, is_said, may_show, off, with_shown};
 ghost use Rattle.oc_steps.specs.Heard.{cleared};
@@ -52,7 +52,7 @@ pub fn first_watch<'a>(run: &Running<'a>) -> Result<Watch<'a>, AllocError>
 fn give_sample<'a>(run: &Running<'a>, way: &mut Way<'a>, sensor: u8, value: i32)
     ensures { way_view way.new
         ≡ record (way_view way.old) {
-          out = cleared (sensed (program_of run.now) (regions_of run.now) join_ages (λ n. n)
+          out = cleared (sensed (program_of run.now) (regions_of run.now) join_ages of_ages
               sensor value way.old.store);
         } }
 {

@@ -23,7 +23,7 @@ use std::collections::VecDeque;
 #[derive(Clone, Copy)]
 pub struct Instance {
     pub set: (usize, i32),
-    pub number: u32,
+    pub number: u64,
     pub age: Age,
 }
 

@@ -1,8 +1,9 @@
 -- A step over ages is the step over samples.
-use Rattle.std.proofs.Common.{◌≡◌, ℕ, zero, suc, ◌-◌, ℤ, Bool, true, false, List, [], ◌∷◌, length, map, drop, Option, Some, None, refl, sym, ap, ◌∙◌}
+use Rattle.std.proofs.Common.{◌≡◌, ℕ, zero, suc, ◌-◌, ℤ, Bool, true, false, List, [], ◌∷◌, length, map, drop, Option, Some, None, cond, arith, refl, sym, ap, ◌∙◌, ◌≢◌, eq-eqb, eqb-true}
 use Rattle.std.proofs.lemmas.List.{map-set, length-map, drop-map}
+use Rattle.std.proofs.lemmas.List.Sums.{sum_by-cons}
 use Rattle.std.proofs.Math.ListN.{get_or-map}
-use Rattle.std.specs.Prelude.{pos, ◌+ℤ◌, ◌==◌, unwrap_or, if◌then◌else◌}
+use Rattle.std.specs.Prelude.{pos, ◌+ℤ◌, ◌+◌, ◌==◌, count_by, slice_index_or, unwrap_or, if◌then◌else◌}
 use Rattle.oc_tree.specs.Names.{Text}
 use Rattle.oc_tree.specs.Marked.{TRegion}
 use Rattle.oc_tree.specs.Tree.{TExpr, number, truth, variable, index, deref, unary, binary, sensed, called, TArg, value, shared, mutable, TCall, call, TArgs, no_args, more_args}
@@ -14,24 +15,53 @@ use Rattle.oc_tree.specs.declared.tree.BinaryOp.{BinaryOp}
 use Rattle.oc_tree.specs.declared.tree.BinaryOp.TheVariants.{Or, And}
 use Rattle.oc_tree.specs.declared.said.Said.{Said}
 use Rattle.oc_tree.specs.declared.said.Said.TheVariants.{Showed, Entered, Committed}
-use Rattle.oc_tree.specs.declared.said.Shown.TheVariants.{Emitted}
+use Rattle.oc_tree.specs.declared.said.Shown.TheVariants.{Emitted, Tagged}
 use Rattle.oc_tree.specs.Samples.{union}
 use Rattle.oc_meaning.specs.Store.{Value, Held, Place, Local, Global, Turn, Nowhere, Event, Store, Binding, plain, holding, nothing, replaced, value_in, at, put_at, held_at, put}
-use Rattle.oc_meaning.specs.Store.{left_at, noted, place_of}
+use Rattle.oc_meaning.specs.Store.{left_at, happened, noted, place_of}
 use Rattle.oc_meaning.specs.Eval.{Got, Val, Traps, is_zero, element_of, and_got, given, apply, unary_value}
 use Rattle.oc_tree.specs.Named.{own_names}
 use Rattle.oc_meaning.specs.Uses.{is_fresh, is_use, begins_use, ends_use}
 use Rattle.oc_meaning.specs.Blocks.{set_home}
 use Rattle.oc_meaning.specs.Exec.{begun_by, ended_by, Outcome, Went, Returned, Stopped, Passed, Copied, Lent, Passing, Passes, Breaks, passed_first, value_first, passed_on}
-use Rattle.oc_meaning.specs.Exec.{number_in, told_if, opened, closed, used, done, in_turn, bound_to, grown, tagged}
+use Rattle.oc_meaning.specs.Exec.{number_in, told_if, opened, closed, used, done, in_turn, bound_to, grown}
 use Rattle.oc_meaning.specs.Run.{Frame, with_param, with_params, nv_env, function_named}
 use Rattle.oc_meaning.specs.Run as runs
 use Rattle.oc_steps.specs.Sets.{depending_by, combined_by, and_then_by, or_else_by, operated_by, element_by, value_by, fresh_by, use_by, arg_by, args_by, with_element_by, element_written_by}
-use Rattle.oc_steps.specs.Steps.{Inside, Rest, Use, Work, Done, Close, Take, Leave, Turns, Loop, Test, Back, Step, Goes, begin, begin_else, on_value, step_function, step_passed}
+use Rattle.oc_steps.specs.Steps.{Inside, Rest, Use, Work, Done, Close, Take, Leave, Turns, Loop, Test, Back, Step, Goes, begin, begin_else, on_value, tagged_by, step_function, step_passed, of_samples}
 use Rattle.oc_steps.specs.Steps.{step_args, step_call, step_right, taken, work, step_rest, step_turns, step_loop, step_test, step_went, step_returned, step}
 use Rattle.oc_steps.specs.Steps as steps
-use Rattle.oc_steps.specs.Ages.{join_ages, age_of, aged_value, aged_held, aged_event, aged_store, aged_got, aged_passed, aged_passing, aged_outcome, aged_frame, aged_step, StepsAge, SensesAge}
+use Rattle.oc_steps.specs.Ages.{join_ages, age_of, aged_value, aged_held, aged_event, aged_store, aged_got, aged_passed, aged_passing, aged_outcome, aged_frame, aged_step, StepsAge, SensesAge, of_ages, one_more, counts_of}
 use Rattle.oc_steps.proofs.Joining.{union_age}
+
+unlike : (n k : ℕ) → n ≢ k → (n == k) ≡ false
+unlike n k h = grind (arith, h)
+
+like_suc : (n k : ℕ) → (suc n == suc k) ≡ (n == k)
+like_suc n k = by (n == k) refl
+  where
+    by : (b : Bool) → (n == k) ≡ b → (suc n == suc k) ≡ b
+    by true h = eq-eqb (suc n) (suc k) (ap suc (eqb-true n k h))
+    by false h = grind (arith, h)
+
+-- one more of a block
+one_more_at : (h id : ℕ) (counts : List ℕ) → slice_index_or (one_more id counts) h 0 ≡ cond (h == id) 1 0 + slice_index_or counts h 0
+one_more_at zero zero [] = refl
+one_more_at zero zero (c ∷ counts) = omega arith
+one_more_at zero (suc id) [] = sym (ap (λ b. cond b 1 0 + 0) (unlike 0 (suc id) (omega arith)))
+one_more_at zero (suc id) (c ∷ counts) = let e : c ≡ 0 + c = omega arith in e ∙ sym (ap (λ b. cond b 1 0 + c) (unlike 0 (suc id) (omega arith)))
+one_more_at (suc h) zero [] = sym (ap (λ b. cond b 1 0 + 0) (unlike (suc h) 0 (omega arith)))
+one_more_at (suc h) zero (c ∷ counts) =
+    let e : slice_index_or counts h 0 ≡ 0 + slice_index_or counts h 0 = omega arith in
+    e ∙ sym (ap (λ b. cond b 1 0 + slice_index_or counts h 0) (unlike (suc h) 0 (omega arith)))
+one_more_at (suc h) (suc id) [] = one_more_at h id [] ∙ sym (ap (λ b. cond b 1 0 + 0) (like_suc h id))
+one_more_at (suc h) (suc id) (c ∷ counts) = one_more_at h id counts ∙ sym (ap (λ b. cond b 1 0 + slice_index_or counts h 0) (like_suc h id))
+
+-- how often a block was executed
+counted : (h : ℕ) (bs : List ℕ) → slice_index_or (counts_of bs) h 0 ≡ count_by (λ id. h == id) bs
+counted h [] = refl
+counted h (id ∷ bs) =
+    one_more_at h id (counts_of bs) ∙ ap (λ n. cond (h == id) 1 0 + n) (counted h bs) ∙ sym (sum_by-cons (λ b. cond (h == b) 1 0) id bs)
 
 module _ (before : ℕ → ℕ) (c : ℕ) where
   abbrev S : List ℕ → List ℕ
@@ -242,10 +272,10 @@ module _ (before : ℕ → ℕ) (c : ℕ) where
   abbrev P : Step → Step
   P = aged_step before c
 
-  begin_aged : (f : Inside) (env : List Binding) (b : TBlock) (fs : List steps.Frame) (σ : Store) → begin f env b (map F fs) (A σ) ≡ P (begin f env b fs σ)
-  begin_aged f env (block id ss) fs σ = ap (λ n. Goes (Rest f env ss ∷ Leave n ∷ map F fs) (Went (A (Rattle.oc_meaning.specs.Exec.entered id σ)))) (length-map σ.locals H)
+  begin_aged : (f : Inside) (env : List Binding) (b : TBlock) (fs : List steps.Frame) (σ : Store) → begin of_ages f env b (map F fs) (A σ) ≡ P (begin of_samples f env b fs σ)
+  begin_aged f env (block id ss) fs σ = ap (λ n. Goes (Rest f env ss ∷ Leave n ∷ map F fs) (Went (record (A σ) { blocks = one_more id (counts_of σ.blocks) }))) (length-map σ.locals H)
 
-  begin_else_aged : (f : Inside) (env : List Binding) (b : TElse) (fs : List steps.Frame) (σ : Store) → begin_else f env b (map F fs) (A σ) ≡ P (begin_else f env b fs σ)
+  begin_else_aged : (f : Inside) (env : List Binding) (b : TElse) (fs : List steps.Frame) (σ : Store) → begin_else of_ages f env b (map F fs) (A σ) ≡ P (begin_else of_samples f env b fs σ)
   begin_else_aged f env no_else fs σ = refl
   begin_else_aged f env (else_do b) fs σ = begin_aged f env b fs σ
 
@@ -260,33 +290,33 @@ module _ (before : ℕ → ℕ) (c : ℕ) where
 
   module _ (p : TProgram) (regions : List TRegion) where
     function_aged : (d : ℕ) (o : Option TFunction) (ps : List Passed) (fs : List steps.Frame) (σ : Store)
-        → step_function p regions join_ages (λ n. n) d o (map (aged_passed before) ps) (map F fs) (A σ) ≡ P (step_function p regions union suc d o ps fs σ)
+        → step_function p regions join_ages of_ages d o (map (aged_passed before) ps) (map F fs) (A σ) ≡ P (step_function p regions union of_samples d o ps fs σ)
     function_aged d None ps fs σ = refl
     function_aged d (Some f) ps fs σ =
         let fr0 : runs.Frame = record { env = nv_env 0 p.names.nvs; locals = σ.locals } in
         let fr : runs.Frame = with_params f.params ps fr0 in
         let inner : Inside = record { depth = d; body = f.body } in
-        ap (λ g. begin inner g.env f.body (Leave (length (map H σ.locals)) ∷ map F fs) (record (A σ) { locals = g.locals })) (params_aged f.params ps fr0)
-        ∙ ap (λ n. begin inner fr.env f.body (Leave n ∷ map F fs) (record (A σ) { locals = map H fr.locals })) (length-map σ.locals H)
+        ap (λ g. begin of_ages inner g.env f.body (Leave (length (map H σ.locals)) ∷ map F fs) (record (A σ) { locals = g.locals })) (params_aged f.params ps fr0)
+        ∙ ap (λ n. begin of_ages inner fr.env f.body (Leave n ∷ map F fs) (record (A σ) { locals = map H fr.locals })) (length-map σ.locals H)
         ∙ begin_aged inner fr.env f.body (Leave (length σ.locals) ∷ fs) (record σ { locals = fr.locals })
 
     pub passed_to_aged : (d : ℕ) (x : Text) (ps : List Passed) (fs : List steps.Frame) (σ : Store)
-        → step_passed p regions join_ages (λ n. n) d x (map (aged_passed before) ps) (map F fs) (A σ) ≡ P (step_passed p regions union suc d x ps fs σ)
+        → step_passed p regions join_ages of_ages d x (map (aged_passed before) ps) (map F fs) (A σ) ≡ P (step_passed p regions union of_samples d x ps fs σ)
     passed_to_aged zero x ps fs σ = refl
     passed_to_aged (suc d) x ps fs σ = function_aged d (function_named p.functions x) ps fs σ
 
     step_args_aged : (d : ℕ) (x : Text) (gs : Passing) (n : ℕ) (fs : List steps.Frame) (σ : Store)
-        → step_args p regions join_ages (λ n. n) d x (aged_passing before gs) n (map F fs) (A σ) ≡ P (step_args p regions union suc d x gs n fs σ)
+        → step_args p regions join_ages of_ages d x (aged_passing before gs) n (map F fs) (A σ) ≡ P (step_args p regions union of_samples d x gs n fs σ)
     step_args_aged d x (Passes ps) n fs σ = passed_to_aged d x ps fs σ
     step_args_aged d x (Breaks k) n fs σ = refl
 
-    call_aged : (f : Inside) (env : List Binding) (n : ℕ) (k : TCall) (fs : List steps.Frame) (σ : Store) → step_call p regions join_ages (λ n. n) f env n k (map F fs) (A σ)
-        ≡ P (step_call p regions union suc f env n k fs σ)
+    call_aged : (f : Inside) (env : List Binding) (n : ℕ) (k : TCall) (fs : List steps.Frame) (σ : Store) → step_call p regions join_ages of_ages f env n k (map F fs) (A σ)
+        ≡ P (step_call p regions union of_samples f env n k fs σ)
     call_aged f env n (call x gs) fs σ =
-        ap (λ q. step_args p regions join_ages (λ n. n) f.depth x q n (map F fs) (A σ)) (args_aged env σ gs) ∙ step_args_aged f.depth x (args_by union env σ gs) n fs σ
+        ap (λ q. step_args p regions join_ages of_ages f.depth x q n (map F fs) (A σ)) (args_aged env σ gs) ∙ step_args_aged f.depth x (args_by union env σ gs) n fs σ
 
-    right_aged : (f : Inside) (env : List Binding) (n : ℕ) (r : TRight) (fs : List steps.Frame) (σ : Store) → step_right p regions join_ages (λ n. n) f env n r (map F fs) (A σ)
-        ≡ P (step_right p regions union suc f env n r fs σ)
+    right_aged : (f : Inside) (env : List Binding) (n : ℕ) (r : TRight) (fs : List steps.Frame) (σ : Store) → step_right p regions join_ages of_ages f env n r (map F fs) (A σ)
+        ≡ P (step_right p regions union of_samples f env n r fs σ)
     right_aged f env n (right_value e) fs σ =
         ap (λ g. on_value g n (A σ) (map F fs) (λ v. Goes (map F fs) (Returned v (A σ)))) (value_aged env σ e)
         ∙ on_value_aged (value_by union env σ e) n σ fs (λ v. Goes fs (Returned v σ)) (λ v. Goes (map F fs) (Returned v (A σ))) (λ v. refl)
@@ -294,7 +324,7 @@ module _ (before : ℕ → ℕ) (c : ℕ) where
     right_aged f env n (right_call k) fs σ = call_aged f env n k fs σ
 
     taken_aged : (env : List Binding) (n : ℕ) (k : TKind) (v : Value) (fs : List steps.Frame) (σ : Store)
-        → taken p regions join_ages (λ n. n) env n k (aged_value before v) (map F fs) (A σ) ≡ P (taken p regions union suc env n k v fs σ)
+        → taken p regions join_ages of_ages env n k (aged_value before v) (map F fs) (A σ) ≡ P (taken p regions union of_samples env n k v fs σ)
     taken_aged env n (let_to m x t r) v fs σ = refl
     taken_aged env n (assign x r) v fs σ = ap (λ τ. Goes (map F fs) (Went τ)) (put_taken_aged σ (place_of env x) v)
     taken_aged env n (assign_index x e r) v fs σ =
@@ -310,18 +340,18 @@ module _ (before : ℕ → ℕ) (c : ℕ) where
     taken_aged env n (assign_deref x r) v fs σ = ap (λ τ. Goes (map F fs) (Went τ)) (put_taken_aged σ (place_of env x) v)
     taken_aged env n k v fs σ = refl
 
-    work_aged : (f : Inside) (env : List Binding) (n : ℕ) (k : TKind) (fs : List steps.Frame) (σ : Store) → work p regions join_ages (λ n. n) f env n k (map F fs) (A σ)
-        ≡ P (work p regions union suc f env n k fs σ)
+    work_aged : (f : Inside) (env : List Binding) (n : ℕ) (k : TKind) (fs : List steps.Frame) (σ : Store) → work p regions join_ages of_ages f env n k (map F fs) (A σ)
+        ≡ P (work p regions union of_samples f env n k fs σ)
     work_aged f env n (let_to m x t r) fs σ = right_aged f env n r (Take env n (let_to m x t r) ∷ fs) σ
     work_aged f env n (let_array m x t z w) fs σ = refl
     work_aged f env n (assign x r) fs σ = right_aged f env n r (Take env n (assign x r) ∷ fs) σ
     work_aged f env n (assign_index x e r) fs σ = right_aged f env n r (Take env n (assign_index x e r) ∷ fs) σ
     work_aged f env n (assign_deref x r) fs σ = right_aged f env n r (Take env n (assign_deref x r) ∷ fs) σ
     work_aged f env n (if_else e a b) fs σ =
-        ap (λ g. on_value g n (A σ) (map F fs) (λ v. if is_zero v.num then begin_else f env b (map F fs) (A σ) else begin f env a (map F fs) (A σ))) (value_aged env σ e)
-        ∙ on_value_aged (value_by union env σ e) n σ fs (λ v. if is_zero v.num then begin_else f env b fs σ else begin f env a fs σ)
-        (λ v. if is_zero v.num then begin_else f env b (map F fs) (A σ) else begin f env a (map F fs) (A σ))
-        (λ v. if_aged (is_zero v.num) (begin_else f env b fs σ) (begin f env a fs σ) (begin_else f env b (map F fs) (A σ)) (begin f env a (map F fs) (A σ))
+        ap (λ g. on_value g n (A σ) (map F fs) (λ v. if is_zero v.num then begin_else of_ages f env b (map F fs) (A σ) else begin of_ages f env a (map F fs) (A σ))) (value_aged env σ e)
+        ∙ on_value_aged (value_by union env σ e) n σ fs (λ v. if is_zero v.num then begin_else of_samples f env b fs σ else begin of_samples f env a fs σ)
+        (λ v. if is_zero v.num then begin_else of_ages f env b (map F fs) (A σ) else begin of_ages f env a (map F fs) (A σ))
+        (λ v. if_aged (is_zero v.num) (begin_else of_samples f env b fs σ) (begin of_samples f env a fs σ) (begin_else of_ages f env b (map F fs) (A σ)) (begin of_ages f env a (map F fs) (A σ))
         (begin_else_aged f env b fs σ) (begin_aged f env a fs σ))
     work_aged f env n (for_in x a b d) fs σ = refl
     work_aged f env n (while_do e t b) fs σ = refl
@@ -332,7 +362,10 @@ module _ (before : ℕ → ℕ) (c : ℕ) where
         ∙ on_value_aged (value_by union env σ e) n σ fs (λ v. Goes fs (Went (noted (Showed (Emitted (number_in p.names.ports q) v.num)) v.samples σ)))
         (λ v. Goes (map F fs) (Went (noted (Showed (Emitted (number_in p.names.ports q) v.num)) v.samples (A σ)))) (λ v. refl)
     work_aged f env n (fresh x) fs σ = refl
-    work_aged f env n (consistent x k) fs σ = ap (λ h. Goes (map F fs) (Went (tagged (set_home f.body k) n h.samples (A σ)))) (held_aged σ (place_of env x))
+    work_aged f env n (consistent x k) fs σ =
+        ap (λ h. Goes (map F fs) (Went (tagged_by of_ages (set_home f.body k) n h.samples (A σ)))) (held_aged σ (place_of env x))
+        ∙ ap (λ m. Goes (map F fs) (Went (happened (record { said = Showed (Tagged n); samples = S (held_at σ (place_of env x)).samples; instance = m }) (A σ))))
+        (counted (set_home f.body k) σ.blocks)
     work_aged f env n (return e) fs σ =
         let is : Bool = is_use (is_fresh env) (return e) in
         let r : Option ℕ = ended_by regions n in
@@ -342,8 +375,8 @@ module _ (before : ℕ → ℕ) (c : ℕ) where
         (λ v. Goes (Back v r ∷ map F fs) (Went (done is n (S (use_by union env (return e) σ)) (A σ))))
         (λ v. ap (λ τ. Goes (Back (aged_value before v) r ∷ map F fs) (Went τ)) (done_aged is n (use_by union env (return e) σ) σ))
 
-    rest_aged : (f : Inside) (env : List Binding) (ss : TStmts) (fs : List steps.Frame) (σ : Store) → step_rest p regions join_ages (λ n. n) f env ss (map F fs) (A σ)
-        ≡ P (step_rest p regions union suc f env ss fs σ)
+    rest_aged : (f : Inside) (env : List Binding) (ss : TStmts) (fs : List steps.Frame) (σ : Store) → step_rest p regions join_ages of_ages f env ss (map F fs) (A σ)
+        ≡ P (step_rest p regions union of_samples f env ss fs σ)
     rest_aged f env no_stmts fs σ = refl
     rest_aged f env (more (stmt n line k) rest) fs σ =
         let e : Option ℕ = ended_by regions n in
@@ -355,12 +388,12 @@ module _ (before : ℕ → ℕ) (c : ℕ) where
         (grown k rest env σ) rest ∷ map F fs) (Went τ)) (opened_aged (begun_by regions n) σ)
 
     turns_aged : (f : Inside) (x : Text) (t : ℕ) (i : ℤ) (b : TBlock) (env : List Binding) (fs : List steps.Frame) (σ : Store)
-        → step_turns p regions join_ages (λ n. n) f x t i b env (map F fs) (A σ) ≡ P (step_turns p regions union suc f x t i b env fs σ)
+        → step_turns p regions join_ages of_ages f x t i b env (map F fs) (A σ) ≡ P (step_turns p regions union of_samples f x t i b env fs σ)
     turns_aged f x zero i b env fs σ = refl
     turns_aged f x (suc t) i b env fs σ = begin_aged f (in_turn x i ∷ env) b (Turns f x t (i +ℤ pos 1) b env ∷ fs) σ
 
     loop_aged : (f : Inside) (env : List Binding) (n : ℕ) (e : TExpr) (t : ℕ) (b : TBlock) (u : List ℕ) (fs : List steps.Frame) (σ : Store)
-        → step_loop p regions join_ages (λ n. n) f env n e t b (S u) (map F fs) (A σ) ≡ P (step_loop p regions union suc f env n e t b u fs σ)
+        → step_loop p regions join_ages of_ages f env n e t b (S u) (map F fs) (A σ) ≡ P (step_loop p regions union of_samples f env n e t b u fs σ)
     loop_aged f env n e zero b u fs σ = ap (λ τ. Goes (map F fs) (Went τ)) (done_aged (is_use (is_fresh env) (while_do e 0 b)) n u σ)
     loop_aged f env n e (suc t) b u fs σ =
         let is : Bool = is_use (is_fresh env) (while_do e 0 b) in
@@ -370,18 +403,18 @@ module _ (before : ℕ → ℕ) (c : ℕ) where
         ∙ ap (λ τ. Goes (Test f env n e t b (S (union u w)) ∷ map F fs) (Went τ)) (used_aged is n w σ)
 
     test_aged : (f : Inside) (env : List Binding) (n : ℕ) (e : TExpr) (t : ℕ) (b : TBlock) (u : List ℕ) (fs : List steps.Frame) (σ : Store)
-        → step_test p regions join_ages (λ n. n) f env n e t b (S u) (map F fs) (A σ) ≡ P (step_test p regions union suc f env n e t b u fs σ)
+        → step_test p regions join_ages of_ages f env n e t b (S u) (map F fs) (A σ) ≡ P (step_test p regions union of_samples f env n e t b u fs σ)
     test_aged f env n e t b u fs σ =
         let is : Bool = is_use (is_fresh env) (while_do e 0 b) in
-        ap (λ g. on_value g n (A σ) (map F fs) (λ v. if is_zero v.num then Goes (map F fs) (Went (done is n (S u) (A σ))) else begin f env b (Loop f env n e t b (S u) ∷ map F fs)
+        ap (λ g. on_value g n (A σ) (map F fs) (λ v. if is_zero v.num then Goes (map F fs) (Went (done is n (S u) (A σ))) else begin of_ages f env b (Loop f env n e t b (S u) ∷ map F fs)
         (A σ))) (value_aged env σ e)
-        ∙ on_value_aged (value_by union env σ e) n σ fs (λ v. if is_zero v.num then Goes fs (Went (done is n u σ)) else begin f env b (Loop f env n e t b u ∷ fs) σ)
-        (λ v. if is_zero v.num then Goes (map F fs) (Went (done is n (S u) (A σ))) else begin f env b (Loop f env n e t b (S u) ∷ map F fs) (A σ))
-        (λ v. if_aged (is_zero v.num) (Goes fs (Went (done is n u σ))) (begin f env b (Loop f env n e t b u ∷ fs) σ)
-        (Goes (map F fs) (Went (done is n (S u) (A σ)))) (begin f env b (Loop f env n e t b (S u) ∷ map F fs) (A σ))
+        ∙ on_value_aged (value_by union env σ e) n σ fs (λ v. if is_zero v.num then Goes fs (Went (done is n u σ)) else begin of_samples f env b (Loop f env n e t b u ∷ fs) σ)
+        (λ v. if is_zero v.num then Goes (map F fs) (Went (done is n (S u) (A σ))) else begin of_ages f env b (Loop f env n e t b (S u) ∷ map F fs) (A σ))
+        (λ v. if_aged (is_zero v.num) (Goes fs (Went (done is n u σ))) (begin of_samples f env b (Loop f env n e t b u ∷ fs) σ)
+        (Goes (map F fs) (Went (done is n (S u) (A σ)))) (begin of_ages f env b (Loop f env n e t b (S u) ∷ map F fs) (A σ))
         (ap (λ τ. Goes (map F fs) (Went τ)) (done_aged is n u σ)) (begin_aged f env b (Loop f env n e t b u ∷ fs) σ))
 
-    went_aged : (f : steps.Frame) (fs : List steps.Frame) (σ : Store) → step_went p regions join_ages (λ n. n) (F f) (map F fs) (A σ) ≡ P (step_went p regions union suc f fs σ)
+    went_aged : (f : steps.Frame) (fs : List steps.Frame) (σ : Store) → step_went p regions join_ages of_ages (F f) (map F fs) (A σ) ≡ P (step_went p regions union of_samples f fs σ)
     went_aged (Rest f env ss) fs σ = rest_aged f env ss fs σ
     went_aged (Use f env n u k) fs σ = ap (λ τ. Goes (Work f env n k ∷ map F fs) (Went τ)) (used_aged (begins_use (is_fresh env) k) n u σ)
     went_aged (Work f env n k) fs σ = work_aged f env n k fs σ
@@ -394,13 +427,13 @@ module _ (before : ℕ → ℕ) (c : ℕ) where
     went_aged (Test f env n e t b u) fs σ = test_aged f env n e t b u fs σ
     went_aged (Back v r) fs σ = ap (λ τ. Goes (map F fs) (Returned (aged_value before v) τ)) (closed_aged r σ)
 
-    returned_aged : (f : steps.Frame) (v : Value) (fs : List steps.Frame) (σ : Store) → step_returned p regions join_ages (λ n. n) (F f) (aged_value before v) (map F fs) (A σ)
-        ≡ P (step_returned p regions union suc f v fs σ)
+    returned_aged : (f : steps.Frame) (v : Value) (fs : List steps.Frame) (σ : Store) → step_returned p regions join_ages of_ages (F f) (aged_value before v) (map F fs) (A σ)
+        ≡ P (step_returned p regions union of_samples f v fs σ)
     returned_aged (Take env n k) v fs σ = taken_aged env n k v fs σ
     returned_aged (Leave n) v fs σ = ap (λ τ. Goes (map F fs) (Returned (aged_value before v) τ)) (left_aged n σ)
     returned_aged frame v fs σ = refl
 
-    step_aged : (fs : List steps.Frame) (o : Outcome) → step p regions join_ages (λ n. n) (map F fs) (aged_outcome before c o) ≡ P (step p regions union suc fs o)
+    step_aged : (fs : List steps.Frame) (o : Outcome) → step p regions join_ages of_ages (map F fs) (aged_outcome before c o) ≡ P (step p regions union of_samples fs o)
     step_aged [] o = refl
     step_aged (f ∷ fs) (Went σ) = went_aged f fs σ
     step_aged (f ∷ fs) (Returned v σ) = returned_aged f v fs σ

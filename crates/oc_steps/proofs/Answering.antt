@@ -28,8 +28,8 @@ use Rattle.oc_meaning.proofs.Bare.{only_tell}
 use Rattle.oc_items.specs.Erase.{erase, kept_samples, without_offs, inside_after}
 use Rattle.oc_items.specs.Reports.{IsPrefixOf}
 use Rattle.oc_honest.specs.Timely.{Lived, lives, live, lived_from, IsInput, IsUse, AreTimely, set_of}
-use Rattle.oc_steps.specs.Steps.{Frame, Over, step, sensed}
-use Rattle.oc_steps.specs.Ages.{join_ages, aged_held, aged_outcome}
+use Rattle.oc_steps.specs.Steps.{Frame, Over, step, sensed, of_samples}
+use Rattle.oc_steps.specs.Ages.{join_ages, aged_held, aged_outcome, of_ages}
 use Rattle.oc_steps.specs.AgesTell.{Agrees, HasAge}
 use Rattle.oc_steps.specs.Follow.{with_more}
 use Rattle.oc_steps.specs.Heard.{Under, cleared, store_in, said_so_far}
@@ -172,7 +172,7 @@ abbrev halted : Event
 halted = record { said = Ended Halted; samples = []; instance = 0 }
 
 module _ (p : TProgram) (regions : List TRegion) where
-  over_stopped : (fs : List Frame) (s : Stop) (σ : Store) → step p regions union suc fs (Stopped s σ) ≡ Over
+  over_stopped : (fs : List Frame) (s : Stop) (σ : Store) → step p regions union of_samples fs (Stopped s σ) ≡ Over
   over_stopped [] s σ = refl
   over_stopped (f ∷ fs) s σ = refl
 
@@ -247,7 +247,7 @@ module _ (p : TProgram) (regions : List TRegion) (nv : Option (List ℤ)) (q : L
         (tells : map (λ x. x.said) es ≡ without_offs (erase q ++ item t (Ended how) ∷ []))
         (lived : AreTimely p (lived_from 0 (erase q ++ item t (Ended how) ∷ []) (unmarked es)))
         (past : List Event) (fs : List Frame) (o : Outcome) (now : Way) (follows : Follows p regions V T C past fs o now.frames now.out)
-        (over : step p regions union suc fs o ≡ Over) (same : Same w.now now) (counted : AreCounted p now.sets now.frames (store_in now.out).blocks) where
+        (over : step p regions union of_samples fs o ≡ Over) (same : Same w.now now) (counted : AreCounted p now.sets now.frames (store_in now.out).blocks) where
       run_now : marked_run p regions (kept_samples (with (Ended how))) ≡ record { events = es; ending = ending; nv = ws }
       run_now =
           ap (λ l. marked_run p regions (samples_in l)) (added p regions nv q t (Ended how) tt)
@@ -472,8 +472,8 @@ module _ (p : TProgram) (regions : List TRegion) (nv : Option (List ℤ)) (q : L
               (words p nv now.out)
               (ap (λ o. words_of (store_in o).nv) (sym (y.follows.out_age known knows)) ∙ left_words known C y.o ∙ ap (λ o. words_of (store_in o).nv) stop.1) c m
             where
-              over : step p regions union suc y.fs y.o ≡ Over
-              over = ap (step p regions union suc y.fs) stop.1 ∙ over_stopped p regions y.fs Trap stop.0
+              over : step p regions union of_samples y.fs y.o ≡ Over
+              over = ap (step p regions union of_samples y.fs) stop.1 ∙ over_stopped p regions y.fs Trap stop.0
 
               none : stop.0.events ≡ []
               none = sym (ap events_in stop.1) ∙ y.follows.under.none
@@ -519,7 +519,7 @@ module _ (p : TProgram) (regions : List TRegion) (nv : Option (List ℤ)) (q : L
         past_in = input ∷ k.now.past
 
         abbrev o' : Outcome
-        o' = cleared (sensed p regions union suc sensor z y.σ)
+        o' = cleared (sensed p regions union of_samples sensor z y.σ)
 
         under : Under p regions (V ++ z ∷ []) past_in y.after o'
         under =
@@ -542,13 +542,13 @@ module _ (p : TProgram) (regions : List TRegion) (nv : Option (List ℤ)) (q : L
             let n : length T' ≡ suc (length T) = length-last T C in
             ap before y.count ∙ a (length T) (omega (arith, n)) ∙ get_last T C
 
-        follows : Follows p regions (V ++ z ∷ []) T' C past_in y.after o' gs (cleared (sensed p regions join_ages (λ n. n) sensor z τ))
+        follows : Follows p regions (V ++ z ∷ []) T' C past_in y.after o' gs (cleared (sensed p regions join_ages of_ages sensor z τ))
         follows = record {
           under = under;
           frames_age = λ before a. y.frames_age before (fewer before a);
           out_age = λ before a.
-              cleared_aged before C (sensed p regions union suc sensor z y.σ)
-              ∙ ap cleared (sym (senses_age p regions before C sensor z y.σ (next_at before a)) ∙ ap (sensed p regions join_ages (λ n. n) sensor z) (y.store_age before (fewer before a)));
+              cleared_aged before C (sensed p regions union of_samples sensor z y.σ)
+              ∙ ap cleared (sym (senses_age p regions before C sensor z y.σ (next_at before a)) ∙ ap (sensed p regions join_ages of_ages sensor z) (y.store_age before (fewer before a)));
           count = ap suc y.count ∙ sym (length-last T C);
         }
 
@@ -556,7 +556,7 @@ module _ (p : TProgram) (regions : List TRegion) (nv : Option (List ℤ)) (q : L
         is_input = (sensor, z, refl, ap (λ n. n ∷ []) y.count)
 
         sensed_right : (a : ℕ) (b : Bool) → (a == sensor) ≡ b
-            → IsAnswer p regions nv (with (Sensed a z)) (if b then Some (record w { now = record w.now { frames = gs; out = cleared (sensed p regions join_ages (λ n. n) sensor z τ) } }) else None)
+            → IsAnswer p regions nv (with (Sensed a z)) (if b then Some (record w { now = record w.now { frames = gs; out = cleared (sensed p regions join_ages of_ages sensor z τ) } }) else None)
         sensed_right a false f = λ x.
             let mine : IsPrefixOf (without_offs (erase q) ++ Sensed sensor z ∷ []) (said_in (marked_run p regions (V ++ z ∷ []))) =
             subst (λ m. IsPrefixOf m (said_in (marked_run p regions (V ++ z ∷ [])))) (told_last input k.now.past ∙ ap (λ m. m ++ Sensed sensor z ∷ []) g.said)
@@ -570,7 +570,7 @@ module _ (p : TProgram) (regions : List TRegion) (nv : Option (List ℤ)) (q : L
               (subst (AreTimely p) (sym lived) (input_timely p all T w.now.sets g.numbered timely g.seen u_in C is_input refl)) (λ how d. absurd (cc (d))),
           record {
             now = way_more p regions nv q t (Sensed a z) tt (V ++ z ∷ []) T' past_in y.after o'
-                (record w.now { frames = gs; out = cleared (sensed p regions join_ages (λ n. n) sensor z τ) }) vs ts follows k.now.inside
+                (record w.now { frames = gs; out = cleared (sensed p regions join_ages of_ages sensor z τ) }) vs ts follows k.now.inside
                 (λ d. going_more p regions nv q t (Sensed a z) tt T' past_in w.now.sets (all ++ u_in ∷ []) tells ts lived
                 (input_numbered p all T w.now.sets g.numbered timely g.seen u_in C is_input refl) (input_seen p all T w.now.sets g.numbered timely g.seen u_in C is_input refl))
                 (λ d. absurd (let no : true ≡ false = sym d ∙ off in cc (no)))

@@ -14,8 +14,8 @@ use Rattle.oc_tree.specs.Samples.{union}
 use Rattle.oc_meaning.specs.Exec.{array_of}
 use Rattle.oc_meaning.specs.Run.{first_values, first_store, marked_run, said_in}
 use Rattle.oc_items.specs.Reports.{EndsWith}
-use Rattle.oc_steps.specs.Steps.{Step, Goes, Asks, Over, step_passed}
-use Rattle.oc_steps.specs.Ages.{join_ages, aged_held, aged_step}
+use Rattle.oc_steps.specs.Steps.{Step, Goes, Asks, Over, step_passed, of_samples}
+use Rattle.oc_steps.specs.Ages.{join_ages, aged_held, aged_step, of_ages}
 use Rattle.oc_steps.specs.Heard.{store_in}
 use Rattle.oc_steps.specs.Starting.{Starts}
 use Rattle.oc_steps.specs.Little.{Little}
@@ -57,7 +57,7 @@ first_aged before (d ∷ ds) = ap (λ l. array_of d.initial d.words ∷ l) (firs
 
 module _ (p : TProgram) (regions : List TRegion) (numbered : Numbered p) where
   full : Step
-  full = step_passed p regions union suc (suc (length p.functions)) (codes "main") [] [] (first_store p [])
+  full = step_passed p regions union of_samples (suc (length p.functions)) (codes "main") [] [] (first_store p [])
 
   no_events : AreNumbered [] []
   no_events = record { each = λ a j h i. absurd h; has = λ j l. absurd (omega (arith, l)) }
@@ -94,13 +94,13 @@ module _ (p : TProgram) (regions : List TRegion) (numbered : Numbered p) where
 
   watches_first : IsWatch p regions [] (first_watch p regions)
   watches_first = record {
-    now = from (step_passed p regions union suc (suc (length p.functions)) (codes "main") [] [] (first_store p []))
-        (step_passed p regions join_ages (λ n. n) (suc (length p.functions)) (codes "main") [] [] (first_store p [])) (starts_right p regions)
+    now = from (step_passed p regions union of_samples (suc (length p.functions)) (codes "main") [] [] (first_store p []))
+        (step_passed p regions join_ages of_ages (suc (length p.functions)) (codes "main") [] [] (first_store p [])) (starts_right p regions)
         (passed_little 0 p regions (suc (length p.functions)) (codes "main") [] [] (first_store p []) (refl, refl))
         (λ before.
-        ap (λ l. step_passed p regions join_ages (λ n. n) (suc (length p.functions)) (codes "main") [] [] (record (first_store p []) { nv = l })) (sym (first_aged before p.nv))
+        ap (λ l. step_passed p regions join_ages of_ages (suc (length p.functions)) (codes "main") [] [] (record (first_store p []) { nv = l })) (sym (first_aged before p.nv))
         ∙ passed_to_aged before 0 p regions (suc (length p.functions)) (codes "main") [] [] (first_store p []))
-        (passed_counts p [] join_ages (λ n. n) regions (body_noted p numbered) (suc (length p.functions)) (codes "main") [] [] (first_store p []) tt (refl, refl));
+        (passed_counts p [] join_ages regions (body_noted p numbered) (suc (length p.functions)) (codes "main") [] [] (first_store p []) tt (refl, refl));
     saved = λ r e. absurd (cc (e));
   }
 

@@ -18,7 +18,7 @@ use Rattle.oc_meaning.specs.Exec.{opened, closed, used, done, in_turn, grown, ar
 use Rattle.oc_meaning.specs.Exec as exec
 use Rattle.oc_meaning.specs.Run.{with_params, nv_env, function_named, function_run, call_to}
 use Rattle.oc_steps.specs.Sets.{value_by, use_by, args_by, element_written_by}
-use Rattle.oc_steps.specs.Steps.{Inside, Frame, Rest, Use, Work, Done, Close, Take, Leave, Turns, Loop, Test, Back, Step, Goes, Asks, Over, begin, begin_else, on_value}
+use Rattle.oc_steps.specs.Steps.{Inside, Frame, Rest, Use, Work, Done, Close, Take, Leave, Turns, Loop, Test, Back, Step, Goes, Asks, Over, begin, begin_else, on_value, of_samples}
 use Rattle.oc_steps.specs.Steps.{step_function, step_passed, step_args, step_call, step_right, taken, work, step_rest, step_turns, step_loop, step_test, step_went, step_returned}
 use Rattle.oc_steps.specs.Steps.{step, sensed}
 use Rattle.oc_steps.specs.Follow.{with_left, with_more, give, stmts_in, block_in, kind_in, after, resume, Keeps, StepsKeep}
@@ -29,7 +29,7 @@ module _ (p : TProgram) (regions : List TRegion) (past : List Event) where
   abbrev pub Makes : Step → List Frame → (List ℤ → Outcome) → Type 0
   Makes (Goes fs' o') fs W = (t : List ℤ) → resume p regions fs' (with_more past t o') ≡ resume p regions fs (W t)
   Makes (Asks s fs' σ) fs W =
-      ((z : ℤ) (t : List ℤ) → resume p regions fs' (with_more past t (sensed p regions union suc s z σ)) ≡ resume p regions fs (W (z ∷ t)))
+      ((z : ℤ) (t : List ℤ) → resume p regions fs' (with_more past t (sensed p regions union of_samples s z σ)) ≡ resume p regions fs (W (z ∷ t)))
       × (resume p regions fs (W []) ≡ Stopped Short (with_left past [] σ))
   Makes Over fs W = ⊥
 
@@ -52,36 +52,36 @@ module _ (p : TProgram) (regions : List TRegion) (past : List Event) where
   makes_if true x y fs W V h k = h
   makes_if false x y fs W V h k = k
 
-  makes_begin : (f : Inside) (env : List Binding) (b : TBlock) (fs : List Frame) (σ : Store) → Makes (begin f env b fs σ) fs (λ t. block_in p regions f env b (with_left past t σ))
+  makes_begin : (f : Inside) (env : List Binding) (b : TBlock) (fs : List Frame) (σ : Store) → Makes (begin of_samples f env b fs σ) fs (λ t. block_in p regions f env b (with_left past t σ))
   makes_begin f env (block id ss) fs σ = λ t. refl
 
   makes_else : (f : Inside) (env : List Binding) (b : TElse) (fs : List Frame) (σ : Store)
-      → Makes (begin_else f env b fs σ) fs (λ t. else_run p.names regions (call_to p regions f.depth) (set_home f.body) env b (with_left past t σ))
+      → Makes (begin_else of_samples f env b fs σ) fs (λ t. else_run p.names regions (call_to p regions f.depth) (set_home f.body) env b (with_left past t σ))
   makes_else f env no_else fs σ = λ t. refl
   makes_else f env (else_do b) fs σ = makes_begin f env b fs σ
 
   makes_function : (d : ℕ) (o : Option TFunction) (ps : List Passed) (fs : List Frame) (σ : Store)
-      → Makes (step_function p regions union suc d o ps fs σ) fs (λ t. function_run p regions (call_to p regions d) o ps (with_left past t σ))
+      → Makes (step_function p regions union of_samples d o ps fs σ) fs (λ t. function_run p regions (call_to p regions d) o ps (with_left past t σ))
   makes_function d None ps fs σ = λ t. refl
   makes_function d (Some f) ps fs σ =
       let fr = with_params f.params ps (record { env = nv_env 0 p.names.nvs; locals = σ.locals }) in
-      makes_under (begin (record { depth = d; body = f.body }) fr.env f.body (Leave (length σ.locals) ∷ fs) (record σ { locals = fr.locals })) (Leave (length σ.locals)) fs
+      makes_under (begin of_samples (record { depth = d; body = f.body }) fr.env f.body (Leave (length σ.locals) ∷ fs) (record σ { locals = fr.locals })) (Leave (length σ.locals)) fs
       (λ t. block_in p regions (record { depth = d; body = f.body }) fr.env f.body (with_left past t (record σ { locals = fr.locals })))
       (makes_begin (record { depth = d; body = f.body }) fr.env f.body (Leave (length σ.locals) ∷ fs) (record σ { locals = fr.locals }))
 
-  pub makes_passed : (d : ℕ) (x : Text) (ps : List Passed) (fs : List Frame) (σ : Store) → Makes (step_passed p regions union suc d x ps fs σ) fs (λ t. call_to p regions d x ps (with_left past t σ))
+  pub makes_passed : (d : ℕ) (x : Text) (ps : List Passed) (fs : List Frame) (σ : Store) → Makes (step_passed p regions union of_samples d x ps fs σ) fs (λ t. call_to p regions d x ps (with_left past t σ))
   makes_passed zero x ps fs σ = λ t. refl
   makes_passed (suc d) x ps fs σ = makes_function d (function_named p.functions x) ps fs σ
 
   makes_args : (d : ℕ) (x : Text) (gs : Passing) (n : ℕ) (fs : List Frame) (σ : Store)
-      → Makes (step_args p regions union suc d x gs n fs σ) fs (λ t. with_args gs n (with_left past t σ) (λ ps. call_to p regions d x ps (with_left past t σ)))
+      → Makes (step_args p regions union of_samples d x gs n fs σ) fs (λ t. with_args gs n (with_left past t σ) (λ ps. call_to p regions d x ps (with_left past t σ)))
   makes_args d x (Passes ps) n fs σ = makes_passed d x ps fs σ
   makes_args d x (Breaks k) n fs σ = λ t. refl
 
   makes_call : (f : Inside) (env : List Binding) (n : ℕ) (c : TCall) (fs : List Frame) (σ : Store)
-      → Makes (step_call p regions union suc f env n c fs σ) fs (λ t. call_run p.names regions (call_to p regions f.depth) (set_home f.body) env n (with_left past t σ) c)
+      → Makes (step_call p regions union of_samples f env n c fs σ) fs (λ t. call_run p.names regions (call_to p regions f.depth) (set_home f.body) env n (with_left past t σ) c)
   makes_call f env n (call x gs) fs σ =
-      makes_as (step_args p regions union suc f.depth x (args_by union env σ gs) n fs σ) fs
+      makes_as (step_args p regions union of_samples f.depth x (args_by union env σ gs) n fs σ) fs
       (λ t. with_args (args_by union env σ gs) n (with_left past t σ) (λ ps. call_to p regions f.depth x ps (with_left past t σ)))
       (λ t. with_args (args_of env (with_left past t σ) gs) n (with_left past t σ) (λ ps. call_to p regions f.depth x ps (with_left past t σ)))
       (λ t. ap (λ q. with_args q n (with_left past t σ) (λ ps. call_to p regions f.depth x ps (with_left past t σ))) (sym (args_left past t env σ gs)))
@@ -100,29 +100,29 @@ module _ (p : TProgram) (regions : List TRegion) (past : List Event) where
   makes_sense s f fs σ = ((λ z t. refl), short (f ∷ fs) (with_left past [] σ))
 
   makes_right : (f : Inside) (env : List Binding) (n : ℕ) (r : TRight) (g : Frame) (fs : List Frame) (σ : Store)
-      → Makes (step_right p regions union suc f env n r (g ∷ fs) σ) fs (λ t. after p regions g (right_run p.names regions (call_to p regions f.depth) (set_home f.body) env n (with_left past t σ) r))
+      → Makes (step_right p regions union of_samples f env n r (g ∷ fs) σ) fs (λ t. after p regions g (right_run p.names regions (call_to p regions f.depth) (set_home f.body) env n (with_left past t σ) r))
   makes_right f env n (right_value e) g fs σ =
-      makes_under (step_right p regions union suc f env n (right_value e) (g ∷ fs) σ) g fs
+      makes_under (step_right p regions union of_samples f env n (right_value e) (g ∷ fs) σ) g fs
       (λ t. with_value (value_of env (with_left past t σ) e) n (with_left past t σ) (λ v. Returned v (with_left past t σ)))
-      (makes_as (step_right p regions union suc f env n (right_value e) (g ∷ fs) σ) (g ∷ fs)
+      (makes_as (step_right p regions union of_samples f env n (right_value e) (g ∷ fs) σ) (g ∷ fs)
       (λ t. with_value (value_by union env σ e) n (with_left past t σ) (λ v. Returned v (with_left past t σ)))
       (λ t. with_value (value_of env (with_left past t σ) e) n (with_left past t σ) (λ v. Returned v (with_left past t σ)))
       (λ t. ap (λ q. with_value q n (with_left past t σ) (λ v. Returned v (with_left past t σ))) (sym (value_left past t env σ e)))
       (makes_value (value_by union env σ e) n σ (g ∷ fs) (λ v. Goes (g ∷ fs) (Returned v σ)) (λ v t. Returned v (with_left past t σ)) (λ v t. refl)))
   makes_right f env n (right_sense s) g fs σ = makes_sense (number_in p.names.sensors s) g fs σ
   makes_right f env n (right_call c) g fs σ =
-      makes_under (step_call p regions union suc f env n c (g ∷ fs) σ) g fs
+      makes_under (step_call p regions union of_samples f env n c (g ∷ fs) σ) g fs
       (λ t. call_run p.names regions (call_to p regions f.depth) (set_home f.body) env n (with_left past t σ) c) (makes_call f env n c (g ∷ fs) σ)
 
   -- what becomes of a value
   put_taken : (σ : Store) (q : Place) (v : Value) (t : List ℤ) → with_left past t (put σ q (replaced (held_at σ q) v)) ≡ put (with_left past t σ) q (replaced (held_at (with_left past t σ) q) v)
   put_taken σ q v t = sym (put_left past t σ q (replaced (held_at σ q) v)) ∙ ap (λ h. put (with_left past t σ) q (replaced h v)) (sym (held_left past t σ q))
 
-  makes_taken : (env : List Binding) (n : ℕ) (k : TKind) (v : Value) (fs : List Frame) (σ : Store) → Makes (taken p regions union suc env n k v fs σ) fs (λ t. give env n k v (with_left past t σ))
+  makes_taken : (env : List Binding) (n : ℕ) (k : TKind) (v : Value) (fs : List Frame) (σ : Store) → Makes (taken p regions union of_samples env n k v fs σ) fs (λ t. give env n k v (with_left past t σ))
   makes_taken env n (let_to m x k r) v fs σ = λ t. refl
   makes_taken env n (assign x r) v fs σ = λ t. ap (λ τ. resume p regions fs (Went τ)) (put_taken σ (place_of env x) v t)
   makes_taken env n (assign_index x e r) v fs σ =
-      makes_as (taken p regions union suc env n (assign_index x e r) v fs σ) fs
+      makes_as (taken p regions union of_samples env n (assign_index x e r) v fs σ) fs
       (λ t. with_value (value_by union env σ e) n (with_left past t σ)
       (λ i. with_more past t (element_written_by union (place_of env x) (element_of (length (held_at σ (place_of env x)).words) i.num) i v n σ)))
       (λ t. give env n (assign_index x e r) v (with_left past t σ))
@@ -143,38 +143,38 @@ module _ (p : TProgram) (regions : List TRegion) (past : List Event) where
   makes_taken env n k v fs σ = λ t. refl
 
   makes_work : (f : Inside) (env : List Binding) (n : ℕ) (k : TKind) (fs : List Frame) (σ : Store)
-      → Makes (work p regions union suc f env n k fs σ) fs (λ t. kind_in p regions f env n k (with_left past t σ))
+      → Makes (work p regions union of_samples f env n k fs σ) fs (λ t. kind_in p regions f env n k (with_left past t σ))
   makes_work f env n (let_to m x k r) fs σ = makes_right f env n r (Take env n (let_to m x k r)) fs σ
   makes_work f env n (let_array m x k z c) fs σ = λ t. refl
   makes_work f env n (assign x r) fs σ = makes_right f env n r (Take env n (assign x r)) fs σ
   makes_work f env n (assign_index x e r) fs σ = makes_right f env n r (Take env n (assign_index x e r)) fs σ
   makes_work f env n (assign_deref x r) fs σ = makes_right f env n r (Take env n (assign_deref x r)) fs σ
   makes_work f env n (if_else c a b) fs σ =
-      makes_as (work p regions union suc f env n (if_else c a b) fs σ) fs
+      makes_as (work p regions union of_samples f env n (if_else c a b) fs σ) fs
       (λ t. with_value (value_by union env σ c) n (with_left past t σ)
       (λ v. if is_zero v.num then else_run p.names regions (call_to p regions f.depth) (set_home f.body) env b (with_left past t σ) else block_in p regions f env a (with_left past t σ)))
       (λ t. kind_in p regions f env n (if_else c a b) (with_left past t σ))
       (λ t. ap (λ q. with_value q n (with_left past t σ)
       (λ v. if is_zero v.num then else_run p.names regions (call_to p regions f.depth) (set_home f.body) env b (with_left past t σ) else block_in p regions f env a
       (with_left past t σ))) (sym (value_left past t env σ c)))
-      (makes_value (value_by union env σ c) n σ fs (λ v. if is_zero v.num then begin_else f env b fs σ else begin f env a fs σ)
+      (makes_value (value_by union env σ c) n σ fs (λ v. if is_zero v.num then begin_else of_samples f env b fs σ else begin of_samples f env a fs σ)
       (λ v t. if is_zero v.num then else_run p.names regions (call_to p regions f.depth) (set_home f.body) env b (with_left past t σ) else block_in p regions f env a (with_left past t σ))
-      (λ v. makes_if (is_zero v.num) (begin_else f env b fs σ) (begin f env a fs σ) fs
+      (λ v. makes_if (is_zero v.num) (begin_else of_samples f env b fs σ) (begin of_samples f env a fs σ) fs
       (λ t. else_run p.names regions (call_to p regions f.depth) (set_home f.body) env b (with_left past t σ)) (λ t. block_in p regions f env a (with_left past t σ))
       (makes_else f env b fs σ) (makes_begin f env a fs σ)))
   makes_work f env n (for_in x c d b) fs σ = λ t. refl
   makes_work f env n (while_do c t b) fs σ = λ t. refl
   makes_work f env n (call_only c) fs σ =
-      makes_as (work p regions union suc f env n (call_only c) fs σ) fs
+      makes_as (work p regions union of_samples f env n (call_only c) fs σ) fs
       (λ t. after p regions (Take env n (call_only c)) (call_run p.names regions (call_to p regions f.depth) (set_home f.body) env n (with_left past t σ) c))
       (λ t. kind_in p regions f env n (call_only c) (with_left past t σ))
       (λ t. refl)
-      (makes_under (step_call p regions union suc f env n c (Take env n (call_only c) ∷ fs) σ) (Take env n (call_only c)) fs
+      (makes_under (step_call p regions union of_samples f env n c (Take env n (call_only c) ∷ fs) σ) (Take env n (call_only c)) fs
       (λ t. call_run p.names regions (call_to p regions f.depth) (set_home f.body) env n (with_left past t σ) c)
       (makes_call f env n c (Take env n (call_only c) ∷ fs) σ))
   makes_work f env n (sense_only s) fs σ = makes_sense (number_in p.names.sensors s) (Take env n (sense_only s)) fs σ
   makes_work f env n (emit q e) fs σ =
-      makes_as (work p regions union suc f env n (emit q e) fs σ) fs
+      makes_as (work p regions union of_samples f env n (emit q e) fs σ) fs
       (λ t. with_value (value_by union env σ e) n (with_left past t σ) (λ v. Went (noted (Showed (Emitted (number_in p.names.ports q) v.num)) v.samples (with_left past t σ))))
       (λ t. kind_in p regions f env n (emit q e) (with_left past t σ))
       (λ t. ap (λ g. with_value g n (with_left past t σ) (λ v. Went (noted (Showed (Emitted (number_in p.names.ports q) v.num)) v.samples (with_left past t σ)))) (sym (value_left past t env σ e)))
@@ -185,7 +185,7 @@ module _ (p : TProgram) (regions : List TRegion) (past : List Event) where
       λ t. ap (λ h. resume p regions fs (Went (exec.tagged (set_home f.body k) n h.samples (with_left past t σ)))) (sym (held_left past t σ (place_of env x)))
   makes_work f env n (return e) fs σ =
       let is : Bool = is_use (is_fresh env) (return e) in
-      makes_as (work p regions union suc f env n (return e) fs σ) fs
+      makes_as (work p regions union of_samples f env n (return e) fs σ) fs
       (λ t. with_value (value_by union env σ e) n (with_left past t σ) (λ v. Returned v (closed (ended_by regions n) (with_left past t (done is n (use_by union env (return e) σ) σ)))))
       (λ t. kind_in p regions f env n (return e) (with_left past t σ))
       (λ t.
@@ -202,7 +202,7 @@ module _ (p : TProgram) (regions : List TRegion) (past : List Event) where
   finished_both g h (Stopped s σ) = refl
 
   makes_rest : (f : Inside) (env : List Binding) (ss : TStmts) (fs : List Frame) (σ : Store)
-      → Makes (step_rest p regions union suc f env ss fs σ) fs (λ t. stmts_in p regions f env ss (with_left past t σ))
+      → Makes (step_rest p regions union of_samples f env ss fs σ) fs (λ t. stmts_in p regions f env ss (with_left past t σ))
   makes_rest f env no_stmts fs σ = λ t. refl
   makes_rest f env (more (stmt n line k) rest) fs σ =
       λ t.
@@ -221,14 +221,14 @@ module _ (p : TProgram) (regions : List TRegion) (past : List Event) where
       (sym (use_left past t env k σ))
 
   makes_turns : (f : Inside) (x : Text) (c : ℕ) (i : ℤ) (b : TBlock) (env : List Binding) (fs : List Frame) (σ : Store)
-      → Makes (step_turns p regions union suc f x c i b env fs σ) fs (λ t. for_turns c i (λ j. block_in p regions f (in_turn x j ∷ env) b) (with_left past t σ))
+      → Makes (step_turns p regions union of_samples f x c i b env fs σ) fs (λ t. for_turns c i (λ j. block_in p regions f (in_turn x j ∷ env) b) (with_left past t σ))
   makes_turns f x zero i b env fs σ = λ t. refl
   makes_turns f x (suc c) i b env fs σ =
-      makes_under (begin f (in_turn x i ∷ env) b (Turns f x c (i +ℤ pos 1) b env ∷ fs) σ) (Turns f x c (i +ℤ pos 1) b env) fs (λ t. block_in p regions f (in_turn x i ∷ env) b (with_left past t σ))
+      makes_under (begin of_samples f (in_turn x i ∷ env) b (Turns f x c (i +ℤ pos 1) b env ∷ fs) σ) (Turns f x c (i +ℤ pos 1) b env) fs (λ t. block_in p regions f (in_turn x i ∷ env) b (with_left past t σ))
       (makes_begin f (in_turn x i ∷ env) b (Turns f x c (i +ℤ pos 1) b env ∷ fs) σ)
 
   makes_loop : (f : Inside) (env : List Binding) (n : ℕ) (c : TExpr) (m : ℕ) (b : TBlock) (before : List ℕ) (fs : List Frame) (σ : Store)
-      → Makes (step_loop p regions union suc f env n c m b before fs σ) fs (λ t. after p regions (Loop f env n c m b before) (Went (with_left past t σ)))
+      → Makes (step_loop p regions union of_samples f env n c m b before fs σ) fs (λ t. after p regions (Loop f env n c m b before) (Went (with_left past t σ)))
   makes_loop f env n c zero b before fs σ = λ t. ap (λ τ. resume p regions fs (Went τ)) (sym (done_left past t (is_use (is_fresh env) (while_do c 0 b)) n before σ))
   makes_loop f env n c (suc m) b before fs σ =
       λ t.
@@ -238,12 +238,12 @@ module _ (p : TProgram) (regions : List TRegion) (past : List Event) where
       ∙ ap (λ w. resume p regions fs (after p regions (Test f env n c m b (union before w)) (Went (used is n w (with_left past t σ))))) (sym (use_left past t env (while_do c 0 b) σ))
 
   makes_test : (f : Inside) (env : List Binding) (n : ℕ) (c : TExpr) (m : ℕ) (b : TBlock) (all : List ℕ) (fs : List Frame) (σ : Store)
-      → Makes (step_test p regions union suc f env n c m b all fs σ) fs (λ t. after p regions (Test f env n c m b all) (Went (with_left past t σ)))
+      → Makes (step_test p regions union of_samples f env n c m b all fs σ) fs (λ t. after p regions (Test f env n c m b all) (Went (with_left past t σ)))
   makes_test f env n c m b all fs σ =
       let is : Bool = is_use (is_fresh env) (while_do c 0 b) in
       let V : Value → List ℤ → Outcome = λ v t. if is_zero v.num then Went (with_left past t (done is n all σ)) else after p regions (Loop f env n c m b all)
       (block_in p regions f env b (with_left past t σ)) in
-      makes_as (step_test p regions union suc f env n c m b all fs σ) fs
+      makes_as (step_test p regions union of_samples f env n c m b all fs σ) fs
       (λ t. with_value (value_by union env σ c) n (with_left past t σ) (λ v. V v t))
       (λ t. after p regions (Test f env n c m b all) (Went (with_left past t σ)))
       (λ t. ap (λ τ. with_value (value_by union env σ c) n (with_left past t σ)
@@ -251,14 +251,14 @@ module _ (p : TProgram) (regions : List TRegion) (past : List Event) where
       ∙ ap (λ g. with_value g n (with_left past t σ)
       (λ v. if is_zero v.num then Went (done is n all (with_left past t σ)) else after p regions (Loop f env n c m b all) (block_in p regions f env b (with_left past t σ))))
       (sym (value_left past t env σ c)))
-      (makes_value (value_by union env σ c) n σ fs (λ v. if is_zero v.num then Goes fs (Went (done is n all σ)) else begin f env b (Loop f env n c m b all ∷ fs) σ) V
-      (λ v. makes_if (is_zero v.num) (Goes fs (Went (done is n all σ))) (begin f env b (Loop f env n c m b all ∷ fs) σ) fs
+      (makes_value (value_by union env σ c) n σ fs (λ v. if is_zero v.num then Goes fs (Went (done is n all σ)) else begin of_samples f env b (Loop f env n c m b all ∷ fs) σ) V
+      (λ v. makes_if (is_zero v.num) (Goes fs (Went (done is n all σ))) (begin of_samples f env b (Loop f env n c m b all ∷ fs) σ) fs
       (λ t. Went (with_left past t (done is n all σ))) (λ t. after p regions (Loop f env n c m b all) (block_in p regions f env b (with_left past t σ)))
       (λ t. refl)
-      (makes_under (begin f env b (Loop f env n c m b all ∷ fs) σ) (Loop f env n c m b all) fs (λ t. block_in p regions f env b (with_left past t σ))
+      (makes_under (begin of_samples f env b (Loop f env n c m b all ∷ fs) σ) (Loop f env n c m b all) fs (λ t. block_in p regions f env b (with_left past t σ))
       (makes_begin f env b (Loop f env n c m b all ∷ fs) σ))))
 
-  makes_went : (f : Frame) (fs : List Frame) (σ : Store) → Makes (step_went p regions union suc f fs σ) fs (λ t. after p regions f (Went (with_left past t σ)))
+  makes_went : (f : Frame) (fs : List Frame) (σ : Store) → Makes (step_went p regions union of_samples f fs σ) fs (λ t. after p regions f (Went (with_left past t σ)))
   makes_went (Rest f env ss) fs σ = makes_rest f env ss fs σ
   makes_went (Use f env n u k) fs σ = λ t. ap (λ τ. resume p regions fs (kind_in p regions f env n k τ)) (sym (used_left past t (begins_use (is_fresh env) k) n u σ))
   makes_went (Work f env n k) fs σ = makes_work f env n k fs σ
@@ -271,7 +271,7 @@ module _ (p : TProgram) (regions : List TRegion) (past : List Event) where
   makes_went (Test f env n c m b all) fs σ = makes_test f env n c m b all fs σ
   makes_went (Back v r) fs σ = λ t. ap (λ τ. resume p regions fs (Returned v τ)) (sym (closed_left past t r σ))
 
-  makes_returned : (f : Frame) (v : Value) (fs : List Frame) (σ : Store) → Makes (step_returned p regions union suc f v fs σ) fs (λ t. after p regions f (Returned v (with_left past t σ)))
+  makes_returned : (f : Frame) (v : Value) (fs : List Frame) (σ : Store) → Makes (step_returned p regions union of_samples f v fs σ) fs (λ t. after p regions f (Returned v (with_left past t σ)))
   makes_returned (Take env n k) v fs σ = makes_taken env n k v fs σ
   makes_returned (Turns f x t i b env) v fs σ = λ t. refl
   makes_returned (Loop f env n c t b before) v fs σ = λ t. refl
@@ -292,10 +292,10 @@ module _ (p : TProgram) (regions : List TRegion) where
   keeps_made (Asks s fs' σ) f fs o h = ((λ past z t. (h past).0 z t), (λ past. (h past).1))
   keeps_made Over f fs o h = absurd (h [])
 
-  keeps : (fs : List Frame) (o : Outcome) → Keeps p regions (step p regions union suc fs o) fs o
+  keeps : (fs : List Frame) (o : Outcome) → Keeps p regions (step p regions union of_samples fs o) fs o
   keeps [] o = λ past t. refl
-  keeps (f ∷ fs) (Went σ) = keeps_made (step_went p regions union suc f fs σ) f fs (Went σ) (λ past. makes_went p regions past f fs σ)
-  keeps (f ∷ fs) (Returned v σ) = keeps_made (step_returned p regions union suc f v fs σ) f fs (Returned v σ) (λ past. makes_returned p regions past f v fs σ)
+  keeps (f ∷ fs) (Went σ) = keeps_made (step_went p regions union of_samples f fs σ) f fs (Went σ) (λ past. makes_went p regions past f fs σ)
+  keeps (f ∷ fs) (Returned v σ) = keeps_made (step_returned p regions union of_samples f v fs σ) f fs (Returned v σ) (λ past. makes_returned p regions past f v fs σ)
   keeps (f ∷ fs) (Stopped s σ) = λ past t. stays_stopped p regions past (f ∷ fs) s (with_left past t σ)
 
 pub steps_keep : StepsKeep

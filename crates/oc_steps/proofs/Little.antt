@@ -18,7 +18,7 @@ use Rattle.oc_meaning.specs.Uses.{is_fresh, is_use, begins_use}
 use Rattle.oc_meaning.specs.Exec.{begun_by, ended_by, Went, Returned, Stopped, Passed, Passing, Passes, Breaks, number_in, told_if, trapped, opened, closed, used, done, in_turn}
 use Rattle.oc_meaning.specs.Run.{with_params, nv_env, function_named}
 use Rattle.oc_steps.specs.Sets.{value_by, use_by, args_by, element_written_by}
-use Rattle.oc_steps.specs.Steps.{Inside, Frame, Rest, Use, Work, Done, Close, Take, Leave, Turns, Loop, Test, Back, Step, Goes, begin, begin_else, on_value, step_function}
+use Rattle.oc_steps.specs.Steps.{Inside, Frame, Rest, Use, Work, Done, Close, Take, Leave, Turns, Loop, Test, Back, Step, Goes, begin, begin_else, on_value, step_function, of_samples}
 use Rattle.oc_steps.specs.Steps.{step_passed, step_args, step_call, step_right, taken, work, step_rest, step_turns, step_loop, step_test, step_went, step_returned}
 use Rattle.oc_steps.specs.Little.{IsNoInput, IsNoEnd, IsSilent, AtMostOne, SaysOne, Little, SaysLittle}
 
@@ -68,37 +68,37 @@ module _ (m : ℕ) where
   if_little true x y h k = h
   if_little false x y h k = k
 
-  begin_little : (f : Inside) (env : List Binding) (b : TBlock) (fs : List Frame) (σ : Store) → IsSilent m σ → Little m (begin f env b fs σ)
+  begin_little : (f : Inside) (env : List Binding) (b : TBlock) (fs : List Frame) (σ : Store) → IsSilent m σ → Little m (begin of_samples f env b fs σ)
   begin_little f env (block id ss) fs σ h = (h.1, inl h.0)
 
-  else_little : (f : Inside) (env : List Binding) (b : TElse) (fs : List Frame) (σ : Store) → IsSilent m σ → Little m (begin_else f env b fs σ)
+  else_little : (f : Inside) (env : List Binding) (b : TElse) (fs : List Frame) (σ : Store) → IsSilent m σ → Little m (begin_else of_samples f env b fs σ)
   else_little f env no_else fs σ h = (h.1, inl h.0)
   else_little f env (else_do b) fs σ h = begin_little f env b fs σ h
 
   module _ (p : TProgram) (regions : List TRegion) where
-    function_little : (d : ℕ) (o : Option TFunction) (ps : List Passed) (fs : List Frame) (σ : Store) → IsSilent m σ → Little m (step_function p regions union suc d o ps fs σ)
+    function_little : (d : ℕ) (o : Option TFunction) (ps : List Passed) (fs : List Frame) (σ : Store) → IsSilent m σ → Little m (step_function p regions union of_samples d o ps fs σ)
     function_little d None ps fs σ h = (h.1, inl h.0)
     function_little d (Some f) ps fs σ h =
         let fr = with_params f.params ps (record { env = nv_env 0 p.names.nvs; locals = σ.locals }) in
         begin_little (record { depth = d; body = f.body }) fr.env f.body (Leave (length σ.locals) ∷ fs) (record σ { locals = fr.locals }) h
 
-    pub passed_little : (d : ℕ) (x : Text) (ps : List Passed) (fs : List Frame) (σ : Store) → IsSilent m σ → Little m (step_passed p regions union suc d x ps fs σ)
+    pub passed_little : (d : ℕ) (x : Text) (ps : List Passed) (fs : List Frame) (σ : Store) → IsSilent m σ → Little m (step_passed p regions union of_samples d x ps fs σ)
     passed_little zero x ps fs σ h = (h.1, inl h.0)
     passed_little (suc d) x ps fs σ h = function_little d (function_named p.functions x) ps fs σ h
 
-    args_little : (d : ℕ) (x : Text) (gs : Passing) (n : ℕ) (fs : List Frame) (σ : Store) → IsSilent m σ → Little m (step_args p regions union suc d x gs n fs σ)
+    args_little : (d : ℕ) (x : Text) (gs : Passing) (n : ℕ) (fs : List Frame) (σ : Store) → IsSilent m σ → Little m (step_args p regions union of_samples d x gs n fs σ)
     args_little d x (Passes ps) n fs σ h = passed_little d x ps fs σ h
     args_little d x (Breaks k) n fs σ h = traps_one k n σ h
 
-    call_little : (f : Inside) (env : List Binding) (n : ℕ) (k : TCall) (fs : List Frame) (σ : Store) → IsSilent m σ → Little m (step_call p regions union suc f env n k fs σ)
+    call_little : (f : Inside) (env : List Binding) (n : ℕ) (k : TCall) (fs : List Frame) (σ : Store) → IsSilent m σ → Little m (step_call p regions union of_samples f env n k fs σ)
     call_little f env n (call x gs) fs σ h = args_little f.depth x (args_by union env σ gs) n fs σ h
 
-    right_little : (f : Inside) (env : List Binding) (n : ℕ) (r : TRight) (fs : List Frame) (σ : Store) → IsSilent m σ → Little m (step_right p regions union suc f env n r fs σ)
+    right_little : (f : Inside) (env : List Binding) (n : ℕ) (r : TRight) (fs : List Frame) (σ : Store) → IsSilent m σ → Little m (step_right p regions union of_samples f env n r fs σ)
     right_little f env n (right_value e) fs σ h = value_little (value_by union env σ e) n σ fs (λ v. Goes fs (Returned v σ)) h (λ v. (h.1, inl h.0))
     right_little f env n (right_sense s) fs σ h = h
     right_little f env n (right_call k) fs σ h = call_little f env n k fs σ h
 
-    taken_little : (env : List Binding) (n : ℕ) (k : TKind) (v : Value) (fs : List Frame) (σ : Store) → IsSilent m σ → Little m (taken p regions union suc env n k v fs σ)
+    taken_little : (env : List Binding) (n : ℕ) (k : TKind) (v : Value) (fs : List Frame) (σ : Store) → IsSilent m σ → Little m (taken p regions union of_samples env n k v fs σ)
     taken_little env n (let_to m x t r) v fs σ h = (h.1, inl h.0)
     taken_little env n (assign x r) v fs σ h = put_none σ (place_of env x) (replaced (held_at σ (place_of env x)) v) h
     taken_little env n (assign_index x e r) v fs σ h =
@@ -107,15 +107,15 @@ module _ (m : ℕ) where
     taken_little env n (assign_deref x r) v fs σ h = put_none σ (place_of env x) (replaced (held_at σ (place_of env x)) v) h
     taken_little env n k v fs σ h = (h.1, inl h.0)
 
-    work_little : (f : Inside) (env : List Binding) (n : ℕ) (k : TKind) (fs : List Frame) (σ : Store) → IsSilent m σ → Little m (work p regions union suc f env n k fs σ)
+    work_little : (f : Inside) (env : List Binding) (n : ℕ) (k : TKind) (fs : List Frame) (σ : Store) → IsSilent m σ → Little m (work p regions union of_samples f env n k fs σ)
     work_little f env n (let_to m x t r) fs σ h = right_little f env n r (Take env n (let_to m x t r) ∷ fs) σ h
     work_little f env n (let_array m x t z w) fs σ h = (h.1, inl h.0)
     work_little f env n (assign x r) fs σ h = right_little f env n r (Take env n (assign x r) ∷ fs) σ h
     work_little f env n (assign_index x e r) fs σ h = right_little f env n r (Take env n (assign_index x e r) ∷ fs) σ h
     work_little f env n (assign_deref x r) fs σ h = right_little f env n r (Take env n (assign_deref x r) ∷ fs) σ h
     work_little f env n (if_else e a b) fs σ h =
-        value_little (value_by union env σ e) n σ fs (λ v. if is_zero v.num then begin_else f env b fs σ else begin f env a fs σ) h
-        (λ v. if_little (is_zero v.num) (begin_else f env b fs σ) (begin f env a fs σ) (else_little f env b fs σ h) (begin_little f env a fs σ h))
+        value_little (value_by union env σ e) n σ fs (λ v. if is_zero v.num then begin_else of_samples f env b fs σ else begin of_samples f env a fs σ) h
+        (λ v. if_little (is_zero v.num) (begin_else of_samples f env b fs σ) (begin of_samples f env a fs σ) (else_little f env b fs σ h) (begin_little f env a fs σ h))
     work_little f env n (for_in x a b d) fs σ h = (h.1, inl h.0)
     work_little f env n (while_do e t b) fs σ h = (h.1, inl h.0)
     work_little f env n (call_only k) fs σ h = call_little f env n k (Take env n (call_only k) ∷ fs) σ h
@@ -129,27 +129,27 @@ module _ (m : ℕ) where
         value_little (value_by union env σ e) n σ fs (λ v. Goes (Back v (ended_by regions n) ∷ fs) (Went (done is n (use_by union env (return e) σ) σ))) h
         (λ v. done_one is n (use_by union env (return e) σ) σ h)
 
-    rest_little : (f : Inside) (env : List Binding) (ss : TStmts) (fs : List Frame) (σ : Store) → IsSilent m σ → Little m (step_rest p regions union suc f env ss fs σ)
+    rest_little : (f : Inside) (env : List Binding) (ss : TStmts) (fs : List Frame) (σ : Store) → IsSilent m σ → Little m (step_rest p regions union of_samples f env ss fs σ)
     rest_little f env no_stmts fs σ h = (h.1, inl h.0)
     rest_little f env (more (stmt n line k) rest) fs σ h = opened_one (begun_by regions n) σ h
 
-    turns_little : (f : Inside) (x : Text) (t : ℕ) (i : ℤ) (b : TBlock) (env : List Binding) (fs : List Frame) (σ : Store) → IsSilent m σ → Little m (step_turns p regions union suc f x t i b env fs σ)
+    turns_little : (f : Inside) (x : Text) (t : ℕ) (i : ℤ) (b : TBlock) (env : List Binding) (fs : List Frame) (σ : Store) → IsSilent m σ → Little m (step_turns p regions union of_samples f x t i b env fs σ)
     turns_little f x zero i b env fs σ h = (h.1, inl h.0)
     turns_little f x (suc t) i b env fs σ h = begin_little f (in_turn x i ∷ env) b (Turns f x t (i +ℤ pos 1) b env ∷ fs) σ h
 
     loop_little : (f : Inside) (env : List Binding) (n : ℕ) (e : TExpr) (t : ℕ) (b : TBlock) (u : List ℕ) (fs : List Frame) (σ : Store) → IsSilent m σ
-        → Little m (step_loop p regions union suc f env n e t b u fs σ)
+        → Little m (step_loop p regions union of_samples f env n e t b u fs σ)
     loop_little f env n e zero b u fs σ h = done_one (is_use (is_fresh env) (while_do e 0 b)) n u σ h
     loop_little f env n e (suc t) b u fs σ h = used_one (is_use (is_fresh env) (while_do e 0 b)) n (use_by union env (while_do e 0 b) σ) σ h
 
     test_little : (f : Inside) (env : List Binding) (n : ℕ) (e : TExpr) (t : ℕ) (b : TBlock) (u : List ℕ) (fs : List Frame) (σ : Store) → IsSilent m σ
-        → Little m (step_test p regions union suc f env n e t b u fs σ)
+        → Little m (step_test p regions union of_samples f env n e t b u fs σ)
     test_little f env n e t b u fs σ h =
         let is : Bool = is_use (is_fresh env) (while_do e 0 b) in
-        value_little (value_by union env σ e) n σ fs (λ v. if is_zero v.num then Goes fs (Went (done is n u σ)) else begin f env b (Loop f env n e t b u ∷ fs) σ) h
-        (λ v. if_little (is_zero v.num) (Goes fs (Went (done is n u σ))) (begin f env b (Loop f env n e t b u ∷ fs) σ) (done_one is n u σ h) (begin_little f env b (Loop f env n e t b u ∷ fs) σ h))
+        value_little (value_by union env σ e) n σ fs (λ v. if is_zero v.num then Goes fs (Went (done is n u σ)) else begin of_samples f env b (Loop f env n e t b u ∷ fs) σ) h
+        (λ v. if_little (is_zero v.num) (Goes fs (Went (done is n u σ))) (begin of_samples f env b (Loop f env n e t b u ∷ fs) σ) (done_one is n u σ h) (begin_little f env b (Loop f env n e t b u ∷ fs) σ h))
 
-    went_little : (f : Frame) (fs : List Frame) (σ : Store) → IsSilent m σ → Little m (step_went p regions union suc f fs σ)
+    went_little : (f : Frame) (fs : List Frame) (σ : Store) → IsSilent m σ → Little m (step_went p regions union of_samples f fs σ)
     went_little (Rest f env ss) fs σ h = rest_little f env ss fs σ h
     went_little (Use f env n u k) fs σ h = used_one (begins_use (is_fresh env) k) n u σ h
     went_little (Work f env n k) fs σ h = work_little f env n k fs σ h
@@ -162,7 +162,7 @@ module _ (m : ℕ) where
     went_little (Test f env n e t b u) fs σ h = test_little f env n e t b u fs σ h
     went_little (Back v r) fs σ h = closed_one r σ h
 
-    returned_little : (f : Frame) (v : Value) (fs : List Frame) (σ : Store) → IsSilent m σ → Little m (step_returned p regions union suc f v fs σ)
+    returned_little : (f : Frame) (v : Value) (fs : List Frame) (σ : Store) → IsSilent m σ → Little m (step_returned p regions union of_samples f v fs σ)
     returned_little (Take env n k) v fs σ h = taken_little env n k v fs σ h
     returned_little frame v fs σ h = (h.1, inl h.0)
 

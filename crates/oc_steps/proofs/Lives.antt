@@ -1,5 +1,5 @@
 -- What a run under way and a report so far say of one another.
-use Rattle.std.proofs.Common.{◌≡◌, ℕ, suc, ℤ, Bool, true, false, List, [], ◌∷◌, ◌++◌, map, Option, refl, sym, ap, ◌∙◌, subst, append-nil}
+use Rattle.std.proofs.Common.{◌≡◌, ℕ, ℤ, Bool, true, false, List, [], ◌∷◌, ◌++◌, map, Option, refl, sym, ap, ◌∙◌, subst, append-nil}
 use Rattle.std.specs.Prelude.{if◌then◌else◌}
 use Rattle.std.proofs.lemmas.List.{map-append}
 use Rattle.oc_tree.specs.Tree.{TProgram}
@@ -18,7 +18,7 @@ use Rattle.oc_meaning.proofs.Bare.{only_tell}
 use Rattle.oc_items.specs.Erase.{erase, without_offs, without_mark, without_marks, inside_after, MayStand, HasNoOffInside}
 use Rattle.oc_items.specs.Reports.{IsPrefixOf}
 use Rattle.oc_honest.specs.Timely.{Lived, lived_from, AreTimely}
-use Rattle.oc_steps.specs.Steps.{Frame, Over, step}
+use Rattle.oc_steps.specs.Steps.{Frame, Over, step, of_samples}
 use Rattle.oc_steps.specs.Counting.{AreCounted}
 use Rattle.oc_steps.specs.Heard.{Under, said_so_far, store_in}
 use Rattle.oc_honest.specs.Honest.{IsWhole, IsHonestSoFar}
@@ -152,7 +152,7 @@ module _ (p : TProgram) (regions : List TRegion) where
         → inside_after (is_inside false (erase q)) s ≡ w.inside
         → (w.over ≡ false → IsGoing p (erase q ++ end) past' w.sets)
         → (w.over ≡ true → (x : List ℤ) → said_in (marked_run p regions (v' ++ x)) ≡ without_offs (erase q ++ end))
-        → (w.over ≡ true → step p regions union suc fs' o' ≡ Over)
+        → (w.over ≡ true → step p regions union of_samples fs' o' ≡ Over)
         → AreCounted p w.sets w.frames (store_in w.out).blocks
         → IsWay p regions (erase (q ++ end)) w
     way_more v' table' past' fs' o' w vs ts f i g over stands counted =

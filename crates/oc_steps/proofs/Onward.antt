@@ -7,8 +7,8 @@ use Rattle.oc_tree.specs.Samples.{union}
 use Rattle.oc_meaning.specs.Store.{Event, Store}
 use Rattle.oc_meaning.specs.Cuts.{events_in}
 use Rattle.oc_meaning.specs.Exec.{Trap, Short, Outcome, Went, Returned, Stopped}
-use Rattle.oc_steps.specs.Steps.{Frame, Step, Goes, Asks, Over, step}
-use Rattle.oc_steps.specs.Ages.{join_ages, aged_frame, aged_event, aged_store, aged_outcome, aged_step}
+use Rattle.oc_steps.specs.Steps.{Frame, Step, Goes, Asks, Over, step, of_samples}
+use Rattle.oc_steps.specs.Ages.{join_ages, aged_frame, aged_event, aged_store, aged_outcome, aged_step, of_ages}
 use Rattle.oc_steps.specs.AgesTell.{Agrees}
 use Rattle.oc_steps.specs.Heard.{Under, cleared, store_in}
 use Rattle.oc_steps.specs.Little.{IsNoInput, IsNoEnd, SaysOne, Little}
@@ -78,7 +78,7 @@ module _ (p : TProgram) (regions : List TRegion) (v : List ℤ) (table : List �
     pub after : List Frame
     pub σ : Store
     pub under : Under p regions v past fs o
-    pub asks : step p regions union suc fs o ≡ Asks sensor after σ
+    pub asks : step p regions union of_samples fs o ≡ Asks sensor after σ
     pub frames_age : (before : ℕ → ℕ) → Agrees table before → map (aged_frame before) after ≡ aged
     pub store_age : (before : ℕ → ℕ) → Agrees table before → aged_store before c σ ≡ aged_σ
     pub silent : σ.events ≡ []
@@ -89,7 +89,7 @@ module _ (p : TProgram) (regions : List TRegion) (v : List ℤ) (table : List �
     pub fs : List Frame
     pub o : Outcome
     pub follows : Follows p regions v table c past fs o now.frames now.out
-    pub over : step p regions union suc fs o ≡ Over
+    pub over : step p regions union of_samples fs o ≡ Over
     pub same : Same w now
 
   -- it only went on
@@ -117,13 +117,13 @@ module _ (p : TProgram) (regions : List TRegion) (v : List ℤ) (table : List �
     pub nothing_said : events_in w.out ≡ []
     nothing_said = ap events_in (sym (f.out_age first first_agrees)) ∙ events_aged first c o ∙ ap (map (aged_event first)) f.under.none
 
-    meets : (before : ℕ → ℕ) → Agrees table before → step p regions join_ages (λ n. n) w.frames w.out ≡ aged_step before c (step p regions union suc fs o)
+    meets : (before : ℕ → ℕ) → Agrees table before → step p regions join_ages of_ages w.frames w.out ≡ aged_step before c (step p regions union of_samples fs o)
     meets before a =
-        ap (λ l. step p regions join_ages (λ n. n) l w.out) (sym (f.frames_age before a))
-        ∙ ap (λ l. step p regions join_ages (λ n. n) (map (aged_frame before) fs) l) (sym (f.out_age before a))
+        ap (λ l. step p regions join_ages of_ages l w.out) (sym (f.frames_age before a))
+        ∙ ap (λ l. step p regions join_ages of_ages (map (aged_frame before) fs) l) (sym (f.out_age before a))
         ∙ steps_age p regions before c fs o
 
-    module _ (gs gs' : List Frame) (u u' : Outcome) (e : step p regions union suc fs o ≡ Goes gs' u')
+    module _ (gs gs' : List Frame) (u u' : Outcome) (e : step p regions union of_samples fs o ≡ Goes gs' u')
         (k : (before : ℕ → ℕ) → Agrees table before → Goes gs u ≡ aged_step before c (Goes gs' u')) (l : SaysOne (store_in o).taken u') where
       frames_are : (before : ℕ → ℕ) → Agrees table before → map (aged_frame before) gs' ≡ gs
       frames_are before a = cc (k before a)
@@ -169,7 +169,7 @@ module _ (p : TProgram) (regions : List TRegion) (v : List ℤ) (table : List �
       goes : Leads past w (told_by w gs u (events_in u))
       goes = ⊎_elim quiet (λ y. says y.0 y.1 y.2 y.3) (said_of (store_in o).taken u' l)
 
-    by : (a b : Step) → step p regions union suc fs o ≡ b → ((before : ℕ → ℕ) → Agrees table before → a ≡ aged_step before c b) → Little (store_in o).taken b → Leads past w (after_step w a)
+    by : (a b : Step) → step p regions union of_samples fs o ≡ b → ((before : ℕ → ℕ) → Agrees table before → a ≡ aged_step before c b) → Little (store_in o).taken b → Leads past w (after_step w a)
     by (Goes gs u) (Goes gs' u') e k l = goes gs gs' u u' e k l
     by (Goes gs u) (Asks s gs' σ) e k l = absurd (cc (k first first_agrees))
     by (Goes gs u) Over e k l = absurd (cc (k first first_agrees))
@@ -194,10 +194,10 @@ module _ (p : TProgram) (regions : List TRegion) (v : List ℤ) (table : List �
     by Over Over e k l = record { fs = fs; o = o; follows = f; over = e; same = record { sets = refl; inside = refl; over = refl } }
 
     one_step : Leads past w (next_of p regions w)
-    one_step = by (step p regions join_ages (λ n. n) w.frames w.out) (step p regions union suc fs o) refl meets (says_little p regions fs o f.under.none)
+    one_step = by (step p regions join_ages of_ages w.frames w.out) (step p regions union of_samples fs o) refl meets (says_little p regions fs o f.under.none)
 
     -- a run that stands stays so
-    pub stays : step p regions union suc fs o ≡ Over → (n : ℕ) → (steps_on p regions n w ≡ Went_on w) ⊎ (steps_on p regions n w ≡ Stands w)
+    pub stays : step p regions union of_samples fs o ≡ Over → (n : ℕ) → (steps_on p regions n w ≡ Went_on w) ⊎ (steps_on p regions n w ≡ Stands w)
     stays e zero = inl refl
     stays e (suc n) = inr (⊎_elim (λ h. ap (then_next p regions) h ∙ one) (λ h. ap (then_next p regions) h) (stays e n))
       where

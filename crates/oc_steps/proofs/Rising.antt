@@ -15,7 +15,7 @@ use Rattle.oc_meaning.specs.Cuts.{events_in}
 use Rattle.oc_meaning.specs.Exec.{Outcome, Went, Returned, Stopped}
 use Rattle.oc_meaning.specs.Run.{function_named}
 use Rattle.oc_honest.specs.Timely.{set_of}
-use Rattle.oc_steps.specs.Ages.{join_ages}
+use Rattle.oc_steps.specs.Ages.{join_ages, of_ages}
 use Rattle.oc_steps.specs.Heard.{cleared, store_in}
 use Rattle.oc_steps.specs.Steps.{Frame, Step, Goes, Asks, Over, step}
 use Rattle.oc_steps.specs.Fold.{Instance, Way, Next, Says, Wants, Stands, Went_on, Rises, is_set, is_later, falls, falls_at, put_instance, tag_age, with_tag}
@@ -89,7 +89,7 @@ module _ (p : TProgram) (regions : List TRegion) (bodies : (x : Text) (g : TFunc
   StaysCounted sets (Went_on now) = IsCounted now × (events_in now.out ≡ []) × (now.sets ≡ sets)
 
   one_counted : (w : Way) → IsCounted w → events_in w.out ≡ [] → StaysCounted w.sets (next_of p regions w)
-  one_counted w h n = by (step p regions join_ages (λ n. n) w.frames w.out) (step_counts p before join_ages (λ n. n) regions bodies w.frames w.out h.noted (store_events w.out ∙ n, refl))
+  one_counted w h n = by (step p regions join_ages of_ages w.frames w.out) (step_counts p before join_ages regions bodies w.frames w.out h.noted (store_events w.out ∙ n, refl))
     where
       before : List ℕ
       before = (store_in w.out).blocks

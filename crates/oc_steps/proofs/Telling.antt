@@ -1,5 +1,5 @@
 -- What steps tell of the marked run.
-use Rattle.std.proofs.Common.{◌≡◌, ℕ, suc, ℤ, Bool, List, [], ◌∷◌, ◌++◌, length, map, refl, sym, ap, ◌∙◌, subst, append-nil, append_assoc}
+use Rattle.std.proofs.Common.{◌≡◌, ℕ, ℤ, Bool, List, [], ◌∷◌, ◌++◌, length, map, refl, sym, ap, ◌∙◌, subst, append-nil, append_assoc}
 use Rattle.std.specs.Prelude.{if◌then◌else◌}
 use Rattle.std.proofs.lemmas.List.{map-append}
 use Rattle.oc_tree.specs.Marked.{TRegion}
@@ -12,7 +12,7 @@ use Rattle.oc_meaning.specs.Blocks.{set_home}
 use Rattle.oc_meaning.specs.Exec.{Trap, Short, Outcome, Went, Returned, Stopped, with_value, then_do, done, closed, element_written, for_turns, while_turns, in_turn, used}
 use Rattle.oc_meaning.specs.Parts.{MayBe}
 use Rattle.oc_meaning.specs.Run.{in_order, call_to, main_run, marked_run, said_in, trace_of}
-use Rattle.oc_steps.specs.Steps.{Inside, Frame, Rest, Use, Work, Done, Close, Take, Leave, Turns, Loop, Test, Back, Goes, Asks, Over, step, sensed}
+use Rattle.oc_steps.specs.Steps.{Inside, Frame, Rest, Use, Work, Done, Close, Take, Leave, Turns, Loop, Test, Back, Goes, Asks, Over, step, sensed, of_samples}
 use Rattle.oc_steps.specs.Follow.{with_left, with_more, give, stmts_in, block_in, kind_in, after, resume, Keeps}
 use Rattle.oc_meaning.specs.Cuts.{Begins, events_in}
 use Rattle.oc_meaning.proofs.Beginning.{trace_begins}
@@ -128,8 +128,8 @@ module _ (p : TProgram) (regions : List TRegion) where
   takes_one v past fs fs' o s σ z u e =
       let k : Keeps p regions (Asks s fs' σ) fs o = subst (λ q. Keeps p regions q fs o) e (steps_keep p regions fs o) in
       record {
-        run = λ t. ap (main_run p regions) (append_assoc v (z ∷ []) t) ∙ u.run (z ∷ t) ∙ sym (k.0 past z t) ∙ ap (resume p regions fs') (clear_more past t (sensed p regions union suc s z σ));
-        none = clear_events (sensed p regions union suc s z σ);
+        run = λ t. ap (main_run p regions) (append_assoc v (z ∷ []) t) ∙ u.run (z ∷ t) ∙ sym (k.0 past z t) ∙ ap (resume p regions fs') (clear_more past t (sensed p regions union of_samples s z σ));
+        none = clear_events (sensed p regions union of_samples s z σ);
       }
 
   begins_it : BeginsIt p regions
@@ -165,7 +165,7 @@ events_first p regions v past fs o u t =
     subst (λ q. Begins (in_order past) (trace_of q).events) (sym (u.run t)) (trace_begins past (resume p regions fs (with_more past t o)) (record { more = all.0; is = all.1 }))
 
 -- where no step is left, later samples change nothing
-pub over_always : (p : TProgram) (regions : List TRegion) (v : List ℤ) (past : List Event) (fs : List Frame) (o : Outcome) → Under p regions v past fs o → step p regions union suc fs o ≡ Over
+pub over_always : (p : TProgram) (regions : List TRegion) (v : List ℤ) (past : List Event) (fs : List Frame) (o : Outcome) → Under p regions v past fs o → step p regions union of_samples fs o ≡ Over
     → (t : List ℤ) → marked_run p regions (v ++ t) ≡ trace_of (with_more past t o)
 over_always p regions v past fs o u e t =
     let k : Keeps p regions Over fs o = subst (λ q. Keeps p regions q fs o) e (steps_keep p regions fs o) in

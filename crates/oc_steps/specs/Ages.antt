@@ -1,13 +1,13 @@
 -- What a set of samples amounts to: none, samples between the same two outages, or others. An age is the list of no number,
 -- of one number, that of the outages before, or `mixed`.
-use Rattle.std.specs.Prelude.{ℕ, suc, ℤ, List, [], ◌∷◌, map, ◌≡◌, ◌==◌, if◌then◌else◌}
+use Rattle.std.specs.Prelude.{ℕ, zero, suc, ℤ, List, [], ◌∷◌, map, slice_index_or, ◌≡◌, ◌==◌, if◌then◌else◌}
 use Rattle.oc_tree.specs.Tree.{TProgram}
 use Rattle.oc_tree.specs.Marked.{TRegion}
 use Rattle.oc_tree.specs.Samples.{union}
 use Rattle.oc_meaning.specs.Store.{Value, Held, Event, Store}
 use Rattle.oc_meaning.specs.Eval.{Got, Val, Traps}
 use Rattle.oc_meaning.specs.Exec.{Outcome, Went, Returned, Stopped, Passed, Copied, Lent, Passing, Passes, Breaks}
-use Rattle.oc_steps.specs.Steps.{Frame, Rest, Use, Work, Done, Close, Take, Leave, Turns, Loop, Test, Back, Step, Goes, Asks, Over, step, sensed}
+use Rattle.oc_steps.specs.Steps.{Frame, Rest, Use, Work, Done, Close, Take, Leave, Turns, Loop, Test, Back, Step, Goes, Asks, Over, Tally, of_samples, step, sensed}
 
 abbrev pub mixed : List ℕ
 mixed = 0 ∷ 0 ∷ []
@@ -19,6 +19,23 @@ join_ages (x ∷ []) [] = x ∷ []
 join_ages (x ∷ []) (y ∷ []) = if x == y then x ∷ [] else mixed
 join_ages (x ∷ []) (y ∷ z ∷ w) = mixed
 join_ages (x ∷ y ∷ w) b = mixed
+
+-- one more of this block, in a list that has how often each block was executed
+abbrev pub one_more : ℕ → List ℕ → List ℕ
+one_more zero [] = 1 ∷ []
+one_more zero (c ∷ counts) = suc c ∷ counts
+one_more (suc id) [] = 0 ∷ one_more id []
+one_more (suc id) (c ∷ counts) = c ∷ one_more id counts
+
+-- a sample's number is that of the outages before it, and executed blocks are counted
+abbrev pub of_ages : Tally
+of_ages =
+    record { next = λ n. n; enter = one_more; count = λ h counts. slice_index_or counts h 0 }
+
+-- how often each of these blocks stands among them
+abbrev pub counts_of : List ℕ → List ℕ
+counts_of [] = []
+counts_of (id ∷ bs) = one_more id (counts_of bs)
 
 -- `before` says how many outages stand before each sample
 module _ (before : ℕ → ℕ) where
@@ -43,7 +60,7 @@ module _ (before : ℕ → ℕ) where
     left = σ.left;
     taken = c;
     depth = σ.depth;
-    blocks = σ.blocks;
+    blocks = counts_of σ.blocks;
     events = map aged_event σ.events;
   }
 
@@ -86,13 +103,13 @@ module _ (before : ℕ → ℕ) where
 abbrev pub StepsAge : Type 0
 StepsAge =
     (p : TProgram) (regions : List TRegion) (before : ℕ → ℕ) (c : ℕ) (fs : List Frame) (o : Outcome)
-    → step p regions join_ages (λ n. n) (map (aged_frame before) fs) (aged_outcome before c o)
-    ≡ aged_step before c (step p regions union suc fs o)
+    → step p regions join_ages of_ages (map (aged_frame before) fs) (aged_outcome before c o)
+    ≡ aged_step before c (step p regions union of_samples fs o)
 
 -- and so is taking a sample
 abbrev pub SensesAge : Type 0
 SensesAge =
     (p : TProgram) (regions : List TRegion) (before : ℕ → ℕ) (c s : ℕ) (z : ℤ) (σ : Store)
     → before σ.taken ≡ c
-    → sensed p regions join_ages (λ n. n) s z (aged_store before c σ)
-    ≡ aged_outcome before c (sensed p regions union suc s z σ)
+    → sensed p regions join_ages of_ages s z (aged_store before c σ)
+    ≡ aged_outcome before c (sensed p regions union of_samples s z σ)

@@ -1,5 +1,5 @@
 -- Instances of consistent sets are counted: each execution of a set's block is the next one, so none falls along a run.
-use Rattle.std.specs.Prelude.{◌≡◌, ◌==◌, ◌≤◌, ℕ, ℤ, List, [], ◌∷◌, Option, Some, None, count_by, find, slice_get}
+use Rattle.std.specs.Prelude.{◌≡◌, ◌≤◌, ℕ, ℤ, List, [], ◌∷◌, Option, Some, None, find, slice_get, slice_index_or}
 use Rattle.oc_tree.specs.Tree.{TKind, if_else, for_in, while_do, consistent, TElse, no_else, else_do, stmt, TBlock, block, TStmts, no_stmts, more, TFunction, TProgram}
 use Rattle.oc_meaning.specs.Blocks.{set_home}
 use Rattle.oc_steps.specs.Steps.{Frame, Rest, Use, Work, Done, Close, Take, Leave, Turns, Loop, Test, Back}
@@ -14,9 +14,9 @@ home_in (Some f) k = set_home f.body k
 abbrev pub home_of : TProgram → ℕ × ℤ → ℕ
 home_of p s = home_in (slice_get p.functions s.0) s.1
 
--- in how many executions of its block a set was, where these blocks were executed
+-- in how many executions of its block a set was, where each block was executed so often
 abbrev pub times : TProgram → ℕ × ℤ → List ℕ → ℕ
-times p s blocks = count_by (λ id. home_of p s == id) blocks
+times p s counts = slice_index_or counts (home_of p s) 0
 
 -- each annotation in a tree is of a set whose block is that of a function with this body
 module _ (p : TProgram) (body : TBlock) where
@@ -60,7 +60,7 @@ abbrev pub FramesNoted : TProgram → List Frame → Type 0
 FramesNoted p [] = Unit {0}
 FramesNoted p (f ∷ fs) = FrameNoted p f × FramesNoted p fs
 
--- a run that is to do this, after these blocks: the last instance of each set is at most that which a tag would have now
+-- a run that is to do this, where each block was executed so often: the last instance of each set is at most that which a tag would have now
 pub record AreCounted
     (p : TProgram) (sets : List Instance) (fs : List Frame) (blocks : List ℕ) : Type 0 where
   pub noted : FramesNoted p fs

@@ -14,7 +14,7 @@ use Rattle.oc_meaning.specs.Store.{Event, Store}
 use Rattle.oc_meaning.specs.Exec.{Outcome, Went, Returned, Stopped}
 use Rattle.oc_meaning.specs.Run.{first_store, words_of}
 use Rattle.oc_steps.specs.Steps.{Frame, Step, Goes, Asks, Over, step, step_passed, sensed}
-use Rattle.oc_steps.specs.Ages.{join_ages}
+use Rattle.oc_steps.specs.Ages.{join_ages, of_ages}
 use Rattle.oc_meaning.specs.Cuts.{events_in}
 use Rattle.oc_steps.specs.Heard.{cleared, store_in}
 use Rattle.oc_honest.specs.Timely.{set_of}
@@ -57,7 +57,7 @@ after_step w Over = Stands w
 
 module _ (p : TProgram) (regions : List TRegion) where
   abbrev pub next_of : Way → Next
-  next_of w = after_step w (step p regions join_ages (λ n. n) w.frames w.out)
+  next_of w = after_step w (step p regions join_ages of_ages w.frames w.out)
 
   abbrev pub then_next : Next → Next
   then_next (Went_on w) = next_of w
@@ -84,7 +84,7 @@ module _ (p : TProgram) (regions : List TRegion) where
   abbrev pub at_first : Way
   at_first =
       start [] (step_passed p
-      regions join_ages (λ n. n) (suc (length p.functions)) (codes "main") [] [] (first_store p []))
+      regions join_ages of_ages (suc (length p.functions)) (codes "main") [] [] (first_store p []))
 
 -- ---- what may be said
 
@@ -228,7 +228,7 @@ module _ (p : TProgram) (nv : Option (List ℤ)) where
       if_so (s == sensor) (record w {
         now = record w.now {
           frames = fs;
-          out = cleared (sensed p rs join_ages (λ n. n) sensor z σ);
+          out = cleared (sensed p rs join_ages of_ages sensor z σ);
         };
       })
   on_want rs w s sensor fs σ = None

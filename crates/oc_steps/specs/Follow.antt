@@ -1,5 +1,5 @@
 -- What the frames mean, and that each step keeps it.
-use Rattle.std.specs.Prelude.{ℕ, suc, ℤ, ◌≡◌, List, [], ◌∷◌, ◌++◌, if◌then◌else◌, length}
+use Rattle.std.specs.Prelude.{ℕ, ℤ, ◌≡◌, List, [], ◌∷◌, ◌++◌, if◌then◌else◌, length}
 use Rattle.oc_tree.specs.Marked.{TRegion}
 use Rattle.oc_tree.specs.Tree.{TKind, let_to, assign, assign_index, assign_deref, while_do, TProgram, TStmts, TBlock}
 use Rattle.oc_tree.specs.Samples.{union}
@@ -10,7 +10,7 @@ use Rattle.oc_meaning.specs.Blocks.{set_home}
 use Rattle.oc_meaning.specs.Exec.{Short, Outcome, Went, Returned, Stopped, with_value, then_do, with_result, finished, leave, closed, used, done, element_written, for_turns}
 use Rattle.oc_meaning.specs.Exec.{while_turns, in_turn, kind_run, block_run, stmts_run}
 use Rattle.oc_meaning.specs.Run.{call_to}
-use Rattle.oc_steps.specs.Steps.{Inside, Frame, Rest, Use, Work, Done, Close, Take, Leave, Turns, Loop, Test, Back, Step, Goes, Asks, Over, step, sensed}
+use Rattle.oc_steps.specs.Steps.{Inside, Frame, Rest, Use, Work, Done, Close, Take, Leave, Turns, Loop, Test, Back, Step, Goes, Asks, Over, step, sensed, of_samples}
 
 -- the samples that are still to come, and the events that happened before
 abbrev pub with_left : List Event → List ℤ → Store → Store
@@ -77,7 +77,7 @@ module _ (p : TProgram) (regions : List TRegion) where
       → resume fs' (with_more past t o') ≡ resume fs (with_more past t o)
   Keeps (Asks s fs' σ) fs o =
       ((past : List Event) (z : ℤ) (t : List ℤ)
-      → resume fs' (with_more past t (sensed p regions union suc s z σ))
+      → resume fs' (with_more past t (sensed p regions union of_samples s z σ))
       ≡ resume fs (with_more past (z ∷ t) o))
       × ((past : List Event)
       → resume fs (with_more past [] o) ≡ Stopped Short (with_left past [] σ))
@@ -87,4 +87,4 @@ module _ (p : TProgram) (regions : List TRegion) where
 abbrev pub StepsKeep : Type 0
 StepsKeep =
     (p : TProgram) (regions : List TRegion) (fs : List Frame) (o : Outcome)
-    → Keeps p regions (step p regions union suc fs o) fs o
+    → Keeps p regions (step p regions union of_samples fs o) fs o

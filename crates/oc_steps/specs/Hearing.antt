@@ -1,5 +1,5 @@
 -- What the steps tell of the marked run.
-use Rattle.std.specs.Prelude.{ℕ, suc, ℤ, ◌≡◌, List, [], ◌∷◌, ◌++◌}
+use Rattle.std.specs.Prelude.{ℕ, ℤ, ◌≡◌, List, [], ◌∷◌, ◌++◌}
 use Rattle.oc_tree.specs.Marked.{TRegion}
 use Rattle.oc_tree.specs.Tree.{TProgram}
 use Rattle.oc_tree.specs.declared.said.Said.{Said}
@@ -7,7 +7,7 @@ use Rattle.oc_tree.specs.Samples.{union}
 use Rattle.oc_meaning.specs.Store.{Event, Store}
 use Rattle.oc_meaning.specs.Exec.{Outcome, Went}
 use Rattle.oc_meaning.specs.Run.{AtShort, marked_run, said_in, trace_of}
-use Rattle.oc_steps.specs.Steps.{Frame, Goes, Asks, Over, step, sensed}
+use Rattle.oc_steps.specs.Steps.{Frame, Goes, Asks, Over, step, sensed, of_samples}
 use Rattle.oc_steps.specs.Follow.{with_more}
 use Rattle.oc_meaning.specs.Cuts.{events_in}
 use Rattle.oc_items.specs.Reports.{IsPrefixOf}
@@ -19,7 +19,7 @@ module _ (p : TProgram) (regions : List TRegion) where
   GoesOn =
       (v : List ℤ) (past : List Event) (fs fs' : List Frame) (o o' : Outcome)
       → Under p regions v past fs o
-      → step p regions union suc fs o ≡ Goes fs' o'
+      → step p regions union of_samples fs o ≡ Goes fs' o'
       → Under p regions v (events_in o' ++ past) fs' (cleared o')
 
   -- a sample is taken
@@ -27,9 +27,9 @@ module _ (p : TProgram) (regions : List TRegion) where
   TakesOne =
       (v : List ℤ) (past : List Event)
       (fs fs' : List Frame) (o : Outcome) (s : ℕ) (σ : Store) (z : ℤ) → Under p regions v past fs o
-      → step p regions union suc fs o ≡ Asks s fs' σ
-      → Under p regions (v ++ z ∷ []) (events_in (sensed p regions union suc s z σ) ++ past) fs'
-      (cleared (sensed p regions union suc s z σ))
+      → step p regions union of_samples fs o ≡ Asks s fs' σ
+      → Under p regions (v ++ z ∷ []) (events_in (sensed p regions union of_samples s z σ) ++ past) fs'
+      (cleared (sensed p regions union of_samples s z σ))
 
   -- what was told begins the run, whatever samples come later
   abbrev pub BeginsIt : Type 0
@@ -42,7 +42,7 @@ module _ (p : TProgram) (regions : List TRegion) where
   IsShort =
       (v : List ℤ) (past : List Event) (fs fs' : List Frame) (o : Outcome) (s : ℕ) (σ : Store)
       → Under p regions v past fs o
-      → step p regions union suc fs o ≡ Asks s fs' σ
+      → step p regions union of_samples fs o ≡ Asks s fs' σ
       → (said_in (marked_run p regions v) ≡ said_so_far (events_in (Went σ) ++ past))
       × ((marked_run p regions v).ending ≡ AtShort)
 
@@ -50,7 +50,7 @@ module _ (p : TProgram) (regions : List TRegion) where
   abbrev pub IsOver : Type 0
   IsOver =
       (v : List ℤ) (past : List Event) (fs : List Frame) (o : Outcome) → Under p regions v past fs o
-      → step p regions union suc fs o ≡ Over
+      → step p regions union of_samples fs o ≡ Over
       → marked_run p regions v ≡ trace_of (with_more past [] o)
 
 -- two things that one run says first are the same

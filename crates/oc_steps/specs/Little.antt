@@ -1,5 +1,5 @@
 -- A step says one thing at most, and no input, and takes no sample; an input says just itself.
-use Rattle.std.specs.Prelude.{◌≡◌, ◌⊎◌, ℕ, suc, List, [], ◌∷◌}
+use Rattle.std.specs.Prelude.{◌≡◌, ◌⊎◌, ℕ, List, [], ◌∷◌}
 use Rattle.oc_tree.specs.Marked.{TRegion}
 use Rattle.oc_tree.specs.Tree.{TProgram}
 use Rattle.oc_tree.specs.declared.said.Said.{Said}
@@ -8,7 +8,7 @@ use Rattle.oc_tree.specs.Samples.{union}
 use Rattle.oc_meaning.specs.Store.{Event, Store}
 use Rattle.oc_meaning.specs.Cuts.{events_in}
 use Rattle.oc_meaning.specs.Exec.{Trap, Short, Outcome, Went, Returned, Stopped}
-use Rattle.oc_steps.specs.Steps.{Frame, Step, Goes, Asks, Over, step}
+use Rattle.oc_steps.specs.Steps.{Frame, Step, Goes, Asks, Over, step, of_samples}
 use Rattle.oc_steps.specs.Heard.{store_in}
 
 abbrev pub IsNoInput : Said → Type 0
@@ -43,4 +43,4 @@ Little m Over = Unit {0}
 abbrev pub SaysLittle : Type 0
 SaysLittle =
     (p : TProgram) (regions : List TRegion) (fs : List Frame) (o : Outcome)
-    → events_in o ≡ [] → Little (store_in o).taken (step p regions union suc fs o)
+    → events_in o ≡ [] → Little (store_in o).taken (step p regions union of_samples fs o)

@@ -4,7 +4,7 @@ use Rattle.oc_tree.specs.Marked.{TRegion}
 use Rattle.oc_tree.specs.Tree.{TProgram}
 use Rattle.oc_tree.specs.Samples.{union}
 use Rattle.oc_meaning.specs.Run.{first_store}
-use Rattle.oc_steps.specs.Steps.{Step, Goes, Asks, Over, step_passed}
+use Rattle.oc_steps.specs.Steps.{Step, Goes, Asks, Over, step_passed, of_samples}
 use Rattle.oc_steps.specs.Heard.{Under}
 
 -- the first frames are those of the run of `main`, over any samples
@@ -16,4 +16,4 @@ Starts p regions Over = ⊥
 abbrev pub StartsRight : Type 0
 StartsRight =
     (p : TProgram) (regions : List TRegion) → Starts p regions (step_passed
-    p regions union suc (suc (length p.functions)) (codes "main") [] [] (first_store p []))
+    p regions union of_samples (suc (length p.functions)) (codes "main") [] [] (first_store p []))

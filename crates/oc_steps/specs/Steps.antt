@@ -1,19 +1,19 @@
 -- The run of a program in steps that say one event at most, so that it can stop between any two and go on later.
-use Rattle.std.specs.Prelude.{ℕ, zero, suc, ℤ, pos, ◌+ℤ◌, ◌-ℤ◌, Bool, List, [], ◌∷◌, length, Option, Some, None, if◌then◌else◌}
+use Rattle.std.specs.Prelude.{ℕ, zero, suc, ℤ, pos, ◌+ℤ◌, ◌-ℤ◌, ◌==◌, Bool, List, [], ◌∷◌, length, count_by, Option, Some, None, if◌then◌else◌}
 use Rattle.oc_tree.specs.Names.{Text}
 use Rattle.oc_tree.specs.Marked.{TRegion}
 use Rattle.oc_tree.specs.Tree.{TExpr, TCall, call, TRight, right_value, right_sense, right_call, TKind, let_to, let_array, assign, assign_index, assign_deref, if_else, for_in}
 use Rattle.oc_tree.specs.Tree.{while_do, call_only, sense_only, emit, fresh, consistent, return, TElse, no_else, else_do, stmt, TBlock, block, TStmts, no_stmts, more, TFunction}
 use Rattle.oc_tree.specs.Tree.{TProgram}
 use Rattle.oc_tree.specs.declared.said.Said.TheVariants.{Sensed, Showed}
-use Rattle.oc_tree.specs.declared.said.Shown.TheVariants.{Emitted}
+use Rattle.oc_tree.specs.declared.said.Shown.TheVariants.{Emitted, Tagged}
 use Rattle.oc_tree.specs.Weight.{count_of}
-use Rattle.oc_meaning.specs.Store.{Value, Store, Binding, plain, holding, replaced, held_at, put, made, left_at, noted, place_of}
+use Rattle.oc_meaning.specs.Store.{Value, Store, Binding, plain, holding, replaced, held_at, put, made, left_at, happened, noted, place_of}
 use Rattle.oc_meaning.specs.Eval.{Got, Val, Traps, is_zero, element_of}
 use Rattle.oc_meaning.specs.Uses.{is_fresh, is_use, begins_use, ends_use}
 use Rattle.oc_meaning.specs.Blocks.{set_home}
 use Rattle.oc_meaning.specs.Exec.{begun_by, ended_by, Outcome, Went, Returned, Stopped, Passed, Passing, Passes, Breaks, number_in, trapped, opened, closed, used, done}
-use Rattle.oc_meaning.specs.Exec.{in_turn, grown, array_of, entered, tagged}
+use Rattle.oc_meaning.specs.Exec.{in_turn, grown, array_of}
 use Rattle.oc_meaning.specs.Run.{with_params, nv_env, function_named}
 use Rattle.oc_steps.specs.Sets.{value_by, use_by, args_by, element_written_by}
 
@@ -41,14 +41,36 @@ pub data Step : Type 0 where
   Asks : (sensor : ℕ) → List Frame → Store → Step
   Over : Step
 
--- a block is begun
-abbrev pub begin : Inside → List Binding → TBlock → List Frame → Store → Step
-begin f env (block id ss) fs σ =
-    Goes (Rest f env ss ∷ Leave (length σ.locals) ∷ fs) (Went (entered id σ))
+-- how a run counts: the number of the next sample, the executed blocks with one more, and how
+-- often a block was executed
+pub record Tally : Type 0 where
+  pub next : ℕ → ℕ
+  pub enter : ℕ → List ℕ → List ℕ
+  pub count : ℕ → List ℕ → ℕ
 
-abbrev pub begin_else : Inside → List Binding → TElse → List Frame → Store → Step
-begin_else f env no_else fs σ = Goes fs (Went σ)
-begin_else f env (else_do b) fs σ = begin f env b fs σ
+-- each sample has a number of its own, and each executed block is listed
+abbrev pub of_samples : Tally
+of_samples =
+    record { next = suc; enter = λ id bs. id ∷ bs; count = λ h bs. count_by (λ id. h == id) bs }
+
+-- a block is begun
+abbrev pub begin : Tally → Inside → List Binding → TBlock → List Frame → Store → Step
+begin tally f env (block id ss) fs σ =
+    Goes (Rest f env ss ∷ Leave (length σ.locals) ∷ fs)
+    (Went (record σ { blocks = tally.enter id σ.blocks }))
+
+abbrev pub begin_else : Tally → Inside → List Binding → TElse → List Frame → Store → Step
+begin_else tally f env no_else fs σ = Goes fs (Went σ)
+begin_else tally f env (else_do b) fs σ = begin tally f env b fs σ
+
+-- statement n annotates a variable of the set whose block is `home`
+abbrev pub tagged_by : Tally → ℕ → ℕ → List ℕ → Store → Store
+tagged_by tally home n samples σ =
+    happened (record {
+      said = Showed (Tagged n);
+      samples = samples;
+      instance = tally.count home σ.blocks;
+    }) σ
 
 -- on with a value, or statement n traps
 abbrev pub on_value : Got → ℕ → Store → List Frame → (Value → Step) → Step
@@ -56,12 +78,12 @@ on_value (Val v) n σ fs go = go v
 on_value (Traps k) n σ fs go = Goes fs (trapped k n σ)
 
 module _ (p : TProgram) (regions : List TRegion)
-    (join : List ℕ → List ℕ → List ℕ) (next : ℕ → ℕ) where
+    (join : List ℕ → List ℕ → List ℕ) (tally : Tally) where
   abbrev pub step_function : ℕ → Option TFunction → List Passed → List Frame → Store → Step
   step_function d None ps fs σ = Goes fs (Went σ)
   step_function d (Some f) ps fs σ =
       let fr = with_params f.params ps (record { env = nv_env 0 p.names.nvs; locals = σ.locals }) in
-      begin (record { depth = d; body = f.body }) fr.env f.body
+      begin tally (record { depth = d; body = f.body }) fr.env f.body
       (Leave (length σ.locals) ∷ fs) (record σ { locals = fr.locals })
 
   abbrev pub step_passed : ℕ → Text → List Passed → List Frame → Store → Step
@@ -103,7 +125,7 @@ module _ (p : TProgram) (regions : List TRegion)
   work f env n (assign_deref x r) fs σ = step_right f env n r (Take env n (assign_deref x r) ∷ fs) σ
   work f env n (if_else c a b) fs σ =
       on_value (value_by join env σ c) n σ fs
-      (λ v. if is_zero v.num then begin_else f env b fs σ else begin f env a fs σ)
+      (λ v. if is_zero v.num then begin_else tally f env b fs σ else begin tally f env a fs σ)
   work f env n (for_in x c d b) fs σ = Goes (Turns f x (count_of (d -ℤ c)) c b env ∷ fs) (Went σ)
   work f env n (while_do c t b) fs σ = Goes (Loop f env n c t b [] ∷ fs) (Went σ)
   work f env n (call_only c) fs σ = step_call f env n c (Take env n (call_only c) ∷ fs) σ
@@ -114,7 +136,8 @@ module _ (p : TProgram) (regions : List TRegion)
       Goes fs (Went (noted (Showed (Emitted (number_in p.names.ports q) v.num)) v.samples σ)))
   work f env n (fresh x) fs σ = Goes fs (Went σ)
   work f env n (consistent x k) fs σ =
-      Goes fs (Went (tagged (set_home f.body k) n (held_at σ (place_of env x)).samples σ))
+      Goes fs
+      (Went (tagged_by tally (set_home f.body k) n (held_at σ (place_of env x)).samples σ))
   work f env n (return e) fs σ =
       on_value (value_by join env σ e) n σ fs (λ v. Goes (Back v (ended_by regions n) ∷ fs)
       (Went (done (is_use (is_fresh env) (return e)) n (use_by join env (return e) σ) σ)))
@@ -132,7 +155,7 @@ module _ (p : TProgram) (regions : List TRegion)
   abbrev pub step_turns : Inside → Text → ℕ → ℤ → TBlock → List Binding → List Frame → Store → Step
   step_turns f x zero i b env fs σ = Goes fs (Went σ)
   step_turns f x (suc t) i b env fs σ =
-      begin f (in_turn x i ∷ env) b (Turns f x t (i +ℤ pos 1) b env ∷ fs) σ
+      begin tally f (in_turn x i ∷ env) b (Turns f x t (i +ℤ pos 1) b env ∷ fs) σ
 
   abbrev pub step_loop : Inside
       → List Binding → ℕ → TExpr → ℕ → TBlock → List ℕ → List Frame → Store → Step
@@ -148,7 +171,7 @@ module _ (p : TProgram) (regions : List TRegion)
   step_test f env n c t b all fs σ =
       on_value (value_by join env σ c) n σ fs (λ v. if is_zero v.num
       then Goes fs (Went (done (is_use (is_fresh env) (while_do c 0 b)) n all σ))
-      else begin f env b (Loop f env n c t b all ∷ fs) σ)
+      else begin tally f env b (Loop f env n c t b all ∷ fs) σ)
 
   abbrev pub step_went : Frame → List Frame → Store → Step
   step_went (Rest f env ss) fs σ = step_rest f env ss fs σ
@@ -179,4 +202,4 @@ module _ (p : TProgram) (regions : List TRegion)
   abbrev pub sensed : ℕ → ℤ → Store → Outcome
   sensed s z σ =
       Returned (record { num = z; samples = σ.taken ∷ [] })
-      (noted (Sensed s z) (σ.taken ∷ []) (record σ { taken = next σ.taken }))
+      (noted (Sensed s z) (σ.taken ∷ []) (record σ { taken = tally.next σ.taken }))

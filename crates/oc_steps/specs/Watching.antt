@@ -12,7 +12,7 @@ use Rattle.oc_meaning.specs.Store.{Event}
 use Rattle.oc_meaning.specs.Exec.{Outcome}
 use Rattle.oc_meaning.specs.Run.{marked_run, said_in, in_order}
 use Rattle.oc_items.specs.Erase.{erase, without_offs, without_marks, samples_of, inside_after}
-use Rattle.oc_steps.specs.Steps.{Frame, Over, step}
+use Rattle.oc_steps.specs.Steps.{Frame, Over, step, of_samples}
 use Rattle.oc_steps.specs.Ages.{aged_frame, aged_outcome}
 use Rattle.oc_steps.specs.AgesTell.{Agrees}
 use Rattle.oc_steps.specs.Heard.{Under, said_so_far, store_in}
@@ -119,7 +119,7 @@ pub record IsWay (p : TProgram) (regions : List TRegion) (e : List Told) (w : Wa
   pub going : w.over ≡ false → IsGoing p e past w.sets
   pub whole : w.over ≡ true
       → (t : List ℤ) → said_in (marked_run p regions (samples_in e ++ t)) ≡ without_offs e
-  pub stands : w.over ≡ true → step p regions union suc fs o ≡ Over
+  pub stands : w.over ≡ true → step p regions union of_samples fs o ≡ Over
   pub counted : AreCounted p w.sets w.frames (store_in w.out).blocks
 
 -- the run before the last `enter`, where no mark stands behind it

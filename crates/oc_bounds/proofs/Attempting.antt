@@ -15,13 +15,13 @@ use Rattle.oc_isa.specs.declared.phase.Phase.{Phase}
 use Rattle.oc_isa.specs.declared.phase.Phase.TheVariants.{Waking, Undoing, Restoring, Running, Entering, Over, Lost}
 use Rattle.oc_isa.specs.Next.{Regs, Write, Next, Goes, Senses, Enters, Commits, Ends, Stuck, Device}
 use Rattle.oc_isa.specs.Run.{core_at}
-use Rattle.oc_isa.specs.Power.{State, Stepped, World, is_over, quietly, running, in_area, words_of, word_of, held, resume, enter, enter_on, commits, goes, to_log, run_next, step}
+use Rattle.oc_isa.specs.Power.{State, Stepped, World, is_over, quietly, running, in_area, words_of, word_of, held, resume, enter, enter_on, commits, goes, to_log, run_next, step, restore_one}
 use Rattle.oc_isa.specs.Power.{step_in, with_said, ticked, tick_on, fail_in, abort_of, failed, power_fails, through, shown_of, first_state, power_run}
 use Rattle.oc_outage.specs.Honest.{IsFit}
 use Rattle.oc_outage.proofs.Facts.{state_at, regs_at}
 use Rattle.oc_outage.proofs.Going.{onto, world_at, through-onto}
 use Rattle.oc_outage.proofs.Resting.{ticks_on-over, power_fails-over, through-over}
-use Rattle.oc_outage.proofs.Restored.{restored_one, all_restored}
+use Rattle.oc_outage.proofs.Restored.{all_restored}
 use Rattle.oc_bounds.specs.Bounds.{Bounds, Leaves, IsBounded}
 use Rattle.oc_bounds.specs.Attempts.{Closes, AttemptsClose, steps_after}
 use Rattle.oc_outage.specs.Kept.{Count, untried, counted}
@@ -100,13 +100,13 @@ module _ (d : Device) (b : Bounds) where
     open_by Stuck o e = tt
 
     restores_sealed : (done depth : ℕ) (more : Bool)
-        → Says (if more then restored_one d done (state_at (Restoring done) pc fp depth stack nv log Sealed words) else resume d Sealed
+        → Says (if more then restore_one d done (state_at (Restoring done) pc fp depth stack nv log Sealed words) else resume d Sealed
         (state_at (Restoring done) pc fp depth stack nv log Sealed words))
     restores_sealed done depth true = tt
     restores_sealed done depth false = tt
 
     restores_armed : (done depth : ℕ) (more : Bool) → IsUndone d b total left t c done pc fp stack nv log words → nat_lt done (held words) ≡ more
-        → Says (if more then restored_one d done (state_at (Restoring done) pc fp depth stack nv log Armed words) else resume d Armed (state_at (Restoring done) pc fp depth stack nv log Armed words))
+        → Says (if more then restore_one d done (state_at (Restoring done) pc fp depth stack nv log Armed words) else resume d Armed (state_at (Restoring done) pc fp depth stack nv log Armed words))
     restores_armed done depth true r q = tt
     restores_armed done depth false r q =
         let g = r.entry in

@@ -15,14 +15,14 @@ use Rattle.oc_isa.specs.declared.phase.Phase.{Phase}
 use Rattle.oc_isa.specs.declared.phase.Phase.TheVariants.{Waking, Undoing, Restoring, Running, Entering, Over, Lost}
 use Rattle.oc_isa.specs.Next.{pushed, Regs, Write, Next, Goes, Senses, Enters, Commits, Ends, Stuck, Device, written}
 use Rattle.oc_isa.specs.Run.{Core, core_at}
-use Rattle.oc_isa.specs.Power.{State, running, quietly, in_area, words_of, word_of, held, wake, undone, undo_phase, undo_step, resume, enter, enter_on, commits, goes, to_log}
+use Rattle.oc_isa.specs.Power.{State, running, quietly, in_area, words_of, word_of, held, wake, undone, undo_phase, undo_step, resume, enter, enter_on, commits, goes, to_log, restore_one}
 use Rattle.oc_isa.specs.Power.{entry_at, run_next, step_in}
 use Rattle.oc_outage.specs.Honest.{IsFit}
 use Rattle.oc_outage.proofs.Facts.{state_at, regs_at}
 use Rattle.oc_outage.proofs.Inside.{undoes_write}
 use Rattle.oc_outage.proofs.Undone.{undo-set, undo-last, undo-entry_at, EntryNumber, entry_number}
 use Rattle.oc_outage.proofs.Words.{IsSaved, length-words_of, held-saved, one_saved}
-use Rattle.oc_outage.proofs.Restored.{restored_one, none_restored, more_restored, all_restored}
+use Rattle.oc_outage.proofs.Restored.{none_restored, more_restored, all_restored}
 use Rattle.oc_bounds.specs.Bounds.{Bounds, Leaves, Takes, is_listed}
 use Rattle.oc_outage.specs.Kept.{Count, takes_one, count_write, count_entry, count_commit, count_next, count_entering, counted}
 use Rattle.oc_bounds.proofs.Unlogged.{unlogged, none_logged, logged_one, asked}
@@ -143,7 +143,7 @@ module _ (d : Device) (b : Bounds) (total : ℕ) (fit : IsFit d) (sample : ℕ �
 
   -- a boot from a checkpoint
   restores_sealed : (done depth : ℕ) (more : Bool) → IsRestoring d b total left t c done pc fp stack nv log words → nat_lt done (held words) ≡ more
-      → Moves d b total left t 1 c c (if more then restored_one d done (state_at (Restoring done) pc fp depth stack nv log Sealed words) else resume d Sealed
+      → Moves d b total left t 1 c c (if more then restore_one d done (state_at (Restoring done) pc fp depth stack nv log Sealed words) else resume d Sealed
       (state_at (Restoring done) pc fp depth stack nv log Sealed words)).state
   restores_sealed done depth true r q =
       let g = r.stored in
@@ -234,7 +234,7 @@ module _ (d : Device) (b : Bounds) (total : ℕ) (fit : IsFit d) (sample : ℕ �
       })
 
   restores_armed : (done depth : ℕ) (more : Bool) → IsUndone d b total left t c done pc fp stack nv log words → nat_lt done (held words) ≡ more
-      → Moves d b total left t 1 c c (if more then restored_one d done (state_at (Restoring done) pc fp depth stack nv log Armed words) else resume d Armed
+      → Moves d b total left t 1 c c (if more then restore_one d done (state_at (Restoring done) pc fp depth stack nv log Armed words) else resume d Armed
       (state_at (Restoring done) pc fp depth stack nv log Armed words)).state
   restores_armed done depth true r q =
       let g = r.entry in

@@ -1,5 +1,5 @@
 -- What one step says, and what stands where it says nothing.
-use Rattle.std.proofs.Common.{◌≡◌, ℕ, suc, false, List, [], ◌∷◌, length, Some, None, refl, sym, ap, ◌∙◌}
+use Rattle.std.proofs.Common.{◌≡◌, suc, false, List, [], ◌∷◌, length, Some, None, refl, sym, ap, ◌∙◌}
 use Rattle.std.specs.Prelude.{codes}
 use Rattle.oc_tree.specs.Tree.{TProgram}
 use Rattle.oc_tree.specs.Marked.{TRegion}
@@ -11,7 +11,7 @@ use Rattle.oc_meaning.specs.Cuts.{events_in}
 use Rattle.oc_steps.specs.Steps.{Frame, Step, Goes, Over, step_passed}
 use Rattle.oc_steps.specs.Ages.{join_ages, of_ages}
 use Rattle.oc_steps.specs.Heard.{cleared}
-use Rattle.oc_steps.specs.Fold.{Way, Next, Went_on, Says, Stands, after_step, at_first, start, told_by, steps_on, then_next, next_of}
+use Rattle.oc_steps.specs.Fold.{Way, Next, Went_on, Says, Stands, after_step, at_first, start, told_by}
 use Rattle.oc_judge.specs.Stores.{completion_at, event_view, told}
 use Rattle.oc_judge.specs.Going.{step_at}
 use Rattle.oc_judge.specs.Ways.{KeepsRest}
@@ -67,8 +67,3 @@ same_rest w v (goings.Goes c) fs σ h = by (completion_at c σ) (events_in (comp
 -- no step is left
 pub stands : (w v : Way) (s : Step) → Over ≡ s → v ≡ w → Stands v ≡ after_step w s
 stands w v s e f = ap Stands f ∙ ap (after_step w) e
-
--- one step more
-pub one_more : (p : TProgram) (regions : List TRegion) (n : ℕ) (first now : Way) (next : Next) → steps_on p regions n first ≡ Went_on now → next ≡ next_of p regions now
-    → steps_on p regions (suc n) first ≡ next
-one_more p regions n first now next e f = ap (then_next p regions) e ∙ sym f

@@ -7,3 +7,4 @@ mod Words
 mod Turning
 mod Hearing
 mod Tallies
+mod Skips

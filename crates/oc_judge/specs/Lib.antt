@@ -6,6 +6,8 @@ pub mod Passing
 pub mod Frames
 pub mod Going
 pub mod Ways
+pub mod Passes
 pub mod Notes
+pub mod Seeking
 pub mod Watches
 pub mod Verdicts

@@ -1,6 +1,7 @@
 //! How often each block was executed.
 ghost use Rattle.std.specs.Prelude.{◌≡◌, ◌<◌, [], length, slice_index_or, IfOk, OnOk};
 ghost use Rattle.oc_steps.specs.Ages.{one_more};
+ghost use Rattle.oc_judge.specs.Passes.{more_times};
 
 use oc_tree::tree::BlockId;
 use std::alloc::{AllocError, Global};
@@ -43,8 +44,18 @@ impl Executed {
     pub fn add(&mut self, block: BlockId) -> Result<(), AllocError>
         ensures { OnOk result (self.new ≡ one_more block self.old) }
     {
+        self.add_times(block, 1)
+    }
+
+    /// A block is executed so many times more, at least once.
+    pub fn add_times(&mut self, block: BlockId, times: u64) -> Result<(), AllocError>
+        requires { 0 < times }
+        ensures { OnOk result (self.new ≡ more_times times block self.old) }
+    {
         grow(&mut self.counts, block)?;
-        let count = entry(&self.counts, block).checked_add(1).ok_or(AllocError)?;
+        let count = entry(&self.counts, block)
+            .checked_add(times)
+            .ok_or(AllocError)?;
         self.counts[block as usize] = count;
         Ok(())
     }

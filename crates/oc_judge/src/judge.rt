@@ -6,6 +6,7 @@ ghost use Rattle.oc_judge.specs.Going.{program_of, regions_of};
 ghost use Rattle.oc_judge.specs.Verdicts.{IsVerdict, found, reported};
 
 use crate::running::Running;
+use crate::seeking::find_set;
 use crate::watch::{first_watch, hear};
 use oc_io::Memory;
 use oc_items::item::Item;
@@ -30,9 +31,11 @@ fn find_break(run: &Running, items: &[Item], nv: Option<&[i32]>) -> Result<Verdi
         (found v)) }
 {
     let mut watch = first_watch(run)?;
+    let mut sought = Vec::new(run.alloc);
     let mut number = 1;
     for item in items {
-        if !hear(run, nv, &mut watch, *item)? {
+        let set = find_set(run.program, &mut sought, *item)?;
+        if !hear(run, nv, &mut watch, *item, set)? {
             return Ok(Verdict::Breaks { item: number });
         }
         number += 1;

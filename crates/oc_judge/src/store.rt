@@ -1,5 +1,5 @@
 //! The store of a run under way.
-ghost use Rattle.std.specs.Prelude.{◌≡◌, [], length, option_map, slice_get, slice_index_or, slice_set, suc, if◌then◌else◌, IfOk, OnOk};
+ghost use Rattle.std.specs.Prelude.{◌≡◌, ◌<◌, false, [], length, option_map, slice_get, slice_index_or, slice_set, suc, if◌then◌else◌, IfOk, OnOk};
 ghost use Rattle.oc_meaning.specs.Store.{happened, held_at, left_at, made, nothing, noted, put, replaced, value_in};
 ghost use Rattle.oc_meaning.specs.Eval.{element_of};
 ghost use Rattle.oc_meaning.specs.Exec.{closed, opened, trapped};
@@ -9,6 +9,7 @@ ghost use Rattle.oc_steps.specs.Ages.{join_ages, of_ages, one_more};
 ghost use Rattle.oc_steps.specs.Sets.{element_by, element_written_by, with_element_by};
 ghost use Rattle.oc_steps.specs.Steps.{tagged_by};
 ghost use Rattle.oc_judge.specs.Values.{age_view, got_view, value_view};
+ghost use Rattle.oc_judge.specs.Passes.{more_times};
 ghost use Rattle.oc_judge.specs.Stores.{completion_at, event_view, told};
 
 use crate::age::{Age, Got, Value};
@@ -316,6 +317,23 @@ impl Store {
     {
         self.blocks.add(block)?;
         Ok(())
+    }
+
+    /// A block is executed so many times, at least once.
+    pub fn enter_times(&mut self, block: BlockId, times: u64) -> Result<(), AllocError>
+        requires { 0 < times }
+        ensures { OnOk result
+            (self.new ≡ record self.old { blocks = more_times times block self.old.blocks }) }
+    {
+        self.blocks.add_times(block, times)?;
+        Ok(())
+    }
+
+    /// Whether something was said that wasn't taken yet.
+    pub fn has_event(&self) -> bool
+        ensures { result ≡ false → self.now.events ≡ [] }
+    {
+        self.told.is_some()
     }
 
     /// A mark is told, where no region is open around it.

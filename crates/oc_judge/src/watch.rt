@@ -10,13 +10,13 @@ ghost use Rattle.oc_steps.specs.Fold.{aborted, has_words, is_said, may_show, off
 ghost use Rattle.oc_steps.specs.Heard.{cleared};
 ghost use Rattle.oc_steps.specs.Steps.{sensed};
 ghost use Rattle.oc_judge.specs.Going.{program_of, regions_of};
+ghost use Rattle.oc_judge.specs.Seeking.{IsSetOf};
 ghost use Rattle.oc_judge.specs.Stores.{event_view};
 ghost use Rattle.oc_judge.specs.Watches.{IsTold, answered, halts, watch_view};
 ghost use Rattle.oc_judge.specs.Ways.{way_view};
 
 use crate::age::{Age, Value};
 use crate::answers::{are_words, is_new, says_committed, says_ended, says_entered, says_shown};
-use crate::notes::set_of;
 use crate::running::Running;
 use crate::sets::{may_tag, tell_tag};
 use crate::store::{Completion, Event};
@@ -93,30 +93,29 @@ fn hear_input<'a>(
 
 /// Whether an event of the source other than an input may be told now.
 #[tactic(auto, using(crate::proofs::Hearing::store_at))]
-fn may_show(run: &Running, way: &Way, what: Shown, event: Event) -> bool
-    ensures { (nv : Option (List ℤ))
-        → result ≡ may_show (program_of run.now) nv (way_view way.now) what (event_view event) }
+fn may_show(way: &Way, what: Shown, set: Option<(usize, i32)>, event: Event) -> bool
+    ensures { (p : TProgram) (nv : Option (List ℤ)) → IsSetOf p (Showed what) set
+        → result ≡ may_show p nv (way_view way.now) what (event_view event) }
 {
     match what {
         Shown::Emitted { .. } => true,
         Shown::Used { .. } => is_new(way.store.outages(), event.age),
         Shown::Finished { .. } => is_new(way.store.outages(), event.age),
-        Shown::Tagged { stmt } => may_tag(set_of(run.program, stmt), event, &way.sets),
+        Shown::Tagged { .. } => may_tag(set, event, &way.sets),
     }
 }
 
 /// An event of the source other than an input is told, where there is room for one more set.
-fn show<'a>(run: &Running<'a>, way: &mut Way<'a>, what: Shown, event: Event)
+fn show(way: &mut Way, what: Shown, set: Option<(usize, i32)>, event: Event)
     requires { vec_len way.old.sets < vec_capacity way.old.sets }
-    ensures { (nv : Option (List ℤ))
-        → way_view way.new
-        ≡ with_shown (program_of run.now) nv (way_view way.old) what (event_view event) }
+    ensures { (p : TProgram) (nv : Option (List ℤ)) → IsSetOf p (Showed what) set
+        → way_view way.new ≡ with_shown p nv (way_view way.old) what (event_view event) }
 {
     match what {
         Shown::Emitted { .. } => {}
         Shown::Used { .. } => {}
         Shown::Finished { .. } => {}
-        Shown::Tagged { stmt } => tell_tag(set_of(run.program, stmt), event, &mut way.sets),
+        Shown::Tagged { .. } => tell_tag(set, event, &mut way.sets),
     }
 }
 
@@ -131,27 +130,33 @@ fn make_room(way: &mut Way) -> Result<(), AllocError>
 
 /// Whether an event is an output, a use or its end, or a tag that may be told; it is told then. It
 /// wants no memory, since there is room for one more set.
-fn tell_shown<'a>(run: &Running<'a>, way: &mut Way<'a>, what: Shown, event: Event) -> bool
+fn tell_shown(way: &mut Way, what: Shown, set: Option<(usize, i32)>, event: Event) -> bool
     requires { vec_len way.old.sets < vec_capacity way.old.sets }
-    ensures right { (nv : Option (List ℤ)) → result
+    ensures right { (p : TProgram) (nv : Option (List ℤ)) → IsSetOf p (Showed what) set → result
         ≡ is_said event.said (Showed what)
-        && may_show (program_of run.now) nv (way_view way.old) what (event_view event) }
+        && may_show p nv (way_view way.old) what (event_view event) }
     ensures told { result ≡ true
-        → (nv : Option (List ℤ)) → way_view way.new
-        ≡ with_shown (program_of run.now) nv (way_view way.old) what (event_view event) }
+        → (p : TProgram) (nv : Option (List ℤ)) → IsSetOf p (Showed what) set
+        → way_view way.new ≡ with_shown p nv (way_view way.old) what (event_view event) }
 {
     if !says_shown(event.said, what) {
         return false;
     }
-    if !may_show(run, way, what, event) {
+    if !may_show(way, what, set, event) {
         return false;
     }
-    show(run, way, what, event);
+    show(way, what, set, event);
     true
 }
 
 /// An output, a use or its end, or a tag.
-fn hear_shown<'a>(run: &Running<'a>, watch: &mut Watch<'a>, what: Shown) -> Result<bool, AllocError>
+fn hear_shown<'a>(
+    run: &Running<'a>,
+    watch: &mut Watch<'a>,
+    what: Shown,
+    set: Option<(usize, i32)>,
+) -> Result<bool, AllocError>
+    requires { IsSetOf (program_of run.now) (Showed what) set }
     ensures { IfOk result
         (λ good. (nv : Option (List ℤ))
         → IsTold (program_of run.now) (regions_of run.now) nv (watch_view watch.old)
@@ -160,7 +165,7 @@ fn hear_shown<'a>(run: &Running<'a>, watch: &mut Watch<'a>, what: Shown) -> Resu
     match go(run, &mut watch.now)? {
         Next::Says { event } => {
             make_room(&mut watch.now)?;
-            Ok(tell_shown(run, &mut watch.now, what, event))
+            Ok(tell_shown(&mut watch.now, what, set, event))
         }
         Next::Wants { .. } => Ok(false),
         Next::Stands => Ok(false),
@@ -303,13 +308,16 @@ fn hear_abort<'a>(watch: &mut Watch<'a>, region: u32) -> bool
     }
 }
 
-/// How the audit goes on after an item, or that the report breaks there.
+/// How the audit goes on after an item, or that the report breaks there. The set is that of the
+/// statement whose tag the item is.
 pub fn hear<'a>(
     run: &Running<'a>,
     nv: Option<&[i32]>,
     watch: &mut Watch<'a>,
     item: Item,
+    set: Option<(usize, i32)>,
 ) -> Result<bool, AllocError>
+    requires { IsSetOf (program_of run.now) (told_of item).said set }
     ensures { IfOk result
         (λ good. IsHeard (program_of run.now) (regions_of run.now)
         (option_map (λ w. w.now) nv.entry)
@@ -321,19 +329,19 @@ pub fn hear<'a>(
             Ok(good)
         }
         Item::Emit { port, value, .. } => {
-            let good = hear_shown(run, watch, Shown::Emitted { port, value })?;
+            let good = hear_shown(run, watch, Shown::Emitted { port, value }, set)?;
             Ok(good)
         }
         Item::Use { stmt, .. } => {
-            let good = hear_shown(run, watch, Shown::Used { stmt })?;
+            let good = hear_shown(run, watch, Shown::Used { stmt }, set)?;
             Ok(good)
         }
         Item::Done { stmt, .. } => {
-            let good = hear_shown(run, watch, Shown::Finished { stmt })?;
+            let good = hear_shown(run, watch, Shown::Finished { stmt }, set)?;
             Ok(good)
         }
         Item::Tag { stmt, .. } => {
-            let good = hear_shown(run, watch, Shown::Tagged { stmt })?;
+            let good = hear_shown(run, watch, Shown::Tagged { stmt }, set)?;
             Ok(good)
         }
         Item::Enter { region, .. } => {

@@ -11,6 +11,7 @@ use crate::age::Age;
 use crate::blocks::begin_call;
 use crate::frames::{Frame, copies};
 use crate::going::Going;
+use crate::passes::pass_turns;
 use crate::running::Running;
 use crate::step::step;
 use crate::store::{Completion, Event, Store};
@@ -137,6 +138,7 @@ fn advance<'a>(run: &Running<'a>, way: &mut Way<'a>) -> Result<Option<Next>, All
 }
 
 /// What a run does next, behind all steps that say nothing.
+#[tactic(auto, using(crate::proofs::Skips::reaches_then, crate::proofs::Skips::goes, crate::proofs::Skips::comes, crate::proofs::Skips::stays))]
 pub fn go<'a>(run: &Running<'a>, way: &mut Way<'a>) -> Result<Next, AllocError>
     ensures next { IfOk result
         (λ n. Comes (program_of run.now) (regions_of run.now) (way_view way.old)
@@ -144,6 +146,7 @@ pub fn go<'a>(run: &Running<'a>, way: &mut Way<'a>) -> Result<Next, AllocError>
     ensures kept { IfOk result (λ n. KeepsRest (way_view way.old) (way_view way.new)) }
 {
     for _step in 0..u64::MAX {
+        pass_turns(run, way)?;
         if let Some(next) = advance(run, way)? {
             return Ok(next);
         }

@@ -25,6 +25,7 @@ loop-item-preserved c =
     let items = c.args.items.now in
     let goes : c.in_ok-hear.field-0 ≡ true = search rules in
     record {
+      sought = c.in_ok-set.ensures.right;
       number = ap (λ m. m + 1) c.loop-item.invariant.number;
       finds = passes p rs nv items (λ v. Finds p rs nv (first_watch p rs) (map told_of items) 1 v) (watch_view c.loop-item.watch) c.loop-item.item-index _ c.loop-item-test.true
           c.loop-item.invariant.finds c.in_ok-hear.field-0 c.hear.new.watch goes c.in_ok-hear.ensures;

@@ -19,4 +19,4 @@ returns-in_ok-make_room-in-Says c nv =
     let comes : Comes p rs w.now (next_view (nexts.Says c.in-Says.event) v) = subst (λ n. Comes p rs w.now (next_view n v)) c.in-Says.is c.in_ok-event.ensures.next in
     let same : way_view u ≡ way_view v = c.in_ok-make_room-in-Says.ensures.same in
     shown p rs nv w c.args.what e (way_view u) (record c.args.watch.now { now = c.tell_shown.new.way }) c.tell_shown.result
-    (subst (λ y. Comes p rs w.now (Says e y)) (sym same) comes) (c.tell_shown.ensures.right nv) (λ t. ap (λ y. record w { now = y }) (c.tell_shown.ensures.told t nv))
+    (subst (λ y. Comes p rs w.now (Says e y)) (sym same) comes) (c.tell_shown.ensures.right p nv c.requires) (λ t. ap (λ y. record w { now = y }) (c.tell_shown.ensures.told t p nv c.requires))

@@ -1,12 +1,11 @@
-use Rattle.std.proofs.Common.{◌≡◌}
-use Rattle.oc_steps.specs.Fold.{Went_on, steps_on}
 use Rattle.oc_judge.specs.Going.{program_of, regions_of}
+use Rattle.oc_judge.specs.Passes.{Reaches}
 use Rattle.oc_judge.specs.Ways.{KeepsRest, way_view}
 use Rattle.oc_judge.proofs.way.go.Given as goal
 
--- So many steps on, the run went on to where it is now.
+-- Some steps on, the run went on to where it is now.
 abbrev pub invariant-loop-step : goal.invariant-loop-step
 invariant-loop-step l = record {
-  steps : steps_on (program_of l.run) (regions_of l.run) l._step (way_view l.initial.way) ≡ Went_on (way_view l.way);
+  reached : Reaches (program_of l.run) (regions_of l.run) (way_view l.initial.way) (way_view l.way);
   kept : KeepsRest (way_view l.initial.way) (way_view l.way);
 }

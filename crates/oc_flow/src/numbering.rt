@@ -92,6 +92,7 @@ impl Numbers {
         }
     }
 
+    /// Keeps a number at a slot that there is room for.
     fn put(&mut self, slot: usize, number: u32)
         requires { slot < length self.old }
         ensures room { length self.new ≡ length self.old }

@@ -94,7 +94,7 @@ class Writer:
         lead = len(text[at:stop]) - len(text[at:stop].lstrip(" "))
         at += min(lead, indent)
         if re.match(r"\s*(--|//|#\[)", text[at:stop]):
-            return f"<i{' class=d' if tag == 's' else ''}>{escaped(text[at:stop])}</i>"
+            return f"<i>{escaped(text[at:stop])}</i>"
         out = []
         while at < stop:
             end, target = links.get(at, (None, None))

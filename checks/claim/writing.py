@@ -174,7 +174,7 @@ class Writer:
     def contents(self, groups):
         """The list of words at the side, of the part that is shown."""
         rows = ""
-        for crate, words in groups:
+        for crate, words in [*groups, ("Laws", law_words(self.page)), ("Of examples", self.page.spoken)]:
             here = [word for word in words if self.page.parts[word.key] == self.part]
             title = crate or ("The clauses" if words[1:] else "The clause")
             names = " ".join(f"<a href={quoted('#' + fragment(word.anchor))}>{escaped(word.name)}</a>" for word in here)

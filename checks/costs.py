@@ -93,29 +93,34 @@ def crates():
 
 
 def tasks(rows, found):
-    """Returns what rt does, each as the tasks that it waits for and its seconds: a crate's proof and its tests wait for the
-    proofs below, its wrong bodies for both."""
+    """Returns what rt does, each as the tasks that it waits for and its seconds: a crate's proof, its tests and its seed wait
+    for the proofs below, each of its wrong bodies for these three."""
     made = {}
     for name, row in rows.items():
         waits = [(other, "proof") for other in found.get(name, ()) if other in rows]
-        made[name, "proof"] = waits, row["proof"]
-        made[name, "tests"] = waits, row["tests"]
-        made[name, "edits"] = [(name, "proof"), (name, "tests")], row["seed"] + row["wrong bodies"]
+        own = [(name, kind) for kind in ("proof", "tests", "seed")]
+        made |= {key: (waits, row[key[1]]) for key in own}
+        made |= {(name, place): (own, row["wrong bodies"] / row["edits"]) for place in range(row["edits"])}
     return made
 
 
 def wall(made, processors):
-    """Returns how many seconds the tasks take, one a processor, each once those it waits for have ended."""
-    behind = {}
+    """Returns how many seconds the tasks take, one a processor, each once those it waits for have ended: first proofs and
+    tests, and of these and of the others those with the longest chain behind them."""
+    behind = dict.fromkeys(made, 0.0)
+    # A task comes after those that it waits for.
     for key in reversed(made):
-        behind[key] = made[key][1] + max((behind[other] for other in made if key in made[other][0]), default=0)
-    now, running, done, left = 0.0, [], set(), sorted(made, key=behind.get, reverse=True)
+        behind[key] += made[key][1]
+        for other in made[key][0]:
+            behind[other] = max(behind[other], behind[key])
+    now, running, done = 0.0, [], set()
+    left = sorted(made, key=lambda key: (key[1] not in ("proof", "tests"), -behind[key]))
     while left or running:
         ready = [key for key in left if done.issuperset(made[key][0])][: processors - len(running)]
         for key in ready:
             left.remove(key)
-            heapq.heappush(running, (now + made[key][1], key))
-        now, key = heapq.heappop(running)
+            heapq.heappush(running, (now + made[key][1], str(key), key))
+        now, _, key = heapq.heappop(running)
         done.add(key)
     return now
 
@@ -128,8 +133,9 @@ def table(checks, passed):
     """Returns the lines of the table, crates in the order of crates.txt."""
     rows = {}
     for check in checks:
-        row = rows.setdefault(check.crate, dict.fromkeys(KINDS, 0.0) | {"memory": 0})
+        row = rows.setdefault(check.crate, dict.fromkeys(KINDS, 0.0) | {"memory": 0, "edits": 0})
         row[check.kind] += check.seconds
+        row["edits"] += check.kind == "wrong bodies"
         row["memory"] = max(row["memory"], check.memory)
     found = crates()
     order = list(found)

@@ -26,21 +26,30 @@ def number_in(path, pattern):
         return found and int(found[1])
 
 
-def jobs():
-    """Returns how many crates are proved side by side: RT_JOBS, or one a processor where memory holds 2.5 GB for each and
-    1 GB more."""
-    asked = os.environ.get("RT_JOBS", "")
-    if asked.isdigit() and int(asked):
-        return int(asked)
-    processors = len(os.sched_getaffinity(0))
+def processors():
+    """Returns how many processors there are to use."""
+    found = len(os.sched_getaffinity(0))
     quota, period = number_in(GROUP / "cpu.max", r"^(\d+)"), number_in(GROUP / "cpu.max", r" (\d+)")
-    if quota and period:
-        processors = min(processors, quota // period)
-    free = 1024 * (number_in(pathlib.Path("/proc/meminfo"), r"MemAvailable:\s+(\d+)") or 0)
+    return min(found, max(1, quota // period)) if quota and period else found
+
+
+def free():
+    """Returns how many bytes of memory are free."""
+    found = 1024 * (number_in(pathlib.Path("/proc/meminfo"), r"MemAvailable:\s+(\d+)") or 0)
     limit, held = number_in(GROUP / "memory.max", r"^(\d+)"), number_in(GROUP / "memory.stat", r"^anon (\d+)")
-    if limit and held is not None:
-        free = min(free, limit - held)
-    return max(1, min(processors, int((free / 1e9 - 1) / 2.5)))
+    return found if limit is None or held is None else min(found, limit - held)
+
+
+def jobs(asked, number, room):
+    """Returns what rt is told of how many crates to prove side by side, for so many processors and bytes of free memory: what
+    is asked, or one a processor where memory holds 2.5 GB for each and 1 GB more. It is told nothing where memory holds 6.5 GB
+    for each, of four at most: by itself rt gives a proof the processors that no other one waits for, but reckons with more
+    than twice the memory that proofs take."""
+    if asked.isdigit() and int(asked):
+        return {"RT_JOBS": asked}
+    if room >= 6.5e9 * min(number, 4):
+        return {}
+    return {"RT_JOBS": str(max(1, min(number, int((room / 1e9 - 1) / 2.5))))}
 
 
 def copy(to):
@@ -101,11 +110,12 @@ def seconds_below(process):
     return 0
 
 
-def prove(top, side_by_side, say):
+def prove(top, told, side_by_side, say):
     """Runs 'rt ci' in a copy, and says how far it is."""
     progress, tail = Progress(top, side_by_side), []
     how = {"stdin": subprocess.DEVNULL, "stdout": subprocess.PIPE, "stderr": subprocess.STDOUT, "text": True, "errors": "replace"}
-    started = subprocess.Popen(["rt", "ci"], cwd=top, env={**os.environ, "RT_JOBS": str(side_by_side)}, **how)
+    settings = {name: value for name, value in os.environ.items() if name != "RT_JOBS"} | told
+    started = subprocess.Popen(["rt", "ci"], cwd=top, env=settings, **how)
     try:
         for line in started.stdout:
             tail = [*tail[1 - TAIL :], line.rstrip("\n").replace(str(top), str(sources.TOP))]
@@ -123,7 +133,8 @@ def prove(top, side_by_side, say):
 
 def build(place, say):
     """Proves and builds the program, and puts it into its place."""
-    side_by_side = jobs()
+    told = jobs(os.environ.get("RT_JOBS", ""), processors(), free())
+    side_by_side = int(told.get("RT_JOBS", processors()))
     with tempfile.TemporaryDirectory(prefix="ocelot-") as folder:
         top = pathlib.Path(folder)
         copy(top)
@@ -132,7 +143,7 @@ def build(place, say):
             f"proving and building the program first: {len(sources.crates(top))} crates, {side_by_side} at a time",
             "it takes a while, once for these sources; ./try answers in about two minutes, without proofs",
         )
-        prove(top, side_by_side, say)
+        prove(top, told, side_by_side, say)
         made = top / "crates/ocelot/out/ocelot"
         if not made.exists():
             raise Failed("rt ci left no program")

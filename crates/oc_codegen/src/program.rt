@@ -21,7 +21,7 @@ use crate::setting::Setting;
 use crate::stmts::block;
 use oc_isa::image::{ImageFunction, ImageNv, RawImage};
 use oc_isa::instr::Instr;
-use oc_reach::table::main_place;
+use oc_names::table::main_place;
 use oc_tree::marked::Region;
 use oc_tree::name::Name;
 use oc_tree::said::Target;

@@ -10,7 +10,7 @@ ghost use Rattle.oc_code.specs.Code.{function_number};
 
 use oc_meaning::names::place_in;
 use oc_meaning::regions::{begun_by, ended_by};
-use oc_reach::table::{Table, function_table, result_at};
+use oc_names::table::{Table, function_table, result_at};
 use oc_tree::marked::Region;
 use oc_tree::name::Name;
 use oc_tree::tree::{Call, Function, Program};

@@ -1,6 +1,6 @@
 //! Calls, with what is passed.
 ghost use Rattle.std.specs.Prelude.{◌≡◌, ◌<◌, map, option_and_then, option_map, IfOk};
-ghost use Rattle.oc_reach.specs.Views.{name_seen};
+ghost use Rattle.oc_names.specs.Seen.{name_seen};
 ghost use Rattle.oc_tree.specs.View.{arg_view, args_view, call_view, kind_view};
 ghost use Rattle.oc_effects.specs.Effects.{all_passed, call_of, called_by, lent_name, passed};
 ghost use Rattle.oc_effects.specs.View.{called_view, passed_view};

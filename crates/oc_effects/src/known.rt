@@ -5,7 +5,7 @@ ghost use Rattle.oc_tree.specs.Calls.{function_place};
 ghost use Rattle.oc_tree.specs.Places.{nv_variable};
 ghost use Rattle.oc_effects.specs.Effects.{params_at};
 
-use oc_reach::table::{Table, function_table};
+use oc_names::table::{Table, function_table};
 use oc_tree::name::Name;
 use oc_tree::tree::{Param, Program, VarId};
 use std::alloc::{AllocError, Global};

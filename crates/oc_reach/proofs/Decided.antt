@@ -13,7 +13,7 @@ use Rattle.oc_tree.specs.Members.{IsOf}
 use Rattle.oc_tree.specs.Assigned.{param_names, first_param, param_count, takes_mutable, mutable_param, own_param, alone, link_of, arg_links, args_links, to_links, pass_call}
 use Rattle.oc_tree.specs.Assigned.{function_links, pass_links_from, pass_links, written_through, function_writes, writes_from, writes_through, param_assigned}
 use Rattle.oc_tree.proofs.ReachLaws.{or_left, or_right, or_elim, links_lead, leads_trans, least}
-use Rattle.oc_reach.proofs.Entries.{place_below}
+use Rattle.oc_names.proofs.Entries.{place_below}
 use Rattle.oc_reach.proofs.LinkLaws.{any_append}
 use Rattle.oc_reach.proofs.PassLaws.{params_at, takes_below, passes_within}
 use Rattle.oc_reach.proofs.Walk.{some_at, some_is}

@@ -1,5 +1,4 @@
 pub mod Bools
-pub mod Entries
 pub mod LinkLaws
 pub mod Lists
 pub mod Rows

@@ -11,7 +11,7 @@ use Rattle.oc_tree.specs.Calls.{place, callee, body_calls, called_places, links_
 use Rattle.oc_tree.proofs.ReachLaws.{or_elim}
 use Rattle.oc_reach.specs.Within.{IsWithin}
 use Rattle.oc_reach.proofs.Bools.{or_assoc}
-use Rattle.oc_reach.proofs.Entries.{place_below}
+use Rattle.oc_names.proofs.Entries.{place_below}
 
 pub any_append : {A : Type 0} (test : A → Bool) (xs ys : List A) → list_any test (xs ++ ys) ≡ list_any test xs || list_any test ys
 any_append test [] ys = refl

@@ -17,7 +17,7 @@ use Rattle.oc_tree.specs.Assigned.{is_mutable, alone, first_params, first_param,
 use Rattle.oc_tree.specs.Assigned.{args_links, to_links, pass_call, function_links, pass_links_from, pass_links, param_names}
 use Rattle.oc_tree.proofs.ReachLaws.{or_elim}
 use Rattle.oc_reach.specs.Within.{IsWithin}
-use Rattle.oc_reach.proofs.Entries.{place_below}
+use Rattle.oc_names.proofs.Entries.{place_below}
 use Rattle.oc_reach.proofs.LinkLaws.{any_append}
 use Rattle.oc_reach.proofs.Tests.{test_inside}
 

@@ -1,6 +1,5 @@
 pub mod Marked
 pub mod Within
-pub mod Entries
 pub mod Views
 pub mod Few
 pub mod Through

@@ -1,7 +1,6 @@
 -- Lists of references to parts of a tree.
-use Rattle.std.specs.Prelude.{List, map, Option, option_map}
+use Rattle.std.specs.Prelude.{List, map}
 use Rattle.std.proofs.Common.{Bor}
-use Rattle.oc_tree.specs.Names.{Text}
 use Rattle.oc_tree.specs.Tree.{TCall, TKind}
 use Rattle.oc_tree.specs.View.{call_view, kind_view}
 use Rattle.oc_tree.specs.declared.tree.Call.{Call}
@@ -14,7 +13,3 @@ calls_seen cs = map (λ c. call_view c.now) cs
 -- what contracts see of a list of statements
 abbrev pub kinds_seen : List (Bor StmtKind) → List TKind
 kinds_seen ks = map (λ k. kind_view k.now) ks
-
--- what contracts see of a name that may be missing
-abbrev pub name_seen : Option (Bor Text) → Option Text
-name_seen n = option_map (λ x. x.now) n

@@ -15,7 +15,7 @@ use crate::marks::Marks;
 use crate::mentions::own_names;
 use crate::parts::{block_kinds, body_calls};
 use crate::reach::Reach;
-use crate::table::{Table, function_table};
+use oc_names::table::{Table, function_table};
 use oc_tree::name::Name;
 use oc_tree::tree::{Call, Function, Param, StmtKind};
 use std::alloc::{AllocError, Global};

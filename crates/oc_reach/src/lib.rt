@@ -13,4 +13,3 @@ pub mod params;
 pub mod parts;
 mod passes;
 pub mod reach;
-pub mod table;

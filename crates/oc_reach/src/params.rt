@@ -3,10 +3,10 @@ ghost use Rattle.std.specs.Prelude.{◌≡◌, ◌<◌, ◌^◌, ◌+◌, List, 
 ghost use Rattle.std.proofs.Math.ListN.{get_or};
 ghost use Rattle.oc_tree.specs.View.{function_view};
 ghost use Rattle.oc_tree.specs.declared.tree.Function.{Function};
-ghost use Rattle.oc_reach.specs.Views.{name_seen};
+ghost use Rattle.oc_names.specs.Seen.{name_seen};
 ghost use Rattle.oc_tree.specs.Assigned.{first_param, first_params, is_mutable, mutable_param, own_param, param_count};
 
-use crate::table::Table;
+use oc_names::table::Table;
 use oc_tree::name::Name;
 use oc_tree::tree::{Function, Param};
 use std::alloc::{AllocError, Global};

@@ -2,7 +2,8 @@
 ghost use Rattle.std.specs.Prelude.{◌≡◌, ◌++◌, OnOk, IfOk};
 ghost use Rattle.oc_tree.specs.View.{arg_view, block_view, call_view, else_view, expr_view, function_view, kind_view, right_view};
 ghost use Rattle.oc_tree.specs.Calls.{arg_calls, block_kinds, body_calls, call_calls, else_kinds, expr_calls, hides, kind_hides, kind_kinds, own_calls, right_calls};
-ghost use Rattle.oc_reach.specs.Views.{calls_seen, kinds_seen, name_seen};
+ghost use Rattle.oc_names.specs.Seen.{name_seen};
+ghost use Rattle.oc_reach.specs.Views.{calls_seen, kinds_seen};
 
 use oc_tree::name::Name;
 use oc_tree::tree::{Arg, Block, Call, Expr, Function, Right, StmtKind};

@@ -4,12 +4,13 @@ ghost use Rattle.std.specs.List.{flat_map};
 ghost use Rattle.oc_tree.specs.View.{arg_view, args_view, call_view, expr_view, function_view, kind_view};
 ghost use Rattle.oc_tree.specs.declared.tree.Function.{Function};
 ghost use Rattle.oc_tree.specs.Assigned.{alone, arg_links, args_links, function_links, link_of, function_writes, own_param, pass_call, pass_links, writes_from, written_through};
-ghost use Rattle.oc_reach.specs.Views.{calls_seen, kinds_seen, name_seen};
+ghost use Rattle.oc_names.specs.Seen.{name_seen};
+ghost use Rattle.oc_reach.specs.Views.{calls_seen, kinds_seen};
 
 use crate::calls::Calls;
 use crate::params::{Params, own_param};
 use crate::parts::{block_kinds, body_calls};
-use crate::table::{Table, param_table};
+use oc_names::table::{Table, param_table};
 use oc_tree::name::Name;
 use oc_tree::tree::{Arg, Call, Expr, Function, StmtKind};
 use std::alloc::{AllocError, Global};

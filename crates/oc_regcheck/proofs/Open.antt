@@ -13,7 +13,7 @@ use Rattle.oc_flow.specs.Variables.{from}
 use Rattle.oc_flow.proofs.Ranks.{ranked}
 use Rattle.oc_reach.specs.Marked.{is_in}
 use Rattle.oc_reach.specs.Within.{IsWithin}
-use Rattle.oc_reach.proofs.Entries.{place_below}
+use Rattle.oc_names.proofs.Entries.{place_below}
 use Rattle.oc_reach.proofs.Tests.{only_one}
 use Rattle.oc_reach.proofs.Walk.{some_is}
 use Rattle.oc_needs.proofs.Froms.{from_more}

@@ -11,9 +11,9 @@ use crate::blocks::Blocks;
 use crate::inside::outer;
 use oc_effects::effect::Effect;
 use oc_effects::effects::Effects;
+use oc_names::table::main_place;
 use oc_reach::marks::Marks;
 use oc_reach::reach::Reach;
-use oc_reach::table::main_place;
 use std::alloc::{AllocError, Global};
 
 /// Adds the call of a statement, if it is inside no block: from the called function to the caller.

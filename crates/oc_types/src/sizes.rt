@@ -16,7 +16,7 @@ ghost use Rattle.oc_tree.specs.Weight.{known_of, weights_to};
 use crate::elements::find_broken_element;
 use crate::numbers::{TOO_DEEP, TOO_HEAVY};
 use oc_desugar::expand_program;
-use oc_reach::table::main_place;
+use oc_names::table::main_place;
 use oc_tree::broken::Broken;
 use oc_tree::tree::{Function, Program};
 use oc_weight::cost::known_of;

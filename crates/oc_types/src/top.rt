@@ -12,9 +12,9 @@ ghost use Rattle.oc_tree.specs.Rules.{callee_params, declared_before, stands_bef
 
 use crate::notes::{Noted, Notes};
 use crate::scope::Scope;
+use oc_names::table::Table;
 use oc_reach::calls::Calls;
 use oc_reach::marks::Marks;
-use oc_reach::table::Table;
 use oc_tree::before::Before;
 use oc_tree::name::Name;
 use oc_tree::scope::{Origin, Var};

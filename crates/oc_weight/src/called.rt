@@ -8,9 +8,9 @@ ghost use Rattle.oc_reach.specs.Views.{calls_seen};
 ghost use Rattle.oc_reach.specs.Within.{IsWithin};
 ghost use Rattle.oc_weight.specs.Order.{IsBegun, IsOrder, comes_back, row_links};
 
+use oc_names::table::Table;
 use oc_reach::marks::Marks;
 use oc_reach::parts::body_calls;
-use oc_reach::table::Table;
 use oc_tree::tree::{Call, Function};
 use std::alloc::{AllocError, Global};
 

@@ -9,7 +9,7 @@ ghost use Rattle.oc_tree.specs.declared.tree.BinaryOp.{BinaryOp};
 ghost use Rattle.oc_weight.specs.Capped.{capped, weight_cap};
 
 use crate::caps::{cap, greater, plus, times};
-use oc_reach::table::{Table, result_at};
+use oc_names::table::{Table, result_at};
 use oc_tree::tree::{Arg, BinaryOp, Block, Call, Expr, Function, Right, StmtKind};
 
 /// How many instructions an operator takes at most, with its sides, which take `a` and `b`; the cap

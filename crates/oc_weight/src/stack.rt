@@ -9,7 +9,7 @@ ghost use Rattle.oc_weight.specs.Capped.{capped, weight_cap};
 
 use crate::caps::{cap, greater, plus};
 use crate::cost::known_of;
-use oc_reach::table::Table;
+use oc_names::table::Table;
 use oc_tree::tree::{Arg, BinaryOp, Block, Call, Expr, Function, Right, StmtKind};
 
 /// How many words of the frame a statement takes for the variables and counters that it and those

@@ -8,9 +8,9 @@ ghost use Rattle.oc_weight.specs.Order.{IsOrder};
 
 use crate::called::callees_first;
 use crate::cost::function_cost;
+use oc_names::table::{Table, function_table};
 use oc_reach::levels::is_same;
 use oc_reach::marks::Marks;
-use oc_reach::table::{Table, function_table};
 use oc_tree::tree::Function;
 use std::alloc::{AllocError, Global};
 

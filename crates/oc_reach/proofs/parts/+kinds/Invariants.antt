@@ -1,7 +1,8 @@
 use Rattle.std.proofs.Common.{◌≡◌, ◌++◌, drop}
 use Rattle.oc_tree.specs.View.{stmts_view}
 use Rattle.oc_tree.specs.Calls.{stmts_kinds}
-use Rattle.oc_reach.specs.Views.{kinds_seen, name_seen}
+use Rattle.oc_names.specs.Seen.{name_seen}
+use Rattle.oc_reach.specs.Views.{kinds_seen}
 use Rattle.oc_reach.proofs.parts.+kinds.Given as goal
 
 abbrev pub invariant-block_kinds-loop-statement : goal.invariant-block_kinds-loop-statement

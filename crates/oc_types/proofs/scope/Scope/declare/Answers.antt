@@ -1,6 +1,6 @@
 use Rattle.std.proofs.Common.{◌≡◌, None}
 use Rattle.oc_tree.specs.Scope.{variable_in}
-use Rattle.oc_reach.proofs.Entries.{insert-seen, seen}
+use Rattle.oc_names.proofs.Entries.{insert-seen, seen}
 use Rattle.oc_types.proofs.scope.Scope.declare.Goals as goal
 
 pub returns : goal.returns

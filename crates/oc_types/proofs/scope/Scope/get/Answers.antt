@@ -1,4 +1,4 @@
-use Rattle.oc_reach.proofs.Entries.{lookup-seen}
+use Rattle.oc_names.proofs.Entries.{lookup-seen}
 use Rattle.oc_types.proofs.scope.Scope.get.Goals as goal
 
 pub returns-in-Some : goal.returns-in-Some

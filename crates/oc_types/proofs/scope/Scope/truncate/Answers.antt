@@ -1,4 +1,4 @@
-use Rattle.oc_reach.proofs.Entries.{take-seen}
+use Rattle.oc_names.proofs.Entries.{take-seen}
 use Rattle.oc_types.proofs.scope.Scope.truncate.Goals as goal
 
 pub returns : goal.returns

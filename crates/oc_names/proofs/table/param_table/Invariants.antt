@@ -1,6 +1,6 @@
 use Rattle.std.proofs.Common.{◌≡◌, ◌++◌, drop, map}
 use Rattle.oc_tree.specs.Names.{names_seen}
-use Rattle.oc_reach.proofs.table.param_table.Given as goal
+use Rattle.oc_names.proofs.table.param_table.Given as goal
 
 abbrev pub invariant-loop-param : goal.invariant-loop-param
 invariant-loop-param l =

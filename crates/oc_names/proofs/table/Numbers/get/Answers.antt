@@ -1,5 +1,5 @@
-use Rattle.oc_reach.proofs.Entries.{lookup-seen}
-use Rattle.oc_reach.proofs.table.Numbers.get.Goals as goal
+use Rattle.oc_names.proofs.Entries.{lookup-seen}
+use Rattle.oc_names.proofs.table.Numbers.get.Goals as goal
 
 pub returns-in-Some : goal.returns-in-Some
 returns-in-Some c =

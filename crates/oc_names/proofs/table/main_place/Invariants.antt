@@ -2,7 +2,7 @@ use Rattle.std.proofs.Common.{◌≡◌, drop, map}
 use Rattle.std.specs.Prelude.{codes}
 use Rattle.oc_tree.specs.View.{function_view}
 use Rattle.oc_tree.specs.Calls.{function_names, function_place, place_from}
-use Rattle.oc_reach.proofs.table.main_place.Given as goal
+use Rattle.oc_names.proofs.table.main_place.Given as goal
 
 abbrev pub invariant-loop-i : goal.invariant-loop-i
 invariant-loop-i l =

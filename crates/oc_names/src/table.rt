@@ -6,7 +6,7 @@ ghost use Rattle.oc_tree.specs.View.{function_view};
 ghost use Rattle.oc_tree.specs.declared.tree.Param.{Param};
 ghost use Rattle.oc_tree.specs.Calls.{place, function_names, function_place};
 ghost use Rattle.oc_tree.specs.Weight.{result_at};
-ghost use Rattle.oc_reach.specs.Entries.{Entries, number_in, or_else};
+ghost use Rattle.oc_names.specs.Entries.{Entries, number_in, or_else};
 
 use indexmap::IndexMap;
 use oc_tree::name::Name;

@@ -1,7 +1,7 @@
 use Rattle.std.proofs.Common.{◌≡◌, ◌∙◌, ap}
 use Rattle.oc_tree.specs.Calls.{place}
-use Rattle.oc_reach.proofs.Entries.{place_within}
-use Rattle.oc_reach.proofs.table.Table.place.Goals as goal
+use Rattle.oc_names.proofs.Entries.{place_within}
+use Rattle.oc_names.proofs.table.Table.place.Goals as goal
 
 pub returns-clause-below : goal.returns-clause-below
 returns-clause-below c =

@@ -4,7 +4,7 @@ use Rattle.std.proofs.Math.ListN.{get_or}
 use Rattle.oc_tree.specs.View.{function_view}
 use Rattle.oc_tree.specs.declared.tree.Function.{Function}
 use Rattle.oc_tree.specs.Weight.{result_at}
-use Rattle.oc_reach.proofs.table.result_at.Goals as goal
+use Rattle.oc_names.proofs.table.result_at.Goals as goal
 
 -- whether a function has a result, as code reads it
 result_read : (xs : List Function) (u : ℕ) (f : Function) → u < length xs → f ≡ get_or xs u f → get_or (map (λ g. is_some g.result) (map function_view xs)) u false ≡ is_some f.result

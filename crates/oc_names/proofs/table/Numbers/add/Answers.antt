@@ -1,7 +1,7 @@
 use Rattle.std.proofs.Common.{◌≡◌, None}
-use Rattle.oc_reach.specs.Entries.{number_in}
-use Rattle.oc_reach.proofs.Entries.{insert-seen, seen}
-use Rattle.oc_reach.proofs.table.Numbers.add.Goals as goal
+use Rattle.oc_names.specs.Entries.{number_in}
+use Rattle.oc_names.proofs.Entries.{insert-seen, seen}
+use Rattle.oc_names.proofs.table.Numbers.add.Goals as goal
 
 pub returns : goal.returns
 returns c =

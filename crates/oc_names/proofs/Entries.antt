@@ -6,7 +6,7 @@ use Rattle.indexmap.specs.IndexMap.{insert_entry}
 use Rattle.std.proofs.lemmas.Slice.Eq.{bytes_eq-Decides}
 use Rattle.oc_tree.specs.Names.{Text, named_in}
 use Rattle.oc_tree.specs.Calls.{place_from}
-use Rattle.oc_reach.specs.Entries.{Entries, number_in, or_else}
+use Rattle.oc_names.specs.Entries.{Entries, number_in, or_else}
 
 -- the names and what stands beside them
 abbrev pub seen : {A : Type 0} → List (Bor Text × A) → List (Text × A)

@@ -2,7 +2,7 @@ use Rattle.std.proofs.Common.{◌≡◌, ◌++◌, drop, map}
 use Rattle.oc_tree.specs.View.{function_view}
 use Rattle.oc_tree.specs.Calls.{function_names}
 use Rattle.oc_tree.specs.Names.{names_seen}
-use Rattle.oc_reach.proofs.table.function_table.Given as goal
+use Rattle.oc_names.proofs.table.function_table.Given as goal
 
 abbrev pub invariant-loop-function : goal.invariant-loop-function
 invariant-loop-function l =

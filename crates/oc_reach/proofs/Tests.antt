@@ -2,7 +2,6 @@
 use Rattle.std.proofs.Common.{◌≡◌, ◌<◌, ◌≤◌, ◌+◌, ℕ, zero, suc, Bool, true, false, List, [], ◌∷◌, nat_eq, length, refl, sym, ap, ◌∙◌, true≢false, arith, subst, take}
 use Rattle.std.specs.Prelude.{◌&&◌, ◌||◌}
 use Rattle.std.proofs.Math.ListN.{get_or}
-use Rattle.std.proofs.lemmas.List.{take_all}
 use Rattle.std.proofs.lemmas.Bool.{eqb-true, eq-eqb, and_from, and_parts}
 use Rattle.std.proofs.lemmas.Bool.Decides.{nat_tests}
 use Rattle.oc_tree.specs.Reach.{Links, reaches, reaches_some}
@@ -55,9 +54,6 @@ test_off xs tests i h e v =
     by : (a b : Bool) → b ≡ false → a && b ≡ false
     by true b k = k
     by false b k = refl
-
-pub test_all : (xs : List ℕ) (tests : List Bool) (i : ℕ) → length tests ≤ i → ((v : ℕ) → is_in xs v ≡ get_or (take i tests) v false) → (v : ℕ) → is_in xs v ≡ get_or tests v false
-test_all xs tests i k h v = h v ∙ ap (λ l. get_or l v false) (take_all i tests k)
 
 -- a test that passes is one of the list
 pub test_inside : (tests : List Bool) (v : ℕ) → get_or tests v false ≡ true → v < length tests

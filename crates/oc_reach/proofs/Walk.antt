@@ -2,7 +2,7 @@
 use Rattle.std.proofs.Common.{◌≡◌, ◌<◌, ◌≤◌, ◌+◌, ℕ, zero, suc, Bool, true, false, List, length, refl, sym, ap, ◌∙◌, true≢false, arith, subst}
 use Rattle.std.specs.Prelude.{◌&&◌, ◌||◌, nat_eq}
 use Rattle.std.proofs.Math.ListN.{get_or}
-use Rattle.std.proofs.lemmas.Bool.{eqb-true, eq-eqb, and_from, and_parts}
+use Rattle.std.proofs.lemmas.Bool.{eqb-true, and_from, and_parts}
 use Rattle.std.proofs.lemmas.Bool.Decides.{eqb_tells}
 use mathlib.Core.Logic.{inl, inr}
 use Rattle.oc_tree.specs.Reach.{Links, linked, leads, reaches, some_below, reaches_some}
@@ -19,9 +19,6 @@ IsDone links xs i = (j : ℕ) → j < i → j < length xs → (u : ℕ) → link
 -- `u` reaches one of the numbers
 abbrev pub IsFrom : Links → ℕ → List ℕ → ℕ → Type 0
 IsFrom links n start u = (s : ℕ) × (is_in start s ≡ true) × (reaches links n u s ≡ true)
-
-pub from_itself : (links : Links) (n : ℕ) (start : List ℕ) (u : ℕ) → is_in start u ≡ true → IsFrom links n start u
-from_itself links n start u h = (u, h, or_left (nat_eq u u) (leads links n u u) (eq-eqb u u refl))
 
 pub some_at : (n : ℕ) (p : ℕ → Bool) (v : ℕ) → v < n → p v ≡ true → some_below n p ≡ true
 some_at zero p v h e = absurd (omega arith)

@@ -10,7 +10,7 @@ ghost use Rattle.oc_reach.specs.Views.{calls_seen, kinds_seen};
 use crate::calls::{Calls, has_param};
 use crate::marks::Marks;
 use crate::params::Params;
-use crate::parts::{block_kinds, own_calls};
+use crate::parts::{function_kinds, own_calls};
 use crate::passes::{pass_links, writes_of};
 use crate::reach::Reach;
 use oc_tree::name::Name;
@@ -126,8 +126,8 @@ impl<'a> Assigned<'a> {
     pub fn new(alloc: Global, functions: &'a [Function]) -> Result<Assigned<'a>, AllocError>
         ensures { IfOk result (λ a. a ≡ functions.now) }
     {
-        let calls = Calls::new(alloc, functions)?;
         let params = Params::new(alloc, functions)?;
+        let calls = Calls::new(alloc, functions)?;
         let marks = assigned_params(alloc, &calls, &params, functions)?;
         Ok(Assigned {
             calls,
@@ -208,9 +208,12 @@ impl<'a> Assigned<'a> {
         ensures { IfOk result
             (λ b. b ≡ own_assigns (map function_view self.now) name.now (kind_view kind.now)) }
     {
+        if is_target(kind, name) {
+            return Ok(true);
+        }
         let mut calls = Vec::new(alloc);
         own_calls(kind, &mut calls)?;
-        Ok(is_target(kind, name) || self.some_assigns(name, calls.as_slice()))
+        Ok(self.some_assigns(name, calls.as_slice()))
     }
 
     /// Whether one of these statements itself assigns this variable. Err is want of memory.
@@ -247,8 +250,7 @@ impl<'a> Assigned<'a> {
         if has_param(function.params.as_slice(), name) {
             return Ok(false);
         }
-        let mut kinds = Vec::new(alloc);
-        block_kinds(&function.body, Some(name), &mut kinds)?;
+        let kinds = function_kinds(alloc, function, Some(name))?;
         self.kinds_assign(alloc, name, kinds.as_slice())
     }
 

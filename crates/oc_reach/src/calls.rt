@@ -13,7 +13,7 @@ ghost use Rattle.oc_reach.specs.Views.{calls_seen, kinds_seen};
 
 use crate::marks::Marks;
 use crate::mentions::own_names;
-use crate::parts::{block_kinds, body_calls};
+use crate::parts::{body_calls, function_kinds};
 use crate::reach::Reach;
 use oc_names::table::{Table, function_table};
 use oc_tree::name::Name;
@@ -57,6 +57,16 @@ fn call_links(
     Ok(links)
 }
 
+/// Which functions lead to which, by their places. Err is want of memory.
+fn call_reach(alloc: Global, functions: &[Function], table: &Table) -> Result<Reach, AllocError>
+    requires { table.now ≡ function_names (map function_view functions.now) }
+    ensures { IfOk result
+        (λ r. r ≡ (call_links (map function_view functions.now), length functions.now)) }
+{
+    let links = call_links(alloc, functions, table)?;
+    Reach::new(alloc, functions.len(), links)
+}
+
 /// Whether a parameter has this name.
 pub fn has_param(params: &[Param], name: &Name) -> bool
     ensures { result ≡ has_param name.now params.now }
@@ -89,8 +99,7 @@ fn function_mentions(alloc: Global, function: &Function, name: &Name) -> Result<
     if has_param(function.params.as_slice(), name) {
         return Ok(false);
     }
-    let mut kinds = Vec::new(alloc);
-    block_kinds(&function.body, Some(name), &mut kinds)?;
+    let kinds = function_kinds(alloc, function, Some(name))?;
     Ok(some_names(kinds.as_slice(), name))
 }
 
@@ -143,8 +152,7 @@ impl<'a> Calls<'a> {
         ensures { IfOk result (λ c. c ≡ functions.now) }
     {
         let table = function_table(alloc, functions)?;
-        let links = call_links(alloc, functions, &table)?;
-        let reach = Reach::new(alloc, functions.len(), links)?;
+        let reach = call_reach(alloc, functions, &table)?;
         Ok(Calls {
             functions,
             table,

@@ -1,5 +1,6 @@
 //! The statements of a block in one list, and the calls of a statement.
 ghost use Rattle.std.specs.Prelude.{◌≡◌, ◌++◌, OnOk, IfOk};
+ghost use Rattle.std.specs.List.{flat_map};
 ghost use Rattle.oc_tree.specs.View.{arg_view, block_view, call_view, else_view, expr_view, function_view, kind_view, right_view};
 ghost use Rattle.oc_tree.specs.Calls.{arg_calls, block_kinds, body_calls, call_calls, else_kinds, expr_calls, hides, kind_hides, kind_kinds, own_calls, right_calls};
 ghost use Rattle.oc_names.specs.Seen.{name_seen};
@@ -190,15 +191,37 @@ pub fn block_kinds<'a>(
     Ok(())
 }
 
+/// The statements of a function, in source order; of a name, those where no variable hides it. Err
+/// is want of memory.
+pub fn function_kinds<'a>(
+    alloc: Global,
+    function: &'a Function,
+    of: Option<&Name>,
+) -> Result<Vec<&'a StmtKind>, AllocError>
+    ensures { IfOk result
+        (λ k. kinds_seen k.items
+        ≡ block_kinds (name_seen of.entry) (function_view function.now).body) }
+{
+    let mut kinds = Vec::new(alloc);
+    block_kinds(&function.body, of, &mut kinds)?;
+    Ok(kinds)
+}
+
+/// The calls of these statements. Err is want of memory.
+fn kinds_calls<'a>(alloc: Global, kinds: &[&'a StmtKind]) -> Result<Vec<&'a Call>, AllocError>
+    ensures { IfOk result (λ c. calls_seen c.items ≡ flat_map own_calls (kinds_seen kinds.now)) }
+{
+    let mut calls = Vec::new(alloc);
+    for kind in kinds {
+        own_calls(*kind, &mut calls)?;
+    }
+    Ok(calls)
+}
+
 /// All calls of a function.
 pub fn body_calls<'a>(alloc: Global, function: &'a Function) -> Result<Vec<&'a Call>, AllocError>
     ensures { IfOk result (λ c. calls_seen c.items ≡ body_calls (function_view function.now)) }
 {
-    let mut kinds = Vec::new(alloc);
-    block_kinds(&function.body, None, &mut kinds)?;
-    let mut calls = Vec::new(alloc);
-    for kind in &kinds {
-        own_calls(*kind, &mut calls)?;
-    }
-    Ok(calls)
+    let kinds = function_kinds(alloc, function, None)?;
+    kinds_calls(alloc, kinds.as_slice())
 }

@@ -9,7 +9,7 @@ ghost use Rattle.oc_reach.specs.Views.{calls_seen, kinds_seen};
 
 use crate::calls::Calls;
 use crate::params::{Params, own_param};
-use crate::parts::{block_kinds, body_calls};
+use crate::parts::{body_calls, function_kinds};
 use oc_names::table::{Table, param_table};
 use oc_tree::name::Name;
 use oc_tree::tree::{Arg, Call, Expr, Function, StmtKind};
@@ -157,8 +157,8 @@ fn add_function(
         (links.new.items ≡ links.old.items
         ++ function_links (map function_view params.now) first (function_view function.now)) }
 {
-    let names = param_table(alloc, function.params.as_slice())?;
     let body = body_calls(alloc, function)?;
+    let names = param_table(alloc, function.params.as_slice())?;
     add_calls(calls, params, first, &names, body.as_slice(), links)
 }
 
@@ -225,9 +225,8 @@ fn add_writes(
         (writes.new.items ≡ writes.old.items
         ++ function_writes first (function_view function.now)) }
 {
+    let kinds = function_kinds(alloc, function, None)?;
     let names = param_table(alloc, function.params.as_slice())?;
-    let mut kinds = Vec::new(alloc);
-    block_kinds(&function.body, None, &mut kinds)?;
     add_written(first, &names, kinds.as_slice(), writes)
 }
 

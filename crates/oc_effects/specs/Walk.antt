@@ -18,7 +18,7 @@ standing b around vs id line k =
       id = id;
       line = line;
       kind = k;
-      at = record { block = b; loops = 0; around = around; variables = vs };
+      at = record { block = b; around = around; variables = vs };
     }
 
 -- as the code has it

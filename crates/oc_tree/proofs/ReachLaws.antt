@@ -4,7 +4,7 @@ use Rattle.std.proofs.lemmas.Bool.{and_from, and_parts}
 use Rattle.std.specs.Prelude.{◌&&◌, ◌||◌}
 use Rattle.std.proofs.lemmas.Bool.Decides.{eqb_tells}
 use mathlib.Core.Logic.{inl, inr}
-use Rattle.oc_tree.specs.Reach.{Links, linked, leads_by, leads, one, count_below, rank}
+use Rattle.oc_tree.specs.Reach.{Links, linked, leads, one, count_below, rank}
 
 pub or_left : (a b : Bool) → a ≡ true → a || b ≡ true
 or_left a b h = subst (λ x. x || b ≡ true) (sym h) refl
@@ -17,7 +17,7 @@ pub or_elim : {C : Type 0} (a b : Bool) → a || b ≡ true → (a ≡ true → 
 or_elim true b h f g = f refl
 or_elim false b h f g = g h
 
-pub links_lead : (g : Links) (k u v : ℕ) → linked g u v ≡ true → leads_by g k u v ≡ true
+pub links_lead : (g : Links) (k u v : ℕ) → linked g u v ≡ true → leads g k u v ≡ true
 links_lead g zero u v h = h
 links_lead g (suc k) u v h = or_left _ _ (links_lead g k u v h)
 
@@ -43,31 +43,28 @@ step d a c xw kw wv wk f g h p q =
     (λ y. or_right d (a && c) (and_from a c (and_parts a kw x).0 (h (and_parts a kw x).1 y)))
     (λ y. or_right d (a && c) (and_from a c (and_parts a kw x).0 (and_parts wk c y).1)))
 
-pub leads_by_trans : (g : Links) (k u w v : ℕ) → w < k → leads_by g k u w ≡ true → leads_by g k w v ≡ true → leads_by g k u v ≡ true
-leads_by_trans g zero u w v h p q = absurd (omega arith)
-leads_by_trans g (suc k) u w v h p q =
-    let ih = leads_by_trans g k in
+pub leads_trans : (g : Links) (k u w v : ℕ) → w < k → leads g k u w ≡ true → leads g k w v ≡ true → leads g k u v ≡ true
+leads_trans g zero u w v h p q = absurd (omega arith)
+leads_trans g (suc k) u w v h p q =
+    let ih = leads_trans g k in
     elim (eqb_tells w k) [
       | inl e ↦ or_right _ _ (and_from _ _
-          (at_once (leads_by g k u k) (leads_by g k k k) (subst (λ x. leads_by g (suc k) u x ≡ true) e.1 p))
-          (at_once' (leads_by g k k k) (leads_by g k k v) (subst (λ x. leads_by g (suc k) x v ≡ true) e.1 q)))
+          (at_once (leads g k u k) (leads g k k k) (subst (λ x. leads g (suc k) u x ≡ true) e.1 p))
+          (at_once' (leads g k k k) (leads g k k v) (subst (λ x. leads g (suc k) x v ≡ true) e.1 q)))
       | inr n ↦
           let small : w < k = omega (arith, n.1) in
-          step (leads_by g k u v) (leads_by g k u k) (leads_by g k k v) (leads_by g k u w) (leads_by g k k w) (leads_by g k w v) (leads_by g k w k)
+          step (leads g k u v) (leads g k u k) (leads g k k v) (leads g k u w) (leads g k k w) (leads g k w v) (leads g k w k)
           (ih u w v small) (ih u w k small) (ih k w v small) p q
     ]
-
-pub leads_trans : (g : Links) (n u w v : ℕ) → w < n → leads g n u w ≡ true → leads g n w v ≡ true → leads g n u v ≡ true
-leads_trans g n u w v h p q = leads_by_trans g n u w v h p q
 
 pub least : (g : Links) (R : ℕ → ℕ → Type 0)
     → ((u v : ℕ) → linked g u v ≡ true → R u v)
     → ((u w v : ℕ) → R u w → R w v → R u v)
-    → (k u v : ℕ) → leads_by g k u v ≡ true → R u v
+    → (k u v : ℕ) → leads g k u v ≡ true → R u v
 least g R direct trans zero u v p = direct u v p
 least g R direct trans (suc k) u v p =
     let ih = least g R direct trans k in
-    or_elim (leads_by g k u v) (leads_by g k u k && leads_by g k k v) p (ih u v)
+    or_elim (leads g k u v) (leads g k u k && leads g k k v) p (ih u v)
     (λ x. trans u k v (ih u k (and_parts _ _ x).0) (ih k v (and_parts _ _ x).1))
 
 one_le : (a b : Bool) → (a ≡ true → b ≡ true) → one a ≤ one b

@@ -12,9 +12,8 @@ use Rattle.oc_tree.specs.Calls.{place, function_place, own_calls, block_kinds, b
 
 -- a parameter is passed by `&mut`
 abbrev pub is_mutable : Passing → Bool
-is_mutable Value = false
-is_mutable Shared = false
 is_mutable Mutable = true
+is_mutable _ = false
 
 -- the names of a function's parameters, in order
 abbrev pub param_names : TFunction → List Text

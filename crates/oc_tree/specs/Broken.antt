@@ -68,8 +68,7 @@ statement_rules p n h k =
 
 -- which rule speaks of the end of the source, and whether it is broken
 abbrev pub end_rules : TProgram → Table
-end_rules p =
-    (4, main_missing p) ∷ []
+end_rules p = (4, main_missing p) ∷ []
 
 -- which rules speak of an element, and whether it breaks them, where `n` counts up to it
 abbrev pub rules_of : TProgram → Tally → Element → Table

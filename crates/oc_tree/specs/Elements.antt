@@ -61,9 +61,8 @@ line_of (ending line) = line
 
 -- the kind of a variable with this type; where there is none, that of a number
 abbrev pub kind_of : Option Scalar → ValueKind
-kind_of (Some scalars.Int) = kinds.Int
 kind_of (Some scalars.Bool) = kinds.Bool
-kind_of None = kinds.Int
+kind_of _ = kinds.Int
 
 -- the variable that the `let` with this number declares
 abbrev pub let_var : Here → (id : ℕ) → (mut : Bool) → ValueKind → Var
@@ -130,15 +129,10 @@ abbrev mutual
   stmts_elements p h (more s ss) =
       stmt_elements p (before_stmts h ss) s ++ stmts_elements p (after_stmt p h s) ss
 
--- where the first statement of a function's body stands; `number` is the function's place
+-- where the first statement of a function's body stands; `n` is the function's place
 abbrev pub in_function : TFunction → ℕ → Here
-in_function f number = record {
-  function = f;
-  number = number;
-  scope = with_params [] f.params;
-  block = 0;
-  last = true;
-}
+in_function f n =
+    record { function = f; number = n; scope = with_params [] f.params; block = 0; last = true }
 
 -- the declaration of a sensor or a port of this name, where there is one
 abbrev pub named_element : (Text → Item) → Before → (line : ℕ) → Option Text → List Element
@@ -147,9 +141,8 @@ named_element item b line None = []
 
 -- the declaration of a nonvolatile variable, where there is one
 abbrev pub nv_element : Before → (line : ℕ) → Option Text → Option NvDecl → List Element
-nv_element b line None d = []
-nv_element b line (Some x) None = []
 nv_element b line (Some x) (Some d) = declared b line (nv_item x d) ∷ []
+nv_element b line x d = []
 
 -- the head of a function, where there is one, and the statements of its body
 abbrev pub function_elements : TProgram → Before → (line : ℕ) → Option TFunction → List Element

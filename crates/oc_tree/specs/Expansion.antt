@@ -170,13 +170,7 @@ abbrev mutual
 
 -- the expansion of a function, whose pulls are numbered from `k` and its statements from `i`
 abbrev pub expand_function : (k i : ℕ) → TFunction → TFunction
-expand_function k i f = record {
-  name = f.name;
-  line = f.line;
-  params = f.params;
-  result = f.result;
-  body = expand_block k i f.body;
-}
+expand_function k i f = record f { body = expand_block k i f.body }
 
 -- the expansions of functions, whose pulls are numbered from `k` and their statements from `i`
 abbrev pub expand_functions : (k i : ℕ) → List TFunction → List TFunction
@@ -186,13 +180,7 @@ expand_functions k i (f ∷ fs) =
 
 -- the expansion of a program: each pull is a `let` of a temporary before its statement
 abbrev pub expansion : TProgram → TProgram
-expansion p = record {
-  names = p.names;
-  nv = p.nv;
-  functions = expand_functions 1 1 p.functions;
-  order = p.order;
-  last_line = p.last_line;
-}
+expansion p = record p { functions = expand_functions 1 1 p.functions }
 
 -- A group is told by the numbers of its first and its last statement, which is the written one.
 abbrev mutual

@@ -20,8 +20,6 @@ find_variable vs x = named_in vs x
 pub record Place : Type 0 where
   -- the number of the block in which it stands directly
   pub block : ℕ
-  -- how many loops it stands in
-  pub loops : ℕ
   -- the numbers of the statements in which it stands, the innermost first
   pub around : List ℕ
   -- the variables that are visible there, besides the nonvolatile ones
@@ -65,12 +63,7 @@ in_branch at id = record at { around = id ∷ at.around }
 
 -- the place in the loop with this number, which declares these variables
 abbrev pub in_loop : Place → (id : ℕ) → Variables → Place
-in_loop at id vs = record {
-  block = at.block;
-  loops = at.loops + 1;
-  around = id ∷ at.around;
-  variables = at.variables ++ vs;
-}
+in_loop at id vs = record at { around = id ∷ at.around; variables = at.variables ++ vs }
 
 abbrev mutual
   -- the statements inside the statement with this number, each with its place
@@ -105,7 +98,7 @@ param_variables i (q ∷ qs) = (q.name, variables.Param i) ∷ param_variables (
 
 -- the place in front of a function's body
 abbrev pub at_start : TFunction → Place
-at_start f = record { block = 0; loops = 0; around = []; variables = param_variables 0 f.params }
+at_start f = record { block = 0; around = []; variables = param_variables 0 f.params }
 
 -- all statements of a program, each with its place
 abbrev pub program_placed : TProgram → List Placed

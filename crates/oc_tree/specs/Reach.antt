@@ -14,14 +14,10 @@ is_link u v l = nat_eq l.0 u && nat_eq l.1 v
 abbrev pub linked : Links → ℕ → ℕ → Bool
 linked links u v = list_any (is_link u v) links
 
--- `u` leads to `v` directly, or through numbers below `k`
-abbrev pub leads_by : Links → ℕ → ℕ → ℕ → Bool
-leads_by links zero u v = linked links u v
-leads_by links (suc k) u v = leads_by links k u v || (leads_by links k u k && leads_by links k k v)
-
--- among `n` numbers `u` leads to `v`, directly or through others
+-- `u` leads to `v` directly, or through numbers below `n`
 abbrev pub leads : Links → ℕ → ℕ → ℕ → Bool
-leads links n u v = leads_by links n u v
+leads links zero u v = linked links u v
+leads links (suc n) u v = leads links n u v || (leads links n u n && leads links n n v)
 
 -- `u` is `v`, or leads to it
 abbrev pub reaches : Links → ℕ → ℕ → ℕ → Bool

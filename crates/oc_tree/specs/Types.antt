@@ -21,8 +21,7 @@ use Rattle.oc_tree.specs.Scope.{Scope, variable_of, function_named}
 -- a parameter is passed by `&` or `&mut`
 abbrev pub is_by_reference : Passing → Bool
 is_by_reference passings.Value = false
-is_by_reference passings.Shared = true
-is_by_reference passings.Mutable = true
+is_by_reference _ = true
 
 -- a variable is a parameter by reference
 abbrev pub is_reference : Origin → Bool
@@ -37,9 +36,8 @@ scalar_of (kinds.Array words) = None
 
 -- how many words a value of this kind has
 abbrev pub kind_words : ValueKind → ℕ
-kind_words kinds.Int = 1
-kind_words kinds.Bool = 1
 kind_words (kinds.Array words) = words
+kind_words _ = 1
 
 -- a kind is that of an array
 abbrev pub is_array : ValueKind → Bool
@@ -111,17 +109,16 @@ result_of (Some f) = f.result
 abbrev pub call_type : TProgram → TCall → Option Scalar
 call_type p c = result_of (function_named p (callee c))
 
--- the type of an expression by what stands on top of it; none where a name has none
+-- the type of an expression by what stands on top of it; none where a name has none. A number, an
+-- element of an array and an input are numbers
 abbrev pub type_of : TProgram → Scope → TExpr → Option Scalar
-type_of p scope (number n) = Some scalars.Int
 type_of p scope (truth b) = Some scalars.Bool
 type_of p scope (variable x) = value_type (variable_of p scope x)
-type_of p scope (index x i) = Some scalars.Int
 type_of p scope (deref x) = pointed_type (variable_of p scope x)
 type_of p scope (unary op e) = Some (unary_type op)
 type_of p scope (binary op a b) = Some (binary_type op)
-type_of p scope (sensed s) = Some scalars.Int
 type_of p scope (called c) = call_type p c
+type_of p scope e = Some scalars.Int
 
 -- the type of a right side
 abbrev pub right_type : TProgram → Scope → TRight → Option Scalar

@@ -4,7 +4,7 @@ use Rattle.std.specs.Prelude.{◌&&◌, ◌||◌, List, [], ◌∷◌, length}
 use Rattle.std.proofs.Math.ListN.{get_or}
 use Rattle.std.proofs.lemmas.Bool.{eqb-true}
 use Rattle.oc_tree.specs.Tree.{TFunction}
-use Rattle.oc_tree.specs.Reach.{Links, linked, leads_by, some_below, reaches, reaches_some}
+use Rattle.oc_tree.specs.Reach.{Links, linked, leads, some_below, reaches, reaches_some}
 use Rattle.oc_tree.specs.Names.{Text}
 use Rattle.oc_tree.specs.Calls.{call_links}
 use Rattle.oc_tree.specs.Assigned.{first_params, param_assigned, param_count, pass_links, reaches_assign}
@@ -32,7 +32,7 @@ module _ (links : Links) (n u : ℕ) (within : IsWithin links n) (past : n ≤ u
       by_test true e = absurd (let w = within u v e in let l : u < n = w.0 in omega (arith, l, past))
       by_test false e = refl
 
-  not_leads : (k v : ℕ) → leads_by links k u v ≡ false
+  not_leads : (k v : ℕ) → leads links k u v ≡ false
   not_leads zero v = not_linked v
   not_leads (suc k) v = rw (not_leads k v, not_leads k k) refl
 
@@ -44,7 +44,7 @@ module _ (links : Links) (n u : ℕ) (within : IsWithin links n) (past : n ≤ u
       by_test false e = refl
 
   reaches_none : (test : ℕ → Bool) → reaches_some links n test u ≡ false
-  reaches_none test = none_below n (λ v. test v && reaches links n u v) (λ v l. and_false (test v) (reaches links n u v) (or_false (nat_eq u v) (leads_by links n u v) (not_same v l) (not_leads n v)))
+  reaches_none test = none_below n (λ v. test v && reaches links n u v) (λ v l. and_false (test v) (reaches links n u v) (or_false (nat_eq u v) (leads links n u v) (not_same v l) (not_leads n v)))
 
 pub no_param : (fs : List TFunction) (n : ℕ) → param_count fs ≤ n → param_assigned fs n ≡ false
 no_param fs n h = reaches_none (pass_links fs) (param_count fs) n (passes_within fs) h _

@@ -45,7 +45,7 @@ DECIDING = """
     oc_isa/Listing: code_line
     oc_undo/Undo: undo has_entry
     oc_bounds/Attempts: steps_after Closes
-    oc_bounds/Bounds: AreLong AreSafe
+    oc_bounds/Bounds: AreLong
     oc_bounds/Headway: least AddUp
     oc_ckpt/Saving: saved_words save_all
     oc_sensors/History: history

@@ -1,3 +1,4 @@
+pub mod Lasting
 pub mod Unlogged
 pub mod Leaving
 pub mod Ahead

@@ -4,7 +4,8 @@ use Rattle.std.specs.Prelude.{nat_lt, if◌then◌else◌}
 use Rattle.std.proofs.lemmas.Bool.{ltb-true, ltb-false}
 use Rattle.oc_isa.specs.Next.{Regs, Next, Goes, Senses, Enters, Commits, Ends, Stuck, Device, pushed, written}
 use Rattle.oc_isa.specs.Run.{Core, core_at, start_of}
-use Rattle.oc_bounds.specs.Bounds.{Bounds, Lasts, Takes, IsBrief, IsBounded, opens, lasts_next, goes_on_commit, takes_next, enter_steps}
+use Rattle.oc_bounds.specs.Bounds.{Bounds, Takes, IsBrief, IsBounded, opens, goes_on_commit, takes_next, enter_steps}
+use Rattle.oc_bounds.proofs.Lasting.{Lasts, lasts_next, lasts_whole}
 use Rattle.oc_bounds.specs.Headway.{least, two_steps}
 use Rattle.oc_bounds.proofs.Carrying.{IsLeast}
 
@@ -125,4 +126,4 @@ module _ (d : Device) (b : Bounds) where
 
   -- the steps of a whole run, by the number of its instructions
   pub takes_whole : (most t : ℕ) → ((r : ℕ) (c : Core) → IsBrief d b r c → b.logged r ≤ most) → b.total * two_steps d b most ≤ 2 * t → IsBounded d b → Takes d b b.total t (start_of d)
-  takes_whole most t few le q = takes_in (nat_lt b.safe (2 * d.room + 9)) most t refl few le q.lasts
+  takes_whole most t few le q = takes_in (nat_lt b.safe (2 * d.room + 9)) most t refl few le (lasts_whole d b q)

@@ -7,7 +7,8 @@ use Rattle.oc_tree.specs.declared.said.Said.TheVariants.{Sensed, Showed, Entered
 use Rattle.oc_tree.specs.declared.said.Shown.{Shown}
 use Rattle.oc_isa.specs.Next.{Regs, Next, Goes, Senses, Enters, Commits, Ends, Stuck, Device, pushed, written}
 use Rattle.oc_isa.specs.Run.{Core, core_at, start_of, Onward, AreWords, then_shown, then_entered, run_sense, run_commit, follow, run_on, continuous_run}
-use Rattle.oc_bounds.specs.Bounds.{Bounds, Lasts, Takes, opens, lasts_next, goes_on_commit, takes_next, enter_steps}
+use Rattle.oc_bounds.specs.Bounds.{Bounds, Takes, opens, goes_on_commit, takes_next, enter_steps}
+use Rattle.oc_bounds.proofs.Lasting.{Lasts, lasts_next}
 
 abbrev IsWord : ℤ → Type 0
 IsWord x = is_word x ≡ true

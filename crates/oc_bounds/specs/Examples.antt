@@ -5,7 +5,7 @@ use Rattle.oc_tree.specs.declared.said.Said.TheVariants.{Committed, Aborted}
 use Rattle.oc_isa.specs.Table.{device_of}
 use Rattle.oc_isa.specs.Worked.{fresh_image}
 use Rattle.oc_bounds.specs.Attempts.{steps_after, Closes}
-use Rattle.oc_bounds.specs.Bounds.{Bounds, AreLong, AreSafe}
+use Rattle.oc_bounds.specs.Bounds.{Bounds, AreLong}
 use Rattle.oc_bounds.specs.Headway.{least, AddUp}
 
 -- 10 steps, 5 ticks without power, and 20 steps
@@ -34,21 +34,16 @@ pub AreLong_example :
     ≡ ((12 ≤ 10) × (false ≡ false) × ((12 ≤ 20) × (false ≡ false) × Unit {0}))
 AreLong_example = refl
 
+-- that three have 10 asks for one more
+pub AreLong_example_more :
+    AreLong 10 3 two_periods
+    ≡ ((10 ≤ 10) × (false ≡ false) × ((10 ≤ 20) × (false ≡ false) × ⊥))
+AreLong_example_more = refl
+
 -- bounds by which a period is safe with so many steps
 abbrev pub safe_with : (safe : ℕ) → Bounds
 safe_with safe =
     record { spent = λ r. 7; logged = λ r. 0; total = 9; steps = 14; safe = safe }
-
--- that the first period is safe asks what it has
-pub AreSafe_example :
-    AreSafe (safe_with 10) 1 two_periods ≡ ((10 ≤ 10) × (false ≡ false) × Unit {0})
-AreSafe_example = refl
-
--- and that three are asks for one more
-pub AreSafe_example_more :
-    AreSafe (safe_with 10) 3 two_periods
-    ≡ ((10 ≤ 10) × (false ≡ false) × ((10 ≤ 20) × (false ≡ false) × ⊥))
-AreSafe_example_more = refl
 
 -- `fresh_image` has a stack of 2 words: a boot with a full stack and what comes next take 13 steps,
 -- and a safe period of 20 steps has 14 of them for an attempt

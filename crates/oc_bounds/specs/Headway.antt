@@ -8,7 +8,7 @@ use Rattle.oc_isa.specs.declared.phase.Phase.TheVariants.{Over}
 use Rattle.oc_isa.specs.Next.{Device}
 use Rattle.oc_isa.specs.Power.{is_over, power_run}
 use Rattle.oc_outage.specs.Kept.{kept_after}
-use Rattle.oc_bounds.specs.Bounds.{Bounds, AreLong, AreSafe}
+use Rattle.oc_bounds.specs.Bounds.{Bounds, AreLong}
 
 -- Periods
 
@@ -50,7 +50,7 @@ pub record HaveEnough (d : Device) (b : Bounds) (periods : List Period) : Type 0
 -- the steps of the run, or they have steps enough by the numbers that are printed
 abbrev pub Suffice : Device → Bounds → List Period → Type 0
 Suffice d b periods =
-    AreSafe b (suc b.total) periods
+    AreLong b.safe (suc b.total) periods
     ⊎ (AreLong (least d b) b.total periods
     ⊎ (AddUp (least d b) b.steps periods ⊎ HaveEnough d b periods))
 

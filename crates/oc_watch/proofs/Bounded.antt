@@ -32,7 +32,8 @@ use Rattle.oc_code.proofs.Calls.{fair, calls_run}
 use Rattle.oc_code.proofs.Regions.{region_holds}
 use Rattle.oc_code.proofs.Whole.{code_stands, small_of, some_words, main_holds}
 use Rattle.oc_code.proofs.Law.{formed_right}
-use Rattle.oc_bounds.specs.Bounds.{Bounds, Lasts, Takes, IsBounded}
+use Rattle.oc_bounds.specs.Bounds.{Bounds, Takes, IsBounded}
+use Rattle.oc_bounds.proofs.Lasting.{Lasts}
 use Rattle.oc_bounds.proofs.Lists.{all_lists}
 use Rattle.oc_bounds.proofs.Tolls.{tolls, toll, takes_said}
 use Rattle.oc_watch.specs.Entries.{run_toll}
@@ -192,4 +193,4 @@ module _ (p : TProgram) (regions : List TRegion) (targets : List (List Target)) 
 
     -- so the code of a formed program keeps within the bounds that its tree has
     pub bounded : AllFit → cost_to p regions (length p.functions) (codes "main") ≤ b.total → b.total + run_toll p regions (toll d b) ≤ b.steps → d.room + 6 ≤ b.safe → IsBounded d b
-    bounded fit most steps safe = record { lasts = whole_lasts fit most; takes = takes_in steps (whole_lasts fit most); safe = safe }
+    bounded fit most steps safe = record { takes = takes_in steps (whole_lasts fit most); safe = safe }

@@ -5,7 +5,8 @@ use Rattle.oc_tree.specs.Word.{is_word}
 use Rattle.oc_tree.specs.declared.said.Said.{Said}
 use Rattle.oc_isa.specs.Next.{Regs, Next, Goes, Senses, Enters, Commits, Ends, Stuck, Device}
 use Rattle.oc_isa.specs.Run.{Core, start_of, Onward, run_on, run_sense, run_commit, follow, AreWords, continuous_run}
-use Rattle.oc_bounds.specs.Bounds.{Bounds, Claim, IsBounded, Lasts, lasts_next, goes_on_commit, sampled}
+use Rattle.oc_bounds.specs.Bounds.{Bounds, Claim, IsBounded, goes_on_commit, sampled}
+use Rattle.oc_bounds.proofs.Lasting.{Lasts, lasts_next, lasts_whole}
 
 abbrev IsWord : ℤ → Type 0
 IsWord x = is_word x ≡ true
@@ -41,4 +42,4 @@ module _ (d : Device) (b : Bounds) where
   settled (suc n) (suc m) le xs c out ws h = same_next (Lasts d b n) (run_on d m) (run_on d n) (settled n m (omega (arith, le))) (d.next c.regs c.nv) xs c out ws h.1
 
 pub run_settles : (d : Device) (b : Bounds) (xs : List ℤ) (n : ℕ) → IsBounded d b → AreWords xs → b.total ≤ n → continuous_run d xs n ≡ continuous_run d xs b.total
-run_settles d b xs n bounded ws le = settled d b b.total n le xs (start_of d) [] ws bounded.lasts
+run_settles d b xs n bounded ws le = settled d b b.total n le xs (start_of d) [] ws (lasts_whole d b bounded)

@@ -1,6 +1,6 @@
 -- Which programs the tokens spell.
 use Rattle.std.specs.Prelude.{ℕ, ℤ, Bool, true, false, List, [], ◌∷◌, ◌++◌, Option, Some, None}
-use Rattle.oc_tree.specs.Names.{Text}
+use Rattle.oc_tree.specs.Names.{Text, NameLists}
 use Rattle.oc_tree.specs.Tree.{TBlock, TFunction, TProgram}
 use Rattle.oc_tree.specs.declared.tree.Scalar.{Scalar}
 use Rattle.oc_tree.specs.declared.tree.ValueKind.{ValueKind}
@@ -130,15 +130,14 @@ pub data SpellsItems (limits : Limits) : TProgram → Position → TProgram → 
   an_item : {p q r : TProgram} {x y : Position}
       → SpellsItem limits p x q y → SpellsItems limits q y r → SpellsItems limits p x r
 
+-- no sensor, port or nonvolatile variable
+abbrev pub no_names : NameLists
+no_names = record { sensors = []; ports = []; nvs = [] }
+
 -- a program that declares nothing, with the line of the last token
 abbrev pub empty_program : ℕ → TProgram
-empty_program line = record {
-  names = record { sensors = []; ports = []; nvs = [] };
-  nv = [];
-  functions = [];
-  order = [];
-  last_line = line;
-}
+empty_program line =
+    record { names = no_names; nv = []; functions = []; order = []; last_line = line }
 
 -- the tokens spell the program, within the limits
 abbrev pub SpellsProgram : Limits → TProgram → Lexemes → Type 0

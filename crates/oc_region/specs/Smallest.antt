@@ -39,18 +39,16 @@ abbrev pub groups_in : TProgram → List Group → (block : ℕ) → List ℕ �
 groups_in p groups block ss =
     flat_map (λ s. option_to_list (option_and_then (group_of p groups) (in_block p block s))) ss
 
--- a requirement's range, as a region without a number: in the innermost block in which all its sites stand, from the
--- group of the first of them to that of the last
+-- a range of a block for a requirement, as a region without a number and without reasons
+abbrev pub range_of : TRequirement → (block : ℕ) → Group → TRegion
+range_of r block g =
+    record { id = 0; function = r.function; block = block; first = g.0; last = g.1; reasons = [] }
+
+-- the range of a requirement in a block in which all its sites stand: from the group of the first
+-- of them to that of the last
 abbrev pub range_in : TProgram → List Group → TRequirement → (block : ℕ) → Option TRegion
 range_in p groups r block =
-    option_map (λ g. record {
-      id = 0;
-      function = r.function;
-      block = block;
-      first = g.0;
-      last = g.1;
-      reasons = [];
-    }) (spread (groups_in p groups block r.sites))
+    option_map (range_of r block) (spread (groups_in p groups block r.sites))
 
 -- the smallest range that holds the sites of a requirement
 abbrev pub smallest : TProgram → List Group → TRequirement → Option TRegion

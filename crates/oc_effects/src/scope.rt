@@ -1,5 +1,6 @@
 //! The visible variables of a function.
-ghost use Rattle.std.specs.Prelude.{◌≡◌, ◌++◌, ◌∷◌, [], take, length, OnOk};
+ghost use Rattle.std.specs.Prelude.{◌≡◌, ◌++◌, ◌∷◌, [], take, length, true, OnOk};
+ghost use Rattle.std.specs.Str.{bytes_eq};
 ghost use Rattle.oc_tree.specs.Places.{find_variable};
 
 use oc_tree::name::Name;
@@ -28,6 +29,24 @@ impl<'a> Model for Scope<'a> {
     ghost Value = { List (Text × VarId) };
 
     ghost view = { λ s. map (λ b. (b.name.now, b.variable)) s.bindings.items };
+}
+
+/// Whether names end with the same byte, as the same names do.
+fn ends_alike(name: &[u8], other: &[u8]) -> bool
+    ensures { name.now ≡ other.now → result ≡ true }
+{
+    match (name.last(), other.last()) {
+        (Some(end), Some(other_end)) => *end == *other_end,
+        _ => true,
+    }
+}
+
+/// Whether two names are the same. Most that differ have another length or another last byte, which
+/// are looked at first.
+fn is_same_name(name: &[u8], other: &[u8]) -> bool
+    ensures { result ≡ bytes_eq name.now other.now }
+{
+    name.len() == other.len() && ends_alike(name, other) && name == other
 }
 
 impl<'a> Scope<'a> {
@@ -70,7 +89,7 @@ impl<'a> Scope<'a> {
         ensures { result ≡ find_variable self.now name.now }
     {
         for binding in &self.bindings {
-            if name.bytes() == binding.name {
+            if is_same_name(name.bytes(), binding.name) {
                 return Some(binding.variable);
             }
         }

@@ -1,7 +1,6 @@
 //! The inference of regions.
 ghost use Rattle.std.specs.Prelude.{◌≡◌, map, All, IfOk, IfErr};
 ghost use Rattle.std.specs.List.{list_any};
-ghost use Rattle.oc_tree.specs.Checked.{IsChecked};
 ghost use Rattle.oc_tree.specs.Members.{IsOf};
 ghost use Rattle.oc_tree.specs.Regions.{region_view};
 ghost use Rattle.oc_needs.specs.Policies.{policies};
@@ -10,6 +9,7 @@ ghost use Rattle.oc_needs.specs.View.{requirement_view};
 ghost use Rattle.oc_honest.specs.Timely.{RunsAreTimely};
 ghost use Rattle.oc_timely.specs.Covering.{IsMet};
 ghost use Rattle.oc_region.specs.Law.{HasSmallest};
+ghost use Rattle.oc_region.specs.Inferred.{AreInferred};
 ghost use Rattle.oc_region.specs.Regions.{by_first, is_inside, marked, outermost, regions, united};
 ghost use Rattle.oc_region.specs.Views.{ask_view, numbered_for, stretch_view, with_reasons};
 
@@ -118,23 +118,54 @@ fn regions(
 }
 
 /// The policies and the regions of a program.
-fn parts(
+#[derive(Drop)]
+pub struct Inferred {
+    pub policies: Vec<Policy>,
+    pub regions: Vec<Region>,
+}
+
+/// The policies and the regions of a program, by what its statements do and by its requirements.
+pub fn infer_by(
+    alloc: Global,
+    effects: &Effects,
+    required: &[Requirement],
+) -> Result<Inferred, AllocError>
+    requires { map requirement_view required.now ≡ requirements effects.now.program }
+    ensures { IfOk result (λ r. AreInferred effects.now.program effects.now.groups r) }
+{
+    let policies = policies(alloc, effects)?;
+    let regions = regions(alloc, effects, required)?;
+    Ok(Inferred { policies, regions })
+}
+
+/// The program with its policies and regions.
+pub fn mark(checked: Checked, inferred: Inferred) -> Marked
+    requires { AreInferred checked.program checked.groups inferred }
+    ensures marked { result ≡ marked checked.program checked.groups }
+    // Each requirement has a range, which is the smallest one that holds its sites.
+    ensures smallest { All (HasSmallest checked.program checked.groups)
+        (requirements checked.program) }
+    // One region covers all sites of a requirement.
+    ensures met { (r : TRequirement) → IsOf r (requirements result.program) → IsMet result r }
+    // With outages anywhere outside of regions, each run is timely.
+    ensures timely { RunsAreTimely result }
+{
+    // For the proof alone: it tells that the program is checked.
+    checked.program();
+    Marked::new(checked, inferred.policies, inferred.regions)
+}
+
+/// The policies and the regions of a program whose effects are made here.
+fn infer_of(
     alloc: Global,
     checked: &Checked,
     required: &[Requirement],
-) -> Result<(Vec<Policy>, Vec<Region>), AllocError>
+) -> Result<Inferred, AllocError>
     requires { map requirement_view required.now ≡ requirements checked.now.program }
-    ensures policies { IfOk result (λ v. v.0.items ≡ policies checked.now.program) }
-    ensures regions { IfOk result
-        (λ v. map region_view v.1.items ≡ regions checked.now.program checked.now.groups) }
-    ensures checked { IsChecked checked.now.program checked.now.groups }
+    ensures { IfOk result (λ r. AreInferred checked.now.program checked.now.groups r) }
 {
-    // For the proof alone: it tells that the program is checked.
-    let _program = checked.program();
     let effects = Effects::new(alloc, checked)?;
-    let policies = policies(alloc, &effects)?;
-    let regions = regions(alloc, &effects, required)?;
-    Ok((policies, regions))
+    infer_by(alloc, &effects, required)
 }
 
 /// The program with its policies and regions, by its requirements. On want of memory the checked
@@ -156,8 +187,8 @@ pub fn infer(
     // With outages anywhere outside of regions, each run is timely.
     ensures timely { IfOk result (λ m. RunsAreTimely m) }
 {
-    match parts(alloc, &checked, required) {
-        Ok((policies, regions)) => Ok(Marked::new(checked, policies, regions)),
+    match infer_of(alloc, &checked, required) {
+        Ok(inferred) => Ok(mark(checked, inferred)),
         Err(_) => Err((checked, Memory)),
     }
 }

@@ -10,4 +10,4 @@ mod range;
 mod smallest;
 mod unite;
 
-pub use inference::infer;
+pub use inference::{Inferred, infer, infer_by, mark};

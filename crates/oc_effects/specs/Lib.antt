@@ -3,3 +3,4 @@ pub mod View
 pub mod Walk
 pub mod Known
 pub mod Flat
+pub mod Kept

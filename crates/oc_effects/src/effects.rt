@@ -8,6 +8,7 @@ ghost use Rattle.oc_tree.specs.Regions.{region_view};
 ghost use Rattle.oc_tree.specs.View.{function_view};
 ghost use Rattle.oc_effects.specs.Effects.{effect_of, effects_at, function_effects, is_numbered};
 ghost use Rattle.oc_effects.specs.Flat.{all_effects, starts_from};
+ghost use Rattle.oc_effects.specs.Kept.{AreKeptOf};
 ghost use Rattle.oc_effects.specs.View.{effect_view, effect_seen};
 
 use crate::effect::Effect;
@@ -120,6 +121,13 @@ impl<'a> Model for Effects<'a> {
         e.starts.items };
 }
 
+/// The effects of a program's statements without the program, for as long as that has another owner.
+#[derive(Drop)]
+pub struct Kept {
+    effects: Vec<Effect>,
+    starts: Vec<usize>,
+}
+
 impl<'a> Effects<'a> {
     /// The effects of a program. It goes over the tree once.
     pub fn new(alloc: Global, checked: &'a Checked) -> Result<Effects<'a>, AllocError>
@@ -133,6 +141,30 @@ impl<'a> Effects<'a> {
             effects,
             starts,
         })
+    }
+
+    /// The effects, which no longer borrow the program.
+    pub fn into_kept(self) -> Kept
+        ensures { AreKeptOf self.entry.program result }
+    {
+        // For the proof alone: the view speaks of this field.
+        let _checked = self.checked;
+        Kept {
+            effects: self.effects,
+            starts: self.starts,
+        }
+    }
+
+    /// The effects of a program that were kept without it.
+    pub fn from_kept(checked: &'a Checked, kept: Kept) -> Effects<'a>
+        requires { AreKeptOf checked.now.program kept }
+        ensures { result ≡ checked.now }
+    {
+        Effects {
+            checked,
+            effects: kept.effects,
+            starts: kept.starts,
+        }
     }
 
     /// The program.

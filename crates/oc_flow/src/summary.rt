@@ -61,6 +61,15 @@ impl<'a> Summaries<'a> {
         &self.effects
     }
 
+    /// The same, given away.
+    pub fn into_effects(self) -> Effects<'a>
+        ensures { result ≡ self.entry }
+    {
+        // For the proof alone: the view or the invariant speaks of this field.
+        let _known = &self.known;
+        self.effects
+    }
+
     /// Whether `u` flows into `v` in the function at a place; not so where there is no such function
     /// or no such variable of it.
     pub fn flows(&self, function: u32, u: VarId, v: VarId) -> bool

@@ -4,7 +4,7 @@ use Rattle.oc_tree.specs.Tree.{TProgram}
 use Rattle.oc_tree.specs.Marked.{TRegion, TMarked, IsMarked}
 use Rattle.oc_honest.specs.Honest.{TReport, IsHonest, BreaksAt}
 use Rattle.oc_judge.specs.Verdicts.{reported}
-use Rattle.oc_audit.specs.Findings.{Spells, IsFinding}
+use Rattle.oc_audit.specs.Findings.{SpellsReport, IsFinding}
 use Rattle.oc_audit.specs.declared.audit.Finding.{Finding}
 use Rattle.oc_audit.specs.declared.audit.Finding.TheVariants as finding
 use Rattle.oc_audit.proofs.OneWay.{longer, same_length, one_bad_line, no_bad_line}
@@ -25,12 +25,12 @@ module _ (p : TProgram) (regions : List TRegion) (r : TReport) where
   one_break n m b c = b.number ∙ ap suc (same_length (length b.before) (length c.before) (no_later n m b c) (no_later m n c b)) ∙ sym c.number
 
 module _ (m : TMarked) (is : IsMarked m) (bytes : List ℕ) where
-  same_report : (r q : TReport) → Spells m.program bytes r → Spells m.program bytes q → r ≡ q
+  same_report : (r q : TReport) → SpellsReport m.program bytes r → SpellsReport m.program bytes q → r ≡ q
   same_report r q a b =
       let one = one_report m.program m.groups is.checked bytes a.items b.items a.nv b.nv a.file b.file in
       a.is ∙ ap (λ l. reported l a.nv) one.0 ∙ ap (λ v. reported b.items v) one.1 ∙ sym b.is
 
-  none_bad : (n : ℕ) (r : TReport) → Spells m.program bytes r → IsFinding m.program m.regions bytes (finding.BadLine n) → ⊥
+  none_bad : (n : ℕ) (r : TReport) → SpellsReport m.program bytes r → IsFinding m.program m.regions bytes (finding.BadLine n) → ⊥
   none_bad n r s b = no_bad_line m.program.names (map (λ d. d.words) m.program.nv) bytes n s.items s.file.words s.file.file b
 
   pub one_finding : (f g : Finding) → IsFinding m.program m.regions bytes f → IsFinding m.program m.regions bytes g → f ≡ g

@@ -9,7 +9,7 @@ use Rattle.oc_items.specs.declared.item.Item.{Item}
 use Rattle.oc_items.specs.Text.{full_text, is_over}
 use Rattle.oc_items.specs.OneText.{AreApart, IsItem, is_field}
 use Rattle.oc_items.proofs.NvBack.{one_report}
-use Rattle.oc_audit.specs.Files.{IsFile, IsReportFile, lines, onto_line, ended, Begins, EndsBadly, bad, early, IsBadLine}
+use Rattle.oc_audit.specs.Files.{IsFile, IsReportFile, lines, onto_line, ended, BeginsReport, EndsBadly, bad, early, IsBadLine}
 use Rattle.oc_audit.specs.Laws.{ReadsBack}
 use Rattle.oc_audit.proofs.ReadBack.{length-both, lines-append, last_byte, last_full}
 
@@ -31,7 +31,7 @@ same_length (suc i) zero h k = absurd (k (omega arith))
 same_length (suc i) (suc j) h k = ap suc (same_length i j (λ l. h (omega (arith, l))) (λ l. k (omega (arith, l))))
 
 module _ (names : NameLists) (sizes : List ℕ) where
-  begins_front : (ls more : List (List ℕ)) → Begins names sizes (ls ++ more) → Begins names sizes ls
+  begins_front : (ls more : List (List ℕ)) → BeginsReport names sizes (ls ++ more) → BeginsReport names sizes ls
   begins_front ls more b = record {
     items = b.items;
     words = b.words;
@@ -45,10 +45,10 @@ module _ (names : NameLists) (sizes : List ℕ) where
     tail_of before (early e none) = ([], e ∙ sym (append-nil before))
 
     -- no bad line stands behind another
-    no_later : (before later : List (List ℕ)) → EndsBadly names sizes bytes before → Begins names sizes later → (tail : List (List ℕ)) → lines bytes ≡ later ++ tail → length before < length later → ⊥
+    no_later : (before later : List (List ℕ)) → EndsBadly names sizes bytes before → BeginsReport names sizes later → (tail : List (List ℕ)) → lines bytes ≡ later ++ tail → length before < length later → ⊥
     no_later before later (bad line rest e none) b tail t l =
         let m = longer before later line rest tail (sym e ∙ t) l in
-        none (begins_front (before ++ line ∷ []) m.0 (subst (Begins names sizes) m.1 b))
+        none (begins_front (before ++ line ∷ []) m.0 (subst (BeginsReport names sizes) m.1 b))
     no_later before later (early e none) b tail t l =
         let n : length before ≡ length later + length tail = ap length (sym e ∙ t) ∙ length-both later tail in
         absurd (omega (arith, n, l))

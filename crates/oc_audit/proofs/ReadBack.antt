@@ -21,7 +21,7 @@ use Rattle.oc_items.specs.Reading.{place_of}
 use Rattle.oc_items.proofs.Fields.{AllFields, after_line, line_cut, line_after, decimal_field, begins_with_digit}
 use Rattle.oc_items.proofs.Numbers.{signed_field}
 use Rattle.oc_audit.specs.Words.{spaced, IsWordsLine}
-use Rattle.oc_audit.specs.Files.{IsFile, lines, onto_line, ended, Begins}
+use Rattle.oc_audit.specs.Files.{IsFile, lines, onto_line, ended, BeginsReport}
 use Rattle.oc_audit.specs.Taking.{Taken, TakesItem, TakesWords, TakesNone, has_no_feed, IsRead, AreNames}
 
 -- ---- lists
@@ -401,7 +401,7 @@ module _ (names : NameLists) (sizes : List ℕ) (f : AreNames names sizes) (done
       by (suc k) (x ∷ ns) (z ∷ zs) n b l = refl
 
   -- a line that isn't taken begins no report file behind what was read
-  pub no_more : (line : List ℕ) → has_no_feed line ≡ true → TakesNone names sizes s line → Begins names sizes (done ++ line ∷ []) → ⊥
+  pub no_more : (line : List ℕ) → has_no_feed line ≡ true → TakesNone names sizes s line → BeginsReport names sizes (done ++ line ∷ []) → ⊥
   no_more line h none b =
       let at : flat_map ended done ++ (ended line ++ b.rest) ≡ flat_map ended (done ++ line ∷ []) ++ b.rest =
       sym (append_assoc (flat_map ended done) (ended line) b.rest) ∙ ap (λ l. (flat_map ended done ++ l) ++ b.rest) (sym (append-nil (ended line)))
@@ -467,10 +467,10 @@ module _ (names : NameLists) (sizes : List ℕ) (f : AreNames names sizes) (done
       by (inr (inr x)) = words_next x.0 x.1.0 (drop s.next names.nvs) (drop s.next sizes) refl refl x.1.1 x.1.2 x.1.3
 
   -- what was read begins a report file
-  pub begun : Begins names sizes done
+  pub begun : BeginsReport names sizes done
   begun = by (is_over s.items) refl
     where
-      by : (b : Bool) → is_over s.items ≡ b → Begins names sizes done
+      by : (b : Bool) → is_over s.items ≡ b → BeginsReport names sizes done
       by false o =
           let z : s.next ≡ 0 = ⊎_elim (λ e. e) (λ e. absurd (let no : true ≡ false = sym e ∙ o in cc (no))) r.over in
           record {

@@ -39,7 +39,7 @@ abbrev pub ended : List ℕ → List ℕ
 ended l = l ++ codes "\n"
 
 -- a report file begins with these lines
-pub record Begins (names : NameLists) (sizes : List ℕ) (ls : List (List ℕ)) : Type 0 where
+pub record BeginsReport (names : NameLists) (sizes : List ℕ) (ls : List (List ℕ)) : Type 0 where
   pub items : List Item
   pub words : List ℤ
   pub rest : List ℕ
@@ -50,7 +50,7 @@ pub record Begins (names : NameLists) (sizes : List ℕ) (ls : List (List ℕ)) 
 pub data EndsBadly
     (names : NameLists) (sizes : List ℕ) (bytes : List ℕ) (before : List (List ℕ)) : Type 0 where
   bad : (line : List ℕ) (rest : List (List ℕ)) → lines bytes ≡ before ++ line ∷ rest
-      → (Begins names sizes (before ++ line ∷ []) → ⊥) → EndsBadly names sizes bytes before
+      → (BeginsReport names sizes (before ++ line ∷ []) → ⊥) → EndsBadly names sizes bytes before
   early : lines bytes ≡ before
       → ((items : List Item) (words : List ℤ) → IsFile names sizes bytes items words → ⊥)
       → EndsBadly names sizes bytes before
@@ -59,5 +59,5 @@ pub data EndsBadly
 pub record IsBadLine (names : NameLists) (sizes : List ℕ) (bytes : List ℕ) (n : ℕ) : Type 0 where
   pub before : List (List ℕ)
   pub number : n ≡ suc (length before)
-  pub begun : Begins names sizes before
+  pub begun : BeginsReport names sizes before
   pub ends : EndsBadly names sizes bytes before

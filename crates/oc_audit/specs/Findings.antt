@@ -16,7 +16,7 @@ use Rattle.oc_audit.specs.declared.audit.Finding.{Finding}
 use Rattle.oc_audit.specs.declared.audit.Finding.TheVariants as finding
 
 -- these bytes spell this report of a program
-pub record Spells (p : TProgram) (bytes : List ℕ) (r : TReport) : Type 0 where
+pub record SpellsReport (p : TProgram) (bytes : List ℕ) (r : TReport) : Type 0 where
   pub items : List Item
   pub nv : Option (List ℤ)
   pub file : IsReportFile p.names (map (λ d. d.words) p.nv) bytes items nv
@@ -26,8 +26,8 @@ pub record Spells (p : TProgram) (bytes : List ℕ) (r : TReport) : Type 0 where
 abbrev pub IsFinding : TProgram → List TRegion → List ℕ → Finding → Type 0
 IsFinding p regions bytes (finding.BadLine n) = IsBadLine p.names (map (λ d. d.words) p.nv) bytes n
 IsFinding p regions bytes (finding.Breaks n) =
-    (r : TReport) × Spells p bytes r × BreaksAt p regions r n
-IsFinding p regions bytes finding.Honest = (r : TReport) × Spells p bytes r × IsHonest p regions r
+    (r : TReport) × SpellsReport p bytes r × BreaksAt p regions r n
+IsFinding p regions bytes finding.Honest = (r : TReport) × SpellsReport p bytes r × IsHonest p regions r
 
 -- bytes are found to be one thing alone, for a marked program
 abbrev pub OneFinding : Type 0

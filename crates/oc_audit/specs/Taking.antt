@@ -6,7 +6,7 @@ use Rattle.oc_tree.specs.Names.{NameLists, name_at}
 use Rattle.oc_items.specs.declared.item.Item.{Item}
 use Rattle.oc_items.specs.Text.{is_over, report_text, words_lines}
 use Rattle.oc_items.specs.OneText.{is_field, IsItem}
-use Rattle.oc_items.specs.Reading.{HasLine, TellsNone}
+use Rattle.oc_items.specs.Reading.{HasLine, LineTellsNone}
 use Rattle.oc_audit.specs.Files.{lines, ended}
 use Rattle.oc_audit.specs.Words.{IsWordsLine}
 
@@ -34,7 +34,7 @@ pub record TakesWords
 
 -- a line is none that may stand behind what was read
 pub record TakesNone (names : NameLists) (sizes : List ℕ) (s : Taken) (line : List ℕ) : Type 0 where
-  pub no_item : s.next ≡ 0 → TellsNone names line
+  pub no_item : s.next ≡ 0 → LineTellsNone names line
   pub no_words : is_over s.items ≡ true → s.next < length names.nvs → (words : List ℤ)
       → IsWordsLine (name_at names.nvs s.next) (get_or sizes s.next 0) line words → ⊥
 
@@ -80,7 +80,7 @@ pub record AreNames (names : NameLists) (sizes : List ℕ) : Type 0 where
 -- an item's line is taken; or it is none that may stand here, and nothing is
 abbrev pub GivesItem : NameLists → Taken → List ℕ → Bool → Taken → Type 0
 GivesItem names s line true t = TakesItem names s line t
-GivesItem names s line false t = (s.next ≡ 0 → TellsNone names line) × (t ≡ s)
+GivesItem names s line false t = (s.next ≡ 0 → LineTellsNone names line) × (t ≡ s)
 
 -- the line of the next variable is taken, or it isn't that
 abbrev pub GivesLine : NameLists → List ℕ → Taken → List ℕ → Bool → Taken → Type 0

@@ -3,7 +3,7 @@ use Rattle.std.proofs.Common.{◌≡◌, ◌≤◌, ◌<◌, ◌+◌, ℕ, zero,
 use Rattle.std.proofs.Common.{subst, arith}
 use Rattle.std.specs.Prelude.{◌==◌, ◌||◌, slice_get, flat_map, option_map, position}
 use Rattle.std.specs.List.{list_any}
-use Rattle.std.proofs.lemmas.Bool.{eqb-true, eq-eqb}
+use Rattle.std.proofs.lemmas.Bool.{eqb-true, eq-eqb, or_left, or_right}
 use Rattle.std.proofs.lemmas.List.{length-map}
 use Rattle.std.proofs.lemmas.List.Quantifiers.{position-Some}
 use Rattle.std.proofs.lemmas.Option.{none-some, same_Some, slice_get-get_or}
@@ -15,7 +15,6 @@ use Rattle.oc_tree.specs.Picked.{block_spent}
 use Rattle.oc_tree.specs.Stack.{link_words}
 use Rattle.oc_tree.specs.Elements.{in_function}
 use Rattle.oc_tree.proofs.Grouped.{ids, functions_ids}
-use Rattle.oc_tree.proofs.ReachLaws.{or_left, or_right}
 use Rattle.oc_isa.specs.Image.{Parts}
 use Rattle.oc_isa.specs.Table.{device_of}
 use Rattle.oc_effects.specs.Effects.{function_effects, params_at}

@@ -4,9 +4,10 @@ use Rattle.std.specs.Prelude.{is_some, slice_get, ◌&&◌, ◌||◌, if◌then�
 use Rattle.std.specs.List.{list_any}
 use Rattle.std.specs.Option.{option_or}
 use Rattle.std.specs.Str.{bytes_eq}
-use Rattle.std.proofs.lemmas.Bool.{eq-eqb, and_from}
+use Rattle.std.proofs.lemmas.Bool.{eq-eqb, and_from, or_left, or_right}
 use Rattle.std.proofs.lemmas.Option.{none-some, same_Some}
 use Rattle.std.proofs.lemmas.Slice.Eq.{bytes_eq-Decides}
+use Rattle.std.proofs.lemmas.List.Folds.{list_any-append}
 use Rattle.oc_tree.specs.Names.{Text}
 use Rattle.oc_tree.specs.Tree.{TKind, let_to, let_array, if_else, for_in, while_do, fresh, TElse}
 use Rattle.oc_tree.specs.Tree.{no_else, else_do, stmt, TBlock, block, TStmts, no_stmts, more, TFunction, TProgram}
@@ -19,8 +20,6 @@ use Rattle.oc_tree.specs.Scope.{variable_in, is_in_scope, is_declared, is_taken}
 use Rattle.oc_tree.specs.Stack.{kind_slots, block_slots}
 use Rattle.oc_tree.specs.Places.{Place as Spot, Placed, Variables, find_variable, let_variables, or_nonvolatile, behind, in_branch, in_loop, at_start, kind_placed, else_placed, block_placed}
 use Rattle.oc_tree.specs.Places.{stmts_placed}
-use Rattle.oc_tree.proofs.ReachLaws.{or_left, or_right}
-use Rattle.oc_reach.proofs.LinkLaws.{any_append}
 use Rattle.oc_tree.specs.Named.{own_names}
 use Rattle.oc_meaning.specs.Uses.{is_annotated}
 use Rattle.oc_meaning.specs.Uses as meaning
@@ -91,7 +90,7 @@ module _ (p : TProgram) (f : TFunction) (es : List TEffect) (uses : ℕ → Bool
   names_told : (γ : List Named) (a : Placed) → FreshSeen γ a.at.variables → (xs : List Text) → list_any (is_fresh_in γ) xs ≡ true → list_any noted (variables_at p a xs) ≡ true
   names_told γ a seen [] h = absurd (true≢false (sym h))
   names_told γ a seen (x ∷ xs) h =
-      any_append noted (option_to_list (variable_at p a x)) (variables_at p a xs)
+      list_any-append noted (option_to_list (variable_at p a x)) (variables_at p a xs)
       ∙ by (is_fresh_in γ x) refl h (names_told γ a seen xs)
     where
       by : (b : Bool) → is_fresh_in γ x ≡ b → b || list_any (is_fresh_in γ) xs ≡ true → (list_any (is_fresh_in γ) xs ≡ true → list_any noted (variables_at p a xs) ≡ true)

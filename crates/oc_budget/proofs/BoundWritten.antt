@@ -1,12 +1,13 @@
 -- What each function may write, and what each region may: the tables of the code's claims, from the rules and from what is
 -- told of assignments.
 use Rattle.std.proofs.Common.{◌≡◌, ◌+◌, ℕ, suc, Bool, true, false, true≢false, List, [], ◌∷◌, map, get_or, cond, Option, Some, None, refl, sym, ap, ◌∙◌, subst, arith}
-use Rattle.std.proofs.lemmas.Bool.{and_from, and_parts}
+use Rattle.std.proofs.lemmas.Bool.{and_from, and_parts, or_left, or_right, not-false}
 use Rattle.std.specs.Prelude.{is_some, slice_get, option_map, option_and_then}
 use Rattle.std.specs.List.{list_any, list_all}
 use Rattle.std.specs.Str.{bytes_eq}
 use Rattle.std.proofs.lemmas.Option.{none-some, same_Some}
 use Rattle.std.proofs.lemmas.Slice.Eq.{bytes_eq-Decides}
+use Rattle.std.proofs.lemmas.List.Folds.{list_any-append}
 use Rattle.oc_tree.specs.Names.{Text}
 use Rattle.oc_tree.specs.Tree.{variable, TArg, value, shared, mutable, TCall, call, TArgs, no_args, more_args, TRight, right_value, right_sense, right_call, TKind, let_to, let_array}
 use Rattle.oc_tree.specs.Tree.{assign, assign_index, assign_deref, if_else, for_in, while_do, call_only, sense_only, emit, fresh, consistent, return, TFunction, TProgram}
@@ -24,8 +25,6 @@ use Rattle.oc_tree.specs.Places.{Placed, at_start, block_placed}
 use Rattle.oc_tree.specs.Scope.{variable_of, function_named, takes_param}
 use Rattle.oc_tree.specs.Checked.{Group, IsChecked}
 use Rattle.oc_tree.specs.Rules.{origin_is, is_mutable_param, is_writable, is_writable_array, arg_meets, args_meet, args_list, params_of, arg_lends}
-use Rattle.oc_tree.proofs.ReachLaws.{or_left, or_right}
-use Rattle.oc_reach.proofs.LinkLaws.{any_append}
 use Rattle.oc_meaning.specs.Run as meaning
 use Rattle.oc_code.specs.Scope.{param_slot}
 use Rattle.oc_code.proofs.Needs.{FoundAt, found_at_place}
@@ -42,7 +41,7 @@ use Rattle.oc_reach.proofs.Lists.{at_place}
 use Rattle.oc_writes.proofs.KeptReach.{none_assigns, none_called, none_writes, none_passes}
 use Rattle.oc_writes.proofs.KeptRules.{Ruled, body_ruled, param_passes, own_passes}
 use Rattle.oc_writes.proofs.KeptKinds.{hidden, none_hidden, block_each}
-use Rattle.oc_writes.proofs.KeptFunctions.{place_there, stands_among, so, array_param, value_mutable, calls_for, linked_is, no_param, not_hidden, shared_never, takes_at}
+use Rattle.oc_writes.proofs.KeptFunctions.{place_there, stands_among, array_param, value_mutable, calls_for, linked_is, no_param, not_hidden, shared_never, takes_at}
 use Rattle.oc_budget.proofs.BoundAccess.{param_may, access, may_name, name_nv, name_param, param_first, Old, block_old, start_old}
 use Rattle.oc_budget.proofs.BoundWithin.{KindMay}
 
@@ -276,10 +275,10 @@ module _ (p : TProgram) (f : TFunction) (nv par : ℕ → Bool) (a : Placed) (ru
     pub kind_ok : (k : TKind) → Unbroken p ruled.here k → KindTold k → KindMay (access p f nv par) (call_within p.functions (writes p) (access p f nv par)) k
     kind_ok (let_to m y t r) u told = right_ok r u.calls told
     kind_ok (let_array m y t z n) u told = tt
-    kind_ok (assign y r) u told = (right_ok r u.calls told.0, own_may y (so _ u.target) told.1)
+    kind_ok (assign y r) u told = (right_ok r u.calls told.0, own_may y (not-false _ u.target) told.1)
     kind_ok (assign_index y e r) u told =
-        (right_ok r (calls_back (CallFine p ruled.here) (expr_calls e) (right_calls r) u.calls) told.0, named_may is_writable_array array_param y (so _ u.array) told.1)
-    kind_ok (assign_deref y r) u told = (right_ok r u.calls told.0, passed_may y (so _ u.pointee) told.1)
+        (right_ok r (calls_back (CallFine p ruled.here) (expr_calls e) (right_calls r) u.calls) told.0, named_may is_writable_array array_param y (not-false _ u.array) told.1)
+    kind_ok (assign_deref y r) u told = (right_ok r u.calls told.0, passed_may y (not-false _ u.pointee) told.1)
     kind_ok (if_else e b c) u told = tt
     kind_ok (for_in x d e b) u told = tt
     kind_ok (while_do e l b) u told = tt
@@ -353,10 +352,10 @@ module _ (p : TProgram) (u : ℕ) (f : TFunction) (stands : slice_get p.function
     args_told v l (q ∷ qs) no_args assigns links takes = tt
     args_told v l (q ∷ qs) (more_args e rest) assigns links takes = (
       λ m told. one e m told (λ j. first_fails (arg_assigns p.functions j.1 v l e) _ (assigns j))
-          (λ n b h. links n b (any_append (is_link (first + n.0) b) (arg_links p.functions first (param_names f) v l e) (args_links p.functions first (param_names f) v (l + 1) rest) ∙
+          (λ n b h. links n b (list_any-append (is_link (first + n.0) b) (arg_links p.functions first (param_names f) v l e) (args_links p.functions first (param_names f) v (l + 1) rest) ∙
           or_left _ _ h)),
       args_told v (l + 1) qs rest (λ j. second_fails (arg_assigns p.functions j.1 v l e) _ (assigns j))
-          (λ n b h. links n b (any_append (is_link (first + n.0) b) (arg_links p.functions first (param_names f) v l e) (args_links p.functions first (param_names f) v (l + 1) rest) ∙ or_right
+          (λ n b h. links n b (list_any-append (is_link (first + n.0) b) (arg_links p.functions first (param_names f) v l e) (args_links p.functions first (param_names f) v (l + 1) rest) ∙ or_right
           (linked (arg_links p.functions first (param_names f) v l e) (first + n.0) b) _ h))
           (λ k. let z : l + 1 + k ≡ l + suc k = omega arith in ap (takes_mutable p.functions v) z ∙ takes (suc k)),
     )

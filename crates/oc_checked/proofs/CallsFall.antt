@@ -1,7 +1,7 @@
 -- Calls go to functions of lower ranks, where no statement breaks the rule on cycles of calls.
 use Rattle.std.proofs.Common.{◌≡◌, ◌<◌, ℕ, zero, suc, ◌+◌, true, false, List, [], ◌∷◌, length, map, Some, None, refl, ap, sym, ◌∙◌, subst, arith}
 use Rattle.std.specs.Prelude.{nat_eq, ◌||◌, ◌&&◌, option_to_list, slice_get, codes}
-use Rattle.std.proofs.lemmas.Bool.{eq-eqb}
+use Rattle.std.proofs.lemmas.Bool.{eq-eqb, or_left, or_right}
 use Rattle.std.proofs.lemmas.List.{map-append}
 use Rattle.std.proofs.lemmas.Option.{none-some, same_Some, slice_get_within}
 use Rattle.oc_tree.specs.Names.{Text}
@@ -10,7 +10,6 @@ use Rattle.oc_tree.specs.Calls.{place, function_place, function_names, callee, b
 use Rattle.oc_tree.specs.Reach.{Links, linked, is_link, rank}
 use Rattle.oc_tree.specs.Broken.{broken}
 use Rattle.oc_tree.specs.Form.{DeclaredInOrder}
-use Rattle.oc_tree.proofs.ReachLaws.{or_left, or_right}
 use Rattle.oc_desugar.proofs.FineCalls.{Each}
 use Rattle.oc_checked.proofs.Ranks.{rank_at, rank_of, Onwards, falls, rank_small}
 use Rattle.oc_checked.proofs.CallLinks.{any_append, body_away, links_onwards}

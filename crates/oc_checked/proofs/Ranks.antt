@@ -1,12 +1,12 @@
 -- The ranks of functions. Where no link leads back, ranks fall along links.
 use Rattle.std.proofs.Common.{◌≡◌, ◌<◌, ℕ, zero, suc, Bool, true, false, true≢false, List, length, Option, Some, None, refl, ap, sym, ◌∙◌, subst, arith}
 use Rattle.std.specs.Prelude.{nat_eq, ◌||◌}
-use Rattle.std.proofs.lemmas.Bool.{eqb-true, eq-eqb}
+use Rattle.std.proofs.lemmas.Bool.{eqb-true, eq-eqb, or_right}
 use Rattle.oc_tree.specs.Names.{Text}
 use Rattle.oc_tree.specs.Tree.{TFunction}
 use Rattle.oc_tree.specs.Calls.{function_place, call_links}
 use Rattle.oc_tree.specs.Reach.{Links, linked, leads, reaches, count_below, rank}
-use Rattle.oc_tree.proofs.ReachLaws.{or_right, or_elim, links_lead, leads_trans, least, count_less, rank_falls}
+use Rattle.oc_tree.proofs.ReachLaws.{or_elim, links_lead, leads_trans, least, count_less, rank_falls}
 
 -- the rank of what stands at the place that was found; what was not found has none
 abbrev pub rank_at : List TFunction → Option ℕ → ℕ

@@ -2,16 +2,16 @@
 use Rattle.std.proofs.Common.{◌≡◌, ◌<◌, ℕ, zero, suc, ◌+◌, Bool, true, false, true≢false, List, [], ◌∷◌, ◌++◌, map, Some, refl, ap, sym, ◌∙◌, subst, arith}
 use Rattle.std.specs.Prelude.{◌&&◌, ◌||◌, nat_eq, slice_get, option_to_list}
 use Rattle.std.specs.List.{list_any, flat_map}
-use Rattle.std.proofs.lemmas.Bool.{eqb-true, eq-eqb, and_from, and_parts}
+use Rattle.std.proofs.lemmas.Bool.{eqb-true, eq-eqb, and_from, and_parts, or_left, or_right}
 use Rattle.std.proofs.lemmas.List.{map-append}
 use Rattle.std.proofs.lemmas.Option.{none-some, same_Some}
+use Rattle.std.proofs.lemmas.List.Folds.{list_any-append}
 use Rattle.oc_tree.specs.Names.{Text}
 use Rattle.oc_tree.specs.Tree.{TCall, TKind, TFunction}
 use Rattle.oc_tree.specs.Reach.{Links, linked, is_link, leads, reaches, reaches_some}
 use Rattle.oc_tree.specs.Calls.{place, callee, own_calls, body_calls, called_places, links_from}
-use Rattle.oc_tree.proofs.ReachLaws.{or_left, or_right, or_elim, links_lead, leads_trans}
+use Rattle.oc_tree.proofs.ReachLaws.{or_elim, links_lead, leads_trans}
 use Rattle.oc_reach.specs.Within.{IsWithin}
-use Rattle.oc_reach.proofs.LinkLaws.{any_append}
 use Rattle.oc_reach.proofs.Walk.{some_at, some_is}
 use Rattle.oc_desugar.proofs.FineCalls.{Each as EachCall, each_front as calls_front, each_back as calls_back}
 use Rattle.oc_checked.proofs.BodiesPass.{first_fails, second_fails}
@@ -81,11 +81,11 @@ call_row names w (e ∷ fs) zero f a b h l =
     let own : linked (map (λ v. (w, v)) (called_places names (body_calls e))) a b ≡ true =
     subst (λ z. linked (map (λ v. (z, v)) (called_places names (body_calls e))) a b ≡ true) n
     (subst (λ g. linked (map (λ v. (w + 0, v)) (called_places names (body_calls g))) a b ≡ true) (sym (same_Some e f h)) l) in
-    any_append (is_link a b) (map (λ v. (w, v)) (called_places names (body_calls e))) (links_from names (w + 1) fs) ∙ or_left _ (linked (links_from names (w + 1) fs) a b) own
+    list_any-append (is_link a b) (map (λ v. (w, v)) (called_places names (body_calls e))) (links_from names (w + 1) fs) ∙ or_left _ (linked (links_from names (w + 1) fs) a b) own
 call_row names w (e ∷ fs) (suc u) f a b h l =
     let n : w + suc u ≡ w + 1 + u = omega arith in
     let rest = call_row names (w + 1) fs u f a b h (subst (λ z. linked (map (λ v. (z, v)) (called_places names (body_calls f))) a b ≡ true) n l) in
-    any_append (is_link a b) (map (λ v. (w, v)) (called_places names (body_calls e))) (links_from names (w + 1) fs)
+    list_any-append (is_link a b) (map (λ v. (w, v)) (called_places names (body_calls e))) (links_from names (w + 1) fs)
     ∙ or_right (linked (map (λ v. (w, v)) (called_places names (body_calls e))) a b) _ rest
 
 -- what holds of all that a row of calls names holds of what each call names
@@ -96,7 +96,7 @@ each_called names u Q (c ∷ cs) h =
     let here = map (λ v. (u, v)) (option_to_list (place names (callee c))) in
     let rest = map (λ v. (u, v)) (called_places names cs) in
     let parts : (v : ℕ) → linked here u v || linked rest u v ≡ true → Q v =
-    λ v l. h v (ap (λ ls. linked ls u v) (map-append (λ v. (u, v)) (option_to_list (place names (callee c))) (called_places names cs)) ∙ any_append (is_link u v) here rest ∙ l) in (
+    λ v l. h v (ap (λ ls. linked ls u v) (map-append (λ v. (u, v)) (option_to_list (place names (callee c))) (called_places names cs)) ∙ list_any-append (is_link u v) here rest ∙ l) in (
       λ v e. parts v (or_left (linked here u v) (linked rest u v) (ap (λ o. linked (map (λ w. (u, w)) (option_to_list o)) u v) e ∙ own v)),
       each_called names u Q cs
           (λ v l. parts v (or_right (linked here u v) (linked rest u v) l)),

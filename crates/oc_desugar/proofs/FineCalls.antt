@@ -1,6 +1,6 @@
 -- Calls that break no rule, in lists.
 use Rattle.std.proofs.Common.{◌≡◌, ℕ, ◌+◌, Bool, true, false, true≢false, List, [], ◌∷◌, ◌++◌, refl, ap, sym, subst, ◌∙◌}
-use Rattle.std.proofs.lemmas.Bool.{and_from, and_parts}
+use Rattle.std.proofs.lemmas.Bool.{and_from, and_parts, or_from}
 use Rattle.std.specs.Prelude.{is_some, ◌||◌}
 use Rattle.std.specs.List.{list_all, list_any}
 use Rattle.oc_lex.specs.Stands.{IsName}
@@ -57,10 +57,6 @@ none_second : (a b : Bool) → a || b ≡ false → b ≡ false
 none_second true b h = absurd (true≢false h)
 none_second false b h = h
 
-neither : (a b : Bool) → a ≡ false → b ≡ false → a || b ≡ false
-neither true b h k = absurd (true≢false h)
-neither false b h k = k
-
 module _ (p : TProgram) (h : Here) where
   pub fine_from_rules : (cs : List TCall)
       → list_any (λ c. is_main (callee c)) cs ≡ false
@@ -91,7 +87,7 @@ module _ (p : TProgram) (h : Here) where
 
   pub none_main : (cs : List TCall) → Each (CallFine p h) cs → list_any (λ c. is_main (callee c)) cs ≡ false
   none_main [] e = refl
-  none_main (c ∷ cs) e = neither _ _ e.0.other (none_main cs e.1)
+  none_main (c ∷ cs) e = or_from _ _ e.0.other (none_main cs e.1)
 
   pub all_meet : (cs : List TCall) → Each (CallFine p h) cs → list_all (call_meets p h.scope) cs ≡ true
   all_meet [] e = refl
@@ -107,11 +103,11 @@ module _ (p : TProgram) (h : Here) where
 
   pub none_exposes : (cs : List TCall) → Each (CallFine p h) cs → list_any (call_exposes p h.scope) cs ≡ false
   none_exposes [] e = refl
-  none_exposes (c ∷ cs) e = neither _ _ e.0.hidden (none_exposes cs e.1)
+  none_exposes (c ∷ cs) e = or_from _ _ e.0.hidden (none_exposes cs e.1)
 
   pub none_back : (cs : List TCall) → Each (CallFine p h) cs → list_any (callee_is (back_to p h.number) p) cs ≡ false
   none_back [] e = refl
-  none_back (c ∷ cs) e = neither _ _ e.0.away (none_back cs e.1)
+  none_back (c ∷ cs) e = or_from _ _ e.0.away (none_back cs e.1)
 
 pub gives_from_rule : (p : TProgram) (cs : List TCall) → list_all (λ c. is_some (call_type p c)) cs ≡ true → Each (Gives p) cs
 gives_from_rule p [] h = tt

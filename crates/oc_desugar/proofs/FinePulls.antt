@@ -1,6 +1,6 @@
 -- Each pull of a statement that breaks no rule is a right side that breaks none, where the temporaries before it are held.
 use Rattle.std.proofs.Common.{◌≡◌, ℕ, ◌+◌, true, false, List, [], ◌∷◌, ◌++◌, length, inl, inr, refl, ap, sym, subst, ◌∙◌}
-use Rattle.std.proofs.lemmas.Bool.{and_parts}
+use Rattle.std.proofs.lemmas.Bool.{and_parts, or_right}
 use Rattle.std.specs.Prelude.{is_some, ◌&&◌, ◌||◌}
 use Rattle.oc_lex.specs.Stands.{IsName}
 use Rattle.oc_tree.specs.Tree.{TExpr, number, truth, variable, index, deref, unary, binary, sensed, called, TArg, value, shared, mutable, TCall, call, TArgs, no_args, more_args}
@@ -14,7 +14,6 @@ use Rattle.oc_tree.specs.Elements.{Here}
 use Rattle.oc_tree.specs.Rules.{passed_on, unary_fits, binary_fits, expr_fits, args_fit, arg_fits, right_fits}
 use Rattle.oc_tree.specs.Expansion.{left_call, pulled_expr, pulled_call, pulled_args, pulled_arg}
 use Rattle.oc_tree.specs.Walks.{right_skips, expr_known, args_known, arg_known, right_known}
-use Rattle.oc_tree.proofs.ReachLaws.{or_right}
 use Rattle.oc_desugar.proofs.Seen.{SameTop, SameReach, SameHere, pull_type, HeldPulls}
 use Rattle.oc_desugar.proofs.Lengths.{length_expr, length_arg}
 use Rattle.oc_desugar.proofs.NoPulls.{none_call}

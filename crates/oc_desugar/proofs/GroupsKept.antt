@@ -6,6 +6,7 @@ use Rattle.std.specs.Prelude.{nat_le}
 use Rattle.std.proofs.lemmas.List.Sums.{sum_by-cons}
 use Rattle.std.proofs.lemmas.List.Elements.{All-nil, All-cons}
 use Rattle.std.proofs.lemmas.Bool.{eq-eqb, le-leb, leb-true, and_parts}
+use Rattle.std.proofs.Math.Bool.{and-false}
 use Rattle.oc_tree.specs.Tree.{TRight, TKind, let_to, let_array, assign, assign_index, assign_deref, if_else, for_in, while_do, call_only, sense_only, emit, fresh, consistent}
 use Rattle.oc_tree.specs.Tree.{return, TElse, no_else, else_do, stmt, TBlock, block, TStmts, no_stmts, more, TFunction, TProgram}
 use Rattle.oc_tree.specs.Numbers.{numbers_on}
@@ -19,10 +20,6 @@ use Rattle.oc_desugar.proofs.NumberedLaws.{numbered}
 use Rattle.oc_desugar.proofs.NumberLists.{listed, statements_listed}
 use Rattle.oc_desugar.proofs.GroupCounts.{is_between, counted_once}
 use Rattle.oc_desugar.proofs.BlockPairs.{Pair, kind_pairs, else_pairs, block_pairs, stmts_pairs, program_pairs, Stands, stands_first, stands_left, stands_right, block_there}
-
-and_false : (b : Bool) → b && false ≡ false
-and_false true = refl
-and_false false = refl
 
 -- ---- the statements of a group stand in one block
 
@@ -160,7 +157,7 @@ module _ (p : TProgram) where
   in_is_between : (s : ℕ) (g : Group) → Together (program_pairs (expansion p)) g → is_in_group (expansion p) s g ≡ is_between s g
   in_is_between s g t = told (is_between s g) refl where
     told : (b : Bool) → is_between s g ≡ b → is_in_group (expansion p) s g ≡ is_between s g
-    told false e = ap (λ x. same_block (block_of (expansion p) s) (block_of (expansion p) g.0) && x) e ∙ and_false (same_block (block_of (expansion p) s) (block_of (expansion p) g.0)) ∙ sym e
+    told false e = ap (λ x. same_block (block_of (expansion p) s) (block_of (expansion p) g.0) && x) e ∙ and-false (same_block (block_of (expansion p) s) (block_of (expansion p) g.0)) ∙ sym e
     told true e =
         let l = leb-true g.0 s (and_parts (nat_le g.0 s) (nat_le s g.1) e).0 in
         let m = leb-true s g.1 (and_parts (nat_le g.0 s) (nat_le s g.1) e).1 in

@@ -1,8 +1,9 @@
 -- Where no rule is broken by an expression, none is by what is left of it in the expansion: its names are known, its
 -- parts fit, and it has the same type.
 use Rattle.std.proofs.Common.{◌≡◌, ℕ, ◌+◌, Bool, true, false, [], ◌++◌, Option, Some, None, refl, ap, ◌∙◌}
-use Rattle.std.proofs.lemmas.Bool.{and_from, and_parts}
+use Rattle.std.proofs.lemmas.Bool.{and_from, and_parts, or_left, or_right}
 use Rattle.std.specs.Prelude.{nat_lt, is_some, option_map, ◌&&◌, ◌||◌}
+use Rattle.std.proofs.Math.Bool.{and-false}
 use Rattle.oc_lex.specs.Stands.{IsName}
 use Rattle.oc_tree.specs.Tree.{TExpr, number, truth, variable, index, deref, unary, binary, sensed, called, TArg, value, shared, mutable, TCall, call, TArgs, no_args, more_args}
 use Rattle.oc_tree.specs.Tree.{TRight, right_value, right_sense, right_call, TProgram}
@@ -15,7 +16,6 @@ use Rattle.oc_tree.specs.Types.{type_of, right_type, call_type, is_int, has_elem
 use Rattle.oc_tree.specs.Rules.{expr_fits, call_fits, args_fit, arg_fits, right_fits, passed_on, only_reference, unary_fits, binary_fits}
 use Rattle.oc_tree.specs.Expansion.{left_expr, left_call, left_args, left_arg, left_right}
 use Rattle.oc_tree.specs.Walks.{expr_skips, args_skip, arg_skips, right_skips, expr_known, call_known, args_known, arg_known, right_known}
-use Rattle.oc_tree.proofs.ReachLaws.{or_left, or_right}
 use Rattle.oc_desugar.proofs.Seen.{new_var}
 use Rattle.oc_desugar.proofs.NoPulls.{none_expr}
 use Rattle.oc_desugar.proofs.HeldParts.{HeldExpr, HeldCall, HeldArgs, HeldArg, HeldRight}
@@ -47,10 +47,6 @@ mutual
   no_calls_arg k (shared x) = refl
   no_calls_arg k (mutable x) = refl
 
-never : (b : Bool) → b && false ≡ false
-never true = refl
-never false = refl
-
 mutual
   pub none_skipped_expr : (k : ℕ) (e : TExpr) → expr_skips (left_expr k e) ≡ false
   none_skipped_expr k (number n) = refl
@@ -64,7 +60,7 @@ mutual
       ap (λ c. c || expr_skips (left_expr j b) || (may_skip op && nat_lt 0 (expr_pulls (left_expr j b)))) (none_skipped_expr k a)
       ∙ ap (λ c. c || (may_skip op && nat_lt 0 (expr_pulls (left_expr j b)))) (none_skipped_expr j b)
       ∙ ap (λ n. may_skip op && nat_lt 0 n) (none_expr j b)
-      ∙ never (may_skip op)
+      ∙ and-false (may_skip op)
   none_skipped_expr k (sensed s) = refl
   none_skipped_expr k (called c) = refl
 

@@ -1,7 +1,8 @@
 -- What the rules of declarations look at stays in an expansion.
-use Rattle.std.proofs.Common.{◌≡◌, ℕ, suc, ◌+◌, List, [], ◌∷◌, ◌++◌, refl, ap, ◌∙◌, arith, cond, All}
+use Rattle.std.proofs.Common.{◌≡◌, ℕ, ◌+◌, List, [], ◌∷◌, ◌++◌, refl, ap, ◌∙◌, arith, cond, All}
 use Rattle.std.specs.Prelude.{◌&&◌, ◌||◌, not, is_some}
 use Rattle.std.specs.List.{list_any}
+use Rattle.std.proofs.lemmas.List.Elements.{All-tail}
 use Rattle.oc_lex.specs.Stands.{IsName}
 use Rattle.oc_tree.specs.Names.{Text}
 use Rattle.oc_tree.specs.Tree.{TKind, let_to, let_array, assign, assign_index, assign_deref, if_else, for_in, while_do, call_only, sense_only, emit, fresh, consistent, return}
@@ -90,11 +91,7 @@ pub sees_params : (f : ℕ → ℕ) (scope : Scope) (qs : List Param) → Sees f
 sees_params f scope [] h = h
 sees_params f scope (q ∷ qs) h = sees_params f (with_param scope q) qs (sees_more f scope scope q.name (param_var q) (param_var q) refl h)
 
--- what holds of each element holds of those behind the first
-pub all_behind : {X : Type 0} (P : X → Type 0) (x : X) (xs : List X) → All P (x ∷ xs) → All P xs
-all_behind P x xs h = λ k d l. h (suc k) d (omega (arith, l))
-
 -- no parameter has a temporary's name
 pub unused_params : (k : ℕ) (scope : Scope) (qs : List Param) → All (ParamInForm IsName) qs → Unused k scope → Unused k (with_params scope qs)
 unused_params k scope [] n h = h
-unused_params k scope (q ∷ qs) n h = unused_params k (with_param scope q) qs (all_behind (ParamInForm IsName) q qs n) (unused_more k scope q.name (param_var q) (n 0 q (omega arith)).0 h)
+unused_params k scope (q ∷ qs) n h = unused_params k (with_param scope q) qs (All-tail (ParamInForm IsName) q qs n) (unused_more k scope q.name (param_var q) (n 0 q (omega arith)).0 h)

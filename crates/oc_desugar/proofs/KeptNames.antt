@@ -6,6 +6,7 @@ use Rattle.std.specs.List.{list_any}
 use Rattle.std.specs.Str.{bytes_eq}
 use Rattle.std.proofs.lemmas.Bool.Decides.{nat_tests}
 use Rattle.std.proofs.lemmas.List.Folds.{list_any-append}
+use Rattle.std.proofs.Math.Bool.{or_assoc}
 use Rattle.oc_lex.specs.Stands.{IsName}
 use Rattle.oc_tree.specs.Names.{Text}
 use Rattle.oc_tree.specs.Tree.{TExpr, number, truth, variable, index, deref, unary, binary, sensed, called, TArg, value, shared, mutable, TCall, call, TArgs, no_args, more_args}
@@ -113,10 +114,6 @@ same_places x k i (return e) = (refl, refl, refl)
 -- one of two counts is more than none
 some_sum : (m n : ℕ) → nat_lt 0 (m + n) ≡ nat_lt 0 m || nat_lt 0 n
 some_sum m n = grind (arith, nat_tests)
-
-or_assoc : (a b c : Bool) → (a || b) || c ≡ a || (b || c)
-or_assoc true b c = refl
-or_assoc false b c = refl
 
 or_false : (a : Bool) → a || (false || false) ≡ a
 or_false true = refl

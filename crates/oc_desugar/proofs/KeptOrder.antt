@@ -3,6 +3,7 @@ use Rattle.std.proofs.Common.{◌≡◌, ◌≤◌, ◌^◌, ℕ, zero, suc, ◌
 use Rattle.std.specs.Prelude.{not, slice_get}
 use Rattle.std.specs.List.{list_any}
 use Rattle.std.proofs.lemmas.List.Sums.{sum_by-cons}
+use Rattle.std.proofs.lemmas.List.Elements.{All-tail}
 use Rattle.oc_lex.specs.Stands.{IsName}
 use Rattle.oc_tree.specs.Names.{Text}
 use Rattle.oc_tree.specs.Tree.{TFunction, TProgram}
@@ -25,7 +26,7 @@ use Rattle.oc_desugar.proofs.KeptNumbers.{BlockPlaced, FunctionsPlaced}
 use Rattle.oc_desugar.proofs.KeptCounts.{new_tally, Apart}
 use Rattle.oc_desugar.proofs.KeptClean.{tally, tally_join, Clean, clean_none, clean_first, clean_join, first_clean, apart_of, Laws}
 use Rattle.oc_desugar.proofs.KeptElements.{block_clean}
-use Rattle.oc_desugar.proofs.KeptItems.{same_declared_before, same_takes_param, has_main, same_missing, sees_params, unused_params, all_behind}
+use Rattle.oc_desugar.proofs.KeptItems.{same_declared_before, same_takes_param, has_main, same_missing, sees_params, unused_params}
 
 -- what the rules of a function's head look at
 same_item : (p : TProgram) (f : ℕ → ℕ) (n : Tally) (b : Before) (k i : ℕ) (g : TFunction)
@@ -93,7 +94,7 @@ module _ (p : TProgram) (f : ℕ → ℕ) (laws : Laws p (expansion p) f) (apart
   functions_clean n b line k i u [] w bound at h = clean_none (expansion p) _ _ refl
   functions_clean n b line k i zero (g ∷ fs) w bound at h = function_clean n b line k i g (w 0 g (omega arith)) (omega (arith, bound, sum_by-cons (λ g. block_pulls g.body) g fs)) at.0 h
   functions_clean n b line k i (suc u) (g ∷ fs) w bound at h =
-      functions_clean n b line (k + block_pulls g.body) (i + block_size g.body) u fs (all_behind (FunctionInForm IsName) g fs w)
+      functions_clean n b line (k + block_pulls g.body) (i + block_size g.body) u fs (All-tail (FunctionInForm IsName) g fs w)
       (omega (arith, bound, sum_by-cons (λ g. block_pulls g.body) g fs)) at.1 h
 
   module _ (w : All (FunctionInForm IsName) p.functions) (bound : 1 + sum_by (λ g. block_pulls g.body) p.functions ≤ 2 ^ 64) (at : FunctionsPlaced f 1 p.functions) where

@@ -2,6 +2,7 @@
 use Rattle.std.proofs.Common.{◌≡◌, ◌≤◌, ◌^◌, ℕ, ◌+◌, false, List, [], ◌∷◌, refl, ap, ◌∙◌, arith, Option, Some, None, cond, All}
 use Rattle.std.specs.Prelude.{is_some}
 use Rattle.std.proofs.lemmas.Bool.{or_from}
+use Rattle.std.proofs.lemmas.List.Elements.{All-tail}
 use Rattle.oc_lex.specs.Stands.{IsName}
 use Rattle.oc_tree.specs.Names.{Text}
 use Rattle.oc_tree.specs.Tree.{TFunction, TProgram, let_to}
@@ -23,7 +24,6 @@ use Rattle.oc_desugar.proofs.KeptStatements.{statement_kept}
 use Rattle.oc_desugar.proofs.KeptTemporaries.{temporary_kept, temporary_held}
 use Rattle.oc_desugar.proofs.KeptReach.{same_top, same_reach}
 use Rattle.oc_desugar.proofs.KeptClean.{Laws}
-use Rattle.oc_desugar.proofs.KeptItems.{all_behind}
 use Rattle.oc_desugar.proofs.KeptOrder.{order_clean}
 
 -- ---- no temporary has a name of the top level
@@ -31,7 +31,7 @@ use Rattle.oc_desugar.proofs.KeptOrder.{order_clean}
 -- no name of the language in a list is a temporary's
 no_place : (xs : List Text) (n k : ℕ) → All IsName xs → place_from n xs (temporary k) ≡ None
 no_place [] n k h = refl
-no_place (x ∷ xs) n k h = ap (λ b. cond b (Some n) (place_from (n + 1) xs (temporary k))) (none_is_name x (h 0 x (omega arith)) k) ∙ no_place xs (n + 1) k (all_behind IsName x xs h)
+no_place (x ∷ xs) n k h = ap (λ b. cond b (Some n) (place_from (n + 1) xs (temporary k))) (none_is_name x (h 0 x (omega arith)) k) ∙ no_place xs (n + 1) k (All-tail IsName x xs h)
 
 -- so it isn't found there
 not_among : (xs : List Text) (k : ℕ) → All IsName xs → is_name_of xs (temporary k) ≡ false
@@ -41,7 +41,7 @@ not_among xs k h = ap (λ (o : Option ℕ). is_some o) (no_place xs 0 k h)
 no_function : (fs : List TFunction) (n k : ℕ) → All (FunctionInForm IsName) fs → place_from n (function_names fs) (temporary k) ≡ None
 no_function [] n k h = refl
 no_function (f ∷ fs) n k h = ap (λ b. cond b (Some n) (place_from (n + 1) (function_names fs) (temporary k))) (none_is_name f.name (h 0 f (omega arith)).name k)
-    ∙ no_function fs (n + 1) k (all_behind (FunctionInForm IsName) f fs h)
+    ∙ no_function fs (n + 1) k (All-tail (FunctionInForm IsName) f fs h)
 
 -- nor anything that is declared
 pub no_temporary : (p : TProgram) → InForm IsName p → NoTemporary p

@@ -1,7 +1,7 @@
 -- The `let` of each temporary breaks no rule but maybe that of the counts, where the written statement breaks none and
 -- the temporaries before it are held; and behind it its temporary is held too.
 use Rattle.std.proofs.Common.{◌≡◌, ℕ, ◌+◌, Bool, true, false, List, [], ◌∷◌, ◌++◌, length, inl, inr, Option, Some, None, refl, ap, ◌∙◌}
-use Rattle.std.proofs.lemmas.Bool.{and_parts}
+use Rattle.std.proofs.lemmas.Bool.{and_parts, or_right}
 use Rattle.std.specs.Prelude.{nat_lt, is_some, ◌&&◌, ◌||◌}
 use Rattle.oc_lex.specs.Stands.{IsName}
 use Rattle.oc_tree.specs.Tree.{TExpr, TCall, call, TRight, right_value, right_sense, right_call, TKind, let_to, let_array, assign, assign_index, assign_deref, if_else, for_in}
@@ -19,7 +19,6 @@ use Rattle.oc_tree.specs.Broken.{statement_rules, lowest}
 use Rattle.oc_tree.specs.Rules.{passed_on, expr_fits, right_fits}
 use Rattle.oc_tree.specs.Expansion.{temporary, pulled_expr, pulled_right, pulled}
 use Rattle.oc_tree.specs.Walks.{expr_known, right_known}
-use Rattle.oc_tree.proofs.ReachLaws.{or_right}
 use Rattle.oc_desugar.proofs.Seen.{SameTop, SameReach, SameHere, NoTemporary, IsHeld, pull_type, HeldPulls}
 use Rattle.oc_desugar.proofs.Lengths.{length_expr}
 use Rattle.oc_desugar.proofs.KeptLookups.{same_declared}

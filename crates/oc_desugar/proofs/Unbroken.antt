@@ -1,6 +1,7 @@
 -- A statement that breaks no rule, but maybe that of the counts, rule by rule.
-use Rattle.std.proofs.Common.{◌≡◌, Bool, true, false, true≢false, [], ◌∷◌, Some, None, cond, refl, ap, sym, ◌∙◌}
+use Rattle.std.proofs.Common.{◌≡◌, Bool, true, false, [], ◌∷◌, Some, None, cond, refl, ap, sym, ◌∙◌}
 use Rattle.std.specs.Prelude.{not}
+use Rattle.std.proofs.lemmas.Bool.{not-false}
 use Rattle.oc_tree.specs.Tree.{TKind, TProgram}
 use Rattle.oc_tree.specs.Calls.{own_calls}
 use Rattle.oc_tree.specs.Elements.{Here}
@@ -51,10 +52,6 @@ pub record Unbroken (p : TProgram) (h : Here) (k : TKind) : Type 0 where
   pub skips : kind_skips k ≡ false
   pub undisturbed : pulls_disturb p k ≡ false
 
-is_so : (b : Bool) → not b ≡ false → b ≡ true
-is_so true h = refl
-is_so false h = absurd (true≢false h)
-
 pub unbroken : (p : TProgram) (n : Tally) (h : Here) (k : TKind) → lowest (statement_rules p n h k) ≡ None → Unbroken p h k
 unbroken p n h k e =
     let r2 : Passes (statement_rules p n h k) = none_broken (statement_rules p n h k) e in
@@ -81,16 +78,16 @@ unbroken p n h k e =
     let r26 = r25.1 in
     record {
       taken = r2.0;
-      known = sym (known_of_own p h.scope k) ∙ is_so _ r3.0;
-      fits = is_so _ r5.0;
+      known = sym (known_of_own p h.scope k) ∙ not-false _ r3.0;
+      fits = not-false _ r5.0;
       sides = r6.0;
       condition = r7.0;
-      gives = gives_from_rule p (used_calls k) (is_so _ r9.0);
+      gives = gives_from_rule p (used_calls k) (not-false _ r9.0);
       lengths = r10.0;
       target = r11.0;
       array = r12.0;
       pointee = r13.0;
-      calls = fine_from_rules p h (own_calls k) r4.0 (is_so _ r8.0) (is_so _ r14.0) (is_so _ r15.0) r16.0 r20.0;
+      calls = fine_from_rules p h (own_calls k) r4.0 (not-false _ r8.0) (not-false _ r14.0) (not-false _ r15.0) r16.0 r20.0;
       annotates = r18.0;
       returns = r19.0;
       turns = r21.0;

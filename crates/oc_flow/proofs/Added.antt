@@ -4,6 +4,7 @@ use Rattle.std.specs.Prelude.{◌||◌, ◌&&◌}
 use Rattle.std.specs.List.{list_any}
 use Rattle.std.proofs.Math.ListN.{get_or}
 use Rattle.std.proofs.lemmas.List.Folds.{list_any_more}
+use Rattle.std.proofs.Math.Bool.{or_assoc}
 use Rattle.oc_tree.specs.declared.tree.VarId.{VarId}
 use Rattle.oc_tree.specs.declared.tree.VarId.TheVariants.{Nv, Param, Declared, Returned}
 use Rattle.oc_effects.specs.Effects.{TCalled, TEffect}
@@ -14,10 +15,6 @@ use Rattle.oc_flow.proofs.Lists.{same_tests, same_is, same_itself}
 pub or_false : (a : Bool) → a ≡ a || false
 or_false true = refl
 or_false false = refl
-
-pub or_assoc : (a b c : Bool) → (a || b) || c ≡ a || (b || c)
-or_assoc true b c = refl
-or_assoc false b c = refl
 
 pub adds_none : (t : TTable) → Adds (λ a b. false) t t
 adds_none t = record { variables = refl; links = λ a b ha hb. or_false (linked t a b) }

@@ -6,6 +6,7 @@ use Rattle.std.proofs.Math.ListN.{get_or}
 use Rattle.std.proofs.lemmas.Bool.{eqb-true}
 use Rattle.std.proofs.lemmas.Bool.Decides.{nat_tests}
 use Rattle.std.proofs.lemmas.Option.{none-some, same_Some}
+use Rattle.std.proofs.lemmas.List.Folds.{list_any-append}
 use Rattle.oc_tree.specs.Tree.{TProgram, TFunction}
 use Rattle.oc_tree.specs.declared.tree.VarId.{VarId}
 use Rattle.oc_tree.specs.Numbers.{numbers_on, program_statements}
@@ -18,7 +19,7 @@ use Rattle.oc_tree.specs.Members.{IsOf}
 use Rattle.oc_flow.specs.Flow.{chain, leads, flows_to, flows, brings, brings_at, may_bring, may_bring_at}
 use Rattle.oc_flow.specs.Known.{TKnown, Knowns, known_at, is_ready, AllKnown, known_flows, brings_seen, may_bring_seen}
 use Rattle.oc_flow.proofs.Fixpoint.{Ranked}
-use Rattle.oc_flow.proofs.Knows.{known_brings, any_join}
+use Rattle.oc_flow.proofs.Knows.{known_brings}
 
 -- outside of the functions nothing flows
 outside : (p : TProgram) (n f : ℕ) (u v : VarId) → nat_lt f (length p.functions) ≡ false → flows_to p n f u v ≡ false
@@ -54,7 +55,7 @@ module _ (p : TProgram) (t : TEffect → Bool) where
   flat : (fs : List TFunction) → list_any (λ es. list_any t es) (map (function_effects p) fs) ≡ list_any (λ b. t (effect_of p b)) (flat_map (λ f. block_placed (at_start f) f.body) fs)
   flat [] = refl
   flat (f ∷ fs) = (λ i. any_map t (effect_of p) (block_placed (at_start f) f.body) i || flat fs i)
-      ∙ sym (any_join (λ b. t (effect_of p b)) (block_placed (at_start f) f.body) (flat_map (λ f. block_placed (at_start f) f.body) fs))
+      ∙ sym (list_any-append (λ b. t (effect_of p b)) (block_placed (at_start f) f.body) (flat_map (λ f. block_placed (at_start f) f.body) fs))
 
 abbrev on_found : (Placed → Bool) → Option Placed → Bool
 on_found q None = false

@@ -1,12 +1,12 @@
 -- Cells of tables.
 use Rattle.std.proofs.Common.{◌≡◌, ◌≢◌, ◌<◌, ◌⊎◌, inl, inr, ℕ, zero, suc, Bool, true, false, List, [], ◌∷◌, Option, Some, None, drop, refl, ap, sym, ◌∙◌, subst, length, arith, replicate, Vec, Global}
-use Rattle.std.proofs.lemmas.Bool.{and_from, and_parts}
+use Rattle.std.proofs.lemmas.Bool.{and_from, and_parts, or_left, or_right}
 use Rattle.std.specs.Prelude.{◌||◌, ◌&&◌, slice_set}
 use Rattle.std.proofs.Math.ListN.{get_or}
 use Rattle.std.proofs.lemmas.List.{get_or-set_same, get_or-set_other}
 use Rattle.std.proofs.Math.ListN.{length-set}
 use Rattle.oc_tree.specs.declared.tree.VarId.{VarId}
-use Rattle.oc_tree.proofs.ReachLaws.{or_left, or_right, or_elim}
+use Rattle.oc_tree.proofs.ReachLaws.{or_elim}
 use Rattle.oc_flow.specs.Variables.{same_variable, is_among}
 use Rattle.oc_flow.specs.Flow.{chain}
 use Rattle.oc_flow.specs.Known.{number_in, Cells, cells_of, cell, cell_at, IsSquare, TTable, linked, Links, set_cell, Joined, JoinedEach, JoinedTo}

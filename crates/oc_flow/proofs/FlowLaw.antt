@@ -1,11 +1,11 @@
 -- The test of flow decides the relation.
 use Rattle.std.proofs.Common.{◌≡◌, inl, inr, ℕ, zero, suc, Bool, true, false, true≢false, List, [], ◌∷◌, length, Option, Some, None, refl, sym, ◌∙◌, subst}
-use Rattle.std.proofs.lemmas.Bool.{and_from, and_parts}
+use Rattle.std.proofs.lemmas.Bool.{and_from, and_parts, or_left, or_right}
 use Rattle.std.specs.Prelude.{◌||◌, ◌&&◌, nat_lt}
 use Rattle.std.specs.List.{list_any}
 use Rattle.oc_tree.specs.Tree.{TProgram}
 use Rattle.oc_tree.specs.declared.tree.VarId.{VarId}
-use Rattle.oc_tree.proofs.ReachLaws.{or_left, or_right, or_elim}
+use Rattle.oc_tree.proofs.ReachLaws.{or_elim}
 use Rattle.oc_effects.specs.Effects.{TCalled, TEffect, effects_at}
 use Rattle.oc_flow.specs.Variables.{is_among, same_variable, variables, is_variable, begins, ends, is_variable_of}
 use Rattle.oc_tree.specs.Members.{IsOf}

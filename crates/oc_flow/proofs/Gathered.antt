@@ -4,12 +4,13 @@ use Rattle.std.specs.Prelude.{◌||◌, ◌&&◌}
 use Rattle.std.specs.List.{list_any}
 use Rattle.std.proofs.Math.ListN.{get_or}
 use Rattle.std.proofs.lemmas.List.Folds.{list_any_more}
+use Rattle.std.proofs.Math.Bool.{or_assoc}
 use Rattle.oc_tree.specs.declared.tree.VarId.{VarId}
 use Rattle.oc_effects.specs.Effects.{TCalled, TEffect}
 use Rattle.oc_flow.specs.Variables.{same_variable, is_among, is_variable_of, ends}
 use Rattle.oc_flow.specs.Known.{Gathers, Holds, TKnown, Knowns, known_at, known_receives, end_of, brings_from_callee, brings_called, brings_known}
 use Rattle.oc_flow.proofs.Lists.{same_tests, any_in, in_any, kept_of, of_kept, among_of, of_among}
-use Rattle.oc_flow.proofs.Added.{or_false, or_assoc, same_sym, ends_is, take_end}
+use Rattle.oc_flow.proofs.Added.{or_false, same_sym, ends_is, take_end}
 
 pub gathers_none : (vs : List VarId) → Gathers (λ v. false) vs vs
 gathers_none vs = record { among = λ v. or_false (is_among v vs) }

@@ -8,6 +8,8 @@ use Rattle.std.proofs.Math.ListN.{length-set, get_or}
 use Rattle.std.proofs.lemmas.List.{get_or-set_same, get_or-set_other}
 use Rattle.std.proofs.lemmas.Bool.Decides.{nat_tests}
 use Rattle.std.proofs.lemmas.Option.{none-some, same_Some}
+use Rattle.std.proofs.lemmas.List.Folds.{list_any-append}
+use Rattle.std.proofs.Math.Bool.{and-false}
 use Rattle.oc_tree.specs.Tree.{TProgram}
 use Rattle.oc_tree.specs.declared.tree.VarId.{VarId}
 use Rattle.oc_tree.specs.declared.tree.VarId.TheVariants.{Nv, Param, Declared, Returned}
@@ -25,14 +27,6 @@ use Rattle.oc_flow.proofs.Numbers.{numbered, number_at, number_below}
 use Rattle.oc_flow.proofs.Added.{get_or_map}
 
 -- ---- lists
-
-pub any_join : {A : Type 0} (t : A → Bool) (xs ys : List A) → list_any t (xs ++ ys) ≡ list_any t xs || list_any t ys
-any_join t [] ys = refl
-any_join t (x ∷ xs) ys = ap (λ b. t x || b) (any_join t xs ys) ∙ or_assoc (t x) (list_any t xs) (list_any t ys)
-  where
-    or_assoc : (a b c : Bool) → a || (b || c) ≡ (a || b) || c
-    or_assoc true b c = refl
-    or_assoc false b c = refl
 
 none_declared : (t : VarId → Bool) → ((s : ℕ) → t (Declared s) ≡ false) → (es : List TEffect) → list_any t (map (λ a. Declared a.stmt) es) ≡ false
 none_declared t h [] = refl
@@ -63,12 +57,8 @@ outer_any p f t s none same =
     any_cong t s o (λ x i. same x)
     ∙ or_false (list_any s o)
     ∙ ap (λ b. list_any s o || b) (sym (none_declared s none (filter (λ a. a.declares) (effects_at p f))))
-    ∙ sym (any_join s o (declared_of (effects_at p f)))
+    ∙ sym (list_any-append s o (declared_of (effects_at p f)))
     ∙ ap (list_any s) (split p f)
-
-and_false : (b : Bool) → b && false ≡ false
-and_false true = refl
-and_false false = refl
 
 all_at : {A : Type 0} (t : A → Bool) (xs : List A) → list_all t xs ≡ true → (x : A) → IsOf x xs → t x ≡ true
 all_at t [] h x i = absurd i
@@ -149,7 +139,7 @@ flows_told t step links u v = go (number_in t.variables u) (number_in t.variable
     go : (a b : Option ℕ) → number_in t.variables u ≡ a → number_in t.variables v ≡ b → flows_between t.cells u v a b
         ≡ is_among u t.variables && (is_among v t.variables && (same_variable u v || chain step t.variables u v))
     go None b ea eb = ap (λ x. x && (is_among v t.variables && (same_variable u v || chain step t.variables u v))) (sym (not_among t.variables u ea))
-    go (Some i) None ea eb = sym (and_false (is_among u t.variables)) ∙ ap (λ x. is_among u t.variables && (x && (same_variable u v || chain step t.variables u v))) (sym (not_among t.variables v eb))
+    go (Some i) None ea eb = sym (and-false (is_among u t.variables)) ∙ ap (λ x. is_among u t.variables && (x && (same_variable u v || chain step t.variables u v))) (sym (not_among t.variables v eb))
     go (Some i) (Some j) ea eb =
         let hu = is_among_at t.variables u i ea in
         let hv = is_among_at t.variables v j eb in
@@ -172,7 +162,7 @@ module _ (p : TProgram) (r : Ranked p) (ks : Knowns) (right : Right p ks) where
           ∙ outer_any p g (λ x. leads_from k a c x u t) (λ x. begins c x u && list_any (λ y. flows p g x y && ends a c y t) (variables p g)) (λ s. refl)
           (λ x. ap (λ b. begins c x u && b)
           (ap (list_any (λ y. table_flows k.table x y && ends a c y t)) is.outer
-          ∙ outer_any p g (λ y. table_flows k.table x y && ends a c y t) (λ y. flows p g x y && ends a c y t) (λ s. and_false (flows p g x (Declared s)))
+          ∙ outer_any p g (λ y. table_flows k.table x y && ends a c y t) (λ y. flows p g x y && ends a c y t) (λ s. and-false (flows p g x (Declared s)))
           (λ y. ap (λ b. b && ends a c y t) (is.flows x y))))
 
   called_brings : (a : TEffect) (o : Option TCalled) → is_ready ks o ≡ true → (v : VarId) → brings_called ks a o v ≡ brings_by_call p (brings p) a o v
@@ -185,7 +175,7 @@ module _ (p : TProgram) (r : Ranked p) (ks : Knowns) (right : Right p ks) where
           let is : KnownIs p c.function k = right.each c.function k e in
           ap (list_any (λ y. ends a c y v && known_receives k y)) is.outer
           ∙ outer_any p c.function (λ y. ends a c y v && known_receives k y) (λ y. receives p (brings p) c.function y && ends a c y v)
-          (λ s. and_false (receives p (brings p) c.function (Declared s)))
+          (λ s. and-false (receives p (brings p) c.function (Declared s)))
           (λ y. and_swap (ends a c y v) (known_receives k y) ∙ ap (λ b. b && ends a c y v) (is.receives y))
 
   -- what a statement brings is what is known

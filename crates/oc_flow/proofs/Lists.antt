@@ -3,10 +3,10 @@ use Rattle.std.proofs.Common.{◌≡◌, ◌<◌, inl, inr, ℕ, zero, suc, Bool
 use Rattle.std.specs.Prelude.{◌||◌, nat_eq}
 use Rattle.std.specs.List.{list_any}
 use Rattle.std.proofs.Math.ListN.{get_or}
-use Rattle.std.proofs.lemmas.Bool.{eqb-true}
+use Rattle.std.proofs.lemmas.Bool.{eqb-true, or_left, or_right}
 use Rattle.oc_tree.specs.declared.tree.VarId.{VarId}
 use Rattle.oc_tree.specs.declared.tree.VarId.TheVariants.{Nv, Param, Declared, Returned}
-use Rattle.oc_tree.proofs.ReachLaws.{or_left, or_right, or_elim}
+use Rattle.oc_tree.proofs.ReachLaws.{or_elim}
 use Rattle.oc_flow.specs.Variables.{same_variable, is_among, is_variable_of}
 use Rattle.oc_tree.specs.Members.{IsOf}
 

@@ -5,11 +5,10 @@ use Rattle.std.specs.List.{list_any}
 use Rattle.std.proofs.Math.ListN.{get_or, length-set}
 use Rattle.std.proofs.lemmas.List.{get_or-set_same, get_or-set_other}
 use Rattle.std.proofs.lemmas.List.Folds.{list_any_more}
-use Rattle.std.proofs.lemmas.Bool.{eqb-true}
+use Rattle.std.proofs.lemmas.Bool.{eqb-true, or_left, or_right}
 use Rattle.std.proofs.lemmas.Option.{same_Some}
 use Rattle.oc_tree.specs.declared.tree.VarId.{VarId}
 use Rattle.oc_tree.specs.Members.{IsOf}
-use Rattle.oc_tree.proofs.ReachLaws.{or_left, or_right}
 use Rattle.oc_flow.specs.Variables.{same_variable, is_among}
 use Rattle.oc_flow.specs.Known.{number_in, cell, TTable, Joined, MarkedRow, Marks, flows_between, table_flows, received_at, Holds}
 use Rattle.oc_flow.proofs.Lists.{same_tests, same_is, same_itself, of_among}

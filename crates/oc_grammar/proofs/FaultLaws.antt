@@ -11,7 +11,7 @@ use Rattle.oc_grammar.specs.Lexemes.{Lexeme, Lexemes, keyword, sign, last_line}
 use Rattle.oc_grammar.specs.Reading.{Fault, syntax_fault, depth_fault}
 use Rattle.oc_grammar.specs.Programs.{empty_program, no_item}
 use Rattle.oc_grammar.specs.ReadingPrograms.{items_at, program_at}
-use Rattle.oc_grammar.specs.Depths.{BeginsWithin, Begins, Opens, curly, round, square, before_minus, before_not, between, Passes, InDepth, IsDepth, IsSyntax, wrong, ended}
+use Rattle.oc_grammar.specs.Depths.{BeginsWithin, BeginsProgram, Opens, curly, round, square, before_minus, before_not, between, PassesDepth, InDepth, IsDepth, IsSyntax, wrong, ended}
 use Rattle.oc_grammar.proofs.ProgramLaws.{program_sound, program_read}
 use Rattle.oc_grammar.proofs.Online.{Positive, is_curly, Online}
 use Rattle.oc_grammar.proofs.TogetherExpressions.{Above, base, up, whole_good, call_args_good}
@@ -107,7 +107,7 @@ no_such : (q : Lexemes → Result TProgram Fault) (more : Lexemes) (y : TProgram
 no_such q more y f a e = let k : ◌≡◌ {A = Result TProgram Fault} (Ok y) (Err f) = sym a ∙ e in cc
 
 refused_begins_not : (p : TProgram) (front : Lexemes) (t : Lexeme) (behind : Lexemes) → items_at the_depths p 1 1 (front ++ t ∷ behind) ≡ Err (syntax_fault (suc (length behind)))
-    → Begins (front ++ t ∷ []) → ⊥
+    → BeginsProgram (front ++ t ∷ []) → ⊥
 refused_begins_not p front t behind e b =
     let c = read_on b.limits p front t b.within in
     let h = refuses_too (gap_of the_depths (both b.limits)) no_asks programs true
@@ -133,7 +133,7 @@ more_positive operators_depth = tt
 
 -- where reading stops later, the tokens begin a program
 stops_later : (p : TProgram) (front : Lexemes) (t : Lexeme) (behind : Lexemes) (f : Fault) → items_at the_depths p 1 1 (front ++ t ∷ behind) ≡ Err f → left_of f ≤ length behind
-    → Begins (front ++ t ∷ [])
+    → BeginsProgram (front ++ t ∷ [])
 stops_later p front t behind f e h =
     record {
       limits = one_more;
@@ -173,17 +173,17 @@ split (t ∷ ts) m h = by_length (eqb (length ts) m) refl (λ g. split ts m g)
         let s = again (below (length ts) m h ne) in
         record { front = t ∷ s.front; token = s.token; behind = s.behind; is = ap (λ (l : Lexemes). t ∷ l) s.is; left = s.left }
 
-empty_begins : Begins []
+empty_begins : BeginsProgram []
 empty_begins = record { limits = the_depths; within = record { more = []; program = empty_program 1; spelled = no_item } }
 
-front_begins : (p : TProgram) (front rest : Lexemes) (f : Fault) → items_at the_depths p 1 1 (front ++ rest) ≡ Err f → left_of f ≤ length rest → Begins front
+front_begins : (p : TProgram) (front rest : Lexemes) (f : Fault) → items_at the_depths p 1 1 (front ++ rest) ≡ Err f → left_of f ≤ length rest → BeginsProgram front
 front_begins p [] rest f e h = empty_begins
 front_begins p (t ∷ front) rest f e h =
     let s = split (t ∷ front) 0 (omega arith) in
     let k : s.behind ≡ [] = no_length s.behind s.left in
     let i : t ∷ front ≡ s.front ++ s.token ∷ [] = s.is ∙ ap (λ (l : Lexemes). s.front ++ s.token ∷ l) k in
     let j : (t ∷ front) ++ rest ≡ s.front ++ s.token ∷ rest = ap (λ (l : Lexemes). l ++ rest) i ∙ append_assoc s.front (s.token ∷ []) rest in
-    subst Begins (sym i) (stops_later p s.front s.token rest f (subst (λ (l : Lexemes). items_at the_depths p 1 1 l ≡ Err f) j e) h)
+    subst BeginsProgram (sym i) (stops_later p s.front s.token rest f (subst (λ (l : Lexemes). items_at the_depths p 1 1 l ≡ Err f) j e) h)
 
 -- ---- depths that are passed
 
@@ -257,7 +257,7 @@ passed_there d l k front t p c (inl h) = no_such (λ more. items_at (both l) p 1
 passed_there d l k front t p c (inr h) = subst Positive (both_same d l k) h.0
 
 deep_passes : (p : TProgram) (front : Lexemes) (t : Lexeme) (behind : Lexemes) (d : Depth) → items_at the_depths p 1 1 (front ++ t ∷ behind)
-    ≡ Err (depth_fault d (suc (length behind))) → Passes d front t
+    ≡ Err (depth_fault d (suc (length behind))) → PassesDepth d front t
 deep_passes p front t behind d e =
     let n : ℕ = suc (length (front ++ t ∷ behind)) in
     let deep = deep_too (gap_of the_depths one_more) all_asks programs true (aloud n p p) front t behind d (omega arith) e in

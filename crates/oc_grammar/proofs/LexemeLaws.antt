@@ -6,7 +6,7 @@ use Rattle.oc_lex.specs.declared.token.Word.{Word}
 use Rattle.oc_lex.specs.declared.token.Kind.TheVariants as kinds
 use Rattle.oc_lex.specs.declared.token.Token.{Token}
 use Rattle.oc_lex.specs.Bytes.{value_of}
-use Rattle.oc_lex.specs.Stands.{Spells, StandsIn}
+use Rattle.oc_lex.specs.Stands.{SpellsKind, StandsIn}
 use Rattle.oc_lex.specs.Tokens.{AreTokens}
 use Rattle.oc_lex.proofs.StandsLaws.{tokens_stand}
 use Rattle.oc_grammar.specs.Lexemes.{keyword, reserved, says, lexeme_by, lexemes_in, LexemeInForm, LexemesInForm}
@@ -15,7 +15,7 @@ word_in : (b : Bool) (line : ℕ) (w : Word) → LexemeInForm (cond b (keyword l
 word_in true line w = tt
 word_in false line w = tt
 
-by_kind : (atomic : Bool) (line : ℕ) (text : List ℕ) (k : Kind) → Spells k text → LexemeInForm (lexeme_by atomic line text k)
+by_kind : (atomic : Bool) (line : ℕ) (text : List ℕ) (k : Kind) → SpellsKind k text → LexemeInForm (lexeme_by atomic line text k)
 by_kind atomic line text kinds.Name h = h
 by_kind atomic line text (kinds.Number v) h = (value_of text, h.1, h.2)
 by_kind atomic line text (kinds.Word w) h = word_in (says atomic w) line w

@@ -6,7 +6,7 @@ use Rattle.oc_grammar.specs.Lexemes.{Lexeme, Lexemes}
 use Rattle.oc_grammar.specs.Reading.{Fault, syntax_fault, depth_fault}
 use Rattle.oc_grammar.specs.Programs.{SpellsProgram}
 use Rattle.oc_grammar.specs.ReadingPrograms.{program_at}
-use Rattle.oc_grammar.specs.Depths.{BeginsWithin, Begins, IsDepth, IsSyntax, wrong, ended}
+use Rattle.oc_grammar.specs.Depths.{BeginsWithin, BeginsProgram, IsDepth, IsSyntax, wrong, ended}
 use Rattle.oc_grammar.proofs.ProgramLaws.{program_sound}
 use Rattle.oc_grammar.proofs.FaultLaws.{syntax_there, depth_there}
 
@@ -40,13 +40,13 @@ order (x ∷ a) t b (y ∷ c) u d e =
 
 -- ---- what begins a program
 
-begins_less : (a b : Lexemes) → Begins (a ++ b) → Begins a
+begins_less : (a b : Lexemes) → BeginsProgram (a ++ b) → BeginsProgram a
 begins_less a b h =
     let w = h.within in
     record { limits = h.limits; within = record { more = b ++ w.more; program = w.program; spelled = subst (λ (l : Lexemes). SpellsProgram h.limits w.program l) (append_assoc a b w.more) w.spelled } }
 
-begins_to : (a : Lexemes) (t : Lexeme) (m c : Lexemes) → c ≡ a ++ t ∷ m → Begins c → Begins (a ++ t ∷ [])
-begins_to a t m c e h = begins_less (a ++ t ∷ []) m (subst Begins (e ∙ sym (append_assoc a (t ∷ []) m)) h)
+begins_to : (a : Lexemes) (t : Lexeme) (m c : Lexemes) → c ≡ a ++ t ∷ m → BeginsProgram c → BeginsProgram (a ++ t ∷ [])
+begins_to a t m c e h = begins_less (a ++ t ∷ []) m (subst BeginsProgram (e ∙ sym (append_assoc a (t ∷ []) m)) h)
 
 spelled_begins : (p : TProgram) (tokens : Lexemes) (a : Lexemes) (t : Lexeme) (b : Lexemes) → tokens ≡ a ++ t ∷ b → SpellsProgram the_depths p tokens → BeginsWithin the_depths (a ++ t ∷ [])
 spelled_begins p tokens a t b e h = record { more = b; program = p; spelled = subst (λ (l : Lexemes). SpellsProgram the_depths p l) (e ∙ sym (append_assoc a (t ∷ []) b)) h }

@@ -15,7 +15,7 @@ pub record BeginsWithin (limits : Limits) (tokens : Lexemes) : Type 0 where
   pub spelled : SpellsProgram limits program (tokens ++ more)
 
 -- tokens begin a program of any depth: it is spelled by them and perhaps some more
-pub record Begins (tokens : Lexemes) : Type 0 where
+pub record BeginsProgram (tokens : Lexemes) : Type 0 where
   pub limits : Limits
   pub within : BeginsWithin limits tokens
 
@@ -32,9 +32,9 @@ pub data Opens : Depth → Lexeme → Type 0 where
 
 -- Behind the tokens in `front`, this one passes the depth: up to and with it they begin programs,
 -- but none that keeps to the depth, whatever the other two are.
-pub record Passes (depth : Depth) (front : Lexemes) (token : Lexeme) : Type 0 where
+pub record PassesDepth (depth : Depth) (front : Lexemes) (token : Lexeme) : Type 0 where
   pub opens : Opens depth token
-  pub begins : Begins (front ++ token ∷ [])
+  pub begins : BeginsProgram (front ++ token ∷ [])
   pub passed : (limits : Limits)
       → limit depth limits ≡ limit depth the_depths → BeginsWithin limits (front ++ token ∷ []) → ⊥
 
@@ -42,7 +42,7 @@ pub record Passes (depth : Depth) (front : Lexemes) (token : Lexeme) : Type 0 wh
 abbrev pub InDepth : Lexemes → Type 0
 InDepth tokens =
     (depth : Depth) (front : Lexemes) (token : Lexeme) (behind : Lexemes)
-    → tokens ≡ front ++ token ∷ behind → Passes depth front token → ⊥
+    → tokens ≡ front ++ token ∷ behind → PassesDepth depth front token → ⊥
 
 -- the token at this place is the first that passes a depth
 pub record IsDepth (tokens : Lexemes) (at_token : ℕ) : Type 0 where
@@ -52,16 +52,16 @@ pub record IsDepth (tokens : Lexemes) (at_token : ℕ) : Type 0 where
   pub split : tokens ≡ front ++ token ∷ behind
   pub place : at_token ≡ length front
   pub depth : Depth
-  pub passes : Passes depth front token
+  pub passes : PassesDepth depth front token
   pub first : InDepth front
 
 -- no token before passes a depth, and up to and with this one the tokens begin no program, while
 -- they do before it; or all begin one and spell none
 pub data IsSyntax (tokens : Lexemes) (at_token : ℕ) : Type 0 where
   wrong : (front : Lexemes) (token : Lexeme) (behind : Lexemes)
-      → tokens ≡ front ++ token ∷ behind → at_token ≡ length front → InDepth front → Begins front
-      → (Begins (front ++ token ∷ []) → ⊥)
+      → tokens ≡ front ++ token ∷ behind → at_token ≡ length front → InDepth front → BeginsProgram front
+      → (BeginsProgram (front ++ token ∷ []) → ⊥)
       → IsSyntax tokens at_token
-  ended : at_token ≡ length tokens → InDepth tokens → Begins tokens
+  ended : at_token ≡ length tokens → InDepth tokens → BeginsProgram tokens
       → ((limits : Limits) (p : TProgram) → SpellsProgram limits p tokens → ⊥)
       → IsSyntax tokens at_token

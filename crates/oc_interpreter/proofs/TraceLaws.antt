@@ -12,7 +12,7 @@ use Rattle.oc_meaning.specs.Unmarked.{is_mark, unmarked}
 use Rattle.oc_interpreter.specs.declared.store.Event.{Event as Noted}
 use Rattle.oc_interpreter.specs.declared.trace.Mark.{Mark}
 use Rattle.oc_interpreter.specs.Stores.{event_view as noted_view, told}
-use Rattle.oc_interpreter.specs.Telling.{Tells, Adds}
+use Rattle.oc_interpreter.specs.Telling.{TellsParts, Adds}
 use Rattle.oc_meaning.specs.Parts.{MayBe, AreParts}
 use Rattle.oc_interpreter.specs.Traces.{event_view, mark_view, marks_at, told_from, Rises}
 
@@ -90,11 +90,11 @@ unmarked-append (e ∷ a) b = go (is_mark e.said) (unmarked-append a b)
     go true h = h
     go false h = ap (λ l. e ∷ l) h
 
-pub tells_none : Tells [] [] []
+pub tells_none : TellsParts [] [] []
 tells_none = record { source = refl; parts = refl; rises = omega arith }
 
-pub tells_event : (es : List SourceEvent) (ms : List Mark) (ps : List Event) (e : SourceEvent) (x : Event) → Tells es ms ps → event_view e ≡ x → is_mark x.said ≡ false
-    → Tells (es ++ e ∷ []) ms (ps ++ x ∷ [])
+pub tells_event : (es : List SourceEvent) (ms : List Mark) (ps : List Event) (e : SourceEvent) (x : Event) → TellsParts es ms ps → event_view e ≡ x → is_mark x.said ≡ false
+    → TellsParts (es ++ e ∷ []) ms (ps ++ x ∷ [])
 tells_event es ms ps e x h same no_mark =
     let views : map event_view (es ++ e ∷ []) ≡ map event_view es ++ x ∷ [] = map-append event_view es (e ∷ []) ∙ ap (λ y. map event_view es ++ y ∷ []) same in
     let many : length (map event_view es) ≡ length es = length-map es event_view in
@@ -106,8 +106,8 @@ tells_event es ms ps e x h same no_mark =
       rises = Rises-more 0 ms (length es) (length (es ++ e ∷ [])) h.rises (omega (arith, more));
     }
 
-pub tells_mark : (es : List SourceEvent) (ms : List Mark) (ps : List Event) (m : Mark) (x : Event) → Tells es ms ps → m.before ≡ length es → is_mark x.said ≡ true → mark_view m ≡ x
-    → Tells es (ms ++ m ∷ []) (ps ++ x ∷ [])
+pub tells_mark : (es : List SourceEvent) (ms : List Mark) (ps : List Event) (m : Mark) (x : Event) → TellsParts es ms ps → m.before ≡ length es → is_mark x.said ≡ true → mark_view m ≡ x
+    → TellsParts es (ms ++ m ∷ []) (ps ++ x ∷ [])
 tells_mark es ms ps m x h before mark same =
     let many : length (map event_view es) ≡ length es = length-map es event_view in
     let there : m.before ≡ 0 + length (map event_view es) = omega (arith, before, many) in
@@ -132,15 +132,15 @@ in_order-told es = in_order-reverse (told es) ∙ reverse-reverse (map noted_vie
 pub adds_event : (es : List SourceEvent) (ms : List Mark) (e : SourceEvent) (x : Event) (new : List SourceEvent) → new ≡ es ++ e ∷ []
     → (event_view e ≡ x) × (is_mark x.said ≡ false) → Adds es ms x new ms
 adds_event es ms e x new pushed is =
-    record { adds = λ ps may told. subst (λ l. Tells l ms (ps ++ x ∷ [])) (sym pushed) (tells_event es ms ps e x told is.0 is.1) }
+    record { adds = λ ps may told. subst (λ l. TellsParts l ms (ps ++ x ∷ [])) (sym pushed) (tells_event es ms ps e x told is.0 is.1) }
 
 pub adds_mark : (es : List SourceEvent) (ms : List Mark) (m : Mark) (x : Event) (new : List Mark) → new ≡ ms ++ m ∷ [] → m.before ≡ length es → is_mark x.said ≡ true
     → (MayBe x.said x.samples x.instance → mark_view m ≡ x) → Adds es ms x es new
 adds_mark es ms m x new pushed before mark same =
-    record { adds = λ ps may told. subst (λ l. Tells es l (ps ++ x ∷ [])) (sym pushed) (tells_mark es ms ps m x told before mark (same may)) }
+    record { adds = λ ps may told. subst (λ l. TellsParts es l (ps ++ x ∷ [])) (sym pushed) (tells_mark es ms ps m x told before mark (same may)) }
 
-pub tells_more : (ys : List Noted) (y : Noted) (es es' : List SourceEvent) (ms ms' : List Mark) → (AreParts (map noted_view ys) → Tells es ms (map noted_view ys))
-    → Adds es ms (noted_view y) es' ms' → AreParts (map noted_view (ys ++ y ∷ [])) → Tells es' ms' (map noted_view (ys ++ y ∷ []))
+pub tells_more : (ys : List Noted) (y : Noted) (es es' : List SourceEvent) (ms ms' : List Mark) → (AreParts (map noted_view ys) → TellsParts es ms (map noted_view ys))
+    → Adds es ms (noted_view y) es' ms' → AreParts (map noted_view (ys ++ y ∷ [])) → TellsParts es' ms' (map noted_view (ys ++ y ∷ []))
 tells_more ys y es es' ms ms' before step h =
     let l = parts_last ys y h in
-    subst (Tells es' ms') (sym (map-append noted_view ys (y ∷ []))) (step.adds (map noted_view ys) l.1 (before l.0))
+    subst (TellsParts es' ms') (sym (map-append noted_view ys (y ∷ []))) (step.adds (map noted_view ys) l.1 (before l.0))

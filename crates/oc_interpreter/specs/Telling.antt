@@ -18,7 +18,7 @@ IsPart x before (kinds.Marked m) =
 IsPart x before kinds.Nothing = MayBe x.said x.samples x.instance → ⊥
 
 -- what was told so far: these events of the source, and these marks
-pub record Tells (events : List SourceEvent) (marks : List Mark) (told : List Event) : Type 0 where
+pub record TellsParts (events : List SourceEvent) (marks : List Mark) (told : List Event) : Type 0 where
   pub source : map event_view events ≡ unmarked told
   pub parts : told_from 0 marks (map event_view events) ≡ told
   pub rises : Rises 0 marks (length events)
@@ -27,4 +27,4 @@ pub record Tells (events : List SourceEvent) (marks : List Mark) (told : List Ev
 pub record Adds (events : List SourceEvent)
     (marks : List Mark) (x : Event) (events' : List SourceEvent) (marks' : List Mark) : Type 0 where
   pub adds : (told : List Event) → MayBe x.said x.samples x.instance
-      → Tells events marks told → Tells events' marks' (told ++ x ∷ [])
+      → TellsParts events marks told → TellsParts events' marks' (told ++ x ∷ [])

@@ -3,7 +3,7 @@ ghost use Rattle.std.specs.Prelude.{◌≡◌, ◌<◌, [], length, map, take, t
 ghost use Rattle.oc_meaning.specs.Run.{AtShort, in_order, trace_at, words_of};
 ghost use Rattle.oc_meaning.specs.Unmarked.{without_marks};
 ghost use Rattle.oc_interpreter.specs.Stores.{event_view};
-ghost use Rattle.oc_interpreter.specs.Telling.{Adds, IsPart, Tells};
+ghost use Rattle.oc_interpreter.specs.Telling.{Adds, IsPart, TellsParts};
 ghost use Rattle.oc_meaning.specs.Parts.{AreParts};
 ghost use Rattle.oc_interpreter.specs.Traces.{Rises, ending_of, parts, said_of, trace_view};
 
@@ -128,7 +128,7 @@ fn add(events: &mut Vec<SourceEvent>, marks: &mut Vec<Mark>, event: Event) -> Re
 /// The events of the source and the marks among what was noted.
 fn split(alloc: Global, noted: Vec<Event>) -> Result<(Vec<SourceEvent>, Vec<Mark>), AllocError>
     requires { AreParts (map event_view noted.items) }
-    ensures { IfOk result (λ t. Tells t.0.items t.1.items (map event_view noted.items)) }
+    ensures { IfOk result (λ t. TellsParts t.0.items t.1.items (map event_view noted.items)) }
 {
     let mut events = Vec::new(alloc);
     let mut marks = Vec::new(alloc);
@@ -158,7 +158,7 @@ fn make_trace(
 ) -> Result<(SourceTrace, Vec<Mark>), AllocError>
     requires { AreParts (map event_view noted.items) }
     ensures events { IfOk result
-        (λ t. Tells t.0.events.items t.1.items (map event_view noted.items)) }
+        (λ t. TellsParts t.0.events.items t.1.items (map event_view noted.items)) }
     ensures outcome { IfOk result (λ t. t.0.outcome ≡ outcome) }
     ensures nv { IfOk result (λ t. t.0.nv.items ≡ words_of nv.items) }
 {

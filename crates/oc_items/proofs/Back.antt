@@ -1,9 +1,10 @@
 -- An item is told by its line.
-use Rattle.std.proofs.Common.{ℕ, ◌<◌, ◌≡◌, cond, List, [], ◌∷◌, ◌++◌, get_or, decimal, codes, ap, sym, ◌∙◌, refl, arith, append_assoc, suc}
+use Rattle.std.proofs.Common.{ℕ, ◌<◌, ◌≡◌, cond, List, [], ◌∷◌, ◌++◌, get_or, decimal, codes, ap, sym, ◌∙◌, refl, arith, append_assoc}
 use Rattle.std.proofs.lemmas.List.{append-nil}
 use Rattle.std.specs.List.{All}
 use Rattle.std.specs.Str.{bytes_eq}
 use Rattle.std.specs.Str.Parse.{digits_value}
+use Rattle.std.proofs.lemmas.List.Elements.{All-tail}
 use Rattle.oc_io.specs.Lines.{further}
 use Rattle.oc_tree.specs.Names.{NameLists}
 use Rattle.oc_tree.specs.declared.said.TrapKind.{TrapKind}
@@ -18,9 +19,6 @@ use Rattle.oc_items.proofs.Places.{place_from, place_back}
 
 pub first_of_all : {X : Type 0} (P : X → Type 0) (x : X) (xs : List X) → All P (x ∷ xs) → P x
 first_of_all P x xs h = h 0 x (omega arith)
-
-pub rest_of_all : {X : Type 0} (P : X → Type 0) (x : X) (xs : List X) → All P (x ∷ xs) → All P xs
-rest_of_all P x xs h = λ k d l. h (suc k) d (omega (arith, l))
 
 abbrev pub kind_from : List ℕ → TrapKind
 kind_from word = cond (bytes_eq word (codes "zero")) trap.Zero trap.Index
@@ -108,7 +106,7 @@ same_items names s p (i ∷ a) (j ∷ b) r t h k q w e =
     (line_fits names s p i hi) (line_fits names s p j hj)
     (sym (append_assoc (item_line names i) (report_text names a) r) ∙ e ∙ append_assoc (item_line names j) (report_text names b) t) in
     let one : i ≡ j = sym (line_back names s p i hi) ∙ ap (told_line names) cut.0 ∙ line_back names s p j hj in
-    let rest = same_items names s p a b r t (rest_of_all (IsItem names) i a h) (rest_of_all (IsItem names) j b k) q w cut.1 in
+    let rest = same_items names s p a b r t (All-tail (IsItem names) i a h) (All-tail (IsItem names) j b k) q w cut.1 in
     (ap (λ (x : Item). x ∷ a) one ∙ ap (λ (xs : List Item). j ∷ xs) rest.0, rest.1)
 
 pub one_text : OneTextEach

@@ -9,7 +9,7 @@ use Rattle.oc_items.specs.declared.item.Item.{Item}
 use Rattle.oc_items.specs.declared.item.Item.TheVariants as item
 use Rattle.oc_items.specs.Text.{tick_of, item_line}
 use Rattle.oc_items.specs.OneText.{is_field, IsItem}
-use Rattle.oc_items.specs.Reading.{place_of, HasLine, Tells, body_of, has_no_space, StandsBehind, IsValue, NoneBefore, Named, HasBody, TellsBody, NoSense, NoEmit, NoStatement, NoMark, NoStop}
+use Rattle.oc_items.specs.Reading.{place_of, HasLine, LineTells, body_of, has_no_space, StandsBehind, IsValue, NoneBefore, NamedIn, HasBody, TellsBody, NoSense, NoEmit, NoStatement, NoMark, NoStop}
 use Rattle.oc_items.proofs.Fields.{decimal_field}
 
 -- ---- lines and bodies
@@ -160,14 +160,14 @@ first_emit names tick place bytes rest e n (item.End t) h = absurd (unlike_secon
 first_emit names tick place bytes rest e n (item.Dark t) h = absurd (unlike 100 101 _ _ (λ d. omega (arith, d)) (h.body ∙ sym e))
 
 pub tells_sense : (names : NameLists) (tick place : ℕ) (value : ℤ) (bytes rest : List ℕ) → tick < 2 ^ 64 → StandsBehind (codes "sense ") bytes rest
-    → Named names.sensors rest place value → TellsBody names tick bytes (item.Sense tick place value)
+    → NamedIn names.sensors rest place value → TellsBody names tick bytes (item.Sense tick place value)
 tells_sense names tick place value bytes rest l e n = record {
   has = record { is = record { tick = l; named = n.there; fits = n.is_value.fits }; tick_is = refl; body = ap (λ (r : List ℕ). codes "sense " ++ r) n.is_value.spelled ∙ e };
   first = first_sense names tick place bytes rest e n.first;
 }
 
 pub tells_emit : (names : NameLists) (tick place : ℕ) (value : ℤ) (bytes rest : List ℕ) → tick < 2 ^ 64 → StandsBehind (codes "emit ") bytes rest
-    → Named names.ports rest place value → TellsBody names tick bytes (item.Emit tick place value)
+    → NamedIn names.ports rest place value → TellsBody names tick bytes (item.Emit tick place value)
 tells_emit names tick place value bytes rest l e n = record {
   has = record { is = record { tick = l; named = n.there; fits = n.is_value.fits }; tick_is = refl; body = ap (λ (r : List ℕ). codes "emit " ++ r) n.is_value.spelled ∙ e };
   first = first_emit names tick place bytes rest e n.first;
@@ -178,7 +178,7 @@ pub tells_other : (names : NameLists) (tick : ℕ) (bytes : List ℕ) (i : Item)
 tells_other names tick bytes i z is t b = record { has = record { is = is; tick_is = t; body = b }; first = λ j h. omega (arith, z) }
 
 pub tells_line : (names : NameLists) (line digits body : List ℕ) (tick : ℕ) (i : Item) → tick < 2 ^ 64 → digits ++ (codes " " ++ body) ≡ line → has_no_space digits ≡ true
-    → decimal tick ≡ digits → TellsBody names tick body i → ((n : ℕ) → n < 2 ^ 64 → decimal n ≡ digits → n ≡ tick) → Tells names line i
+    → decimal tick ≡ digits → TellsBody names tick body i → ((n : ℕ) → n < 2 ^ 64 → decimal n ≡ digits → n ≡ tick) → LineTells names line i
 tells_line names line digits body tick i l e s d t only = record {
   has = has_line names line digits body tick i e d t.has;
   first = λ j h. let p = parts_of_line names line digits body e s j h in t.first j (record { is = h.is; tick_is = only (tick_of j) h.is.tick p.0; body = p.1 });

@@ -6,7 +6,7 @@ use Rattle.oc_tree.specs.Said.{Told}
 use Rattle.oc_tree.specs.declared.said.Said.{Said}
 use Rattle.oc_tree.specs.declared.said.Said.TheVariants.{Sensed, Showed, Entered, Committed, Aborted, Off, Dark, Ended}
 use Rattle.oc_items.specs.Erase.{mark_or, next_mark, begins_stretch, goes_on, erase_from, erase}
-use Rattle.oc_items.specs.Erased.{IsNoMark, HasNoMark, IsAttempt, attempt, Begins, Erases, nothing, leaving, keeping, ErasesIt, ErasesAlone}
+use Rattle.oc_items.specs.Erased.{IsNoMark, HasNoMark, IsAttempt, attempt, BeginsRun, Erases, nothing, leaving, keeping, ErasesIt, ErasesAlone}
 
 -- the rest of an attempt in front: what stands up to the `abort` of this region
 record Ends (r : ℕ) (items : List Told) : Type 0 where
@@ -104,7 +104,7 @@ starts r s mark e g = rw (e, g) (eq-eqb r r refl)
 -- the attempt in front, and what stands behind it
 record Front (i : Told) (is : List Told) : Type 0 where
   behind : List Told
-  begins : Begins (i ∷ is)
+  begins : BeginsRun (i ∷ is)
   same : begins.behind ≡ behind
   left : erase_from true is ≡ erase behind
   shorter : length behind ≤ length is
@@ -149,7 +149,7 @@ head_is i j is js e = cc
 tail_is : (i j : Told) (is js : List Told) → i ∷ is ≡ j ∷ js → is ≡ js
 tail_is i j is js e = cc
 
-begins_stretch_there : (i : Told) (is : List Told) → Begins (i ∷ is) → begins_stretch i.said (next_mark is) ≡ true
+begins_stretch_there : (i : Told) (is : List Told) → BeginsRun (i ∷ is) → begins_stretch i.said (next_mark is) ≡ true
 begins_stretch_there i is b =
     let l = attempts_leave b.taken b.behind b.attempts in
     let e = b.is ∙ l.is in

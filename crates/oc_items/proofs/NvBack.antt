@@ -5,12 +5,13 @@ use Rattle.std.proofs.lemmas.List.{take-append-drop}
 use Rattle.std.proofs.lemmas.List.Sums.{sum_by-cons}
 use Rattle.std.specs.Fmt.{signed_decimal}
 use Rattle.std.specs.List.{All}
+use Rattle.std.proofs.lemmas.List.Elements.{All-tail}
 use Rattle.oc_tree.specs.Names.{Text}
 use Rattle.oc_items.specs.Text.{words_lines, nv_lines, is_over}
 use Rattle.oc_items.specs.OneText.{is_field, OneReportEach}
 use Rattle.oc_items.proofs.Fields.{AllFields, line_cut}
 use Rattle.oc_items.proofs.Numbers.{signed_from, signed_field, signed_back}
-use Rattle.oc_items.proofs.Back.{same_items, Quiet, first_of_all, rest_of_all}
+use Rattle.oc_items.proofs.Back.{same_items, Quiet, first_of_all}
 
 abbrev pub AreWords : List ℤ → Type 0
 AreWords words = All (FitsSigned w32) words
@@ -19,11 +20,11 @@ words_back : (words : List ℤ) → AreWords words → map signed_from (map sign
 words_back [] h = refl
 words_back (x ∷ xs) h =
     ap (λ (y : ℤ). y ∷ map signed_from (map signed_decimal xs)) (signed_back x (first_of_all (FitsSigned w32) x xs h))
-    ∙ ap (λ (ys : List ℤ). x ∷ ys) (words_back xs (rest_of_all (FitsSigned w32) x xs h))
+    ∙ ap (λ (ys : List ℤ). x ∷ ys) (words_back xs (All-tail (FitsSigned w32) x xs h))
 
 words_fit : (words : List ℤ) → AreWords words → AllFields (map signed_decimal words)
 words_fit [] h = tt
-words_fit (x ∷ xs) h = (signed_field x (first_of_all (FitsSigned w32) x xs h), words_fit xs (rest_of_all (FitsSigned w32) x xs h))
+words_fit (x ∷ xs) h = (signed_field x (first_of_all (FitsSigned w32) x xs h), words_fit xs (All-tail (FitsSigned w32) x xs h))
 
 pub front_words : (k : ℕ) (words : List ℤ) → AreWords words → AreWords (take k words)
 front_words k words h = λ i d l.
@@ -56,7 +57,7 @@ same_words (name ∷ names) (size ∷ sizes) u v f n l m h k e =
     let fronts : take size u ≡ take size v =
     sym (words_back (take size u) (front_words size u h)) ∙ ap (λ (fs : List (List ℕ)). map signed_from (drop 2 fs)) cut.0 ∙ words_back (take size v) (front_words size v k) in
     let rests : drop size u ≡ drop size v =
-    same_words names sizes (drop size u) (drop size v) (rest_of_all (λ x. is_field x ≡ true) name names f) (omega (arith, n))
+    same_words names sizes (drop size u) (drop size v) (All-tail (λ x. is_field x ≡ true) name names f) (omega (arith, n))
     (omega (arith, l, total, length-drop size u)) (omega (arith, m, total, length-drop size v)) (back_words size u h) (back_words size v k) cut.1 in
     sym (take-append-drop size u) ∙ ap (λ (x : List ℤ). x ++ drop size u) fronts ∙ ap (λ (x : List ℤ). take size v ++ x) rests ∙ take-append-drop size v
 

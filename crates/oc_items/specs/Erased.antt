@@ -24,7 +24,7 @@ pub data IsAttempt : List Told → Type 0 where
       → IsAttempt (first ∷ between ++ last ∷ [])
 
 -- at the first of these items an aborted attempt begins
-pub record Begins (items : List Told) : Type 0 where
+pub record BeginsRun (items : List Told) : Type 0 where
   pub taken : List Told
   pub behind : List Told
   pub is : items ≡ taken ++ behind
@@ -36,7 +36,7 @@ pub data Erases : List Told → List Told → Type 0 where
   leaving : {taken behind left : List Told}
       → IsAttempt taken → Erases behind left → Erases (taken ++ behind) left
   keeping : {i : Told} {behind left : List Told}
-      → (Begins (i ∷ behind) → ⊥) → Erases behind left → Erases (i ∷ behind) (i ∷ left)
+      → (BeginsRun (i ∷ behind) → ⊥) → Erases behind left → Erases (i ∷ behind) (i ∷ left)
 
 -- a report is one other without its aborted attempts
 abbrev pub ErasesIt : Type 0

@@ -21,13 +21,13 @@ pub record HasLine (names : NameLists) (line : List ℕ) (i : Item) : Type 0 whe
   pub line_is : item_line names i ≡ line ++ codes "\n"
 
 -- an item is that of this line, its sensor or port the first of its name
-pub record Tells (names : NameLists) (line : List ℕ) (i : Item) : Type 0 where
+pub record LineTells (names : NameLists) (line : List ℕ) (i : Item) : Type 0 where
   pub has : HasLine names line i
   pub first : (j : Item) → HasLine names line j → place_of i ≤ place_of j
 
 -- no item has this line, whose sensor's or port's number fits its type
-abbrev pub TellsNone : NameLists → List ℕ → Type 0
-TellsNone names line = (i : Item) → place_of i < 2 ^ 8 → HasLine names line i → ⊥
+abbrev pub LineTellsNone : NameLists → List ℕ → Type 0
+LineTellsNone names line = (i : Item) → place_of i < 2 ^ 8 → HasLine names line i → ⊥
 
 -- ---- parts of a line
 
@@ -91,7 +91,7 @@ pub record NoneBefore (names : List Text) (bytes : List ℕ) (place : ℕ) : Typ
   pub none : (k : ℕ) (value : ℤ) → k < place → IsValue (name_at names k) bytes value → ⊥
 
 -- the name with this number is the first in front of a value, which is this one
-pub record Named (names : List Text) (bytes : List ℕ) (place : ℕ) (value : ℤ) : Type 0 where
+pub record NamedIn (names : List Text) (bytes : List ℕ) (place : ℕ) (value : ℤ) : Type 0 where
   pub there : place < length names
   pub is_value : IsValue (name_at names place) bytes value
   pub first : NoneBefore names bytes place

@@ -4,7 +4,7 @@ ghost use Rattle.std.specs.Str.{all_ascii_digits};
 ghost use Rattle.std.specs.Int.{w32};
 ghost use Rattle.std.specs.Fmt.{signed_decimal};
 ghost use Rattle.oc_tree.specs.Names.{NameLists, names_view, name_at};
-ghost use Rattle.oc_items.specs.Reading.{spelled_from, zero_leads, differ_first, Tells, TellsNone, TellsBody, HasBody, has_no_space, place_of, StandsBehind, Spelled, SpelledNone, IsValue, Named, NoSense, NoEmit, NoStatement, NoMark, NoStop};
+ghost use Rattle.oc_items.specs.Reading.{spelled_from, zero_leads, differ_first, LineTells, LineTellsNone, TellsBody, HasBody, has_no_space, place_of, StandsBehind, Spelled, SpelledNone, IsValue, NamedIn, NoSense, NoEmit, NoStatement, NoMark, NoStop};
 
 use crate::item::Item;
 use itoa::Buffer;
@@ -148,7 +148,7 @@ fn value_behind(name: &[u8], bytes: &[u8]) -> Option<i32>
 
 /// The number of the first name that stands in front of a value, and the value.
 fn read_named_value(names: &[Name], bytes: &[u8]) -> Option<(u8, i32)>
-    ensures some { IfSome result (λ r. Named names.now bytes.now r.0 r.1) }
+    ensures some { IfSome result (λ r. NamedIn names.now bytes.now r.0 r.1) }
     ensures none { IfNone result ((k : ℕ) (z : ℤ) → k < 2 ^ 8 → k < length names.now
         → IsValue (name_at names.now k) bytes.now z → ⊥) }
 {
@@ -262,8 +262,8 @@ fn read_body(tick: u64, body: &[u8], names: &Names) -> Option<Item>
 /// The item of which this is the line, without its line feed: of a sensor or port the first of its
 /// name. It takes no memory.
 pub fn read_item(line: &[u8], names: &Names) -> Option<Item>
-    ensures some { IfSome result (λ i. Tells (names_view names.now) line.now i) }
-    ensures none { IfNone result (TellsNone (names_view names.now) line.now) }
+    ensures some { IfSome result (λ i. LineTells (names_view names.now) line.now i) }
+    ensures none { IfNone result (LineTellsNone (names_view names.now) line.now) }
 {
     let parts = split_at_space(line)?;
     let tick = read_u64(parts.0)?;

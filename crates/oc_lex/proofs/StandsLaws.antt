@@ -12,7 +12,7 @@ use Rattle.oc_lex.specs.Bytes.{value_of}
 use Rattle.oc_lex.specs.Spellings.{mark_spelling}
 use Rattle.oc_lex.specs.Pieces.{IsPiece, Longest}
 use Rattle.oc_lex.specs.Tokens.{IsKind, token_at, Lexed, none, between, token, AreTokens}
-use Rattle.oc_lex.specs.Stands.{Spells, StandsIn, InOrder}
+use Rattle.oc_lex.specs.Stands.{SpellsKind, StandsIn, InOrder}
 use Rattle.oc_lex.proofs.PieceLaws.{positive}
 
 -- ---- one token
@@ -20,7 +20,7 @@ use Rattle.oc_lex.proofs.PieceLaws.{positive}
 small_enough : (v most : ℕ) → (most < v → ⊥) → v ≤ most
 small_enough v most h = omega arith
 
-kind_spelled : (p : Piece) (text after : List ℕ) (k : Kind) → IsPiece p text → IsKind p text after k → Spells k text
+kind_spelled : (p : Piece) (text after : List ℕ) (k : Kind) → IsPiece p text → IsKind p text after k → SpellsKind k text
 kind_spelled piece.Name text after kinds.Name i d = (i, d)
 kind_spelled piece.Name text after (kinds.Word w) i d = d
 kind_spelled piece.Name text after (kinds.Number v) i d = absurd d
@@ -46,7 +46,7 @@ token_stands source at n p k l d =
       some = omega arith;
       within = omega (arith, length-drop at source);
       line = refl;
-      spelled = subst (λ (x : ℕ). Spells k (take x (drop at source))) e (kind_spelled p (take n (drop at source)) (drop n (drop at source)) k l.is_piece d);
+      spelled = subst (λ (x : ℕ). SpellsKind k (take x (drop at source))) e (kind_spelled p (take n (drop at source)) (drop n (drop at source)) k l.is_piece d);
     }
 
 -- ---- all tokens

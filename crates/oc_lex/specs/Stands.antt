@@ -14,19 +14,19 @@ abbrev pub IsName : List ℕ → Type 0
 IsName text = IsPiece piece.Name text × SpellsNoWord text
 
 -- how a token of a kind may be spelled
-abbrev pub Spells : Kind → List ℕ → Type 0
-Spells kinds.Name text = IsName text
-Spells (kinds.Number v) text =
+abbrev pub SpellsKind : Kind → List ℕ → Type 0
+SpellsKind kinds.Name text = IsName text
+SpellsKind (kinds.Number v) text =
     IsPiece piece.Number text × (v ≡ pos (value_of text)) × (value_of text ≤ 2147483647)
-Spells (kinds.Word w) text = word_spelling w ≡ text
-Spells (kinds.Mark m) text = mark_spelling m ≡ text
+SpellsKind (kinds.Word w) text = word_spelling w ≡ text
+SpellsKind (kinds.Mark m) text = mark_spelling m ≡ text
 
 -- a token stands in its source: it isn't empty, it has its line, and its bytes spell its kind
 pub record StandsIn (source : List ℕ) (t : Token) : Type 0 where
   pub some : t.start < t.end
   pub within : t.end ≤ length source
   pub line : t.line ≡ 1 + line_feeds (take t.start source)
-  pub spelled : Spells t.kind (slice_range source t.start t.end)
+  pub spelled : SpellsKind t.kind (slice_range source t.start t.end)
 
 -- tokens follow each other between two places, and none is empty
 abbrev pub InOrder : ℕ → List Token → ℕ → Type 0

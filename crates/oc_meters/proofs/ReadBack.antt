@@ -4,17 +4,17 @@ use Rattle.std.proofs.Common.{subst, ◌∙◌, append_assoc, arith}
 use Rattle.std.specs.Fmt.{signed_decimal}
 use Rattle.std.specs.List.{All}
 use Rattle.std.proofs.lemmas.List.{take_all}
-use Rattle.std.proofs.lemmas.List.Elements.{All-nil, All-cons}
+use Rattle.std.proofs.lemmas.List.Elements.{All-nil, All-cons, All-tail}
 use Rattle.oc_io.specs.Lines.{further}
 use Rattle.oc_tree.specs.Names.{NameLists, Text}
 use Rattle.oc_items.specs.declared.item.Item.{Item}
 use Rattle.oc_items.specs.Text.{tick_of, fields_of, item_line, report_text, words_line, words_lines, nv_lines, is_over}
 use Rattle.oc_items.specs.OneText.{AreApart, IsItem, is_field}
 use Rattle.oc_items.specs.Reading.{place_of}
-use Rattle.oc_items.proofs.Back.{one_text, first_of_all, rest_of_all, line_fits}
+use Rattle.oc_items.proofs.Back.{one_text, first_of_all, line_fits}
 use Rattle.oc_items.proofs.Fields.{begins_with_digit}
 use Rattle.oc_meters.specs.Tally.{Reading, tell_readings}
-use Rattle.oc_meters.specs.Reads.{Page, longest_line, IsTold, told, untold, TakesBytes}
+use Rattle.oc_meters.specs.Reads.{Page, longest_line, IsLineTold, told, untold, TakesBytes}
 use Rattle.oc_meters.specs.ReadBack.{begun, tell_items, ReportIsRead}
 use Rattle.oc_meters.proofs.Stretches.{line_is, most, passes}
 use Rattle.oc_meters.proofs.Lengths.{line_length}
@@ -28,12 +28,12 @@ module _ (names : NameLists) (s : AreApart names.sensors) (p : AreApart names.po
       (ap (λ (l : List ℕ). l ++ []) e) in
       cc both
 
-  told_item : (i : Item) (line : List ℕ) (old new : List Reading) → IsItem names i → place_of i < 2 ^ 8 → item_line names i ≡ line ++ codes "\n" → IsTold names line old new → new ≡ tell_readings i old
+  told_item : (i : Item) (line : List ℕ) (old new : List Reading) → IsItem names i → place_of i < 2 ^ 8 → item_line names i ≡ line ++ codes "\n" → IsLineTold names line old new → new ≡ tell_readings i old
   told_item i line old new h l e (told j t n) = n ∙ ap (λ (x : Item). tell_readings x old) (one_item j i t.has.is h (t.has.line_is ∙ sym e))
   told_item i line old new h l e (untold none n) = absurd (none i l (record { is = h; line_is = e }))
 
   -- no item's line begins with the letter of the lines of nonvolatile variables
-  told_other : (line rest : List ℕ) (old new : List Reading) → line ≡ 110 ∷ rest → IsTold names line old new → new ≡ old
+  told_other : (line rest : List ℕ) (old new : List Reading) → line ≡ 110 ∷ rest → IsLineTold names line old new → new ≡ old
   told_other line rest old new e (untold none n) = n
   told_other line rest old new e (told j t n) =
       let digit : get_or (item_line names j) 0 110 < 58 = begins_with_digit (tick_of j) (further (fields_of names j)) 110 t.has.is.tick in
@@ -56,8 +56,8 @@ module _ (names : NameLists) (s : AreApart names.sensors) (p : AreApart names.po
       let passed = passes names whole.line more old new whole.free (subst (λ (x : List ℕ). TakesBytes names (begun old) x new) text t) in
       let short : take (most names) whole.line ≡ whole.line = take_all (most names) whole.line (omega (arith, line_length names i whole.line here whole.is)) in
       let one : passed.readings ≡ tell_readings i old = told_item i whole.line old passed.readings here (first_of_all (λ j. place_of j < 2 ^ 8) i items l) whole.is
-      (subst (λ (x : List ℕ). IsTold names x old passed.readings) short passed.told) in
-      after_items items rest (tell_readings i old) new (rest_of_all (IsItem names) i items h) (rest_of_all (λ j. place_of j < 2 ^ 8) i items l)
+      (subst (λ (x : List ℕ). IsLineTold names x old passed.readings) short passed.told) in
+      after_items items rest (tell_readings i old) new (All-tail (IsItem names) i items h) (All-tail (λ j. place_of j < 2 ^ 8) i items l)
       (subst (λ (r : List Reading). TakesBytes names (begun r) more new) one passed.others)
 
   after_words : (nvs : List Text) (sizes : List ℕ) (words : List ℤ) (old : List Reading) (new : Page) → All (λ n. is_field n ≡ true) nvs
@@ -71,7 +71,7 @@ module _ (names : NameLists) (s : AreApart names.sensors) (p : AreApart names.po
       let text : words_line name (take size words) ++ more ≡ whole.line ++ (10 ∷ more) = ap (λ (x : List ℕ). x ++ more) whole.is ∙ append_assoc whole.line (codes "\n") more in
       let passed = passes names whole.line more old new whole.free (subst (λ (x : List ℕ). TakesBytes names (begun old) x new) text t) in
       let none : passed.readings ≡ old = told_other (take (most names) whole.line) _ old passed.readings (take_letter (longest_line names) _) passed.told in
-      after_words nvs sizes (drop size words) old new (rest_of_all (λ n. is_field n ≡ true) name nvs f)
+      after_words nvs sizes (drop size words) old new (All-tail (λ n. is_field n ≡ true) name nvs f)
       (subst (λ (r : List Reading). TakesBytes names (begun r) more new) none passed.others)
 
   after_end : (over : Bool) (sizes : List ℕ) (words : List ℤ) (old : List Reading) (new : Page) → All (λ n. is_field n ≡ true) names.nvs

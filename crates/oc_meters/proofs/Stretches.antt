@@ -6,7 +6,7 @@ use Rattle.oc_tree.specs.Names.{NameLists}
 use Rattle.oc_items.specs.OneText.{is_field}
 use Rattle.oc_items.proofs.Fields.{AllFields}
 use Rattle.oc_meters.specs.Tally.{Reading}
-use Rattle.oc_meters.specs.Reads.{Page, longest_line, IsTold, TakesByte, ends, goes_on, TakesBytes}
+use Rattle.oc_meters.specs.Reads.{Page, longest_line, IsLineTold, TakesByte, ends, goes_on, TakesBytes}
 use Rattle.oc_meters.specs.ReadBack.{begun}
 
 -- none of these bytes is a line feed
@@ -75,7 +75,7 @@ seen names bytes readings = with_line (take (most names) bytes) readings
 -- behind a line no other is begun, and the meters were told of it
 pub record Passed (names : NameLists) (line rest : List ℕ) (old : List Reading) (new : Page) : Type 0 where
   pub readings : List Reading
-  pub told : IsTold names (take (most names) line) old readings
+  pub told : IsLineTold names (take (most names) line) old readings
   pub others : TakesBytes names (begun readings) rest new
 
 module _ (names : NameLists) where
@@ -83,7 +83,7 @@ module _ (names : NameLists) where
   byte_on b old new e (ends f told l) = absurd (true≢false (sym f ∙ e))
   byte_on b old new e (goes_on f n) = n
 
-  byte_ends : (old new : Page) → TakesByte names old 10 new → IsTold names old.line old.readings new.readings × (new.line ≡ [])
+  byte_ends : (old new : Page) → TakesByte names old 10 new → IsLineTold names old.line old.readings new.readings × (new.line ≡ [])
   byte_ends old new (ends f told l) = (told, l)
   byte_ends old new (goes_on f n) = absurd (true≢false f)
 

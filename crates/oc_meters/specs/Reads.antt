@@ -2,7 +2,7 @@
 use Rattle.std.specs.Prelude.{ℕ, ◌+◌, ◌==◌, ◌≡◌, true, false, List, [], ◌∷◌, ◌++◌, length, take, max, codes}
 use Rattle.oc_tree.specs.Names.{NameLists, Text}
 use Rattle.oc_items.specs.declared.item.Item.{Item}
-use Rattle.oc_items.specs.Reading.{Tells, TellsNone}
+use Rattle.oc_items.specs.Reading.{LineTells, LineTellsNone}
 use Rattle.oc_meters.specs.Tally.{Reading, readings, tell_readings}
 
 -- the length of the longest of these names
@@ -36,14 +36,14 @@ abbrev pub page : {M : Type 0} → (M → ℕ) → (M → List ℕ) → List ℕ
 page kind numbers line meters = record { line = line; readings = readings kind numbers meters }
 
 -- the meters were told the item of this line, or it is the line of none and they were told nothing
-pub data IsTold (names : NameLists) (line : List ℕ) (old new : List Reading) : Type 0 where
-  told : (i : Item) → Tells names line i → new ≡ tell_readings i old → IsTold names line old new
-  untold : TellsNone names line → new ≡ old → IsTold names line old new
+pub data IsLineTold (names : NameLists) (line : List ℕ) (old new : List Reading) : Type 0 where
+  told : (i : Item) → LineTells names line i → new ≡ tell_readings i old → IsLineTold names line old new
+  untold : LineTellsNone names line → new ≡ old → IsLineTold names line old new
 
 -- a line feed ends the line; of other bytes so many are kept, one more than an item's line has
 pub data TakesByte (names : NameLists) (old : Page) (byte : ℕ) (new : Page) : Type 0 where
   ends : (byte == 10) ≡ true
-      → IsTold names old.line old.readings new.readings → new.line ≡ []
+      → IsLineTold names old.line old.readings new.readings → new.line ≡ []
       → TakesByte names old byte new
   goes_on : (byte == 10) ≡ false
       → new ≡ record {

@@ -1,7 +1,7 @@
 //! The book that a sink keeps for meters.
 ghost use Rattle.std.specs.Prelude.{◌≡◌, ◌+◌, ◌<◌, ◌^◌, [], IfOk, IfErr};
 ghost use Rattle.oc_tree.specs.Names.{names_view};
-ghost use Rattle.oc_meters.specs.Reads.{IsTold, TakesByte, TakesBytes, longest as longest_of, longest_line as longest_line_of, page};
+ghost use Rattle.oc_meters.specs.Reads.{IsLineTold, TakesByte, TakesBytes, longest as longest_of, longest_line as longest_line_of, page};
 ghost use Rattle.oc_meters.specs.Tally.{readings};
 
 use crate::line::Line;
@@ -88,7 +88,7 @@ impl<M: Meter> Book<M> {
 
     /// Tells the meters the item of the line, if it is that of one.
     fn tell_line(&mut self)
-        ensures told { IsTold (names_view self.old.names) self.old.line.bytes
+        ensures told { IsLineTold (names_view self.old.names) self.old.line.bytes
             (readings M.kind_of M.numbers self.old.meters.items)
             (readings M.kind_of M.numbers self.new.meters.items) }
         ensures names { self.new.names ≡ self.old.names }

@@ -2,7 +2,7 @@
 use Rattle.std.proofs.Common.{◌≡◌, refl, sym, ap, ◌∙◌, subst, ℕ, zero, suc, ◌<◌, ◌≤◌, arith, Bool, true, false, true≢false, nat_eq, inl, inr, List, [], ◌∷◌, length, Option, Some, None}
 use Rattle.std.specs.Prelude.{◌&&◌, ◌||◌, not}
 use Rattle.std.specs.List.{list_any}
-use Rattle.std.proofs.lemmas.Bool.{cases_lt, eqb-true, eq-eqb, and_from, and_parts}
+use Rattle.std.proofs.lemmas.Bool.{cases_lt, eqb-true, eq-eqb, and_from, and_parts, or_left, or_right}
 use Rattle.oc_tree.specs.Tree.{TProgram}
 use Rattle.oc_tree.specs.Checked.{Group, IsChecked}
 use Rattle.oc_tree.specs.declared.tree.VarId.{VarId}
@@ -31,14 +31,6 @@ back false A d a = absurd (d a)
 decides : (b : Bool) (A : Type 0) → (b ≡ true → A) → (A → b ≡ true) → Decides b A
 decides true A f g = f refl
 decides false A f g = λ a. absurd (true≢false (sym (g a)))
-
-or_first : (a b : Bool) → a ≡ true → a || b ≡ true
-or_first true b h = refl
-or_first false b h = absurd (true≢false (sym h))
-
-or_second : (a b : Bool) → b ≡ true → a || b ≡ true
-or_second true b h = refl
-or_second false b h = h
 
 some_held : (ns : List ℕ) → (ns ≡ [] → ⊥) → not (is_empty ns) ≡ true
 some_held [] h = absurd (h refl)
@@ -107,10 +99,10 @@ module _ (p : TProgram) (q : Policy) (flow : (f : ℕ) (u v : VarId) → Decides
     unfolding needs_to
     complete g w n zero l = absurd (omega arith)
     complete _ _ (by_annotation {w = w} {x = x} o h i f) (suc depth) l =
-        and_from (is_given w) _ i (or_first (needs_itself p q q.function w) (needs_by_call p (needs_to p q depth) q.function w) (own_test w x o h f))
+        and_from (is_given w) _ i (or_left (needs_itself p q q.function w) (needs_by_call p (needs_to p q depth) q.function w) (own_test w x o h f))
     complete _ _ (by_call {g = g} {x = x} {y = y} {w = w} a c o e n b i f) (suc depth) l =
         let deep : rank c.function < rank g = falls g a c o e in
-        and_from (is_given w) _ i (or_second (needs_itself p q g w) (needs_by_call p (needs_to p q depth) g w)
+        and_from (is_given w) _ i (or_right (needs_itself p q g w) (needs_by_call p (needs_to p q depth) g w)
         (call_test depth g x y w a c o e (complete c.function x n depth (omega (arith, deep, l))) b f))
 
     none_past : (g : ℕ) (w : VarId) → Need p q g w → length p.functions ≤ g → ⊥

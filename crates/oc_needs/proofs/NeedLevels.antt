@@ -4,7 +4,7 @@ use Rattle.std.proofs.Common.{map, length, cond, Option, Some, None}
 use Rattle.std.specs.Prelude.{◌&&◌, ◌||◌, not, filter, flat_map, option_map, option_to_list}
 use Rattle.std.specs.List.{list_any}
 use Rattle.std.proofs.Math.ListN.{get_or}
-use Rattle.std.proofs.lemmas.Bool.{cases_lt, eqb-true, eqb-false, and_parts}
+use Rattle.std.proofs.lemmas.Bool.{cases_lt, eqb-true, eqb-false, and_parts, not-false, or_parts}
 use Rattle.std.proofs.lemmas.List.{get_or_past, length-map}
 use Rattle.std.proofs.lemmas.List.Folds.{list_any-append}
 use Rattle.oc_tree.specs.Tree.{TProgram}
@@ -20,7 +20,7 @@ use Rattle.oc_needs.specs.Code.{row_of, rows_of, stands_for, needed_in_call, nee
 use Rattle.oc_needs.specs.Code.{next_row, is_changed_row, is_row_changed, no_row, start_level, next_level, level_at}
 use Rattle.oc_needs.proofs.Froms.{get_map_from, length_map_from}
 use Rattle.oc_needs.proofs.Rows.{same_variable_is}
-use Rattle.oc_needs.proofs.Tests.{bool_same, or_case, or_no, or_same, any_same, any_none, any_flat_map, any_filter, filter_same, filter_none, any_of, filter_tells}
+use Rattle.oc_needs.proofs.Tests.{bool_same, or_case, or_same, any_same, any_none, any_flat_map, any_filter, filter_same, filter_none, any_of, filter_tells}
 
 -- ---- past the end of the functions
 
@@ -113,7 +113,7 @@ module _ (p : TProgram) (new before : Needed) (changed : List Bool) (settled : (
       ≡ list_any (λ a. list_any (λ y. is_needed_at p before a.call y && flows p g w y) (variables p g)) es
   same_by_calls g w [] h = refl
   same_by_calls g w (a ∷ es) h =
-      let parts = or_no (is_changed changed a.call) (list_any (λ b. is_changed changed b.call) es) h in
+      let parts = or_parts (is_changed changed a.call) (list_any (λ b. is_changed changed b.call) es) h in
       or_same (list_any (λ y. is_needed_at p new a.call y && flows p g w y) (variables p g)) (list_any (λ y. is_needed_at p before a.call y && flows p g w y) (variables p g))
       (list_any (λ b. list_any (λ y. is_needed_at p new b.call y && flows p g w y) (variables p g)) es)
       (list_any (λ b. list_any (λ y. is_needed_at p before b.call y && flows p g w y) (variables p g)) es)
@@ -191,14 +191,10 @@ map_from_same f g n zero h = refl
 map_from_same f g n (suc count) h =
     ap (λ x. x ∷ map f (from (n + 1) count)) (h n (omega arith)) ∙ ap (λ xs. g n ∷ xs) (map_from_same f g (n + 1) count (λ i l. h i (omega (arith, l))))
 
-not_false : (b : Bool) → not b ≡ false → b ≡ true
-not_false true h = refl
-not_false false h = absurd (true≢false h)
-
 module _ (p : TProgram) (q : Policy) (depth : ℕ) (level : TLevel) (is : IsLevel p q depth level) where
   kept : (g : ℕ) (w : VarId) → is_stale q g (effects_at p g) level.changed ≡ false → needs_to p q (suc depth) g w ≡ needs_to p q depth g w
   kept g w h =
-      let parts = or_no (nat_eq g q.function) (list_any (λ a. is_changed level.changed a.call) (effects_at p g)) h in
+      let parts = or_parts (nat_eq g q.function) (list_any (λ a. is_changed level.changed a.call) (effects_at p g)) h in
       needs_more p q depth g w
       ∙ (ap (λ b. is_given w && (needs_itself p q g w || b)) (same_by_calls p (needs_to p q depth) is.before level.changed is.settled g w (effects_at p g) parts.1)
       ∙ sym (is.closed g w (eqb-false g q.function parts.0)))
@@ -224,7 +220,7 @@ module _ (p : TProgram) (q : Policy) (depth : ℕ) (level : TLevel) (is : IsLeve
     where
       by_stale : (t : Bool) → is_stale q g (effects_at p g) level.changed ≡ t → cond t (is_changed_row p q level.rows g) false ≡ false → needs_to p q (suc depth) g w ≡ needs_to p q depth g w
       by_stale true e i =
-          let same : row_by p q level.rows g ≡ get_or level.rows g [] = same_row_is (row_by p q level.rows g) (get_or level.rows g []) (not_false _ i) in
+          let same : row_by p q level.rows g ≡ get_or level.rows g [] = same_row_is (row_by p q level.rows g) (get_or level.rows g []) (not-false _ i) in
           rows_tell p q (suc depth) depth g w (sym (made_row g) ∙ (same ∙ old_row g h))
       by_stale false e i = kept g w e
 
@@ -320,8 +316,8 @@ stays p q d h (suc m) l g w = by_order (cases_lt m d) (λ i f v. stays p q d h m
 
 none_at : (bs : List Bool) (i : ℕ) → list_any (λ b. b) bs ≡ false → i < length bs → get_or bs i true ≡ false
 none_at [] i h l = absurd (omega (arith, l))
-none_at (b ∷ bs) zero h l = let parts = or_no b (list_any (λ c. c) bs) h in parts.0
-none_at (b ∷ bs) (suc i) h l = let parts = or_no b (list_any (λ c. c) bs) h in none_at bs i parts.1 (omega (arith, l))
+none_at (b ∷ bs) zero h l = let parts = or_parts b (list_any (λ c. c) bs) h in parts.0
+none_at (b ∷ bs) (suc i) h l = let parts = or_parts b (list_any (λ c. c) bs) h in none_at bs i parts.1 (omega (arith, l))
 
 pub level_settles : (p : TProgram) (q : Policy) (k : ℕ) (old new : TLevel) → k < length p.functions → new ≡ next_level p q old → old ≡ level_at p q k
     → list_any (λ b. b) new.changed ≡ false → new.rows ≡ rows_of p (needs p q)

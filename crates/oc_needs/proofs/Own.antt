@@ -5,6 +5,7 @@ use Rattle.std.specs.List.{list_any}
 use Rattle.std.proofs.Math.ListN.{get_or}
 use Rattle.std.proofs.lemmas.Bool.Decides.{nat_tests}
 use Rattle.std.proofs.lemmas.List.Folds.{list_any-append}
+use Rattle.std.proofs.lemmas.Bool.{or_from}
 use Rattle.oc_tree.specs.Tree.{TProgram}
 use Rattle.oc_tree.specs.declared.tree.VarId.{VarId}
 use Rattle.oc_tree.specs.declared.tree.VarId.TheVariants.{Nv, Param, Declared, Returned}
@@ -21,9 +22,6 @@ abbrev pub Distinct : List VarId → Type 0
 Distinct [] = Unit {0}
 Distinct (v ∷ vs) = (is_among v vs ≡ false) × Distinct vs
 
-neither : (a b : Bool) → a ≡ false → b ≡ false → a || b ≡ false
-neither a b e f = λ i. e i || f i
-
 unlike : (i j : ℕ) → i ≢ j → nat_eq i j ≡ false
 unlike i j d = grind (arith, d)
 
@@ -31,7 +29,7 @@ unlike i j d = grind (arith, d)
 
 none_at : {A : Type 0} (v : VarId) (K : A → VarId) (xs : List A) → ((a : A) → IsOf a xs → same_variable v (K a) ≡ false) → is_among v (map K xs) ≡ false
 none_at v K [] h = refl
-none_at v K (x ∷ xs) h = neither (same_variable v (K x)) (is_among v (map K xs)) (h x (inl refl)) (none_at v K xs (λ a o. h a (inr o)))
+none_at v K (x ∷ xs) h = or_from (same_variable v (K x)) (is_among v (map K xs)) (h x (inl refl)) (none_at v K xs (λ a o. h a (inr o)))
 
 from_above : (n count i : ℕ) → IsOf i (from n count) → n ≤ i
 from_above n zero i o = absurd o
@@ -62,7 +60,7 @@ distinct_declared (a ∷ es) h = distinct_more a es a.declares h.0 (distinct_dec
 distinct_join : (xs ys : List VarId) → Distinct xs → Distinct ys → ((v : VarId) → IsOf v xs → is_among v ys ≡ false) → Distinct (xs ++ ys)
 distinct_join [] ys d e h = e
 distinct_join (x ∷ xs) ys d e h = (
-  list_any-append (same_variable x) xs ys ∙ neither (is_among x xs) (is_among x ys) d.0 (h x (inl refl)),
+  list_any-append (same_variable x) xs ys ∙ or_from (is_among x xs) (is_among x ys) d.0 (h x (inl refl)),
   distinct_join xs ys d.1 e (λ v o. h v (inr o)),
 )
 
@@ -73,7 +71,7 @@ module _ (ns qs : List ℕ) (es : List TEffect) where
   stored_not : (i : ℕ) → is_among (Nv i) (map Param qs ++ (Returned ∷ map declared es)) ≡ false
   stored_not i =
       list_any-append (same_variable (Nv i)) (map Param qs) (Returned ∷ map declared es)
-      ∙ neither (is_among (Nv i) (map Param qs)) (is_among (Nv i) (Returned ∷ map declared es)) (none_at (Nv i) Param qs (λ a o. refl)) (none_at (Nv i) declared es (λ a o. refl))
+      ∙ or_from (is_among (Nv i) (map Param qs)) (is_among (Nv i) (Returned ∷ map declared es)) (none_at (Nv i) Param qs (λ a o. refl)) (none_at (Nv i) declared es (λ a o. refl))
 
   distinct_all : Distinct (map Nv ns) → Distinct (map Param qs) → Distinct (map declared es) → Distinct (map Nv ns ++ (map Param qs ++ (Returned ∷ map declared es)))
   distinct_all d e f = distinct_join (map Nv ns) (map Param qs ++ (Returned ∷ map declared es)) d

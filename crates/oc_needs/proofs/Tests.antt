@@ -15,10 +15,6 @@ pub or_case : {C : Type 0} (a b : Bool) → a || b ≡ true → (a ≡ true → 
 or_case true b h f g = f refl
 or_case false b h f g = g h
 
-pub or_no : (a b : Bool) → a || b ≡ false → (a ≡ false) × (b ≡ false)
-or_no true b h = absurd (true≢false h)
-or_no false b h = (refl, h)
-
 pub or_same : (a b c d : Bool) → a ≡ b → c ≡ d → a || c ≡ b || d
 or_same a b c d e f = ap (λ x. x || c) e ∙ ap (λ y. b || y) f
 

@@ -8,7 +8,7 @@ use Rattle.std.proofs.lemmas.List.Sums.{sum_by-append, sum_by-cons}
 use Rattle.std.proofs.lemmas.List.Folds.{sum_by-replicate}
 use Rattle.std.proofs.Math.Nat.{add-mul-div_left, div-lt_iff_lt-mul, mul-div-le}
 use Rattle.oc_io.specs.declared.period.Period.{Period}
-use Rattle.oc_power.specs.Cutting.{cut_after, cut_row, cut_rows, IsTold, whole_piece, whole_pieces}
+use Rattle.oc_power.specs.Cutting.{cut_after, cut_row, cut_rows, IsPartOfFirst, whole_piece, whole_pieces}
 use Rattle.oc_power.specs.Total.{total}
 
 -- a row of more steps than a piece has begins with a whole piece
@@ -64,11 +64,11 @@ at_place rows place row is =
     drop_more rows place row (slice_get_within rows place row is) ∙ ap (λ (first : Period). first ∷ drop (place + 1) rows) (get_or_from_slice_get rows place row row is)
 
 -- a row at the place has the steps that were told of it, and so many may have been told
-pub told_within : (rows : List Period) (place told : ℕ) (row : Period) → slice_get rows place ≡ Some row → IsTold told (drop place rows) → told ≤ row.on
-told_within rows place told row is h = subst (IsTold told) (at_place rows place row is) h
+pub told_within : (rows : List Period) (place told : ℕ) (row : Period) → slice_get rows place ≡ Some row → IsPartOfFirst told (drop place rows) → told ≤ row.on
+told_within rows place told row is h = subst (IsPartOfFirst told) (at_place rows place row is) h
 
-pub may_be_told : (rows : List Period) (place told : ℕ) (row : Period) → slice_get rows place ≡ Some row → told ≤ row.on → IsTold told (drop place rows)
-may_be_told rows place told row is h = subst (IsTold told) (sym (at_place rows place row is)) h
+pub may_be_told : (rows : List Period) (place told : ℕ) (row : Period) → slice_get rows place ≡ Some row → told ≤ row.on → IsPartOfFirst told (drop place rows)
+may_be_told rows place told row is h = subst (IsPartOfFirst told) (sym (at_place rows place row is)) h
 
 pub taken_more : (rows : List Period) (place : ℕ) (row : Period) → slice_get rows place ≡ Some row → take (place + 1) rows ≡ take place rows ++ row ∷ []
 taken_more rows place row is =

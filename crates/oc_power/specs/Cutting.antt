@@ -28,9 +28,9 @@ cut_after len told (row ∷ rest) =
     cut_row len (record row { on = row.on - told }) ++ cut_rows len rest
 
 -- the first row has so many steps
-abbrev pub IsTold : ℕ → List Period → Type 0
-IsTold told [] = ⊤
-IsTold told (row ∷ rest) = told ≤ row.on
+abbrev pub IsPartOfFirst : ℕ → List Period → Type 0
+IsPartOfFirst told [] = ⊤
+IsPartOfFirst told (row ∷ rest) = told ≤ row.on
 
 -- the most steps of a piece, and the periods left
 pub record Cutting : Type 0 where

@@ -22,7 +22,7 @@ pub struct Cutter {
 
 impl Model for Cutter {
     ghost use Rattle.std.specs.Prelude.{◌≤◌, drop};
-    ghost use Rattle.oc_power.specs.Cutting.{Cutting, cut_after, IsTold};
+    ghost use Rattle.oc_power.specs.Cutting.{Cutting, cut_after, IsPartOfFirst};
 
     ghost Value = { Cutting };
 
@@ -31,7 +31,7 @@ impl Model for Cutter {
       left = cut_after a.len a.told (drop a.place a.rows);
     } };
 
-    ghost invariant = { λ a. (1 ≤ a.len) × IsTold a.told (drop a.place a.rows) };
+    ghost invariant = { λ a. (1 ≤ a.len) × IsPartOfFirst a.told (drop a.place a.rows) };
 }
 
 impl Cutter {

@@ -2,10 +2,6 @@
 use Rattle.std.proofs.Common.{◌≡◌, Bool, true, false, refl, sym}
 use Rattle.std.specs.Prelude.{◌||◌}
 
-pub or_assoc : (a b c : Bool) → (a || b) || c ≡ a || (b || c)
-or_assoc true b c = refl
-or_assoc false b c = refl
-
 pub or_false : (a b : Bool) → b ≡ false → a || b ≡ a
 or_false true b h = refl
 or_false false b h = h

@@ -2,9 +2,10 @@
 use Rattle.std.proofs.Common.{◌≡◌, ◌<◌, ℕ, zero, suc, ◌+◌, Bool, true, false, true≢false, List, [], ◌∷◌, length, Option, Some, None, refl, ap, sym, ◌∙◌, subst, arith}
 use Rattle.std.specs.Prelude.{◌&&◌, ◌↔◌, cond, nat_eq, option_map, option_to_list, slice_get}
 use Rattle.std.specs.List.{list_any}
-use Rattle.std.proofs.lemmas.Bool.{eqb-true, eq-eqb, and_from, and_parts}
+use Rattle.std.proofs.lemmas.Bool.{eqb-true, eq-eqb, and_from, and_parts, or_left, or_right}
 use Rattle.std.proofs.lemmas.List.{length-map}
 use Rattle.std.proofs.lemmas.Option.{none-some, same_Some}
+use Rattle.std.proofs.lemmas.List.Folds.{list_any-append}
 use Rattle.oc_tree.specs.Names.{Text}
 use Rattle.oc_tree.specs.Tree.{TExpr, variable, TArg, value, shared, mutable, TCall, call, TArgs, no_args, more_args, TKind, TFunction}
 use Rattle.oc_tree.specs.Calls.{place, function_place, callee, args_of_call, block_kinds, body_calls}
@@ -12,9 +13,8 @@ use Rattle.oc_tree.specs.Reach.{linked, is_link, leads, reaches}
 use Rattle.oc_tree.specs.Members.{IsOf}
 use Rattle.oc_tree.specs.Assigned.{param_names, first_param, param_count, takes_mutable, mutable_param, own_param, alone, link_of, arg_links, args_links, to_links, pass_call}
 use Rattle.oc_tree.specs.Assigned.{function_links, pass_links_from, pass_links, written_through, function_writes, writes_from, writes_through, param_assigned}
-use Rattle.oc_tree.proofs.ReachLaws.{or_left, or_right, or_elim, links_lead, leads_trans, least}
+use Rattle.oc_tree.proofs.ReachLaws.{or_elim, links_lead, leads_trans, least}
 use Rattle.oc_names.proofs.Entries.{place_below}
-use Rattle.oc_reach.proofs.LinkLaws.{any_append}
 use Rattle.oc_reach.proofs.PassLaws.{params_at, takes_below, passes_within}
 use Rattle.oc_reach.proofs.Walk.{some_at, some_is}
 use Rattle.oc_reach.specs.Through.{IsParam, arg_at, Writes, Passes, AssignsThrough, itself, passed_on}
@@ -123,14 +123,14 @@ module _ (fs : List TFunction) where
         subst (λ c. linked (arg_links fs first params v m c) (first + j) (number v m) ≡ true) (sym (same_Some b (value (variable x)) a))
         (arg_linked m j x e (subst (λ k. takes_mutable fs v k ≡ true) n t)) in
         subst (λ k. linked (args_links fs first params v m (more_args b rest)) (first + j) (number v k) ≡ true) (sym n)
-        (any_append (is_link (first + j) (number v m)) here further ∙ or_left (linked here (first + j) (number v m)) (linked further (first + j) (number v m)) one)
+        (list_any-append (is_link (first + j) (number v m)) here further ∙ or_left (linked here (first + j) (number v m)) (linked further (first + j) (number v m)) one)
     args_linked m (suc i) j (more_args b rest) x a e t =
         let n : m + suc i ≡ m + 1 + i = omega arith in
         let here = arg_links fs first params v m b in
         let further = args_links fs first params v (m + 1) rest in
         let one : linked further (first + j) (number v (m + suc i)) ≡ true =
         subst (λ k. linked further (first + j) (number v k) ≡ true) (sym n) (args_linked (m + 1) i j rest x a e (subst (λ k. takes_mutable fs v k ≡ true) n t)) in
-        any_append (is_link (first + j) (number v (m + suc i))) here further
+        list_any-append (is_link (first + j) (number v (m + suc i))) here further
         ∙ or_right (linked here (first + j) (number v (m + suc i))) (linked further (first + j) (number v (m + suc i))) one
 
     -- an argument that makes a link
@@ -141,7 +141,7 @@ module _ (fs : List TFunction) where
     args_back : (a b m : ℕ) (args : TArgs) → linked (args_links fs first params v m args) a b ≡ true → Linking a b m args
     args_back a b m no_args h = absurd (true≢false (sym h))
     args_back a b m (more_args c rest) h = or_elim (linked (arg_links fs first params v m c) a b) (linked (args_links fs first params v (m + 1) rest) a b)
-        (sym (any_append (is_link a b) (arg_links fs first params v m c) (args_links fs first params v (m + 1) rest)) ∙ h)
+        (sym (list_any-append (is_link a b) (arg_links fs first params v m c) (args_links fs first params v (m + 1) rest)) ∙ h)
         (here c)
         (λ k.
         let q = args_back a b (m + 1) rest k in

@@ -1,21 +1,16 @@
 -- Calls are of functions that exist.
-use Rattle.std.proofs.Common.{◌≡◌, ◌<◌, ◌+◌, ◌++◌, ℕ, Bool, true, false, List, [], ◌∷◌, Option, Some, None, nat_eq, length, map, refl, sym, ap, ◌∙◌, true≢false, arith}
+use Rattle.std.proofs.Common.{◌≡◌, ◌<◌, ◌+◌, ◌++◌, ℕ, true, false, List, [], ◌∷◌, Option, Some, None, nat_eq, length, map, refl, sym, ap, ◌∙◌, true≢false, arith}
 use Rattle.std.specs.Prelude.{◌||◌, option_to_list}
-use Rattle.std.specs.List.{list_any}
 use Rattle.std.proofs.lemmas.List.{map-append, length-map}
 use Rattle.std.proofs.lemmas.Bool.{eqb-true, and_parts}
+use Rattle.std.proofs.lemmas.List.Folds.{list_any-append}
 use Rattle.oc_tree.specs.Names.{Text}
 use Rattle.oc_tree.specs.Tree.{TCall, TFunction}
 use Rattle.oc_tree.specs.Reach.{linked, is_link}
 use Rattle.oc_tree.specs.Calls.{place, callee, body_calls, called_places, links_from, function_names, call_links}
 use Rattle.oc_tree.proofs.ReachLaws.{or_elim}
 use Rattle.oc_reach.specs.Within.{IsWithin}
-use Rattle.oc_reach.proofs.Bools.{or_assoc}
 use Rattle.oc_names.proofs.Entries.{place_below}
-
-pub any_append : {A : Type 0} (test : A → Bool) (xs ys : List A) → list_any test (xs ++ ys) ≡ list_any test xs || list_any test ys
-any_append test [] ys = refl
-any_append test (x ∷ xs) ys = ap (λ b. test x || b) (any_append test xs ys) ∙ sym (or_assoc (test x) (list_any test xs) (list_any test ys))
 
 one_within : (names : List Text) (w : ℕ) (x : Text) (r : Option ℕ) (u v : ℕ) → r ≡ place names x → linked (map (λ a. (w, a)) (option_to_list r)) u v ≡ true → (w ≡ u) × (v < length names)
 one_within names w x None u v e h = absurd (true≢false (sym h))
@@ -30,7 +25,7 @@ row_within : (names : List Text) (w : ℕ) (cs : List TCall) (u v : ℕ) → lin
 row_within names w [] u v h = absurd (true≢false (sym h))
 row_within names w (c ∷ cs) u v h =
     let first = option_to_list (place names (callee c)) in
-    let s = ap (λ l. linked l u v) (map-append (λ a. (w, a)) first (called_places names cs)) ∙ any_append (is_link u v) (map (λ a. (w, a)) first) (map (λ a. (w, a)) (called_places names cs)) in
+    let s = ap (λ l. linked l u v) (map-append (λ a. (w, a)) first (called_places names cs)) ∙ list_any-append (is_link u v) (map (λ a. (w, a)) first) (map (λ a. (w, a)) (called_places names cs)) in
     or_elim (linked (map (λ a. (w, a)) first) u v) (linked (map (λ a. (w, a)) (called_places names cs)) u v) (sym s ∙ h)
     (λ k. one_within names w (callee c) (place names (callee c)) u v refl k)
     (λ k. row_within names w cs u v k)
@@ -39,7 +34,7 @@ from_within : (names : List Text) (w : ℕ) (fs : List TFunction) (u v : ℕ) �
 from_within names w [] u v h = absurd (true≢false (sym h))
 from_within names w (f ∷ fs) u v h =
     let first = map (λ a. (w, a)) (called_places names (body_calls f)) in
-    or_elim (linked first u v) (linked (links_from names (w + 1) fs) u v) (sym (any_append (is_link u v) first (links_from names (w + 1) fs)) ∙ h)
+    or_elim (linked first u v) (linked (links_from names (w + 1) fs) u v) (sym (list_any-append (is_link u v) first (links_from names (w + 1) fs)) ∙ h)
     (λ k. let p : (w ≡ u) × (v < length names) = row_within names w (body_calls f) u v k in (omega (arith, p.0), p.1))
     (λ k. let p : (u < w + 1 + length fs) × (v < length names) = from_within names (w + 1) fs u v k in (omega (arith, p.0), p.1))
 

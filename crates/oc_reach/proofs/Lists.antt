@@ -4,13 +4,14 @@ use Rattle.std.proofs.Math.Seq.{drop-cons}
 use Rattle.std.specs.Prelude.{◌||◌, if◌then◌else◌, slice_get}
 use Rattle.std.proofs.Math.ListN.{get_or, set, get_or-append}
 use Rattle.std.proofs.lemmas.List.{get_or-set_same, get_or-set_other, length-append}
-use Rattle.std.proofs.lemmas.Bool.{eqb-true, eq-eqb}
+use Rattle.std.proofs.lemmas.Bool.{eqb-true, eq-eqb, or_left, or_right}
 use Rattle.std.proofs.lemmas.Bool.Decides.{eqb_tells, nat_tests}
 use Rattle.std.proofs.lemmas.Option.{none-some, same_Some}
+use Rattle.std.proofs.Math.Bool.{or_assoc}
 use mathlib.Core.Logic.{inl, inr}
-use Rattle.oc_tree.proofs.ReachLaws.{or_left, or_right, or_elim}
+use Rattle.oc_tree.proofs.ReachLaws.{or_elim}
 use Rattle.oc_reach.specs.Marked.{is_in, add, add_all}
-use Rattle.oc_reach.proofs.Bools.{or_assoc, or_false}
+use Rattle.oc_reach.proofs.Bools.{or_false}
 
 pub is_in_push : (xs : List ℕ) (v w : ℕ) → is_in (xs ++ v ∷ []) w ≡ is_in xs w || nat_eq v w
 is_in_push [] v w = by (nat_eq v w)

@@ -3,23 +3,24 @@ use Rattle.std.proofs.Common.{◌≡◌, inl, inr, ℕ, zero, suc, ◌+◌, ◌+
 use Rattle.std.specs.Prelude.{◌||◌, slice_get}
 use Rattle.std.specs.List.{list_any, flat_map}
 use Rattle.std.proofs.lemmas.Option.{none-some, same_Some}
+use Rattle.std.proofs.lemmas.List.Folds.{list_any-append}
+use Rattle.std.proofs.lemmas.Bool.{or_left, or_right}
 use Rattle.oc_tree.specs.Tree.{TFunction}
 use Rattle.oc_tree.specs.Members.{IsOf}
-use Rattle.oc_tree.proofs.ReachLaws.{or_left, or_right, or_elim}
-use Rattle.oc_reach.proofs.LinkLaws.{any_append}
+use Rattle.oc_tree.proofs.ReachLaws.{or_elim}
 
 module _ {A B : Type 0} (test : B → Bool) (parts : A → List B) where
   -- one passes in the part of a member
   pub any_flat : (xs : List A) (x : A) → IsOf x xs → list_any test (parts x) ≡ true → list_any test (flat_map parts xs) ≡ true
   any_flat [] x i h = absurd i
-  any_flat (y ∷ xs) x i h = any_append test (parts y) (flat_map parts xs) ∙ elim i [
+  any_flat (y ∷ xs) x i h = list_any-append test (parts y) (flat_map parts xs) ∙ elim i [
     | inl same ↦ or_left (list_any test (parts y)) (list_any test (flat_map parts xs)) (subst (λ z. list_any test (parts z) ≡ true) same h)
     | inr further ↦ or_right (list_any test (parts y)) (list_any test (flat_map parts xs)) (any_flat xs x further h)
   ]
 
   pub any_part : (xs : List A) → list_any test (flat_map parts xs) ≡ true → (x : A) × IsOf x xs × (list_any test (parts x) ≡ true)
   any_part [] h = absurd (true≢false (sym h))
-  any_part (x ∷ xs) h = or_elim (list_any test (parts x)) (list_any test (flat_map parts xs)) (sym (any_append test (parts x) (flat_map parts xs)) ∙ h)
+  any_part (x ∷ xs) h = or_elim (list_any test (parts x)) (list_any test (flat_map parts xs)) (sym (list_any-append test (parts x) (flat_map parts xs)) ∙ h)
       (λ k. (x, inl refl, k))
       (λ k. let q = any_part xs k in (q.0, inr q.1, q.2))
 
@@ -27,7 +28,7 @@ module _ {A B : Type 0} (test : B → Bool) (parts : A → List B) where
 module _ {B : Type 0} (test : B → Bool) (part : ℕ → TFunction → List B) (parts : ℕ → List TFunction → List B)
     (none : (u : ℕ) → parts u [] ≡ []) (one : (u : ℕ) (f : TFunction) (fs : List TFunction) → parts u (f ∷ fs) ≡ part u f ++ parts (u + 1) fs) where
   joined : (u : ℕ) (f : TFunction) (fs : List TFunction) → list_any test (parts u (f ∷ fs)) ≡ list_any test (part u f) || list_any test (parts (u + 1) fs)
-  joined u f fs = ap (list_any test) (one u f fs) ∙ any_append test (part u f) (parts (u + 1) fs)
+  joined u f fs = ap (list_any test) (one u f fs) ∙ list_any-append test (part u f) (parts (u + 1) fs)
 
   any_from : (u j : ℕ) (fs : List TFunction) (f : TFunction) → slice_get fs j ≡ Some f → list_any test (part (u + j) f) ≡ true → list_any test (parts u fs) ≡ true
   any_from u j [] f at h = absurd (none-some f at)

@@ -6,6 +6,7 @@ use Rattle.std.proofs.Math.ListN.{get_or}
 use Rattle.std.proofs.lemmas.List.{length-map, append_assoc}
 use Rattle.std.proofs.lemmas.List.Sums.{sum_by-cons}
 use Rattle.std.proofs.lemmas.Bool.{eqb-true, and_parts}
+use Rattle.std.proofs.lemmas.List.Folds.{list_any-append}
 use Rattle.oc_tree.specs.Names.{Text}
 use Rattle.oc_tree.specs.Tree.{TArg, value, shared, mutable, TCall, call, TArgs, no_args, more_args, TFunction}
 use Rattle.oc_tree.specs.declared.tree.Param.{Param}
@@ -18,7 +19,6 @@ use Rattle.oc_tree.specs.Assigned.{args_links, to_links, pass_call, function_lin
 use Rattle.oc_tree.proofs.ReachLaws.{or_elim}
 use Rattle.oc_reach.specs.Within.{IsWithin}
 use Rattle.oc_names.proofs.Entries.{place_below}
-use Rattle.oc_reach.proofs.LinkLaws.{any_append}
 use Rattle.oc_reach.proofs.Tests.{test_inside}
 
 abbrev pub params_at : List TFunction → ℕ → List Param
@@ -80,7 +80,7 @@ module _ (all : List TFunction) (first : ℕ) (params : List Text) where
   args_within v i no_args x y h = absurd (true≢false (sym h))
   args_within v i (more_args a rest) x y h =
       or_elim (linked (arg_links all first params v i a) x y) (linked (args_links all first params v (i + 1) rest) x y)
-      (sym (any_append (is_link x y) (arg_links all first params v i a) (args_links all first params v (i + 1) rest)) ∙ h)
+      (sym (list_any-append (is_link x y) (arg_links all first params v i a) (args_links all first params v (i + 1) rest)) ∙ h)
       (λ k. arg_within v i a x y k)
       (λ k. args_within v (i + 1) rest x y k)
 
@@ -95,7 +95,7 @@ module _ (all : List TFunction) (first : ℕ) (params : List Text) where
   calls_pass [] x y h = absurd (true≢false (sym h))
   calls_pass (c ∷ cs) x y h =
       or_elim (linked (pass_call all first params c) x y) (linked (flat_map (pass_call all first params) cs) x y)
-      (sym (any_append (is_link x y) (pass_call all first params c) (flat_map (pass_call all first params) cs)) ∙ h)
+      (sym (list_any-append (is_link x y) (pass_call all first params c) (flat_map (pass_call all first params) cs)) ∙ h)
       (λ k. call_within c x y k)
       (λ k. calls_pass cs x y k)
 
@@ -118,7 +118,7 @@ from_pass all u (f ∷ fs) e x y h =
     let at = rest_at all u f fs e in
     let mine = function_links all (first_param all u) f in
     or_elim (linked mine x y) (linked (pass_links_from all (u + 1) fs) x y)
-    (sym (any_append (is_link x y) mine (pass_links_from all (u + 1) fs)) ∙ h)
+    (sym (list_any-append (is_link x y) mine (pass_links_from all (u + 1) fs)) ∙ h)
     (λ k.
     let p : (x < first_param all u + length (param_names f)) × (y < param_count all) = calls_pass all (first_param all u) (param_names f) (body_calls f) x y k in
     let r = first_room 0 all u at.0 in

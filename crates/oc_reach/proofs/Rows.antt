@@ -4,14 +4,14 @@ use Rattle.std.specs.Prelude.{◌&&◌, ◌||◌}
 use Rattle.std.specs.List.{list_any}
 use Rattle.std.proofs.Math.ListN.{get_or, set}
 use Rattle.std.proofs.lemmas.List.{get_or-set_same, get_or-set_other}
-use Rattle.std.proofs.lemmas.Bool.{eq-eqb, and_from}
+use Rattle.std.proofs.lemmas.Bool.{eq-eqb, and_from, or_left, or_right}
 use Rattle.std.proofs.lemmas.Bool.Decides.{eqb_tells, nat_tests}
+use Rattle.std.proofs.Math.Bool.{or_assoc}
 use mathlib.Core.Logic.{inl, inr}
 use Rattle.oc_tree.specs.Reach.{Links, linked, is_link}
 use Rattle.oc_reach.specs.Marked.{is_in, rows}
-use Rattle.oc_reach.proofs.Bools.{or_assoc, or_false}
+use Rattle.oc_reach.proofs.Bools.{or_false}
 use Rattle.oc_reach.proofs.Lists.{is_in_push}
-use Rattle.oc_tree.proofs.ReachLaws.{or_left, or_right}
 
 pub rows_at : (r : List (Vec ℕ Global)) (u : ℕ) (d : Vec ℕ Global) → u < length r → get_or (rows r) u [] ≡ (get_or r u d).items
 rows_at [] u d h = absurd (omega arith)

@@ -4,6 +4,7 @@ use Rattle.std.specs.Prelude.{◌||◌, option_to_list}
 use Rattle.std.specs.List.{list_any, flat_map}
 use Rattle.std.proofs.lemmas.List.{length-map}
 use Rattle.std.proofs.lemmas.Bool.{eqb-true}
+use Rattle.std.proofs.Math.Bool.{or_assoc}
 use Rattle.oc_tree.specs.Names.{Text}
 use Rattle.oc_tree.specs.Tree.{TKind, TFunction}
 use Rattle.oc_tree.specs.Calls.{block_kinds}
@@ -11,7 +12,6 @@ use Rattle.oc_tree.specs.Reach.{reaches_some}
 use Rattle.oc_tree.specs.Assigned.{first_param, param_count, param_names, param_assigned, own_param, written_through, function_writes, writes_from, writes_through, pass_links}
 use Rattle.oc_tree.proofs.ReachLaws.{or_elim}
 use Rattle.oc_reach.specs.Marked.{is_in, add_all}
-use Rattle.oc_reach.proofs.Bools.{or_assoc}
 use Rattle.oc_reach.proofs.Lists.{in_all}
 use Rattle.oc_reach.proofs.PassLaws.{own_below, first_room, rest_at, params_at}
 use Rattle.oc_reach.proofs.Tests.{some_tests}

@@ -2,7 +2,7 @@
 use Rattle.std.proofs.Common.{◌≡◌, ℕ, Bool, true, false, true≢false, List, [], ◌∷◌, length, map, Option, Some, None, cond, refl, ap, sym, subst, ◌∙◌, inl, inr}
 use Rattle.std.specs.Prelude.{◌⊎◌, ◌&&◌, ◌||◌, not, find, flat_map, option_to_list}
 use Rattle.std.specs.List.{list_all}
-use Rattle.std.proofs.lemmas.Bool.{eq-eqb, or_left, or_right, and_parts, and_from}
+use Rattle.std.proofs.lemmas.Bool.{eq-eqb, or_left, or_right, and_parts, and_from, not-false, not-true, or_cases}
 use Rattle.std.proofs.lemmas.Option.{same_Some, none-some}
 use Rattle.oc_tree.specs.Tree.{TProgram}
 use Rattle.oc_tree.specs.Rules.{main}
@@ -26,7 +26,7 @@ use Rattle.oc_region.proofs.Owners.{around_function}
 use Rattle.oc_region.proofs.Required.{Own, Asks, asked}
 use Rattle.oc_regcheck.specs.Enough.{AreCovered, is_function, covers_all, is_covered, Guarded, open_call, open_calls, comes_to, is_guarded, is_met, first_open, has_both, second_of}
 use Rattle.oc_regcheck.specs.Code.{outer, same_place, shares, share_all, second_by, call_by, calls_in, calls_by, comes_by, meets, first_by}
-use Rattle.oc_regcheck.proofs.Outer.{either, same_answer, is_one, both_is, same_two}
+use Rattle.oc_regcheck.proofs.Outer.{same_answer, is_one, both_is, same_two}
 use Rattle.oc_regcheck.proofs.Members.{of_all, all_of, each_of, among_of}
 use Rattle.oc_regcheck.proofs.Guards.{guarded_is}
 use Rattle.oc_regcheck.proofs.Marked.{up, line, encloses_is, inside_outer, one_outer}
@@ -54,20 +54,12 @@ find_some f (y ∷ ys) x e = by (f y) refl e (find_some f ys x)
     by true is k rest = let q : y ≡ x = same_Some y x k in (inl (sym q), ap f (sym q) ∙ is)
     by false is k rest = let r = rest k in (inr r.0, r.1)
 
-not_false : (b : Bool) → not b ≡ false → b ≡ true
-not_false true e = refl
-not_false false e = absurd (true≢false e)
-
-not_true : (b : Bool) → not b ≡ true → b ≡ false
-not_true true e = absurd (true≢false (sym e))
-not_true false e = refl
-
 same_some : (t : ℕ) (o u : Option ℕ) → o ≡ Some t → u ≡ Some t → same_place o u ≡ true
 same_some t o u e f = subst (λ a. same_place a u ≡ true) (sym e) (subst (λ b. same_place (Some t) b ≡ true) (sym f) (eq-eqb t t refl))
 
 -- the first open requirement is one of the program, and isn't met
 pub first_there : (p : TProgram) (is_block : ℕ → Bool) (r : TRequirement) → first_by p is_block (requirements p) ≡ Some r → IsOf r (requirements p) × (meets p is_block r ≡ false)
-first_there p is_block r e = let f = find_some (λ q. not (meets p is_block q)) (requirements p) r e in (f.0, not_true (meets p is_block r) f.1)
+first_there p is_block r e = let f = find_some (λ q. not (meets p is_block q)) (requirements p) r e in (f.0, not-true (meets p is_block r) f.1)
 
 module _ (p : TProgram) (form : Numbered p) (blocks : List ℕ) where
   abbrev is_block : ℕ → Bool
@@ -147,7 +139,7 @@ module _ (p : TProgram) (form : Numbered p) (blocks : List ℕ) where
   pub second_there : (r : TRequirement) → IsOf r (requirements p) → meets p is_block r ≡ false → (first : ℕ) → second_by p is_block first r.sites ≡ None → ⊥
   second_there r o e first none =
       let asks = each_of (Asks p (length (policies p))) r (requirements p) (asked p) o in
-      let all = share_others first r.sites asks.some (λ u i. not_false (shares p is_block first u) (find_none (λ v. not (shares p is_block first v)) r.sites none u i)) in
+      let all = share_others first r.sites asks.some (λ u i. not-false (shares p is_block first u) (find_none (λ v. not (shares p is_block first v)) r.sites none u i)) in
       true≢false (sym (or_left (share_all p is_block r.sites) (not (comes_by p is_block r.function)) all) ∙ e)
 
 -- ---- the test decides
@@ -162,7 +154,7 @@ module _ (p : TProgram) (groups : List Group) (checked : IsChecked p groups) (bl
   so_guard f false d h = absurd (d h)
 
   pub covered_so : first_open p blocks ≡ None → AreCovered p blocks
-  covered_so e = λ r o. by r (either (is_covered p blocks r) (is_guarded p blocks r.function) (not_false (is_met p blocks r) (find_none (λ q. not (is_met p blocks q)) (requirements p) e r o)))
+  covered_so e = λ r o. by r (or_cases (is_covered p blocks r) (is_guarded p blocks r.function) (not-false (is_met p blocks r) (find_none (λ q. not (is_met p blocks q)) (requirements p) e r o)))
     where
       by : (r : TRequirement) → (is_covered p blocks r ≡ true) ⊎ (is_guarded p blocks r.function ≡ true) → (is_covered p blocks r ≡ true) ⊎ Guarded p blocks r.function
       by r (inl c) = inl c
@@ -171,7 +163,7 @@ module _ (p : TProgram) (groups : List Group) (checked : IsChecked p groups) (bl
   pub open_so : (r : TRequirement) → first_open p blocks ≡ Some r → AreCovered p blocks → ⊥
   open_so r e h =
       let f = find_some (λ q. not (is_met p blocks q)) (requirements p) r e in
-      let off = not_true (is_met p blocks r) f.1 in
+      let off = not-true (is_met p blocks r) f.1 in
       by off (h r f.0)
     where
       by : is_met p blocks r ≡ false → (is_covered p blocks r ≡ true) ⊎ Guarded p blocks r.function → ⊥

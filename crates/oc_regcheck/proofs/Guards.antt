@@ -2,7 +2,7 @@
 use Rattle.std.proofs.Common.{◌≡◌, ◌≢◌, ◌<◌, ◌≤◌, ℕ, zero, suc, ◌+◌, Bool, true, false, true≢false, List, [], length, map, Option, Some, None, cond, refl, ap, sym}
 use Rattle.std.proofs.Common.{subst, ◌∙◌, inl, inr, arith}
 use Rattle.std.specs.Prelude.{◌⊎◌, not, flat_map, nat_eq, option_to_list}
-use Rattle.std.proofs.lemmas.Bool.{eqb-true, eq-eqb, and_parts, and_from, or_left, or_right}
+use Rattle.std.proofs.lemmas.Bool.{eqb-true, eq-eqb, and_parts, and_from, or_left, or_right, or_cases}
 use Rattle.std.proofs.lemmas.Option.{same_Some, none-some}
 use Rattle.oc_tree.specs.Tree.{TProgram}
 use Rattle.oc_tree.specs.Rules.{main}
@@ -15,7 +15,6 @@ use Rattle.oc_flow.specs.Variables.{from}
 use Rattle.oc_flow.specs.Laws.{Decides}
 use Rattle.oc_flow.proofs.Fixpoint.{Ranked}
 use Rattle.oc_regcheck.specs.Enough.{is_inside, Guarded, guarded, open_call, open_calls, comes_to, is_guarded}
-use Rattle.oc_regcheck.proofs.Outer.{either}
 use Rattle.oc_needs.proofs.Tests.{any_of, of_any}
 use Rattle.oc_needs.proofs.SitesOnce.{in_join, of_join}
 use Rattle.oc_regcheck.proofs.Members.{in_from, from_below}
@@ -80,7 +79,7 @@ module _ (p : TProgram) (blocks : List ℕ) where
 
   not_come : (o : Option ℕ) → function_place p.functions main ≡ o → (f : ℕ) → Guarded p blocks f → comes_to (open_calls p blocks) (length p.functions) o f ≡ true → ⊥
   not_come None is f h e = true≢false (sym e)
-  not_come (Some m) is f h e = by (either (nat_eq f m) (leads (open_calls p blocks) (length p.functions) f m) e)
+  not_come (Some m) is f h e = by (or_cases (nat_eq f m) (leads (open_calls p blocks) (length p.functions) f m) e)
     where
       by : (nat_eq f m ≡ true) ⊎ (leads (open_calls p blocks) (length p.functions) f m ≡ true) → ⊥
       by (inl q) = no_main m is (subst (Guarded p blocks) (eqb-true f m q) h)
@@ -100,7 +99,7 @@ module _ (p : TProgram) (blocks : List ℕ) where
   caller_guarded None f g a c small i there callee outside e = refl
   caller_guarded (Some m) f g a c small i there callee outside e =
       not_so (reaches (open_calls p blocks) (length p.functions) g m)
-      (λ h. true≢false (sym (or_right (nat_eq f m) (leads (open_calls p blocks) (length p.functions) f m) (on (either (nat_eq g m) (leads (open_calls p blocks) (length p.functions) g m) h))) ∙ e))
+      (λ h. true≢false (sym (or_right (nat_eq f m) (leads (open_calls p blocks) (length p.functions) f m) (on (or_cases (nat_eq g m) (leads (open_calls p blocks) (length p.functions) g m) h))) ∙ e))
     where
       first : leads (open_calls p blocks) (length p.functions) f g ≡ true
       first = links_lead (open_calls p blocks) (length p.functions) f g (call_links f g a c small i there callee outside)

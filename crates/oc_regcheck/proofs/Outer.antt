@@ -2,14 +2,10 @@
 use Rattle.std.proofs.Common.{◌≡◌, ◌<◌, ℕ, Bool, true, false, true≢false, ◌==◌, List, [], ◌∷◌, length, Option, Some, None, cond, refl, ap, sym, subst, ◌∙◌, inl, inr, arith}
 use Rattle.std.specs.Prelude.{◌⊎◌, ◌&&◌, ◌||◌, is_some}
 use Rattle.std.specs.List.{list_any}
-use Rattle.std.proofs.lemmas.Bool.{eqb-true, eq-eqb, or_left, or_right, and_parts, and_from}
+use Rattle.std.proofs.lemmas.Bool.{eqb-true, eq-eqb, or_left, or_right, and_parts, and_from, or_cases}
 use Rattle.std.proofs.lemmas.Option.{same_Some, none-some}
 use Rattle.oc_tree.specs.Members.{is_number_of}
 use Rattle.oc_regcheck.specs.Code.{outermost_from, same_place}
-
-pub either : (b c : Bool) → b || c ≡ true → (b ≡ true) ⊎ (c ≡ true)
-either true c e = inl refl
-either false c e = inr e
 
 pub same_answer : (a b : Bool) → (a ≡ true → b ≡ true) → (b ≡ true → a ≡ true) → a ≡ b
 same_answer true b f g = sym (f refl)
@@ -20,7 +16,7 @@ same_answer false false f g = refl
 
 pub any_among : (test : ℕ → Bool) (xs : List ℕ) → list_any test xs ≡ true → (b : ℕ) × (is_number_of xs b ≡ true) × (test b ≡ true)
 any_among test [] e = absurd (true≢false (sym e))
-any_among test (x ∷ xs) e = by (either (test x) (list_any test xs) e) (any_among test xs)
+any_among test (x ∷ xs) e = by (or_cases (test x) (list_any test xs) e) (any_among test xs)
   where
     by : (test x ≡ true) ⊎ (list_any test xs ≡ true) → (list_any test xs ≡ true → (b : ℕ) × (is_number_of xs b ≡ true) × (test b ≡ true)) → (b : ℕ) × (is_number_of (x ∷ xs) b ≡ true) × (test b ≡ true)
     by (inl h) rest = (x, or_left (x == x) (is_number_of xs x) (eq-eqb x x refl), h)
@@ -28,7 +24,7 @@ any_among test (x ∷ xs) e = by (either (test x) (list_any test xs) e) (any_amo
 
 pub among_any : (test : ℕ → Bool) (xs : List ℕ) (b : ℕ) → is_number_of xs b ≡ true → test b ≡ true → list_any test xs ≡ true
 among_any test [] b m e = absurd (true≢false (sym m))
-among_any test (x ∷ xs) b m e = by (either (x == b) (is_number_of xs b) m) (λ h. among_any test xs b h e)
+among_any test (x ∷ xs) b m e = by (or_cases (x == b) (is_number_of xs b) m) (λ h. among_any test xs b h e)
   where
     by : (x == b ≡ true) ⊎ (is_number_of xs b ≡ true) → (is_number_of xs b ≡ true → list_any test xs ≡ true) → list_any test (x ∷ xs) ≡ true
     by (inl h) rest = or_left (test x) (list_any test xs) (subst (λ n. test n ≡ true) (sym (eqb-true x b h)) e)
@@ -67,7 +63,7 @@ module _ (is_block : ℕ → Bool) where
     -- a block among these is the outermost, or stands in it
     pub over : (l : List ℕ) (b : ℕ) → Line up l → is_block b ≡ true → is_number_of l b ≡ true → outermost_in l ≡ or_else (outermost_in (up b)) (Some b)
     over [] b h k m = absurd (true≢false (sym m))
-    over (t ∷ l) b h k m = by (either (t == b) (is_number_of l b) m) (over l b h.1 k)
+    over (t ∷ l) b h k m = by (or_cases (t == b) (is_number_of l b) m) (over l b h.1 k)
       where
         stays : (o u rest : Option ℕ) → o ≡ or_else u (Some b) → or_else o rest ≡ o
         stays (Some w) u rest e = refl
@@ -89,7 +85,7 @@ module _ (is_block : ℕ → Bool) where
     -- what is around one of them
     line_of : (l : List ℕ) (t : ℕ) → Line up l → is_number_of l t ≡ true → Line up (up t) × (length (up t) < length l)
     line_of [] t h m = absurd (true≢false (sym m))
-    line_of (x ∷ l) t h m = by (either (x == t) (is_number_of l t) m) (line_of l t h.1)
+    line_of (x ∷ l) t h m = by (or_cases (x == t) (is_number_of l t) m) (line_of l t h.1)
       where
         by : (x == t ≡ true) ⊎ (is_number_of l t ≡ true) → (is_number_of l t ≡ true → Line up (up t) × (length (up t) < length l)) → Line up (up t) × (length (up t) < length (x ∷ l))
         by (inl e) rest =

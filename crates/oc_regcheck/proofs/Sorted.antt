@@ -2,9 +2,8 @@
 use Rattle.std.proofs.Common.{◌≡◌, ◌≤◌, ◌<◌, ℕ, zero, suc, true, true≢false, List, [], ◌∷◌, length, Result, Ok, Err, sym, inl, inr, arith}
 use Rattle.std.specs.Prelude.{◌⊎◌, ◌==◌, is_ok, MatchResult}
 use Rattle.std.proofs.Math.ListN.{get_or}
-use Rattle.std.proofs.lemmas.Bool.{eqb-true, eq-eqb, or_left, or_right, false_from_ne_true, cases_lt}
+use Rattle.std.proofs.lemmas.Bool.{eqb-true, eq-eqb, or_left, or_right, false_from_ne_true, cases_lt, or_cases}
 use Rattle.oc_tree.specs.Members.{is_number_of}
-use Rattle.oc_regcheck.proofs.Outer.{either}
 
 -- among numbers is what stands at a place
 at_place : (xs : List ℕ) (i x : ℕ) → i < length xs → get_or xs i 0 ≡ x → is_number_of xs x ≡ true
@@ -14,7 +13,7 @@ at_place (y ∷ ys) (suc i) x h e = or_right (y == x) (is_number_of ys x) (at_pl
 
 place_of : (xs : List ℕ) (x : ℕ) → is_number_of xs x ≡ true → (i : ℕ) × (i < length xs) × (get_or xs i 0 ≡ x)
 place_of [] x e = absurd (true≢false (sym e))
-place_of (y ∷ ys) x e = by (either (y == x) (is_number_of ys x) e) (place_of ys x)
+place_of (y ∷ ys) x e = by (or_cases (y == x) (is_number_of ys x) e) (place_of ys x)
   where
     by : (y == x ≡ true) ⊎ (is_number_of ys x ≡ true) → (is_number_of ys x ≡ true → (i : ℕ) × (i < length ys) × (get_or ys i 0 ≡ x)) → (i : ℕ) × (i < length (y ∷ ys)) × (get_or (y ∷ ys) i 0 ≡ x)
     by (inl h) rest = (0, omega arith, eqb-true y x h)

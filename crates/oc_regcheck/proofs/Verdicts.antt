@@ -15,7 +15,7 @@ use Rattle.oc_regcheck.proofs.InputLaws.{function_small}
 use Rattle.oc_region.proofs.Elements.{Each, each_all}
 use Rattle.oc_regcheck.specs.declared.verdict.BlockVerdict.{BlockVerdict}
 use Rattle.oc_regcheck.specs.declared.verdict.BlockVerdict.TheVariants.{Covered, Open}
-use Rattle.oc_regcheck.specs.Enough.{AreCovered, IsVerdict, is_covering, Tells}
+use Rattle.oc_regcheck.specs.Enough.{AreCovered, IsVerdict, is_covering, TellsCovered}
 use Rattle.oc_regcheck.specs.Code.{IsVerdictBy}
 use Rattle.oc_regcheck.proofs.Exact.{first_is, second_is, covered_so, open_so}
 
@@ -35,7 +35,7 @@ pub from_sorted : (p : TProgram) → Numbered p → (sorted blocks : List ℕ) �
     → IsVerdictBy p (is_number_of sorted) v → IsVerdict p blocks v
 from_sorted p form sorted blocks same v h = from_code p form blocks v (subst (λ (f : ℕ → Bool). IsVerdictBy p f v) (λ i t. same t i) h)
 
-pub tells : (p : TProgram) (groups : List Group) → IsChecked p groups → (blocks : List ℕ) (v : BlockVerdict) → IsVerdict p blocks v → Tells p blocks v
+pub tells : (p : TProgram) (groups : List Group) → IsChecked p groups → (blocks : List ℕ) (v : BlockVerdict) → IsVerdict p blocks v → TellsCovered p blocks v
 tells p groups checked blocks Covered h = covered_so p groups checked blocks h
 tells p groups checked blocks (Open policy function first second) h = open_so p groups checked blocks h.requirement h.found
 

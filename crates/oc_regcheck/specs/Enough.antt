@@ -118,5 +118,5 @@ is_covering Covered = true
 is_covering (Open policy function first second) = false
 
 -- `Covered` is answered exactly where the blocks suffice
-abbrev pub Tells : TProgram → List ℕ → BlockVerdict → Type 0
-Tells p blocks v = Decides (is_covering v) (AreCovered p blocks)
+abbrev pub TellsCovered : TProgram → List ℕ → BlockVerdict → Type 0
+TellsCovered p blocks v = Decides (is_covering v) (AreCovered p blocks)

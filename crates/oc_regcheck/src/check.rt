@@ -7,7 +7,7 @@ ghost use Rattle.oc_reach.specs.Marked.{is_in};
 ghost use Rattle.oc_regcheck.specs.BlockMarks.{blocks_marked};
 ghost use Rattle.oc_tree.specs.Members.{is_number_of};
 ghost use Rattle.oc_regcheck.specs.Code.{comes_by, first_by, meets, requirement_seen, second_by, IsVerdictBy};
-ghost use Rattle.oc_regcheck.specs.Enough.{is_covering, AreStatements, IsVerdict, Tells};
+ghost use Rattle.oc_regcheck.specs.Enough.{is_covering, AreStatements, IsVerdict, TellsCovered};
 
 use crate::blocks::Blocks;
 use crate::guard::from_main;
@@ -156,7 +156,7 @@ pub fn check_blocks(
     // What is said of the first requirement that isn't met, or that there is none.
     ensures verdict { IfOk result (IsVerdict checked.now.program blocks.now) }
     // `Covered` is said exactly where the blocks suffice.
-    ensures covered { IfOk result (Tells checked.now.program blocks.now) }
+    ensures covered { IfOk result (TellsCovered checked.now.program blocks.now) }
     // Then each run is timely with outages anywhere but within an execution of a block.
     ensures timely { IfOk result
         (λ v. is_covering v ≡ true → RunsAreTimely (blocks_marked checked.now blocks.now)) }

@@ -1,7 +1,7 @@
 -- Ranges that are united one by one are united.
 use Rattle.std.proofs.Common.{◌≡◌, ◌<◌, ◌≤◌, Bool, true, false, true≢false, List, [], ◌∷◌, cond, refl, ap, sym, subst, ◌∙◌, inl, inr, arith}
 use Rattle.std.specs.Prelude.{◌⊎◌, ◌&&◌, not, filter, nat_eq, nat_le}
-use Rattle.std.proofs.lemmas.Bool.{eqb-true, eq-eqb, leb-true, le-leb, and_parts, and_from, cases_lt}
+use Rattle.std.proofs.lemmas.Bool.{eqb-true, eq-eqb, leb-true, le-leb, and_parts, and_from, cases_lt, not-true}
 use Rattle.oc_tree.specs.Marked.{TRegion}
 use Rattle.oc_tree.specs.Members.{IsOf}
 use Rattle.oc_region.specs.Regions.{shares, joined, joined_all, with_range, united}
@@ -151,10 +151,6 @@ all_apart r (q ∷ qs) x o s h k = all_apart (joined r q) qs x o (sharing_on r q
 
 -- ---- one more
 
-not_true : (b : Bool) → not b ≡ true → b ≡ false
-not_true true e = sym e
-not_true false e = refl
-
 module _ (r : TRegion) (given us : List TRegion) (range : r.first ≤ r.last) (are : AreUnited given us) where
   abbrev others : List TRegion
   others = filter (λ q. not (shares r q)) us
@@ -166,7 +162,7 @@ module _ (r : TRegion) (given us : List TRegion) (range : r.first ≤ r.last) (a
   sharing q i = share_is r q (of_filter (shares r) q us i).1
 
   beside : (x : TRegion) → IsOf x others → IsOf x us × (shares r x ≡ false)
-  beside x i = let q = of_filter (λ q. not (shares r q)) x us i in (q.0, not_true (shares r x) q.1)
+  beside x i = let q = of_filter (λ q. not (shares r q)) x us i in (q.0, not-true (shares r x) q.1)
 
   whole_apart : (x : TRegion) → IsOf x others → shares whole x ≡ false
   whole_apart x i =

@@ -7,8 +7,8 @@ use Rattle.oc_tree.specs.Places.{placed, block_of}
 use Rattle.oc_tree.specs.Marked.{TRegion, around, is_in_region, covers, IsRegion, AreRegions}
 use Rattle.oc_tree.specs.Members.{IsOf}
 use Rattle.oc_timely.proofs.Directly.{Direct, direct_of, of_direct}
-use Rattle.oc_tree.proofs.ReachLaws.{or_left}
 use Rattle.std.proofs.lemmas.Option.{same_Some}
+use Rattle.std.proofs.lemmas.Bool.{or_left}
 
 each_of : (P : TRegion → Type 0) (rs : List TRegion) → ((j : ℕ) (d : TRegion) → j < length rs → P (slice_index_or rs j d)) → (r : TRegion) → IsOf r rs → P r
 each_of P [] h r i = absurd i

@@ -1,6 +1,6 @@
 -- What a function sees when it begins: its parameters and the nonvolatile variables.
 use Rattle.std.proofs.Common.{◌≡◌, ◌⊎◌, inl, inr, ℕ, zero, suc, ◌+◌, ◌<◌, ◌≤◌, Bool, true, false, ◌==◌, List, [], ◌∷◌, length, map, Option, Some, None, refl, sym, ap, ◌∙◌, subst, arith}
-use Rattle.std.proofs.lemmas.Bool.{and_from}
+use Rattle.std.proofs.lemmas.Bool.{and_from, or_left, or_right}
 use Rattle.std.specs.Prelude.{cond, if◌then◌else◌, nat_lt, option_map, ◌||◌}
 use Rattle.std.specs.Str.{bytes_eq}
 use Rattle.std.proofs.lemmas.Slice.Eq.{bytes_eq-Decides}
@@ -25,7 +25,6 @@ use Rattle.oc_timely.specs.Modes.{Sees}
 use Rattle.oc_copies.proofs.Frames.{all_many}
 use Rattle.oc_timely.proofs.Sources.{among_front, among_back}
 use Rattle.oc_flow.proofs.Lists.{same_itself}
-use Rattle.oc_tree.proofs.ReachLaws.{or_left, or_right}
 
 -- ---- variables that a function has
 

@@ -1,7 +1,7 @@
 -- Where a set's block stands in its function, all tags that a run of the function tells are of later instances than those before.
 use Rattle.std.proofs.Common.{◌≡◌, ◌⊎◌, inl, inr, ℕ, ◌+◌, ◌≤◌, ◌==◌, Bool, true, false, List, [], ◌∷◌, Option, Some, None, refl, ap, sym, ◌∙◌, arith}
 use Rattle.std.specs.Prelude.{ℤ, ◌||◌, slice_get, unwrap_or, if◌then◌else◌}
-use Rattle.std.proofs.lemmas.Bool.{eqb-true, eq-eqb}
+use Rattle.std.proofs.lemmas.Bool.{eqb-true, eq-eqb, or_right}
 use Rattle.std.proofs.lemmas.Option.{none-some, same_Some}
 use Rattle.oc_tree.specs.Names.{Text}
 use Rattle.oc_tree.specs.Tree.{TKind, if_else, for_in, while_do, consistent, TElse, no_else, else_do, stmt, TBlock, block, TStmts, no_stmts, more, TFunction, TProgram}
@@ -20,7 +20,6 @@ use Rattle.oc_timely.proofs.Away.{calls_away, fits, AllFit, kind_fits, else_fits
 use Rattle.oc_timely.proofs.Innermost.{NoneNoted, else_clear, block_clear, own_clear, stmts_clear, home_there}
 use Rattle.oc_timely.proofs.Members.{of_left, of_right}
 use Rattle.oc_timely.proofs.Tagged.{Since, SinceOut, Fits, KindFits, ElseFits, BlockFits, StmtsFit, kind_since, else_since, block_since, stmts_since}
-use Rattle.oc_tree.proofs.ReachLaws.{or_right}
 
 -- ---- homes
 

@@ -2,7 +2,7 @@
 use Rattle.std.proofs.Common.{◌≡◌, ◌⊎◌, inl, inr, ℕ, zero, suc, ◌+◌, ◌<◌, ◌≤◌, Bool, true, false, true≢false, List, [], ◌∷◌, ◌++◌, length, Some, nat_eq, nat_lt, cond, refl, sym, ap, ◌∙◌, subst, arith}
 use Rattle.std.specs.Prelude.{flat_map, ◌&&◌}
 use Rattle.std.specs.List.{list_all}
-use Rattle.std.proofs.lemmas.Bool.{eq-eqb, and_from, and_parts}
+use Rattle.std.proofs.lemmas.Bool.{eq-eqb, and_from, and_parts, or_parts}
 use Rattle.std.proofs.lemmas.List.{length-map}
 use Rattle.oc_tree.specs.Tree.{TProgram}
 use Rattle.oc_tree.specs.Marked.{TMarked, IsMarked, covers}
@@ -21,7 +21,7 @@ use Rattle.oc_needs.specs.Need.{Need, by_annotation, by_call as need_by_call, Ne
 use Rattle.oc_needs.specs.Sites.{site, is_input, input_sites}
 use Rattle.oc_needs.specs.Requirements.{TRequirement, rising, is_before, with_list, in_order, with_inputs, own_sites, needed_at, call_sites, function_sites, required_in}
 use Rattle.oc_needs.specs.Requirements.{required_of, required_from, requirements}
-use Rattle.oc_needs.proofs.Tests.{in_filter, or_no}
+use Rattle.oc_needs.proofs.Tests.{in_filter}
 use Rattle.oc_needs.proofs.Rising.{in_rising}
 use Rattle.oc_timely.specs.Covering.{IsCovering, IsMet}
 use Rattle.oc_timely.specs.Within.{AnyOf}
@@ -40,8 +40,8 @@ same_before [] [] e h = refl
 same_before [] (n ∷ ns) e h = absurd (true≢false e)
 same_before (m ∷ ms) [] e h = absurd (true≢false h)
 same_before (m ∷ ms) (n ∷ ns) e h =
-    let a = or_no (nat_lt m n) (nat_eq m n && is_before ms ns) e in
-    let b = or_no (nat_lt n m) (nat_eq n m && is_before ns ms) h in
+    let a = or_parts (nat_lt m n) (nat_eq m n && is_before ms ns) e in
+    let b = or_parts (nat_lt n m) (nat_eq n m && is_before ns ms) h in
     let low : n ≤ m = grind (arith, a.0) in
     let high : m ≤ n = grind (arith, b.0) in
     let same : m ≡ n = omega (arith, low, high) in

@@ -1,6 +1,6 @@
 -- Each statement of a function has its effect, and what it declares is a variable of the function.
 use Rattle.std.proofs.Common.{◌≡◌, inl, inr, ℕ, zero, suc, Bool, true, false, List, [], ◌∷◌, length, map, filter, Some, sym, ap, ◌∙◌, subst, arith}
-use Rattle.std.proofs.lemmas.Bool.{and_from}
+use Rattle.std.proofs.lemmas.Bool.{and_from, or_left, or_right}
 use Rattle.std.specs.Prelude.{cond, slice_get}
 use Rattle.std.proofs.Math.ListN.{get_or}
 use Rattle.oc_tree.specs.Tree.{TFunction, TProgram}
@@ -12,7 +12,6 @@ use Rattle.oc_tree.specs.Members.{IsOf}
 use Rattle.oc_timely.proofs.Sources.{among_back}
 use Rattle.oc_timely.proofs.NoCalls.{stands_at}
 use Rattle.oc_flow.proofs.Lists.{same_itself}
-use Rattle.oc_tree.proofs.ReachLaws.{or_left, or_right}
 
 of_map : (p : TProgram) (b : Placed) (bs : List Placed) → IsOf b bs → IsOf (effect_of p b) (map (effect_of p) bs)
 of_map p b [] h = absurd h

@@ -1,6 +1,7 @@
 -- The value that a statement sets a variable to brings samples by the flow of its effect.
 use Rattle.std.proofs.Common.{◌≡◌, inl, inr, ℕ, Bool, true, false, List, [], ◌∷◌, ◌++◌, Option, Some, None, refl, sym, ap, ◌∙◌, subst, arith}
 use Rattle.std.specs.Prelude.{◌||◌, option_to_list}
+use Rattle.std.proofs.lemmas.Bool.{or_left, or_right}
 use Rattle.oc_tree.specs.Names.{Text}
 use Rattle.oc_tree.specs.Tree.{TProgram}
 use Rattle.oc_tree.specs.Places.{Placed}
@@ -12,7 +13,6 @@ use Rattle.oc_tree.specs.Members.{IsOf}
 use Rattle.oc_flow.specs.Relations.{itself, by_value}
 use Rattle.oc_timely.specs.Within.{Where, place_in, samples_of, Owns, Comes, old}
 use Rattle.oc_flow.proofs.Lists.{same_itself}
-use Rattle.oc_tree.proofs.ReachLaws.{or_left, or_right}
 
 pub among_front : (u : VarId) (xs ys : List VarId) → is_among u xs ≡ true → is_among u (xs ++ ys) ≡ true
 among_front u [] ys e = absurd (grind (arith, e))

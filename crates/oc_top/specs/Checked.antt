@@ -15,7 +15,7 @@ use Rattle.oc_parse.specs.Atomics.{atomics}
 use Rattle.oc_needs.specs.Policies.{policies}
 use Rattle.oc_honest.specs.Timely.{RunsAreTimely}
 use Rattle.oc_regcheck.specs.BlockMarks.{blocks_marked}
-use Rattle.oc_regcheck.specs.Enough.{AreCovered, IsVerdict, Tells}
+use Rattle.oc_regcheck.specs.Enough.{AreCovered, IsVerdict, TellsCovered}
 use Rattle.oc_regcheck.specs.declared.verdict.BlockVerdict.{BlockVerdict}
 use Rattle.oc_regcheck.specs.declared.verdict.BlockVerdict.TheVariants.{Covered, Open}
 use Rattle.oc_top.specs.Sources.{ReadsIn, faulty, breaks}
@@ -40,7 +40,7 @@ pub record AcceptsBlocks (source : List ℕ) (p : TProgram) (blocks : List ℕ) 
 -- one of them or its function is guarded
 pub record AreJudged (p : TProgram) (blocks : List ℕ) (v : BlockVerdict) : Type 0 where
   pub verdict : IsVerdict p blocks v
-  pub exact : Tells p blocks v
+  pub exact : TellsCovered p blocks v
 
 -- what is answered and written where the blocks have this verdict
 abbrev pub IsSaid : TProgram → BlockVerdict → Verdict → Type 0

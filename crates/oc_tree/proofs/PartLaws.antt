@@ -7,6 +7,7 @@ use Rattle.std.proofs.lemmas.Grind.{flat_map-append}
 use Rattle.std.proofs.lemmas.List.{append-nil}
 use Rattle.std.proofs.lemmas.List.Folds.{list_all-append, list_any-append}
 use Rattle.std.proofs.lemmas.List.Sums.{sum_by-append, sum_by-cons}
+use Rattle.std.proofs.Math.Bool.{or-false}
 use Rattle.oc_tree.specs.Names.{Text}
 use Rattle.oc_tree.specs.Tree.{TExpr, number, truth, variable, index, deref, unary, binary, sensed, called, TArg, value, shared, mutable, TCall, call, TArgs, no_args, more_args}
 use Rattle.oc_tree.specs.Tree.{TRight, right_value, right_sense, right_call, TKind, let_to, let_array, assign, assign_index, assign_deref, if_else, for_in, while_do, call_only}
@@ -233,10 +234,6 @@ last_first false true false = refl
 last_first false false true = refl
 last_first false false false = refl
 
-or_false : (b : Bool) → b || false ≡ b
-or_false true = refl
-or_false false = refl
-
 mutual
   skips_in_expr : (e : TExpr) → list_any part_skips (expr_parts e) ≡ expr_skips e
   skips_in_expr (number z) = refl
@@ -251,7 +248,7 @@ mutual
       ∙ last_first (expr_skips a) (expr_skips b) (may_skip op && nat_lt 0 (expr_pulls b))
   skips_in_expr (sensed s) = refl
   skips_in_expr (called c) =
-      list_any-append part_skips (call_parts c) (called c ∷ []) ∙ or_false (list_any part_skips (call_parts c)) ∙ skips_in_call c
+      list_any-append part_skips (call_parts c) (called c ∷ []) ∙ or-false (list_any part_skips (call_parts c)) ∙ skips_in_call c
 
   skips_in_call : (c : TCall) → list_any part_skips (call_parts c) ≡ call_skips c
   skips_in_call (call f args) = skips_in_args args

@@ -1,17 +1,10 @@
 -- `leads` is the least transitive relation that holds of links; and the rank falls along links.
 use Rattle.std.proofs.Common.{◌≡◌, ◌<◌, ◌≤◌, ℕ, zero, suc, Bool, true, false, refl, sym, ap, true≢false, arith, subst}
-use Rattle.std.proofs.lemmas.Bool.{and_from, and_parts}
+use Rattle.std.proofs.lemmas.Bool.{and_from, and_parts, or_left, or_right}
 use Rattle.std.specs.Prelude.{◌&&◌, ◌||◌}
 use Rattle.std.proofs.lemmas.Bool.Decides.{eqb_tells}
 use mathlib.Core.Logic.{inl, inr}
 use Rattle.oc_tree.specs.Reach.{Links, linked, leads, one, count_below, rank}
-
-pub or_left : (a b : Bool) → a ≡ true → a || b ≡ true
-or_left a b h = subst (λ x. x || b ≡ true) (sym h) refl
-
-pub or_right : (a b : Bool) → b ≡ true → a || b ≡ true
-or_right true b h = refl
-or_right false b h = h
 
 pub or_elim : {C : Type 0} (a b : Bool) → a || b ≡ true → (a ≡ true → C) → (b ≡ true → C) → C
 or_elim true b h f g = f refl

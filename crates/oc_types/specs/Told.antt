@@ -5,6 +5,6 @@ use Rattle.oc_types.specs.declared.rules.RuleError.{RuleError}
 use Rattle.oc_types.specs.declared.rules.RuleError.TheVariants as errors
 
 -- an error tells what is broken: the rule, in its line; or memory ran out
-abbrev pub Tells : Option Broken → RuleError → Type 0
-Tells found errors.Memory = Unit {0}
-Tells found (errors.Rule line rule) = found ≡ Some (record { line = line; rule = rule })
+abbrev pub TellsBroken : Option Broken → RuleError → Type 0
+TellsBroken found errors.Memory = Unit {0}
+TellsBroken found (errors.Rule line rule) = found ≡ Some (record { line = line; rule = rule })

@@ -6,7 +6,7 @@ ghost use Rattle.oc_tree.specs.Broken.{broken};
 ghost use Rattle.oc_tree.specs.Form.{InForm};
 ghost use Rattle.oc_tree.specs.Nodes.{program_nodes};
 ghost use Rattle.oc_tree.specs.View.{program_view};
-ghost use Rattle.oc_types.specs.Told.{Tells};
+ghost use Rattle.oc_types.specs.Told.{TellsBroken};
 
 use crate::sizes::find_broken;
 use oc_tree::broken::Broken;
@@ -35,7 +35,7 @@ pub fn check(alloc: Global, program: Program) -> Result<Written, RuleError>
     ensures same { IfOk result (λ w. w ≡ program_view program) }
     ensures unbroken { IfOk result (λ w. broken (program_view program) ≡ None) }
     // A rule that is told is the one that is broken, in its line.
-    ensures told { IfErr result (λ e. Tells (broken (program_view program)) e) }
+    ensures told { IfErr result (λ e. TellsBroken (broken (program_view program)) e) }
 {
     match find_broken(alloc, &program) {
         Ok(None) => Ok(Written::new(program)),

@@ -4,16 +4,17 @@ use Rattle.std.specs.Prelude.{◌&&◌, nat_eq, option_to_list, slice_get}
 use Rattle.std.specs.List.{flat_map}
 use Rattle.std.proofs.Math.ListN.{get_or}
 use Rattle.std.proofs.lemmas.List.{map-append}
-use Rattle.std.proofs.lemmas.Bool.{eq-eqb}
+use Rattle.std.proofs.lemmas.Bool.{eq-eqb, or_left, or_right}
 use Rattle.std.proofs.lemmas.Option.{none-some, same_Some, slice_get_within}
+use Rattle.std.proofs.lemmas.List.Folds.{list_any-append}
 use Rattle.oc_tree.specs.Names.{Text}
 use Rattle.oc_tree.specs.Tree.{TCall, call, TKind, let_to, let_array, TFunction}
 use Rattle.oc_tree.specs.Calls.{place, callee, call_calls, args_calls, own_calls, kind_hides, block_kinds, body_calls, called_places, links_from, function_names, function_place, call_links, calls}
 use Rattle.oc_tree.specs.Members.{IsOf}
 use Rattle.oc_tree.specs.Reach.{Links, linked, is_link, leads, count_below, rank}
 use Rattle.oc_tree.specs.Weight.{known_of}
-use Rattle.oc_tree.proofs.ReachLaws.{or_left, or_right, count_less, rank_falls}
-use Rattle.oc_reach.proofs.LinkLaws.{any_append, calls_within}
+use Rattle.oc_tree.proofs.ReachLaws.{count_less, rank_falls}
+use Rattle.oc_reach.proofs.LinkLaws.{calls_within}
 
 -- ---- members
 
@@ -51,7 +52,7 @@ row_linked names u v [] c i e = absurd i
 row_linked names u v (d ∷ cs) c i e =
     let first : Links = map (λ a. (u, a)) (option_to_list (place names (callee d))) in
     let rest : Links = map (λ a. (u, a)) (called_places names cs) in
-    let joined = ap (λ l. linked l u v) (map-append (λ a. (u, a)) (option_to_list (place names (callee d))) (called_places names cs)) ∙ any_append (is_link u v) first rest in
+    let joined = ap (λ l. linked l u v) (map-append (λ a. (u, a)) (option_to_list (place names (callee d))) (called_places names cs)) ∙ list_any-append (is_link u v) first rest in
     joined ∙ elim i [
       | inl same ↦
           let found : place names (callee d) ≡ Some v = ap (λ x. place names (callee x)) (sym same) ∙ e in
@@ -66,12 +67,12 @@ from_linked names u v zero (g ∷ fs) f c at i e =
     let row : Links = map (λ a. (u, a)) (called_places names (body_calls g)) in
     let n : u ≡ u + 0 = omega arith in
     let h : linked row u v ≡ true = row_linked names u v (body_calls g) c (subst (λ x. IsOf c (body_calls x)) (sym (same_Some g f at)) i) e in
-    any_append (is_link (u + 0) v) row (links_from names (u + 1) fs) ∙ or_left (linked row (u + 0) v) (linked (links_from names (u + 1) fs) (u + 0) v) (subst (λ m. linked row m v ≡ true) n h)
+    list_any-append (is_link (u + 0) v) row (links_from names (u + 1) fs) ∙ or_left (linked row (u + 0) v) (linked (links_from names (u + 1) fs) (u + 0) v) (subst (λ m. linked row m v ≡ true) n h)
 from_linked names u v (suc j) (g ∷ fs) f c at i e =
     let row : Links = map (λ a. (u, a)) (called_places names (body_calls g)) in
     let n : u + 1 + j ≡ u + suc j = omega arith in
     let h : linked (links_from names (u + 1) fs) (u + 1 + j) v ≡ true = from_linked names (u + 1) v j fs f c at i e in
-    any_append (is_link (u + suc j) v) row (links_from names (u + 1) fs)
+    list_any-append (is_link (u + suc j) v) row (links_from names (u + 1) fs)
     ∙ or_right (linked row (u + suc j) v) (linked (links_from names (u + 1) fs) (u + suc j) v) (subst (λ m. linked (links_from names (u + 1) fs) m v ≡ true) n h)
 
 -- a function calls what its body names

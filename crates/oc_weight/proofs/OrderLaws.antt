@@ -4,18 +4,18 @@ use Rattle.std.specs.Prelude.{◌&&◌, ◌||◌, if◌then◌else◌}
 use Rattle.std.proofs.Math.ListN.{get_or, get_or-append}
 use Rattle.std.proofs.Math.Seq.{get_or-append_seam, take-append_seam}
 use Rattle.std.proofs.lemmas.List.{length-append, length-map, take-append-le}
-use Rattle.std.proofs.lemmas.Bool.{eq-eqb, eqb-true}
+use Rattle.std.proofs.lemmas.Bool.{eq-eqb, eqb-true, or_right}
 use Rattle.std.proofs.lemmas.Bool.Decides.{eqb_tells, nat_tests}
+use Rattle.std.proofs.lemmas.List.Folds.{list_any-append}
 use mathlib.Core.Logic.{inl, inr}
 use Rattle.oc_tree.specs.Names.{Text}
 use Rattle.oc_tree.specs.Tree.{TFunction}
 use Rattle.oc_tree.specs.Calls.{body_calls, called_places, links_from, function_names, call_links}
 use Rattle.oc_tree.specs.Reach.{Links, linked, is_link, leads, one, count_below, rank}
-use Rattle.oc_tree.proofs.ReachLaws.{or_elim, or_right, count_less, rank_falls}
+use Rattle.oc_tree.proofs.ReachLaws.{or_elim, count_less, rank_falls}
 use Rattle.oc_reach.specs.Marked.{is_in, add, rows}
 use Rattle.oc_reach.specs.Within.{IsWithin}
 use Rattle.oc_reach.proofs.Bools.{or_false}
-use Rattle.oc_reach.proofs.LinkLaws.{any_append}
 use Rattle.oc_reach.proofs.Lists.{is_in_push}
 use Rattle.oc_reach.proofs.Rows.{row_is, rows_length}
 use Rattle.oc_reach.proofs.Walk.{some_at}
@@ -40,7 +40,7 @@ none_before : (w u v : ℕ) (rows : List (List ℕ)) → u < w → linked (row_l
 none_before w u v [] h = refl
 none_before w u v (row ∷ rows) h =
     let other : nat_eq w u ≡ false = grind (arith, nat_tests) in
-    any_append (is_link u v) (map (λ x. (w, x)) row) (row_links (w + 1) rows)
+    list_any-append (is_link u v) (map (λ x. (w, x)) row) (row_links (w + 1) rows)
     ∙ ap (λ b. b || linked (row_links (w + 1) rows) u v) (row_linked w u v row ∙ ap (λ b. b && is_in row v) other)
     ∙ none_before (w + 1) u v rows (omega (arith, h))
 
@@ -49,13 +49,13 @@ rows_from w k v [] = refl
 rows_from w zero v (row ∷ rows) =
     let own : nat_eq w (w + 0) ≡ true = grind (arith, nat_tests) in
     let small : w + 0 < w + 1 = omega arith in
-    any_append (is_link (w + 0) v) (map (λ x. (w, x)) row) (row_links (w + 1) rows)
+    list_any-append (is_link (w + 0) v) (map (λ x. (w, x)) row) (row_links (w + 1) rows)
     ∙ ap (λ b. b || linked (row_links (w + 1) rows) (w + 0) v) (row_linked w (w + 0) v row ∙ ap (λ b. b && is_in row v) own)
     ∙ or_false (is_in row v) (linked (row_links (w + 1) rows) (w + 0) v) (none_before (w + 1) (w + 0) v rows small)
 rows_from w (suc k) v (row ∷ rows) =
     let other : nat_eq w (w + suc k) ≡ false = grind (arith, nat_tests) in
     let n : w + suc k ≡ w + 1 + k = omega arith in
-    any_append (is_link (w + suc k) v) (map (λ x. (w, x)) row) (row_links (w + 1) rows)
+    list_any-append (is_link (w + suc k) v) (map (λ x. (w, x)) row) (row_links (w + 1) rows)
     ∙ ap (λ b. b || linked (row_links (w + 1) rows) (w + suc k) v) (row_linked w (w + suc k) v row ∙ ap (λ b. b && is_in row v) other)
     ∙ ap (λ m. linked (row_links (w + 1) rows) m v) n
     ∙ rows_from (w + 1) k v rows

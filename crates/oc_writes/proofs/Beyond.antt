@@ -2,7 +2,7 @@
 use Rattle.std.proofs.Common.{◌≡◌, ◌<◌, ◌≤◌, ℕ, zero, suc, Bool, true, false, nat_eq, refl, arith}
 use Rattle.std.specs.Prelude.{◌&&◌, ◌||◌, List, [], ◌∷◌, length}
 use Rattle.std.proofs.Math.ListN.{get_or}
-use Rattle.std.proofs.lemmas.Bool.{eqb-true}
+use Rattle.std.proofs.lemmas.Bool.{eqb-true, or_from}
 use Rattle.oc_tree.specs.Tree.{TFunction}
 use Rattle.oc_tree.specs.Reach.{Links, linked, leads, some_below, reaches, reaches_some}
 use Rattle.oc_tree.specs.Names.{Text}
@@ -19,10 +19,6 @@ none_below (suc n) q h = rw (h n (omega arith), none_below n q (λ v l. h v (ome
 and_false : (a b : Bool) → b ≡ false → a && b ≡ false
 and_false true b e = e
 and_false false b e = refl
-
-or_false : (a b : Bool) → a ≡ false → b ≡ false → a || b ≡ false
-or_false true b e f = e
-or_false false b e f = f
 
 module _ (links : Links) (n u : ℕ) (within : IsWithin links n) (past : n ≤ u) where
   not_linked : (v : ℕ) → linked links u v ≡ false
@@ -44,7 +40,7 @@ module _ (links : Links) (n u : ℕ) (within : IsWithin links n) (past : n ≤ u
       by_test false e = refl
 
   reaches_none : (test : ℕ → Bool) → reaches_some links n test u ≡ false
-  reaches_none test = none_below n (λ v. test v && reaches links n u v) (λ v l. and_false (test v) (reaches links n u v) (or_false (nat_eq u v) (leads links n u v) (not_same v l) (not_leads n v)))
+  reaches_none test = none_below n (λ v. test v && reaches links n u v) (λ v l. and_false (test v) (reaches links n u v) (or_from (nat_eq u v) (leads links n u v) (not_same v l) (not_leads n v)))
 
 pub no_param : (fs : List TFunction) (n : ℕ) → param_count fs ≤ n → param_assigned fs n ≡ false
 no_param fs n h = reaches_none (pass_links fs) (param_count fs) n (passes_within fs) h _

@@ -1,13 +1,14 @@
 -- In a checked program, a function that doesn't assign a nonvolatile variable, by itself or through functions that it
 -- calls or parameters, spares it in each statement.
 use Rattle.std.proofs.Common.{◌≡◌, ℕ, zero, suc, ◌+◌, Bool, true, false, true≢false, List, [], ◌∷◌, map, length, Option, Some, None, cond, refl, ap, sym, ◌∙◌, subst, arith}
-use Rattle.std.specs.Prelude.{◌&&◌, ◌||◌, ◌==◌, not, is_some, slice_get, option_map, option_and_then, nat_eq}
+use Rattle.std.specs.Prelude.{◌&&◌, ◌||◌, ◌==◌, is_some, slice_get, option_map, option_and_then, nat_eq}
 use Rattle.std.specs.List.{list_all, list_any}
 use Rattle.std.specs.Str.{bytes_eq}
 use Rattle.std.proofs.Math.ListN.{get_or}
-use Rattle.std.proofs.lemmas.Bool.{eq-eqb, and_from, and_parts}
+use Rattle.std.proofs.lemmas.Bool.{eq-eqb, and_from, and_parts, or_left, or_right, not-false}
 use Rattle.std.proofs.lemmas.Option.{none-some, same_Some}
 use Rattle.std.proofs.lemmas.Slice.Eq.{bytes_eq-Decides}
+use Rattle.std.proofs.lemmas.List.Folds.{list_any-append}
 use Rattle.oc_tree.specs.Names.{Text}
 use Rattle.oc_tree.specs.Tree.{TExpr, variable, TArg, value, shared, mutable, TCall, call, TArgs, no_args, more_args, TRight, right_value, right_sense, right_call, TKind, let_to}
 use Rattle.oc_tree.specs.Tree.{let_array, assign, assign_index, assign_deref, for_in, call_only, TFunction, TProgram}
@@ -30,8 +31,6 @@ use Rattle.oc_tree.specs.Checked.{Group, IsChecked}
 use Rattle.oc_tree.specs.Elements.{Here}
 use Rattle.oc_tree.specs.Rules.{only_reference, has_kind, origin_is, is_mutable_param, is_writable, is_writable_array, value_meets, shared_meets, arg_meets}
 use Rattle.oc_tree.specs.Rules.{args_meet, args_list, params_of, call_args, arg_lends, takes_name}
-use Rattle.oc_tree.proofs.ReachLaws.{or_left, or_right}
-use Rattle.oc_reach.proofs.LinkLaws.{any_append}
 use Rattle.oc_meaning.specs.Store.{Place, Global}
 use Rattle.oc_desugar.proofs.FineCalls.{CallFine, Each as EachCall, each_back as calls_back}
 use Rattle.oc_desugar.proofs.Unbroken.{Unbroken}
@@ -68,10 +67,6 @@ stands_among n (z ∷ xs) (suc i) x h = by (bytes_eq x z) (stands_among (n + 1) 
     by false e = e
 
 -- ---- small tests
-
-pub so : (b : Bool) → not b ≡ false → b ≡ true
-so true h = refl
-so false h = absurd (true≢false h)
 
 -- an array that may be written, and is a parameter, is one by `&mut`
 pub array_param : (q : Passing) → is_writable_array (origins.Param q) ≡ true → is_mutable q ≡ true
@@ -186,14 +181,14 @@ module _ (p : TProgram) (i : ℕ) (x : Text) (named : slice_get p.names.nvs i �
           → ((m : Through) → (b : ℕ) → linked (args_links p.functions first (param_names f) v l (more_args a rest)) (first + m.0) b ≡ true → param_assigned p.functions b ≡ false)
           → (m : Through) → (b : ℕ) → linked (arg_links p.functions first (param_names f) v l a) (first + m.0) b ≡ true → param_assigned p.functions b ≡ false
       first_links l a rest links m b h = links m b
-          (any_append (is_link (first + m.0) b) (arg_links p.functions first (param_names f) v l a) (args_links p.functions first (param_names f) v (l + 1) rest)
+          (list_any-append (is_link (first + m.0) b) (arg_links p.functions first (param_names f) v l a) (args_links p.functions first (param_names f) v (l + 1) rest)
           ∙ or_left _ (linked (args_links p.functions first (param_names f) v (l + 1) rest) (first + m.0) b) h)
 
       rest_links : (l : ℕ) (a : TArg) (rest : TArgs)
           → ((m : Through) → (b : ℕ) → linked (args_links p.functions first (param_names f) v l (more_args a rest)) (first + m.0) b ≡ true → param_assigned p.functions b ≡ false)
           → (m : Through) → (b : ℕ) → linked (args_links p.functions first (param_names f) v (l + 1) rest) (first + m.0) b ≡ true → param_assigned p.functions b ≡ false
       rest_links l a rest links m b h = links m b
-          (any_append (is_link (first + m.0) b) (arg_links p.functions first (param_names f) v l a) (args_links p.functions first (param_names f) v (l + 1) rest)
+          (list_any-append (is_link (first + m.0) b) (arg_links p.functions first (param_names f) v l a) (args_links p.functions first (param_names f) v (l + 1) rest)
           ∙ or_right (linked (arg_links p.functions first (param_names f) v l a) (first + m.0) b) _ h)
 
     -- what is known of a statement
@@ -282,7 +277,7 @@ module _ (p : TProgram) (i : ℕ) (x : Text) (named : slice_get p.names.nvs i �
           → EachCall Links (call_calls c) → CallSpared p i x passed vs c
       whole_spared (call g args) fine assigns names links =
           let c = call g args in
-          let none = second_fails (list_any (call_assigns p.functions x) (args_calls args)) _ (sym (any_append (call_assigns p.functions x) (args_calls args) (c ∷ [])) ∙ assigns) in
+          let none = second_fails (list_any (call_assigns p.functions x) (args_calls args)) _ (sym (list_any-append (call_assigns p.functions x) (args_calls args) (c ∷ [])) ∙ assigns) in
           call_spared c (calls_back (CallFine p here) (args_calls args) (c ∷ []) fine).0 (first_fails (call_assigns p.functions x c) false none)
           (calls_back Named (args_calls args) (c ∷ []) names).0 (calls_back Links (args_calls args) (c ∷ []) links).0
 
@@ -320,16 +315,16 @@ module _ (p : TProgram) (i : ℕ) (x : Text) (named : slice_get p.names.nvs i �
       kind_spared : (k : TKind) → Unbroken p here k → Known k → KindSpared p i x passed vs k
       kind_spared (let_to m y t r) rules known = right_spared r rules.calls (second_fails false _ known.unassigned) known.names known.links
       kind_spared (assign y r) rules known =
-          (assign_free y (so _ rules.target) (first_fails (bytes_eq x y) _ known.unassigned), right_spared r rules.calls (second_fails (bytes_eq x y) _ known.unassigned) known.names known.links)
+          (assign_free y (not-false _ rules.target) (first_fails (bytes_eq x y) _ known.unassigned), right_spared r rules.calls (second_fails (bytes_eq x y) _ known.unassigned) known.names known.links)
       kind_spared (assign_index y e r) rules known =
           let calls = second_fails (bytes_eq x y) _ known.unassigned in
-          let none = second_fails (list_any (call_assigns p.functions x) (expr_calls e)) _ (sym (any_append (call_assigns p.functions x) (expr_calls e) (right_calls r)) ∙ calls) in (
-            index_free y (so _ rules.array) (first_fails (bytes_eq x y) _ known.unassigned) known.unwritten,
+          let none = second_fails (list_any (call_assigns p.functions x) (expr_calls e)) _ (sym (list_any-append (call_assigns p.functions x) (expr_calls e) (right_calls r)) ∙ calls) in (
+            index_free y (not-false _ rules.array) (first_fails (bytes_eq x y) _ known.unassigned) known.unwritten,
             right_spared r (calls_back (CallFine p here) (expr_calls e) (right_calls r) rules.calls) none (calls_back Named (expr_calls e) (right_calls r) known.names)
                 (calls_back Links (expr_calls e) (right_calls r) known.links),
           )
       kind_spared (assign_deref y r) rules known =
-          (deref_free y (so _ rules.pointee) known.unwritten, right_spared r rules.calls (second_fails false _ known.unassigned) known.names known.links)
+          (deref_free y (not-false _ rules.pointee) known.unwritten, right_spared r rules.calls (second_fails false _ known.unassigned) known.names known.links)
       kind_spared (call_only c) rules known = whole_spared c rules.calls (second_fails false _ known.unassigned) known.names known.links
       kind_spared k rules known = tt
 

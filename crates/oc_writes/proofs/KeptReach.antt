@@ -2,16 +2,16 @@
 use Rattle.std.proofs.Common.{◌≡◌, ◌<◌, ℕ, zero, suc, ◌+◌, Bool, true, false, true≢false, List, [], ◌∷◌, map, length, Some, None, refl, ap, sym, ◌∙◌, subst, arith}
 use Rattle.std.specs.Prelude.{◌&&◌, ◌||◌, not, nat_eq, slice_get, option_to_list}
 use Rattle.std.specs.List.{list_any, flat_map}
-use Rattle.std.proofs.lemmas.Bool.{eq-eqb}
+use Rattle.std.proofs.lemmas.Bool.{eq-eqb, or_left, or_right}
 use Rattle.std.proofs.lemmas.Option.{none-some, same_Some, slice_get_within}
+use Rattle.std.proofs.lemmas.List.Folds.{list_any-append}
 use Rattle.oc_tree.specs.Names.{Text}
 use Rattle.oc_tree.specs.Tree.{TCall, TKind, TFunction}
 use Rattle.oc_tree.specs.Reach.{linked, is_link}
 use Rattle.oc_tree.specs.Calls.{function_names, function_place, callee, own_calls, block_kinds, body_calls, called_places, call_links, has_param, test_at}
 use Rattle.oc_tree.specs.Assigned.{param_names, first_param, param_count, takes_mutable, own_param, written_through, pass_call, function_links, pass_links_from, pass_links}
 use Rattle.oc_tree.specs.Assigned.{function_writes, writes_from, writes_through, param_assigned, own_assigns, function_assigns, reaches_assign}
-use Rattle.oc_tree.proofs.ReachLaws.{or_left, or_right}
-use Rattle.oc_reach.proofs.LinkLaws.{any_append, calls_within}
+use Rattle.oc_reach.proofs.LinkLaws.{calls_within}
 use Rattle.oc_reach.proofs.Lists.{at_place}
 use Rattle.oc_reach.proofs.PassLaws.{takes_below, first_room, passes_within}
 use Rattle.oc_desugar.proofs.FineCalls.{Each as EachCall}
@@ -24,7 +24,7 @@ use Rattle.oc_copies.proofs.LeadToNone.{EachKind, none_pass, each_calls, self_fa
 none_of_each : (test : ℕ → Bool) (g : TKind → List ℕ) (ks : List TKind) → list_any test (flat_map g ks) ≡ false → EachKind (λ k. list_any test (g k) ≡ false) ks
 none_of_each test g [] h = tt
 none_of_each test g (k ∷ ks) h =
-    let parts : list_any test (g k) || list_any test (flat_map g ks) ≡ false = sym (any_append test (g k) (flat_map g ks)) ∙ h in
+    let parts : list_any test (g k) || list_any test (flat_map g ks) ≡ false = sym (list_any-append test (g k) (flat_map g ks)) ∙ h in
     (first_fails (list_any test (g k)) (list_any test (flat_map g ks)) parts, none_of_each test g ks (second_fails (list_any test (g k)) (list_any test (flat_map g ks)) parts))
 
 -- ---- the links of one function are among those of all
@@ -36,23 +36,23 @@ pass_row all w (e ∷ fs) zero f a b h l =
     let n : w + 0 ≡ w = omega arith in
     let own : linked (function_links all (first_param all w) e) a b ≡ true =
     subst (λ z. linked (function_links all (first_param all z) e) a b ≡ true) n (subst (λ g. linked (function_links all (first_param all (w + 0)) g) a b ≡ true) (sym (same_Some e f h)) l) in
-    any_append (is_link a b) (function_links all (first_param all w) e) (pass_links_from all (w + 1) fs) ∙ or_left _ (linked (pass_links_from all (w + 1) fs) a b) own
+    list_any-append (is_link a b) (function_links all (first_param all w) e) (pass_links_from all (w + 1) fs) ∙ or_left _ (linked (pass_links_from all (w + 1) fs) a b) own
 pass_row all w (e ∷ fs) (suc u) f a b h l =
     let n : w + suc u ≡ w + 1 + u = omega arith in
     let rest = pass_row all (w + 1) fs u f a b h (subst (λ z. linked (function_links all (first_param all z) f) a b ≡ true) n l) in
-    any_append (is_link a b) (function_links all (first_param all w) e) (pass_links_from all (w + 1) fs) ∙ or_right (linked (function_links all (first_param all w) e) a b) _ rest
+    list_any-append (is_link a b) (function_links all (first_param all w) e) (pass_links_from all (w + 1) fs) ∙ or_right (linked (function_links all (first_param all w) e) a b) _ rest
 
 write_row : (all : List TFunction) (test : ℕ → Bool) (w : ℕ) (fs : List TFunction) (u : ℕ) (f : TFunction) → slice_get fs u ≡ Some f → list_any test (writes_from all w fs) ≡ false
     → list_any test (function_writes (first_param all (w + u)) f) ≡ false
 write_row all test w [] u f h l = absurd (none-some f h)
 write_row all test w (e ∷ fs) zero f h l =
     let n : w ≡ w + 0 = omega arith in
-    let parts = sym (any_append test (function_writes (first_param all w) e) (writes_from all (w + 1) fs)) ∙ l in
+    let parts = sym (list_any-append test (function_writes (first_param all w) e) (writes_from all (w + 1) fs)) ∙ l in
     let own : list_any test (function_writes (first_param all w) e) ≡ false = first_fails _ (list_any test (writes_from all (w + 1) fs)) parts in
     subst (λ g. list_any test (function_writes (first_param all (w + 0)) g) ≡ false) (same_Some e f h) (subst (λ z. list_any test (function_writes (first_param all z) e) ≡ false) n own)
 write_row all test w (e ∷ fs) (suc u) f h l =
     let n : w + 1 + u ≡ w + suc u = omega arith in
-    let parts = sym (any_append test (function_writes (first_param all w) e) (writes_from all (w + 1) fs)) ∙ l in
+    let parts = sym (list_any-append test (function_writes (first_param all w) e) (writes_from all (w + 1) fs)) ∙ l in
     subst (λ z. list_any test (function_writes (first_param all z) f) ≡ false) n (write_row all test (w + 1) fs u f h (second_fails (list_any test (function_writes (first_param all w) e)) _ parts))
 
 -- ---- calls one by one
@@ -64,7 +64,7 @@ each_passing all first params n Q [] h = tt
 each_passing all first params n Q (c ∷ cs) h =
     let here = pass_call all first params c in
     let rest = flat_map (pass_call all first params) cs in
-    let parts : (b : ℕ) → linked here n b || linked rest n b ≡ true → Q b = λ b l. h b (any_append (is_link n b) here rest ∙ l) in
+    let parts : (b : ℕ) → linked here n b || linked rest n b ≡ true → Q b = λ b l. h b (list_any-append (is_link n b) here rest ∙ l) in
     (λ b l. parts b (or_left (linked here n b) (linked rest n b) l), each_passing all first params n Q cs (λ b l. parts b (or_right (linked here n b) (linked rest n b) l)))
 
 -- ---- a function that doesn't assign

@@ -3,10 +3,11 @@ use Rattle.std.proofs.Common.{◌≡◌, ℕ, zero, suc, ◌+◌, Bool, true, fa
 use Rattle.std.specs.Prelude.{◌&&◌, ◌||◌, ◌==◌, slice_get, option_map, option_and_then}
 use Rattle.std.specs.List.{All, filter, list_any}
 use Rattle.std.proofs.Math.ListN.{get_or}
-use Rattle.std.proofs.lemmas.Bool.{eq-eqb, and_parts}
+use Rattle.std.proofs.lemmas.Bool.{eq-eqb, and_parts, or_left, or_right}
 use Rattle.std.proofs.lemmas.Option.{none-some, same_Some}
 use Rattle.std.proofs.lemmas.List.Elements.{All-head, All-tail}
 use Rattle.std.proofs.lemmas.List.Sums.{sum_by-cons}
+use Rattle.std.proofs.lemmas.List.Folds.{list_any-append}
 use Rattle.oc_tree.specs.Names.{Text}
 use Rattle.oc_tree.specs.Tree.{TArg, value, shared, mutable, TCall, call, TArgs, no_args, more_args, TRight, right_value, right_sense, right_call, TKind, let_to, assign}
 use Rattle.oc_tree.specs.Tree.{assign_index, assign_deref, if_else, for_in, while_do, call_only, TElse, no_else, else_do, stmt, TBlock, block, TStmts, no_stmts, more, TFunction}
@@ -25,8 +26,6 @@ use Rattle.oc_tree.specs.Places.{Place as Spot, Placed, Variables, find_variable
 use Rattle.oc_tree.specs.Scope.{Scope, function_named}
 use Rattle.oc_tree.specs.Elements.{Here}
 use Rattle.oc_tree.specs.Rules.{params_of, arg_meets, args_meet, call_args}
-use Rattle.oc_tree.proofs.ReachLaws.{or_left, or_right}
-use Rattle.oc_reach.proofs.LinkLaws.{any_append}
 use Rattle.oc_meaning.specs.Store.{Place, Global}
 use Rattle.oc_effects.specs.Effects.{TEffect, right_call_of, call_of, lent_name, variable_at, target_of, passed as passes, all_passed, params_at, called_at, called_by, effect_of}
 use Rattle.oc_effects.specs.Effects.{function_effects, effects_at}
@@ -72,7 +71,7 @@ module _ (p : TProgram) (r : TRegion) where
   nv_unassigned n base (y ∷ xs) (d ∷ ds) zero x long at h =
       let z : n + 0 ≡ n = omega arith in
       let b : base ≡ base + 0 = omega arith in
-      let parts = sym (any_append (is_stored (base + 0)) (cond (assigns_nv p r n y) (targets.Nv base d.words ∷ []) []) (nv_targets p r (n + 1) (base + d.words) xs ds)) ∙ h in
+      let parts = sym (list_any-append (is_stored (base + 0)) (cond (assigns_nv p r n y) (targets.Nv base d.words ∷ []) []) (nv_targets p r (n + 1) (base + d.words) xs ds)) ∙ h in
       let own = one_target (assigns_nv p r n y) (targets.Nv base d.words) (is_stored (base + 0)) (eq-eqb base (base + 0) b)
       (first_fails _ (list_any (is_stored (base + 0)) (nv_targets p r (n + 1) (base + d.words) xs ds)) parts) in
       let e : x ≡ y = sym (same_Some y x at) in
@@ -81,7 +80,7 @@ module _ (p : TProgram) (r : TRegion) where
       let m : n + 1 + k ≡ n + suc k = omega arith in
       let l : length ds ≡ length xs = omega (arith, long) in
       let b : base + sum_by (λ d. d.words) (d ∷ take k ds) ≡ base + d.words + sum_by (λ d. d.words) (take k ds) = omega (arith, sum_by-cons (λ d. d.words) d (take k ds)) in
-      let parts = sym (any_append (is_stored (base + sum_by (λ d. d.words) (d ∷ take k ds))) (cond (assigns_nv p r n y) (targets.Nv base d.words ∷ []) [])
+      let parts = sym (list_any-append (is_stored (base + sum_by (λ d. d.words) (d ∷ take k ds))) (cond (assigns_nv p r n y) (targets.Nv base d.words ∷ []) [])
       (nv_targets p r (n + 1) (base + d.words) xs ds)) ∙ h in
       let rest = second_fails (list_any (is_stored (base + sum_by (λ d. d.words) (d ∷ take k ds))) (cond (assigns_nv p r n y) (targets.Nv base d.words ∷ []) [])) _ parts in
       ap (λ c. assigns_nv p r c x) (sym m) ∙ nv_unassigned (n + 1) (base + d.words) xs ds k x l at (ap (λ c. list_any (is_stored c) (nv_targets p r (n + 1) (base + d.words) xs ds)) (sym b) ∙ rest)
@@ -91,12 +90,12 @@ module _ (p : TProgram) (r : TRegion) where
   param_unassigned n [] k q at h = absurd (none-some q at)
   param_unassigned n (c ∷ qs) zero q at h =
       let z : n ≡ n + 0 = omega arith in
-      let parts = sym (any_append (is_lent (n + 0)) (cond (assigns_param p r n) (targets.Param n (words_of c.kind) ∷ []) []) (param_targets p r (n + 1) qs)) ∙ h in
+      let parts = sym (list_any-append (is_lent (n + 0)) (cond (assigns_param p r n) (targets.Param n (words_of c.kind) ∷ []) []) (param_targets p r (n + 1) qs)) ∙ h in
       ap (assigns_param p r) (sym z) ∙ one_target (assigns_param p r n) (targets.Param n (words_of c.kind)) (is_lent (n + 0)) (eq-eqb n (n + 0) z)
       (first_fails _ (list_any (is_lent (n + 0)) (param_targets p r (n + 1) qs)) parts)
   param_unassigned n (c ∷ qs) (suc k) q at h =
       let m : n + suc k ≡ n + 1 + k = omega arith in
-      let parts = sym (any_append (is_lent (n + suc k)) (cond (assigns_param p r n) (targets.Param n (words_of c.kind) ∷ []) []) (param_targets p r (n + 1) qs)) ∙ h in
+      let parts = sym (list_any-append (is_lent (n + suc k)) (cond (assigns_param p r n) (targets.Param n (words_of c.kind) ∷ []) []) (param_targets p r (n + 1) qs)) ∙ h in
       let rest = second_fails (list_any (is_lent (n + suc k)) (cond (assigns_param p r n) (targets.Param n (words_of c.kind) ∷ []) [])) _ parts in
       ap (assigns_param p r) m ∙ param_unassigned (n + 1) qs k q at (ap (λ j. list_any (is_lent j) (param_targets p r (n + 1) qs)) (sym m) ∙ rest)
 
@@ -105,14 +104,14 @@ module _ (p : TProgram) (r : TRegion) where
   nv_free i x at long h =
       let z : 0 + first_word p i ≡ first_word p i = omega arith in
       let n : 0 + i ≡ i = omega arith in
-      let parts = sym (any_append (is_stored (first_word p i)) (nv_targets p r 0 0 p.names.nvs p.nv) (param_targets p r 0 (params_at p r.function))) ∙ h in
+      let parts = sym (list_any-append (is_stored (first_word p i)) (nv_targets p r 0 0 p.names.nvs p.nv) (param_targets p r 0 (params_at p r.function))) ∙ h in
       let own = first_fails _ (list_any (is_stored (first_word p i)) (param_targets p r 0 (params_at p r.function))) parts in
       ap (λ c. assigns_nv p r c x) (sym n) ∙ nv_unassigned 0 0 p.names.nvs p.nv i x long at (ap (λ c. list_any (is_stored c) (nv_targets p r 0 0 p.names.nvs p.nv)) z ∙ own)
 
   param_free : (qs : List Param) → params_at p r.function ≡ qs → (j : ℕ) (q : Param) → slice_get qs j ≡ Some q → list_any (is_lent j) (region_targets p r) ≡ false → assigns_param p r j ≡ false
   param_free qs are j q at h =
       let n : 0 + j ≡ j = omega arith in
-      let parts = sym (any_append (is_lent j) (nv_targets p r 0 0 p.names.nvs p.nv) (param_targets p r 0 (params_at p r.function))) ∙ h in
+      let parts = sym (list_any-append (is_lent j) (nv_targets p r 0 0 p.names.nvs p.nv) (param_targets p r 0 (params_at p r.function))) ∙ h in
       let rest = second_fails (list_any (is_lent j) (nv_targets p r 0 0 p.names.nvs p.nv)) _ parts in
       ap (assigns_param p r) (sym n) ∙ param_unassigned 0 qs j q at ((let e = sym are in λ k. list_any (is_lent (n k)) (param_targets p r 0 (e k))) ∙ rest)
 

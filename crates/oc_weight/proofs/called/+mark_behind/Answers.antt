@@ -1,9 +1,9 @@
 use Rattle.std.proofs.Common.{rules, ◌≡◌, ◌<◌, ◌≤◌, ◌-◌, ℕ, true, false, nat_eq, length, take, refl, sym, ap, subst, ◌∙◌, arith}
 use Rattle.std.proofs.Math.ListN.{get_or}
 use Rattle.std.proofs.lemmas.List.{take_all, take_more}
-use Rattle.std.proofs.lemmas.Bool.{eq-eqb, eqb-true}
+use Rattle.std.proofs.lemmas.Bool.{eq-eqb, eqb-true, or_left, or_right}
 use Rattle.oc_tree.specs.Reach.{linked}
-use Rattle.oc_tree.proofs.ReachLaws.{or_elim, or_left, or_right}
+use Rattle.oc_tree.proofs.ReachLaws.{or_elim}
 use Rattle.oc_reach.specs.Marked.{is_in, rows}
 use Rattle.oc_reach.proofs.Lists.{in_add, in_at, is_in_push}
 use Rattle.oc_weight.specs.Order.{IsBegun, row_links}

@@ -1,7 +1,7 @@
 use Rattle.std.proofs.Common.{◌≡◌, arith, ◌<◌, ◌+◌, ◌∷◌, ap, sym, subst, ◌∙◌, drop, true}
 use Rattle.std.proofs.Math.ListN.{get_or}
 use Rattle.std.proofs.lemmas.Grind.{common_steps}
-use Rattle.oc_tree.proofs.ReachLaws.{or_right}
+use Rattle.std.proofs.lemmas.Bool.{or_right}
 use Rattle.oc_reach.specs.Marked.{is_in, add, add_all}
 use Rattle.oc_reach.proofs.Lists.{in_drop}
 use Rattle.oc_reach.proofs.marks.Marks.mark_all.Goals as goal

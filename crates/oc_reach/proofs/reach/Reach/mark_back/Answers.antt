@@ -1,7 +1,7 @@
 use Rattle.std.proofs.Common.{◌≡◌, ◌<◌, ◌≤◌, ◌||◌, ℕ, length, ap, sym, subst, ◌∙◌, arith}
 use Rattle.std.proofs.Math.ListN.{get_or}
+use Rattle.std.proofs.lemmas.Bool.{or_left}
 use Rattle.oc_tree.specs.Reach.{linked}
-use Rattle.oc_tree.proofs.ReachLaws.{or_left}
 use Rattle.oc_reach.specs.Marked.{is_in}
 use Rattle.oc_reach.proofs.Lists.{in_at}
 use Rattle.oc_reach.proofs.Walk.{complete, done_all, done_more, sound_more, from_below}

@@ -249,6 +249,8 @@ class Rules:
                 continue
             if pairs:
                 self.broken.add(10)
+            if function.frame + len(pair[0]) > self.image.stack:
+                self.broken.add(11)
             if len(pairs) < 4:
                 pairs.append(pair)
                 todo += self.onward(function, at, pair)

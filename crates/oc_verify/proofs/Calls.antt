@@ -1,5 +1,5 @@
 -- Calls in the code are links, and what is called is led to from `main`.
-use Rattle.std.proofs.Common.{◌≡◌, ℕ, zero, suc, ◌+◌, ◌<◌, ◌≤◌, List, [], ◌∷◌, ◌++◌, length, drop, Some, refl, sym, ap, ◌∙◌, subst, ⊎_elim, inl, inr, arith, Bool, true, false, nat_le, nat_eq}
+use Rattle.std.proofs.Common.{◌≡◌, ℕ, zero, suc, ◌+◌, ◌<◌, ◌≤◌, List, [], ◌∷◌, ◌++◌, length, drop, Option, Some, Ok, Err, refl, sym, ap, ◌∙◌, subst, ⊎_elim, inl, inr, arith, Bool, true, false, nat_le, nat_lt, nat_eq}
 use Rattle.std.proofs.lemmas.Bool.{and_parts}
 use Rattle.std.specs.Prelude.{◌⊎◌, if◌then◌else◌, ◌&&◌, ◌||◌, slice_get}
 use Rattle.std.specs.List.{list_any}
@@ -11,9 +11,25 @@ use Rattle.oc_isa.specs.declared.instr.Placed.{Placed}
 use Rattle.oc_isa.specs.declared.instr.Instr.{Instr}
 use Rattle.oc_isa.specs.declared.instr.Instr.TheVariants.{Call}
 use Rattle.oc_isa.specs.Image.{Parts}
-use Rattle.oc_verify.specs.Typing.{owner, owner_from}
-use Rattle.oc_verify.specs.Rules.{link_from, links_on, calls_of, code_at, main_number, rises, rises_from, laid_out, Kinds, CalledIn, IsCalled}
+use Rattle.oc_verify.specs.declared.kind.Kind.{Kind}
+use Rattle.oc_verify.specs.Facts.{crowds}
+use Rattle.oc_verify.specs.Typing.{Pair, pair, owner, owner_from, result}
+use Rattle.oc_verify.specs.Rules.{◌>>=◌, judge, gives, params_of, link_from, links_on, calls_of, code_at, main_number, rises, rises_from, laid_out, Kinds, CalledIn, IsCalled}
 use Rattle.oc_verify.proofs.Owners.{stays, owned, stands, laid_rises}
+
+-- a call whose pair is right has all of its arguments
+pub has_arguments : (i : Parts) (ss : List (Option Kind)) (g : ℕ) (ks : List Kind) (rs : List ℕ) (q : Pair) → judge i ss (Call g) ks rs ≡ Ok q → params_of i g ≤ length ks
+has_arguments i ss g ks rs q = by (nat_le (params_of i g) (length ks)) refl
+  where
+    by : (b : Bool) → nat_le (params_of i g) (length ks) ≡ b → ((if b then Ok (drop (params_of i g) ks) else Err 5) >>= λ rest. Ok (pair (result (gives i g) rest) rs)) ≡ Ok q
+        → params_of i g ≤ length ks
+    by true e r = grind (arith, e)
+    by false e r = absurd (cc)
+
+-- one with more arguments than the stack has words finds more words than that
+pub crowded : (i : Parts) (ss : List (Option Kind)) (x : Instr) (ks : List Kind) (rs : List ℕ) (q : Pair) → crowds i x ≡ true → judge i ss x ks rs ≡ Ok q → i.stack < length ks
+crowded i ss (Call g) ks rs q e r = let l : i.stack < params_of i g = grind (arith, e) in let m = has_arguments i ss g ks rs q r in omega (arith, l, m)
+crowded i ss x ks rs q e r = absurd (cc)
 
 any_left : {A : Type 0} (test : A → Bool) (xs ys : List A) → list_any test xs ≡ true → list_any test (xs ++ ys) ≡ true
 any_left test [] ys e = absurd (cc)

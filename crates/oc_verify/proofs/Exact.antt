@@ -14,7 +14,7 @@ use Rattle.oc_verify.specs.declared.kind.Kind.TheVariants.{Number, Place}
 use Rattle.oc_verify.specs.Typing.{Pair, pair, Typing, Suits, SuitAll, level}
 use Rattle.oc_verify.specs.Rules.{Judged, judge, own_slots, successors, code_at, params_of, names_exist, returns_right, slot_right, main_number, calls_of, counts_fit, laid_out}
 use Rattle.oc_verify.specs.Rules.{Onward, ReachIn, Reach, Kinds, CallAt, CalledIn, IsCalled, Passes, IsRight, AreRight, Holds, Broken, layout, leaves, counts, names, no_slot, step}
-use Rattle.oc_verify.specs.Rules.{mixed, circle, returns, differ, deep, wide}
+use Rattle.oc_verify.specs.Rules.{mixed, circle, returns, differ, tall, deep, wide}
 use Rattle.oc_verify.specs.Verified.{IsVerified, Seen, Leaves, frame_at}
 use Rattle.oc_verify.proofs.Cells.{level_below, level_short}
 use Rattle.oc_verify.proofs.Owners.{owned}
@@ -287,14 +287,27 @@ module _ (i : Parts) (t : Typing) (v : IsVerified i t) where
   no_bool true a e = absurd (cc)
   no_bool false a e = absurd (cc)
 
-  -- what is held has room
-  room : (k : Kinds) → ((f : ℕ) → IsRight i k f) → (n f s : ℕ) → IsCalled i k f → Holds i k n f s → s ≤ t.bound f
-  room k all zero f s c h =
-      let w = reach_here k f (λ x e. all x) h.0 h.1 c h.2 in
+  -- what a function alone holds has room
+  room_here : (k : Kinds) (f s : ℕ) → AreRight i k f → IsCalled i k f → Holds i k 0 f s → s ≤ t.bound f
+  room_here k f s R c h =
+      let w = reach_here k f R h.0 h.1 c h.2 in
       let r = seen_in f h.0 h.1 w in
       let u : frame_at i r.0.fn + length h.1.ops ≤ t.bound r.0.fn = r.0.high in
       let u' : frame_at i f + length h.1.ops ≤ t.bound f = subst (λ g. frame_at i g + length h.1.ops ≤ t.bound g) r.1 u in
       omega (arith, h.3, u')
+
+  -- `main` needs no fewer words than what it calls
+  bound_low : (n f : ℕ) → CalledIn i t.kinds n f → t.bound f ≤ t.bound t.main
+  bound_low zero f c = let e : t.bound f ≡ t.bound t.main = ap t.bound (c ∙ sym v.main) in omega (arith, e)
+  bound_low (suc n) f c =
+      let l = leaves_by c.0 f c.1 c.2 (in_table c.0 c.1 c.2 (n, c.3) c.4.reach) c.4 in
+      let d = l.deep in
+      let b = bound_low n c.0 c.3 in
+      omega (arith, d, b)
+
+  -- what is held has room
+  room : (k : Kinds) → ((f : ℕ) → IsRight i k f) → (n f s : ℕ) → IsCalled i k f → Holds i k n f s → s ≤ t.bound f
+  room k all zero f s c h = room_here k f s (λ x e. all x) c h
   room k all (suc n) f s c h =
       let g = h.0 in
       let a = h.1 in
@@ -337,6 +350,12 @@ module _ (i : Parts) (t : Typing) (v : IsVerified i t) where
       let h = reach_here k f R b p c r in
       let h' = reach_here k f R b q c s in
       let z : Some p ≡ Some q = sym h.got ∙ h'.got in n (cc)
+  unbroken a rule (tall k f s R c h l) =
+      let m = room_here k f s R c h in
+      let d = called_here k f R c in
+      let b = bound_low d.0 f d.1 in
+      let r = v.room in
+      absurd (omega (arith, m, b, r, l))
   unbroken a rule (deep k n s all h l) =
       let m : s ≤ t.bound (main_number i) = room k all n (main_number i) s (0, refl) h in
       let b : t.bound (main_number i) ≤ i.stack = subst (λ g. t.bound g ≤ i.stack) v.main v.room in

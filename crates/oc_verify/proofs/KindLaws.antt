@@ -1,6 +1,6 @@
 -- The kinds of parameters are right where all callers are done.
-use Rattle.std.proofs.Common.{◌≡◌, ℕ, zero, suc, ◌+◌, ◌<◌, ◌≤◌, List, [], ◌∷◌, length, take, drop, get_or, map, Option, Some, None, Ok, Err, refl, sym, ap, ◌∙◌, subst}
-use Rattle.std.proofs.Common.{⊎_elim, inl, inr, arith, Bool, true, false, nat_eq, nat_le}
+use Rattle.std.proofs.Common.{◌≡◌, ℕ, zero, suc, ◌+◌, ◌<◌, ◌≤◌, List, [], ◌∷◌, length, take, drop, get_or, map, Option, Some, None, Ok, refl, sym, ap, ◌∙◌, subst}
+use Rattle.std.proofs.Common.{⊎_elim, inl, inr, arith, Bool, true, false, nat_eq}
 use Rattle.std.specs.Prelude.{◌⊎◌, ◌==◌, if◌then◌else◌, slice_get, replicate}
 use Rattle.std.proofs.lemmas.List.{take-append-drop, length-take-le}
 use Rattle.oc_tree.specs.Reach.{linked, leads}
@@ -11,14 +11,14 @@ use Rattle.oc_isa.specs.declared.instr.Instr.TheVariants.{Call}
 use Rattle.oc_isa.specs.Image.{Parts}
 use Rattle.oc_verify.specs.declared.kind.Kind.{Kind}
 use Rattle.oc_verify.specs.declared.kind.Kind.TheVariants.{Number, Place}
-use Rattle.oc_verify.specs.Typing.{Pair, pair, SuitAll, level, result}
-use Rattle.oc_verify.specs.Rules.{◌>>=◌, judge, gives, laid_out, code_at, params_of, calls_of, main_number, own_slots, Kinds, CallAt, CalledIn, IsCalled, Passes, IsRight, AreRight}
+use Rattle.oc_verify.specs.Typing.{Pair, SuitAll, level}
+use Rattle.oc_verify.specs.Rules.{judge, laid_out, code_at, params_of, calls_of, main_number, own_slots, Kinds, CallAt, CalledIn, IsCalled, Passes, IsRight, AreRight}
 use Rattle.oc_verify.specs.Facts.{IsRanked}
 use Rattle.oc_verify.specs.Told.{kind_of}
 use Rattle.oc_verify.specs.Work.{IsWork, Marks}
 use Rattle.oc_verify.specs.Tables.{Passed, codes_by, codes_of, kinds_of, was_passed, is_walked, own_by, own_marks, SeenCall, IsDone}
 use Rattle.oc_verify.proofs.Owners.{owned}
-use Rattle.oc_verify.proofs.Calls.{call_linked}
+use Rattle.oc_verify.proofs.Calls.{call_linked, has_arguments}
 use Rattle.oc_verify.proofs.Exact.{either, front_is}
 use Rattle.oc_verify.proofs.Working.{ends}
 
@@ -58,12 +58,7 @@ call_deep i f ks tab W g a p s =
     let q : k.placed ≡ s.placed = (cc) in
     let r : judge i (own_slots i f ks) (Call g) p.ops p.opens ≡ Ok k.after = ap (λ (x : Instr). judge i (own_slots i f ks) x p.ops p.opens) (sym (ap (λ (y : Placed). y.instr) q ∙ s.calls))
     ∙ k.right in
-    by_deep (nat_le (params_of i g) (length p.ops)) refl k.after r
-  where
-    by_deep : (b : Bool) → nat_le (params_of i g) (length p.ops) ≡ b → (q : Pair)
-        → ((if b then Ok (drop (params_of i g) p.ops) else Err 5) >>= λ rest. Ok (pair (result (gives i g) rest) p.opens)) ≡ Ok q → params_of i g ≤ length p.ops
-    by_deep true e q f = grind (arith, e)
-    by_deep false e q f = absurd (cc)
+    has_arguments i (own_slots i f ks) g p.ops p.opens k.after r
 
 module _ (i : Parts) (laid : laid_out i ≡ true) (ranks : List ℕ) (R : IsRanked i ranks) (done : ℕ → Bool) (closed : (u v : ℕ) → linked (calls_of i) u v ≡ true → done v ≡ true → done u ≡ true)
     (tab : Marks) (ps : Passed) (D : IsDone i done tab ps) where

@@ -1,5 +1,5 @@
 -- What was looked at, as stacks grow.
-use Rattle.std.proofs.Common.{◌≡◌, ℕ, zero, suc, ◌≢◌, List, [], ◌∷◌, ◌++◌, length, map, reverse, Option, Some, None, Ok, Err, refl, sym, ap, ◌∙◌, subst, ⊎_elim, arith}
+use Rattle.std.proofs.Common.{◌≡◌, true, ℕ, zero, suc, ◌≢◌, List, [], ◌∷◌, ◌++◌, length, map, reverse, Option, Some, None, Ok, Err, refl, sym, ap, ◌∙◌, subst, ⊎_elim, arith}
 use Rattle.std.specs.Prelude.{if◌then◌else◌, slice_get, slice_set}
 use Rattle.std.specs.List.{All}
 use Rattle.std.proofs.lemmas.Bool.Decides.{eqb_tells}
@@ -9,6 +9,7 @@ use Rattle.oc_isa.specs.declared.instr.Placed.{Placed}
 use Rattle.oc_isa.specs.Image.{Parts}
 use Rattle.oc_verify.specs.declared.kind.Kind.{Kind}
 use Rattle.oc_verify.specs.Typing.{Pair, pair}
+use Rattle.oc_verify.specs.Facts.{crowds}
 use Rattle.oc_verify.specs.Rules.{judge, own_slots, successors, code_at}
 use Rattle.oc_verify.specs.Stacks.{Nodes, stack, Grows}
 use Rattle.oc_verify.specs.Told.{AreIn, kind_of, kinds, pair_of}
@@ -17,7 +18,8 @@ use Rattle.oc_verify.specs.Tables.{Cells, pair_in, marks, own_by, own_marks, tod
 use Rattle.oc_verify.specs.Rules.{Kinds}
 use Rattle.oc_verify.specs.Blames.{BlamesIn}
 use Rattle.oc_verify.specs.declared.fault.VerifyError.TheVariants as errors
-use Rattle.oc_verify.proofs.Working.{again, looks, blames_place, blames_step, blames_pair}
+use Rattle.oc_verify.proofs.Calls.{crowded}
+use Rattle.oc_verify.proofs.Working.{again, looks, blames_place, blames_step, blames_crowd, blames_pair}
 
 abbrev Step : Type 0
 Step = ℕ × (ℕ × ℕ)
@@ -182,3 +184,6 @@ module _ (i : Parts) (f : ℕ) (kinds' : List Kind) (ks rs : Nodes) (cs : Cells)
 
   pub blame_pair : (x : Placed) (m : ℕ × ℕ) → code_at i f a ≡ Some x → slice_get cs a ≡ Some (Some m) → pair_of ks rs m ≢ pair_of ks rs n → BlamesIn i f kinds' (errors.Refused a 10)
   blame_pair x m e s d t q R c = blames_pair i t f R c tab now left (pair_of ks rs m) (ap (λ o. own_by o (marks ks rs cs a)) e ∙ ap (pair_in ks rs) s) d (in_kinds t q)
+
+  pub blame_crowd : (x : Placed) (q : Pair) → crowds i x.instr ≡ true → judge i (own_slots i f kinds') x.instr (kinds ks n.0) (stack rs n.1) ≡ Ok q → BlamesIn i f kinds' (errors.Refused 0 11)
+  blame_crowd x q more right t e R c = blames_crowd i t f R c tab now left (crowded i (own_slots i f kinds') x.instr (kinds ks n.0) (stack rs n.1) q more right) (in_kinds t e)

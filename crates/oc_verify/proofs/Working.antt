@@ -1,5 +1,5 @@
 -- The walk through one function's code finds what is reached, or a rule that is broken.
-use Rattle.std.proofs.Common.{◌≡◌, ℕ, zero, suc, ◌≢◌, List, [], ◌∷◌, ◌++◌, map, Some, None, Ok, Err, refl, sym, ap, ◌∙◌, subst, ⊎_elim, inl, inr, arith, Bool, true, false, nat_eq}
+use Rattle.std.proofs.Common.{◌≡◌, ℕ, zero, suc, ◌+◌, ◌<◌, ◌≢◌, List, [], ◌∷◌, ◌++◌, length, map, Some, None, Ok, Err, refl, sym, ap, ◌∙◌, subst, ⊎_elim, inl, inr, arith, Bool, true, false, nat_eq}
 use Rattle.std.specs.Prelude.{◌⊎◌, slice_get, ◌||◌}
 use Rattle.std.specs.List.{list_any}
 use Rattle.std.proofs.lemmas.Bool.Decides.{eqb_tells}
@@ -8,7 +8,8 @@ use Rattle.oc_isa.specs.declared.instr.Placed.{Placed}
 use Rattle.oc_isa.specs.Image.{Parts}
 use Rattle.oc_verify.specs.declared.kind.Kind.{Kind}
 use Rattle.oc_verify.specs.Typing.{Pair, pair}
-use Rattle.oc_verify.specs.Rules.{Judged, judge, own_slots, successors, code_at, Reach, ReachIn, Kinds, AreRight, IsCalled, Broken, leaves, step, differ}
+use Rattle.oc_verify.specs.Rules.{Judged, judge, own_slots, successors, code_at, Reach, ReachIn, Kinds, AreRight, IsCalled, Broken, leaves, step, differ, tall}
+use Rattle.oc_verify.specs.Verified.{frame_at}
 use Rattle.oc_verify.specs.Work.{Todo, todo_at, Among, Marks, mark, Done, Looked, IsWork}
 
 among_more : (e : Todo) (new old : List Todo) → Among e old → Among e (new ++ old)
@@ -124,6 +125,11 @@ module _ (i : Parts) (t : Kinds) (f : ℕ) (R : AreRight i t f) (c : IsCalled i 
   pub blames_step : (tab : Marks) (e : Todo) (todo : List Todo) (x : Placed) (rule : ℕ) → code_at i f e.at ≡ Some x
       → judge i (own_slots i f (t f)) x.instr e.kinds.ops e.kinds.opens ≡ Err rule → IsWork i f (t f) tab (e ∷ todo) → Broken i e.at rule
   blames_step tab e todo x rule found wrong w = step t f e.at e.kinds x rule R c (w.owes e (inl refl)) found wrong
+
+  pub blames_crowd : (tab : Marks) (e : Todo) (todo : List Todo) → i.stack < length e.kinds.ops → IsWork i f (t f) tab (e ∷ todo) → Broken i 0 11
+  blames_crowd tab e todo l w =
+      let s : ℕ = frame_at i f + length e.kinds.ops in
+      tall t f s R c (e.at, e.kinds, w.owes e (inl refl), refl) (omega (arith, l))
 
   pub blames_pair : (tab : Marks) (e : Todo) (todo : List Todo) (p : Pair) → tab e.at ≡ Some p → p ≢ e.kinds → IsWork i f (t f) tab (e ∷ todo) → Broken i e.at 10
   blames_pair tab e todo p s n w = differ t f e.at p e.kinds R c (w.marks e.at p s) (w.owes e (inl refl)) n

@@ -1,15 +1,17 @@
 -- What the verifier finds out of an image before it walks through the code.
-use Rattle.std.specs.Prelude.{◌≡◌, ◌≤◌, ◌<◌, ℕ, suc, List, [], ◌∷◌, length, map, max, Bool, true, false, nat_le, slice_get, Option, Some, None, if◌then◌else◌}
+use Rattle.std.specs.Prelude.{◌≡◌, ◌≤◌, ◌<◌, ℕ, suc, List, [], ◌∷◌, length, map, max, Bool, true, false, nat_le, nat_lt, slice_get, Option, Some, None, if◌then◌else◌}
 use Rattle.std.proofs.Math.ListN.{get_or}
 use Rattle.oc_tree.specs.Reach.{linked}
 use Rattle.oc_tree.specs.declared.said.Target.{Target}
 use Rattle.oc_tree.specs.declared.said.Target.TheVariants.{Nv, Param}
 use Rattle.oc_isa.specs.declared.image.ImageFunction.{ImageFunction}
 use Rattle.oc_isa.specs.declared.instr.Placed.{Placed}
+use Rattle.oc_isa.specs.declared.instr.Instr.{Instr}
+use Rattle.oc_isa.specs.declared.instr.Instr.TheVariants.{Call}
 use Rattle.oc_isa.specs.Image.{Parts}
 use Rattle.oc_verify.specs.declared.kind.Kind.{Kind}
 use Rattle.oc_verify.specs.Told.{kind_of}
-use Rattle.oc_verify.specs.Rules.{calls_of, code_at, counts_fit, end_at, gives, laid_out, main_number, names_exist, nv_words, returns_right}
+use Rattle.oc_verify.specs.Rules.{calls_of, code_at, counts_fit, end_at, gives, laid_out, main_number, names_exist, nv_words, params_of, returns_right}
 
 -- how many parameters a function must have, so that a region may write this target
 abbrev pub need : Target → ℕ
@@ -59,6 +61,11 @@ abbrev pub IsStretch : Parts → ℕ → ℕ × ℕ → Type 0
 IsStretch i f s =
     (g : ImageFunction) × (slice_get i.functions f ≡ Some g) × (s.0 ≡ g.entry)
     × (s.1 ≡ end_at i.functions (length i.code) f) × (s.1 ≤ length i.code)
+
+-- a call has more arguments than the stack of the machine has words
+abbrev pub crowds : Parts → Instr → Bool
+crowds i (Call g) = nat_lt i.stack (params_of i g)
+crowds i x = false
 
 -- the code of a function is walked through, whose parameters have these kinds, by their numbers
 pub record Scene : Type 0 where

@@ -23,9 +23,9 @@ ghost use Rattle.std.specs.Prelude.{
 };
 ghost use Rattle.oc_isa.specs.declared.instr.Placed.{Placed};
 ghost use Rattle.oc_verify.specs.Blames.{BlamesIn, fault_at};
-ghost use Rattle.oc_verify.specs.Facts.{IsNamed, scene_kinds};
+ghost use Rattle.oc_verify.specs.Facts.{IsNamed, crowds, scene_kinds};
 ghost use Rattle.oc_verify.specs.Own.{own_list};
-ghost use Rattle.oc_verify.specs.Rules.{code_at, own_slots, successors};
+ghost use Rattle.oc_verify.specs.Rules.{code_at, names_exist, own_slots, successors};
 ghost use Rattle.oc_verify.specs.Tables.{AreCells, KeepsOthers, blanks};
 ghost use Rattle.oc_verify.specs.Walks.{IsWalkOf, table_marks};
 ghost use Rattle.oc_verify.specs.Told.{AreIn, kind_of, pair_of};
@@ -157,6 +157,17 @@ impl<'a, 'i, 's> Walk<'a, 'i, 's> {
         }
     }
 
+    /// Whether a call has more arguments than the stack of the machine has words.
+    fn is_crowded(&self, instr: Instr) -> bool
+        requires { names_exist self.now.image self.now.function instr ≡ true }
+        ensures { result ≡ crowds self.now.image instr }
+    {
+        match instr {
+            Instr::Call { f } => self.facts.params(f as usize) > self.facts.image().stack,
+            _ => false,
+        }
+    }
+
     /// Looks at an address for the first time.
     fn look(
         &self,
@@ -187,6 +198,9 @@ impl<'a, 'i, 's> Walk<'a, 'i, 's> {
             pair,
         ) {
             Ok(after) => {
+                if self.is_crowded(instr) {
+                    return Err(VerifyError::Refused { at: 0, rule: 11 });
+                }
                 table.cells[at as usize] = Some(pair);
                 go_on(todo, instr, at, after)?;
                 Ok(())

@@ -1,17 +1,46 @@
-use Rattle.std.proofs.Common.{◌≤◌, ◌+◌, ◌*◌, ◌++◌, Ok, Some, length, map, reverse, refl, ap, sym, ◌∙◌, subst}
+use Rattle.std.proofs.Common.{rules, ◌≡◌, ◌≤◌, ◌<◌, ◌+◌, ◌*◌, ◌++◌, Ok, None, Some, true, length, map, reverse, refl, ap, sym, ◌∙◌, subst, arith}
 use Rattle.std.specs.Prelude.{slice_set}
+use Rattle.std.proofs.lemmas.Option.{slice_get_within}
 use Rattle.oc_isa.specs.declared.instr.Placed.{Placed}
 use Rattle.oc_isa.specs.Image.{parts_of}
 use Rattle.oc_verify.specs.Blames.{BlamesIn}
-use Rattle.oc_verify.specs.Facts.{IsLaid, Scene, scene_kinds}
+use Rattle.oc_verify.specs.Facts.{IsLaid, IsNamed, Scene, crowds, scene_kinds}
 use Rattle.oc_verify.specs.Own.{own_list}
-use Rattle.oc_verify.specs.Rules.{own_slots, judge, successors}
+use Rattle.oc_verify.specs.Rules.{names_exist, own_slots, judge, successors}
 use Rattle.oc_verify.specs.Stacks.{stack}
 use Rattle.oc_verify.specs.Tables.{IsWalk, blanks}
 use Rattle.oc_verify.specs.Told.{kinds, pair_of}
-use Rattle.oc_verify.proofs.TableLaws.{seen_first}
+use Rattle.oc_verify.proofs.TableLaws.{blame_crowd, seen_first}
 use Rattle.oc_verify.proofs.WalkLaws.{address_small, blame_fault, judged_here, looked_less, looked_others, read_there}
 use Rattle.oc_verify.proofs.walk.Walk.look.Goals as goal
+
+pub is_crowded-requires : goal.is_crowded-requires
+is_crowded-requires c =
+    let s = c.args.self.now in
+    let x = c.requires.inside.0 in
+    let v = ap (λ (s : Scene). s.image) c.self.view_is in
+    let p = read_there (parts_of c.image.result.now) s.image (c.image.ensures.image ∙ v) s.function c.args.at x c.index.result.now c.requires.inside.1 c.index.ensures in
+    let named = subst (λ (s : Scene). IsNamed s.image s.function) c.self.view_is c.self.invariant.2 in
+    ap (λ (y : Placed). names_exist s.image s.function y.instr) p ∙ (named c.args.at x c.requires.inside.1).0
+
+pub returns-then-is_crowded-clause-blames : goal.returns-then-is_crowded-clause-blames
+returns-then-is_crowded-clause-blames c =
+    let s = c.args.self.now in
+    let old = c.args.table.now in
+    let x = c.requires.inside.0 in
+    let v = ap (λ (s : Scene). s.image) c.self.view_is in
+    let p = read_there (parts_of c.image.result.now) s.image (c.image.ensures.image ∙ v) s.function c.args.at x c.index.result.now c.requires.inside.1 c.index.ensures in
+    let o = c.self.invariant.1 ∙ ap (λ (s : Scene). own_slots s.image s.function (scene_kinds s)) c.self.view_is in
+    let q = pair_of c.judge.new.tops c.judge.new.regions c.in-Ok.after in
+    let r = judged_here c.self.inside.facts.now s.image (own_list c.self.inside.slots.now) (own_slots s.image s.function (scene_kinds s)) c.index.result.now x (kinds old.tops c.args.pair.0)
+    (stack old.regions c.args.pair.1) (Ok q) v o p c.in-Ok.ensures.exact in
+    let more : crowds s.image x.instr ≡ true = ap (λ (y : Placed). crowds s.image y.instr) (sym p) ∙ sym c.is_crowded.ensures ∙ c.if-is_crowded.true in
+    blame_crowd s.image s.function (scene_kinds s) old.tops old.regions old.cells.items c.args.todo.now.items c.args.at c.args.pair c.requires.walk x q more r
+
+pub index_mut-requires : goal.index_mut-requires
+index_mut-requires c =
+    let l : c.args.at < length c.args.table.now.cells.items = slice_get_within c.args.table.now.cells.items c.args.at None c.requires.blank in
+    search (rules, arith)
 
 pub go_on-requires : goal.go_on-requires
 go_on-requires c =

@@ -1,5 +1,5 @@
 //! From a source to its marked program, and from that to its image.
-ghost use Rattle.std.specs.Prelude.{◌≡◌, ◌≤◌, ℕ, Bool, true, List, length, map, IfOk, IfErr};
+ghost use Rattle.std.specs.Prelude.{◌≡◌, ◌≤◌, ℕ, Bool, true, List, length, IfOk, IfErr};
 ghost use Rattle.oc_lex.specs.Limits.{source_limit};
 ghost use Rattle.oc_tree.specs.View.{program_view};
 ghost use Rattle.oc_tree.specs.Form.{InForm};
@@ -8,8 +8,8 @@ ghost use Rattle.oc_lex.specs.Stands.{IsName};
 ghost use Rattle.oc_lex.specs.Tokens.{AreTokens};
 ghost use Rattle.oc_io.specs.Counts.{line_feeds};
 ghost use Rattle.oc_grammar.specs.Lexemes.{lexemes_in};
-ghost use Rattle.oc_needs.specs.Requirements.{requirements};
-ghost use Rattle.oc_needs.specs.View.{requirement_view};
+ghost use Rattle.oc_effects.specs.Kept.{AreKeptOf};
+ghost use Rattle.oc_region.specs.Inferred.{AreInferred};
 ghost use Rattle.oc_writes.specs.Targets.{may_write};
 ghost use Rattle.oc_isa.specs.Table.{device_of};
 ghost use Rattle.oc_bounds.specs.Bounds.{IsBounded};
@@ -25,15 +25,14 @@ use crate::answer::Answer;
 use oc_budget::laws::budgets_bound;
 use oc_codegen::compile;
 use oc_desugar::expand;
-use oc_effects::effects::Effects;
+use oc_effects::effects::{Effects, Kept};
 use oc_flow::summaries;
 use oc_io::Memory;
 use oc_isa::image::Image;
 use oc_lex::{LexError, Token, lex};
-use oc_needs::requirement::Requirement;
 use oc_needs::requirements;
 use oc_parse::{ParseError, parse};
-use oc_region::infer;
+use oc_region::{Inferred, infer_by, mark};
 use oc_tree::checked::Checked;
 use oc_tree::marked::Marked;
 use oc_tree::tree::Program;
@@ -147,41 +146,56 @@ fn written_of(alloc: Global, source: &[u8]) -> Result<Written, Answer>
     }
 }
 
-/// What the annotations of a checked program require.
-fn requirements_of(alloc: Global, checked: &Checked) -> Result<Vec<Requirement>, Memory>
-    ensures { IfOk result (λ r. map requirement_view r.items ≡ requirements checked.now.program) }
+/// The policies and the regions of a checked program, and what its statements do.
+fn inferred_of(alloc: Global, checked: &Checked) -> Result<(Inferred, Kept), Memory>
+    ensures inferred { IfOk result
+        (λ r. AreInferred checked.now.program checked.now.groups r.0) }
+    ensures kept { IfOk result (λ r. AreKeptOf checked.now.program r.1) }
 {
     let summaries = summaries(alloc, checked)?;
     let required = requirements(alloc, checked, &summaries)?;
-    Ok(required)
+    match infer_by(alloc, summaries.effects(), &required) {
+        Ok(inferred) => Ok((inferred, summaries.into_effects().into_kept())),
+        Err(_) => Err(Memory),
+    }
 }
 
-/// The expansion of a written program, with the regions that its annotations ask for.
-fn with_regions(alloc: Global, written: Written) -> Result<Marked, Memory>
-    ensures marked { IfOk result (λ m. m ≡ program_marked written) }
-    ensures timely { IfOk result (λ m. RunsAreTimely m) }
+/// The expansion of a written program, with the regions that its annotations ask for, and what its
+/// statements do.
+fn with_regions(alloc: Global, written: Written) -> Result<(Marked, Kept), Memory>
+    ensures marked { IfOk result (λ r. r.0 ≡ program_marked written) }
+    ensures timely { IfOk result (λ r. RunsAreTimely r.0) }
+    ensures kept { IfOk result (λ r. AreKeptOf r.0.program r.1) }
 {
     let checked = match expand(alloc, written) {
         Ok(checked) => checked,
         Err((_, memory)) => return Err(memory),
     };
-    let required = requirements_of(alloc, &checked)?;
-    match infer(alloc, checked, &required) {
-        Ok(marked) => Ok(marked),
-        Err((_, memory)) => Err(memory),
-    }
+    let (inferred, kept) = inferred_of(alloc, &checked)?;
+    Ok((mark(checked, inferred), kept))
 }
 
 /// The program that a source spells, expanded and with its policies and regions, where it breaks no
-/// rule. What is wrong first decides the answer: a byte, a token, a depth or a broken rule, with its
-/// line.
+/// rule, and what its statements do. What is wrong first decides the answer: a byte, a token, a
+/// depth or a broken rule, with its line.
+pub fn marked_with_effects(alloc: Global, source: &[u8]) -> Result<(Marked, Kept), Answer>
+    requires { length source.now ≤ source_limit }
+    ensures marked { IfOk result (λ r. IsMarkedOf source.now r.0) }
+    ensures kept { IfOk result (λ r. AreKeptOf r.0.program r.1) }
+    ensures refused { IfErr result (λ a. IsNotBuilt source.now a) }
+{
+    let written = written_of(alloc, source)?;
+    let (marked, kept) = with_regions(alloc, written)?;
+    Ok((marked, kept))
+}
+
+/// The same without what its statements do.
 pub fn marked_of(alloc: Global, source: &[u8]) -> Result<Marked, Answer>
     requires { length source.now ≤ source_limit }
     ensures marked { IfOk result (λ m. IsMarkedOf source.now m) }
     ensures refused { IfErr result (λ a. IsNotBuilt source.now a) }
 {
-    let written = written_of(alloc, source)?;
-    let marked = with_regions(alloc, written)?;
+    let (marked, _kept) = marked_with_effects(alloc, source)?;
     Ok(marked)
 }
 
@@ -202,16 +216,16 @@ pub fn image_by(alloc: Global, marked: &Marked, effects: &Effects) -> Result<Ima
     Ok(image)
 }
 
-/// The same of a program whose effects are not at hand.
-pub fn image_of(alloc: Global, marked: &Marked) -> Result<Image, Memory>
+/// The same by effects that were kept without the program.
+pub fn image_of(alloc: Global, marked: &Marked, kept: Kept) -> Result<Image, Memory>
+    requires { AreKeptOf marked.now.program kept }
     ensures code { IfOk result (λ i. i ≡ marked_code marked.now) }
     ensures right { IfOk result
         (λ i. IsRight marked.now.program marked.now.regions (may_write marked.now)) }
     ensures bounded { IfOk result
         (λ i. IsBounded (device_of i) (bounds_of marked.now)) }
 {
-    match Effects::new(alloc, marked.checked()) {
-        Ok(effects) => image_by(alloc, marked, &effects),
-        Err(_) => Err(Memory),
-    }
+    let effects = Effects::from_kept(marked.checked(), kept);
+    let image = image_by(alloc, marked, &effects)?;
+    Ok(image)
 }

@@ -10,7 +10,7 @@ ghost use Rattle.oc_top.specs.Images.{IsAdmitted, IsNotLoaded, IsNotRun, for_byt
 ghost use Rattle.oc_top.specs.Steps.{IsBuilt, IsNotBuilt, IsNotReady, IsReady, IsReadyFor, IsTurnedDown, for_power, for_sensors};
 
 use crate::answer::Answer;
-use crate::build::{image_of, marked_of};
+use crate::build::{image_of, marked_with_effects};
 use crate::files::Fetched;
 use oc_isa::image::Image;
 use oc_machine::machine::Machine;
@@ -78,8 +78,8 @@ pub fn build_image(alloc: Global, source: &[u8]) -> Result<Image, Answer>
     ensures built { IfOk result (λ i. IsBuilt source.now i) }
     ensures refused { IfErr result (λ a. IsNotBuilt source.now a) }
 {
-    let marked = marked_of(alloc, source)?;
-    let image = image_of(alloc, &marked)?;
+    let (marked, kept) = marked_with_effects(alloc, source)?;
+    let image = image_of(alloc, &marked, kept)?;
     Ok(image)
 }
 

@@ -1,5 +1,6 @@
 //! Texts of a program: its regions, and the listing of its image.
 ghost use Rattle.std.specs.Prelude.{◌≡◌, ◌≤◌, length, IfOk, IfErr};
+ghost use Rattle.oc_effects.specs.Kept.{AreKeptOf};
 ghost use Rattle.oc_isa.specs.Listing.{listing_text};
 ghost use Rattle.oc_budget.specs.Budgets.{limited_budgets};
 ghost use Rattle.oc_budget.specs.View.{budgets_view};
@@ -12,13 +13,13 @@ ghost use Rattle.oc_top.specs.Steps.{IsNotBuilt};
 ghost use Rattle.oc_top.specs.Verdict.{listing_of, prints, regions_of};
 
 use crate::answer::Answer;
-use crate::build::{image_by, marked_of};
+use crate::build::{image_by, marked_with_effects};
 use crate::prepare::build_image;
 use crate::regions::{Details, details_of, put_regions};
 use crate::report::flush_with;
 use oc_budget::costs::budgets_by;
 use oc_budget::told::Budgets;
-use oc_effects::effects::Effects;
+use oc_effects::effects::{Effects, Kept};
 use oc_io::Memory;
 use oc_io::sink::Sink;
 use oc_isa::image::Image;
@@ -48,15 +49,15 @@ fn told_by(alloc: Global, marked: &Marked, effects: &Effects) -> Result<(Budgets
     }
 }
 
-/// The same by effects that are made once for all of them.
-fn told_of(alloc: Global, marked: &Marked) -> Result<(Budgets, Details), Memory>
+/// The same by effects that were kept without the program.
+fn told_of(alloc: Global, marked: &Marked, kept: Kept) -> Result<(Budgets, Details), Memory>
+    requires { AreKeptOf marked.now.program kept }
     ensures budgets { IfOk result (λ t. budgets_view t.0 ≡ limited_budgets marked.now) }
     ensures details { IfOk result (λ t. HasDetails marked.now t.1) }
 {
-    match Effects::new(alloc, marked.checked()) {
-        Ok(effects) => told_by(alloc, marked, &effects),
-        Err(_) => Err(Memory),
-    }
+    let effects = Effects::from_kept(marked.checked(), kept);
+    let told = told_by(alloc, marked, &effects)?;
+    Ok(told)
 }
 
 /// The regions of the program that a source spells, with their budgets.
@@ -65,8 +66,8 @@ fn tell(alloc: Global, source: &[u8]) -> Result<Told, Answer>
     ensures told { IfOk result (λ t. Tells source.now t) }
     ensures refused { IfErr result (λ a. IsNotBuilt source.now a) }
 {
-    let marked = marked_of(alloc, source)?;
-    let (budgets, details) = told_of(alloc, &marked)?;
+    let (marked, kept) = marked_with_effects(alloc, source)?;
+    let (budgets, details) = told_of(alloc, &marked, kept)?;
     Ok(Told {
         marked,
         budgets,

@@ -17,7 +17,8 @@ use Rattle.oc_tree.specs.Members.{IsOf}
 use Rattle.oc_needs.specs.Sites.{stands_in, is_outside}
 use Rattle.oc_needs.proofs.Tests.{any_of}
 use Rattle.oc_desugar.proofs.NumberLists.{Follow, first_of, parts}
-use Rattle.oc_timely.proofs.Members.{in_append, by_side}
+use Rattle.oc_laws.proofs.Members.{in_append}
+use Rattle.oc_timely.proofs.Members.{by_side}
 
 -- ---- numbers that don't rise
 

@@ -1,10 +1,10 @@
 -- A policy is one of the program's just where an annotation asks for it.
 use Rattle.std.proofs.Common.{◌≡◌, ◌⊎◌, inl, inr, ℕ, zero, suc, ◌+◌, Bool, true, false, true≢false, List, [], ◌∷◌, ◌++◌, Option, Some, None, cond, refl, sym, ap, ◌∙◌, subst, arith}
-use Rattle.std.specs.Prelude.{ℤ, nat_eq, flat_map, option_map, option_to_list}
+use Rattle.std.specs.Prelude.{nat_eq, flat_map, option_map, option_to_list}
 use Rattle.std.specs.List.{list_any}
-use Rattle.std.specs.Ordering.{int_eq}
 use Rattle.std.proofs.Math.ListN.{get_or}
 use Rattle.std.proofs.lemmas.Bool.{eqb-true, and_parts}
+use Rattle.std.proofs.lemmas.Bool.Decides.{Decides-int_eq}
 use Rattle.oc_tree.specs.Tree.{TProgram}
 use Rattle.oc_tree.specs.declared.marked.Policy.{Policy}
 use Rattle.oc_tree.specs.declared.marked.PolicyKind.{PolicyKind}
@@ -14,14 +14,11 @@ use Rattle.oc_effects.specs.Effects.{TEffect, effects, effects_at}
 use Rattle.oc_tree.specs.Members.{IsOf}
 use Rattle.oc_flow.proofs.Lists.{in_any, same_is}
 use Rattle.oc_needs.specs.Policies.{kind_of_note, same_kind, same_policy, asked_from, each_once, policies}
-use Rattle.oc_timely.proofs.Members.{of_left, of_right, in_append}
-
-pub same_int : (k j : ℤ) → int_eq k j ≡ true → k ≡ j
-same_int k j h = grind (arith, h)
+use Rattle.oc_laws.proofs.Members.{of_left, of_right, in_append}
 
 pub same_kind_is : (a b : PolicyKind) → same_kind a b ≡ true → a ≡ b
 same_kind_is (kinds.Fresh v) (kinds.Fresh w) h = ap kinds.Fresh (same_is v w h)
-same_kind_is (kinds.Consistent k) (kinds.Consistent j) h = ap kinds.Consistent (same_int k j h)
+same_kind_is (kinds.Consistent k) (kinds.Consistent j) h = ap kinds.Consistent ((Decides-int_eq k j).0 h)
 same_kind_is (kinds.Fresh v) (kinds.Consistent j) h = absurd (true≢false (sym h))
 same_kind_is (kinds.Consistent k) (kinds.Fresh w) h = absurd (true≢false (sym h))
 

@@ -18,7 +18,7 @@ use Rattle.oc_effects.specs.Effects.{call_of, called_at, called_by, effect_of}
 use Rattle.oc_tree.specs.Members.{IsOf}
 use Rattle.oc_flow.proofs.Fixpoint.{Ranked}
 use Rattle.oc_timely.proofs.Callees.{callee_at}
-use Rattle.oc_timely.proofs.Members.{of_left, of_right}
+use Rattle.oc_laws.proofs.Members.{of_left, of_right}
 use Rattle.oc_timely.proofs.Owned.{set_here}
 use Rattle.oc_timely.proofs.Stated.{effect}
 use Rattle.oc_timely.proofs.Tagged.{Since, SinceOut, since_like, NoteFits, Fits, KindFits, ElseFits, BlockFits, StmtsFit, block_since}

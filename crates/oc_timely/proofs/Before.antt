@@ -13,9 +13,10 @@ use Rattle.oc_tree.specs.Numbers.{kind_statements, else_statements, block_statem
 use Rattle.oc_tree.specs.Places.{Place, Placed, Variables, find_variable, let_variables, param_variables, at_start, in_branch, in_loop, behind, kind_placed, else_placed, block_placed, stmts_placed}
 use Rattle.oc_tree.specs.Members.{IsOf}
 use Rattle.oc_desugar.proofs.NumberLists.{Follow, first_of, parts}
-use Rattle.oc_timely.proofs.Members.{in_append, by_side}
+use Rattle.oc_laws.proofs.Members.{in_append}
+use Rattle.oc_laws.proofs.Names.{find_found, find_not}
+use Rattle.oc_timely.proofs.Members.{by_side}
 use Rattle.oc_timely.proofs.Around.{body_follows}
-use Rattle.oc_timely.proofs.SeesOn.{find_found, find_not}
 
 -- all that these stand for was declared before the statement `n`
 abbrev IsBefore : ℕ → Variables → Type 0

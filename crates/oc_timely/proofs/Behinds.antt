@@ -16,6 +16,7 @@ use Rattle.oc_tree.specs.Members.{IsOf}
 use Rattle.oc_needs.specs.Policies.{policies}
 use Rattle.oc_copies.specs.Copies.{HasStored}
 use Rattle.oc_copies.specs.Stands.{Stands, makes}
+use Rattle.oc_laws.proofs.Names.{find_not}
 use Rattle.oc_timely.specs.Scopes.{var_declared, scope_of}
 use Rattle.oc_timely.proofs.Scopes.{stands_let, stands_turn}
 use Rattle.oc_timely.specs.Within.{Where}
@@ -24,7 +25,7 @@ use Rattle.oc_timely.specs.Modes.{Sees, Goes, In, IsEffectAmong, own_placed, wit
 use Rattle.oc_timely.proofs.Marks.{sees_length, sees_later, sees_spot}
 use Rattle.oc_timely.proofs.Straight.{IsStraight}
 use Rattle.oc_timely.proofs.Writes.{came_wider}
-use Rattle.oc_timely.proofs.SeesOn.{AreNamed, sees_more, annotated, find_not}
+use Rattle.oc_timely.proofs.SeesOn.{AreNamed, sees_more, annotated}
 use Rattle.oc_timely.proofs.StraightGoes.{IsThis, CallsGo, straight_leaves}
 
 module _ (p : TProgram) (regions : List TRegion) (call : Text → List Passed → Store → Outcome) (home : ℤ → ℕ) (f base : ℕ) (body : List Placed) (names : AreNamed p f body) where

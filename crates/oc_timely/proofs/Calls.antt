@@ -29,7 +29,7 @@ use Rattle.oc_timely.proofs.Entering.{stands_for, own_taken}
 
 -- ---- copied back, nothing is told
 
-fine_put : (σ : Store) (q : Place) (x : Held) → AllFine σ.events → AllFine (put σ q x).events
+pub fine_put : (σ : Store) (q : Place) (x : Held) → AllFine σ.events → AllFine (put σ q x).events
 fine_put σ (Local l) x a = a
 fine_put σ (Global l) x a = a
 fine_put σ (Turn l) x a = a

@@ -26,14 +26,14 @@ use Rattle.oc_flow.specs.Relations.{itself, by_call, by_callee}
 use Rattle.oc_copies.specs.Copies.{AreCopies, AreCopiedBack, IsCopiedBack, HasStored, own_frame, own_run, lent_place, passing_at, NotWritten, beside, behind_call}
 use Rattle.oc_copies.specs.Stands.{AreFormed, IsRuledCall, DoesCopy}
 use Rattle.oc_copies.proofs.Cells.{IsCell}
-use Rattle.oc_copies.proofs.Behind.{left_length, copied_locals, copied_beside}
+use Rattle.oc_copies.proofs.Behind.{copied_beside}
 use Rattle.oc_copies.proofs.DoCopy.{calls_do_copy}
+use Rattle.oc_laws.proofs.Members.{at_place}
 use Rattle.oc_timely.specs.Scopes.{scope_of}
 use Rattle.oc_timely.specs.Within.{Where, place_in, samples_of, start_where, Comes, old, new, AnyOf, Came}
 use Rattle.oc_timely.specs.Enough.{taken_in, is_open, since}
 use Rattle.oc_timely.specs.Steps.{AreTaken}
 use Rattle.oc_timely.specs.Modes.{Sees, IsSteady}
-use Rattle.oc_timely.proofs.Callees.{params_here}
 use Rattle.oc_timely.proofs.Came.{stays, only_one}
 use Rattle.oc_timely.proofs.Going.{left_or}
 use Rattle.oc_timely.proofs.SeesOn.{AreNamed}
@@ -154,7 +154,7 @@ module _ (p : TProgram) (groups : List Group) (checked : IsChecked p groups) (re
     To v j = Comes p f P (samples_of σ w) σ.taken v j
 
     params : params_at p u ≡ g.params
-    params = params_here p.functions u g copy.stands
+    params = at_place (λ h. h.params) p.functions u g [] copy.stands
 
     is_called : (effect_of p b).call ≡ Some called
     is_called = ap (λ o. option_and_then (called_by p b) o) is ∙ ap (λ o. option_map (called_at p b args) o) copy.placed
@@ -276,4 +276,4 @@ module _ (p : TProgram) (groups : List Group) (checked : IsChecked p groups) (re
           let copy = calls_do_copy p groups checked regions depth (scope_of p f b.at.variables) env σ sees.stands stored x args ruled ps e in
           left b one x args is env w σ sees taken stored ps e ruled copy (calls x ps σ) (own_run p regions depth copy.function ps σ) copy.copies copy.back
           (runs copy.number copy.function copy.stands ps σ stored copy.formed
-          (own_taken p f base b args env w σ sees taken copy.number copy.function (params_here p.functions copy.number copy.function copy.stands) ps e copy.may.as_many))
+          (own_taken p f base b args env w σ sees taken copy.number copy.function (at_place (λ h. h.params) p.functions copy.number copy.function [] copy.stands) ps e copy.may.as_many))

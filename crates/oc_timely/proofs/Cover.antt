@@ -16,7 +16,7 @@ use Rattle.oc_timely.specs.Laid.{IsClosed, LaidKind, LaidElse, LaidBlock, LaidSt
 use Rattle.oc_flow.proofs.Lists.{any_in}
 use Rattle.oc_needs.proofs.Tests.{any_of}
 use Rattle.oc_timely.proofs.Came.{flow_on}
-use Rattle.oc_timely.proofs.Members.{of_left, of_right}
+use Rattle.oc_laws.proofs.Members.{of_left, of_right}
 use Rattle.oc_timely.proofs.Directly.{begun_none, begun_some, Direct, direct_of, either, Clear, OpenAt, AtStatement, at_statement}
 use Rattle.oc_timely.proofs.Lies.{Lies, up_kind, up_stmts, closed_block, closed_kind, lies_kind, lies_else, lies_block, lies_stmts}
 

@@ -19,12 +19,13 @@ use Rattle.oc_meaning.specs.Exec.{Passed, Copied, Lent}
 use Rattle.oc_copies.specs.Copies.{own_frame}
 use Rattle.oc_copies.specs.Stands.{Stands, AreFormed}
 use Rattle.oc_copies.proofs.StandsOn.{frames_stand}
+use Rattle.oc_laws.proofs.Members.{at_place}
 use Rattle.oc_timely.specs.Within.{start_where}
 use Rattle.oc_timely.specs.Scopes.{scope_of}
 use Rattle.oc_timely.specs.Modes.{Sees}
 use Rattle.oc_timely.proofs.Scopes.{scope_start}
 use Rattle.oc_timely.proofs.Beginning.{AreDistinct}
-use Rattle.oc_timely.proofs.NoCalls.{params_of, start_sees}
+use Rattle.oc_timely.proofs.NoCalls.{start_sees}
 
 -- a name in scope stays there
 in_more : (s : Scope) (q : Param) (x : Text) → is_in_scope s x ≡ true → is_in_scope (with_param s q) x ≡ true
@@ -75,6 +76,6 @@ pub checked_sees : (p : TProgram) (groups : List Group) → IsChecked p groups �
 checked_sees p groups checked f g at n ps σ formed =
     let fine = function_fine p checked.unbroken checked.form.declared f g at in
     let head : Passes (item_rules p fine.tally fine.before (function_item g)) = none_broken (item_rules p fine.tally fine.before (function_item g)) fine.head in
-    let scope : scope_of p f (param_variables 0 g.params) ≡ with_params [] g.params = scope_start p f g.params (params_of p.functions f g at) in
+    let scope : scope_of p f (param_variables 0 g.params) ≡ with_params [] g.params = scope_start p f g.params (at_place (λ h. h.params) p.functions f g [] at) in
     let stands = subst (λ s. Stands p s (own_frame p g ps σ).env (record σ { locals = (own_frame p g ps σ).locals })) (sym scope) (frames_stand p groups checked f g at ps σ formed) in
     start_sees p f g at (distinct_from p [] 0 g.params head.1.0) n ps σ (formed_length g.params ps formed) stands

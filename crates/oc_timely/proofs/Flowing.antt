@@ -22,7 +22,7 @@ use Rattle.oc_timely.specs.Modes.{Sees, IsStep, PairedKind, PairedElse, PairedBl
 use Rattle.oc_timely.proofs.Came.{came_on}
 use Rattle.oc_timely.proofs.Marks.{like_sees, sees_length, sees_later, sees_spot, IsQuiet, quiet_used, quiet_done, quiet_taken, quiet_entered, like_opened, like_closed}
 use Rattle.oc_timely.proofs.Inside.{count_open}
-use Rattle.oc_timely.proofs.Members.{of_left, of_right}
+use Rattle.oc_laws.proofs.Members.{of_left, of_right}
 use Rattle.oc_timely.proofs.Writes.{came_wider}
 use Rattle.oc_timely.proofs.SeesOn.{AreNamed}
 use Rattle.oc_timely.proofs.StraightGoes.{CallsGo, by_value_run, same_store}

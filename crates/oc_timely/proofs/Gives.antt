@@ -20,7 +20,7 @@ use Rattle.oc_timely.specs.Modes.{IsShutMode, IsStep, PairedBlock, PairedStmts, 
 use Rattle.oc_timely.proofs.Came.{comes_back}
 use Rattle.oc_timely.proofs.Marks.{IsLike, like_sees, sees_later, sees_spot, IsQuiet, quiet_used, quiet_done, quiet_taken, quiet_entered, like_opened, like_closed}
 use Rattle.oc_timely.proofs.Inside.{count_open}
-use Rattle.oc_timely.proofs.Members.{of_right}
+use Rattle.oc_laws.proofs.Members.{of_right}
 use Rattle.oc_timely.proofs.SeesOn.{AreNamed}
 use Rattle.oc_timely.proofs.Writes.{comes_wider}
 use Rattle.oc_timely.proofs.StraightGoes.{IsThis, CallsGo, value_to, value_below}

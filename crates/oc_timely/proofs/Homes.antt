@@ -18,7 +18,7 @@ use Rattle.oc_flow.proofs.Fixpoint.{Ranked}
 use Rattle.oc_timely.specs.Modes.{own_placed}
 use Rattle.oc_timely.proofs.Away.{calls_away, fits, AllFit, kind_fits, else_fits, block_fits, stmts_fit}
 use Rattle.oc_timely.proofs.Innermost.{NoneNoted, else_clear, block_clear, own_clear, stmts_clear, home_there}
-use Rattle.oc_timely.proofs.Members.{of_left, of_right}
+use Rattle.oc_laws.proofs.Members.{of_left, of_right}
 use Rattle.oc_timely.proofs.Tagged.{Since, SinceOut, Fits, KindFits, ElseFits, BlockFits, StmtsFit, kind_since, else_since, block_since, stmts_since}
 
 -- ---- homes

@@ -4,6 +4,7 @@ use Rattle.std.specs.Prelude.{ℤ, option_map, if◌then◌else◌}
 use Rattle.std.specs.Ordering.{int_eq}
 use Rattle.std.proofs.lemmas.Bool.{eq-eqb}
 use Rattle.std.proofs.lemmas.Option.{none-some, same_Some}
+use Rattle.std.proofs.lemmas.Bool.Decides.{Decides-int_eq}
 use Rattle.oc_tree.specs.Tree.{TKind, if_else, for_in, while_do, consistent}
 use Rattle.oc_tree.specs.Tree.{TElse, no_else, else_do, stmt, TBlock, block, TStmts, no_stmts, more, TProgram}
 use Rattle.oc_tree.specs.declared.tree.VarId.TheVariants as variables
@@ -14,9 +15,8 @@ use Rattle.oc_tree.specs.Members.{IsOf}
 use Rattle.oc_needs.proofs.Tests.{any_of}
 use Rattle.oc_timely.specs.Modes.{own_placed}
 use Rattle.oc_timely.specs.Laid.{IsClosed, LaidKind, LaidElse, LaidStmts}
-use Rattle.oc_timely.proofs.Asking.{same_int}
 use Rattle.oc_timely.proofs.Directly.{Direct, direct_of, either}
-use Rattle.oc_timely.proofs.Members.{of_left, of_right, in_append}
+use Rattle.oc_laws.proofs.Members.{of_left, of_right, in_append}
 use Rattle.oc_timely.proofs.Lies.{Lies, up_kind, closed_block, closed_kind, lies_kind, lies_else, lies_block, lies_stmts}
 
 -- ---- annotations of the set
@@ -79,7 +79,7 @@ module _ (k : ℤ) where
       where
         by : (b : Bool) → int_eq i k ≡ b → ◌≡◌ {A = ℕ} (if b then 1 else 0) 0
         by false e = refl
-        by true e = absurd (h (record { id = id; line = line; kind = consistent x i; at = spot }) (inl refl) x (ap (consistent x) (same_int i k e)))
+        by true e = absurd (h (record { id = id; line = line; kind = consistent x i; at = spot }) (inl refl) x (ap (consistent x) ((Decides-int_eq i k).0 e)))
     kind_zero spot id line s h = refl
 
     pub else_zero : (spot : Spot) (b : TElse) → NoneNoted (else_placed spot b) → else_notes k b ≡ 0

@@ -12,6 +12,7 @@ use Rattle.oc_flow.specs.Relations.{Flow, Brings}
 use Rattle.oc_flow.specs.Flow.{flows, brings}
 use Rattle.oc_flow.specs.Laws.{Decides, FlowsIsFlow, BringsIsBrings}
 use Rattle.oc_needs.specs.Sites.{is_loop_at, loops_of, lifts, site, is_input}
+use Rattle.oc_laws.proofs.Members.{in_filter, of_filter}
 
 pub decide_true : (b : Bool) (A : Type 0) → Decides b A → A → b ≡ true
 decide_true true A d a = refl
@@ -32,25 +33,6 @@ found_low t (x ∷ xs) d k h all = by (t x) (found_low t xs d k h (λ y i. all y
     by true r = all x (inl refl)
     by false r = r
 
-of_filter : (t : ℕ → Bool) (xs : List ℕ) (y : ℕ) → IsOf y (filter t xs) → IsOf y xs
-of_filter t [] y h = h
-of_filter t (x ∷ xs) y h = by (t x) h (of_filter t xs y)
-  where
-    by : (b : Bool) → IsOf y (if b then x ∷ filter t xs else filter t xs) → (IsOf y (filter t xs) → IsOf y xs) → IsOf y (x ∷ xs)
-    by true (inl e) r = inl e
-    by true (inr i) r = inr (r i)
-    by false i r = inr (r i)
-
-in_filter : (t : ℕ → Bool) (xs : List ℕ) (y : ℕ) → IsOf y xs → t y ≡ true → IsOf y (filter t xs)
-in_filter t [] y h e = h
-in_filter t (x ∷ xs) y h e = by (t x) refl h (λ i. in_filter t xs y i e)
-  where
-    by : (b : Bool) → t x ≡ b → IsOf y (x ∷ xs) → (IsOf y xs → IsOf y (filter t xs)) → IsOf y (if b then x ∷ filter t xs else filter t xs)
-    by true q (inl z) r = inl z
-    by true q (inr i) r = inr (r i)
-    by false q (inl z) r = absurd (true≢false (sym (ap t (sym z) ∙ e) ∙ q))
-    by false q (inr i) r = r i
-
 -- numbers that don't fall
 abbrev pub Up : List ℕ → Type 0
 Up [] = Unit {0}
@@ -61,7 +43,7 @@ up_filter t [] h = tt
 up_filter t (x ∷ xs) h = by (t x) (up_filter t xs h.1)
   where
     by : (b : Bool) → Up (filter t xs) → Up (if b then x ∷ filter t xs else filter t xs)
-    by true r = (λ y i. h.0 y (of_filter t xs y i), r)
+    by true r = (λ y i. h.0 y (of_filter t y xs i).0, r)
     by false r = r
 
 found_first : (t : ℕ → Bool) (xs : List ℕ) (d y : ℕ) → Up xs → IsOf y xs → t y ≡ true → unwrap_or (find t xs) d ≤ y
@@ -76,10 +58,10 @@ found_first t (x ∷ xs) d y h i e = by (t x) refl i (λ j. found_first t xs d y
 
 -- a site comes no later than its statement, where what is around does
 pub site_low : (p : TProgram) (f : ℕ) (a : TEffect) (u x : VarId) → ((y : ℕ) → IsOf y (reverse a.around) → y ≤ a.stmt) → site p f a u x ≤ a.stmt
-site_low p f a u x h = found_low (lifts p f u x) (loops_of p f a) a.stmt a.stmt (omega arith) (λ y i. h y (of_filter (is_loop_at p f) (reverse a.around) y i))
+site_low p f a u x h = found_low (lifts p f u x) (loops_of p f a) a.stmt a.stmt (omega arith) (λ y i. h y (of_filter (is_loop_at p f) y (reverse a.around) i).0)
 
 -- nor than a loop out of which a carrier comes, where the outermost is the first
 pub site_lifted : (p : TProgram) (f : ℕ) (a : TEffect) (u x : VarId) (loop : ℕ) → Up (reverse a.around) → IsOf loop (reverse a.around) → is_loop_at p f loop ≡ true → lifts p f u x loop ≡ true →
     site p f a u x ≤ loop
 site_lifted p f a u x loop up i l e =
-    found_first (lifts p f u x) (loops_of p f a) a.stmt loop (up_filter (is_loop_at p f) (reverse a.around) up) (in_filter (is_loop_at p f) (reverse a.around) loop i l) e
+    found_first (lifts p f u x) (loops_of p f a) a.stmt loop (up_filter (is_loop_at p f) (reverse a.around) up) (in_filter (is_loop_at p f) loop (reverse a.around) i l) e

@@ -28,7 +28,7 @@ use Rattle.oc_timely.proofs.Sampled.{in_union}
 use Rattle.oc_timely.proofs.Marks.{IsLike, like_held, like_samples, sees_length, like_sees, sees_later, like_stored, IsQuiet, quiet_used, quiet_done, quiet_taken, sees_spot}
 use Rattle.oc_timely.proofs.Marks.{quiet_entered, like_opened, like_closed, is_deep, begun_is, ended_is}
 use Rattle.oc_timely.proofs.Straight.{fine_value, fine_used, fine_done, fine_closed, fine_opened, use_target, straight_fine}
-use Rattle.oc_timely.proofs.Members.{of_left, of_right}
+use Rattle.oc_laws.proofs.Members.{of_left, of_right}
 use Rattle.oc_flow.proofs.Lists.{same_is}
 
 -- ---- outcomes

@@ -5,7 +5,7 @@ use Rattle.oc_tree.specs.declared.tree.VarId.TheVariants as variables
 use Rattle.oc_tree.specs.Places.{Place as Spot, Placed, behind, in_branch, in_loop, kind_placed, else_placed, block_placed, stmts_placed, block_of}
 use Rattle.oc_tree.specs.Members.{IsOf}
 use Rattle.oc_timely.specs.Laid.{IsClosed, LaidKind, LaidElse, LaidBlock, LaidStmts}
-use Rattle.oc_timely.proofs.Members.{in_append}
+use Rattle.oc_laws.proofs.Members.{in_append}
 
 -- its number lies between these, and so does what is around it here
 pub record Lies (n k : ℕ) (spot : Spot) (b : Placed) : Type 0 where

@@ -1,20 +1,21 @@
 -- A site comes no later than its statement, nor than a loop out of which a carrier comes.
 use Rattle.std.proofs.Common.{◌≡◌, ◌⊎◌, inl, inr, ℕ, ◌≤◌, true, List, [], ◌∷◌, ◌++◌, refl, sym, subst, arith}
-use Rattle.std.proofs.lemmas.Bool.{and_from, and_parts}
-use Rattle.std.specs.Prelude.{◌&&◌, nat_lt, reverse}
+use Rattle.std.proofs.lemmas.Bool.{and_from}
+use Rattle.std.specs.Prelude.{◌&&◌, reverse}
 use Rattle.std.proofs.lemmas.Grind.{reverse_onto}
 use Rattle.oc_tree.specs.Tree.{TProgram}
 use Rattle.oc_tree.specs.Checked.{Group, IsChecked}
 use Rattle.oc_tree.specs.declared.tree.VarId.{VarId}
 use Rattle.oc_effects.specs.Effects.{TEffect, effects_at}
-use Rattle.oc_flow.specs.Variables.{variables, is_variable, is_among, same_variable}
+use Rattle.oc_flow.specs.Variables.{variables, is_variable}
 use Rattle.oc_tree.specs.Members.{IsOf}
 use Rattle.oc_flow.specs.Relations.{Flow, itself, by_value, by_call}
 use Rattle.oc_flow.specs.Flow.{flows}
 use Rattle.oc_flow.specs.Laws.{FlowsIsFlow}
-use Rattle.oc_flow.proofs.Lists.{any_in, in_any, same_is}
+use Rattle.oc_flow.proofs.Lists.{any_in}
 use Rattle.oc_needs.specs.Sites.{is_loop_at, is_outside, carries, lifts, site}
-use Rattle.oc_timely.proofs.Members.{of_left, of_right, in_append}
+use Rattle.oc_needs.proofs.NeedLevels.{listed}
+use Rattle.oc_laws.proofs.Members.{of_left, of_right, in_append}
 use Rattle.oc_timely.proofs.Inputs.{Up, decide_true, site_low, site_lifted}
 use Rattle.oc_timely.proofs.Around.{Falls, effects_nested}
 
@@ -54,17 +55,12 @@ flow_from p f u v (itself k) = k
 flow_from p f u v (by_value a i k s t r) = k
 flow_from p f u v (by_call a c i s k b r e t) = k
 
-pub there : (p : TProgram) (f : ℕ) (u : VarId) → is_variable p f u ≡ true → IsOf u (variables p f)
-there p f u h =
-    let r = in_any (same_variable u) (variables p f) (and_parts (nat_lt f _) (is_among u (variables p f)) h).1 in
-    subst (λ z. IsOf z (variables p f)) (sym (same_is u r.0 r.2)) r.1
-
 module _ (flow : FlowsIsFlow) (p : TProgram) (groups : List Group) (checked : IsChecked p groups) (f : ℕ) where
   pub lifted : (u w x : VarId) (loop : ℕ) → Flow p f u w → Flow p f w x → is_outside p f loop w ≡ true → lifts p f u x loop ≡ true
   lifted u w x loop a b o =
       let first = decide_true (flows p f u w) (Flow p f u w) (flow p groups checked f u w) a in
       let second = decide_true (flows p f w x) (Flow p f w x) (flow p groups checked f w x) b in
-      any_in (λ w. carries p f u x w && is_outside p f loop w) (variables p f) w (there p f w (flow_from p f w x b))
+      any_in (λ w. carries p f u x w && is_outside p f loop w) (variables p f) w (listed p f w (flow_from p f w x b))
       (and_from (carries p f u x w) (is_outside p f loop w) (and_from (flows p f u w) (flows p f w x) first second) o)
 
   pub low : (a : TEffect) (u x : VarId) → IsOf a (effects_at p f) → site p f a u x ≤ a.stmt

@@ -23,15 +23,16 @@ use Rattle.oc_needs.specs.Requirements.{TRequirement, rising, is_before, with_li
 use Rattle.oc_needs.specs.Requirements.{required_of, required_from, requirements}
 use Rattle.oc_needs.proofs.Tests.{in_filter}
 use Rattle.oc_needs.proofs.Rising.{in_rising}
+use Rattle.oc_needs.proofs.NeedLevels.{listed}
 use Rattle.oc_timely.specs.Covering.{IsCovering, IsMet}
 use Rattle.oc_timely.specs.Within.{AnyOf}
 use Rattle.oc_timely.specs.Enough.{Target, by_use, by_tag, by_call, Met, apart, covered}
 use Rattle.oc_timely.specs.Steps.{RequirementsMeet}
-use Rattle.oc_timely.proofs.Members.{of_left, of_right}
+use Rattle.oc_laws.proofs.Members.{of_left, of_right, in_flat, in_image}
 use Rattle.oc_timely.proofs.Inputs.{decide_true, input_is}
-use Rattle.oc_timely.proofs.Lifted.{there, flow_from}
+use Rattle.oc_timely.proofs.Lifted.{flow_from}
 use Rattle.oc_timely.proofs.Asking.{is_policy}
-use Rattle.oc_timely.proofs.Needing.{in_flat, in_image, some_there, none_there, is_annotated, held_there, fresh_of, set_by, fresh_annotated, set_held}
+use Rattle.oc_timely.proofs.Needing.{some_there, none_there, is_annotated, held_there, fresh_of, set_by, fresh_annotated, set_held}
 
 -- ---- lists in order
 
@@ -102,9 +103,6 @@ is_required p q g sites o l i =
 with_some : (inputs others : List ℕ) → is_empty inputs ≡ false → IsOf (rising (inputs ++ others)) (with_inputs inputs others)
 with_some inputs others e = subst (λ b. IsOf (rising (inputs ++ others)) (cond b [] (rising (inputs ++ others) ∷ []))) (sym e) (inl refl)
 
-self_eq : (n : ℕ) → nat_eq n n ≡ true
-self_eq n = grind arith
-
 pub own_required : (p : TProgram) (q : Policy) → is_empty (held p q) ≡ false → is_empty (input_sites p q.function (annotated p q)) ≡ false →
     IsOf (rising (input_sites p q.function (annotated p q) ++ held p q)) (function_sites p q q.function)
 own_required p q h e =
@@ -112,7 +110,7 @@ own_required p q h e =
     let some = with_some (input_sites p q.function (annotated p q)) (held p q) e in
     let own : IsOf sites (own_sites p q) = subst (λ b. IsOf sites (cond b [] (with_inputs (input_sites p q.function (annotated p q)) (held p q)))) (sym h) some in
     of_left sites (cond (nat_eq q.function q.function) (own_sites p q) []) (flat_map (call_sites p q q.function) (effects_at p q.function))
-    (subst (λ b. IsOf sites (cond b (own_sites p q) [])) (sym (self_eq q.function)) own)
+    (subst (λ b. IsOf sites (cond b (own_sites p q) [])) (sym (eq-eqb q.function q.function refl)) own)
 
 call_required : (p : TProgram) (q : Policy) (g : ℕ) (a : TEffect) → IsOf a (effects_at p g) → is_empty (input_sites p g (needed_at p q g a)) ≡ false →
     IsOf (rising (input_sites p g (needed_at p q g a) ++ a.stmt ∷ [])) (function_sites p q g)
@@ -148,7 +146,7 @@ module _ (flow : FlowsIsFlow) (bring : BringsIsBrings) (need : NeedsIsNeed) (m :
   pub site_in : (xs : List VarId) (b : TEffect) (u x : VarId) → IsOf b (effects_at p f) → IsOf x xs → is_input p f b u x ≡ true → IsOf (site p f b u x) (input_sites p f xs)
   site_in xs b u x i o t =
       let fl = decided (flows p f u x) (Flow p f u x) (flow p m.groups marked.checked f u x) (and_parts (brings p b u) (flows p f u x) t).1 in
-      let known = there p f u (flow_from p f u x fl) in
+      let known = listed p f u (flow_from p f u x fl) in
       in_flat (λ (a : TEffect). flat_map (λ (u : VarId). flat_map (λ (x : VarId). cond (is_input p f a u x) (site p f a u x ∷ []) []) xs) (variables p f)) (effects_at p f) b (site p f b u x) i
       (in_flat (λ (u : VarId). flat_map (λ (x : VarId). cond (is_input p f b u x) (site p f b u x ∷ []) []) xs) (variables p f) u (site p f b u x) known
       (in_flat (λ (x : VarId). cond (is_input p f b u x) (site p f b u x ∷ []) []) xs x (site p f b u x) o
@@ -190,9 +188,9 @@ module _ (flow : FlowsIsFlow) (bring : BringsIsBrings) (need : NeedsIsNeed) (m :
       by true k =
           let test : needs p q d.function y ≡ true = decide_true (needs p q d.function y) (Need p q d.function y) (need p m.groups marked.checked q d.function y) n in
           let some : is_needed_at p (needs p q) (Some d) x ≡ true =
-          any_in (λ y. needs p q d.function y && begins d y x) (variables p d.function) y (there p d.function y (need_known p q d.function y n))
+          any_in (λ y. needs p q d.function y && begins d y x) (variables p d.function) y (listed p d.function y (need_known p q d.function y n))
           (and_from (needs p q d.function y) (begins d y x) test b) in
-          let needed : IsOf x (needed_at p q f a) = in_filter (is_needed_at p (needs p q) a.call) x (variables p f) (there p f x k) (ap (λ z. is_needed_at p (needs p q) z x) e ∙ some) in
+          let needed : IsOf x (needed_at p q f a) = in_filter (is_needed_at p (needs p q) a.call) x (variables p f) (listed p f x k) (ap (λ z. is_needed_at p (needs p q) z x) e ∙ some) in
           meets a x (needed_at p q f a) (a.stmt ∷ []) needed (inl refl)
           (λ z. is_required p q f (rising (input_sites p f (needed_at p q f a) ++ a.stmt ∷ [])) o (there_is a i) (call_required p q f a i z))
 

@@ -1,31 +1,21 @@
 -- Each statement of a function has its effect, and what it declares is a variable of the function.
-use Rattle.std.proofs.Common.{◌≡◌, inl, inr, ℕ, zero, suc, Bool, true, false, List, [], ◌∷◌, length, map, filter, Some, sym, ap, ◌∙◌, subst, arith}
+use Rattle.std.proofs.Common.{◌≡◌, inl, inr, ℕ, Bool, true, false, List, [], ◌∷◌, length, map, filter, Some, sym, ap, ◌∙◌, subst, arith}
 use Rattle.std.proofs.lemmas.Bool.{and_from, or_left, or_right}
 use Rattle.std.specs.Prelude.{cond, slice_get}
-use Rattle.std.proofs.Math.ListN.{get_or}
 use Rattle.oc_tree.specs.Tree.{TFunction, TProgram}
 use Rattle.oc_tree.specs.Places.{Placed, declares, at_start, block_placed}
 use Rattle.oc_tree.specs.declared.tree.VarId.TheVariants as variables
 use Rattle.oc_effects.specs.Effects.{TEffect, effect_of, effects_at, function_effects, params_at}
 use Rattle.oc_flow.specs.Variables.{same_variable, is_among, is_variable, from}
 use Rattle.oc_tree.specs.Members.{IsOf}
+use Rattle.oc_laws.proofs.Members.{at_place, in_image}
 use Rattle.oc_timely.proofs.Sources.{among_back}
 use Rattle.oc_timely.proofs.NoCalls.{stands_at}
 use Rattle.oc_flow.proofs.Lists.{same_itself}
 
-of_map : (p : TProgram) (b : Placed) (bs : List Placed) → IsOf b bs → IsOf (effect_of p b) (map (effect_of p) bs)
-of_map p b [] h = absurd h
-of_map p b (x ∷ bs) (inl e) = inl (ap (effect_of p) e)
-of_map p b (x ∷ bs) (inr h) = inr (of_map p b bs h)
-
-effects_of : (p : TProgram) (fs : List TFunction) (f : ℕ) (g : TFunction) → slice_get fs f ≡ Some g → get_or (map (function_effects p) fs) f [] ≡ function_effects p g
-effects_of p [] f g e = absurd (cc)
-effects_of p (x ∷ fs) zero g e = let s : x ≡ g = cc in ap (function_effects p) s
-effects_of p (x ∷ fs) (suc f) g e = effects_of p fs f g e
-
 -- the effect of each statement
 pub has_effect : (p : TProgram) (f : ℕ) (g : TFunction) → slice_get p.functions f ≡ Some g → (b : Placed) → IsOf b (block_placed (at_start g) g.body) → IsOf (effect_of p b) (effects_at p f)
-has_effect p f g at b h = subst (IsOf (effect_of p b)) (sym (effects_of p p.functions f g at)) (of_map p b (block_placed (at_start g) g.body) h)
+has_effect p f g at b h = subst (IsOf (effect_of p b)) (sym (at_place (function_effects p) p.functions f g [] at)) (in_image (effect_of p) (block_placed (at_start g) g.body) b h)
 
 declared_among : (a : TEffect) (es : List TEffect) → IsOf a es → a.declares ≡ true → is_among (variables.Declared a.stmt) (map (λ a. variables.Declared a.stmt) (filter (λ a. a.declares) es)) ≡ true
 declared_among a [] h d = absurd h

@@ -1,7 +1,7 @@
 -- What targets stand for is needed, and what is required meets each target.
-use Rattle.std.proofs.Common.{◌≡◌, inl, inr, ℕ, true, false, true≢false, List, [], ◌∷◌, map, Some, refl, sym, ap, ◌∙◌, subst, arith}
-use Rattle.std.specs.Prelude.{ℤ, flat_map, filter, option_map, option_to_list}
-use Rattle.std.specs.Ordering.{int_eq}
+use Rattle.std.proofs.Common.{◌≡◌, inl, ℕ, true, false, true≢false, List, [], ◌∷◌, Some, refl, sym, ap, ◌∙◌, subst}
+use Rattle.std.specs.Prelude.{ℤ, filter, option_map, option_to_list}
+use Rattle.std.proofs.lemmas.Bool.Decides.{Decides-int_eq}
 use Rattle.oc_tree.specs.Tree.{TProgram}
 use Rattle.oc_tree.specs.declared.tree.VarId.{VarId}
 use Rattle.oc_tree.specs.declared.marked.Policy.{Policy}
@@ -16,21 +16,11 @@ use Rattle.oc_needs.specs.Policies.{kind_of_note, note_variable, same_kind, is_n
 use Rattle.oc_needs.specs.Need.{by_annotation, by_call as need_by_call, is_empty}
 use Rattle.oc_needs.proofs.Tests.{in_filter}
 use Rattle.oc_timely.specs.Enough.{by_use, by_tag, by_call}
-use Rattle.oc_timely.proofs.Members.{of_left, of_right}
+use Rattle.oc_laws.proofs.Members.{in_flat, in_image}
 use Rattle.oc_timely.proofs.Asking.{asked_for, is_policy}
 use Rattle.oc_timely.proofs.Bodies.{TargetsNeed}
 
 -- ---- lists
-
-pub in_flat : {A B : Type 0} (h : A → List B) (xs : List A) (x : A) (y : B) → IsOf x xs → IsOf y (h x) → IsOf y (flat_map h xs)
-in_flat h [] x y o k = absurd o
-in_flat h (z ∷ zs) x y (inl e) k = of_left y (h z) (flat_map h zs) (subst (λ w. IsOf y (h w)) e k)
-in_flat h (z ∷ zs) x y (inr o) k = of_right y (h z) (flat_map h zs) (in_flat h zs x y o k)
-
-pub in_image : {A B : Type 0} (h : A → B) (xs : List A) (x : A) → IsOf x xs → IsOf (h x) (map h xs)
-in_image h [] x o = absurd o
-in_image h (z ∷ zs) x (inl e) = inl (ap h e)
-in_image h (z ∷ zs) x (inr o) = inr (in_image h zs x o)
 
 pub some_there : {A : Type 0} (xs : List A) (x : A) → IsOf x xs → is_empty xs ≡ false
 some_there [] x o = absurd o
@@ -42,12 +32,9 @@ none_there (y ∷ ys) x e o = true≢false (sym e)
 
 -- ---- what is annotated, and what is held
 
-same_number : (k : ℤ) → int_eq k k ≡ true
-same_number k = grind arith
-
 same_kind_self : (k : PolicyKind) → same_kind k k ≡ true
 same_kind_self (kinds.Fresh v) = same_itself v
-same_kind_self (kinds.Consistent k) = same_number k
+same_kind_self (kinds.Consistent k) = (Decides-int_eq k k).1 refl
 
 pub is_annotated : (p : TProgram) (q : Policy) (a : TEffect) (note : Note) → IsOf a (effects_at p q.function) → a.note ≡ Some note → q.kind ≡ kind_of_note note →
     IsOf (note_variable note) (annotated p q)
@@ -80,7 +67,7 @@ fresh_annotated p f x o = let r = asked_for p (fresh_of f x) o in by r.effect r.
     by a (notes.Consistent v n) i e k = absurd (not_both x n k)
 
 pub set_held : (k : ℤ) (x : VarId) (a : TEffect) → a.note ≡ Some (notes.Consistent x k) → is_held (kinds.Consistent k) a ≡ true
-set_held k x a e = ap (is_note_of (kinds.Consistent k)) e ∙ same_number k
+set_held k x a e = ap (is_note_of (kinds.Consistent k)) e ∙ (Decides-int_eq k k).1 refl
 
 -- ---- needs
 

@@ -1,7 +1,6 @@
 -- Where calls go no deeper, each leaves what it must; and what a function sees when it begins, from where it stands.
-use Rattle.std.proofs.Common.{◌≡◌, ℕ, zero, suc, ◌<◌, List, [], ◌∷◌, length, Some, refl, ap, arith}
-use Rattle.std.specs.Prelude.{ℤ, slice_get, map}
-use Rattle.std.proofs.Math.ListN.{get_or}
+use Rattle.std.proofs.Common.{◌≡◌, ℕ, zero, suc, ◌<◌, List, [], ◌∷◌, length, Some, refl, arith}
+use Rattle.std.specs.Prelude.{ℤ, slice_get}
 use Rattle.oc_tree.specs.Tree.{call, TFunction, TProgram}
 use Rattle.oc_tree.specs.Places.{Placed, at_start}
 use Rattle.oc_tree.specs.Marked.{TRegion}
@@ -9,6 +8,7 @@ use Rattle.oc_meaning.specs.Store.{Store}
 use Rattle.oc_meaning.specs.Exec.{Passed, Passing, Passes, Breaks, with_args, args_of}
 use Rattle.oc_meaning.specs.Run.{call_to}
 use Rattle.oc_copies.specs.Copies.{own_frame}
+use Rattle.oc_laws.proofs.Members.{at_place}
 use Rattle.oc_timely.specs.Within.{start_where}
 use Rattle.oc_copies.specs.Stands.{Stands}
 use Rattle.oc_timely.specs.Scopes.{scope_of}
@@ -36,13 +36,8 @@ stands_at [] f g e = absurd (cc)
 stands_at (x ∷ fs) zero g e = omega arith
 stands_at (x ∷ fs) (suc f) g e = let l = stands_at fs f g e in omega (arith, l)
 
-pub params_of : (fs : List TFunction) (f : ℕ) (g : TFunction) → slice_get fs f ≡ Some g → get_or (map (λ g. g.params) fs) f [] ≡ g.params
-params_of [] f g e = absurd (cc)
-params_of (x ∷ fs) zero g e = let s : x ≡ g = cc in ap (λ (g : TFunction). g.params) s
-params_of (x ∷ fs) (suc f) g e = params_of fs f g e
-
 -- what a function sees when it begins, where its parameters have names of their own
 pub start_sees : (p : TProgram) (f : ℕ) (g : TFunction) → slice_get p.functions f ≡ Some g → AreDistinct 0 g.params → (n : ℕ) (ps : List Passed) (σ : Store) → length ps ≡ length g.params →
     Stands p (scope_of p f (at_start g).variables) (own_frame p g ps σ).env (record σ { locals = (own_frame p g ps σ).locals }) →
     Sees p f (length σ.locals) n (at_start g) (own_frame p g ps σ).env (start_where p f (length σ.locals)) (record σ { locals = (own_frame p g ps σ).locals })
-start_sees p f g at distinct n ps σ many stands = begins_sees p f g (let l = stands_at p.functions f g at in grind (arith, l)) (params_of p.functions f g at) distinct n ps σ many stands
+start_sees p f g at distinct n ps σ many stands = begins_sees p f g (let l = stands_at p.functions f g at in grind (arith, l)) (at_place (λ h. h.params) p.functions f g [] at) distinct n ps σ many stands

@@ -15,7 +15,7 @@ use Rattle.oc_effects.specs.declared.effect.Note.TheVariants as notes
 use Rattle.oc_effects.specs.Effects.{TEffect, effect_of, effects, effects_at, variable_at, note_of}
 use Rattle.oc_tree.specs.Members.{IsOf}
 use Rattle.oc_needs.specs.Policies.{policies, same_policy, same_kind, kind_of_note, asked_from, each_once}
-use Rattle.oc_timely.proofs.Members.{of_left, of_right}
+use Rattle.oc_laws.proofs.Members.{of_left, of_right}
 use Rattle.oc_flow.proofs.Lists.{same_is}
 
 abbrev asked : ℕ → VarId → Policy

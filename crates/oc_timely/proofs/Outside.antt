@@ -29,7 +29,7 @@ use Rattle.oc_timely.proofs.Marks.{like_held, like_samples, sees_length, like_se
 use Rattle.oc_timely.proofs.Marks.{like_opened, like_closed, is_deep, was_deep, begun_is, ended_is}
 use Rattle.oc_timely.proofs.Straight.{fine_value, fine_used, fine_done, fine_closed, fine_opened, use_target, straight_fine}
 use Rattle.oc_timely.proofs.Inside.{fine_then, fine_finished, fine_leave, fine_if, turn_samples, samples_turn, SinceAt, since_quiet, count_open, FitsAt, Open}
-use Rattle.oc_timely.proofs.Members.{of_left, of_right}
+use Rattle.oc_laws.proofs.Members.{of_left, of_right}
 use Rattle.oc_timely.proofs.Inside.{open_opened, open_less, open_quiet, open_on, use_open, since_on, kind_open}
 
 module _ (m : TMarked) (guarded : ℕ → Bool) (call : Text → List Passed → Store → Outcome) (home : ℤ → ℕ) (f base : ℕ) (body : List Placed) (calls : CallFine m guarded call home f base body)

@@ -8,13 +8,13 @@ use Rattle.oc_tree.specs.Tree.{consistent, TFunction, TProgram}
 use Rattle.oc_tree.specs.Numbers.{numbers_on, block_statements, program_statements}
 use Rattle.oc_tree.specs.Places.{Placed, block_placed, at_start}
 use Rattle.oc_tree.specs.Marked.{function_of}
-use Rattle.oc_tree.proofs.Grouped.{ids, functions_ids}
+use Rattle.oc_tree.proofs.Grouped.{functions_ids}
 use Rattle.oc_tree.specs.Members.{IsOf}
 use Rattle.oc_flow.proofs.Lists.{any_in}
 use Rattle.oc_needs.proofs.Tests.{any_of}
 use Rattle.oc_desugar.proofs.NumberLists.{Follow, parts}
 use Rattle.oc_honest.specs.Timely.{set_in, set_at, set_of}
-use Rattle.oc_timely.proofs.Members.{of_left, in_append}
+use Rattle.oc_laws.proofs.Members.{of_left, in_append, in_image}
 use Rattle.oc_timely.proofs.Positions.{position_first, position_later}
 use Rattle.oc_timely.proofs.Stated.{found}
 
@@ -25,16 +25,11 @@ between k zero y o = absurd o
 between k (suc n) y (inl e) = (omega (arith, e), omega (arith, e))
 between k (suc n) y (inr o) = let l = between (suc k) n y o in (omega (arith, l.0), omega (arith, l.1))
 
-in_image : (bs : List Placed) (b : Placed) → IsOf b bs → IsOf b.id (ids bs)
-in_image [] b o = o
-in_image (x ∷ bs) b (inl e) = inl (ap (λ (z : Placed). z.id) e)
-in_image (x ∷ bs) b (inr o) = inr (in_image bs b o)
-
 -- the number of a statement of a function is one of its numbers
 own_number : (g : TFunction) (b : Placed) → IsOf b (block_placed (at_start g) g.body) → IsOf b.id (block_statements g.body)
 own_number g b o =
     let all = flat_map (λ f. block_placed (at_start f) f.body) (g ∷ []) in
-    by (in_append b.id (block_statements g.body) [] (subst (IsOf b.id) (functions_ids (g ∷ [])) (in_image all b (of_left b (block_placed (at_start g) g.body) [] o))))
+    by (in_append b.id (block_statements g.body) [] (subst (IsOf b.id) (functions_ids (g ∷ [])) (in_image (λ a. a.id) all b (of_left b (block_placed (at_start g) g.body) [] o))))
   where
     by : IsOf b.id (block_statements g.body) ⊎ IsOf b.id [] → IsOf b.id (block_statements g.body)
     by (inl i) = i

@@ -10,7 +10,7 @@ use Rattle.oc_tree.specs.Members.{IsOf}
 use Rattle.oc_timely.specs.Enough.{next_mode}
 use Rattle.oc_timely.specs.Modes.{IsStep, IsShutMode, PairedKind, PairedElse, PairedBlock, PairedStmts}
 use Rattle.oc_timely.specs.Laid.{LaidKind, LaidElse, LaidBlock, LaidStmts, Static}
-use Rattle.oc_timely.proofs.Members.{of_left, of_right}
+use Rattle.oc_laws.proofs.Members.{of_left, of_right}
 use Rattle.oc_timely.proofs.Directly.{begun_none, begun_some, Clear, OpenAt, AtStatement, at_statement}
 use Rattle.oc_timely.proofs.Lies.{up_kind, up_block, up_stmts}
 

@@ -4,6 +4,7 @@ use Rattle.std.proofs.Common.{arith, append_assoc, true≢false}
 use Rattle.std.specs.Prelude.{ℤ, codes, slice_get, nat_lt, not, count_by, position, map, filter, is_some, cond, option_map, option_and_then, unwrap_or, if◌then◌else◌, ◌==◌}
 use Rattle.std.specs.List.{list_any, prefix_len}
 use Rattle.std.proofs.lemmas.Option.{none-some, same_Some}
+use Rattle.std.proofs.lemmas.Bool.Decides.{Decides-int_eq}
 use Rattle.oc_tree.specs.Names.{Text}
 use Rattle.oc_tree.specs.Tree.{TCall, call, TKind, consistent, TFunction, TProgram}
 use Rattle.oc_tree.specs.declared.tree.VarId.{VarId}
@@ -52,7 +53,7 @@ use Rattle.oc_timely.specs.Enough.{Apart, OkBlock, is_open}
 use Rattle.oc_timely.specs.Steps.{AreTaken}
 use Rattle.oc_timely.specs.Modes.{Sees, AllFlows, PairedBlock}
 use Rattle.oc_timely.specs.Sets.{RunsPartNone, times}
-use Rattle.oc_timely.proofs.Asking.{same_int, is_policy}
+use Rattle.oc_timely.proofs.Asking.{is_policy}
 use Rattle.oc_timely.proofs.Away.{calls_away, lower}
 use Rattle.oc_timely.proofs.Bodies.{AnyTarget, body_ok}
 use Rattle.oc_timely.proofs.Callees.{callee_at}
@@ -61,7 +62,7 @@ use Rattle.oc_timely.proofs.Handed.{passed_samples, own_older, own_held, arg_nam
 use Rattle.oc_timely.proofs.Homes.{clear_block, later_body}
 use Rattle.oc_timely.proofs.Innermost.{NoneNoted, block_clear, home_there}
 use Rattle.oc_timely.proofs.Inputs.{input_is}
-use Rattle.oc_timely.proofs.Members.{of_right, in_append}
+use Rattle.oc_laws.proofs.Members.{of_right, in_append}
 use Rattle.oc_timely.proofs.Known.{flows_are, brings_are, needs_are, known}
 use Rattle.oc_timely.proofs.Marks.{was_deep}
 use Rattle.oc_timely.proofs.Meeting.{all_of, is_required, own_required, site_in}
@@ -111,7 +112,7 @@ set_policy p f k h = let a = first_held (is_held (kinds.Consistent k)) (effects_
     by : (a : TEffect) → IsOf a (effects_at p f) → (o : Option Note) → a.note ≡ o → is_note_of (kinds.Consistent k) o ≡ true → IsOf (set_by f k) (policies p)
     by a i None e t = absurd (true≢false (sym t))
     by a i (Some (notes.Fresh v)) e t = absurd (true≢false (sym t))
-    by a i (Some (notes.Consistent v j)) e t = let same : k ≡ j = same_int k j t in subst (λ z. IsOf (set_by f z) (policies p)) (sym same) (is_policy p f a (notes.Consistent v j) i e)
+    by a i (Some (notes.Consistent v j)) e t = let same : k ≡ j = (Decides-int_eq k j).0 t in subst (λ z. IsOf (set_by f z) (policies p)) (sym same) (is_policy p f a (notes.Consistent v j) i e)
 
 -- ---- outcomes
 

@@ -27,7 +27,7 @@ use Rattle.oc_timely.proofs.Directly.{Direct, direct_of, of_direct, either, besi
 use Rattle.oc_timely.proofs.Homes.{call_at, Any, split_first, kind_many, else_many, block_many, stmts_many, block_split, clear_kind, clear_else, clear_block, clear_stmts, any_kind, later_kind}
 use Rattle.oc_timely.proofs.Innermost.{NoneNoted, else_clear, block_clear, own_clear, stmts_clear, IsFree, chain, lies_own, innermost}
 use Rattle.oc_timely.proofs.Inside.{count_open}
-use Rattle.oc_timely.proofs.Members.{of_left, of_right, in_append}
+use Rattle.oc_laws.proofs.Members.{of_left, of_right, in_append}
 use Rattle.oc_timely.proofs.Lies.{up_kind, up_stmts}
 use Rattle.oc_timely.proofs.Quiet.{IsReturn, Deep, Quiet, quiet_used, quiet_done, kind_quiet}
 use Rattle.oc_timely.proofs.RegionOpen.{none_begins, none_ends, open_at}

@@ -1,6 +1,6 @@
 -- A `return` is the last statement of its function: no other statement returns.
 use Rattle.std.proofs.Common.{◌≡◌, ℕ, zero, suc, Bool, true, false, true≢false, List, [], ◌∷◌, length, Option, Some, None, refl, sym, ap, ◌∙◌}
-use Rattle.std.proofs.lemmas.Bool.{and_parts}
+use Rattle.std.proofs.lemmas.Bool.{and_parts, not-false}
 use Rattle.std.specs.Prelude.{ℤ, pos, ◌+ℤ◌, ◌-ℤ◌, ◌&&◌, not, slice_get, if◌then◌else◌}
 use Rattle.oc_tree.specs.Names.{Text, NameLists}
 use Rattle.oc_tree.specs.Tree.{TExpr, TKind, let_to, let_array, assign, assign_index, assign_deref, if_else, for_in, while_do, call_only, sense_only, emit, fresh, consistent}
@@ -95,14 +95,10 @@ module _ (p : TProgram) where
   none_follows no_stmts e = refl
   none_follows (more s rest) e = absurd (true≢false (sym e))
 
-  not_not : (b : Bool) → not b ≡ false → b ≡ true
-  not_not true e = refl
-  not_not false e = absurd (true≢false e)
-
   ends_with : (h : Here) (k : TKind) (rest : TStmts) (later : Type 0) → returns_elsewhere p (before_stmts h rest) k ≡ false → AllFine p (kind_elements p (before_stmts h rest) k) → later →
       EndsWith k rest later
   ends_with h (return e) rest later fine all l =
-      none_follows rest (and_parts h.last (is_end rest) (and_parts (h.last && is_end rest) (is_same h.function.result (type_of p h.scope e)) (not_not _ fine)).0).1
+      none_follows rest (and_parts h.last (is_end rest) (and_parts (h.last && is_end rest) (is_same h.function.result (type_of p h.scope e)) (not-false _ fine)).0).1
   ends_with h (if_else c a b) rest later fine all l = (
     (
       block_stays (inside h) a refl (fine_front p (block_elements p (inside h) a) (else_elements p (inside h) b) all),

@@ -23,9 +23,9 @@ use Rattle.oc_checked.proofs.BodiesPass.{AllFine, fine_front, fine_back, functio
 use Rattle.oc_copies.specs.Stands.{IsRuledCall}
 use Rattle.oc_copies.proofs.StandsOn.{not_in_scope, ruled_call}
 use Rattle.oc_timely.specs.Scopes.{declared_var, var_declared, scope_of}
-use Rattle.oc_timely.proofs.Members.{of_left, of_right, in_append, by_side}
+use Rattle.oc_laws.proofs.Members.{of_left, of_right, in_append, at_place}
+use Rattle.oc_timely.proofs.Members.{by_side}
 use Rattle.oc_timely.proofs.SeesOn.{declared_name}
-use Rattle.oc_timely.proofs.NoCalls.{params_of}
 use Rattle.oc_timely.proofs.Scopes.{none_back, scope_more, scope_start}
 
 -- what the rules found at a statement
@@ -128,7 +128,7 @@ module _ (p : TProgram) (groups : List Group) (checked : IsChecked p groups) (f 
   pub passed : (b : Placed) → IsOf b (block_placed (at_start g) g.body) → IsPassed p f b
   passed b o =
       let fine = function_fine p checked.unbroken checked.form.declared f g at in
-      block_passed p f (block_placed (at_start g) g.body) found (in_function g f) (at_start g) g.body (sym (scope_start p f g.params (params_of p.functions f g at)), refl) fine.body (λ z i. i) b o
+      block_passed p f (block_placed (at_start g) g.body) found (in_function g f) (at_start g) g.body (sym (scope_start p f g.params (at_place (λ h. h.params) p.functions f g [] at)), refl) fine.body (λ z i. i) b o
 
   -- a name that is declared is none that is visible
   pub unused : (b : Placed) (x : Text) → IsOf b (block_placed (at_start g) g.body) → declared_name b.kind ≡ Some x → find_variable b.at.variables x ≡ None

@@ -12,7 +12,7 @@ use Rattle.oc_meaning.specs.Eval.{Got, Val, Traps, is_zero, apply, given, and_go
 use Rattle.oc_tree.specs.Parts.{expr_parts}
 use Rattle.oc_tree.specs.Named.{part_names, expr_names}
 use Rattle.oc_tree.specs.Members.{IsOf}
-use Rattle.oc_timely.proofs.Members.{of_left, of_right}
+use Rattle.oc_laws.proofs.Members.{of_left, of_right}
 
 in_with : (j n : ℕ) (ms : List ℕ) → IsOf j (with_sample n ms) → (j ≡ n) ⊎ IsOf j ms
 in_with j n [] h = h

@@ -20,27 +20,9 @@ use Rattle.oc_copies.specs.Stands.{Stands, IsRuledCall}
 use Rattle.oc_timely.specs.Within.{Where, place_in}
 use Rattle.oc_timely.specs.Scopes.{scope_of}
 use Rattle.oc_timely.specs.Modes.{Sees, with_place}
-use Rattle.oc_timely.proofs.Members.{of_right}
+use Rattle.oc_laws.proofs.Members.{of_right}
+use Rattle.oc_laws.proofs.Names.{find_found, find_not}
 use Rattle.oc_flow.proofs.Lists.{same_is, same_itself}
-
--- ---- names in lists of variables
-
-pub find_found : (vs ws : Variables) (y : Text) (u : VarId) → find_variable vs y ≡ Some u → find_variable (vs ++ ws) y ≡ Some u
-find_found [] ws y u e = absurd (cc)
-find_found (v ∷ vs) ws y u e = by (bytes_eq y v.0) e (find_found vs ws y u)
-  where
-    by : (b : Bool) → cond b (Some v.1) (find_variable vs y) ≡ Some u → (find_variable vs y ≡ Some u → find_variable (vs ++ ws) y ≡ Some u) → cond b (Some v.1) (find_variable (vs ++ ws) y) ≡ Some u
-    by true q r = q
-    by false q r = r q
-
-pub find_not : (vs ws : Variables) (y : Text) → find_variable vs y ≡ None → find_variable (vs ++ ws) y ≡ find_variable ws y
-find_not [] ws y e = refl
-find_not (v ∷ vs) ws y e = by (bytes_eq y v.0) e (find_not vs ws y)
-  where
-    by : (b : Bool) → cond b (Some v.1) (find_variable vs y) ≡ None → (find_variable vs y ≡ None → find_variable (vs ++ ws) y ≡ find_variable ws y) →
-        cond b (Some v.1) (find_variable (vs ++ ws) y) ≡ find_variable ws y
-    by true q r = absurd (cc)
-    by false q r = r q
 
 -- ---- what is taken from the rules and the numbers of a function's statements
 

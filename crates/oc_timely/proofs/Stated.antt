@@ -1,5 +1,5 @@
 -- Statements are found by their numbers, and a region of a function begins at one of its statements.
-use Rattle.std.proofs.Common.{◌≡◌, inl, inr, ℕ, zero, suc, ◌+◌, ◌≤◌, Bool, true, false, List, [], ◌∷◌, map, length, Some, None, cond, refl, sym, ap, ◌∙◌, subst, arith}
+use Rattle.std.proofs.Common.{◌≡◌, inl, inr, ℕ, zero, suc, ◌+◌, ◌≤◌, Bool, true, false, List, [], ◌∷◌, length, Some, None, cond, refl, sym, ap, ◌∙◌, subst, arith}
 use Rattle.std.specs.Prelude.{◌==◌, not, nat_lt, slice_get, find, flat_map, position}
 use Rattle.std.specs.List.{list_any, prefix_len}
 use Rattle.std.proofs.lemmas.Bool.{eqb-true, ne_eqb, eq-eqb}
@@ -13,7 +13,7 @@ use Rattle.oc_effects.specs.Effects.{effect_of, effects_at}
 use Rattle.oc_tree.specs.Members.{IsOf}
 use Rattle.oc_needs.proofs.Tests.{any_of}
 use Rattle.oc_desugar.proofs.NumberLists.{Follow}
-use Rattle.oc_timely.proofs.Members.{of_left, of_right}
+use Rattle.oc_laws.proofs.Members.{of_left, of_right, in_image, not_lower}
 use Rattle.oc_timely.proofs.Callees.{effects_here}
 
 -- ---- found
@@ -40,17 +40,12 @@ in_program (f ∷ fs) zero g e b o =
     of_left b (block_placed (at_start f) f.body) (flat_map (λ z. block_placed (at_start z) z.body) fs) (subst (λ (z : TFunction). IsOf b (block_placed (at_start z) z.body)) (sym (same_Some f g e)) o)
 in_program (f ∷ fs) (suc u) g e b o = of_right b (block_placed (at_start f) f.body) (flat_map (λ z. block_placed (at_start z) z.body) fs) (in_program fs u g e b o)
 
-in_map : (p : TProgram) (qs : List Placed) (b : Placed) → IsOf b qs → IsOf (effect_of p b) (map (effect_of p) qs)
-in_map p [] b o = o
-in_map p (q ∷ qs) b (inl e) = inl (ap (effect_of p) e)
-in_map p (q ∷ qs) b (inr o) = inr (in_map p qs b o)
-
 module _ (p : TProgram) (f : ℕ) (g : TFunction) (at : slice_get p.functions f ≡ Some g) where
   pub found : Follow 1 (program_statements p) → (b : Placed) → IsOf b (block_placed (at_start g) g.body) → placed p b.id ≡ Some b
   found follow b o = (found_own 1 (length (program_statements p)) (program_placed p) b (program_ids p ∙ follow) (in_program p.functions f g at b o)).1
 
   pub effect : (b : Placed) → IsOf b (block_placed (at_start g) g.body) → IsOf (effect_of p b) (effects_at p f)
-  effect b o = subst (IsOf (effect_of p b)) (sym (effects_here p f g at)) (in_map p (block_placed (at_start g) g.body) b o)
+  effect b o = subst (IsOf (effect_of p b)) (sym (effects_here p f g at)) (in_image (effect_of p) (block_placed (at_start g) g.body) b o)
 
 -- ---- regions
 
@@ -71,11 +66,6 @@ position_is t xs i e = by (nat_lt (prefix_len (λ y. not (t y)) xs) (length xs))
     by : (b : Bool) → cond b (Some (prefix_len (λ y. not (t y)) xs)) None ≡ Some i → prefix_len (λ y. not (t y)) xs ≡ i
     by true e = same_Some (prefix_len (λ y. not (t y)) xs) i e
     by false e = absurd (none-some i e)
-
-not_lower : (k n y : ℕ) → IsOf y (numbers_on k n) → k ≤ y
-not_lower k zero y o = absurd o
-not_lower k (suc n) y (inl e) = omega (arith, e)
-not_lower k (suc n) y (inr o) = let l = not_lower (suc k) n y o in omega (arith, l)
 
 -- it is no earlier than the function's first statement
 pub region_begins : (p : TProgram) (policies f first : ℕ) (g : TFunction) → slice_get p.functions f ≡ Some g → Follow first (block_statements g.body) → (r : TRegion) → IsRegion p policies r →

@@ -12,7 +12,7 @@ use Rattle.oc_effects.specs.declared.effect.Note.TheVariants as notes
 use Rattle.oc_tree.specs.Samples.{union}
 use Rattle.oc_tree.specs.Named.{own_names}
 use Rattle.oc_meaning.specs.Uses.{is_fresh, samples_of_fresh, is_use, use_samples}
-use Rattle.oc_meaning.specs.Store.{Value, Held, Place, Local, Global, Turn, Nowhere, Store, Binding, held_at, place_of, put}
+use Rattle.oc_meaning.specs.Store.{Value, Place, Store, Binding, held_at, place_of}
 use Rattle.oc_meaning.specs.Eval.{Got, Val, Traps, value_of}
 use Rattle.oc_meaning.specs.Exec.{Outcome, Went, Returned, Stopped, Passed, with_value, with_result, sense, number_in, element_written, used, done, closed, opened, told_if}
 use Rattle.oc_meaning.specs.Exec.{ended_by, right_run, kind_run}
@@ -25,6 +25,7 @@ use Rattle.oc_timely.specs.Steps.{AreTaken}
 use Rattle.oc_timely.specs.Modes.{AllFine, FineOut, Sees, IsTakenHere, CallFine}
 use Rattle.oc_timely.proofs.Sampled.{in_union}
 use Rattle.oc_timely.proofs.Sources.{named_among}
+use Rattle.oc_timely.proofs.Calls.{fine_put}
 
 -- a statement without blocks
 abbrev pub IsStraight : TKind → Type 0
@@ -43,12 +44,6 @@ pub fine_result : (o : Outcome) (go : Value → Store → Outcome) → FineOut o
 fine_result (Went τ) go a k = k _ τ a
 fine_result (Returned v τ) go a k = k v τ a
 fine_result (Stopped s τ) go a k = a
-
-fine_put : (σ : Store) (q : Place) (x : Held) → AllFine σ.events → AllFine (put σ q x).events
-fine_put σ (Local l) x a = a
-fine_put σ (Global l) x a = a
-fine_put σ (Turn l) x a = a
-fine_put σ Nowhere x a = a
 
 fine_sense : (s : ℕ) (left : List ℤ) (σ : Store) → AreTaken σ → AllFine σ.events → FineOut (sense s left σ)
 fine_sense s [] σ t a = a

@@ -32,7 +32,7 @@ use Rattle.oc_timely.proofs.Marks.{like_samples, IsQuiet, quiet_taken, sees_leng
 use Rattle.oc_timely.proofs.Straight.{IsStraight}
 use Rattle.oc_timely.proofs.Writes.{steady_put, steady_made, put_later, made_later}
 use Rattle.oc_timely.proofs.SeesOn.{AreNamed}
-use Rattle.oc_timely.proofs.Members.{of_left, of_right}
+use Rattle.oc_laws.proofs.Members.{of_left, of_right}
 
 -- ---- outcomes
 

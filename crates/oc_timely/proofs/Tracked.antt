@@ -28,7 +28,7 @@ use Rattle.oc_timely.proofs.Came.{flow_on}
 use Rattle.oc_timely.proofs.Marks.{like_samples, sees_length, like_sees, sees_later, like_stored, IsQuiet, quiet_used, quiet_done, quiet_taken, sees_spot, quiet_entered}
 use Rattle.oc_timely.proofs.Marks.{like_opened, like_closed, begun_is, ended_is}
 use Rattle.oc_timely.proofs.Inside.{turn_samples, samples_turn, count_open}
-use Rattle.oc_timely.proofs.Members.{of_left, of_right}
+use Rattle.oc_laws.proofs.Members.{of_left, of_right}
 use Rattle.oc_timely.proofs.Closed.{IsClosed, KOut, k_opened, k_closed, k_used, k_done, k_put, k_then, k_finished, k_leave, k_result, k_value, k_if, k_sense, k_element}
 
 -- ---- marks counted

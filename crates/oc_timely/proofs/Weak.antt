@@ -13,7 +13,7 @@ use Rattle.oc_timely.specs.Enough.{taken_in, open_after, is_open, since_after, s
 use Rattle.oc_timely.specs.Modes.{AllFine}
 use Rattle.oc_timely.specs.Sets.{AreNoMarks, IsUnparted, AreUnparted}
 use Rattle.oc_timely.proofs.Gathers.{count_more, fine_part, tag_since}
-use Rattle.oc_timely.proofs.Members.{in_append}
+use Rattle.oc_laws.proofs.Members.{in_append}
 use Rattle.oc_timely.proofs.Closed.{tag_number}
 use Rattle.oc_timely.proofs.Tagged.{IsOne}
 

@@ -1,0 +1,4 @@
+pub mod Bools
+pub mod Maps
+pub mod Members
+pub mod Names

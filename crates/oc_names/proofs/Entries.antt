@@ -1,12 +1,12 @@
 -- A table whose keys are borrowed names, as the list that contracts see.
-use Rattle.std.proofs.Common.{◌≡◌, ◌<◌, ◌+◌, ℕ, zero, suc, Bool, true, false, cond, List, [], ◌∷◌, ◌++◌, Option, Some, None, IfSome, map, take, refl, ap, sym, ◌∙◌, Bor, length, rules, arith}
+use Rattle.std.proofs.Common.{◌≡◌, ◌<◌, ◌+◌, ℕ, zero, suc, Bool, true, false, cond, List, [], ◌∷◌, ◌++◌, Option, Some, None, IfSome, map, take, refl, ap, sym, ◌∙◌, Bor, length, arith}
 use Rattle.std.specs.Str.{bytes_eq}
 use Rattle.std.specs.Map.{lookup}
+use Rattle.std.specs.Option.{option_or}
 use Rattle.indexmap.specs.IndexMap.{insert_entry}
-use Rattle.std.proofs.lemmas.Slice.Eq.{bytes_eq-Decides}
 use Rattle.oc_tree.specs.Names.{Text, named_in}
 use Rattle.oc_tree.specs.Calls.{place_from}
-use Rattle.oc_names.specs.Entries.{Entries, number_in, or_else}
+use Rattle.oc_names.specs.Entries.{Entries, number_in}
 
 -- the names and what stands beside them
 abbrev pub seen : {A : Type 0} → List (Bor Text × A) → List (Text × A)
@@ -32,36 +32,23 @@ take-seen zero es = refl
 take-seen (suc n) [] = refl
 take-seen (suc n) (e ∷ es) = ap (λ r. (e.0.now, e.1) ∷ r) (take-seen n es)
 
-pub found_push : (m : Entries) (n x : Text) (i : ℕ) → number_in (m ++ (n, i) ∷ []) x ≡ or_else (number_in m x) (cond (bytes_eq x n) (Some i) None)
+pub found_push : (m : Entries) (n x : Text) (i : ℕ) → number_in (m ++ (n, i) ∷ []) x ≡ option_or (number_in m x) (cond (bytes_eq x n) (Some i) None)
 found_push [] n x i = refl
 found_push (e ∷ m) n x i = by (bytes_eq x e.0) (found_push m n x i)
   where
-    by : (b : Bool) → number_in (m ++ (n, i) ∷ []) x ≡ or_else (number_in m x) (cond (bytes_eq x n) (Some i) None) → cond b (Some e.1) (number_in (m ++ (n, i) ∷ []) x)
-        ≡ or_else (cond b (Some e.1) (number_in m x)) (cond (bytes_eq x n) (Some i) None)
+    by : (b : Bool) → number_in (m ++ (n, i) ∷ []) x ≡ option_or (number_in m x) (cond (bytes_eq x n) (Some i) None) → cond b (Some e.1) (number_in (m ++ (n, i) ∷ []) x)
+        ≡ option_or (cond b (Some e.1) (number_in m x)) (cond (bytes_eq x n) (Some i) None)
     by true h = refl
     by false h = h
 
-or_else_assoc : (a : Option ℕ) (b : Bool) (i : ℕ) (r : Option ℕ) → or_else (or_else a (cond b (Some i) None)) r ≡ or_else a (cond b (Some i) r)
-or_else_assoc (Some a) b i r = refl
-or_else_assoc None true i r = refl
-or_else_assoc None false i r = refl
+option_or_assoc : (a : Option ℕ) (b : Bool) (i : ℕ) (r : Option ℕ) → option_or (option_or a (cond b (Some i) None)) r ≡ option_or a (cond b (Some i) r)
+option_or_assoc (Some a) b i r = refl
+option_or_assoc None true i r = refl
+option_or_assoc None false i r = refl
 
 -- a name that is new is added
-pub table_new : (m new : Entries) (n x : Text) (i : ℕ) (rest : Option ℕ) → new ≡ m ++ (n, i) ∷ [] → or_else (number_in new x) rest ≡ or_else (number_in m x) (cond (bytes_eq x n) (Some i) rest)
-table_new m new n x i rest e = ap (λ l. or_else (number_in l x) rest) e ∙ ap (λ o. or_else o rest) (found_push m n x i) ∙ or_else_assoc (number_in m x) (bytes_eq x n) i rest
-
-bytes_eq_true : (xs ys : Text) → bytes_eq xs ys ≡ true → xs ≡ ys
-bytes_eq_true xs ys h = search (rules, bytes_eq-Decides xs ys)
-
--- a name that is there keeps its number
-pub table_old : (m : Entries) (n x : Text) (i j : ℕ) (rest : Option ℕ) → number_in m n ≡ Some j → or_else (number_in m x) rest ≡ or_else (number_in m x) (cond (bytes_eq x n) (Some i) rest)
-table_old m n x i j rest h = by (bytes_eq x n) refl
-  where
-    by : (b : Bool) → bytes_eq x n ≡ b → or_else (number_in m x) rest ≡ or_else (number_in m x) (cond b (Some i) rest)
-    by true q =
-        let e : number_in m x ≡ Some j = ap (number_in m) (bytes_eq_true x n q) ∙ h in
-        ap (λ o. or_else o rest) e ∙ sym (ap (λ o. or_else o (Some i)) e)
-    by false q = refl
+pub table_new : (m new : Entries) (n x : Text) (i : ℕ) (rest : Option ℕ) → new ≡ m ++ (n, i) ∷ [] → option_or (number_in new x) rest ≡ option_or (number_in m x) (cond (bytes_eq x n) (Some i) rest)
+table_new m new n x i rest e = ap (λ l. option_or (number_in l x) rest) e ∙ ap (λ o. option_or o rest) (found_push m n x i) ∙ option_or_assoc (number_in m x) (bytes_eq x n) i rest
 
 -- a place lies in the list
 pub place_below : (n : ℕ) (xs : List Text) (x : Text) (i : ℕ) → place_from n xs x ≡ Some i → i < n + length xs

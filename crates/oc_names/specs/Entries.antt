@@ -1,5 +1,5 @@
 -- Names with numbers.
-use Rattle.std.specs.Prelude.{ℕ, List, Option, Some, None}
+use Rattle.std.specs.Prelude.{ℕ, List, Option}
 use Rattle.oc_tree.specs.Names.{Text, named_in}
 
 -- names, each with a number
@@ -9,8 +9,3 @@ Entries = List (Text × ℕ)
 -- the number of the first entry of this name
 abbrev pub number_in : Entries → Text → Option ℕ
 number_in es x = named_in es x
-
--- the first number, or else the second
-abbrev pub or_else : Option ℕ → Option ℕ → Option ℕ
-or_else None b = b
-or_else (Some a) b = Some a

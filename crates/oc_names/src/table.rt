@@ -1,12 +1,13 @@
 //! Names by their places in a list.
 ghost use Rattle.std.specs.Prelude.{◌≡◌, ◌<◌, ◌++◌, List, ℕ, [], ◌∷◌, codes, map, length, Option, None, Some, cond, OnOk, IfOk, IfSome};
+ghost use Rattle.std.specs.Option.{option_or};
 ghost use Rattle.std.specs.Str.{bytes_eq};
 ghost use Rattle.oc_tree.specs.Names.{Text, names_seen};
 ghost use Rattle.oc_tree.specs.View.{function_view};
 ghost use Rattle.oc_tree.specs.declared.tree.Param.{Param};
 ghost use Rattle.oc_tree.specs.Calls.{place, function_names, function_place};
 ghost use Rattle.oc_tree.specs.Weight.{result_at};
-ghost use Rattle.oc_names.specs.Entries.{Entries, number_in, or_else};
+ghost use Rattle.oc_names.specs.Entries.{Entries, number_in};
 
 use indexmap::IndexMap;
 use oc_tree::name::Name;
@@ -59,8 +60,8 @@ impl<'a> Numbers<'a> {
     /// Adds a name, unless it is there.
     fn add_first(&mut self, name: &'a Name, number: usize) -> Result<(), AllocError>
         ensures { OnOk result ((x : List ℕ) (rest : Option ℕ)
-            → or_else (number_in self.new x) rest
-            ≡ or_else (number_in self.old x) (cond (bytes_eq x name.now) (Some number) rest)) }
+            → option_or (number_in self.new x) rest
+            ≡ option_or (number_in self.old x) (cond (bytes_eq x name.now) (Some number) rest)) }
     {
         match self.get(name) {
             Some(_) => Ok(()),

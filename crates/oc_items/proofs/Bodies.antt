@@ -1,15 +1,15 @@
 -- An item is read from the parts of its line.
 use Rattle.std.proofs.Common.{ℕ, zero, suc, ℤ, ◌<◌, ◌≤◌, ◌≡◌, ◌^◌, ◌==◌, ◌&&◌, ◌||◌, not, Bool, true, false, List, [], ◌∷◌, ◌++◌, codes, decimal, refl, sym, ap, subst, ◌∙◌, append_assoc, arith}
 use Rattle.std.proofs.lemmas.Bool.{and_parts}
-use Rattle.std.proofs.lemmas.List.{append_cancel_left, append_cancel_right}
+use Rattle.std.proofs.lemmas.List.{append_cancel_right}
 use Rattle.std.specs.Fmt.{signed_decimal}
 use Rattle.oc_tree.specs.Names.{NameLists, Text, name_at}
 use Rattle.oc_tree.specs.declared.said.TrapKind.TheVariants as trap
 use Rattle.oc_items.specs.declared.item.Item.{Item}
 use Rattle.oc_items.specs.declared.item.Item.TheVariants as item
 use Rattle.oc_items.specs.Text.{tick_of, item_line}
-use Rattle.oc_items.specs.OneText.{is_field, IsItem}
-use Rattle.oc_items.specs.Reading.{place_of, HasLine, LineTells, body_of, has_no_space, StandsBehind, IsValue, NoneBefore, NamedIn, HasBody, TellsBody, NoSense, NoEmit, NoStatement, NoMark, NoStop}
+use Rattle.oc_items.specs.OneText.{is_field}
+use Rattle.oc_items.specs.Reading.{place_of, HasLine, LineTells, body_of, has_no_space, IsValue, NoneBefore, HasBody, TellsBody, NoSense, NoEmit, NoStatement, NoMark, NoStop}
 use Rattle.oc_items.proofs.Fields.{decimal_field}
 
 -- ---- lines and bodies
@@ -117,65 +117,6 @@ first_named names rest place n k value v = le_by_not place k (λ l. n.none k val
 
 unlike : (a b : ℕ) (x y : List ℕ) → (a ≡ b → ⊥) → a ∷ x ≡ b ∷ y → ⊥
 unlike a b x y n e = n (head_is a b x y e)
-
-first_sense : (names : NameLists) (tick place : ℕ) (bytes rest : List ℕ) → codes "sense " ++ rest ≡ bytes → NoneBefore names.sensors rest place → (j : Item)
-    → HasBody names tick bytes j → place ≤ place_of j
-first_sense names tick place bytes rest e n (item.Sense t k v) h =
-    first_named names.sensors rest place n k v
-    (record { fits = h.is.fits; spelled = append_cancel_left (codes "sense ") (name_at names.sensors k ++ (codes " " ++ signed_decimal v)) rest (h.body ∙ sym e) })
-first_sense names tick place bytes rest e n (item.Emit t k v) h = absurd (unlike 101 115 _ _ (λ d. omega (arith, d)) (h.body ∙ sym e))
-first_sense names tick place bytes rest e n (item.Use t k) h = absurd (unlike 117 115 _ _ (λ d. omega (arith, d)) (h.body ∙ sym e))
-first_sense names tick place bytes rest e n (item.Done t k) h = absurd (unlike 100 115 _ _ (λ d. omega (arith, d)) (h.body ∙ sym e))
-first_sense names tick place bytes rest e n (item.Tag t k) h = absurd (unlike 116 115 _ _ (λ d. omega (arith, d)) (h.body ∙ sym e))
-first_sense names tick place bytes rest e n (item.Enter t k) h = absurd (unlike 101 115 _ _ (λ d. omega (arith, d)) (h.body ∙ sym e))
-first_sense names tick place bytes rest e n (item.Commit t k) h = absurd (unlike 99 115 _ _ (λ d. omega (arith, d)) (h.body ∙ sym e))
-first_sense names tick place bytes rest e n (item.Abort t k) h = absurd (unlike 97 115 _ _ (λ d. omega (arith, d)) (h.body ∙ sym e))
-first_sense names tick place bytes rest e n (item.Off t k) h = absurd (unlike 111 115 _ _ (λ d. omega (arith, d)) (h.body ∙ sym e))
-first_sense names tick place bytes rest e n (item.Trap t kind k) h = absurd (unlike 116 115 _ _ (λ d. omega (arith, d)) (h.body ∙ sym e))
-first_sense names tick place bytes rest e n (item.End t) h = absurd (unlike 101 115 _ _ (λ d. omega (arith, d)) (h.body ∙ sym e))
-first_sense names tick place bytes rest e n (item.Dark t) h = absurd (unlike 100 115 _ _ (λ d. omega (arith, d)) (h.body ∙ sym e))
-
--- behind an `e`
-unlike_second : (a b c : ℕ) (x y : List ℕ) → (a ≡ b → ⊥) → c ∷ a ∷ x ≡ c ∷ b ∷ y → ⊥
-unlike_second a b c x y n e = unlike a b x y n (tail_is c c (a ∷ x) (b ∷ y) e)
-
-first_emit : (names : NameLists) (tick place : ℕ) (bytes rest : List ℕ) → codes "emit " ++ rest ≡ bytes → NoneBefore names.ports rest place → (j : Item)
-    → HasBody names tick bytes j → place ≤ place_of j
-first_emit names tick place bytes rest e n (item.Emit t k v) h =
-    first_named names.ports rest place n k v (record {
-      fits = h.is.fits;
-      spelled =
-          append_cancel_left (codes "emit ") (name_at names.ports k ++ (codes " " ++ signed_decimal v)) rest (h.body ∙ sym e);
-    })
-first_emit names tick place bytes rest e n (item.Sense t k v) h = absurd (unlike 115 101 _ _ (λ d. omega (arith, d)) (h.body ∙ sym e))
-first_emit names tick place bytes rest e n (item.Use t k) h = absurd (unlike 117 101 _ _ (λ d. omega (arith, d)) (h.body ∙ sym e))
-first_emit names tick place bytes rest e n (item.Done t k) h = absurd (unlike 100 101 _ _ (λ d. omega (arith, d)) (h.body ∙ sym e))
-first_emit names tick place bytes rest e n (item.Tag t k) h = absurd (unlike 116 101 _ _ (λ d. omega (arith, d)) (h.body ∙ sym e))
-first_emit names tick place bytes rest e n (item.Enter t k) h = absurd (unlike_second 110 109 101 _ _ (λ d. omega (arith, d)) (h.body ∙ sym e))
-first_emit names tick place bytes rest e n (item.Commit t k) h = absurd (unlike 99 101 _ _ (λ d. omega (arith, d)) (h.body ∙ sym e))
-first_emit names tick place bytes rest e n (item.Abort t k) h = absurd (unlike 97 101 _ _ (λ d. omega (arith, d)) (h.body ∙ sym e))
-first_emit names tick place bytes rest e n (item.Off t k) h = absurd (unlike 111 101 _ _ (λ d. omega (arith, d)) (h.body ∙ sym e))
-first_emit names tick place bytes rest e n (item.Trap t kind k) h = absurd (unlike 116 101 _ _ (λ d. omega (arith, d)) (h.body ∙ sym e))
-first_emit names tick place bytes rest e n (item.End t) h = absurd (unlike_second 110 109 101 _ _ (λ d. omega (arith, d)) (h.body ∙ sym e))
-first_emit names tick place bytes rest e n (item.Dark t) h = absurd (unlike 100 101 _ _ (λ d. omega (arith, d)) (h.body ∙ sym e))
-
-pub tells_sense : (names : NameLists) (tick place : ℕ) (value : ℤ) (bytes rest : List ℕ) → tick < 2 ^ 64 → StandsBehind (codes "sense ") bytes rest
-    → NamedIn names.sensors rest place value → TellsBody names tick bytes (item.Sense tick place value)
-tells_sense names tick place value bytes rest l e n = record {
-  has = record { is = record { tick = l; named = n.there; fits = n.is_value.fits }; tick_is = refl; body = ap (λ (r : List ℕ). codes "sense " ++ r) n.is_value.spelled ∙ e };
-  first = first_sense names tick place bytes rest e n.first;
-}
-
-pub tells_emit : (names : NameLists) (tick place : ℕ) (value : ℤ) (bytes rest : List ℕ) → tick < 2 ^ 64 → StandsBehind (codes "emit ") bytes rest
-    → NamedIn names.ports rest place value → TellsBody names tick bytes (item.Emit tick place value)
-tells_emit names tick place value bytes rest l e n = record {
-  has = record { is = record { tick = l; named = n.there; fits = n.is_value.fits }; tick_is = refl; body = ap (λ (r : List ℕ). codes "emit " ++ r) n.is_value.spelled ∙ e };
-  first = first_emit names tick place bytes rest e n.first;
-}
-
--- what names no sensor and no port is the first of its name
-pub tells_other : (names : NameLists) (tick : ℕ) (bytes : List ℕ) (i : Item) → place_of i ≡ 0 → IsItem names i → tick_of i ≡ tick → body_of names i ≡ bytes → TellsBody names tick bytes i
-tells_other names tick bytes i z is t b = record { has = record { is = is; tick_is = t; body = b }; first = λ j h. omega (arith, z) }
 
 pub tells_line : (names : NameLists) (line digits body : List ℕ) (tick : ℕ) (i : Item) → tick < 2 ^ 64 → digits ++ (codes " " ++ body) ≡ line → has_no_space digits ≡ true
     → decimal tick ≡ digits → TellsBody names tick body i → ((n : ℕ) → n < 2 ^ 64 → decimal n ≡ digits → n ≡ tick) → LineTells names line i

@@ -1,13 +1,13 @@
 -- Numbers by their digits.
-use Rattle.std.proofs.Common.{rules, ℕ, zero, suc, ◌+◌, ◌-◌, ◌*◌, ◌<◌, ◌≤◌, ◌^◌, ◌≡◌, ◌==◌, Bool, true, false, List, [], ◌∷◌, ◌++◌, length, drop, get_or, decimal, Option, Some, None, IfSome, refl, sym, ap, subst, ◌∙◌, arith}
-use Rattle.std.specs.Prelude.{◌&&◌, not}
+use Rattle.std.proofs.Common.{rules, ℕ, zero, suc, ◌+◌, ◌-◌, ◌*◌, ◌<◌, ◌≤◌, ◌^◌, ◌≡◌, true, false, List, [], ◌∷◌, length, drop, get_or, decimal, Option, Some, None, IfSome, refl, sym, ap, subst, ◌∙◌, arith}
+use Rattle.std.specs.Prelude.{◌&&◌}
 use Rattle.std.specs.Str.{all_ascii_digits}
 use Rattle.std.specs.Char.{is_ascii_digit}
 use Rattle.std.proofs.lemmas.Bool.{eqb-true, eq-eqb}
-use Rattle.std.proofs.lemmas.List.{at_drop_more, at_drop_all}
+use Rattle.std.proofs.lemmas.List.{at_drop_more}
 use Rattle.std.proofs.lemmas.Fmt.{decimal_digit, decimal_nonempty, first_decimal, digits_decimal, digits_value-decimal, decimal-digits_value}
 use Rattle.std.proofs.lemmas.Str.Parse.{IsNumeralModel, numerals_by_fold}
-use Rattle.oc_items.specs.Reading.{spelled_from, zero_leads, differ_first}
+use Rattle.oc_items.specs.Reading.{spelled_from, zero_leads}
 
 own : IsNumeralModel (λ ds. all_ascii_digits ds ≡ true) (spelled_from 0)
 own = numerals_by_fold _ (search rules) spelled_from (search rules)
@@ -24,29 +24,14 @@ all_more ds i h = at_drop_more all_ascii_digits ds i 0 h
 spelled_more : (n : ℕ) (ds : List ℕ) (i : ℕ) → i < length ds → spelled_from n (drop i ds) ≡ spelled_from (10 * n + (get_or ds i 0 - 48)) (drop (i + 1) ds)
 spelled_more n ds i h = at_drop_more (spelled_from n) ds i 0 h
 
-pub on_digit : (ds : List ℕ) (i b : ℕ) → i < length ds → b ≡ get_or ds i 0 → is_ascii_digit b ≡ true → all_ascii_digits (drop i ds) ≡ all_ascii_digits ds
-    → all_ascii_digits (drop (i + 1) ds) ≡ all_ascii_digits ds
-on_digit ds i b h e d all = ap (λ t. t && all_ascii_digits (drop (i + 1) ds)) (sym (ap is_ascii_digit (sym e) ∙ d)) ∙ sym (all_more ds i h) ∙ all
-
 pub no_digit : (ds : List ℕ) (i b : ℕ) → i < length ds → b ≡ get_or ds i 0 → is_ascii_digit b ≡ false → all_ascii_digits (drop i ds) ≡ all_ascii_digits ds → all_ascii_digits ds ≡ false
 no_digit ds i b h e d all = sym all ∙ all_more ds i h ∙ ap (λ t. t && all_ascii_digits (drop (i + 1) ds)) (ap is_ascii_digit (sym e) ∙ d)
-
-pub spelled_on : (n m : ℕ) (ds : List ℕ) (i b : ℕ) → i < length ds → b ≡ get_or ds i 0 → m ≡ 10 * n + (b - 48) → spelled_from n (drop i ds) ≡ spelled_from 0 ds
-    → spelled_from m (drop (i + 1) ds) ≡ spelled_from 0 ds
-spelled_on n m ds i b h e q all =
-    ap (λ k. spelled_from k (drop (i + 1) ds)) (q ∙ ap (λ c. 10 * n + (c - 48)) e) ∙ sym (spelled_more n ds i h) ∙ all
 
 pub spelled_past : (n : ℕ) (ds : List ℕ) (i b : ℕ) → i < length ds → b ≡ get_or ds i 0 → 2 ^ 64 ≤ 10 * n + (b - 48) → spelled_from n (drop i ds) ≡ spelled_from 0 ds → 2 ^ 64 ≤ spelled_from 0 ds
 spelled_past n ds i b h e l all =
     let g = spelled_grows (10 * n + (get_or ds i 0 - 48)) (drop (i + 1) ds) in
     let m = spelled_more n ds i h in
     subst (λ k. 2 ^ 64 ≤ k) (sym m ∙ all) (omega (arith, g, l, e))
-
-pub spelled_end : (n : ℕ) (ds : List ℕ) (i : ℕ) → length ds ≤ i → spelled_from n (drop i ds) ≡ spelled_from 0 ds → n ≡ spelled_from 0 ds
-spelled_end n ds i h all = sym (at_drop_all (spelled_from n) ds i h) ∙ all
-
-pub digits_end : (ds : List ℕ) (i : ℕ) → length ds ≤ i → all_ascii_digits (drop i ds) ≡ all_ascii_digits ds → all_ascii_digits ds ≡ true
-digits_end ds i h all = sym all ∙ at_drop_all all_ascii_digits ds i h
 
 -- ---- a whole number
 
@@ -84,11 +69,3 @@ others_told ds f n h e =
     omega (arith, l, v, h)
 
 -- ---- the first byte
-
-pub none_behind_other : (key bytes : List ℕ) → differ_first key bytes ≡ true → (rest : List ℕ) → key ++ rest ≡ bytes → ⊥
-none_behind_other [] bytes h rest e = let t : false ≡ true = h in cc t
-none_behind_other (a ∷ xs) [] h rest e = let t : false ≡ true = h in cc t
-none_behind_other (a ∷ xs) (b ∷ bs) h rest e =
-    let q : a ≡ b = cc in
-    let t : true ≡ false = sym h ∙ ap not (eq-eqb a b q) in
-    cc t

@@ -12,3 +12,4 @@ pub mod Digits
 pub mod Stripped
 pub mod Numerals
 pub mod Joined
+pub mod Parting

@@ -1,11 +1,10 @@
 -- The line of a nonvolatile variable, put word by word.
-use Rattle.std.proofs.Common.{ℕ, ℤ, ◌≡◌, ◌+◌, ◌<◌, List, [], ◌∷◌, ◌++◌, map, codes, refl, ap, length, take, drop, get_or}
-use Rattle.oc_tree.specs.Names.{Text}
+use Rattle.std.proofs.Common.{ℕ, ℤ, ◌≡◌, ◌+◌, List, [], ◌∷◌, ◌++◌, map, codes, refl, ap}
 use Rattle.std.specs.Fmt.{signed_decimal}
-use Rattle.std.proofs.lemmas.List.{append-nil, drop_more}
+use Rattle.std.proofs.lemmas.List.{append-nil}
 use Rattle.oc_io.specs.Lines.{further}
 use Rattle.oc_io.proofs.Going.{Going}
-use Rattle.oc_items.specs.Text.{words_line, words_lines, word_field}
+use Rattle.oc_items.specs.Text.{words_line, word_field}
 
 -- the line's first piece, and the fields of these words
 abbrev pub head_of : List ℕ → List ℕ
@@ -20,10 +19,3 @@ words_fields-cons word words = refl
 pub at_head : {S : Type 0} (took : S → List ℕ → S → Type 0) (none : (s : S) → took s [] s) (a : S) (name : List ℕ) (words : List ℤ)
     → Going took a a (head_of name ++ words_fields words) (words_line name words)
 at_head took none a name words = record { done = []; taken = none a; joins = ap (λ (s : List ℕ). codes "nv " ++ (s ++ words_fields words)) (append-nil name) }
-
--- the lines from a variable on are its own and those after it
-pub words_lines-next : (names : List Text) (sizes : List ℕ) (words : List ℤ) (k : ℕ) → k < length names → k < length sizes
-    → words_lines (drop k names) (drop k sizes) words
-    ≡ words_line (get_or names k []) (take (get_or sizes k 0) words) ++ words_lines (drop (k + 1) names) (drop (k + 1) sizes) (drop (get_or sizes k 0) words)
-words_lines-next names sizes words k n s =
-    rw (drop_more names k [] n, drop_more sizes k 0 s) refl

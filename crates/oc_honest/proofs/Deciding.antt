@@ -1,16 +1,17 @@
 -- What passes the tests is timely.
-use Rattle.std.proofs.Common.{◌≡◌, ℕ, inl, inr, Bool, true, false, true≢false, List, [], ◌∷◌, Some, refl, sym, ap, ◌∙◌, subst, ◌==◌, cond, arith}
-use Rattle.std.specs.Prelude.{ℤ, ◌||◌}
-use Rattle.std.specs.List.{list_all, list_any}
+use Rattle.std.proofs.Common.{◌≡◌, ℕ, inl, inr, Bool, true, false, true≢false, List, [], ◌∷◌, Some, refl, sym, ap, ◌∙◌, subst, ◌==◌, cond}
+use Rattle.std.specs.Prelude.{ℤ}
+use Rattle.std.specs.List.{list_all}
 use Rattle.std.specs.Cmp.Derive.{both_true}
-use Rattle.std.specs.Ordering.{int_eq}
-use Rattle.std.proofs.lemmas.Bool.{eqb-true, and_parts}
+use Rattle.std.proofs.lemmas.Bool.{eqb-true, and_parts, eq-eqb}
+use Rattle.std.proofs.lemmas.Bool.Decides.{Decides-int_eq}
 use Rattle.oc_tree.specs.Tree.{TProgram}
 use Rattle.oc_tree.specs.Members.{IsOf}
 use Rattle.oc_tree.specs.declared.said.Said.{Said}
 use Rattle.oc_tree.specs.declared.said.Said.TheVariants.{Sensed, Showed, Entered, Committed, Aborted, Off, Dark, Ended}
 use Rattle.oc_tree.specs.declared.said.Shown.TheVariants.{Emitted, Used, Finished, Tagged}
 use Rattle.oc_meaning.specs.Store.{Event}
+use Rattle.oc_laws.proofs.Members.{of_any}
 use Rattle.oc_honest.specs.Timely.{IsInput, IsUse, AreTogether, set_of}
 use Rattle.oc_honest.specs.Deciding.{input_of, uses, tag_of, holds, feeds, same_set, tags_one_set, together, use_is_fresh, inputs_meet, TestsTell}
 
@@ -19,20 +20,8 @@ each f [] x h o = elim o [ ]
 each f (y ∷ ys) x h (inl e) = ap f e ∙ (and_parts (f y) (list_all f ys) h).0
 each f (y ∷ ys) x h (inr o) = each f ys x (and_parts (f y) (list_all f ys) h).1 o
 
-same : (n : ℕ) → (n == n) ≡ true
-same n = grind arith
-
-either_true : (a b : Bool) → b ≡ true → (a || b) ≡ true
-either_true true b h = refl
-either_true false b h = h
-
-any_of : (j : ℕ) (js : List ℕ) → IsOf j js → list_any (λ k. k == j) js ≡ true
-any_of j [] o = elim o [ ]
-any_of j (k ∷ ks) (inl e) = ap (λ b. b || list_any (λ i. i == j) ks) (subst (λ i. (i == j) ≡ true) e (same j))
-any_of j (k ∷ ks) (inr o) = either_true (k == j) _ (any_of j ks o)
-
 fed : (j : ℕ) (a u : Event) → IsInput j a → IsOf j u.samples → feeds a u ≡ true
-fed j a u i o = subst (λ (s : Said). holds (input_of s a.samples) u.samples ≡ true) (sym i.2) (subst (λ js. holds (input_of (Sensed i.0 i.1) js) u.samples ≡ true) (sym i.3) (any_of j u.samples o))
+fed j a u i o = subst (λ (s : Said). holds (input_of s a.samples) u.samples ≡ true) (sym i.2) (subst (λ js. holds (input_of (Sensed i.0 i.1) js) u.samples ≡ true) (sym i.3) (of_any (λ k. k == j) j u.samples o (eq-eqb j j refl)))
 
 used : (s : Said) → IsUse s → uses s ≡ true
 used (Showed (Used n)) h = refl
@@ -52,11 +41,8 @@ equal_where : (b : Bool) (m n : ℕ) → b ≡ true → cond b (m == n) true ≡
 equal_where true m n h e = eqb-true m n e
 equal_where false m n h e = absurd (true≢false (sym h))
 
-same_number : (k : ℤ) → int_eq k k ≡ true
-same_number k = grind arith
-
 one_set : (s : ℕ × ℤ) → same_set (Some s) (Some s) ≡ true
-one_set s = both_true (same s.0) (same_number s.1)
+one_set s = both_true (eq-eqb s.0 s.0 refl) ((Decides-int_eq s.1 s.1).1 refl)
 
 stand_together : (p : TProgram) (t u : Event) → AreTogether p t u → together p t u ≡ true
 stand_together p t u h =
@@ -64,7 +50,7 @@ stand_together p t u h =
     subst (λ s. same_set s (set_of p h.other) ≡ true) (sym h.first_set) (subst (λ s. same_set (Some h.set) s ≡ true) (sym h.second_set) (one_set h.set)) in
     let tags : tags_one_set p (tag_of t.said) (tag_of u.said) ≡ true =
     subst (λ (s : Said). tags_one_set p (tag_of s) (tag_of u.said) ≡ true) (sym h.first) (subst (λ (s : Said). tags_one_set p (Some h.one) (tag_of s) ≡ true) (sym h.second) sets) in
-    both_true tags (subst (λ i. (t.instance == i) ≡ true) h.instance (same t.instance))
+    both_true tags (subst (λ i. (t.instance == i) ≡ true) h.instance (eq-eqb t.instance t.instance refl))
 
 pub tests_tell : TestsTell
 tests_tell p all h = record {

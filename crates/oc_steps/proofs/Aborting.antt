@@ -6,12 +6,13 @@ use Rattle.oc_tree.specs.Marked.{TRegion}
 use Rattle.oc_tree.specs.Said.{Told}
 use Rattle.oc_tree.specs.declared.said.Ending.{Ending}
 use Rattle.oc_tree.specs.declared.said.Said.{Said}
-use Rattle.oc_tree.specs.declared.said.Said.TheVariants.{Sensed, Showed, Entered, Committed, Aborted, Off, Dark, Ended}
+use Rattle.oc_tree.specs.declared.said.Said.TheVariants.{Entered, Committed, Aborted, Ended}
 use Rattle.oc_meaning.specs.Run.{marked_run, source_run, said_in}
 use Rattle.oc_items.specs.Erase.{erase, marked, kept_samples, without_offs, HasNoOffInside}
 use Rattle.oc_steps.specs.Erasing.{item, newer, last_mark, AreUnmarked, IsUnmarked}
 use Rattle.oc_items.specs.Reports.{IsPrefixOf}
 use Rattle.oc_items.specs.Reports.{EndsWith}
+use Rattle.oc_items.proofs.Parting.{without_offs-append}
 use Rattle.oc_honest.specs.Honest.{IsHonestSoFar}
 use Rattle.oc_tree.specs.Members.{IsOf}
 use Rattle.oc_honest.specs.Timely.{AreTimely, lived_from}
@@ -20,7 +21,7 @@ use Rattle.oc_steps.specs.Watching.{samples_in, IsWay, IsSaved, IsAnswer, AllHon
 use Rattle.oc_meaning.specs.Parts.{AreParts, MayBe}
 use Rattle.oc_meaning.proofs.Parts.{says_parts}
 use Rattle.oc_meaning.specs.Store.{Event}
-use Rattle.oc_steps.proofs.Adding.{without_offs-append, last_mark-more, ends_so}
+use Rattle.oc_steps.proofs.Adding.{last_mark-more, ends_so}
 use Rattle.oc_steps.proofs.Erasing.{erases}
 
 stays_last : (m : Option Said) (body : List Told) → AreUnmarked body → last_mark m body ≡ m

@@ -4,7 +4,8 @@ use Rattle.oc_tree.specs.Said.{Told}
 use Rattle.oc_tree.specs.declared.said.Said.{Said}
 use Rattle.oc_tree.specs.declared.said.Said.TheVariants.{Sensed, Showed, Entered, Committed, Aborted, Off, Dark, Ended}
 use Rattle.oc_meaning.specs.Store.{Event}
-use Rattle.oc_items.specs.Erase.{without_off, without_offs, without_mark, without_marks, sampled, samples_of, inside_after, MayStand, HasNoOffInside}
+use Rattle.oc_items.specs.Erase.{without_off, without_offs, without_marks, samples_of, inside_after, MayStand, HasNoOffInside}
+use Rattle.oc_items.proofs.Parting.{without_offs-append, without_marks-append, samples_of-append}
 use Rattle.oc_honest.specs.Timely.{lives, lived_from}
 use Rattle.oc_steps.specs.Erasing.{item, newer, last_mark, AreUnmarked, IsUnmarked}
 use Rattle.oc_steps.specs.Watching.{samples_in, off_more, offs_in, with_input, offs_before, is_inside, IsSaved}
@@ -13,30 +14,6 @@ use Rattle.oc_tree.specs.Tree.{TProgram}
 use Rattle.oc_tree.specs.Marked.{TRegion}
 
 -- ---- two lists of items
-
-pub without_offs-append : (xs ys : List Told) → without_offs (xs ++ ys) ≡ without_offs xs ++ without_offs ys
-without_offs-append [] ys = refl
-without_offs-append (i ∷ xs) ys = ap (without_off i.said) (without_offs-append xs ys) ∙ by i.said
-  where
-    by : (s : Said) → without_off s (without_offs xs ++ without_offs ys) ≡ without_off s (without_offs xs) ++ without_offs ys
-    by (Sensed a b) = refl
-    by said = refl
-
-pub without_marks-append : (xs ys : List Said) → without_marks (xs ++ ys) ≡ without_marks xs ++ without_marks ys
-without_marks-append [] ys = refl
-without_marks-append (x ∷ xs) ys = ap (without_mark x) (without_marks-append xs ys) ∙ by x
-  where
-    by : (s : Said) → without_mark s (without_marks xs ++ without_marks ys) ≡ without_mark s (without_marks xs) ++ without_marks ys
-    by (Sensed a b) = refl
-    by said = refl
-
-samples_of-append : (xs ys : List Said) → samples_of (xs ++ ys) ≡ samples_of xs ++ samples_of ys
-samples_of-append [] ys = refl
-samples_of-append (x ∷ xs) ys = ap (sampled x) (samples_of-append xs ys) ∙ by x
-  where
-    by : (s : Said) → sampled s (samples_of xs ++ samples_of ys) ≡ sampled s (samples_of xs) ++ samples_of ys
-    by (Sensed a b) = refl
-    by said = refl
 
 pub samples_in-append : (xs ys : List Told) → samples_in (xs ++ ys) ≡ samples_in xs ++ samples_in ys
 samples_in-append xs ys =

@@ -56,12 +56,6 @@ use Rattle.oc_steps.proofs.Lives.{honest_more, timely_back, way_more, going_more
 
 -- ---- what is the same
 
-one_int : (a b : ℤ) → int_eq a b ≡ true → a ≡ b
-one_int a b e = (Decides-int_eq a b).0 e
-
-int_own : (a : ℤ) → int_eq a a ≡ true
-int_own a = (Decides-int_eq a a).1 refl
-
 one_kind : (a b : TrapKind) → is_kind a b ≡ true → a ≡ b
 one_kind Zero Zero e = refl
 one_kind Index Index e = refl
@@ -76,7 +70,7 @@ one_shown : (a b : Shown) → is_shown a b ≡ true → a ≡ b
 one_shown (Emitted q z) (Emitted r y) e =
     let h = and_parts (q == r) (int_eq z y) e in
     let a : q ≡ r = eqb-true q r h.0 in
-    let b : z ≡ y = one_int z y h.1 in
+    let b : z ≡ y = (Decides-int_eq z y).0 h.1 in
     ap (λ x. Emitted x z) a ∙ ap (λ x. Emitted r x) b
 one_shown (Emitted q z) (Used m) e = absurd (cc (e))
 one_shown (Emitted q z) (Finished m) e = absurd (cc (e))
@@ -95,7 +89,7 @@ one_shown (Tagged n) (Finished m) e = absurd (cc (e))
 one_shown (Tagged n) (Tagged m) e = ap (λ x. Tagged x) (eqb-true n m e)
 
 shown_own : (a : Shown) → is_shown a a ≡ true
-shown_own (Emitted q z) = ap (λ b. b && int_eq z z) (eq-eqb q q refl) ∙ int_own z
+shown_own (Emitted q z) = ap (λ b. b && int_eq z z) (eq-eqb q q refl) ∙ (Decides-int_eq z z).1 refl
 shown_own (Used n) = eq-eqb n n refl
 shown_own (Finished n) = eq-eqb n n refl
 shown_own (Tagged n) = eq-eqb n n refl
@@ -130,7 +124,7 @@ one_ended (Sensed a b) how e = absurd (cc (e))
 one_ended said how e = absurd (cc (e))
 
 said_own : (s : Said) → IsTelling s → is_said s s ≡ true
-said_own (Sensed a z) k = ap (λ b. b && int_eq z z) (eq-eqb a a refl) ∙ int_own z
+said_own (Sensed a z) k = ap (λ b. b && int_eq z z) (eq-eqb a a refl) ∙ (Decides-int_eq z z).1 refl
 said_own (Showed a) k = shown_own a
 said_own (Entered r) k = eq-eqb r r refl
 said_own (Committed r) k = eq-eqb r r refl
@@ -146,11 +140,11 @@ one_words [] (y ∷ ys) e = absurd (cc (e))
 one_words (x ∷ xs) [] e = absurd (cc (e))
 one_words (x ∷ xs) (y ∷ ys) e =
     let h = and_parts (int_eq x y) (are_words xs ys) e in
-    ap (λ z. z ∷ xs) (one_int x y h.0) ∙ ap (λ l. y ∷ l) (one_words xs ys h.1)
+    ap (λ z. z ∷ xs) ((Decides-int_eq x y).0 h.0) ∙ ap (λ l. y ∷ l) (one_words xs ys h.1)
 
 words_own : (xs : List ℤ) → are_words xs xs ≡ true
 words_own [] = refl
-words_own (x ∷ xs) = ap (λ b. b && are_words xs xs) (int_own x) ∙ words_own xs
+words_own (x ∷ xs) = ap (λ b. b && are_words xs xs) ((Decides-int_eq x x).1 refl) ∙ words_own xs
 
 -- ---- outcomes
 

@@ -37,9 +37,6 @@ module _ (all : List Lived) (table s : List ℕ) (n : AreNumbered all table) whe
   is_apart : (c j : ℕ) → IsOf j s → with_rest table c j ≢ c → AreNew all s c → ⊥
   is_apart c j js d h = let a = apart c j d in d (sym a.3 ∙ h a.0 j a.1 js a.2)
 
-  same_or_not : (x c : ℕ) (b : Bool) → (x == c) ≡ b → ((x ≡ c) → b ≡ true)
-  same_or_not x c b e = λ q. sym e ∙ eq-eqb x c q
-
   differ_old : (c : ℕ) → Differ (with_rest table c) s → AreNew all s c → ⊥
   differ_old c d h = by (with_rest table c d.0 == c) refl
     where

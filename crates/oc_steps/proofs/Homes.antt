@@ -1,8 +1,8 @@
 -- Where statements are numbered, each annotation is of a set of the function in which it stands.
-use Rattle.std.proofs.Common.{◌≡◌, ◌≤◌, ℕ, zero, suc, ℤ, Bool, true, false, List, [], ◌∷◌, ◌++◌, length, Some, None, cond, refl, sym, ap, ◌∙◌, subst, inl, inr, append-nil, arith}
-use Rattle.std.specs.Prelude.{◌==◌, ◌+◌, ◌||◌, find, flat_map, position, slice_get, nat_lt, not, option_map}
+use Rattle.std.proofs.Common.{◌≡◌, ℕ, zero, suc, ℤ, Bool, true, false, List, [], ◌∷◌, ◌++◌, length, Some, None, cond, refl, sym, ap, ◌∙◌, subst, inl, inr, append-nil, arith}
+use Rattle.std.specs.Prelude.{◌==◌, ◌+◌, find, flat_map, position, slice_get, nat_lt, not, option_map}
 use Rattle.std.specs.List.{list_any, position_or_len}
-use Rattle.std.proofs.lemmas.Bool.{eqb-true, eq-eqb, ne_eqb, false_from_ne_true}
+use Rattle.std.proofs.lemmas.Bool.{eq-eqb, ne_eqb, false_from_ne_true}
 use Rattle.std.proofs.lemmas.Bool.Decides.{nat_tests}
 use Rattle.std.proofs.lemmas.Option.{none-some, same_Some}
 use Rattle.oc_tree.specs.Names.{Text}
@@ -17,14 +17,10 @@ use Rattle.oc_tree.proofs.Grouped.{ids, functions_ids, program_ids}
 use Rattle.oc_meaning.specs.Run.{function_named}
 use Rattle.oc_meaning.proofs.Functions.{place_named}
 use Rattle.oc_honest.specs.Timely.{set_in, set_at, set_of}
+use Rattle.oc_laws.proofs.Members.{of_left, of_right, in_image, not_lower, of_any, number_of}
 use Rattle.oc_steps.specs.Counting.{home_in, home_of, IsNoted, KindNoted, ElseNoted, BlockNoted, StmtsNoted}
-use Rattle.oc_steps.proofs.Using.{of_left}
 
 -- ---- lists
-
-pub of_right : {A : Type 0} (x : A) (xs ys : List A) → IsOf x ys → IsOf x (xs ++ ys)
-of_right x [] ys h = h
-of_right x (y ∷ xs) ys h = inr (of_right x xs ys h)
 
 -- the place of the first that passes a test: that of the first one, or a later one
 pub position_first : {A : Type 0} (t : A → Bool) (x : A) (xs : List A) → t x ≡ true → position t (x ∷ xs) ≡ Some 0
@@ -45,38 +41,15 @@ position_later t x xs e =
         by true = refl
         by false = refl
 
--- one of these numbers, as a test
-any_in : (n : ℕ) (xs : List ℕ) → IsOf n xs → list_any (λ m. m == n) xs ≡ true
-any_in n [] o = absurd o
-any_in n (x ∷ xs) (inl e) = ap (λ b. b || list_any (λ m. m == n) xs) (eq-eqb x n (sym e))
-any_in n (x ∷ xs) (inr o) = by (x == n) (any_in n xs o)
-  where
-    by : (b : Bool) → list_any (λ m. m == n) xs ≡ true → b || list_any (λ m. m == n) xs ≡ true
-    by true h = refl
-    by false h = h
-
-any_of : (n : ℕ) (xs : List ℕ) → list_any (λ m. m == n) xs ≡ true → IsOf n xs
-any_of n [] h = absurd (cc (h))
-any_of n (x ∷ xs) h = by (x == n) refl h (any_of n xs)
-  where
-    by : (b : Bool) → (x == n) ≡ b → b || list_any (λ m. m == n) xs ≡ true → (list_any (λ m. m == n) xs ≡ true → IsOf n xs) → IsOf n (x ∷ xs)
-    by true e h on = inl (sym (eqb-true x n e))
-    by false e h on = inr (on h)
-
 -- ---- no number twice
 
 abbrev AreDistinct : List ℕ → Type 0
 AreDistinct [] = Unit {0}
 AreDistinct (x ∷ xs) = (IsOf x xs → ⊥) × AreDistinct xs
 
-from : (k n y : ℕ) → IsOf y (numbers_on k n) → k ≤ y
-from k zero y o = absurd o
-from k (suc n) y (inl e) = omega (arith, e)
-from k (suc n) y (inr o) = let l = from (suc k) n y o in omega (arith, l)
-
 distinct_numbers : (k n : ℕ) → AreDistinct (numbers_on k n)
 distinct_numbers k zero = tt
-distinct_numbers k (suc n) = (λ o. absurd (let l = from (suc k) n k o in omega (arith, l)), distinct_numbers (suc k) n)
+distinct_numbers k (suc n) = (λ o. absurd (let l = not_lower (suc k) n k o in omega (arith, l)), distinct_numbers (suc k) n)
 
 -- of two lists together, the second, and that they share none
 parted : (xs ys : List ℕ) → AreDistinct (xs ++ ys) → AreDistinct ys × ((n : ℕ) → IsOf n xs → IsOf n ys → ⊥)
@@ -87,17 +60,12 @@ parted (x ∷ xs) ys d = let rest = parted xs ys d.1 in (rest.0, none rest.1)
     none rest n (inl e) q = d.0 (of_right x xs ys (subst (λ m. IsOf m ys) e q))
     none rest n (inr o) q = rest n o q
 
-in_ids : (bs : List Placed) (b : Placed) → IsOf b bs → IsOf b.id (ids bs)
-in_ids [] b o = absurd o
-in_ids (x ∷ bs) b (inl e) = inl (ap (λ z. z.id) e)
-in_ids (x ∷ bs) b (inr o) = inr (in_ids bs b o)
-
 -- a statement is found by its number
 found_own : (bs : List Placed) (b : Placed) → AreDistinct (ids bs) → IsOf b bs → find (λ a. a.id == b.id) bs ≡ Some b
 found_own [] b d o = absurd o
 found_own (x ∷ bs) b d (inl e) = ap (λ t. cond t (Some x) (find (λ a. a.id == b.id) bs)) (eq-eqb x.id b.id (ap (λ z. z.id) (sym e))) ∙ ap Some (sym e)
 found_own (x ∷ bs) b d (inr o) =
-    ap (λ t. cond t (Some x) (find (λ a. a.id == b.id) bs)) (ne_eqb x.id b.id (λ q. d.0 (subst (λ m. IsOf m (ids bs)) (sym q) (in_ids bs b o))))
+    ap (λ t. cond t (Some x) (find (λ a. a.id == b.id) bs)) (ne_eqb x.id b.id (λ q. d.0 (subst (λ m. IsOf m (ids bs)) (sym q) (in_image (λ a. a.id) bs b o))))
     ∙ found_own bs b d.1 o
 
 -- ---- functions
@@ -130,10 +98,10 @@ in_placed (f ∷ fs) (suc i) g e b o = of_right b (block_placed (at_start f) f.b
 owner : (fs : List TFunction) → AreDistinct (statements_in fs) → (i : ℕ) (g : TFunction) → slice_get fs i ≡ Some g → (n : ℕ) → IsOf n (block_statements g.body) → position (has n) fs ≡ Some i
 owner [] d i g e n o = absurd (none-some g e)
 owner (f ∷ fs) d zero g e n o =
-    position_first (has n) f fs (any_in n (block_statements f.body) (subst (λ (z : TFunction). IsOf n (block_statements z.body)) (sym (same_Some f g e)) o))
+    position_first (has n) f fs (of_any (λ m. m == n) n (block_statements f.body) (subst (λ (z : TFunction). IsOf n (block_statements z.body)) (sym (same_Some f g e)) o) (eq-eqb n n refl))
 owner (f ∷ fs) d (suc i) g e n o =
     let s = parted (block_statements f.body) (statements_in fs) d in
-    let other : has n f ≡ false = false_from_ne_true (has n f) (λ t. s.1 n (any_of n (block_statements f.body) t) (in_statements fs i g e n o)) in
+    let other : has n f ≡ false = false_from_ne_true (has n f) (λ t. s.1 n (number_of n (block_statements f.body) t) (in_statements fs i g e n o)) in
     position_later (has n) f fs other ∙ ap (option_map suc) (owner fs s.0 i g e n o)
 
 -- ---- annotations
@@ -180,7 +148,7 @@ module _ (p : TProgram) (numbered : Numbered p) where
       → set_of p b.id ≡ Some (i, k)
   set_here i g at b o x k e =
       let is : placed p b.id ≡ Some b = found_own (program_placed p) b (subst AreDistinct (sym (program_ids p)) distinct) (in_placed p.functions i g at b o) in
-      let own : function_of p b.id ≡ Some i = owner p.functions distinct i g at b.id (subst (IsOf b.id) (body_ids g) (in_ids (block_placed (at_start g) g.body) b o)) in
+      let own : function_of p b.id ≡ Some i = owner p.functions distinct i g at b.id (subst (IsOf b.id) (body_ids g) (in_image (λ a. a.id) (block_placed (at_start g) g.body) b o)) in
       ap (set_at p b.id) is ∙ ap (λ f. set_in f b.kind) own ∙ ap (set_in (Some i)) e
 
   -- the annotations of each function that is called

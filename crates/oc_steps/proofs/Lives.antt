@@ -7,7 +7,7 @@ use Rattle.oc_tree.specs.Marked.{TRegion}
 use Rattle.oc_tree.specs.Said.{Told}
 use Rattle.oc_tree.specs.declared.said.Ending.{Ending}
 use Rattle.oc_tree.specs.declared.said.Said.{Said}
-use Rattle.oc_tree.specs.declared.said.Said.TheVariants.{Sensed, Showed, Entered, Committed, Aborted, Off, Dark, Ended}
+use Rattle.oc_tree.specs.declared.said.Said.TheVariants.{Sensed, Entered, Committed, Aborted, Off, Dark, Ended}
 use Rattle.oc_tree.specs.Samples.{union}
 use Rattle.oc_meaning.specs.Store.{Event}
 use Rattle.oc_meaning.specs.Cuts.{Begins}
@@ -17,6 +17,7 @@ use Rattle.oc_meaning.specs.Run.{marked_run, source_run, said_in, in_order}
 use Rattle.oc_meaning.proofs.Bare.{only_tell}
 use Rattle.oc_items.specs.Erase.{erase, without_offs, without_mark, without_marks, inside_after, MayStand, HasNoOffInside}
 use Rattle.oc_items.specs.Reports.{IsPrefixOf}
+use Rattle.oc_items.proofs.Parting.{without_offs-append}
 use Rattle.oc_honest.specs.Timely.{Lived, lived_from, AreTimely}
 use Rattle.oc_steps.specs.Steps.{Frame, Over, step, of_samples}
 use Rattle.oc_steps.specs.Counting.{AreCounted}
@@ -29,7 +30,7 @@ use Rattle.oc_steps.specs.Fold.{Way, Instance}
 use Rattle.oc_steps.specs.Watching.{samples_in, off_more, offs_in, with_input, offs_before, is_inside, lives_of, IsSeen, IsGoing, Follows, IsWay, IsTelling}
 use Rattle.oc_steps.proofs.Erasing.{erases}
 use Rattle.oc_steps.proofs.Telling.{events_first}
-use Rattle.oc_steps.proofs.Adding.{without_offs-append, samples_in-append, lived-append, offs_in-more, offs_before-more, is_inside-more, outside_more, ends_so}
+use Rattle.oc_steps.proofs.Adding.{samples_in-append, lived-append, offs_in-more, offs_before-more, is_inside-more, outside_more, ends_so}
 
 pub unmarked-append : (xs ys : List Event) → unmarked (xs ++ ys) ≡ unmarked xs ++ unmarked ys
 unmarked-append [] ys = refl

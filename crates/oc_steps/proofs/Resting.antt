@@ -19,13 +19,14 @@ use Rattle.oc_steps.specs.Heard.{Under, store_in}
 use Rattle.oc_steps.specs.Freshness.{AreNumbered}
 use Rattle.oc_meaning.specs.Unmarked.{unmarked}
 use Rattle.oc_items.specs.Reports.{IsPrefixOf}
+use Rattle.oc_items.proofs.Parting.{without_offs-append}
 use Rattle.oc_honest.specs.Honest.{IsHonestSoFar}
 use Rattle.oc_honest.specs.Timely.{lives, lived_from, AreTimely}
 use Rattle.oc_steps.specs.Fold.{Way, Watch, one_more}
 use Rattle.oc_steps.specs.Watching.{samples_in, off_more, offs_in, with_input, offs_before, is_inside, lives_of, IsSeen, IsGoing, IsWay, IsWatch, IsAnswer}
 use Rattle.oc_steps.specs.Resting.{RestsRight}
 use Rattle.oc_steps.proofs.Erasing.{erases}
-use Rattle.oc_steps.proofs.Adding.{without_offs-append, offs_in-more, offs_before-more, is_inside-more, outside_more, may_stand, saved_more, ends_so}
+use Rattle.oc_steps.proofs.Adding.{offs_in-more, offs_before-more, is_inside-more, outside_more, may_stand, saved_more, ends_so}
 
 -- an item that tells no event and is no mark
 abbrev IsQuiet : Said → Type 0

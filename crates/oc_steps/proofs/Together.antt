@@ -11,6 +11,7 @@ use Rattle.oc_tree.specs.declared.said.Said.TheVariants.{Showed}
 use Rattle.oc_tree.specs.declared.said.Shown.TheVariants.{Tagged}
 use Rattle.oc_meaning.specs.Store.{Event}
 use Rattle.oc_honest.specs.Timely.{Lived, IsInput, IsUse, AreTogether, AreTimely, set_of}
+use Rattle.oc_laws.proofs.Members.{of_left}
 use Rattle.oc_steps.specs.Ages.{mixed, join_ages, age_of}
 use Rattle.oc_steps.specs.AgesTell.{HasAge}
 use Rattle.oc_steps.specs.Freshness.{AreNumbered}
@@ -18,7 +19,7 @@ use Rattle.oc_steps.specs.Fold.{Instance, is_one, is_set, is_later, falls_at, ag
 use Rattle.oc_steps.specs.Watching.{IsAt, IsLatest, IsAged, IsSeen}
 use Rattle.oc_steps.proofs.AgesTell.{ages_tell, some}
 use Rattle.oc_steps.proofs.Freshness.{tests_right}
-use Rattle.oc_steps.proofs.Using.{of_left, of_last, of_more, TagsAgree, timely_more}
+use Rattle.oc_steps.proofs.Using.{of_last, of_more, TagsAgree, timely_more}
 
 -- ---- ages
 
@@ -83,22 +84,16 @@ apart (x ∷ y ∷ w) b o = first refl
 
 -- ---- sets
 
-same_int : (a b : ℤ) → int_eq a b ≡ true → a ≡ b
-same_int a b e = (Decides-int_eq a b).0 e
-
-int_same : (a : ℤ) → int_eq a a ≡ true
-int_same a = (Decides-int_eq a a).1 refl
-
 set_is : (k : ℕ × ℤ) (i : Instance) → is_set k i ≡ true → i.set ≡ k
 set_is k i e =
     let h = and_parts (i.set.0 == k.0) (int_eq i.set.1 k.1) e in
     let a : i.set.0 ≡ k.0 = eqb-true i.set.0 k.0 h.0 in
-    let b : i.set.1 ≡ k.1 = same_int i.set.1 k.1 h.1 in
+    let b : i.set.1 ≡ k.1 = (Decides-int_eq i.set.1 k.1).0 h.1 in
     ap (λ x. (x, i.set.1)) a ∙ ap (λ y. (k.0, y)) b
 
 is_own : (k : ℕ × ℤ) (i : Instance) → i.set ≡ k → is_set k i ≡ true
 is_own k i e =
-    let own : is_set i.set i ≡ true = ap (λ b. b && int_eq i.set.1 i.set.1) (eq-eqb i.set.0 i.set.0 refl) ∙ int_same i.set.1 in
+    let own : is_set i.set i ≡ true = ap (λ b. b && int_eq i.set.1 i.set.1) (eq-eqb i.set.0 i.set.0 refl) ∙ (Decides-int_eq i.set.1 i.set.1).1 refl in
     subst (λ s. is_set s i ≡ true) e own
 
 pub find_put : (k : ℕ × ℤ) (new : Instance) (is : List Instance) → new.set ≡ k → find (is_set k) (put_instance k new is) ≡ Some new

@@ -8,6 +8,7 @@ use Rattle.oc_tree.specs.declared.said.Said.TheVariants.{Sensed, Showed}
 use Rattle.oc_tree.specs.declared.said.Shown.TheVariants.{Tagged}
 use Rattle.oc_meaning.specs.Store.{Event}
 use Rattle.oc_honest.specs.Timely.{Lived, IsInput, IsUse, AreTogether, AreTimely, set_of}
+use Rattle.oc_laws.proofs.Members.{of_left}
 use Rattle.oc_steps.specs.AgesTell.{HasAge}
 use Rattle.oc_steps.specs.Freshness.{AreNumbered, AreNew}
 use Rattle.oc_steps.specs.Little.{IsNoInput}
@@ -17,11 +18,6 @@ use Rattle.oc_steps.proofs.AgesTell.{ages_tell}
 use Rattle.oc_steps.proofs.Freshness.{tests_right}
 
 -- ---- lists
-
-pub of_left : {A : Type 0} (x : A) (xs ys : List A) → IsOf x xs → IsOf x (xs ++ ys)
-of_left x [] ys h = absurd h
-of_left x (y ∷ xs) ys (inl e) = inl e
-of_left x (y ∷ xs) ys (inr h) = inr (of_left x xs ys h)
 
 pub of_last : {A : Type 0} (x : A) (xs : List A) → IsOf x (xs ++ x ∷ [])
 of_last x [] = inl refl

@@ -8,7 +8,7 @@ use Rattle.std.proofs.Math.Dec.{ltb}
 use Rattle.std.proofs.lemmas.Option.{none-some, same_Some}
 use Rattle.std.proofs.lemmas.List.Sums.{sum_by-cons}
 use Rattle.oc_tree.specs.Names.{Text}
-use Rattle.oc_tree.specs.Tree.{TKind, let_to, let_array, assign, assign_index, assign_deref, if_else, for_in, while_do, call_only, sense_only, emit, fresh, consistent, return}
+use Rattle.oc_tree.specs.Tree.{TKind, if_else, for_in, while_do}
 use Rattle.oc_tree.specs.Tree.{TElse, no_else, else_do, TStmt, stmt, TBlock, block, TStmts, no_stmts, more, TFunction, TProgram}
 use Rattle.oc_tree.specs.declared.before.Before.{Before}
 use Rattle.oc_tree.specs.declared.tree.Decl.{Decl}
@@ -27,6 +27,7 @@ use Rattle.oc_tree.specs.Broken.{item_rules, end_rules, first_broken, broken}
 use Rattle.oc_desugar.proofs.KeptClean.{tally, tally_join, first_clean, apart_of}
 use Rattle.oc_desugar.proofs.SizesKept.{unbroken_element}
 use Rattle.oc_desugar.proofs.Unbroken.{Passes, none_broken}
+use Rattle.oc_laws.proofs.Members.{some_at}
 use Rattle.oc_checked.proofs.BodiesPass.{first_fails, second_fails}
 
 -- no function of that name stands before
@@ -39,12 +40,6 @@ new_name p b x h =
     second_fails v f (second_fails q (v || f) (second_fails s (q || (v || f)) h))
 
 -- ---- lists
-
--- before the end of a list there is an element
-some_at : {A : Type 0} (xs : List A) (i : ℕ) → i < length xs → (x : A) × (slice_get xs i ≡ Some x)
-some_at [] i l = absurd (omega arith)
-some_at (x ∷ xs) zero l = (x, refl)
-some_at (x ∷ xs) (suc i) l = some_at xs i (omega (arith, l))
 
 -- the rest of a list begins with what stands there
 drop_at : {A : Type 0} (xs : List A) (i : ℕ) (x : A) → slice_get xs i ≡ Some x → drop i xs ≡ x ∷ drop (i + 1) xs

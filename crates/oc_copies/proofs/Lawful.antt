@@ -2,7 +2,7 @@
 use Rattle.std.proofs.Common.{◌≡◌, ℕ, ◌+◌, Bool, true, false, true≢false, List, [], ◌∷◌, ◌++◌, length, Option, Some, None, cond, refl, ap, sym, ◌∙◌, subst, arith}
 use Rattle.std.specs.Prelude.{◌&&◌, ◌||◌, ◌==◌, nat_lt, is_some, slice_get, option_and_then, if◌then◌else◌}
 use Rattle.std.specs.Str.{bytes_eq}
-use Rattle.std.proofs.lemmas.Bool.{eqb-true, ltb-false, and_parts}
+use Rattle.std.proofs.lemmas.Bool.{eqb-true, ltb-false, and_parts, not-false}
 use Rattle.std.proofs.lemmas.Slice.Eq.{bytes_eq-Decides}
 use Rattle.std.proofs.lemmas.Option.{none-some}
 use Rattle.oc_tree.specs.Names.{Text}
@@ -34,11 +34,11 @@ use Rattle.oc_desugar.proofs.FineCalls.{CallFine, Each as EachCall, each_back as
 use Rattle.oc_desugar.proofs.Unbroken.{Passes, none_broken, Unbroken, unbroken}
 use Rattle.oc_checked.proofs.BodiesPass.{first_fails, second_fails, AllFine, fine_front, fine_back, function_fine}
 use Rattle.oc_checked.proofs.CallLinks.{none_hides}
+use Rattle.oc_laws.proofs.Maps.{none_is}
 use Rattle.oc_copies.proofs.Twins.{Flags, flag_of, is_shared, flags_behind, Shown, IsLawfulCall, IsLawfulRight, IsLawful, IsLawfulElse, IsLawfulBlock, AreLawfulAll}
 use Rattle.oc_copies.proofs.TwinCalls.{start_flags}
 use Rattle.oc_copies.proofs.LeadToNone.{EachKind, kinds_front, kinds_back}
 use Rattle.oc_copies.proofs.Reached.{none_names, none_called}
-use Rattle.oc_copies.proofs.Passing.{not_not}
 use Rattle.oc_copies.proofs.LawfulArgs.{ForHidden, unhidden, shown_join, shown_expr, shown_call, AllFlags, unflagged, all_lawful}
 
 -- ---- a function by its name
@@ -225,17 +225,17 @@ module _ (p : TProgram) (hidden : Text → Bool) (nv : ForHidden hidden (λ y. i
     kind_lawful h fs (let_array m x t z n) s u fine free goes = tt
     kind_lawful h fs (assign x r) s u fine free goes =
         assign_lawful h fs x r is_writable refl s (target_shown x (assign x r) (λ y. refl) (λ y e. (free y e).0))
-        (and_parts (is_variable p h.scope x) (right_known p h.scope r) u.known).1 u.calls goes.0 (mentions_none (assign x r) (λ y e. (free y e).0)) (not_not _ u.target)
+        (and_parts (is_variable p h.scope x) (right_known p h.scope r) u.known).1 u.calls goes.0 (mentions_none (assign x r) (λ y e. (free y e).0)) (not-false _ u.target)
     kind_lawful h fs (assign_deref x r) s u fine free goes =
         assign_lawful h fs x r is_mutable_param refl s (target_shown x (assign_deref x r) (λ y. refl) (λ y e. (free y e).0))
-        (and_parts (is_variable p h.scope x) (right_known p h.scope r) u.known).1 u.calls goes.0 (mentions_none (assign_deref x r) (λ y e. (free y e).0)) (not_not _ u.pointee)
+        (and_parts (is_variable p h.scope x) (right_known p h.scope r) u.known).1 u.calls goes.0 (mentions_none (assign_deref x r) (λ y e. (free y e).0)) (not-false _ u.pointee)
     kind_lawful h fs (assign_index x i r) s u fine free goes =
         let none = mentions_none (assign_index x i r) (λ y e. (free y e).0) in
         let known = (and_parts (is_variable p h.scope x) (expr_known p h.scope i && right_known p h.scope r) u.known).1 in
         let rest = assign_lawful h fs x r is_writable_array refl s (target_shown x (assign_index x i r) (λ y. refl) (λ y e. (free y e).0))
         (and_parts (expr_known p h.scope i) (right_known p h.scope r) known).1
         (calls_back (CallFine p h) (expr_calls i) (right_calls r) u.calls) (calls_back Goal (expr_calls i) (right_calls r) goes.0)
-        (λ y k. let q : expr_mentions y i + right_mentions y r ≡ 0 = none y k in omega (arith, q)) (not_not _ u.array) in
+        (λ y k. let q : expr_mentions y i + right_mentions y r ≡ 0 = none y k in omega (arith, q)) (not-false _ u.array) in
         (rest.0, rest.1, shown_expr hidden i (λ y k. let q : expr_mentions y i + right_mentions y r ≡ 0 = none y k in omega (arith, q)), rest.2)
     kind_lawful h fs (if_else c a b) s u fine free goes = (
       shown_expr hidden c (mentions_none (if_else c a b) (λ y e. (free y e).0)),
@@ -291,10 +291,6 @@ module _ (p : TProgram) (hidden : Text → Bool) (nv : ForHidden hidden (λ y. i
   start_flagged s (q ∷ qs) fs taken h =
       start_flagged (with_param s q) qs ((q.name, is_shared q.passing) ∷ fs) (second_fails (is_taken p s q.name) (takes_param p (with_param s q) qs) taken) (λ y. by y (bytes_eq y q.name) refl)
     where
-      not_there : (o : Option Var) → is_some o ≡ false → o ≡ None
-      not_there None e = refl
-      not_there (Some v) e = absurd (true≢false e)
-
       found_last : (t : Scope) (y : Text) → variable_in t y ≡ None → bytes_eq y q.name ≡ true → variable_in (t ++ (q.name, param_var q) ∷ []) y ≡ Some (param_var q)
       found_last [] y none e = ap (λ b. cond b (Some (param_var q)) None) e
       found_last (z ∷ t) y none e = go (bytes_eq y z.0) none (found_last t y)
@@ -313,7 +309,7 @@ module _ (p : TProgram) (hidden : Text → Bool) (nv : ForHidden hidden (λ y. i
           (v : Var) × (variable_in (s ++ (q.name, param_var q) ∷ []) y ≡ Some v) × (v.origin ≡ origins.Param passings.Shared)
       by y true e k =
           let new : is_in_scope s q.name ≡ false = first_fails (is_in_scope s q.name) (is_declared p q.name) (first_fails (is_taken p s q.name) (takes_param p (with_param s q) qs) taken) in
-          let none : variable_in s y ≡ None = ap (variable_in s) ((bytes_eq-Decides y q.name).0 e) ∙ not_there (variable_in s q.name) new in
+          let none : variable_in s y ≡ None = ap (variable_in s) ((bytes_eq-Decides y q.name).0 e) ∙ none_is (variable_in s q.name) new in
           (param_var q, found_last s y none e, shared_is q.passing k)
       by y false e k = let v = h y k in (v.0, found_first s q.name y v.0 (param_var q) v.1, v.2)
 

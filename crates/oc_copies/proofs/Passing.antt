@@ -1,6 +1,7 @@
 -- What may be passed makes fine entries.
 use Rattle.std.proofs.Common.{◌≡◌, ◌⊎◌, inl, inr, ℕ, suc, ◌<◌, ◌≤◌, Bool, true, false, true≢false, not, List, [], ◌∷◌, Some, refl, sym, ap, arith}
 use Rattle.std.specs.Prelude.{ℤ}
+use Rattle.std.proofs.lemmas.Bool.{not-false}
 use Rattle.oc_tree.specs.declared.tree.Param.{Param}
 use Rattle.oc_tree.specs.declared.tree.Passing.{Passing}
 use Rattle.oc_tree.specs.declared.tree.Passing.TheVariants as passings
@@ -21,10 +22,6 @@ pub mutable_is : (q : Passing) → is_mutable q ≡ true → q ≡ passings.Muta
 mutable_is passings.Mutable e = refl
 mutable_is passings.Value e = absurd (true≢false (sym e))
 mutable_is passings.Shared e = absurd (true≢false (sym e))
-
-pub not_not : (b : Bool) → not b ≡ false → b ≡ true
-not_not true e = refl
-not_not false e = absurd (true≢false e)
 
 module _ (base nvs : ℕ) where
   low_more : (n : ℕ) (q : Place) → base ≤ n → IsLow base nvs q → IsLow n nvs q
@@ -61,7 +58,7 @@ module _ (base nvs : ℕ) where
   lent_apart a only (q ∷ qs) [] n b la low once = tt
   lent_apart a only (q ∷ qs) (Copied v ∷ ps) n b la low once = (λ f e. not_value n a b la e, lent_apart a only qs ps (suc n) (omega (arith, b)) la (later_place (Copied v) ps low) (λ j. once (suc j)))
   lent_apart a only (q ∷ qs) (Lent c ∷ ps) n b la low once = (
-    λ f e. once 0 (ap Some (sym e)) (elim f [ inl k ↦ inl k | inr k ↦ inr (ap Some (mutable_is q.passing (not_not (is_mutable q.passing) k))) ]),
+    λ f e. once 0 (ap Some (sym e)) (elim f [ inl k ↦ inl k | inr k ↦ inr (ap Some (mutable_is q.passing (not-false (is_mutable q.passing) k))) ]),
     lent_apart a only qs ps n b la
         (later_place (Lent c) ps low) (λ j. once (suc j)),
   )
@@ -87,9 +84,9 @@ module _ (base nvs : ℕ) where
   fine_entries (q ∷ qs) (Lent a ∷ ps) n b low once fixed =
       let m = more_values qs ps n in (
         low_more (after_values qs ps n) a (omega (arith, b, m)) (low 0 a refl),
-        λ f. cell_of a (low 0 a refl) (λ z e. fixed 0 z (ap Some (mutable_is q.passing (not_not (is_mutable q.passing) f))) (ap Some e)),
+        λ f. cell_of a (low 0 a refl) (λ z e. fixed 0 z (ap Some (mutable_is q.passing (not-false (is_mutable q.passing) f))) (ap Some e)),
         lent_apart a (not (is_mutable q.passing)) qs ps n b (low 0 a refl) (later_place (Lent a) ps low) (λ j e f. elim f [
-          | inl k ↦ (let s = once 0 (suc j) a (ap Some (mutable_is q.passing (not_not (is_mutable q.passing) k))) refl e in absurd (omega (arith, s)))
+          | inl k ↦ (let s = once 0 (suc j) a (ap Some (mutable_is q.passing (not-false (is_mutable q.passing) k))) refl e in absurd (omega (arith, s)))
           | inr k ↦ (let s = once (suc j) 0 a k e refl in absurd (omega (arith, s)))
         ]),
         fine_entries qs ps n b (later_place (Lent a) ps low) (λ i j c p e f. let s = once (suc i) (suc j) c p e f in omega (arith, s)) (λ i z. fixed (suc i) z),

@@ -23,18 +23,15 @@ use Rattle.oc_desugar.proofs.FineCalls.{CallFine}
 use Rattle.oc_desugar.proofs.PullSplits.{found_last, found_before}
 use Rattle.oc_desugar.proofs.Unbroken.{Passes, none_broken}
 use Rattle.oc_checked.proofs.BodiesPass.{first_fails, second_fails, function_fine}
+use Rattle.oc_laws.proofs.Maps.{none_is}
 use Rattle.oc_copies.specs.Copies.{own_param, own_params, nv_name}
 use Rattle.oc_copies.specs.Stands.{IsVariablePlace, Stands, AreFormed, IsRuledCall, FramesStand}
 use Rattle.oc_copies.proofs.Back.{IsShared, nv_shared}
 use Rattle.oc_copies.proofs.Copied.{nv_of_name}
 
-not_there : (o : Option Var) → is_some o ≡ false → o ≡ None
-not_there None e = refl
-not_there (Some v) e = absurd (true≢false e)
-
 -- where a name is taken by nothing, no variable has it
 pub not_in_scope : (p : TProgram) (s : Scope) (x : Text) → is_taken p s x ≡ false → variable_in s x ≡ None
-not_in_scope p s x h = not_there (variable_in s x) (first_fails (is_in_scope s x) (is_declared p x) h)
+not_in_scope p s x h = none_is (variable_in s x) (first_fails (is_in_scope s x) (is_declared p x) h)
 
 local_is : (a b : ℕ) → Local a ≡ Local b → a ≡ b
 local_is a b e = cc

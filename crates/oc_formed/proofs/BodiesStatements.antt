@@ -1,7 +1,7 @@
 -- The statements of a checked body are formed.
 use Rattle.std.proofs.Common.{arith, ◌≡◌, ℕ, ◌+◌, Bool, true, false, true≢false, List, [], ◌∷◌, ◌++◌, None, cond, refl, sym, subst, ◌∙◌}
-use Rattle.std.proofs.lemmas.Bool.{and_parts}
-use Rattle.std.specs.Prelude.{is_some, not, ◌&&◌}
+use Rattle.std.proofs.lemmas.Bool.{and_parts, not-false}
+use Rattle.std.specs.Prelude.{is_some, ◌&&◌}
 use Rattle.oc_tree.specs.Names.{Text}
 use Rattle.oc_tree.specs.Tree.{TExpr, TRight, TKind, let_to, let_array, assign, assign_index, assign_deref, if_else, for_in, while_do, call_only, sense_only, emit, fresh}
 use Rattle.oc_tree.specs.Tree.{consistent, return, TElse, no_else, else_do, stmt, TBlock, block, TStmts, no_stmts, more, TProgram}
@@ -28,11 +28,6 @@ use Rattle.oc_formed.proofs.BodiesMarked.{KindMarked, ElseMarked, BlockMarked, S
 use Rattle.oc_checked.proofs.CallLinks.{KindsCall, kinds_front, kinds_back, last_call, none_hides}
 use Rattle.oc_checked.proofs.CallsFall.{Lower}
 use Rattle.oc_formed.proofs.ScopesSeen.{AllFound, writes_own, writes_through, writes_array}
-
--- what is not denied holds
-is_so : (b : Bool) → not b ≡ false → b ≡ true
-is_so true h = refl
-is_so false h = absurd (true≢false h)
 
 -- the calls of a statement and of those in it, and the calls of those behind it
 calls_behind : (P : _) (k : TKind) (n line : ℕ) (rest : TStmts) → KindsCall P (stmts_kinds None (more (stmt n line k) rest)) → KindsCall P (kind_kinds None k) × KindsCall P (stmts_kinds None rest)
@@ -76,7 +71,7 @@ module _ (p : TProgram) (long : LongParams p) (regions : List TRegion) (rank : T
   return_formed : (gives : Bool) (inside : ℕ) (h : Here) (γ : List Named) (s n line : ℕ) (e : TExpr) (rest : TStmts) → Ends gives h (more (stmt n line (return e)) rest)
       → Unbroken p (before_stmts h rest) (return e) → StmtsMarked regions inside (more (stmt n line (return e)) rest) → StmtsFormed gives inside γ s (more (stmt n line (return e)) rest)
   return_formed gives inside h γ s n line e rest ends u marked =
-      let both = is_so ((h.last && is_end rest) && is_same h.function.result (type_of p h.scope e)) u.returns in
+      let both = not-false ((h.last && is_end rest) && is_same h.function.result (type_of p h.scope e)) u.returns in
       let last = (and_parts (h.last && is_end rest) (is_same h.function.result (type_of p h.scope e)) both).0 in
       let same = (and_parts (h.last && is_end rest) (is_same h.function.result (type_of p h.scope e)) both).1 in
       let end = (and_parts h.last (is_end rest) last).1 in
@@ -99,8 +94,8 @@ module _ (p : TProgram) (long : LongParams p) (regions : List TRegion) (rank : T
     assign_formed : (x : Text) (r : TRight) → Each (Lower p rank own) (right_calls r) → Unbroken p h (assign x r) → KindFormed γ s (assign x r)
     assign_formed x r lower u =
         let known = (and_parts (is_variable p h.scope x) (right_known p h.scope r) u.known).1 in
-        let value = same_left (value_type (variable_of p h.scope x)) (right_type p h.scope r) (is_so (is_same (value_type (variable_of p h.scope x)) (right_type p h.scope r)) u.sides) in
-        let writes = is_so (origin_is is_writable (variable_of p h.scope x)) u.target in
+        let value = same_left (value_type (variable_of p h.scope x)) (right_type p h.scope r) (not-false (is_same (value_type (variable_of p h.scope x)) (right_type p h.scope r)) u.sides) in
+        let writes = not-false (origin_is is_writable (variable_of p h.scope x)) u.target in
         (right_is_formed p long regions rank own h γ all r known u.calls u.gives lower, rule_writes p h.scope γ all is_writable writes_own x writes, own_value p h.scope γ all x value)
 
     -- an assignment to an element of an array
@@ -108,7 +103,7 @@ module _ (p : TProgram) (long : LongParams p) (regions : List TRegion) (rank : T
     assign_index_formed x e r lower u =
         let parts = (and_parts (is_variable p h.scope x) (expr_known p h.scope e && right_known p h.scope r) u.known).1 in
         let known = (and_parts (expr_known p h.scope e) (right_known p h.scope r) parts).1 in
-        let writes = is_so (origin_is is_writable_array (variable_of p h.scope x)) u.array in
+        let writes = not-false (origin_is is_writable_array (variable_of p h.scope x)) u.array in
         let calls = each_back (CallFine p h) (expr_calls e) (right_calls r) u.calls in
         let gives = each_back (Gives p) (expr_calls e) (right_calls r) u.gives in
         let below = each_back (Lower p rank own) (expr_calls e) (right_calls r) lower in
@@ -118,7 +113,7 @@ module _ (p : TProgram) (long : LongParams p) (regions : List TRegion) (rank : T
     assign_deref_formed : (x : Text) (r : TRight) → Each (Lower p rank own) (right_calls r) → Unbroken p h (assign_deref x r) → KindFormed γ s (assign_deref x r)
     assign_deref_formed x r lower u =
         let known = (and_parts (is_variable p h.scope x) (right_known p h.scope r) u.known).1 in
-        let writes = is_so (origin_is is_mutable_param (variable_of p h.scope x)) u.pointee in
+        let writes = not-false (origin_is is_mutable_param (variable_of p h.scope x)) u.pointee in
         (right_is_formed p long regions rank own h γ all r known u.calls u.gives lower, rule_writes p h.scope γ all is_mutable_param writes_through x writes)
 
   mutual

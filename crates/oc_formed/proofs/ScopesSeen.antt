@@ -1,6 +1,6 @@
 -- What the rules let statements see, the code finds: each visible variable, of its words, by an address just where it is
 -- a reference, and writable where the rules let it be written.
-use Rattle.std.proofs.Common.{◌≡◌, Bool, true, false, true≢false, List, [], ◌∷◌, Option, Some, None, cond, refl, ap, sym, subst, ◌∙◌}
+use Rattle.std.proofs.Common.{◌≡◌, Bool, true, false, true≢false, List, [], ◌∷◌, Some, None, cond, refl, ap, sym, subst, ◌∙◌}
 use Rattle.std.specs.Prelude.{is_some, if◌then◌else◌, ◌||◌}
 use Rattle.std.specs.Str.{bytes_eq}
 use Rattle.std.proofs.lemmas.Option.{same_Some}
@@ -18,6 +18,7 @@ use Rattle.oc_code.specs.Scope.{Named, named, address_slot, kind_words, may_writ
 use Rattle.oc_desugar.proofs.KeptScopes.{with_var}
 use Rattle.oc_desugar.proofs.PullSplits.{found_before}
 use Rattle.oc_checked.proofs.BodiesPass.{first_fails}
+use Rattle.oc_laws.proofs.Maps.{none_is}
 
 -- ---- variables
 
@@ -63,11 +64,6 @@ abbrev pub AllFound : TProgram → Scope → List Named → Type 0
 AllFound p scope γ = (x : Text) (v : Var) → variable_of p scope x ≡ Some v → Finds (named γ x) v
 
 -- ---- one variable more
-
--- what is not some is none
-none_is : (o : Option Var) → is_some o ≡ false → o ≡ None
-none_is None h = refl
-none_is (Some v) h = absurd (true≢false h)
 
 -- the new variable is found under its name, where no other has it
 new_found : (s : Scope) (x : Text) (v : Var) → variable_in s x ≡ None → variable_in (with_var s x v) x ≡ Some v

@@ -5,8 +5,8 @@ use Rattle.std.specs.List.{list_any}
 use Rattle.std.proofs.Math.Nat.{mul-le-mul_left}
 use Rattle.std.proofs.lemmas.Option.{none-some}
 use Rattle.oc_tree.specs.Names.{Text, NameLists}
-use Rattle.oc_tree.specs.Tree.{TExpr, variable, TArg, value, shared, mutable, TArgs, no_args, more_args, TCall, call, TRight, right_value, right_sense, right_call, TKind, let_to, let_array}
-use Rattle.oc_tree.specs.Tree.{assign, assign_index, assign_deref, if_else, for_in, while_do, call_only, sense_only, emit, fresh, consistent, return, TElse, no_else, else_do, stmt, TBlock}
+use Rattle.oc_tree.specs.Tree.{TExpr, variable, TArg, value, shared, mutable, TArgs, no_args, more_args, TCall, call, TRight, right_value, right_sense, right_call, TKind, let_to}
+use Rattle.oc_tree.specs.Tree.{assign, assign_index, assign_deref, if_else, for_in, while_do, call_only, emit, return, TElse, no_else, else_do, stmt, TBlock}
 use Rattle.oc_tree.specs.Tree.{block, TStmts, no_stmts, more, TFunction, TProgram}
 use Rattle.oc_tree.specs.Calls.{function_place}
 use Rattle.oc_tree.specs.Weight as weight
@@ -23,10 +23,11 @@ use Rattle.oc_code.specs.Scope.{Slot, InFrame, ByAddress, InNv, NoSlot, Named, a
 use Rattle.oc_code.specs.Forms.{enter_code, commit_code, probe_code, write_code}
 use Rattle.oc_code.specs.Forms as forms
 use Rattle.oc_code.specs.Formed.{marks, kind_formed, block_formed, stmts_formed, body_formed}
-use Rattle.oc_code.proofs.Needs.{FoundAt, found_at_place, mapped_at}
+use Rattle.oc_code.proofs.Needs.{FoundAt, found_at_place}
 use Rattle.oc_code.proofs.Spent.{expr_spent, value_spent, arg_spent, args_spent, call_spent, right_spent, kind_spent, return_spent, while_spent, open_spent, region_spent, row_spent}
 use Rattle.oc_code.proofs.Spent.{block_spent, stmts_spent, cost_to, function_spent, IsPlain, spent_less}
 use Rattle.oc_tree.specs.Costs.{one, marks_at, probes, inner_cost, block_cost, stmts_cost, function_cost, costs_to}
+use Rattle.oc_laws.proofs.Members.{at_place}
 
 -- ---- what is asked of a tree: values are plain, and what names a fresh variable is told as a use
 
@@ -333,7 +334,7 @@ module _ (p : TProgram) (regions : List TRegion) (rank : Text → ℕ) (uses : �
       go less (Some f) at =
           let place : 0 + at.0 ≡ at.0 = omega arith in
           let e : known_of (map (function_cost p.functions uses regions ws) p.functions) (function_place p.functions x) ≡ function_cost p.functions uses regions ws f = ap
-          (known_of (map (function_cost p.functions uses regions ws) p.functions)) (at.1 ∙ ap Some place) ∙ mapped_at (function_cost p.functions uses regions ws) p.functions at.0 f at.2 in
+          (known_of (map (function_cost p.functions uses regions ws) p.functions)) (at.1 ∙ ap Some place) ∙ at_place (function_cost p.functions uses regions ws) p.functions at.0 f 0 at.2 in
           let r = ends_less (is_some f.result) (block_spent p.functions regions (cost_to p regions d) (function_scope p f) (length f.params + link_words f) f.body)
           (block_cost p.functions uses regions ws f.body) (body_less ws (cost_to p regions d) less (rank f.name) (is_some f.result) (function_scope p f) (length f.params + link_words f)
           f.body (formed at.0 f at.2) (counted at.0 f at.2)) in

@@ -1,7 +1,7 @@
 -- The first fault of a reading is where the tokens stop to begin a program, or pass a depth.
 use Rattle.std.proofs.Common.{◌≡◌, ℕ, zero, suc, ◌+◌, ◌-◌, ◌<◌, ◌≤◌, Bool, true, false, eqb, [], ◌∷◌, ◌++◌, length, Result, Ok, Err, refl, sym, ap, subst, ◌∙◌, arith, append_assoc}
 use Rattle.std.proofs.Common.{append-nil, inl, inr, ◌⊎◌}
-use Rattle.std.proofs.lemmas.Bool.{eqb-true, eq-eqb}
+use Rattle.std.proofs.lemmas.Bool.{eqb-true, eqb-false}
 use Rattle.std.proofs.lemmas.List.{length-append}
 use Rattle.oc_tree.specs.Tree.{TProgram}
 use Rattle.oc_lex.specs.declared.token.Mark.TheVariants as marks
@@ -149,9 +149,6 @@ record Split (ts : Lexemes) (m : ℕ) : Type 0 where
   is : ts ≡ front ++ token ∷ behind
   left : length behind ≡ m
 
-differ : (a b : ℕ) → eqb a b ≡ false → a ≡ b → ⊥
-differ a b e k = let t : true ≡ false = sym (eq-eqb a b k) ∙ e in cc
-
 below : (a m : ℕ) → m < suc a → (a ≡ m → ⊥) → m < a
 below zero zero h ne = absurd (ne refl)
 below zero (suc m) h ne = absurd (omega arith)
@@ -169,7 +166,7 @@ split (t ∷ ts) m h = by_length (eqb (length ts) m) refl (λ g. split ts m g)
     by_length : (b : Bool) → eqb (length ts) m ≡ b → (m < length ts → Split ts m) → Split (t ∷ ts) m
     by_length true e again = record { front = []; token = t; behind = ts; is = refl; left = eqb-true _ _ e }
     by_length false e again =
-        let ne : length ts ≡ m → ⊥ = differ (length ts) m e in
+        let ne : length ts ≡ m → ⊥ = eqb-false (length ts) m e in
         let s = again (below (length ts) m h ne) in
         record { front = t ∷ s.front; token = s.token; behind = s.behind; is = ap (λ (l : Lexemes). t ∷ l) s.is; left = s.left }
 

@@ -1,6 +1,7 @@
 -- What is read in front stands there, and what stands there is read.
 use Rattle.std.proofs.Common.{◌≡◌, ℕ, suc, ℤ, Bool, true, false, cond, eqb, List, [], ◌∷◌, length, get_or, Option, Some, None, Result, Ok, Err, refl, sym, ap, subst, ◌∙◌, inl, inr, ◌⊎◌}
 use Rattle.std.proofs.lemmas.Bool.{eqb-true, ne_eqb, eq-eqb}
+use Rattle.std.proofs.lemmas.Option.{same_Some}
 use Rattle.oc_tree.specs.Names.{Text}
 use Rattle.oc_tree.specs.declared.tree.BinaryOp.{BinaryOp}
 use Rattle.oc_lex.specs.declared.token.Word.{Word}
@@ -27,9 +28,6 @@ done x = Ok x
 
 pub ok_is : {A : Type 0} (x y : A) → done x ≡ done y → x ≡ y
 ok_is x y e = cc
-
-pub some_is : {A : Type 0} (x y : A) → ◌≡◌ {A = Option A} (Some x) (Some y) → x ≡ y
-some_is x y e = cc
 
 pub with_some_ok : {A B : Type 0} (o : Option A) (y : B) (f : A → B) (z : B) → with_some o y f ≡ z → ((o ≡ None) × (y ≡ z)) ⊎ ((x : A) × (o ≡ Some x) × (f x ≡ z))
 with_some_ok None y f z e = inl (refl, e)
@@ -84,7 +82,7 @@ strip_mark_ok m (sign line k ∷ ts) rest e =
     elim (chosen (eqb (mark_number k) (mark_number m)) (Some ts) None (Some rest) e) [
       | inl w ↦
           let a : k ≡ m = one_mark k m (eqb-true _ _ w.0) in
-          let b : ts ≡ rest = some_is ts rest w.1 in
+          let b : ts ≡ rest = same_Some ts rest w.1 in
           subst (λ (n : Mark). Sign n (sign line k ∷ ts) rest) a (subst (λ (r : Lexemes). Sign k (sign line k ∷ ts) r) b a_sign)
       | inr w ↦ absurd cc
     ]
@@ -96,7 +94,7 @@ strip_word_ok m (keyword line k ∷ ts) rest e =
     elim (chosen (eqb (word_number k) (word_number m)) (Some ts) None (Some rest) e) [
       | inl w ↦
           let a : k ≡ m = one_word k m (eqb-true _ _ w.0) in
-          let b : ts ≡ rest = some_is ts rest w.1 in
+          let b : ts ≡ rest = same_Some ts rest w.1 in
           subst (λ (n : Word). Keyword n (keyword line k ∷ ts) rest) a (subst (λ (r : Lexemes). Keyword k (keyword line k ∷ ts) r) b a_keyword)
       | inr w ↦ absurd cc
     ]
@@ -177,14 +175,14 @@ infix_shorter (an_operator o) = refl
 before_some : (ts : Lexemes) (o : Option BinaryOp) (x : BinaryOp × Lexemes) → before ts o ≡ Some x → (o ≡ Some x.0) × (ts ≡ x.1)
 before_some ts None x e = absurd cc
 before_some ts (Some op) x e =
-    let p = some_is (op, ts) x e in
+    let p = same_Some (op, ts) x e in
     (ap (λ (y : BinaryOp × Lexemes). Some y.0) p, ap (λ (y : BinaryOp × Lexemes). y.1) p)
 
 pub at_level_some : (level : ℕ) (o : Option (BinaryOp × ℕ)) (op : BinaryOp) → at_level level o ≡ Some op → o ≡ Some (op, level)
 at_level_some level None op e = absurd cc
 at_level_some level (Some x) op e =
     elim (chosen (eqb x.1 level) (Some x.0) None (Some op) e) [
-      | inl w ↦ let k : x.1 ≡ level = eqb-true _ _ w.0 in let o : x.0 ≡ op = some_is x.0 op w.1 in ap (λ (p : BinaryOp × ℕ). Some p) (pair x op level o k)
+      | inl w ↦ let k : x.1 ≡ level = eqb-true _ _ w.0 in let o : x.0 ≡ op = same_Some x.0 op w.1 in ap (λ (p : BinaryOp × ℕ). Some p) (pair x op level o k)
       | inr w ↦ absurd cc
     ]
   where

@@ -1,9 +1,10 @@
 -- An image that was verified breaks no rule.
-use Rattle.std.proofs.Common.{◌≡◌, ℕ, zero, suc, ◌+◌, ◌<◌, ◌≤◌, ◌≢◌, List, [], ◌∷◌, ◌++◌, length, take, Some, None, Ok, Err, refl, sym, ap, ◌∙◌, subst, ⊎_elim, inl, inr, arith}
+use Rattle.std.proofs.Common.{◌≡◌, ℕ, zero, suc, ◌+◌, ◌<◌, ◌≤◌, List, [], ◌∷◌, ◌++◌, length, take, Some, None, Ok, Err, refl, sym, ap, ◌∙◌, subst, ⊎_elim, inl, inr, arith}
 use Rattle.std.proofs.Common.{Bool, true, false, nat_lt, nat_eq}
 use Rattle.std.specs.Prelude.{◌⊎◌, ◌||◌, slice_get}
 use Rattle.std.specs.List.{list_any}
 use Rattle.std.proofs.lemmas.Bool.Decides.{eqb_tells}
+use Rattle.std.proofs.Math.Arith.{lt_of_le-ne}
 use Rattle.oc_tree.specs.Reach.{Links, linked, leads, reaches, rank, count_below, one}
 use Rattle.oc_tree.proofs.ReachLaws.{links_lead, leads_trans, rank_falls}
 use Rattle.oc_isa.specs.declared.image.ImageFunction.{ImageFunction}
@@ -73,14 +74,8 @@ pub level_some : {A : Type 0} (xs : List A) (j : ℕ) → j < length xs → (x :
 level_some [] j h = absurd (omega (arith, h))
 level_some (x ∷ xs) j h = ⊎_elim
     (λ q. (x, grind (arith, q.1)))
-    (λ q. let r = level_some xs j (let n = q.1 in not_last j (length xs) h n) in (r.0, grind (arith, q.1, r.1)))
+    (λ q. let r = level_some xs j (lt_of_le-ne (omega (arith, h)) q.1) in (r.0, grind (arith, q.1, r.1)))
     (eqb_tells j (length xs))
-  where
-    not_last : (j n : ℕ) → j < suc n → j ≢ n → j < n
-    not_last zero zero l d = absurd (d refl)
-    not_last zero (suc n) l d = omega arith
-    not_last (suc j) zero l d = absurd (omega (arith, l))
-    not_last (suc j) (suc n) l d = let r = not_last j n (omega (arith, l)) (λ e. d (ap suc e)) in omega (arith, r)
 
 equal_by : (a b : Kind) → ((n : ℕ) → a ≡ Place n → Suits (Place n) b) → ((n : ℕ) → b ≡ Place n → Suits (Place n) a) → a ≡ b
 equal_by Number Number h k = refl

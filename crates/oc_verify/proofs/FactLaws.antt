@@ -1,6 +1,9 @@
 -- The code of a function, from its entry to its end.
-use Rattle.std.proofs.Common.{◌≡◌, ℕ, zero, suc, ◌<◌, ◌≤◌, List, [], ◌∷◌, length, drop, get_or, map, Option, Some, None, refl, sym, ap, ◌∙◌, subst, ⊎_elim, arith, Bool, true, false, nat_lt, nat_le}
+use Rattle.std.proofs.Common.{◌≡◌, ℕ, zero, suc, ◌+◌, ◌<◌, ◌≤◌, List, [], ◌∷◌, ◌++◌, length, drop, get_or, map, Option, Some, None, refl, sym, ap, ◌∙◌, subst, ⊎_elim, arith, Bool, true, false, nat_lt, nat_le}
+use Rattle.std.proofs.Math.Arith.{lt_of_le-ne}
 use Rattle.std.proofs.lemmas.Bool.{and_from, and_parts}
+use Rattle.std.proofs.lemmas.Bool.Decides.{eqb_tells}
+use Rattle.std.proofs.lemmas.List.{get_or_append_left, get_or_push}
 use Rattle.std.specs.Prelude.{◌⊎◌, ◌&&◌, ◌||◌, if◌then◌else◌, slice_get, max}
 use Rattle.std.specs.List.{list_all}
 use Rattle.oc_tree.specs.declared.said.Target.{Target}
@@ -115,6 +118,14 @@ no_result [] f h = refl
 no_result (x ∷ xs) zero h = absurd (omega (arith, h))
 no_result (x ∷ xs) (suc f) h = no_result xs f (omega (arith, h))
 
+-- one result more, at the end
+pub more_results : (i : Parts) (xs : List Bool) (n : ℕ) (b : Bool) → length xs ≡ n → ((f : ℕ) → f < n → get_or xs f false ≡ gives i f) → b ≡ gives i n
+    → (f : ℕ) → f < n + 1 → get_or (xs ++ b ∷ []) f false ≡ gives i f
+more_results i xs n b l h e f k = ⊎_elim
+    (λ q. get_or_push xs b false f (l ∙ sym q.1) ∙ e ∙ ap (gives i) (sym q.1))
+    (λ q. let m : f < n = lt_of_le-ne (omega (arith, k)) q.1 in get_or_append_left xs (b ∷ []) false f (omega (arith, m, l)) ∙ h f m)
+    (eqb_tells f n)
+
 pub all_results : (i : Parts) (xs : List Bool) (n : ℕ) → n ≡ length i.functions → length xs ≡ n → ((f : ℕ) → f < n → get_or xs f false ≡ gives i f) → (f : ℕ) → get_or xs f false ≡ gives i f
 all_results i xs n e l h f = by (nat_lt f n) refl
   where
@@ -135,18 +146,6 @@ region_is (t ∷ ts) (suc r) h = region_is ts r (omega (arith, h))
 pub all_long : (ts : List (List Target)) → length (map needs ts) ≡ length ts
 all_long [] = refl
 all_long (t ∷ ts) = ap suc (all_long ts)
-
-pub region_zero : (i : Parts) (f : ℕ) → names_exist i f (Enter 0) ≡ false
-region_zero i f = refl
-
-pub region_past : (i : Parts) (f r : ℕ) → length i.targets < r → names_exist i f (Enter r) ≡ false
-region_past i f r h =
-    let e : nat_le r (length i.targets) ≡ false = grind (arith, h) in
-    ap (λ b. (nat_le 1 r && b) && list_all (param_fits (params_of i f)) (targets_of i r)) e ∙ none (nat_le 1 r) (list_all (param_fits (params_of i f)) (targets_of i r))
-  where
-    none : (a b : Bool) → (a && false) && b ≡ false
-    none true b = refl
-    none false b = refl
 
 pub region_in : (i : Parts) (f r : ℕ) → r < length i.targets → names_exist i f (Enter (suc r)) ≡ nat_le (get_or (map needs i.targets) r 0) (params_of i f)
 region_in i f r h =

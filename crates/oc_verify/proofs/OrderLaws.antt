@@ -262,9 +262,3 @@ pub placed_there : (ps : List Placed) (a : ℕ) → a < length ps → (x : Place
 placed_there [] a h = absurd (omega (arith, h))
 placed_there (p ∷ ps) zero h = (p, refl)
 placed_there (p ∷ ps) (suc a) h = placed_there ps a (omega (arith, h))
-
-pub drop_past : {A : Type 0} (xs : List A) (n : ℕ) → length xs ≤ n → drop n xs ≡ []
-drop_past [] zero h = refl
-drop_past [] (suc n) h = refl
-drop_past (x ∷ xs) zero h = absurd (omega (arith, h))
-drop_past (x ∷ xs) (suc n) h = drop_past xs n (omega (arith, h))

@@ -5,6 +5,7 @@ use Rattle.std.specs.Prelude.{◌⊎◌, ◌||◌, ◌&&◌, slice_get, slice_se
 use Rattle.std.specs.List.{All}
 use Rattle.std.proofs.lemmas.Bool.Decides.{eqb_tells}
 use Rattle.std.proofs.lemmas.List.{length-take-le}
+use Rattle.std.proofs.Math.Arith.{lt_of_le-ne}
 use Rattle.oc_isa.specs.declared.instr.Instr.{Instr}
 use Rattle.oc_isa.specs.declared.instr.Instr.TheVariants.{Call}
 use Rattle.oc_isa.specs.declared.instr.Placed.{Placed}
@@ -209,7 +210,7 @@ module _ (i : Parts) (tab : Marks) (f place g : ℕ) (p : Pair) (ps ps' : Passed
         (λ o. suit_there h k a q (calls_old seen f place h a o) s)
         (λ o. ⊎_elim
         (λ n. suit_here h k a q o.0 n.1 s)
-        (λ n. suit_there h k a q (calls_new seen f place h a o.0 (less a place (let u = o.1 in omega (arith, u)) n.1)) s)
+        (λ n. suit_there h k a q (calls_new seen f place h a o.0 (lt_of_le-ne (let u = o.1 in omega (arith, u)) n.1)) s)
         (eqb_tells a place))
         (calls_parts seen f (place + 1) h a d);
     met = λ k j n cs e l. ⊎_elim
@@ -221,9 +222,3 @@ module _ (i : Parts) (tab : Marks) (f place g : ℕ) (p : Pair) (ps ps' : Passed
         (λ q. let m = P.passes k cs (sym (elsewhere k q.1) ∙ e) in (m.0, m.1, m.2, later m.0 m.1 m.3, m.4))
         (eqb_tells k g);
   }
-    where
-      less : (i m : ℕ) → i < suc m → i ≢ m → i < m
-      less zero zero l d = absurd (d refl)
-      less zero (suc m) l d = omega arith
-      less (suc i) zero l d = absurd (omega (arith, l))
-      less (suc i) (suc m) l d = let r = less i m (omega (arith, l)) (λ e. d (ap suc e)) in omega (arith, r)

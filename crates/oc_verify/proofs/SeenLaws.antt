@@ -1,5 +1,5 @@
 -- The kinds that were passed, as the code keeps them.
-use Rattle.std.proofs.Common.{◌≡◌, ℕ, zero, suc, ◌+◌, ◌<◌, ◌≤◌, ◌≢◌, List, [], ◌∷◌, ◌++◌, length, take, map, ⊎_elim, Option, Some, None, refl, sym, ap, ◌∙◌, subst, arith}
+use Rattle.std.proofs.Common.{◌≡◌, ℕ, zero, suc, ◌+◌, ◌<◌, ◌≤◌, List, [], ◌∷◌, ◌++◌, length, take, map, ⊎_elim, Option, Some, None, refl, sym, ap, ◌∙◌, subst, arith}
 use Rattle.std.proofs.Common.{Vec, Global, Bool, true, false, cond, nat_cmp, inl, inr}
 use Rattle.std.specs.Prelude.{◌==◌, ◌⊎◌, option_map, slice_get, slice_set, replicate}
 use Rattle.std.specs.BTreeSet.{BTreeSet, Updates, contains}
@@ -10,6 +10,7 @@ use Rattle.oc_isa.specs.declared.image.ImageFunction.{ImageFunction}
 use Rattle.std.specs.List.{All}
 use Rattle.std.proofs.lemmas.List.{length-take-le}
 use Rattle.std.proofs.lemmas.List.Elements.{All-nil, All-cons, All-take}
+use Rattle.std.proofs.Math.Arith.{lt_of_le-ne}
 use Rattle.oc_isa.specs.declared.instr.Placed.{Placed}
 use Rattle.oc_isa.specs.declared.instr.Instr.TheVariants.{Call}
 use Rattle.oc_isa.specs.Image.{Parts}
@@ -113,9 +114,6 @@ pub mixes_some : (params : ℕ) (ps : Passed) (g : ℕ) (ops : List Kind) (cs : 
     → MixesWith (slice_get ps g) (take params ops) e
 mixes_some params ps g ops cs e is n m = subst (λ o. MixesWith o (take params ops) e) (sym is) (mixes_take params ops cs e n m)
 
-pub mixes_none : (params : ℕ) (ps : Passed) (g : ℕ) (ops : List Kind) (e : VerifyError) → slice_get ps g ≡ Some None → e ≡ errors.Memory → MixesWith (slice_get ps g) (take params ops) e
-mixes_none params ps g ops e is m = subst (λ o. MixesWith o (take params ops) e) (sym is) m
-
 -- what a cell says
 pub cell_mark : (t : Table) (a : ℕ) (n : ℕ × ℕ) → slice_get t.cells.items a ≡ Some (Some n) → table_marks t a ≡ Some (pair_of t.tops t.regions n)
 cell_mark t a n e = ap (pair_in t.tops t.regions) e
@@ -162,14 +160,8 @@ module _ (i : Parts) (t : Table) (f place : ℕ) (first old : Passed) (P : (seen
       → IsPassed i (with_calls seen f (place + 1)) (table_marks t) old
   none_passed none seen Q = pass_on i (table_marks t) f old seen place (place + 1) (omega arith) (λ g a p s l. ⊎_elim
       (λ e. absurd (none g p (subst (λ k. SeenCall i (table_marks t) f g k p) e.1 s)))
-      (λ e. less a place (omega (arith, l)) e.1)
+      (λ e. lt_of_le-ne (omega (arith, l)) e.1)
       (eqb_tells a place)) (P seen Q)
-    where
-      less : (i m : ℕ) → i < suc m → i ≢ m → i < m
-      less zero zero l d = absurd (d refl)
-      less zero (suc m) l d = omega arith
-      less (suc i) zero l d = absurd (omega (arith, l))
-      less (suc i) (suc m) l d = let r = less i m (omega (arith, l)) (λ e. d (ap suc e)) in omega (arith, r)
 
 -- the kinds of this function suit what stands on top of these
 abbrev pub SuitedBy : Parts → Passed → ℕ → List Kind → Type 0

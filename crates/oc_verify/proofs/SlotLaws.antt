@@ -1,8 +1,10 @@
 -- Slots, by the numbers of their kinds.
-use Rattle.std.proofs.Common.{◌≡◌, ℕ, zero, suc, ◌+◌, ◌-◌, ◌<◌, ◌≤◌, ◌≢◌, List, [], ◌∷◌, ◌++◌, length, length-append, get_or, Option, Some, None, refl, sym, ap, ◌∙◌}
+use Rattle.std.proofs.Common.{◌≡◌, ℕ, zero, suc, ◌+◌, ◌-◌, ◌<◌, ◌≤◌, ◌≢◌, List, [], ◌∷◌, ◌++◌, append_assoc, drop, length, length-append, get_or, Option, Some, None, refl, sym, ap, ◌∙◌}
 use Rattle.std.proofs.Common.{⊎_elim, arith, Bool, true, false, nat_lt}
 use Rattle.std.specs.Prelude.{◌==◌, if◌then◌else◌, map, replicate, option_map}
 use Rattle.std.proofs.lemmas.Bool.Decides.{eqb_tells}
+use Rattle.std.proofs.lemmas.List.{append-nil, drop_all, drop_more}
+use Rattle.std.proofs.Math.Arith.{lt_of_le-ne}
 use Rattle.oc_isa.specs.declared.image.ImageFunction.{ImageFunction}
 use Rattle.oc_verify.specs.declared.kind.Kind.{Kind}
 use Rattle.oc_verify.specs.declared.kind.Kind.TheVariants.{Number}
@@ -27,14 +29,8 @@ all_numbers zero s h = absurd (omega (arith, h))
 all_numbers (suc n) s h = ⊎_elim
     (λ q. let e : s ≡ length (replicate n (Some Number)) = q.1 in grind (arith, q.0))
     (λ q. let d : s ≢ n = (λ e. q.1 (e ∙ sym (filled n))) in (let f : (s == length (replicate n (Some Number))) ≡ false = q.0 in
-    ap (λ b. if b then Some (Some Number) else level (replicate n (Some Number)) s) f ∙ all_numbers n s (less s n h d)))
+    ap (λ b. if b then Some (Some Number) else level (replicate n (Some Number)) s) f ∙ all_numbers n s (lt_of_le-ne (omega (arith, h)) d)))
     (eqb_tells s (length (replicate n (Some Number))))
-  where
-    less : (s n : ℕ) → s < suc n → s ≢ n → s < n
-    less zero zero l d = absurd (d refl)
-    less zero (suc n) l d = omega arith
-    less (suc s) zero l d = absurd (omega (arith, l))
-    less (suc s) (suc n) l d = let r = less s n (omega (arith, l)) (λ e. d (ap suc e)) in omega (arith, r)
 
 -- a function's slots, from the bottom: its parameters, two links, then numbers
 
@@ -48,18 +44,22 @@ param_level (k ∷ ks) s h = ⊎_elim
     (λ q. let e : s ≡ length ks = q.1 ∙ seen_of ks in let n : suc (length ks) - 1 - s ≡ 0 = omega (arith, e) in
     ap (λ b. if b then Some (Some k) else level (map Some ks) s) q.0 ∙ ap (λ m. Some (Some (get_or (k ∷ ks) m Number))) (sym n))
     (λ q. let d : s ≢ length ks = (λ e. q.1 (e ∙ sym (seen_of ks))) in
-    let l : s < length ks = less s (length ks) h d in
+    let l : s < length ks = lt_of_le-ne (omega (arith, h)) d in
     let n : suc (length ks) - 1 - s ≡ suc (length ks - 1 - s) = omega (arith, l) in
     ap (λ b. if b then Some (Some k) else level (map Some ks) s) q.0 ∙ param_level ks s l ∙ ap (λ m. Some (Some (get_or (k ∷ ks) m Number))) (sym n))
     (eqb_tells s (length (map Some ks)))
-  where
-    less : (s n : ℕ) → s < suc n → s ≢ n → s < n
-    less zero zero l d = absurd (d refl)
-    less zero (suc n) l d = omega arith
-    less (suc s) zero l d = absurd (omega (arith, l))
-    less (suc s) (suc n) l d = let r = less s n (omega (arith, l)) (λ e. d (ap suc e)) in omega (arith, r)
 
 -- ---- how many numbers follow
+
+-- the runs that were found, with those of the parameters that are left, are all
+pub run_found : (codes : List ℕ) (i n : ℕ) (xs all : List ℕ) → i < length codes → xs ++ runs_of n (map kind_of (drop i codes)) ≡ all
+    → (xs ++ more (Some (kind_of (get_or codes i 0))) n ∷ []) ++ runs_of (more (Some (kind_of (get_or codes i 0))) n) (map kind_of (drop (i + 1) codes)) ≡ all
+run_found codes i n xs all low h =
+    let m : ℕ = more (Some (kind_of (get_or codes i 0))) n in
+    append_assoc xs (m ∷ []) (runs_of m (map kind_of (drop (i + 1) codes))) ∙ sym (ap (λ l. xs ++ runs_of n (map kind_of l)) (drop_more codes i 0 low)) ∙ h
+
+pub runs_found : (codes : List ℕ) (i n : ℕ) (xs all : List ℕ) → length codes ≤ i → xs ++ runs_of n (map kind_of (drop i codes)) ≡ all → xs ≡ all
+runs_found codes i n xs all past h = sym (append-nil xs) ∙ sym (ap (λ l. xs ++ runs_of n (map kind_of l)) (drop_all i codes past)) ∙ h
 
 run_past : (ss : Slots) (s n : ℕ) → length ss ≤ s → run ss s n ≡ n
 run_past [] s n h = refl
@@ -75,16 +75,10 @@ run_params (k ∷ ks) s n h = ⊎_elim
     let z : suc (length ks) - 1 - s ≡ 0 = omega (arith, e) in
     let l : length (map Some ks) ≤ s = (let m = seen_of ks in omega (arith, m, e)) in
     run_step (Some k) (map Some ks) s n (let m = seen_of ks in omega (arith, m, e)) ∙ run_past (map Some ks) s (more (Some k) n) l ∙ ap (λ m. get_or (runs_of n (k ∷ ks)) m 0) (sym z))
-    (λ q. let l : s < length ks = less s (length ks) h q.1 in
+    (λ q. let l : s < length ks = lt_of_le-ne (omega (arith, h)) q.1 in
     let z : suc (length ks) - 1 - s ≡ suc (length ks - 1 - s) = omega (arith, l) in
     run_step (Some k) (map Some ks) s n (let m = seen_of ks in omega (arith, m, l)) ∙ run_params ks s (more (Some k) n) l ∙ ap (λ m. get_or (runs_of n (k ∷ ks)) m 0) (sym z))
     (eqb_tells s (length ks))
-  where
-    less : (s n : ℕ) → s < suc n → s ≢ n → s < n
-    less zero zero l d = absurd (d refl)
-    less zero (suc n) l d = omega arith
-    less (suc s) zero l d = absurd (omega (arith, l))
-    less (suc s) (suc n) l d = let r = less s n (omega (arith, l)) (λ e. d (ap suc e)) in omega (arith, r)
 
 run_numbers_on : (c : ℕ) (ss : Slots) (s n : ℕ) → length ss ≤ s → s ≤ length ss + c → run (replicate c (Some Number) ++ ss) s n ≡ (length ss + c - s) + n
 run_numbers_on zero ss s n l h = run_past ss s n l ∙ omega (arith, l, h)

@@ -3,6 +3,7 @@ use Rattle.std.proofs.Common.{◌≡◌, ℕ, zero, suc, ◌<◌, ◌≤◌, ◌
 use Rattle.std.specs.Prelude.{slice_get, ◌||◌, if◌then◌else◌}
 use Rattle.std.specs.List.{list_any}
 use Rattle.std.proofs.lemmas.Bool.Decides.{eqb_tells}
+use Rattle.std.proofs.Math.Arith.{lt_of_le-ne}
 use Rattle.oc_verify.specs.Stacks.{Nodes, node, below_of, top_of, stack_to, stack_by, stack, AreNodes, with_node}
 
 -- there is such a node
@@ -116,14 +117,8 @@ more_nodes ks x a few n b = record {
       (eqb_tells i (length ks));
 }
   where
-    less : (i m : ℕ) → i < suc m → i ≢ m → i < m
-    less zero zero l d = absurd (d refl)
-    less zero (suc m) l d = omega arith
-    less (suc i) zero l d = absurd (omega (arith, l))
-    less (suc i) (suc m) l d = let r = less i m (omega (arith, l)) (λ e. d (ap suc e)) in omega (arith, r)
-
     inside : (i y : ℕ) → slice_get (ks ++ x ∷ []) i ≡ Some y → i ≢ length ks → i < length ks
-    inside i y e d = less i (length ks) (let l = get_past (ks ++ x ∷ []) i y e in let g = grown ks x in omega (arith, l, g)) d
+    inside i y e d = lt_of_le-ne (let l = get_past (ks ++ x ∷ []) i y e in let g = grown ks x in omega (arith, l, g)) d
 
     last : (i y : ℕ) → slice_get (ks ++ x ∷ []) i ≡ Some y → i ≡ length ks → x ≡ y
     last i y e q = let z : Some x ≡ Some y = sym (get_last ks x) ∙ ap (slice_get (ks ++ x ∷ [])) (sym q) ∙ e in (cc)

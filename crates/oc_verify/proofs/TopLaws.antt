@@ -1,6 +1,6 @@
 -- The topmost words of a stack, and the least kinds of them and of others.
-use Rattle.std.proofs.Common.{◌≡◌, ℕ, zero, suc, ◌+◌, ◌<◌, ◌≤◌, List, [], ◌∷◌, ◌++◌, append_assoc, length, take, drop, map, min, Option, Some, None, refl, sym, ap, ◌∙◌, inl, inr, arith}
-use Rattle.std.specs.Prelude.{◌⊎◌, slice_get}
+use Rattle.std.proofs.Common.{◌≡◌, ℕ, zero, suc, ◌+◌, ◌<◌, ◌≤◌, List, [], ◌∷◌, ◌++◌, append_assoc, length, take, drop, map, Option, Some, None, refl, sym, ap, ◌∙◌, arith}
+use Rattle.std.specs.Prelude.{slice_get}
 use Rattle.std.specs.List.{All}
 use Rattle.std.proofs.lemmas.List.Elements.{All-nil, All-cons}
 use Rattle.oc_verify.specs.declared.kind.Kind.{Kind}
@@ -59,26 +59,6 @@ drop_suc (x ∷ xs) ys (suc d) y e = drop_suc xs ys d y e
 pub drop_next : {A : Type 0} (xs ys : List A) (d : ℕ) (y : A) → drop d xs ≡ y ∷ ys → drop (d + 1) xs ≡ ys
 drop_next xs ys d y e = let n : d + 1 ≡ suc d = omega arith in ap (λ k. drop k xs) n ∙ drop_suc xs ys d y e
 
--- the least of two kinds, by their numbers
-
-pub least_numbers : (a b : ℕ) → a ≡ 0 → b ≡ 0 → Some (kind_of (min a b)) ≡ least (kind_of a) (kind_of b)
-least_numbers zero zero p q = refl
-least_numbers zero (suc b) p q = absurd (omega (arith, q))
-least_numbers (suc a) b p q = absurd (omega (arith, p))
-
-pub least_places : (a b : ℕ) → 1 ≤ a → 1 ≤ b → Some (kind_of (min a b)) ≡ least (kind_of a) (kind_of b)
-least_places zero b p q = absurd (omega (arith, p))
-least_places (suc a) zero p q = absurd (omega (arith, q))
-least_places (suc a) (suc b) p q = (let m : min (suc a) (suc b) ≡ suc (min a b) = omega arith in ap (λ n. Some (kind_of n)) m)
-
-pub least_none : (a b : ℕ) → ((a ≡ 0) × (1 ≤ b)) ⊎ ((1 ≤ a) × (b ≡ 0)) → least (kind_of a) (kind_of b) ≡ None
-least_none zero zero (inl h) = absurd (let l = h.1 in omega (arith, l))
-least_none zero zero (inr h) = absurd (let l = h.0 in omega (arith, l))
-least_none zero (suc b) h = refl
-least_none (suc a) zero h = refl
-least_none (suc a) (suc b) (inl h) = absurd (let l = h.0 in omega (arith, l))
-least_none (suc a) (suc b) (inr h) = absurd (let l = h.1 in omega (arith, l))
-
 -- the least of two lists, of which the first ones are found
 
 abbrev pub onto : List Kind → Option (List Kind) → Option (List Kind)
@@ -126,8 +106,3 @@ leasts_take (a ∷ as') [] zero e = refl
 leasts_take (a ∷ as') [] (suc n) e = refl
 leasts_take (a ∷ as') (b ∷ bs) zero e = absurd (omega (arith, e))
 leasts_take (a ∷ as') (b ∷ bs) (suc n) e = ap (joined (least a b)) (leasts_take as' bs n (omega (arith, e)))
-
--- nothing is found yet
-pub onto_nothing : (o : Option (List Kind)) → onto [] o ≡ o
-onto_nothing None = refl
-onto_nothing (Some ks) = refl

@@ -11,7 +11,7 @@ use Rattle.std.proofs.lemmas.List.{append-nil, take-append-drop, length-map}
 use Rattle.std.proofs.lemmas.List.Elements.{All-nil, All-cons, All-head, All-tail, All-append}
 use mir.ValLaws.{of_z_fits}
 use Rattle.oc_lex.specs.Stands.{IsName}
-use Rattle.oc_tree.specs.Names.{Text}
+use Rattle.oc_tree.specs.Names.{Text, NameLists}
 use Rattle.oc_tree.specs.declared.said.Target.{Target}
 use Rattle.oc_isa.specs.declared.image.ImageFunction.{ImageFunction}
 use Rattle.oc_isa.specs.declared.image.ImageNv.{ImageNv}
@@ -19,7 +19,8 @@ use Rattle.oc_isa.specs.declared.instr.Placed.{Placed}
 use Rattle.oc_isa.specs.Image.{Parts}
 use Rattle.oc_isa.specs.Bytes.{Bytes, IsFew, magic, image_bytes, number_bytes, word_bytes, name_bytes, list_bytes, nvs_bytes, all_nvs_bytes, function_bytes, target_bytes, placed_bytes}
 use Rattle.oc_verify.specs.Reading.{Read, ◌>>=◌, AreImage, IsTold, HasNumbers, all_names, each_once, is_named, IsNumber, AreNumbers, target_numbers, IsInstr, any_at, word_at}
-use Rattle.oc_verify.specs.Reading.{list_at, names_at, bare_at, nv_at, function_at, target_at, placed_at, ended, read_at}
+use Rattle.oc_verify.specs.Reading.{list_at, names_at, bare_at, nv_at, function_at, target_at, placed_at, magic_at, ended, read_at}
+use Rattle.oc_verify.specs.Reads.{names_on, all_names_at, declarations_at, body_at}
 use Rattle.oc_verify.proofs.FieldLaws.{AreBytes, IsField, bytes_behind, shorter, bind_good, then_bad, ok_pair, any_field, word_field, list_field}
 use Rattle.oc_verify.proofs.InstrFields.{target_field, placed_field}
 use Rattle.oc_verify.proofs.NamedFields.{with_name, HasName, IsTail, AreNamed, names_field, names_back}
@@ -195,6 +196,57 @@ at_ports s = names_at 64 bare_at s.0 s.1 >>= at_nvs s.0
 
 abbrev at_sensors : Bytes → Result Parts ℕ
 at_sensors rest = names_at 64 bare_at [] rest >>= at_ports
+
+-- The whole in two parts
+
+binds : {A B C : Type 0} (r : Result A ℕ) (f : A → Result B ℕ) (g : B → Result C ℕ) (h : A → Result C ℕ) → ((x : A) → (f x >>= g) ≡ h x) → ((r >>= f) >>= g) ≡ (r >>= h)
+binds (Ok x) f g h e = e x
+binds (Err left) f g h e = refl
+
+abbrev Declarations : Type 0
+Declarations = NameLists × List ImageNv × List ImageFunction
+
+abbrev Body : Type 0
+Body = List (List Target) × ℕ × List Placed
+
+abbrev whole : Declarations → Body → Result Parts ℕ
+whole d b = Ok (record { names = d.0; functions = d.2; targets = b.0; nv = d.1; code = b.2; stack = b.1 })
+
+abbrev pub at_body : Declarations × Bytes → Result Parts ℕ
+at_body d = body_at d.1 >>= whole d.0
+
+abbrev pub at_declared : Bytes → Result Parts ℕ
+at_declared rest = declarations_at rest >>= at_body
+
+ended_then : (d : Declarations) (b : Body) (bs : Bytes) → (ended b bs >>= whole d) ≡ (ended (record { names = d.0; functions = d.2; targets = b.0; nv = d.1; code = b.2; stack = b.1 }) bs)
+ended_then d b [] = refl
+ended_then d b (x ∷ bs) = refl
+
+body_then : (s p : List Text) (v : List Nv) (f : List ImageFunction) (bs : Bytes)
+    → at_body ((record { sensors = s; ports = p; nvs = map (λ x. x.0) v }, map (λ x. x.1) v, f), bs) ≡ at_regions s p v (f, bs)
+body_then s p v f bs =
+    let d : Declarations = (record { sensors = s; ports = p; nvs = map (λ x. x.0) v }, map (λ x. x.1) v, f) in
+    binds (list_at (list_at target_at) bs) _ (whole d) (at_stack s p v f) (λ r.
+    binds (any_at r.1) _ (whole d) (at_code s p v f r.0) (λ w.
+    binds (list_at placed_at w.1) _ (whole d) (at_end s p v f r.0 w.0) (λ c. ended_then d (r.0, w.0, c.0) c.1)))
+
+abbrev at_functions_of : (NameLists × List ImageNv) × Bytes → Result Parts ℕ
+at_functions_of n = (names_at 128 function_at (names_on [] n.0.0) n.1 >>= λ f. Ok ((n.0.0, n.0.1, f.0), f.1)) >>= at_body
+
+declared_then : (rest : Bytes) → at_declared rest ≡ at_sensors rest
+declared_then rest =
+    binds (all_names_at [] rest) _ at_body at_functions_of (λ n. refl)
+    ∙ binds (names_at 64 bare_at [] rest) _ at_functions_of at_ports (λ s.
+    binds (names_at 64 bare_at s.0 s.1) _ at_functions_of (at_nvs s.0) (λ p.
+    binds (names_at 64 nv_at (s.0 ++ p.0) p.1) _ at_functions_of (at_functions s.0 p.0) (λ v.
+    binds (names_at 128 function_at ((s.0 ++ p.0) ++ map (λ x. x.0) v.0) v.1) _ at_body (at_regions s.0 p.0 v.0) (λ f. body_then s.0 p.0 v.0 f.0 f.1))))
+
+pub read_in_parts : (bs : Bytes) → read_at bs ≡ (magic_at bs >>= at_declared)
+read_in_parts bs = by (magic_at bs)
+  where
+    by : (m : Result Bytes ℕ) → (m >>= at_sensors) ≡ (m >>= at_declared)
+    by (Ok rest) = sym (declared_then rest)
+    by (Err left) = refl
 
 magic_good : (bs : Bytes) (i : Parts) → AreBytes bs → read_at bs ≡ Ok i → (rest : Bytes) × (bs ≡ magic ++ rest) × AreBytes rest × (at_sensors rest ≡ Ok i)
 magic_good bs i h e = by (bytes_eq (take 8 bs) magic) refl e

@@ -5,6 +5,7 @@ pub mod Work
 pub mod Stacks
 pub mod Merging
 pub mod Told
+pub mod Judging
 pub mod Reading
 pub mod Reads
 pub mod Own

@@ -1,5 +1,6 @@
 //! What a file declares by names.
 ghost use Rattle.std.specs.Prelude.{◌≡◌, ◌++◌, [], ◌∷◌, map, IfOk};
+ghost use Rattle.oc_tree.specs.Names.{names_view};
 ghost use Rattle.oc_tree.specs.Sizes.{function_limit, name_limit};
 ghost use Rattle.oc_verify.specs.Reading.{
   bare_at,
@@ -17,7 +18,7 @@ use crate::names::Seen;
 use crate::reader::Reader;
 use oc_io::Memory;
 use oc_isa::image::{ImageFunction, ImageNv};
-use oc_tree::name::Name;
+use oc_tree::name::{Name, Names};
 use std::alloc::{AllocError, Global};
 
 impl From<Memory> for ReadFault {
@@ -137,7 +138,7 @@ fn many_functions<'a>(
 }
 
 /// Names of sensors or ports.
-pub fn names<'a>(
+fn names<'a>(
     alloc: Global,
     reader: &mut Reader<'a>,
     seen: &mut Seen<'a>,
@@ -151,7 +152,7 @@ pub fn names<'a>(
 }
 
 /// The nonvolatile variables.
-pub fn nvs<'a>(
+fn nvs<'a>(
     alloc: Global,
     reader: &mut Reader<'a>,
     seen: &mut Seen<'a>,
@@ -165,7 +166,7 @@ pub fn nvs<'a>(
 }
 
 /// The functions.
-pub fn functions<'a>(
+fn functions<'a>(
     alloc: Global,
     reader: &mut Reader<'a>,
     seen: &mut Seen<'a>,
@@ -178,10 +179,7 @@ pub fn functions<'a>(
 }
 
 /// Names and what belongs to each, apart.
-pub fn split(
-    alloc: Global,
-    nvs: Vec<(Name, ImageNv)>,
-) -> Result<(Vec<Name>, Vec<ImageNv>), AllocError>
+fn split(alloc: Global, nvs: Vec<(Name, ImageNv)>) -> Result<(Vec<Name>, Vec<ImageNv>), AllocError>
     ensures names { IfOk result (λ r. r.0.items ≡ map (λ x. x.0) nvs.items) }
     ensures nvs { IfOk result (λ r. r.1.items ≡ map (λ x. x.1) nvs.items) }
 {
@@ -192,4 +190,51 @@ pub fn split(
         words.push(nv)?;
     }
     Ok((names, words))
+}
+
+/// Names, with what belongs to each nonvolatile one, and the functions.
+#[derive(Drop)]
+pub struct Declared {
+    pub names: Names,
+    pub nv: Vec<ImageNv>,
+    pub functions: Vec<ImageFunction>,
+}
+
+/// The names of sensors, ports and nonvolatile variables, and what belongs to each of these.
+fn all_names<'a>(
+    alloc: Global,
+    reader: &mut Reader<'a>,
+    seen: &mut Seen<'a>,
+) -> Result<(Names, Vec<ImageNv>), ReadFault>
+    ensures read { reads.Reads (λ n. (names_view n.0, n.1.items)) result reader.new
+        (reads.all_names_at seen.old reader.old) }
+    ensures seen { IfOk result (λ n. seen.new ≡ reads.names_on seen.old (names_view n.0)) }
+{
+    let sensors = names(alloc, reader, seen)?;
+    let ports = names(alloc, reader, seen)?;
+    let nvs = nvs(alloc, reader, seen)?;
+    let (nvs, nv) = split(alloc, nvs)?;
+    Ok((
+        Names {
+            sensors,
+            ports,
+            nvs,
+        },
+        nv,
+    ))
+}
+
+/// All that a file declares by names.
+pub fn declarations(alloc: Global, reader: &mut Reader) -> Result<Declared, ReadFault>
+    ensures { reads.Reads reads.declarations_view result reader.new
+        (reads.declarations_at reader.old) }
+{
+    let mut seen = Seen::new(alloc);
+    let (names, nv) = all_names(alloc, reader, &mut seen)?;
+    let functions = functions(alloc, reader, &mut seen)?;
+    Ok(Declared {
+        names,
+        nv,
+        functions,
+    })
 }

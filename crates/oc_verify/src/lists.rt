@@ -24,7 +24,7 @@ fn targets(alloc: Global, count: u32, reader: &mut Reader) -> Result<Vec<Target>
 }
 
 /// The targets of a region.
-pub fn region(alloc: Global, reader: &mut Reader) -> Result<Vec<Target>, ReadFault>
+fn region(alloc: Global, reader: &mut Reader) -> Result<Vec<Target>, ReadFault>
     ensures { reads.Reads (λ v. v.items) result reader.new (list_at target_at reader.old) }
 {
     let count = reader.any()?;
@@ -46,7 +46,7 @@ fn instructions(alloc: Global, count: u32, reader: &mut Reader) -> Result<Vec<Pl
 }
 
 /// The code.
-pub fn code(alloc: Global, reader: &mut Reader) -> Result<Vec<Placed>, ReadFault>
+fn code(alloc: Global, reader: &mut Reader) -> Result<Vec<Placed>, ReadFault>
     ensures { reads.Reads (λ v. v.items) result reader.new (list_at placed_at reader.old) }
 {
     let count = reader.any()?;
@@ -73,10 +73,34 @@ fn many_regions(
 }
 
 /// The targets of all regions.
-pub fn regions(alloc: Global, reader: &mut Reader) -> Result<Vec<Vec<Target>>, ReadFault>
+fn regions(alloc: Global, reader: &mut Reader) -> Result<Vec<Vec<Target>>, ReadFault>
     ensures { reads.Reads (λ v. map (λ r. r.items) v.items) result reader.new
         (list_at (list_at target_at) reader.old) }
 {
     let count = reader.any()?;
     many_regions(alloc, count, reader)
+}
+
+/// What stands behind the declarations: what regions may overwrite, the words of the stack, and the
+/// code.
+#[derive(Drop)]
+pub struct Body {
+    pub targets: Vec<Vec<Target>>,
+    pub stack: u32,
+    pub code: Vec<Placed>,
+}
+
+/// What stands behind the declarations, to the end of the file.
+pub fn read_body(alloc: Global, reader: &mut Reader) -> Result<Body, ReadFault>
+    ensures { reads.ReadsAll reads.body_view result (reads.body_at reader.old) }
+{
+    let targets = regions(alloc, reader)?;
+    let stack = reader.any()?;
+    let code = code(alloc, reader)?;
+    reader.end()?;
+    Ok(Body {
+        targets,
+        stack,
+        code,
+    })
 }

@@ -6,37 +6,32 @@ ghost use Rattle.oc_verify.specs.Reads as reads;
 ghost use Rattle.oc_verify.specs.Reads.{IsBad};
 ghost use Rattle.oc_verify.specs.declared.fault.ImageError.TheVariants as errors;
 
-use crate::declared::{functions, names, nvs, split};
+use crate::declared::{Declared, declarations};
 use crate::fault::{ImageError, ReadFault};
-use crate::lists::{code, regions};
-use crate::names::Seen;
+use crate::lists::{Body, read_body};
 use crate::reader::Reader;
 use oc_isa::image::RawImage;
-use oc_tree::name::Names;
 use std::alloc::Global;
 
 /// The parts of an image, one after another.
+#[tactic(auto, using(crate::proofs::WholeLaws::read_in_parts))]
 fn parts(alloc: Global, bytes: &[u8]) -> Result<RawImage, ReadFault>
     ensures { reads.ReadsAll parts_of result (read_at bytes.now) }
 {
     let mut reader = Reader::new(bytes);
-    let mut seen = Seen::new(alloc);
     reader.magic()?;
-    let sensors = names(alloc, &mut reader, &mut seen)?;
-    let ports = names(alloc, &mut reader, &mut seen)?;
-    let nvs = nvs(alloc, &mut reader, &mut seen)?;
-    let functions = functions(alloc, &mut reader, &mut seen)?;
-    let targets = regions(alloc, &mut reader)?;
-    let stack = reader.any()?;
-    let code = code(alloc, &mut reader)?;
-    reader.end()?;
-    let (nvs, nv) = split(alloc, nvs)?;
+    let Declared {
+        names,
+        nv,
+        functions,
+    } = declarations(alloc, &mut reader)?;
+    let Body {
+        targets,
+        stack,
+        code,
+    } = read_body(alloc, &mut reader)?;
     Ok(RawImage {
-        names: Names {
-            sensors,
-            ports,
-            nvs,
-        },
+        names,
         functions,
         targets,
         nv,

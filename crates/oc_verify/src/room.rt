@@ -3,6 +3,7 @@ ghost use Rattle.std.specs.Prelude.{
   ◌≡◌,
   ◌≤◌,
   ◌<◌,
+  ◌+◌,
   ℕ,
   length,
   suc,
@@ -14,7 +15,7 @@ ghost use Rattle.std.proofs.Math.ListN.{get_or};
 ghost use Rattle.oc_isa.specs.declared.instr.Instr.TheVariants.{Call};
 ghost use Rattle.oc_verify.specs.Blames.{Blames};
 ghost use Rattle.oc_verify.specs.Facts.{IsNamed, IsRanked};
-ghost use Rattle.oc_verify.specs.Room.{BlamesDeep, HasRoom, IsMost, needed};
+ghost use Rattle.oc_verify.specs.Room.{AreBounded, BlamesDeep, HasRoom, IsMost, bounded_by, needed};
 ghost use Rattle.oc_verify.specs.Rules.{params_of};
 ghost use Rattle.oc_verify.specs.Stacks.{stack};
 ghost use Rattle.oc_verify.specs.Tables.{IsExamined, SeenCall};
@@ -116,6 +117,37 @@ fn words_needed(
     Ok(most)
 }
 
+/// Finds how many words the functions of this rank need, of which those of lower ranks have their
+/// bounds.
+fn bound_rank(
+    facts: &Facts,
+    ranks: &[usize],
+    table: &Table,
+    heights: &[u32],
+    bounds: &mut [u64],
+    rank: usize,
+) -> Result<(), VerifyError>
+    requires named { (f : ℕ) → IsNamed facts.now f }
+    requires ranked { IsRanked facts.now ranks.now }
+    requires table { IsTable facts.now table.now }
+    requires examined { IsExamined facts.now (table_marks table.now) }
+    requires many { length heights.now ≡ suc (length table.now.tops) }
+    requires heights { (n : ℕ) → n ≤ length table.now.tops
+        → get_or heights.now n 0 ≡ length (stack table.now.tops n) }
+    requires bounded { AreBounded facts.now (table_marks table.now)
+        (bounded_by (length facts.now.functions) ranks.now rank 0) bounds.old }
+    ensures bounded { OnOk result (AreBounded facts.now (table_marks table.now)
+        (bounded_by (length facts.now.functions) ranks.now (rank + 1) 0) bounds.new) }
+    ensures blames { IfErr result (Blames facts.now) }
+{
+    for function in 0..facts.image().functions.len() {
+        if ranks[function] == rank {
+            bounds[function] = words_needed(facts, table, heights, bounds, function)?;
+        }
+    }
+    Ok(())
+}
+
 /// Refuses an image whose stack has no room for all that functions need.
 pub fn check_room(
     alloc: Global,
@@ -135,11 +167,7 @@ pub fn check_room(
     let heights = heights(alloc, &table.tops)?;
     let mut bounds = vec![in alloc; 0u64; count]?;
     for rank in 0..count + 1 {
-        for function in 0..count {
-            if ranks[function] == rank {
-                bounds[function] = words_needed(facts, table, &heights, &bounds, function)?;
-            }
-        }
+        bound_rank(facts, ranks, table, &heights, &mut bounds, rank)?;
     }
     Ok(())
 }

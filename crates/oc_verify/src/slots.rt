@@ -3,6 +3,7 @@ ghost use Rattle.std.specs.Prelude.{
   ◌≡◌,
   ◌≤◌,
   ◌<◌,
+  ◌+◌,
   Some,
   false,
   length,
@@ -21,7 +22,7 @@ ghost use Rattle.oc_verify.specs.Own.{
   slot_kind,
 };
 ghost use Rattle.oc_verify.specs.Reading.{greatest};
-ghost use Rattle.oc_verify.specs.Rules.{number_slot, run, slot, slot_right};
+ghost use Rattle.oc_verify.specs.Rules.{more, number_slot, run, slot, slot_right};
 ghost use Rattle.oc_verify.specs.Stacks.{kind_limit};
 ghost use Rattle.oc_verify.specs.Told.{Tells, kind_of};
 ghost use Rattle.oc_verify.specs.Typing.{level};
@@ -34,6 +35,16 @@ use oc_isa::instr::Instr;
 use std::alloc::{AllocError, Global};
 use std::marker::Model;
 
+/// How many numbers follow each other from a parameter of this kind on, where so many follow behind
+/// it.
+fn run_from(code: u64, behind: u32) -> u32
+    requires { behind < greatest }
+    ensures run { result ≡ more (Some (kind_of code)) behind }
+    ensures low { result ≤ behind + 1 }
+{
+    if code == 0 { behind + 1 } else { 0 }
+}
+
 /// How many numbers follow each other from each parameter on.
 fn runs(alloc: Global, codes: &[u64]) -> Result<Vec<u32>, AllocError>
     requires { length codes.now ≤ greatest }
@@ -42,7 +53,7 @@ fn runs(alloc: Global, codes: &[u64]) -> Result<Vec<u32>, AllocError>
     let mut runs = Vec::new(alloc);
     let mut run = 0u32;
     for code in codes {
-        run = if *code == 0 { run + 1 } else { 0 };
+        run = run_from(*code, run);
         runs.push(run)?;
     }
     Ok(runs)

@@ -1,7 +1,8 @@
-use Rattle.std.proofs.Common.{rules, ◌≡◌, ◌<◌, ◌≤◌, ◌≢◌, ℕ, zero, suc, Bool, true, false, Some, length, get_or, map, arith, ap, refl, sym, ◌∙◌, ⊎_elim}
+use Rattle.std.proofs.Common.{rules, ◌≡◌, ◌<◌, ◌≤◌, ℕ, Bool, true, false, Some, length, get_or, map, arith, ap, refl, sym, ◌∙◌, ⊎_elim}
 use Rattle.std.specs.Prelude.{◌==◌, replicate, slice_get}
 use Rattle.std.proofs.lemmas.Bool.Decides.{eqb_tells}
 use Rattle.std.proofs.lemmas.Option.{slice_get_read}
+use Rattle.std.proofs.Math.Arith.{lt_of_le-ne}
 use Rattle.oc_isa.specs.declared.image.ImageFunction.{ImageFunction}
 use Rattle.oc_isa.specs.declared.instr.Instr.{Instr}
 use Rattle.oc_isa.specs.declared.instr.Placed.{Placed}
@@ -50,14 +51,8 @@ loop-at-preserved c = λ a p l u e.
     (λ q. let z : Some x ≡ Some p = sym s.0 ∙ ap (slice_get F.code) (sym q.1) ∙ e in
     let same : x ≡ p = (cc) in
     ap (λ (y : Placed). slot_right (plain_slots F f) y.instr) (sym same) ∙ t)
-    (λ q. c.loop-at.invariant a p l (less a c.loop-at.at (omega (arith, u)) q.1) e)
+    (λ q. c.loop-at.invariant a p l (lt_of_le-ne (omega (arith, u)) q.1) e)
     (eqb_tells a c.loop-at.at)
-  where
-    less : (i m : ℕ) → i < suc m → i ≢ m → i < m
-    less zero zero l d = absurd (d refl)
-    less zero (suc m) l d = omega arith
-    less (suc i) zero l d = absurd (omega (arith, l))
-    less (suc i) (suc m) l d = let r = less i m (omega (arith, l)) (λ e. d (ap suc e)) in omega (arith, r)
 
 pub returns-clause-right : goal.returns-clause-right
 returns-clause-right c = λ a p e.

@@ -1,13 +1,25 @@
-use Rattle.std.proofs.Common.{rules, ◌≡◌, ◌<◌, ◌≤◌, ◌+◌, ◌++◌, ◌∷◌, [], length, map, drop, get_or, sym, subst, ◌∙◌}
+use Rattle.std.proofs.Common.{rules, ◌≡◌, ◌<◌, ◌≤◌, ◌+◌, ◌++◌, ◌∷◌, [], length, map, drop, get_or, None, refl, sym, subst, ◌∙◌}
 use Rattle.std.specs.List.{All}
-use Rattle.std.proofs.lemmas.List.{drop_more}
+use Rattle.std.proofs.lemmas.List.{drop_all, drop_more}
 use Rattle.std.proofs.lemmas.List.Elements.{All-push}
-use Rattle.oc_verify.specs.Merging.{leasts}
+use Rattle.oc_verify.specs.Merging.{least, leasts}
 use Rattle.oc_verify.specs.Stacks.{stack}
 use Rattle.oc_verify.specs.Told.{kind_of, kinds}
-use Rattle.oc_verify.proofs.OrderLaws.{drop_past}
-use Rattle.oc_verify.proofs.TopLaws.{drop_next, least_done, least_next, onto}
+use Rattle.oc_verify.proofs.TopLaws.{drop_next, least_done, least_next, least_stops, onto}
 use Rattle.oc_verify.proofs.kinds.merge_top.Goals as goal
+
+pub returns-in_default-least-clause-fault : goal.returns-in_default-least-clause-fault
+returns-in_default-least-clause-fault c =
+    let codes = c.args.codes.now in
+    let ks = c.args.tops.now in
+    let i = c.loop-code.code-index in
+    let low : i < length codes = search rules in
+    let stops : least (kind_of (get_or codes i 0)) (kind_of c.in-Some.other) ≡ None = search rules in (
+      refl,
+      refl,
+      least_stops ks (drop i codes) c.loop-code.both.items (drop (i + 1) codes) c.loop-code.rest c.in-Some.below (get_or codes i 0) c.in-Some.other
+          (leasts (map kind_of codes) (kinds ks c.args.ops)) (drop_more codes i 0 low) c.in-Some.ensures.top stops c.loop-code.invariant.whole,
+    )
 
 pub loop-code-preserved : goal.loop-code-preserved
 loop-code-preserved c =
@@ -36,4 +48,4 @@ returns-clause-least c =
     let codes = c.args.codes.now in
     let past : length codes ≤ c.loop-code.code-index = search rules in
     least_done c.args.tops.now (drop c.loop-code.code-index codes) c.loop-code.both.items c.loop-code.rest (leasts (map kind_of codes) (kinds c.args.tops.now c.args.ops))
-    (drop_past codes c.loop-code.code-index past) c.loop-code.invariant.whole
+    (drop_all c.loop-code.code-index codes past) c.loop-code.invariant.whole

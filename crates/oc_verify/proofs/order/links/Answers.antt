@@ -1,13 +1,13 @@
 use Rattle.std.proofs.Common.{rules, ◌≡◌, ◌<◌, ◌≤◌, ◌+◌, ◌++◌, ◌∷◌, length, drop, get_or, ap, sym, subst, ◌∙◌}
 use Rattle.std.specs.Prelude.{List, pos, slice_get}
 use Rattle.oc_isa.specs.declared.instr.Instr.TheVariants.{Push}
-use Rattle.std.proofs.lemmas.List.{drop_more}
+use Rattle.std.proofs.lemmas.List.{drop_all, drop_more}
 use Rattle.std.proofs.lemmas.Option.{get_or_from_slice_get}
 use Rattle.oc_isa.specs.declared.instr.Placed.{Placed}
 use Rattle.oc_isa.specs.Image.{parts_of}
 use Rattle.oc_verify.specs.Facts.{goes_on}
 use Rattle.oc_verify.specs.Rules.{calls_of, link_from, links_on}
-use Rattle.oc_verify.proofs.OrderLaws.{all_links, drop_past, going_low, more_links, placed_there}
+use Rattle.oc_verify.proofs.OrderLaws.{all_links, going_low, more_links, placed_there}
 use Rattle.oc_verify.proofs.order.links.Goals as goal
 
 pub loop-at-preserved : goal.loop-at-preserved
@@ -36,4 +36,4 @@ returns c =
     let fs = c.args.image.now.functions.items in
     let past : length code ≤ c.loop-at.at = search rules in
     all_links c.loop-at.links.items c.loop-at.function c.loop-at.at (drop (c.loop-at.function + 1) fs) (drop c.loop-at.at code) (calls_of (parts_of c.args.image.now))
-    (drop_past code c.loop-at.at past) c.loop-at.invariant.whole
+    (drop_all c.loop-at.at code past) c.loop-at.invariant.whole

@@ -1,73 +1,37 @@
-use Rattle.std.proofs.Common.{rules, ◌≡◌, ◌≤◌, ◌<◌, ◌+◌, ℕ, List, length, sym, subst, arith}
-use Rattle.std.specs.Prelude.{slice_set}
+use Rattle.std.proofs.Common.{rules, ◌≡◌, ◌+◌, ◌++◌, ℕ, List, drop, length, take, ap, refl, sym, subst, ◌∙◌, arith}
+use Rattle.std.specs.Prelude.{replicate}
+use Rattle.std.proofs.lemmas.List.{append-nil, drop_all, take_all}
 use Rattle.oc_isa.specs.Image.{Parts}
-use Rattle.oc_verify.specs.Blames.{Blames}
-use Rattle.oc_verify.specs.Facts.{IsLaid}
-use Rattle.oc_verify.specs.Room.{AreBounded, BlamesDeep, IsMost, bounded_by}
+use Rattle.oc_verify.specs.Room.{AreBounded, bounded_by}
 use Rattle.oc_verify.specs.Walks.{table_marks}
-use Rattle.oc_verify.proofs.RoomLaws.{all_bounded, all_deep, blame_deep, bounded_callee, bounded_down, bounded_fresh, bounded_next, bounded_rank, bounded_skip, fewer_bounded, one_bounded}
+use Rattle.oc_verify.proofs.RoomLaws.{all_bounded, none_bounded, none_by}
 use Rattle.oc_verify.proofs.room.check_room.Goals as goal
-use Rattle.oc_verify.proofs.room.check_room.Goals.{then-ranks-function+in_ok-bounds-2, else-ranks-function}
 
-pub words_needed-requires-clause-named : goal.words_needed-requires-clause-named
-words_needed-requires-clause-named c = c.requires.named c.loop-function.function
-
-pub words_needed-requires-clause-deep : goal.words_needed-requires-clause-deep
-words_needed-requires-clause-deep c = all_deep c.args.facts.now c.image.ensures.laid c.requires.named c.args.ranks.now c.requires.ranked (table_marks c.args.table.now)
-    c.requires.examined c.loop-function.function
-
-pub returns-in_err-bounds-2-clause-blames : goal.returns-in_err-bounds-2-clause-blames
-returns-in_err-bounds-2-clause-blames c =
+pub loop-rank-init : goal.loop-rank-init
+loop-rank-init c =
     let F : Parts = c.args.facts.now in
     let tab = table_marks c.args.table.now in
     let ranks : List ℕ = c.args.ranks.now in
-    let done = bounded_by (length F.functions) ranks c.loop-rank.rank c.loop-function.function in
-    let bounds : List ℕ = c.loop-function.bounds.items in
-    let e = subst (λ (bs : List ℕ). BlamesDeep F tab bs c.loop-function.function c.in_err-bounds-2.field-0.0) c.deref-then-ranks-function.ensures.value c.in_err-bounds-2.ensures.fault in
-    let b : Blames F c.in_err-bounds-2.field-0.0 = blame_deep F c.image.ensures.laid c.requires.named ranks c.requires.ranked tab done bounds c.loop-function.invariant c.loop-function.function
-    (λ g a p s. bounded_callee F c.image.ensures.laid c.requires.named ranks c.requires.ranked tab c.loop-rank.rank c.loop-function.function g a p c.if-ranks-function.true s)
-    c.requires.examined c.in_err-bounds-2.field-0.0 e in
-    search rules
+    let n : ℕ = length F.functions in
+    let zeros : c.in_ok-bounds.bounds.items ≡ replicate n 0 = search rules in
+    subst (AreBounded F tab (bounded_by n ranks 0 0)) (sym zeros)
+    (none_bounded F tab n (bounded_by n ranks 0 0) refl (none_by F c.image.ensures.laid c.requires.named ranks c.requires.ranked tab n))
 
-pub loop-function-preserved : goal.loop-function-preserved
-loop-function-preserved c =
+pub bound_rank-requires-clause-bounded : goal.bound_rank-requires-clause-bounded
+bound_rank-requires-clause-bounded c =
     let F : Parts = c.args.facts.now in
-    let tab = table_marks c.args.table.now in
-    let ranks : List ℕ = c.args.ranks.now in
-    let k : ℕ = c.loop-rank.rank in
-    let f : ℕ = c.loop-function.function in
-    let bounds : List ℕ = c.loop-function.bounds.items in
-    let laid : IsLaid F = c.image.ensures.laid in
-    let size : c.len-count.result ≡ length F.functions = search rules in
-    let low : f < length F.functions = subst (λ n. f < n) size c.loop-function-test.true in
-    elim c.if-ranks-function.branch [
-      | then-ranks-function+in_ok-bounds-2 w ↦
-          let m : ℕ = w.in_ok-bounds-2.field-0 in
-          let most = subst (λ (bs : List ℕ). IsMost F tab bs f m) w.deref-then-ranks-function.ensures.value w.in_ok-bounds-2.ensures.most in
-          let now : c.if-ranks-function.bounds.items ≡ slice_set bounds f m = search rules in
-          subst (AreBounded F tab (bounded_by (length F.functions) ranks k (f + 1))) (sym now)
-          (one_bounded F laid c.requires.named ranks c.requires.ranked tab (bounded_by (length F.functions) ranks k f) bounds c.loop-function.invariant f
-          (λ g a p s. bounded_callee F laid c.requires.named ranks c.requires.ranked tab k f g a p w.if-ranks-function.true s)
-          m low most
-          (bounded_fresh F laid c.requires.named ranks c.requires.ranked tab k f w.if-ranks-function.true)
-          (bounded_by (length F.functions) ranks k (f + 1))
-          (λ h. bounded_next F laid c.requires.named ranks c.requires.ranked tab k f h)
-          (λ h g a p d s. bounded_down F laid c.requires.named ranks c.requires.ranked tab k f h g a p d s))
-      | else-ranks-function w ↦
-          subst (λ v. AreBounded F tab (bounded_by (length F.functions) ranks k (f + 1)) v.items) (sym w.bounds-is)
-          (fewer_bounded F tab (bounded_by (length F.functions) ranks k f) (bounded_by (length F.functions) ranks k (f + 1)) bounds
-          (λ h. bounded_skip F laid c.requires.named ranks c.requires.ranked tab k f h w.if-ranks-function.false) c.loop-function.invariant)
-    ]
+    subst (AreBounded F (table_marks c.args.table.now) (bounded_by (length F.functions) c.args.ranks.now c.loop-rank.rank 0)) (sym c.deref_mut.ensures.value) c.loop-rank.invariant
 
 pub loop-rank-preserved : goal.loop-rank-preserved
 loop-rank-preserved c =
     let F : Parts = c.args.facts.now in
-    let tab = table_marks c.args.table.now in
-    let ranks : List ℕ = c.args.ranks.now in
-    let size : c.len-count.result ≡ length F.functions = search rules in
-    let past : length F.functions ≤ c.loop-function.function = subst (λ n. n ≤ c.loop-function.function) size c.loop-function-test.false in
-    fewer_bounded F tab (bounded_by (length F.functions) ranks c.loop-rank.rank c.loop-function.function) (bounded_by (length F.functions) ranks (c.loop-rank.rank + 1) 0) c.loop-function.bounds.items
-    (λ h. bounded_rank F c.image.ensures.laid c.requires.named ranks c.requires.ranked tab c.loop-rank.rank c.loop-function.function h past) c.loop-function.invariant
+    let old : List ℕ = c.loop-rank.bounds.items in
+    let new : List ℕ = c.bound_rank.new.bounds in
+    let len : c.loop-rank.bounds.len ≡ length old = sym c.deref_mut.ensures.len ∙ ap length c.deref_mut.ensures.value in
+    let same : length new ≡ length old = c.in_ok-bound_rank.ensures.bounded.sized ∙ sym c.loop-rank.invariant.sized in
+    let all : take c.loop-rank.bounds.len (new ++ drop (length new) old) ≡ new = ap (λ rest. take c.loop-rank.bounds.len (new ++ rest)) (drop_all (length new) old (omega (arith, same)))
+    ∙ ap (take c.loop-rank.bounds.len) (append-nil new) ∙ take_all c.loop-rank.bounds.len new (omega (arith, same, len)) in
+    subst (AreBounded F (table_marks c.args.table.now) (bounded_by (length F.functions) c.args.ranks.now (c.loop-rank.rank + 1) 0)) (sym all) c.in_ok-bound_rank.ensures.bounded
 
 pub returns-clause-room : goal.returns-clause-room
 returns-clause-room c =

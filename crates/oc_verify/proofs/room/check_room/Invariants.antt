@@ -5,6 +5,3 @@ use Rattle.oc_verify.proofs.room.check_room.Given as goal
 
 abbrev pub invariant-loop-rank : goal.invariant-loop-rank
 invariant-loop-rank l = AreBounded l.facts (table_marks l.table) (bounded_by (length l.facts.functions) l.ranks l.rank 0) l.bounds.items
-
-abbrev pub invariant-loop-function : goal.invariant-loop-function
-invariant-loop-function l = AreBounded l.facts (table_marks l.table) (bounded_by (length l.facts.functions) l.ranks l.rank l.function) l.bounds.items

@@ -1,20 +1,15 @@
-use Rattle.std.proofs.Common.{◌<◌, ◌≢◌, ℕ, zero, suc, length, arith, ap, refl, sym, subst, ⊎_elim}
+use Rattle.std.proofs.Common.{length, arith, ap, sym, subst, ⊎_elim}
 use Rattle.std.proofs.lemmas.Bool.Decides.{eqb_tells}
 use Rattle.std.proofs.lemmas.Option.{slice_get_within}
+use Rattle.std.proofs.Math.Arith.{lt_of_le-ne}
 use Rattle.oc_verify.specs.Facts.{IsNamed}
 use Rattle.oc_verify.proofs.Owners.{stands}
 use Rattle.oc_verify.proofs.facts.Facts.check_all_names.Goals as goal
 
-less : (i m : ℕ) → i < suc m → i ≢ m → i < m
-less zero zero l d = absurd (d refl)
-less zero (suc m) l d = omega arith
-less (suc i) zero l d = absurd (omega (arith, l))
-less (suc i) (suc m) l d = let r = less i m (omega (arith, l)) (λ e. d (ap suc e)) in omega (arith, r)
-
 pub loop-function-preserved : goal.loop-function-preserved
 loop-function-preserved c = λ f l. ⊎_elim
     (λ q. subst (IsNamed c.args.self.now) (sym q.1) c.in_ok-check_names.ensures.named)
-    (λ q. c.loop-function.invariant f (less f c.loop-function.function (omega (arith, l)) q.1))
+    (λ q. c.loop-function.invariant f (lt_of_le-ne (omega (arith, l)) q.1))
     (eqb_tells f c.loop-function.function)
 
 pub returns-clause-named : goal.returns-clause-named

@@ -1,6 +1,7 @@
-use Rattle.std.proofs.Common.{rules, ◌≡◌, ◌<◌, ◌≤◌, ◌≢◌, ℕ, zero, suc, true, false, Some, arith, ap, refl, sym, ◌∙◌, ⊎_elim}
+use Rattle.std.proofs.Common.{rules, ◌≡◌, ◌<◌, ◌≤◌, true, false, Some, arith, ap, sym, ◌∙◌, ⊎_elim}
 use Rattle.std.specs.Prelude.{slice_get}
 use Rattle.std.proofs.lemmas.Bool.Decides.{eqb_tells}
+use Rattle.std.proofs.Math.Arith.{lt_of_le-ne}
 use Rattle.oc_isa.specs.declared.instr.Placed.{Placed}
 use Rattle.oc_isa.specs.Image.{parts_of}
 use Rattle.oc_verify.specs.Rules.{names, names_exist, returns as wrong_return, returns_right}
@@ -32,14 +33,8 @@ loop-at-preserved c = λ a p l u e.
     (λ q. let z : Some c.index.result.now ≡ Some p = sym s.0 ∙ ap (slice_get c.args.self.now.code) (sym q.1) ∙ e in
     let same : c.index.result.now ≡ p = (cc) in
     (ap (λ (x : Placed). names_exist c.args.self.now c.args.function x.instr) (sym same) ∙ h, ap (λ (x : Placed). returns_right c.args.self.now c.args.function x.instr) (sym same) ∙ k))
-    (λ q. c.loop-at.invariant a p l (less a c.loop-at.at (omega (arith, u)) q.1) e)
+    (λ q. c.loop-at.invariant a p l (lt_of_le-ne (omega (arith, u)) q.1) e)
     (eqb_tells a c.loop-at.at)
-  where
-    less : (i m : ℕ) → i < suc m → i ≢ m → i < m
-    less zero zero l d = absurd (d refl)
-    less zero (suc m) l d = omega arith
-    less (suc i) zero l d = absurd (omega (arith, l))
-    less (suc i) (suc m) l d = let r = less i m (omega (arith, l)) (λ e. d (ap suc e)) in omega (arith, r)
 
 pub returns-clause-named : goal.returns-clause-named
 returns-clause-named c = λ a p e.

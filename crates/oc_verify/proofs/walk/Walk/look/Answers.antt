@@ -10,9 +10,35 @@ use Rattle.oc_verify.specs.Rules.{names_exist, own_slots, judge, successors}
 use Rattle.oc_verify.specs.Stacks.{stack}
 use Rattle.oc_verify.specs.Tables.{IsWalk, blanks}
 use Rattle.oc_verify.specs.Told.{kinds, pair_of}
+use Rattle.oc_verify.proofs.Owners.{stands}
 use Rattle.oc_verify.proofs.TableLaws.{blame_crowd, seen_first}
-use Rattle.oc_verify.proofs.WalkLaws.{address_small, blame_fault, judged_here, looked_less, looked_others, read_there}
+use Rattle.oc_verify.proofs.WalkLaws.{address_small, blame_fault, judged_here, looked_less, looked_others, next_in, read_there}
 use Rattle.oc_verify.proofs.walk.Walk.look.Goals as goal
+
+pub index-requires : goal.index-requires
+index-requires c =
+    let s = c.args.self.now in
+    let x = c.requires.inside.0 in
+    let v = ap (λ (s : Scene). s.image) c.self.view_is in
+    let l = slice_get_within s.image.code c.args.at x (stands s.image s.function c.args.at x c.requires.inside.1).found in
+    let n = ap (λ k. length k.code) (c.image.ensures.image ∙ v) in
+    omega (arith, l, n)
+
+pub judge-requires-clause-pair : goal.judge-requires-clause-pair
+judge-requires-clause-pair c =
+    let s = c.args.self.now in
+    let old = c.args.table.now in
+    next_in s.image s.function (scene_kinds s) old.tops old.regions old.cells.items c.args.todo.now.items c.args.at c.args.pair c.requires.walk
+
+pub judge-requires-clause-names : goal.judge-requires-clause-names
+judge-requires-clause-names c =
+    let s = c.args.self.now in
+    let x = c.requires.inside.0 in
+    let v = ap (λ (s : Scene). s.image) c.self.view_is in
+    let p = read_there (parts_of c.image.result.now) s.image (c.image.ensures.image ∙ v) s.function c.args.at x c.index.result.now c.requires.inside.1 c.index.ensures in
+    let named = subst (λ (s : Scene). IsNamed s.image s.function) c.self.view_is c.self.invariant.2 in
+    subst (λ (s : Scene). names_exist s.image s.function c.index.result.now.instr ≡ true) (sym c.self.view_is)
+    (ap (λ (y : Placed). names_exist s.image s.function y.instr) p ∙ (named c.args.at x c.requires.inside.1).0)
 
 pub is_crowded-requires : goal.is_crowded-requires
 is_crowded-requires c =

@@ -35,3 +35,4 @@ pub mod TopLaws
 pub mod SeenLaws
 pub mod OnwardLaws
 pub mod PlainLaws
+pub mod OperandLaws

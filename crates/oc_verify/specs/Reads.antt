@@ -1,10 +1,13 @@
 -- What a reader of fields answers.
-use Rattle.std.specs.Prelude.{◌≡◌, ◌≤◌, ◌+◌, ℕ, List, [], ◌++◌, length, map, Result, Ok, Err}
+use Rattle.std.specs.Prelude.{◌≡◌, ◌≤◌, ◌+◌, ◌==◌, if◌then◌else◌, ℕ, List, [], ◌++◌, length, map, Result, Ok, Err}
+use Rattle.std.specs.Int.{w32, cast_signed}
 use Rattle.oc_tree.specs.Names.{Text, NameLists, names_view}
 use Rattle.oc_tree.specs.declared.said.Target.{Target}
 use Rattle.oc_isa.specs.declared.image.ImageFunction.{ImageFunction}
 use Rattle.oc_isa.specs.declared.image.ImageNv.{ImageNv}
 use Rattle.oc_isa.specs.declared.instr.Placed.{Placed}
+use Rattle.oc_isa.specs.declared.instr.Instr.{Instr}
+use Rattle.oc_isa.specs.declared.instr.Instr.TheVariants.{Push, Load, Store, Nload, Nstore, Addr, Naddr, Index, Jump, Jfalse, Call, Ret, Retv, Sense, Emit, Enter, Commit}
 use Rattle.oc_isa.specs.Bytes.{Bytes}
 use Rattle.oc_verify.specs.declared.fault.ReadFault.{ReadFault}
 use Rattle.oc_verify.specs.declared.fault.ReadFault.TheVariants as faults
@@ -80,3 +83,24 @@ abbrev pub body_at : Bytes → Result (List (List Target) × ℕ × List Placed)
 body_at bs =
     list_at (list_at target_at) bs >>= λ r. any_at r.1 >>= λ w. list_at placed_at w.1
     >>= λ c. ended (r.0, w.0, c.0) c.1
+
+-- the instruction of a kind that has just one operand, which may be any number
+abbrev pub instr_with : (kind operand : ℕ) → Instr
+instr_with kind n =
+    if kind == 1 then Push (cast_signed w32 n)
+    else (if kind == 2 then Load n
+    else (if kind == 3 then Store n
+    else (if kind == 4 then Nload n
+    else (if kind == 5 then Nstore n
+    else (if kind == 6 then Addr n
+    else (if kind == 7 then Naddr n
+    else (if kind == 10 then Index n
+    else (if kind == 13 then Jump n
+    else (if kind == 14 then Jfalse n
+    else (if kind == 15 then Call n
+    else (if kind == 16 then Ret n
+    else (if kind == 17 then Retv n
+    else (if kind == 19 then Sense n
+    else (if kind == 20 then Emit n
+    else (if kind == 22 then Enter n
+    else Commit n)))))))))))))))

@@ -1,6 +1,7 @@
 //! Instructions of a file.
-ghost use Rattle.std.specs.Prelude.{◌≡◌, get_or};
+ghost use Rattle.std.specs.Prelude.{◌≡◌, ◌≤◌, get_or};
 ghost use Rattle.oc_verify.specs.Reading.{
+  any_operand,
   binary_by,
   none_at,
   operands_at,
@@ -65,6 +66,33 @@ fn probe_of(number: u32) -> ProbeKind
     nth(&PROBES, number, ProbeKind::Tag)
 }
 
+/// The instruction of a kind that has just one operand, which may be any number.
+fn instr_with(kind: u32, operand: u32) -> Instr
+    ensures { result ≡ reads.instr_with kind operand }
+{
+    match kind {
+        1 => Instr::Push {
+            c: operand.cast_signed(),
+        },
+        2 => Instr::Load { s: operand },
+        3 => Instr::Store { s: operand },
+        4 => Instr::Nload { a: operand },
+        5 => Instr::Nstore { a: operand },
+        6 => Instr::Addr { s: operand },
+        7 => Instr::Naddr { a: operand },
+        10 => Instr::Index { n: operand },
+        13 => Instr::Jump { t: operand },
+        14 => Instr::Jfalse { t: operand },
+        15 => Instr::Call { f: operand },
+        16 => Instr::Ret { k: operand },
+        17 => Instr::Retv { k: operand },
+        19 => Instr::Sense { s: operand },
+        20 => Instr::Emit { p: operand },
+        22 => Instr::Enter { r: operand },
+        _ => Instr::Commit { r: operand },
+    }
+}
+
 impl<'a> Reader<'a> {
     /// What a probe reports, and its statement.
     fn probe(&mut self) -> Result<Instr, ReadFault>
@@ -86,73 +114,34 @@ impl<'a> Reader<'a> {
         Ok(instr)
     }
 
+    /// An instruction of a kind that has just one operand, which may be any number.
+    fn with_operand(&mut self, kind: u32) -> Result<Instr, ReadFault>
+        ensures { reads.Reads (λ x. x) result self.new
+            (any_operand (reads.instr_with kind) self.old) }
+    {
+        let operand = self.operand(u32::MAX)?;
+        Ok(instr_with(kind, operand))
+    }
+
     /// The instruction of this kind, by its operands.
     fn operands(&mut self, kind: u32) -> Result<Instr, ReadFault>
+        requires least { 1 ≤ kind }
+        requires greatest { kind ≤ 24 }
         ensures { reads.Reads (λ x. x) result self.new (operands_at kind self.old) }
     {
         match kind {
-            1 => Ok(Instr::Push {
-                c: self.operand(u32::MAX)?.cast_signed(),
-            }),
-            2 => Ok(Instr::Load {
-                s: self.operand(u32::MAX)?,
-            }),
-            3 => Ok(Instr::Store {
-                s: self.operand(u32::MAX)?,
-            }),
-            4 => Ok(Instr::Nload {
-                a: self.operand(u32::MAX)?,
-            }),
-            5 => Ok(Instr::Nstore {
-                a: self.operand(u32::MAX)?,
-            }),
-            6 => Ok(Instr::Addr {
-                s: self.operand(u32::MAX)?,
-            }),
-            7 => Ok(Instr::Naddr {
-                a: self.operand(u32::MAX)?,
-            }),
             8 => self.bare(Instr::Get),
             9 => self.bare(Instr::Put),
-            10 => Ok(Instr::Index {
-                n: self.operand(u32::MAX)?,
-            }),
             11 => Ok(Instr::Bin {
                 op: binary_of(self.operand(10)?),
             }),
             12 => Ok(Instr::Un {
                 op: unary_of(self.operand(1)?),
             }),
-            13 => Ok(Instr::Jump {
-                t: self.operand(u32::MAX)?,
-            }),
-            14 => Ok(Instr::Jfalse {
-                t: self.operand(u32::MAX)?,
-            }),
-            15 => Ok(Instr::Call {
-                f: self.operand(u32::MAX)?,
-            }),
-            16 => Ok(Instr::Ret {
-                k: self.operand(u32::MAX)?,
-            }),
-            17 => Ok(Instr::Retv {
-                k: self.operand(u32::MAX)?,
-            }),
             18 => self.bare(Instr::Drop),
-            19 => Ok(Instr::Sense {
-                s: self.operand(u32::MAX)?,
-            }),
-            20 => Ok(Instr::Emit {
-                p: self.operand(u32::MAX)?,
-            }),
             21 => self.probe(),
-            22 => Ok(Instr::Enter {
-                r: self.operand(u32::MAX)?,
-            }),
-            23 => Ok(Instr::Commit {
-                r: self.operand(u32::MAX)?,
-            }),
-            _ => self.bare(Instr::Halt),
+            24 => self.bare(Instr::Halt),
+            _ => self.with_operand(kind),
         }
     }
 

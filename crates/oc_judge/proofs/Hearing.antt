@@ -1,5 +1,5 @@
 -- From what a run tells next to what the audit answers.
-use Rattle.std.proofs.Common.{◌≡◌, refl, sym, ap, ◌∙◌, subst, ℕ, ℤ, ◌+◌, suc, ◌<◌, ◌≤◌, arith, Bool, true, false, ◌&&◌, List, length, map, drop, get_or, Option, Some, None}
+use Rattle.std.proofs.Common.{◌≡◌, refl, sym, ap, ◌∙◌, subst, ℕ, ℤ, ◌+◌, suc, ◌<◌, ◌≤◌, arith, Bool, true, false, ◌&&◌, List, length, map, drop, get_or, Option, Some, None, Result, Ok, Err, IfOk}
 use Rattle.std.proofs.lemmas.Bool.{and_from}
 use Rattle.std.proofs.lemmas.List.{drop_more, drop_all}
 use Rattle.oc_tree.specs.Form.{Numbered}
@@ -17,7 +17,7 @@ use Rattle.oc_meaning.specs.Exec.{Outcome}
 use Rattle.oc_meaning.specs.Run.{words_of}
 use Rattle.oc_steps.specs.Steps.{Frame}
 use Rattle.oc_steps.specs.Auditing.{Finds, all, breaks, goes, IsHeard, first_watch}
-use Rattle.oc_steps.specs.Fold.{Says, Stands, Watch, Way, at_end, has_words, if_so, is_said, may_show, on_next, steps_on, with_shown, words}
+use Rattle.oc_steps.specs.Fold.{Says, Stands, Watch, Way, at_end, has_words, if_so, is_said, may_show, off, on_next, steps_on, with_shown, words}
 use Rattle.oc_steps.specs.Heard.{store_in}
 use Rattle.oc_steps.specs.Watching.{IsMade, IsTelling}
 use Rattle.oc_steps.proofs.Auditing.{finds_right}
@@ -144,13 +144,26 @@ module _ (p : TProgram) (rs : List TRegion) (nv : Option (List ℤ)) where
   telling w (Off n) a t h = absurd t
   telling w Dark a t h = absurd t
 
-  -- an item that says what a run tells
-  pub heard_item : (w : Watch) (i x : Item) (a : Option Watch) → i ≡ x → IsTelling (told_of x).said → IsTold p rs nv w (told_of x).said a → IsHeard p rs nv w (told_of i).said a
-  heard_item w i x a e t h = subst (λ j. IsHeard p rs nv w (told_of j).said a) (sym e) (telling w (told_of x).said a t h)
+  -- this was said, and a run tells it
+  pub told_so : {E : Type 0} (w : Watch) (s x : Said) (r : Result Bool E) (now : Watching) → s ≡ x → IsTelling x → IfOk r (λ good. IsTold p rs nv w x (answered good now))
+      → IfOk r (λ good. IsHeard p rs nv w s (answered good now))
+  told_so w s x (Err e) now h t k = tt
+  told_so w s x (Ok good) now h t k = subst (λ y. IsHeard p rs nv w y (answered good now)) (sym h) (telling w x (answered good now) t k)
 
-  -- any other one
-  pub other_item : (w : Watch) (i x : Item) (a : Option Watch) → i ≡ x → IsHeard p rs nv w (told_of x).said a → IsHeard p rs nv w (told_of i).said a
-  other_item w i x a e h = subst (λ j. IsHeard p rs nv w (told_of j).said a) (sym e) h
+  -- whatever the words are
+  pub at_words : {E : Type 0} (w : Watch) (x : Said) (r : Result Bool E) (now : Watching) → IfOk r (λ good. (m : Option (List ℤ)) → IsTold p rs m w x (answered good now))
+      → IfOk r (λ good. IsTold p rs nv w x (answered good now))
+  at_words w x (Err e) now k = tt
+  at_words w x (Ok good) now k = k nv
+
+  pub off_so : {E : Type 0} (w : Watch) (s : Said) (n : ℕ) (r : Result Bool E) (now : Watching) → s ≡ Off n → IfOk r (λ good. (q : TProgram) (m : Option (List ℤ)) → answered good now ≡ off q m w)
+      → IfOk r (λ good. IsHeard p rs nv w s (answered good now))
+  off_so w s n (Err e) now h k = tt
+  off_so w s n (Ok good) now h k = subst (λ y. IsHeard p rs nv w y (answered good now)) (sym h) (k p nv)
+
+  -- anything else was said
+  pub other_so : (w : Watch) (s x : Said) (a : Option Watch) → s ≡ x → IsHeard p rs nv w x a → IsHeard p rs nv w s a
+  other_so w s x a e h = subst (λ y. IsHeard p rs nv w y a) (sym e) h
 
   module _ (items : List Item) (R : Option ℕ → Type 0) (w : Watch) (i : ℕ) (d : Item) (h : i < length items)
       (inv : (v : Option ℕ) → Finds p rs nv w (map told_of (drop i items)) (i + 1) v → R v) where

@@ -31,16 +31,16 @@ is_some (pos n) h = omega (arith, ints, h)
 is_some (negsuc n) h = absurd (omega (arith, ints, h))
 
 pub has_turns : (t : ForTurns) (id times : ℕ) → block_view t.body.now ≡ block id no_stmts → times ≡ unsigned_abs (t.to -ℤ t.next) → int_lt t.next t.to ≡ true
-    → (behind : List Frame) → HasTurns (for_frame t ∷ behind) behind id times
-has_turns t id times b c h behind =
+    → (env : List Binding) (behind : List Frame) → HasTurns (for_frame env t ∷ behind) behind id times
+has_turns t id times b c h env behind =
     let same : count_of (t.to -ℤ t.next) ≡ times = counted (t.to -ℤ t.next) (omega (arith, ints, h)) ∙ sym c in
     record {
       inside = inside_view t.inside;
       name = t.name.now;
       next = t.next;
-      env = t.scope.value;
-      is = ap (λ n. Turns (inside_view t.inside) t.name.now n t.next (block_view t.body.now) t.scope.value ∷ behind) same
-          ∙ ap (λ l. Turns (inside_view t.inside) t.name.now times t.next l t.scope.value ∷ behind) b;
+      env = env;
+      is = ap (λ n. Turns (inside_view t.inside) t.name.now n t.next (block_view t.body.now) env ∷ behind) same
+          ∙ ap (λ l. Turns (inside_view t.inside) t.name.now times t.next l env ∷ behind) b;
       some = subst (λ n. 0 < n) same (is_some (t.to -ℤ t.next) (omega (arith, ints, h)));
     }
 

@@ -1,5 +1,5 @@
 -- Loops with nothing in them.
-use Rattle.std.specs.Prelude.{◌≡◌, ◌<◌, ℕ, zero, suc, ℤ, List, ◌∷◌, Option, Some, None}
+use Rattle.std.specs.Prelude.{◌≡◌, ◌<◌, ℕ, zero, suc, ℤ, List, ◌∷◌}
 use Rattle.oc_tree.specs.Names.{Text}
 use Rattle.oc_tree.specs.Tree.{TProgram, block, no_stmts}
 use Rattle.oc_tree.specs.Marked.{TRegion}
@@ -21,11 +21,6 @@ pub record HasTurns (before behind : List Frame) (id times : ℕ) : Type 0 where
   pub env : List Binding
   pub is : before ≡ Turns inside name times next (block id no_stmts) env ∷ behind
   pub some : 0 < times
-
--- such turns were taken away, where they stood there
-abbrev pub Took : Option (ℕ × ℕ) → List Frame → List Frame → Type 0
-Took None before now = now ≡ before
-Took (Some t) before now = HasTurns before now t.0 t.1
 
 module _ (p : TProgram) (regions : List TRegion) where
   -- some steps on, it went on to this

@@ -1,8 +1,8 @@
 //! Blocks and calls that begin.
-ghost use Rattle.std.specs.Prelude.{◌≡◌, map, Some, IfOk};
+ghost use Rattle.std.specs.Prelude.{◌≡◌, ◌∷◌, length, map, Some, IfOk, OnOk};
 ghost use Rattle.oc_tree.specs.View.{block_view, call_view, function_view};
 ghost use Rattle.oc_steps.specs.Ages.{of_ages};
-ghost use Rattle.oc_steps.specs.Steps.{Goes, begin};
+ghost use Rattle.oc_steps.specs.Steps.{Goes, Leave, begin};
 ghost use Rattle.oc_judge.specs.Frames.{frames_view, inside_view};
 ghost use Rattle.oc_judge.specs.Going.{call_here, function_here, passed_here};
 ghost use Rattle.oc_judge.specs.Passing.{passed_view};
@@ -10,7 +10,7 @@ ghost use Rattle.oc_judge.specs.Stores.{completion_at};
 
 use crate::arguments::{Passed, Passing, pass_arguments};
 use crate::calls::frame;
-use crate::frames::{Frame, Inside};
+use crate::frames::{Frame, Inside, Task, push_frame, push_task};
 use crate::running::Running;
 use crate::store::{Completion, Store};
 use oc_meaning::names::function_named;
@@ -21,8 +21,39 @@ use std::alloc::AllocError;
 use std::collections::VecDeque;
 use std::rc::Rc;
 
-/// A block is begun.
+/// The local variables that are made from here on are gone behind what comes first.
+fn push_leave(frames: &mut Vec<Frame>, store: &Store) -> Result<(), AllocError>
+    ensures { OnOk result
+        (frames_view frames.new.items
+        ≡ Leave (length store.now.locals) ∷ frames_view frames.old.items) }
+{
+    let locals = store.locals();
+    push_frame(Frame::Leave { locals }, frames)?;
+    Ok(())
+}
+
+/// A block is begun with these variables.
 pub fn begin<'a>(
+    inside: Inside<'a>,
+    scope: Rc<Scope<'a>>,
+    block: &'a Block,
+    frames: &mut Vec<Frame<'a>>,
+    store: &mut Store,
+) -> Result<Completion, AllocError>
+    ensures { IfOk result
+        (λ o. Goes (frames_view frames.new.items) (completion_at o store.new)
+        ≡ begin of_ages (inside_view inside.entry) scope.entry.value (block_view block.now)
+        (frames_view frames.old.items) store.old) }
+{
+    push_leave(frames, store)?;
+    let statements = block.statements.as_slice();
+    push_task(scope, Task::Rest { inside, statements }, frames)?;
+    store.enter(block.id)?;
+    Ok(Completion::Went)
+}
+
+/// A block is begun with the variables that are visible here.
+pub fn begin_here<'a>(
     inside: Inside<'a>,
     scope: &Rc<Scope<'a>>,
     block: &'a Block,
@@ -34,17 +65,8 @@ pub fn begin<'a>(
         ≡ begin of_ages (inside_view inside.entry) scope.now.value (block_view block.now)
         (frames_view frames.old.items) store.old) }
 {
-    frames.push(Frame::Leave {
-        locals: store.locals(),
-    })?;
     let shared = Rc::clone(scope)?;
-    frames.push(Frame::Rest {
-        inside,
-        scope: shared,
-        statements: block.statements.as_slice(),
-    })?;
-    store.enter(block.id)?;
-    Ok(Completion::Went)
+    begin(inside, shared, block, frames, store)
 }
 
 /// A function is begun, from which calls may go so deep.
@@ -61,17 +83,14 @@ fn begin_function<'a>(
         ≡ function_here run.now depth (Some (function_view function.now))
         (map passed_view passed.items) (frames_view frames.old.items) store.old) }
 {
-    frames.push(Frame::Leave {
-        locals: store.locals(),
-    })?;
+    push_leave(frames, store)?;
     let scope = frame(run.alloc, run.program, function, passed, store)?;
     let shared = Rc::new(run.alloc, scope)?;
     let inside = Inside {
         depth,
         body: &function.body,
     };
-    let begun = begin(inside, &shared, &function.body, frames, store)?;
-    Ok(begun)
+    begin(inside, shared, &function.body, frames, store)
 }
 
 /// The function of a name is begun, if calls may go so deep.

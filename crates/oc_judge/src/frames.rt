@@ -1,6 +1,6 @@
 //! What is left to do.
-ghost use Rattle.std.specs.Prelude.{◌≡◌, IfOk};
-ghost use Rattle.oc_judge.specs.Frames.{for_frame, frame_view, frames_view, test_frame, while_frame};
+ghost use Rattle.std.specs.Prelude.{◌≡◌, ◌∷◌, IfOk, OnOk};
+ghost use Rattle.oc_judge.specs.Frames.{frame_view, frames_view, task_frame};
 
 use crate::age::{Age, Value};
 use oc_meaning::scope::Scope;
@@ -17,10 +17,9 @@ pub struct Inside<'a> {
 }
 
 /// The turns of a `for` that are left: those with the numbers from `next` on and below `to`.
-#[derive(Drop)]
+#[derive(Clone, Copy)]
 pub struct ForTurns<'a> {
     pub inside: Inside<'a>,
-    pub scope: Rc<Scope<'a>>,
     pub name: &'a Name,
     pub next: i32,
     pub to: i32,
@@ -28,10 +27,9 @@ pub struct ForTurns<'a> {
 }
 
 /// The turns of a `while` that may be left, how many, and the age of its uses so far.
-#[derive(Drop)]
+#[derive(Clone, Copy)]
 pub struct WhileTurns<'a> {
     pub inside: Inside<'a>,
-    pub scope: Rc<Scope<'a>>,
     pub stmt: StmtId,
     pub condition: &'a Expr,
     pub left: u32,
@@ -39,19 +37,17 @@ pub struct WhileTurns<'a> {
     pub age: Age,
 }
 
-/// Something that is left to do.
-#[derive(Drop)]
-pub enum Frame<'a> {
+/// Something that is left to do with the variables that are visible there.
+#[derive(Clone, Copy)]
+pub enum Task<'a> {
     /// The statements that follow in a block.
     Rest {
         inside: Inside<'a>,
-        scope: Rc<Scope<'a>>,
         statements: &'a [Stmt],
     },
     /// The use of a statement begins, if it begins one.
     Use {
         inside: Inside<'a>,
-        scope: Rc<Scope<'a>>,
         stmt: StmtId,
         age: Age,
         kind: &'a StmtKind,
@@ -59,29 +55,13 @@ pub enum Frame<'a> {
     /// A statement's own work.
     Work {
         inside: Inside<'a>,
-        scope: Rc<Scope<'a>>,
         stmt: StmtId,
         kind: &'a StmtKind,
-    },
-    /// The use of a statement ends, if it is one.
-    Done {
-        is_use: bool,
-        stmt: StmtId,
-        age: Age,
-    },
-    /// A region ends, if one does.
-    Close {
-        region: Option<u32>,
     },
     /// The value of a statement's right side is taken.
     Take {
-        scope: Rc<Scope<'a>>,
         stmt: StmtId,
         kind: &'a StmtKind,
-    },
-    /// The local variables that were made since there were so many are gone.
-    Leave {
-        locals: usize,
     },
     /// The turns of a `for`.
     Turns {
@@ -95,6 +75,30 @@ pub enum Frame<'a> {
     Test {
         turns: WhileTurns<'a>,
     },
+}
+
+/// Something that is left to do.
+#[derive(Drop)]
+pub enum Frame<'a> {
+    /// A task, and the variables that are visible there.
+    Scoped {
+        scope: Rc<Scope<'a>>,
+        task: Task<'a>,
+    },
+    /// The use of a statement ends, if it is one.
+    Done {
+        is_use: bool,
+        stmt: StmtId,
+        age: Age,
+    },
+    /// A region ends, if one does.
+    Close {
+        region: Option<u32>,
+    },
+    /// The local variables that were made since there were so many are gone.
+    Leave {
+        locals: usize,
+    },
     /// A value is returned, and a region ends, if one does.
     Back {
         value: Value,
@@ -102,34 +106,27 @@ pub enum Frame<'a> {
     },
 }
 
-/// The same turns of a `for`.
-fn copy_for<'a>(turns: &ForTurns<'a>) -> Result<ForTurns<'a>, AllocError>
-    ensures { IfOk result (λ t. for_frame t ≡ for_frame turns.now) }
+/// One thing more is left to do, and comes first.
+pub fn push_frame<'a>(frame: Frame<'a>, frames: &mut Vec<Frame<'a>>) -> Result<(), AllocError>
+    ensures { OnOk result
+        (frames_view frames.new.items ≡ frame_view frame.entry ∷ frames_view frames.old.items) }
 {
-    Ok(ForTurns {
-        inside: turns.inside,
-        scope: Rc::clone(&turns.scope)?,
-        name: turns.name,
-        next: turns.next,
-        to: turns.to,
-        body: turns.body,
-    })
+    frames.push(frame)?;
+    Ok(())
 }
 
-/// The same turns of a `while`.
-fn copy_while<'a>(turns: &WhileTurns<'a>) -> Result<WhileTurns<'a>, AllocError>
-    ensures turns { IfOk result (λ t. while_frame t ≡ while_frame turns.now) }
-    ensures test { IfOk result (λ t. test_frame t ≡ test_frame turns.now) }
+/// One task more is left to do with these variables, and comes first.
+pub fn push_task<'a>(
+    scope: Rc<Scope<'a>>,
+    task: Task<'a>,
+    frames: &mut Vec<Frame<'a>>,
+) -> Result<(), AllocError>
+    ensures { OnOk result
+        (frames_view frames.new.items
+        ≡ task_frame scope.entry.value task.entry ∷ frames_view frames.old.items) }
 {
-    Ok(WhileTurns {
-        inside: turns.inside,
-        scope: Rc::clone(&turns.scope)?,
-        stmt: turns.stmt,
-        condition: turns.condition,
-        left: turns.left,
-        body: turns.body,
-        age: turns.age,
-    })
+    push_frame(Frame::Scoped { scope, task }, frames)?;
+    Ok(())
 }
 
 /// The same of it is left to do.
@@ -137,38 +134,9 @@ fn copy<'a>(frame: &Frame<'a>) -> Result<Frame<'a>, AllocError>
     ensures { IfOk result (λ f. frame_view f ≡ frame_view frame.now) }
 {
     match frame {
-        Frame::Rest {
-            inside,
-            scope,
-            statements,
-        } => Ok(Frame::Rest {
-            inside: *inside,
+        Frame::Scoped { scope, task } => Ok(Frame::Scoped {
             scope: Rc::clone(scope)?,
-            statements: *statements,
-        }),
-        Frame::Use {
-            inside,
-            scope,
-            stmt,
-            age,
-            kind,
-        } => Ok(Frame::Use {
-            inside: *inside,
-            scope: Rc::clone(scope)?,
-            stmt: *stmt,
-            age: *age,
-            kind: *kind,
-        }),
-        Frame::Work {
-            inside,
-            scope,
-            stmt,
-            kind,
-        } => Ok(Frame::Work {
-            inside: *inside,
-            scope: Rc::clone(scope)?,
-            stmt: *stmt,
-            kind: *kind,
+            task: *task,
         }),
         Frame::Done { is_use, stmt, age } => Ok(Frame::Done {
             is_use: *is_use,
@@ -176,21 +144,7 @@ fn copy<'a>(frame: &Frame<'a>) -> Result<Frame<'a>, AllocError>
             age: *age,
         }),
         Frame::Close { region } => Ok(Frame::Close { region: *region }),
-        Frame::Take { scope, stmt, kind } => Ok(Frame::Take {
-            scope: Rc::clone(scope)?,
-            stmt: *stmt,
-            kind: *kind,
-        }),
         Frame::Leave { locals } => Ok(Frame::Leave { locals: *locals }),
-        Frame::Turns { turns } => Ok(Frame::Turns {
-            turns: copy_for(turns)?,
-        }),
-        Frame::Loop { turns } => Ok(Frame::Loop {
-            turns: copy_while(turns)?,
-        }),
-        Frame::Test { turns } => Ok(Frame::Test {
-            turns: copy_while(turns)?,
-        }),
         Frame::Back { value, region } => Ok(Frame::Back {
             value: *value,
             region: *region,

@@ -1,13 +1,15 @@
 //! Whether a report is honest.
 ghost use Rattle.std.specs.Prelude.{map, option_map, IfOk};
 ghost use Rattle.oc_items.specs.Told.{told_of};
-ghost use Rattle.oc_steps.specs.Auditing.{Finds, first_watch};
+ghost use Rattle.oc_steps.specs.Auditing.{Finds, IsHeard, first_watch};
 ghost use Rattle.oc_judge.specs.Going.{program_of, regions_of};
+ghost use Rattle.oc_judge.specs.Seeking.{AreFound};
 ghost use Rattle.oc_judge.specs.Verdicts.{IsVerdict, found, reported};
+ghost use Rattle.oc_judge.specs.Watches.{answered, watch_view};
 
 use crate::running::Running;
-use crate::seeking::find_set;
-use crate::watch::{first_watch, hear};
+use crate::seeking::{Found, find_set};
+use crate::watch::{Watch, first_watch, hear, said_by};
 use oc_io::Memory;
 use oc_items::item::Item;
 use oc_tree::marked::Marked;
@@ -23,24 +25,59 @@ pub enum Verdict {
     Breaks { item: u64 },
 }
 
-/// What is found in these items.
-fn find_break(run: &Running, items: &[Item], nv: Option<&[i32]>) -> Result<Verdict, AllocError>
+/// Whether an item may be told now; the audit goes on behind it then.
+fn hear_next<'a>(
+    run: &Running<'a>,
+    nv: Option<&[i32]>,
+    watch: &mut Watch<'a>,
+    sought: &mut Vec<Found>,
+    item: Item,
+) -> Result<bool, AllocError>
+    requires { AreFound (program_of run.now) sought.old.items }
+    ensures heard { IfOk result
+        (λ good. IsHeard (program_of run.now) (regions_of run.now)
+        (option_map (λ w. w.now) nv.entry)
+        (watch_view watch.old) (told_of item).said (answered good watch.new)) }
+    ensures sought { IfOk result (λ good. AreFound (program_of run.now) sought.new.items) }
+{
+    let set = find_set(run.program, sought, item)?;
+    let good = hear(run, nv, watch, said_by(item), set)?;
+    Ok(good)
+}
+
+/// What is found in these items, of which the first is told now.
+fn find_break<'a>(
+    run: &Running<'a>,
+    items: &[Item],
+    nv: Option<&[i32]>,
+    watch: &mut Watch<'a>,
+    sought: &mut Vec<Found>,
+) -> Result<Verdict, AllocError>
+    requires { AreFound (program_of run.now) sought.old.items }
     ensures { IfOk result
         (λ v. Finds (program_of run.now) (regions_of run.now) (option_map (λ w. w.now) nv.entry)
-        (first_watch (program_of run.now) (regions_of run.now)) (map told_of items.now) 1
-        (found v)) }
+        (watch_view watch.old) (map told_of items.now) 1 (found v)) }
 {
-    let mut watch = first_watch(run)?;
-    let mut sought = Vec::new(run.alloc);
     let mut number = 1;
     for item in items {
-        let set = find_set(run.program, &mut sought, *item)?;
-        if !hear(run, nv, &mut watch, *item, set)? {
+        if !hear_next(run, nv, watch, sought, *item)? {
             return Ok(Verdict::Breaks { item: number });
         }
         number += 1;
     }
     Ok(Verdict::Honest)
+}
+
+/// What is found in a report of these items.
+fn audit(run: &Running, items: &[Item], nv: Option<&[i32]>) -> Result<Verdict, AllocError>
+    ensures { IfOk result
+        (λ v. Finds (program_of run.now) (regions_of run.now) (option_map (λ w. w.now) nv.entry)
+        (first_watch (program_of run.now) (regions_of run.now)) (map told_of items.now) 1
+        (found v)) }
+{
+    let mut sought = Vec::new(run.alloc);
+    let mut watch = first_watch(run)?;
+    find_break(run, items, nv, &mut watch, &mut sought)
 }
 
 /// Judges a report of these items, and of these words of the nonvolatile variables, where there are
@@ -60,7 +97,7 @@ pub fn judge(
         program: marked.checked().program(),
         regions: marked.regions(),
     };
-    match find_break(&run, items, nv) {
+    match audit(&run, items, nv) {
         Ok(verdict) => Ok(verdict),
         Err(_) => Err(Memory),
     }

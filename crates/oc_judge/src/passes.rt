@@ -1,12 +1,13 @@
 //! Loops with nothing in them, which are gone over at once.
-ghost use Rattle.std.specs.Prelude.{◌≡◌, ◌∷◌, List, IfOk, IfSome, OnOk};
+ghost use Rattle.std.specs.Prelude.{◌≡◌, ◌-◌, ◌∷◌, length, take, List, IfSome, OnOk};
+ghost use Rattle.oc_meaning.specs.Store.{Binding};
 ghost use Rattle.oc_steps.specs.Steps as steps;
 ghost use Rattle.oc_judge.specs.Frames.{for_frame, frames_view};
 ghost use Rattle.oc_judge.specs.Going.{program_of, regions_of};
-ghost use Rattle.oc_judge.specs.Passes.{HasTurns, Reaches, Took};
+ghost use Rattle.oc_judge.specs.Passes.{HasTurns, Reaches};
 ghost use Rattle.oc_judge.specs.Ways.{KeepsRest, way_view};
 
-use crate::frames::{ForTurns, Frame};
+use crate::frames::{ForTurns, Frame, Task};
 use crate::running::Running;
 use crate::store::Completion;
 use crate::way::Way;
@@ -16,8 +17,8 @@ use std::alloc::AllocError;
 /// The body of a `for` and how many turns are left, where it is empty.
 fn empty_turns(turns: &ForTurns) -> Option<(BlockId, u64)>
     ensures { IfSome result
-        (λ t. (behind : List steps.Frame)
-        → HasTurns (for_frame turns.now ∷ behind) behind t.0 t.1) }
+        (λ t. (env : List Binding) (behind : List steps.Frame)
+        → HasTurns (for_frame env turns.now ∷ behind) behind t.0 t.1) }
 {
     if turns.next < turns.to {
         return match turns.body.statements.split_first() {
@@ -28,28 +29,28 @@ fn empty_turns(turns: &ForTurns) -> Option<(BlockId, u64)>
     None
 }
 
-/// Whether the turns of a `for` are what is left to do first.
-fn begin_with_turns(frames: &[Frame]) -> bool {
-    matches!(frames.last(), Some(Frame::Turns { .. }))
+/// The turns of a `for` with an empty body, where they are what is left to do first.
+fn first_turns(frames: &[Frame]) -> Option<(BlockId, u64)>
+    ensures { IfSome result
+        (λ t. HasTurns (frames_view frames.now)
+        (frames_view (take (length frames.now - 1) frames.now)) t.0 t.1) }
+{
+    match frames.last() {
+        Some(
+            Frame::Scoped {
+                task: Task::Turns { turns },
+                ..
+            },
+        ) => empty_turns(turns),
+        _ => None,
+    }
 }
 
-/// Takes the turns of a `for` with an empty body away, where they are what is left to do first.
-fn take_turns(frames: &mut Vec<Frame>) -> Result<Option<(BlockId, u64)>, AllocError>
-    ensures { IfOk result
-        (λ t. Took t (frames_view frames.old.items) (frames_view frames.new.items)) }
+/// What is left to do behind what comes first.
+fn leave_first(frames: &mut Vec<Frame>)
+    ensures { frames.new.items ≡ take (length frames.old.items - 1) frames.old.items }
 {
-    match frames.pop() {
-        None => Ok(None),
-        Some(frame) => {
-            if let Frame::Turns { turns } = &frame {
-                if let Some(found) = empty_turns(turns) {
-                    return Ok(Some(found));
-                }
-            }
-            frames.push(frame)?;
-            Ok(None)
-        }
-    }
+    frames.truncate(frames.len().saturating_sub(1));
 }
 
 /// The run behind the turns of a `for` with an empty body, where they are what it does next.
@@ -61,15 +62,13 @@ pub fn pass_turns<'a>(run: &Running<'a>, way: &mut Way<'a>) -> Result<(), AllocE
 {
     match way.completion {
         Completion::Went => {
-            if !begin_with_turns(&way.frames) {
-                return Ok(());
-            }
-            if way.store.has_event() {
-                return Ok(());
-            }
-            match take_turns(&mut way.frames)? {
+            match first_turns(&way.frames) {
                 None => Ok(()),
                 Some((block, times)) => {
+                    if way.store.has_event() {
+                        return Ok(());
+                    }
+                    leave_first(&mut way.frames);
                     way.store.enter_times(block, times)?;
                     Ok(())
                 }

@@ -1,20 +1,23 @@
 //! One step of a run.
-ghost use Rattle.std.specs.Prelude.{◌≡◌, ◌∷◌, IfOk, List};
+ghost use Rattle.std.specs.Prelude.{◌≡◌, ◌∷◌, IfOk, List, OnOk};
+ghost use Rattle.std.specs.List.{list_any};
+ghost use Rattle.oc_tree.specs.Named.{expr_names};
 ghost use Rattle.oc_tree.specs.Tree.{more};
-ghost use Rattle.oc_tree.specs.View.{kind_view, stmt_view, stmts_view};
-ghost use Rattle.oc_meaning.specs.Exec.{grown};
+ghost use Rattle.oc_tree.specs.View.{expr_view, kind_view, stmt_view, stmts_view};
+ghost use Rattle.oc_meaning.specs.Exec.{Went, done, ended_by, grown};
 ghost use Rattle.oc_meaning.specs.Scopes.{binding_view};
-ghost use Rattle.oc_steps.specs.Steps.{Goes, Use};
+ghost use Rattle.oc_meaning.specs.Uses.{ends_use, is_fresh};
+ghost use Rattle.oc_steps.specs.Steps.{Close, Done, Goes, Rest, Use};
 ghost use Rattle.oc_steps.specs.Steps as steps;
-ghost use Rattle.oc_judge.specs.Frames.{for_frame, frame_view, frames_view, inside_view, test_frame, while_frame};
-ghost use Rattle.oc_judge.specs.Going.{IsKept, rest_here, returned_here, step_at, step_here, stepped_at, went_here};
+ghost use Rattle.oc_judge.specs.Frames.{for_frame, frame_view, frames_view, inside_view, task_frame, test_frame, while_frame};
+ghost use Rattle.oc_judge.specs.Going.{IsKept, regions_of, rest_here, returned_here, step_at, step_here, stepped_at, went_here};
 ghost use Rattle.oc_judge.specs.Stores.{completion_at};
 ghost use Rattle.oc_judge.specs.Values.{age_view, value_view};
 
 use crate::age::{Age, Got, Value};
 use crate::blocks::begin;
 use crate::eval::{is_zero, value_of};
-use crate::frames::{ForTurns, Frame, Inside, WhileTurns};
+use crate::frames::{ForTurns, Frame, Inside, Task, WhileTurns, push_frame, push_task};
 use crate::going::Going;
 use crate::running::Running;
 use crate::store::{Completion, Store};
@@ -95,6 +98,51 @@ fn grow<'a>(
     }
 }
 
+/// What comes behind the work of the statement `n`, which is of this kind: the end of its use, that
+/// of its region, and the statements that follow it.
+fn push_behind<'a>(
+    run: &Running<'a>,
+    inside: Inside<'a>,
+    scope: &Rc<Scope<'a>>,
+    n: StmtId,
+    kind: &'a StmtKind,
+    age: Age,
+    rest: &'a [Stmt],
+    frames: &mut Vec<Frame<'a>>,
+    store: &Store,
+) -> Result<(), AllocError>
+    ensures { OnOk result
+        (frames_view frames.new.items
+        ≡ Done (ends_use (is_fresh scope.now.value) (kind_view kind.now)) n (age_view age)
+        ∷ Close (ended_by (regions_of run.now) n)
+        ∷ Rest (inside_view inside.entry)
+        (grown (kind_view kind.now) (stmts_view rest.now) scope.now.value store.now)
+        (stmts_view rest.now)
+        ∷ frames_view frames.old.items) }
+{
+    let is_use = ends_use(run.alloc, scope, kind)?;
+    let behind = grow(run.alloc, scope, kind, rest, store)?;
+    push_task(
+        behind,
+        Task::Rest {
+            inside,
+            statements: rest,
+        },
+        frames,
+    )?;
+    let region = ended_by(run.regions, n);
+    push_frame(Frame::Close { region }, frames)?;
+    push_frame(
+        Frame::Done {
+            is_use,
+            stmt: n,
+            age,
+        },
+        frames,
+    )?;
+    Ok(())
+}
+
 /// The next statement, with its use, its region and the statements behind it.
 fn push_statement<'a>(
     run: &Running<'a>,
@@ -114,24 +162,17 @@ fn push_statement<'a>(
     let kind = &statement.kind;
     let stmt = statement.id;
     let age = use_age(run.alloc, &scope, store, kind)?;
-    let is_use = ends_use(run.alloc, &scope, kind)?;
-    let behind = grow(run.alloc, &scope, kind, rest, store)?;
-    frames.push(Frame::Rest {
-        inside,
-        scope: behind,
-        statements: rest,
-    })?;
-    frames.push(Frame::Close {
-        region: ended_by(run.regions, stmt),
-    })?;
-    frames.push(Frame::Done { is_use, stmt, age })?;
-    frames.push(Frame::Use {
-        inside,
+    push_behind(run, inside, &scope, stmt, kind, age, rest, frames, store)?;
+    push_task(
         scope,
-        stmt,
-        age,
-        kind,
-    })?;
+        Task::Use {
+            inside,
+            stmt,
+            age,
+            kind,
+        },
+        frames,
+    )?;
     store.open_region(begun_by(run.regions, stmt))?;
     Ok(Completion::Went)
 }
@@ -162,20 +203,20 @@ fn rest<'a>(
 #[tactic(auto, using(crate::proofs::Turning::turn_over, crate::proofs::Turning::turn_more))]
 fn turn<'a>(
     run: &Running<'a>,
+    scope: Rc<Scope<'a>>,
     turns: ForTurns<'a>,
     frames: &mut Vec<Frame<'a>>,
     store: &mut Store,
 ) -> Result<Completion, AllocError>
     ensures { IfOk result
         (λ o. Goes (frames_view frames.new.items) (completion_at o store.new)
-        ≡ went_here run.now (for_frame turns.entry) (frames_view frames.old.items) store.old) }
+        ≡ went_here run.now (for_frame scope.entry.value turns.entry) (frames_view frames.old.items)
+        store.old) }
 {
     if turns.next < turns.to {
-        let inside = turns.inside;
-        let body = turns.body;
         let inner = with_variable(
             run.alloc,
-            &turns.scope,
+            &scope,
             Binding {
                 name: turns.name,
                 place: Place::Turn { value: turns.next },
@@ -185,63 +226,78 @@ fn turn<'a>(
         )?;
         let mut behind = turns;
         behind.next += 1;
-        frames.push(Frame::Turns { turns: behind })?;
-        let begun = begin(inside, &inner, body, frames, store)?;
-        return Ok(begun);
+        push_task(scope, Task::Turns { turns: behind }, frames)?;
+        return begin(turns.inside, inner, turns.body, frames, store);
     }
+    Ok(Completion::Went)
+}
+
+/// The use of the condition of a `while` ends.
+fn end_while(
+    run: &Running,
+    scope: &Scope,
+    turns: WhileTurns,
+    store: &mut Store,
+) -> Result<Completion, AllocError>
+    ensures { IfOk result
+        (λ o. completion_at o store.new
+        ≡ Went (done
+        (list_any (is_fresh scope.now) (expr_names (expr_view turns.entry.condition.now)))
+        turns.entry.stmt (age_view turns.entry.age) store.old)) }
+{
+    let is = expression_is_use(run.alloc, scope, turns.condition)?;
+    end_use(is, turns.stmt, turns.age, store)?;
     Ok(Completion::Went)
 }
 
 /// The use of the condition of a `while` begins, if a turn is left, or ends.
 fn turn_while<'a>(
     run: &Running<'a>,
+    scope: Rc<Scope<'a>>,
     turns: WhileTurns<'a>,
     frames: &mut Vec<Frame<'a>>,
     store: &mut Store,
 ) -> Result<Completion, AllocError>
     ensures { IfOk result
         (λ o. Goes (frames_view frames.new.items) (completion_at o store.new)
-        ≡ went_here run.now (while_frame turns.entry) (frames_view frames.old.items) store.old) }
+        ≡ went_here run.now (while_frame scope.entry.value turns.entry)
+        (frames_view frames.old.items) store.old) }
 {
-    let n = turns.stmt;
-    let is = expression_is_use(run.alloc, &turns.scope, turns.condition)?;
     if turns.left == 0 {
-        end_use(is, n, turns.age, store)?;
-        return Ok(Completion::Went);
+        return end_while(run, &scope, turns, store);
     }
-    let now = expression_age(run.alloc, &turns.scope, store, turns.condition)?;
+    let is = expression_is_use(run.alloc, &scope, turns.condition)?;
+    let now = expression_age(run.alloc, &scope, store, turns.condition)?;
     let mut behind = turns;
     behind.left -= 1;
     behind.age = behind.age.join(now);
-    frames.push(Frame::Test { turns: behind })?;
-    begin_use(is, n, now, store)?;
+    push_task(scope, Task::Test { turns: behind }, frames)?;
+    begin_use(is, turns.stmt, now, store)?;
     Ok(Completion::Went)
 }
 
 /// The condition of a turn of a `while`, and then its body or what is behind it.
 fn test<'a>(
     run: &Running<'a>,
+    scope: Rc<Scope<'a>>,
     turns: WhileTurns<'a>,
     frames: &mut Vec<Frame<'a>>,
     store: &mut Store,
 ) -> Result<Completion, AllocError>
     ensures { IfOk result
         (λ o. Goes (frames_view frames.new.items) (completion_at o store.new)
-        ≡ went_here run.now (test_frame turns.entry) (frames_view frames.old.items) store.old) }
+        ≡ went_here run.now (test_frame scope.entry.value turns.entry)
+        (frames_view frames.old.items) store.old) }
 {
-    match value_of(&turns.scope, store, turns.condition) {
+    match value_of(&scope, store, turns.condition) {
         Got::Traps { kind } => store.trap(kind, turns.stmt),
         Got::Value { value } => {
             if is_zero(value.number) {
-                let is = expression_is_use(run.alloc, &turns.scope, turns.condition)?;
-                end_use(is, turns.stmt, turns.age, store)?;
-                return Ok(Completion::Went);
+                return end_while(run, &scope, turns, store);
             }
-            let inside = turns.inside;
-            let body = turns.body;
-            let scope = Rc::clone(&turns.scope)?;
-            frames.push(Frame::Loop { turns })?;
-            begin(inside, &scope, body, frames, store)
+            let inner = Rc::clone(&scope)?;
+            push_task(scope, Task::Loop { turns }, frames)?;
+            begin(turns.inside, inner, turns.body, frames, store)
         }
     }
 }
@@ -264,14 +320,51 @@ fn use_and_work<'a>(
         (frames_view frames.old.items) store.old) }
 {
     let is = begins_use(run.alloc, &scope, kind)?;
-    frames.push(Frame::Work {
-        inside,
+    push_task(
         scope,
-        stmt: n,
-        kind,
-    })?;
+        Task::Work {
+            inside,
+            stmt: n,
+            kind,
+        },
+        frames,
+    )?;
     begin_use(is, n, age, store)?;
     Ok(Completion::Went)
+}
+
+/// A task with these variables, where what was before it went through.
+fn perform<'a>(
+    run: &Running<'a>,
+    scope: Rc<Scope<'a>>,
+    task: Task<'a>,
+    frames: &mut Vec<Frame<'a>>,
+    store: &mut Store,
+) -> Result<Going, AllocError>
+    ensures { IfOk result
+        (λ s. step_at s (frames_view frames.new.items) store.new
+        ≡ went_here run.now (task_frame scope.entry.value task.entry) (frames_view frames.old.items)
+        store.old) }
+{
+    let completion = match task {
+        Task::Work { inside, stmt, kind } => {
+            return work(run, inside, &scope, stmt, kind, frames, store);
+        }
+        Task::Rest { inside, statements } => {
+            rest(run, inside, scope, statements, frames, store)?
+        }
+        Task::Use {
+            inside,
+            stmt,
+            age,
+            kind,
+        } => use_and_work(run, inside, scope, stmt, age, kind, frames, store)?,
+        Task::Take { stmt, kind } => take(run, &scope, stmt, kind, Value::plain(0), store)?,
+        Task::Turns { turns } => turn(run, scope, turns, frames, store)?,
+        Task::Loop { turns } => turn_while(run, scope, turns, frames, store)?,
+        Task::Test { turns } => test(run, scope, turns, frames, store)?,
+    };
+    Ok(Going::Goes { completion })
 }
 
 /// A frame, where what was before it went through.
@@ -286,30 +379,7 @@ fn go_on<'a>(
         ≡ went_here run.now (frame_view frame.entry) (frames_view frames.old.items) store.old) }
 {
     match frame {
-        Frame::Rest {
-            inside,
-            scope,
-            statements,
-        } => {
-            let completion = rest(run, inside, scope, statements, frames, store)?;
-            Ok(Going::Goes { completion })
-        }
-        Frame::Use {
-            inside,
-            scope,
-            stmt,
-            age,
-            kind,
-        } => {
-            let completion = use_and_work(run, inside, scope, stmt, age, kind, frames, store)?;
-            Ok(Going::Goes { completion })
-        }
-        Frame::Work {
-            inside,
-            scope,
-            stmt,
-            kind,
-        } => work(run, inside, &scope, stmt, kind, frames, store),
+        Frame::Scoped { scope, task } => perform(run, scope, task, frames, store),
         Frame::Done { is_use, stmt, age } => {
             end_use(is_use, stmt, age, store)?;
             Ok(Going::Goes {
@@ -322,27 +392,11 @@ fn go_on<'a>(
                 completion: Completion::Went,
             })
         }
-        Frame::Take { scope, stmt, kind } => {
-            let completion = take(run, &scope, stmt, kind, Value::plain(0), store)?;
-            Ok(Going::Goes { completion })
-        }
         Frame::Leave { locals } => {
             store.leave(locals);
             Ok(Going::Goes {
                 completion: Completion::Went,
             })
-        }
-        Frame::Turns { turns } => {
-            let completion = turn(run, turns, frames, store)?;
-            Ok(Going::Goes { completion })
-        }
-        Frame::Loop { turns } => {
-            let completion = turn_while(run, turns, frames, store)?;
-            Ok(Going::Goes { completion })
-        }
-        Frame::Test { turns } => {
-            let completion = test(run, turns, frames, store)?;
-            Ok(Going::Goes { completion })
         }
         Frame::Back { value, region } => {
             store.close_region(region)?;
@@ -350,6 +404,24 @@ fn go_on<'a>(
                 completion: Completion::Returned { value },
             })
         }
+    }
+}
+
+/// A task with these variables, where a value was returned before it.
+fn give_to(
+    run: &Running,
+    scope: &Scope,
+    task: Task,
+    value: Value,
+    store: &mut Store,
+) -> Result<Completion, AllocError>
+    ensures { IfOk result
+        (λ o. (fs : List steps.Frame) → Goes fs (completion_at o store.new)
+        ≡ returned_here run.now (task_frame scope.now task.entry) (value_view value) fs store.old) }
+{
+    match task {
+        Task::Take { stmt, kind } => take(run, scope, stmt, kind, value, store),
+        _ => Ok(Completion::Returned { value }),
     }
 }
 
@@ -365,7 +437,7 @@ fn go_back<'a>(
         ≡ returned_here run.now (frame_view frame.entry) (value_view value) fs store.old) }
 {
     match frame {
-        Frame::Take { scope, stmt, kind } => take(run, &scope, stmt, kind, value, store),
+        Frame::Scoped { scope, task } => give_to(run, &scope, task, value, store),
         Frame::Leave { locals } => {
             store.leave(locals);
             Ok(Completion::Returned { value })

@@ -22,7 +22,7 @@ use crate::sets::{may_tag, tell_tag};
 use crate::store::{Completion, Event};
 use crate::way::{Next, Way, copy, first_way, go};
 use oc_items::item::Item;
-use oc_tree::said::{Ending, Shown};
+use oc_tree::said::{Ending, Said, Shown};
 use std::alloc::{AllocError, Global};
 
 /// The run before an `enter`, and the region.
@@ -180,13 +180,13 @@ fn hear_enter<'a>(run: &Running<'a>, watch: &mut Watch<'a>, region: u32) -> Resu
         (Entered region) (answered good watch.new)) }
 {
     let way = copy(run.alloc, &watch.now)?;
+    watch.saved = Some(Saved { region, way });
     match go(run, &mut watch.now)? {
         Next::Says { event } => {
             if !says_entered(event.said, region) {
                 return Ok(false);
             }
             watch.now.inside = true;
-            watch.saved = Some(Saved { region, way });
             Ok(true)
         }
         Next::Wants { .. } => Ok(false),
@@ -308,63 +308,61 @@ fn hear_abort<'a>(watch: &mut Watch<'a>, region: u32) -> bool
     }
 }
 
-/// How the audit goes on after an item, or that the report breaks there. The set is that of the
-/// statement whose tag the item is.
+/// What an item says.
+pub fn said_by(item: Item) -> Said
+    ensures { result ≡ (told_of item).said }
+{
+    match item {
+        Item::Sense { sensor, value, .. } => Said::Sensed { sensor, value },
+        Item::Emit { port, value, .. } => Said::Showed {
+            what: Shown::Emitted { port, value },
+        },
+        Item::Use { stmt, .. } => Said::Showed {
+            what: Shown::Used { stmt },
+        },
+        Item::Done { stmt, .. } => Said::Showed {
+            what: Shown::Finished { stmt },
+        },
+        Item::Tag { stmt, .. } => Said::Showed {
+            what: Shown::Tagged { stmt },
+        },
+        Item::Enter { region, .. } => Said::Entered { region },
+        Item::Commit { region, .. } => Said::Committed { region },
+        Item::Abort { region, .. } => Said::Aborted { region },
+        Item::Off { ticks, .. } => Said::Off { ticks },
+        Item::Dark { .. } => Said::Dark,
+        Item::Trap { kind, stmt, .. } => Said::Ended {
+            how: Ending::Trapped { kind, stmt },
+        },
+        Item::End { .. } => Said::Ended {
+            how: Ending::Halted,
+        },
+    }
+}
+
+/// How the audit goes on after this was said, or that the report breaks there. The set is that of
+/// the statement whose tag this is.
 pub fn hear<'a>(
     run: &Running<'a>,
     nv: Option<&[i32]>,
     watch: &mut Watch<'a>,
-    item: Item,
+    said: Said,
     set: Option<(usize, i32)>,
 ) -> Result<bool, AllocError>
-    requires { IsSetOf (program_of run.now) (told_of item).said set }
+    requires { IsSetOf (program_of run.now) said set }
     ensures { IfOk result
         (λ good. IsHeard (program_of run.now) (regions_of run.now)
         (option_map (λ w. w.now) nv.entry)
-        (watch_view watch.old) (told_of item).said (answered good watch.new)) }
+        (watch_view watch.old) said (answered good watch.new)) }
 {
-    match item {
-        Item::Sense { sensor, value, .. } => {
-            let good = hear_input(run, watch, sensor, value)?;
-            Ok(good)
-        }
-        Item::Emit { port, value, .. } => {
-            let good = hear_shown(run, watch, Shown::Emitted { port, value }, set)?;
-            Ok(good)
-        }
-        Item::Use { stmt, .. } => {
-            let good = hear_shown(run, watch, Shown::Used { stmt }, set)?;
-            Ok(good)
-        }
-        Item::Done { stmt, .. } => {
-            let good = hear_shown(run, watch, Shown::Finished { stmt }, set)?;
-            Ok(good)
-        }
-        Item::Tag { stmt, .. } => {
-            let good = hear_shown(run, watch, Shown::Tagged { stmt }, set)?;
-            Ok(good)
-        }
-        Item::Enter { region, .. } => {
-            let good = hear_enter(run, watch, region)?;
-            Ok(good)
-        }
-        Item::Commit { region, .. } => {
-            let good = hear_commit(run, watch, region)?;
-            Ok(good)
-        }
-        Item::Abort { region, .. } => Ok(hear_abort(watch, region)),
-        Item::Off { .. } => {
-            let good = hear_off(watch)?;
-            Ok(good)
-        }
-        Item::Dark { .. } => Ok(true),
-        Item::Trap { kind, stmt, .. } => {
-            let good = hear_end(run, nv, watch, Ending::Trapped { kind, stmt })?;
-            Ok(good)
-        }
-        Item::End { .. } => {
-            let good = hear_end(run, nv, watch, Ending::Halted)?;
-            Ok(good)
-        }
+    match said {
+        Said::Sensed { sensor, value } => hear_input(run, watch, sensor, value),
+        Said::Showed { what } => hear_shown(run, watch, what, set),
+        Said::Entered { region } => hear_enter(run, watch, region),
+        Said::Committed { region } => hear_commit(run, watch, region),
+        Said::Aborted { region } => Ok(hear_abort(watch, region)),
+        Said::Off { .. } => hear_off(watch),
+        Said::Dark => Ok(true),
+        Said::Ended { how } => hear_end(run, nv, watch, how),
     }
 }

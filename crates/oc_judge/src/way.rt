@@ -55,11 +55,14 @@ pub enum Next {
 pub fn copy<'a>(alloc: Global, way: &Way<'a>) -> Result<Way<'a>, AllocError>
     ensures { IfOk result (λ w. way_view w ≡ way_view way.now) }
 {
+    let sets = way.sets.clone()?;
+    let store = way.store.copy(alloc)?;
+    let frames = copies(alloc, &way.frames)?;
     Ok(Way {
-        frames: copies(alloc, &way.frames)?,
+        frames,
         completion: way.completion,
-        store: way.store.copy(alloc)?,
-        sets: way.sets.clone()?,
+        store,
+        sets,
         inside: way.inside,
         over: way.over,
     })
@@ -87,8 +90,8 @@ fn begin_main<'a>(
 pub fn first_way<'a>(run: &Running<'a>) -> Result<Way<'a>, AllocError>
     ensures { IfOk result (λ w. way_view w ≡ at_first (program_of run.now) (regions_of run.now)) }
 {
-    let mut frames = Vec::new(run.alloc);
     let mut store = Store::new(run.alloc, run.program.nv.as_slice())?;
+    let mut frames = Vec::new(run.alloc);
     let completion = begin_main(run, &mut frames, &mut store)?;
     Ok(Way {
         frames,

@@ -15,9 +15,9 @@ ghost use Rattle.oc_judge.specs.Stores.{completion_at};
 ghost use Rattle.oc_judge.specs.Values.{value_view};
 
 use crate::age::{Age, Got, Value};
-use crate::blocks::{begin, call};
+use crate::blocks::{begin_here, call};
 use crate::eval::{is_zero, value_of};
-use crate::frames::{ForTurns, Frame, Inside, WhileTurns};
+use crate::frames::{ForTurns, Frame, Inside, Task, WhileTurns, push_frame, push_task};
 use crate::going::Going;
 use crate::held::Held;
 use crate::running::Running;
@@ -94,11 +94,7 @@ fn push_take<'a>(
         ≡ Take scope.now.value n (kind_view kind.now) ∷ frames_view frames.old.items) }
 {
     let scope = Rc::clone(scope)?;
-    frames.push(Frame::Take {
-        scope,
-        stmt: n,
-        kind,
-    })?;
+    push_task(scope, Task::Take { stmt: n, kind }, frames)?;
     Ok(())
 }
 
@@ -182,11 +178,11 @@ fn branch<'a>(
         Got::Traps { kind } => store.trap(kind, n),
         Got::Value { value } => {
             if !is_zero(value.number) {
-                return begin(inside, scope, then, frames, store);
+                return begin_here(inside, scope, then, frames, store);
             }
             match otherwise {
                 None => Ok(Completion::Went),
-                Some(second) => begin(inside, scope, second, frames, store),
+                Some(second) => begin_here(inside, scope, second, frames, store),
             }
         }
     }
@@ -260,10 +256,14 @@ fn give_back<'a>(
     match value_of(scope, store, value) {
         Got::Traps { kind } => store.trap(kind, n),
         Got::Value { value: found } => {
-            frames.push(Frame::Back {
-                value: found,
-                region: ended_by(run.regions, n),
-            })?;
+            let region = ended_by(run.regions, n);
+            push_frame(
+                Frame::Back {
+                    value: found,
+                    region,
+                },
+                frames,
+            )?;
             let is = expression_is_use(run.alloc, scope, value)?;
             let age = expression_age(run.alloc, scope, store, value)?;
             end_use(is, n, age, store)?;
@@ -290,13 +290,12 @@ fn push_turns<'a>(
     let scope = Rc::clone(scope)?;
     let turns = ForTurns {
         inside,
-        scope,
         name,
         next: from,
         to,
         body,
     };
-    frames.push(Frame::Turns { turns })?;
+    push_task(scope, Task::Turns { turns }, frames)?;
     Ok(())
 }
 
@@ -318,14 +317,13 @@ fn push_loop<'a>(
     let scope = Rc::clone(scope)?;
     let turns = WhileTurns {
         inside,
-        scope,
         stmt: n,
         condition,
         left: bound,
         body,
         age: Age::Never,
     };
-    frames.push(Frame::Loop { turns })?;
+    push_task(scope, Task::Loop { turns }, frames)?;
     Ok(())
 }
 

@@ -1,7 +1,7 @@
 use Rattle.std.proofs.Common.{rules, ◌≡◌, ◌+◌, ◌≤◌, ap, map, true, false, Bor, List, length, arith}
 use Rattle.std.specs.Prelude.{option_map, ℤ}
 use Rattle.oc_items.specs.Told.{told_of}
-use Rattle.oc_steps.specs.Auditing.{Finds, first_watch}
+use Rattle.oc_steps.specs.Auditing.{Finds}
 use Rattle.oc_judge.specs.Going.{program_of, regions_of}
 use Rattle.oc_judge.specs.Watches.{watch_view}
 use Rattle.oc_judge.proofs.Hearing.{ends, passes, stops}
@@ -13,9 +13,9 @@ returns-then-not-branch c =
     let rs = regions_of c.args.run.now in
     let nv = option_map {T = Bor (List ℤ)} {U = List ℤ} (λ w. w.now) c.args.nv in
     let items = c.args.items.now in
-    let breaks : c.in_ok-hear.field-0 ≡ false = search rules in
-    stops p rs nv items (λ v. Finds p rs nv (first_watch p rs) (map told_of items) 1 v) (watch_view c.loop-item.watch) c.loop-item.item-index _ c.loop-item-test.true
-    c.loop-item.invariant.finds c.loop-item.number c.loop-item.invariant.number c.in_ok-hear.field-0 c.hear.new.watch breaks c.in_ok-hear.ensures
+    let breaks : c.in_ok-hear_next.field-0 ≡ false = search rules in
+    stops p rs nv items (λ v. Finds p rs nv (watch_view c.args.watch.now) (map told_of items) 1 v) (watch_view c.loop-item.watch) c.loop-item.item-index _ c.loop-item-test.true
+    c.loop-item.invariant.finds c.loop-item.number c.loop-item.invariant.number c.in_ok-hear_next.field-0 c.hear_next.new.watch breaks c.in_ok-hear_next.ensures.heard
 
 pub loop-item-preserved : goal.loop-item-preserved
 loop-item-preserved c =
@@ -23,12 +23,12 @@ loop-item-preserved c =
     let rs = regions_of c.args.run.now in
     let nv = option_map {T = Bor (List ℤ)} {U = List ℤ} (λ w. w.now) c.args.nv in
     let items = c.args.items.now in
-    let goes : c.in_ok-hear.field-0 ≡ true = search rules in
+    let goes : c.in_ok-hear_next.field-0 ≡ true = search rules in
     record {
-      sought = c.in_ok-set.ensures.right;
+      sought = c.in_ok-hear_next.ensures.sought;
       number = ap (λ m. m + 1) c.loop-item.invariant.number;
-      finds = passes p rs nv items (λ v. Finds p rs nv (first_watch p rs) (map told_of items) 1 v) (watch_view c.loop-item.watch) c.loop-item.item-index _ c.loop-item-test.true
-          c.loop-item.invariant.finds c.in_ok-hear.field-0 c.hear.new.watch goes c.in_ok-hear.ensures;
+      finds = passes p rs nv items (λ v. Finds p rs nv (watch_view c.args.watch.now) (map told_of items) 1 v) (watch_view c.loop-item.watch) c.loop-item.item-index _ c.loop-item-test.true
+          c.loop-item.invariant.finds c.in_ok-hear_next.field-0 c.hear_next.new.watch goes c.in_ok-hear_next.ensures.heard;
     }
 
 pub returns : goal.returns
@@ -38,4 +38,4 @@ returns c =
     let nv = option_map {T = Bor (List ℤ)} {U = List ℤ} (λ w. w.now) c.args.nv in
     let items = c.args.items.now in
     let over : length items ≤ c.loop-item.item-index = omega arith in
-    ends p rs nv items (λ v. Finds p rs nv (first_watch p rs) (map told_of items) 1 v) (watch_view c.loop-item.watch) c.loop-item.item-index over c.loop-item.invariant.finds
+    ends p rs nv items (λ v. Finds p rs nv (watch_view c.args.watch.now) (map told_of items) 1 v) (watch_view c.loop-item.watch) c.loop-item.item-index over c.loop-item.invariant.finds

@@ -14,7 +14,7 @@ returns-in_ok-enter_times-in-Some-clause-reached c =
     let w = way_view c.args.way.now in
     let σ = c.args.way.now.store in
     let τ = c.enter_times.new.self in
-    let fs = frames_view c.take_turns.new.frames.items in
+    let fs = frames_view c.leave_first.new.frames.items in
     let turns : HasTurns (frames_view c.args.way.now.frames.items) fs c.in-Some.block c.in-Some.times = search rules in
     subst (λ out. Reaches p rs w (record w { frames = fs; out = out })) (sym (ap (λ o. completion_at o τ) c.in-Went.is))
     (passes p rs w fs σ τ c.in-Some.block c.in-Some.times turns (ap (λ o. completion_at o σ) c.in-Went.is) (c.has_event.ensures c.if-has_event.false) c.in_ok-enter_times-in-Some.ensures)

@@ -1,100 +1,67 @@
 use Rattle.std.proofs.Common.{◌≡◌, rules, subst, Bor, List, w32, to_z, of_z}
-use Rattle.std.specs.Prelude.{option_map, ℤ}
-use Rattle.oc_tree.specs.declared.said.Said.TheVariants.{Sensed, Showed}
-use Rattle.oc_tree.specs.declared.said.Shown.TheVariants.{Emitted}
+use Rattle.std.specs.Prelude.{option_map, ℤ, IfOk}
+use Rattle.oc_tree.specs.declared.said.Said.TheVariants.{Sensed}
 use Rattle.oc_judge.specs.Going.{program_of, regions_of}
 use Rattle.oc_judge.specs.Watches.{IsTold, answered, watch_view}
-use Rattle.oc_judge.proofs.Hearing.{heard_item, other_item}
+use Rattle.oc_judge.proofs.Hearing.{at_words, off_so, other_so, told_so}
 use Rattle.oc_judge.proofs.watch.hear.Goals as goal
 
-pub returns-in_ok-good-in-Sense : goal.returns-in_ok-good-in-Sense
-returns-in_ok-good-in-Sense c =
+pub returns-in-Sensed : goal.returns-in-Sensed
+returns-in-Sensed c =
     let p = program_of c.args.run.now in
     let rs = regions_of c.args.run.now in
     let nv = option_map {T = Bor (List ℤ)} {U = List ℤ} (λ w. w.now) c.args.nv in
     let w = watch_view c.args.watch.now in
-    let same : to_z w32 (of_z w32 c.in-Sense.value) ≡ c.in-Sense.value = search rules in
-    let a = answered c.in_ok-good-in-Sense.good c.hear_input.new.watch in
-    heard_item p rs nv w _ _ a c.in-Sense.is tt (subst (λ z. IsTold p rs nv w (Sensed c.in-Sense.sensor z) a) same (c.in_ok-good-in-Sense.ensures nv))
+    let r = c.hear_input.result in
+    let now = c.hear_input.new.watch in
+    let same : to_z w32 (of_z w32 c.in-Sensed.value) ≡ c.in-Sensed.value = search rules in
+    told_so p rs nv w c.args.said _ r now c.in-Sensed.is tt
+    (subst (λ z. IfOk r (λ good. IsTold p rs nv w (Sensed c.in-Sensed.sensor z) (answered good now))) same (at_words p rs nv w _ r now c.hear_input.ensures))
 
-pub returns-in_ok-good-in-Emit : goal.returns-in_ok-good-in-Emit
-returns-in_ok-good-in-Emit c =
+pub returns-in-Showed : goal.returns-in-Showed
+returns-in-Showed c =
     let p = program_of c.args.run.now in
     let rs = regions_of c.args.run.now in
     let nv = option_map {T = Bor (List ℤ)} {U = List ℤ} (λ w. w.now) c.args.nv in
     let w = watch_view c.args.watch.now in
-    let a = answered c.in_ok-good-in-Emit.good c.hear_shown.new.watch in
-    let same : to_z w32 (of_z w32 c.in-Emit.value) ≡ c.in-Emit.value = search rules in
-    heard_item p rs nv w _ _ a c.in-Emit.is tt (subst (λ z. IsTold p rs nv w (Showed (Emitted c.in-Emit.port z)) a) same (c.in_ok-good-in-Emit.ensures nv))
+    told_so p rs nv w c.args.said _ c.hear_shown.result c.hear_shown.new.watch c.in-Showed.is tt (at_words p rs nv w _ c.hear_shown.result c.hear_shown.new.watch c.hear_shown.ensures)
 
-pub returns-in_ok-good-in-Use : goal.returns-in_ok-good-in-Use
-returns-in_ok-good-in-Use c =
+pub returns-in-Entered : goal.returns-in-Entered
+returns-in-Entered c =
     let p = program_of c.args.run.now in
     let rs = regions_of c.args.run.now in
     let nv = option_map {T = Bor (List ℤ)} {U = List ℤ} (λ w. w.now) c.args.nv in
     let w = watch_view c.args.watch.now in
-    heard_item p rs nv w _ _ _ c.in-Use.is tt (c.in_ok-good-in-Use.ensures nv)
+    told_so p rs nv w c.args.said _ c.hear_enter.result c.hear_enter.new.watch c.in-Entered.is tt (at_words p rs nv w _ c.hear_enter.result c.hear_enter.new.watch c.hear_enter.ensures)
 
-pub returns-in_ok-good-in-Done : goal.returns-in_ok-good-in-Done
-returns-in_ok-good-in-Done c =
+pub returns-in-Committed : goal.returns-in-Committed
+returns-in-Committed c =
     let p = program_of c.args.run.now in
     let rs = regions_of c.args.run.now in
     let nv = option_map {T = Bor (List ℤ)} {U = List ℤ} (λ w. w.now) c.args.nv in
     let w = watch_view c.args.watch.now in
-    heard_item p rs nv w _ _ _ c.in-Done.is tt (c.in_ok-good-in-Done.ensures nv)
+    told_so p rs nv w c.args.said _ c.hear_commit.result c.hear_commit.new.watch c.in-Committed.is tt (at_words p rs nv w _ c.hear_commit.result c.hear_commit.new.watch c.hear_commit.ensures)
 
-pub returns-in_ok-good-in-Tag : goal.returns-in_ok-good-in-Tag
-returns-in_ok-good-in-Tag c =
+pub returns-in-Ended : goal.returns-in-Ended
+returns-in-Ended c =
     let p = program_of c.args.run.now in
     let rs = regions_of c.args.run.now in
     let nv = option_map {T = Bor (List ℤ)} {U = List ℤ} (λ w. w.now) c.args.nv in
     let w = watch_view c.args.watch.now in
-    heard_item p rs nv w _ _ _ c.in-Tag.is tt (c.in_ok-good-in-Tag.ensures nv)
+    told_so p rs nv w c.args.said _ c.hear_end.result c.hear_end.new.watch c.in-Ended.is tt c.hear_end.ensures
 
-pub returns-in_ok-good-in-Enter : goal.returns-in_ok-good-in-Enter
-returns-in_ok-good-in-Enter c =
+pub returns-in-Off : goal.returns-in-Off
+returns-in-Off c =
     let p = program_of c.args.run.now in
     let rs = regions_of c.args.run.now in
     let nv = option_map {T = Bor (List ℤ)} {U = List ℤ} (λ w. w.now) c.args.nv in
     let w = watch_view c.args.watch.now in
-    heard_item p rs nv w _ _ _ c.in-Enter.is tt (c.in_ok-good-in-Enter.ensures nv)
+    off_so p rs nv w c.args.said _ c.hear_off.result c.hear_off.new.watch c.in-Off.is c.hear_off.ensures
 
-pub returns-in_ok-good-in-Commit : goal.returns-in_ok-good-in-Commit
-returns-in_ok-good-in-Commit c =
+pub returns-in-Aborted : goal.returns-in-Aborted
+returns-in-Aborted c =
     let p = program_of c.args.run.now in
     let rs = regions_of c.args.run.now in
     let nv = option_map {T = Bor (List ℤ)} {U = List ℤ} (λ w. w.now) c.args.nv in
     let w = watch_view c.args.watch.now in
-    heard_item p rs nv w _ _ _ c.in-Commit.is tt (c.in_ok-good-in-Commit.ensures nv)
-
-pub returns-in_ok-good-in-Trap : goal.returns-in_ok-good-in-Trap
-returns-in_ok-good-in-Trap c =
-    let p = program_of c.args.run.now in
-    let rs = regions_of c.args.run.now in
-    let nv = option_map {T = Bor (List ℤ)} {U = List ℤ} (λ w. w.now) c.args.nv in
-    let w = watch_view c.args.watch.now in
-    heard_item p rs nv w _ _ _ c.in-Trap.is tt (c.in_ok-good-in-Trap.ensures)
-
-pub returns-in_ok-good-in-End : goal.returns-in_ok-good-in-End
-returns-in_ok-good-in-End c =
-    let p = program_of c.args.run.now in
-    let rs = regions_of c.args.run.now in
-    let nv = option_map {T = Bor (List ℤ)} {U = List ℤ} (λ w. w.now) c.args.nv in
-    let w = watch_view c.args.watch.now in
-    heard_item p rs nv w _ _ _ c.in-End.is tt (c.in_ok-good-in-End.ensures)
-
-pub returns-in_ok-good-in-Off : goal.returns-in_ok-good-in-Off
-returns-in_ok-good-in-Off c =
-    let p = program_of c.args.run.now in
-    let rs = regions_of c.args.run.now in
-    let nv = option_map {T = Bor (List ℤ)} {U = List ℤ} (λ w. w.now) c.args.nv in
-    let w = watch_view c.args.watch.now in
-    other_item p rs nv w _ _ _ c.in-Off.is (c.in_ok-good-in-Off.ensures p nv)
-
-pub returns-in-Abort : goal.returns-in-Abort
-returns-in-Abort c =
-    let p = program_of c.args.run.now in
-    let rs = regions_of c.args.run.now in
-    let nv = option_map {T = Bor (List ℤ)} {U = List ℤ} (λ w. w.now) c.args.nv in
-    let w = watch_view c.args.watch.now in
-    other_item p rs nv w _ _ _ c.in-Abort.is (c.hear_abort.ensures p nv)
+    other_so p rs nv w c.args.said _ _ c.in-Aborted.is (c.hear_abort.ensures p nv)

@@ -1,9 +1,11 @@
 #!/usr/bin/env python3
 """Compares the answers of crates/images_table with those of the second verifier: images.py --compare
+                                                                               images.py --write
                                                                                images.py --program PROGRAM
 
 --compare goes through crates/images_table/stdout: each file there must have the answer and the report that verifier.py
 finds, and each rule an image that breaks it alone and one that breaks none; a refusal must name a rule that is broken.
+The files must be those of plans.txt, which --write puts into crates/images_table/stdin.
 --program hands the images there that were written by hand, and some of the changed ones, to 'PROGRAM exec', which must
 end with the status of the answer.
 """
@@ -13,9 +15,11 @@ import subprocess
 import sys
 import tempfile
 
+import plans
 from machine import TOP
 from verifier import PERIODS, answer
 
+TABLE = TOP / "crates/images_table"
 VALUES = (lambda old: old ^ 1, lambda old: old ^ 128, lambda old: 0, lambda old: 255)
 SPARSE = 53
 STATUSES = {"end": 0, "zero": 8, "index": 8, "dark": 9}
@@ -41,8 +45,11 @@ class Table:
         self.at, self.faults, self.answers = 0, [], 0
         self.files, self.alone, self.accepted = [], set(), set()
         while self.at < len(self.lines):
+            if self.next().startswith("changes of "):
+                self.changes()
+                continue
             section, _, rule = self.line().partition(" ")
-            {"rule": self.rule, "fields": self.fields, "changes": self.changes}[section](rule)
+            {"rule": self.rule, "fields": self.fields}[section](rule)
         for rule in range(1, 12):
             if rule not in self.alone:
                 self.faults.append(f"no image breaks rule {rule} alone")
@@ -57,7 +64,7 @@ class Table:
         return self.lines[self.at] if self.at < len(self.lines) else "rule"
 
     def is_over(self):
-        return re.fullmatch(r"rule( \d+)?|fields|changes", self.next()) is not None
+        return re.match(r"rule( \d+)?$|fields$|changes of ", self.next()) is not None
 
     def judge(self, data, said, place):
         """Compares an answer of the table."""
@@ -91,18 +98,12 @@ class Table:
                 self.accepted.add(int(number))
 
     def fields(self, _):
-        data, _ = self.case()
         while not self.is_over():
-            line, _, said = self.line().rpartition(": ")
-            changed = bytearray(data)
-            for at, value in re.findall(r", byte (\d+) is (\d+)", line):
-                changed[int(at) : int(at) + 1] = [int(value)]
-            self.judge(bytes(changed), said, line)
-            self.files.append((line, bytes(changed), said))
+            self.case()
 
-    def changes(self, _):
+    def changes(self):
         data, _ = self.case()
-        totals, last = {}, None
+        last = None
         for length in range(len(data)):
             if (found := answer(data[:length])) != last:
                 line, _, said = self.line().rpartition(": ")
@@ -111,17 +112,10 @@ class Table:
                     self.faults.append(f"line {self.at}: not 'cut to {length}'")
                 self.files.append((line, data[:length], said))
             last = found
-            self.count(totals, said)
         for at, old in enumerate(data):
-            self.byte(data, at, old, totals)
-        while not self.is_over():
-            count, _, said = self.line().partition(" ")
-            if totals.pop(said, 0) != int(count):
-                self.faults.append(f"line {self.at}: another number of '{said}'")
-        if totals:
-            self.faults.append(f"line {self.at}: nothing is said of {totals}")
+            self.byte(data, at, old)
 
-    def byte(self, data, at, old, totals):
+    def byte(self, data, at, old):
         """Goes through the answers where one byte is changed."""
         line, *answers = self.line().split(", ")
         if line != f"byte {at}" or len(answers) != len(VALUES):
@@ -133,13 +127,8 @@ class Table:
                 continue
             changed = data[:at] + bytes([value]) + data[at + 1 :]
             self.judge(changed, said, f"byte {at} is {value}")
-            self.count(totals, said)
             if (at + value) % SPARSE == 0:
                 self.files.append((f"byte {at} is {value}", changed, said))
-
-    def count(self, totals, said):
-        said = "bad" if said.startswith("bad byte") else said
-        totals[said] = totals.get(said, 0) + 1
 
 
 def executed(program, name, data, said, folder):
@@ -154,10 +143,16 @@ def executed(program, name, data, said, folder):
 
 
 def main():
-    if sys.argv[1:] != ["--compare"] and (sys.argv[1:2] != ["--program"] or len(sys.argv) != 3):
+    if sys.argv[1:] not in (["--compare"], ["--write"]) and (sys.argv[1:2] != ["--program"] or len(sys.argv) != 3):
         sys.exit(__doc__)
-    table = Table((TOP / "crates/images_table/stdout").read_text())
+    files = "".join(line + "\n" for line in plans.lines())
+    if sys.argv[1] == "--write":
+        (TABLE / "stdin").write_text(files)
+        return 0
+    table = Table((TABLE / "stdout").read_text())
     faults, what = table.faults, f"{table.answers} answers are those of the second reading"
+    if files != (TABLE / "stdin").read_text():
+        faults.append("crates/images_table/stdin isn't what --write puts there")
     if sys.argv[1] == "--program":
         with tempfile.TemporaryDirectory() as temporary:
             folder = pathlib.Path(temporary)

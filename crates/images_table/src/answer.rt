@@ -1,4 +1,6 @@
 //! What becomes of the bytes of a file.
+ghost use Rattle.std.specs.Prelude.{◌≡◌};
+ghost use Rattle.oc_isa.specs.Power.{first_state};
 ghost use Rattle.oc_isa.specs.Run.{IsSound};
 ghost use Rattle.oc_isa.specs.Table.{device_of};
 
@@ -15,55 +17,44 @@ use oc_sensors::file::read_sensors;
 use oc_tree::said::TrapKind;
 use oc_verify::{ImageError, VerifyError, read_image, verify};
 use std::alloc::Global;
+use std::fmt::{self, Display, Formatter, Write};
 
-/// What becomes of a file: its first bad field, a rule that it breaks, or the place of the way in which
-/// its run stops.
+/// What becomes of a file: its first bad field, a rule that it breaks, or how its run stops; of one
+/// that is the same as before, nothing new.
 #[derive(Clone, Copy, PartialEq, Eq)]
 pub enum Answer {
+    Same,
     Bad { at: usize },
     Refused { rule: u8 },
-    Ran { stop: usize },
+    Ran { how: &'static str },
 }
 
-impl Answer {
-    /// Writes the answer in a word or two.
-    pub fn put<O: Sink>(self, alloc: Global, out: &mut O) -> anyhow::Result<()> {
-        match self {
-            Answer::Bad { at } => {
-                let text = format!(in alloc; "bad byte {at}")?;
-                out.put(text.as_bytes())?;
-            }
-            Answer::Refused { rule } => {
-                let text = format!(in alloc; "refused {rule}")?;
-                out.put(text.as_bytes())?;
-            }
-            Answer::Ran { stop } => {
-                let name = STOPS.get(stop).unwrap_or(&"");
-                out.put(name.as_bytes())?;
-            }
+impl Display for Answer {
+    fn fmt<W: Write>(&self, f: &mut Formatter<W>) -> fmt::Result {
+        match *self {
+            Answer::Same => f.write_str("same"),
+            Answer::Bad { at } => write!(f, "bad byte {at}"),
+            Answer::Refused { rule } => write!(f, "refused {rule}"),
+            Answer::Ran { how } => f.write_str(how),
         }
-        Ok(())
     }
 }
 
-/// The ways in which runs stop.
-pub const STOPS: [&str; 6] = ["end", "zero", "index", "dark", "fault", "cut"];
-
-/// The place of the way in which a run stops.
-fn stop_number(stop: Stop) -> usize {
+/// How a run stops, in a word.
+fn stop_name(stop: Stop) -> &'static str {
     match stop {
-        Stop::End => 0,
+        Stop::End => "end",
         Stop::Trap {
             kind: TrapKind::Zero,
             ..
-        } => 1,
+        } => "zero",
         Stop::Trap {
             kind: TrapKind::Index,
             ..
-        } => 2,
-        Stop::Dark => 3,
-        Stop::WriteFault => 4,
-        Stop::Cut { .. } => 5,
+        } => "index",
+        Stop::Dark => "dark",
+        Stop::WriteFault => "fault",
+        Stop::Cut { .. } => "cut",
     }
 }
 
@@ -81,15 +72,32 @@ const PERIODS: [Period; 2] = [
     },
 ];
 
-/// Runs a sound image, whose sensors show 0, and writes its report.
-fn run<O: Sink>(alloc: Global, image: Image, report: &mut O) -> anyhow::Result<Stop>
-    requires { IsSound (device_of image) }
+/// Runs a new machine, whose sensors show 0, and writes its report.
+fn put_report<O: Sink>(alloc: Global, machine: &mut Machine, report: &mut O) -> anyhow::Result<Stop>
+    requires new { machine.old.state ≡ first_state (device_of machine.old.parts) }
+    requires sound { IsSound (device_of machine.old.parts) }
 {
-    let mut sensors = read_sensors(alloc, b"time,sensor,value\n", &image.raw().names.sensors)?;
     let mut supply = Recorded::new(alloc);
     supply.feed(&PERIODS)?;
-    let mut machine = Machine::load(alloc, image)?;
+    let names = &machine.image().raw().names.sensors;
+    let mut sensors = read_sensors(alloc, b"time,sensor,value\n", names)?;
     Ok(machine.run(&mut sensors, &mut supply, report))
+}
+
+/// Runs a sound image.
+fn answer_of<O: Sink>(alloc: Global, image: Image, report: &mut O) -> anyhow::Result<Answer>
+    requires { IsSound (device_of image) }
+{
+    let mut machine = Machine::load(alloc, image)?;
+    let stop = put_report(alloc, &mut machine, report)?;
+    Ok(Answer::Ran {
+        how: stop_name(stop),
+    })
+}
+
+/// Room for the report of a run.
+pub fn report_sink(alloc: Global) -> Result<MemorySink, Memory> {
+    MemorySink::new(alloc, 1 << 12, Vec::new(alloc))
 }
 
 /// Reads a file, looks through it, and runs it.
@@ -100,15 +108,8 @@ pub fn answer_to<O: Sink>(alloc: Global, bytes: &[u8], report: &mut O) -> anyhow
         Err(ImageError::Memory) => return Err(Memory.into()),
     };
     match verify(alloc, raw) {
-        Ok(image) => Ok(Answer::Ran {
-            stop: stop_number(run(alloc, image, report)?),
-        }),
+        Ok(image) => answer_of(alloc, image, report),
         Err((_, VerifyError::Refused { rule, .. })) => Ok(Answer::Refused { rule }),
         Err((_, VerifyError::Memory)) => Err(Memory.into()),
     }
-}
-
-/// Room for the report of a run.
-pub fn report_sink(alloc: Global) -> Result<MemorySink, Memory> {
-    MemorySink::new(alloc, 1 << 12, Vec::new(alloc))
 }

@@ -1,11 +1,13 @@
 #!/usr/bin/env python3
-"""Prints what crates/outage_table must print, by the second machine of machine.py: outages.py [--compare]
+"""Prints what crates/outage_table must print, by the second machine of machine.py: outages.py [--images | --compare]
 
-With --compare it compares that with crates/outage_table/stdout, and ends with 1 where they differ.
+With --images it prints the images that it must be given. With --compare it compares both with crates/outage_table/stdin
+and stdout, and ends with 1 where they differ.
 """
 import sys
 
 from machine import TOP, Code, Machine, supplied
+from plans import image
 
 ONE_REGION = """fn main entry 0 params 0 frame 1
 0 1 enter 1
@@ -28,6 +30,23 @@ ONE_REGION = """fn main entry 0 params 0 frame 1
 """
 COUNTING = "fn main entry 0 params 0 frame 0\n" + "".join(f"{2 * k - 2} {k} push {k}\n{2 * k - 1} {k} emit r\n" for k in (1, 2, 3, 4)) + "8 0 halt\n"
 AREA = 6
+SENSORS, PORTS, VARIABLES = ["t"], ["r"], [("n", 1, 7), ("m", 1, 9)]
+TARGETS = [(0, 0, 1), (0, 1, 1)]
+
+
+def places(listing):
+    """Returns the instructions of a listing, each with its statement first, with numbers in place of names."""
+    for site, (kind, *operands) in Code(listing).code:
+        names = {"sense": SENSORS, "emit": PORTS}.get(kind, [])
+        yield int(site), " ".join([kind, *(str(names.index(operand)) if operand in names else operand for operand in operands)])
+
+
+def images():
+    """Returns the images of both programs, each in a line."""
+    named = lambda names: [(name,) for name in names]
+    one_region = image(named(SENSORS), named(PORTS), VARIABLES, [("main", 0, 0, 1)], [TARGETS], 3, places(ONE_REGION))
+    counting = image([], named(PORTS), [], [("main", 0, 0, 0)], [], 1, places(COUNTING))
+    return one_region.hex() + "\n" + counting.hex() + "\n"
 
 
 def over(periods, second_value=21):
@@ -66,11 +85,12 @@ def lines():
 def main():
     text = "".join(line + "\n" for line in lines())
     if "--compare" not in sys.argv:
-        print(text, end="")
+        print(images() if "--images" in sys.argv else text, end="")
         return 0
-    same = text == (TOP / "crates/outage_table/stdout").read_text()
-    print("outages: " + ("the table is that of the second machine" if same else "the table differs"))
-    return 0 if same else 1
+    folder = TOP / "crates/outage_table"
+    same = [text == (folder / "stdout").read_text(), images() == (folder / "stdin").read_text()]
+    print("outages: " + ("the table is that of the second machine" if all(same) else "the table differs" if same[1] else "the images differ"))
+    return 0 if all(same) else 1
 
 
 if __name__ == "__main__":

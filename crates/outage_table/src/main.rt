@@ -7,27 +7,30 @@
 //!
 //! At last a program without a region runs over what each supply tells of one row, and the number of
 //! periods that the supply has left is written.
+//!
+//! The images of both programs come from the standard input, in hexadecimal, each in a line;
+//! `checks/outages.py` writes them.
 #![tactic(auto)]
 
 ghost use Rattle.std.specs.Prelude.{◌≡◌, ◌<◌, ◌^◌, false};
+ghost use Rattle.oc_isa.specs.Power.{first_state};
+ghost use Rattle.oc_isa.specs.Run.{IsSound};
+ghost use Rattle.oc_isa.specs.Table.{device_of};
 ghost use Rattle.oc_power.specs.Total.{total};
 
-mod counting;
-mod program;
+mod kept;
+mod loaded;
 
-use counting::counting;
-use oc_ckpt::{Area, AreaState};
+use kept::put_kept;
+use loaded::{load, put_report};
 use oc_io::period::Period;
 use oc_io::sink::Sink;
 use oc_io::stream::StreamSink;
-use oc_items::text::put_nv;
 use oc_machine::machine::Machine;
 use oc_power::cutter::Cutter;
 use oc_power::looped::Looped;
 use oc_power::recorded::Recorded;
 use oc_power::supply::Supply;
-use oc_sensors::file::read_sensors;
-use program::{names, program};
 use std::alloc::Global;
 use std::io;
 
@@ -53,46 +56,27 @@ fn put_periods<O: Sink>(alloc: Global, periods: &[Period], out: &mut O) -> anyho
     Ok(())
 }
 
-/// The state of the area, as a word of the table.
-fn state_name(state: AreaState) -> &'static str {
-    match state {
-        AreaState::Fresh => "Fresh",
-        AreaState::Open => "Open",
-        AreaState::Sealed => "Sealed",
-        AreaState::Armed => "Armed",
-    }
+/// Runs a machine, and writes the report and what the machine kept.
+fn put_run<O: Sink>(
+    alloc: Global,
+    machine: &mut Machine,
+    sensors: &[u8],
+    supply: &mut dyn Supply,
+    out: &mut O,
+) -> anyhow::Result<()>
+    requires new { machine.old.state ≡ first_state (device_of machine.old.parts) }
+    requires sound { IsSound (device_of machine.old.parts) }
+    requires sum { total (left supply.old) < 2 ^ 63 }
+{
+    put_report(alloc, machine, sensors, supply, out)?;
+    put_kept(alloc, machine, out)
 }
 
-/// Writes the state of the area and its words, in one line.
-fn put_area<O: Sink>(alloc: Global, area: &Area, out: &mut O) -> anyhow::Result<()> {
-    let state = format!(in alloc; "area {}", state_name(area.state()))?;
-    out.put(state.as_bytes())?;
-    for at in 0..area.len() {
-        let word = format!(in alloc; " {}", area.word(at))?;
-        out.put(word.as_bytes())?;
-    }
-    out.put(b"\n")?;
-    Ok(())
-}
-
-/// Writes what a machine kept.
-fn put_kept<O: Sink>(alloc: Global, machine: &Machine, out: &mut O) -> anyhow::Result<()> {
-    let names = names(alloc)?;
-    for (place, word) in machine.nv_words().iter().enumerate() {
-        if place < names.nvs.len() {
-            put_nv(place as u8, &[*word], &names, out)?;
-        }
-    }
-    for entry in machine.undo_log().entries() {
-        let text = format!(in alloc; "log {} {}\n", entry.addr, entry.old)?;
-        out.put(text.as_bytes())?;
-    }
-    put_area(alloc, machine.area(), out)
-}
-
-/// Runs the program over these periods, and writes them, the report, and what the machine kept.
+/// Runs the program of an image over these periods, and writes them, the report, and what the machine
+/// kept.
 fn run_over<O: Sink>(
     alloc: Global,
+    image: &str,
     sensors: &[u8],
     periods: &[Period],
     out: &mut O,
@@ -100,25 +84,10 @@ fn run_over<O: Sink>(
     requires { total periods.now < 2 ^ 63 }
 {
     put_periods(alloc, periods, out)?;
-    let names = names(alloc)?;
-    let mut sensors = read_sensors(alloc, sensors, &names.sensors)?;
     let mut supply = Recorded::new(alloc);
     supply.feed(periods)?;
-    let image = program(alloc)?;
-    let mut machine = Machine::load(alloc, image)?;
-    machine.run(&mut sensors, &mut supply, out);
-    put_kept(alloc, &machine, out)
-}
-
-/// Runs the program that counts as long as the supply lets it, and writes the report.
-fn run_counting<O: Sink>(alloc: Global, supply: &mut dyn Supply, out: &mut O) -> anyhow::Result<()>
-    requires { total (left supply.old) < 2 ^ 63 }
-{
-    let mut sensors = read_sensors(alloc, b"time,sensor,value\n", &[])?;
-    let image = counting(alloc)?;
-    let mut machine = Machine::load(alloc, image)?;
-    machine.run(&mut sensors, supply, out);
-    Ok(())
+    let mut machine = load(alloc, image)?;
+    put_run(alloc, &mut machine, sensors, &mut supply, out)
 }
 
 /// How many periods a supply has left.
@@ -137,45 +106,63 @@ fn put_count<O: Sink>(alloc: Global, name: &str, number: u64, out: &mut O) -> an
     Ok(())
 }
 
-/// Runs the program that counts over what a supply tells of these rows, and writes the report and how
-/// many periods the supply has left.
-fn count_over<O: Sink>(
+/// Runs the program of an image, which asks no sensor, as long as the supply lets it.
+fn run_on<O: Sink>(
     alloc: Global,
+    image: &str,
     supply: &mut dyn Supply,
-    rows: &[Period],
     out: &mut O,
 ) -> anyhow::Result<()>
-    requires { total rows.now < 2 ^ 63 }
+    requires { total (left supply.old) < 2 ^ 63 }
 {
-    put_count(alloc, "supply", supply.name() as u64, out)?;
-    supply.feed(rows)?;
-    run_counting(alloc, supply, out)?;
+    let mut machine = load(alloc, image)?;
+    put_report(alloc, &mut machine, b"time,sensor,value\n", supply, out)
+}
+
+/// Runs the program of an image over what a supply tells of one row, and writes the report and how many
+/// periods the supply has left.
+fn count_over<O: Sink>(
+    alloc: Global,
+    image: &str,
+    supply: &mut dyn Supply,
+    out: &mut O,
+) -> anyhow::Result<()> {
+    put_count(alloc, "supply", u64::from(supply.name()), out)?;
+    supply.feed(&[period(7, 3)])?;
+    run_on(alloc, image, supply, out)?;
     put_count(alloc, "left", count_left(supply), out)
+}
+
+/// Writes the runs of the program with a region.
+fn put_outages<O: Sink>(alloc: Global, image: &str, out: &mut O) -> anyhow::Result<()> {
+    let one_value = b"time,sensor,value\n0,t,21\n";
+    for first in 0..25 {
+        for second in 0..17 {
+            let periods = [period(first, 1), period(second, 1), period(60, 0)];
+            run_over(alloc, image, one_value, &periods, out)?;
+        }
+    }
+    let two_values = b"time,sensor,value\n0,t,21\n60,t,30\n";
+    run_over(alloc, image, two_values, &[period(18, 10)], out)?;
+    let periods = [period(18, 10), period(2, 10)];
+    run_over(alloc, image, two_values, &periods, out)
+}
+
+/// Writes the runs of the program without a region.
+fn put_supplies<O: Sink>(alloc: Global, image: &str, out: &mut O) -> anyhow::Result<()> {
+    count_over(alloc, image, &mut Recorded::new(alloc), out)?;
+    count_over(alloc, image, &mut Looped::new(alloc, 64), out)?;
+    count_over(alloc, image, &mut Cutter::new(alloc, 3), out)
 }
 
 /// Writes all runs on the standard output.
 fn main(rt: HostRuntime) -> anyhow::Result<()> {
     let alloc = rt.alloc();
+    let text = io::read_to_string(alloc, rt.reader())?;
+    let (with_region, without) = text.split_once('\n').unwrap_or((&text, ""));
     let mut out = StreamSink::new(io::writer(&rt));
-    let one_value = b"time,sensor,value\n0,t,21\n";
-    for first in 0..25 {
-        for second in 0..17 {
-            let periods = [period(first, 1), period(second, 1), period(60, 0)];
-            run_over(alloc, one_value, &periods, &mut out)?;
-        }
-    }
-    let two_values = b"time,sensor,value\n0,t,21\n60,t,30\n";
-    run_over(alloc, two_values, &[period(18, 10)], &mut out)?;
-    run_over(
-        alloc,
-        two_values,
-        &[period(18, 10), period(2, 10)],
-        &mut out,
-    )?;
-    let rows = [period(7, 3)];
-    count_over(alloc, &mut Recorded::new(alloc), &rows, &mut out)?;
-    count_over(alloc, &mut Looped::new(alloc, 64), &rows, &mut out)?;
-    count_over(alloc, &mut Cutter::new(alloc, 3), &rows, &mut out)?;
+    put_outages(alloc, with_region, &mut out)?;
+    put_supplies(alloc, without.trim_end(), &mut out)?;
     out.flush()?;
     Ok(())
 }

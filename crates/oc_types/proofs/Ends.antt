@@ -1,5 +1,5 @@
 -- Where a list of statements ends.
-use Rattle.std.proofs.Common.{refl, false, get_or, ◌≡◌, ℕ, suc, zero, List, [], ◌∷◌, drop, length, nat_lt, ap, ◌∙◌, arith}
+use Rattle.std.proofs.Common.{refl, get_or, ◌≡◌, ℕ, suc, zero, List, [], ◌∷◌, drop, length, nat_lt, ap, ◌∙◌, arith}
 use Rattle.std.proofs.lemmas.Bool.Decides.{nat_tests}
 use Rattle.std.specs.Prelude.{not}
 use Rattle.oc_tree.specs.declared.tree.Stmt.{Stmt}
@@ -23,7 +23,3 @@ returns_at zero (x ∷ []) s n = refl
 returns_at zero (x ∷ y ∷ xs) s n = absurd (omega (arith, n))
 returns_at (suc k) (x ∷ []) s n = absurd (omega (arith, n))
 returns_at (suc k) (x ∷ y ∷ xs) s n = returns_at k (y ∷ xs) s (omega (arith, n))
-
-pub returns_none : (xs : List Stmt) → length xs ≡ 0 → stmts_return (stmts_view xs) ≡ false
-returns_none [] n = refl
-returns_none (x ∷ xs) n = absurd (omega (arith, n))

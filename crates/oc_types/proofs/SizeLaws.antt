@@ -51,20 +51,20 @@ module _ (p : TProgram) (fs : List TFunction) (n : ℕ) where
   many : fs ≡ (expansion p).functions → n ≡ length fs → n ≡ length p.functions
   many h l = l ∙ ap (λ (gs : List TFunction). length gs) h ∙ as_many 1 1 p.functions
 
-  pub is_heavy : fs ≡ (expansion p).functions → n ≡ length fs → list_any (nat_lt 4294967296) (weights_to fs n) ≡ list_any (nat_lt 4294967296) (weights p)
+  is_heavy : fs ≡ (expansion p).functions → n ≡ length fs → list_any (nat_lt 4294967296) (weights_to fs n) ≡ list_any (nat_lt 4294967296) (weights p)
   is_heavy h l =
       ap (λ (gs : List TFunction). list_any (nat_lt 4294967296) (weights_to gs n)) h
       ∙ ap (λ (m : ℕ). list_any (nat_lt 4294967296) (weights_to (expansion p).functions m)) (many h l)
 
-  pub is_deep : fs ≡ (expansion p).functions → n ≡ length fs → nat_lt 65536 (known_of (stacks_to fs n) (function_place fs (codes "main"))) ≡ nat_lt 65536 (stack_words p)
+  is_deep : fs ≡ (expansion p).functions → n ≡ length fs → nat_lt 65536 (known_of (stacks_to fs n) (function_place fs (codes "main"))) ≡ nat_lt 65536 (stack_words p)
   is_deep h l =
       ap (λ (gs : List TFunction). nat_lt 65536 (known_of (stacks_to gs n) (function_place gs (codes "main")))) h
       ∙ ap (λ (m : ℕ). nat_lt 65536 (known_of (stacks_to (expansion p).functions m) (function_place (expansion p).functions (codes "main")))) (many h l)
       ∙ ap (λ (names : List Text). nat_lt 65536 (known_of (stacks p) (place names (codes "main")))) (same_names 1 1 p.functions)
 
--- what the two tests tell is the lowest rule
-pub lowest_size : (p : TProgram) (heavy deep : Bool) → heavy ≡ list_any (nat_lt 4294967296) (weights p) → deep ≡ nat_lt 65536 (stack_words p)
-    → cond heavy (Some 23) (cond deep (Some 24) None) ≡ lowest (size_rules p)
-lowest_size p heavy deep h d =
-    ap (λ (b : Bool). cond b (Some 23) (cond deep (Some 24) None)) h
-    ∙ ap (λ (b : Bool). cond (list_any (nat_lt 4294967296) (weights p)) (Some 23) (cond b (Some 24) None)) d
+  -- the lowest rule that the functions of the expansion break is that of the program
+  pub lowest_size : fs ≡ (expansion p).functions → n ≡ length fs
+      → lowest ((23, list_any (nat_lt 4294967296) (weights_to fs n)) ∷ (24, nat_lt 65536 (known_of (stacks_to fs n) (function_place fs (codes "main")))) ∷ []) ≡ lowest (size_rules p)
+  lowest_size h l =
+      ap (λ (b : Bool). cond b (Some 23) (cond (nat_lt 65536 (known_of (stacks_to fs n) (function_place fs (codes "main")))) (Some 24) None)) (is_heavy h l)
+      ∙ ap (λ (b : Bool). cond (list_any (nat_lt 4294967296) (weights p)) (Some 23) (cond b (Some 24) None)) (is_deep h l)

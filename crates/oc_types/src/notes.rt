@@ -15,7 +15,7 @@ use oc_reach::marks::Marks;
 use oc_reach::parts::block_kinds;
 use oc_tree::name::Name;
 use oc_tree::named::own_names;
-use oc_tree::tree::{Program, StmtKind};
+use oc_tree::tree::{Function, Program, StmtKind};
 use std::alloc::{AllocError, Global};
 use std::marker::Model;
 
@@ -24,19 +24,43 @@ const MOST_NAMES: usize = 64;
 
 /// The name of a nonvolatile variable, with the functions that assign it or name it, and those that
 /// call one, directly or through others.
-#[derive(Drop)]
 pub struct Noted<'a> {
     pub name: &'a Name,
     pub assigning: Marks,
     pub mentioning: Marks,
 }
 
+// Written out, as that of `TopLevel`.
+impl Drop for Noted<'_> {
+    fn drop(self) {
+        let Noted {
+            name: _,
+            assigning,
+            mentioning,
+        } = self;
+        drop(assigning);
+        drop(mentioning);
+    }
+}
+
 /// A program with marks for names that stand beside calls, which contracts see as the program.
-#[derive(Drop)]
 pub struct Notes<'a> {
     program: &'a Program,
     assigned: Assigned<'a>,
     noted: Vec<Noted<'a>>,
+}
+
+// Written out, as that of `TopLevel`.
+impl Drop for Notes<'_> {
+    fn drop(self) {
+        let Notes {
+            program: _,
+            assigned,
+            noted,
+        } = self;
+        drop(assigned);
+        drop(noted);
+    }
 }
 
 impl<'a> Model for Notes<'a> {
@@ -73,20 +97,39 @@ fn note<'a>(
     })
 }
 
+/// Whether a statement has calls. Err is want of memory.
+fn has_calls(alloc: Global, kind: &StmtKind) -> Result<bool, AllocError> {
+    let statement = Statement::new(alloc, kind)?;
+    Ok(!statement.calls().is_empty())
+}
+
 /// Adds the variables that a statement names beside its calls, where it has some.
 fn add_names<'a>(
     alloc: Global,
     kind: &'a StmtKind,
     beside: &mut IndexMap<&'a [u8], bool>,
 ) -> Result<(), AllocError> {
-    let statement = Statement::new(alloc, kind)?;
-    if statement.calls().is_empty() {
+    if !has_calls(alloc, kind)? {
         return Ok(());
     }
     let mut names = Vec::new(alloc);
     own_names(kind, &mut names)?;
     for name in &names {
         beside.insert(name.bytes(), true)?;
+    }
+    Ok(())
+}
+
+/// Adds the variables that stand beside calls in a function.
+fn add_function_names<'a>(
+    alloc: Global,
+    function: &'a Function,
+    beside: &mut IndexMap<&'a [u8], bool>,
+) -> Result<(), AllocError> {
+    let mut kinds = Vec::new(alloc);
+    block_kinds(&function.body, None, &mut kinds)?;
+    for kind in &kinds {
+        add_names(alloc, *kind, beside)?;
     }
     Ok(())
 }
@@ -101,11 +144,7 @@ fn names_beside_calls<'a>(
         return Ok(beside);
     }
     for function in &program.functions {
-        let mut kinds = Vec::new(alloc);
-        block_kinds(&function.body, None, &mut kinds)?;
-        for kind in &kinds {
-            add_names(alloc, *kind, &mut beside)?;
-        }
+        add_function_names(alloc, function, &mut beside)?;
     }
     Ok(beside)
 }
@@ -115,7 +154,29 @@ fn is_among(names: &IndexMap<&[u8], bool>, name: &Name) -> bool {
     names.get(&name.bytes()).is_some()
 }
 
-/// Marks for names that stand beside calls. Which of them are noted changes no answer.
+/// Marks for those of these names that the program's nonvolatile variables have. Which of them are
+/// noted changes no answer.
+fn note_among<'a>(
+    alloc: Global,
+    program: &'a Program,
+    assigned: &Assigned,
+    names: &IndexMap<&[u8], bool>,
+) -> Result<Vec<Noted<'a>>, AllocError>
+    requires { assigned.now ≡ program.now.functions.items }
+    ensures { IfOk result
+        (λ r. All (λ n. IsNoted (program_view program.now) n.name.now n.assigning n.mentioning)
+        r.items) }
+{
+    let mut noted = Vec::new(alloc);
+    for name in program.names.nvs.as_slice().iter().take(MOST_NAMES) {
+        if is_among(names, name) {
+            noted.push(note(alloc, program, assigned, name)?)?;
+        }
+    }
+    Ok(noted)
+}
+
+/// Marks for names that stand beside calls.
 fn note_all<'a>(
     alloc: Global,
     program: &'a Program,
@@ -127,13 +188,7 @@ fn note_all<'a>(
         r.items) }
 {
     let beside = names_beside_calls(alloc, program)?;
-    let mut noted = Vec::new(alloc);
-    for name in program.names.nvs.as_slice().iter().take(MOST_NAMES) {
-        if is_among(&beside, name) {
-            noted.push(note(alloc, program, assigned, name)?)?;
-        }
-    }
-    Ok(noted)
+    note_among(alloc, program, assigned, &beside)
 }
 
 impl<'a> Notes<'a> {

@@ -10,9 +10,16 @@ use std::alloc::{AllocError, Global};
 use std::marker::Model;
 
 /// The visible variables of a function, in the order of their declarations.
-#[derive(Drop)]
 pub struct Scope<'a> {
     variables: IndexMap<&'a [u8], Var>,
+}
+
+// Written out, as that of `TopLevel`.
+impl Drop for Scope<'_> {
+    fn drop(self) {
+        let Scope { variables } = self;
+        drop(variables);
+    }
 }
 
 impl<'a> Model for Scope<'a> {

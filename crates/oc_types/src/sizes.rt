@@ -1,5 +1,5 @@
 //! The rules on weight and stack, which are looked at where no element is broken.
-ghost use Rattle.std.specs.Prelude.{◌≡◌, ◌≤◌, codes, length, map, nat_lt, None, IfOk};
+ghost use Rattle.std.specs.Prelude.{◌≡◌, ◌≤◌, [], ◌∷◌, codes, length, map, nat_lt, None, IfOk};
 ghost use Rattle.std.specs.List.{list_any};
 ghost use Rattle.oc_lex.specs.Limits.{source_limit};
 ghost use Rattle.oc_lex.specs.Stands.{IsName};
@@ -65,13 +65,22 @@ fn is_too_deep(alloc: Global, functions: &[Function]) -> Result<bool, AllocError
     Ok(MOST_WORDS < known_of(stacks.as_slice(), main_place(functions)))
 }
 
-/// The lowest rule on weight and stack that is broken.
-fn size_rule(alloc: Global, program: &Program) -> Result<Option<u8>, AllocError>
-    requires { program_size (program_view program.now) ≤ statement_limit }
-    ensures { IfOk result (λ r. r ≡ lowest (size_rules (program_view program.now))) }
+/// The lowest rule on weight and stack that the functions of an expansion break.
+fn expansion_rule(alloc: Global, functions: &[Function]) -> Result<Option<u8>, AllocError>
+    ensures { IfOk result
+        (λ r. r ≡ lowest
+        ((
+          TOO_HEAVY,
+          list_any (nat_lt weight_limit)
+              (weights_to (map function_view functions.now) (length functions.now)),
+        )
+        ∷ (
+          TOO_DEEP,
+          nat_lt word_limit
+              (known_of (stacks_to (map function_view functions.now) (length functions.now))
+              (function_place (map function_view functions.now) (codes "main"))),
+        ) ∷ [])) }
 {
-    let (expanded, _groups) = expand_program(alloc, program)?;
-    let functions = expanded.functions.as_slice();
     if is_too_heavy(alloc, functions)? {
         return Ok(Some(TOO_HEAVY));
     }
@@ -79,6 +88,15 @@ fn size_rule(alloc: Global, program: &Program) -> Result<Option<u8>, AllocError>
         return Ok(Some(TOO_DEEP));
     }
     Ok(None)
+}
+
+/// The lowest rule on weight and stack that is broken.
+fn size_rule(alloc: Global, program: &Program) -> Result<Option<u8>, AllocError>
+    requires { program_size (program_view program.now) ≤ statement_limit }
+    ensures { IfOk result (λ r. r ≡ lowest (size_rules (program_view program.now))) }
+{
+    let (expanded, _groups) = expand_program(alloc, program)?;
+    expansion_rule(alloc, expanded.functions.as_slice())
 }
 
 /// The lowest rule on weight and stack that is broken, if one is, with the last line. Err is want

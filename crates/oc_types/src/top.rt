@@ -22,15 +22,48 @@ use oc_tree::tree::{Call, Function, NvDecl, Param, Program, ValueKind};
 use std::alloc::{AllocError, Global};
 use std::marker::Model;
 
-/// A program with tables of the names of its top level, which contracts see as the program.
-#[derive(Drop)]
-pub struct TopLevel<'a> {
-    program: &'a Program,
+/// The tables of the names of a program's sensors, ports and nonvolatile variables.
+struct Names<'a> {
     sensors: Table<'a>,
     ports: Table<'a>,
     nvs: Table<'a>,
-    calls: Calls<'a>,
+}
+
+// Written out, as is that of each struct here that owns tables: a function that lets one go then
+// calls this, where a derived drop would be proved in it anew, field by field.
+impl Drop for Names<'_> {
+    fn drop(self) {
+        let Names {
+            sensors,
+            ports,
+            nvs,
+        } = self;
+        drop(sensors);
+        drop(ports);
+        drop(nvs);
+    }
+}
+
+/// A program with tables of the names of its top level, which contracts see as the program.
+pub struct TopLevel<'a> {
+    program: &'a Program,
+    names: Names<'a>,
     notes: Notes<'a>,
+    calls: Calls<'a>,
+}
+
+impl Drop for TopLevel<'_> {
+    fn drop(self) {
+        let TopLevel {
+            program: _,
+            names,
+            notes,
+            calls,
+        } = self;
+        drop(names);
+        drop(notes);
+        drop(calls);
+    }
 }
 
 impl<'a> Model for TopLevel<'a> {
@@ -41,11 +74,11 @@ impl<'a> Model for TopLevel<'a> {
     ghost view = { λ t. t.program.now };
 
     ghost invariant = { λ t.
-        (t.sensors ≡ (program_view t.program.now).names.sensors)
-        × (t.ports ≡ (program_view t.program.now).names.ports)
-        × (t.nvs ≡ (program_view t.program.now).names.nvs)
-        × (t.calls ≡ t.program.now.functions.items)
-        × (t.notes ≡ t.program.now) };
+        (t.names.sensors ≡ (program_view t.program.now).names.sensors)
+        × (t.names.ports ≡ (program_view t.program.now).names.ports)
+        × (t.names.nvs ≡ (program_view t.program.now).names.nvs)
+        × (t.notes ≡ t.program.now)
+        × (t.calls ≡ t.program.now.functions.items) };
 }
 
 /// The kind of a nonvolatile variable.
@@ -70,6 +103,25 @@ fn names_table<'a>(alloc: Global, names: &'a [Name]) -> Result<Table<'a>, AllocE
     Table::new(alloc, seen)
 }
 
+impl<'a> Names<'a> {
+    /// Makes the tables of a program. Err is want of memory.
+    fn new(alloc: Global, program: &'a Program) -> Result<Names<'a>, AllocError>
+        ensures { IfOk result (λ t.
+            (t.sensors ≡ (program_view program.now).names.sensors)
+            × (t.ports ≡ (program_view program.now).names.ports)
+            × (t.nvs ≡ (program_view program.now).names.nvs)) }
+    {
+        let sensors = names_table(alloc, program.names.sensors.as_slice())?;
+        let ports = names_table(alloc, program.names.ports.as_slice())?;
+        let nvs = names_table(alloc, program.names.nvs.as_slice())?;
+        Ok(Names {
+            sensors,
+            ports,
+            nvs,
+        })
+    }
+}
+
 /// Whether a place is among the first `count`; not so where there is none.
 fn stands_before(place: Option<usize>, count: usize) -> bool
     ensures { result ≡ stands_before place count }
@@ -85,18 +137,14 @@ impl<'a> TopLevel<'a> {
     pub fn new(alloc: Global, program: &'a Program) -> Result<TopLevel<'a>, AllocError>
         ensures { IfOk result (λ t. t ≡ program.now) }
     {
-        let sensors = names_table(alloc, program.names.sensors.as_slice())?;
-        let ports = names_table(alloc, program.names.ports.as_slice())?;
-        let nvs = names_table(alloc, program.names.nvs.as_slice())?;
-        let calls = Calls::new(alloc, program.functions.as_slice())?;
+        let names = Names::new(alloc, program)?;
         let notes = Notes::new(alloc, program)?;
+        let calls = Calls::new(alloc, program.functions.as_slice())?;
         Ok(TopLevel {
             program,
-            sensors,
-            ports,
-            nvs,
-            calls,
+            names,
             notes,
+            calls,
         })
     }
 
@@ -111,21 +159,21 @@ impl<'a> TopLevel<'a> {
     pub fn sensor_place(&self, name: &Name) -> Option<usize>
         ensures { result ≡ place (program_view self.now).names.sensors name.now }
     {
-        self.sensors.place(name)
+        self.names.sensors.place(name)
     }
 
     /// The number of a port.
     pub fn port_place(&self, name: &Name) -> Option<usize>
         ensures { result ≡ place (program_view self.now).names.ports name.now }
     {
-        self.ports.place(name)
+        self.names.ports.place(name)
     }
 
     /// The number of a nonvolatile variable.
     pub fn nv_place(&self, name: &Name) -> Option<usize>
         ensures { result ≡ place (program_view self.now).names.nvs name.now }
     {
-        self.nvs.place(name)
+        self.names.nvs.place(name)
     }
 
     /// The number of the first function of a name.

@@ -1,14 +1,14 @@
-use Rattle.std.proofs.Common.{◌≡◌, List, true, false, length, map, refl, sym, ap, ◌∙◌, arith}
-use Rattle.std.specs.Prelude.{nat_lt}
+use Rattle.std.proofs.Common.{◌≡◌, List, length, map, sym, ap, ◌∙◌, arith}
+use Rattle.std.proofs.lemmas.Result.{IfOk-weaker}
+use Rattle.oc_tree.specs.Broken.{lowest, size_rules}
 use Rattle.oc_tree.specs.Tree.{TProgram}
 use Rattle.oc_tree.specs.View.{function_view, program_view}
 use Rattle.oc_tree.specs.declared.tree.Function.{Function}
 use Rattle.oc_tree.specs.declared.tree.Program.{Program}
 use Rattle.oc_tree.specs.Expansion.{expansion}
-use Rattle.oc_tree.specs.Stack.{stack_words}
 use Rattle.std.proofs.lemmas.List.{length-map}
 use Rattle.oc_desugar.proofs.FewPulls.{few_pulls}
-use Rattle.oc_types.proofs.SizeLaws.{is_heavy, is_deep, lowest_size}
+use Rattle.oc_types.proofs.SizeLaws.{lowest_size}
 use Rattle.oc_types.proofs.sizes.size_rule.Goals as goal
 
 pub expand_program-requires-clause-pulls : goal.expand_program-requires-clause-pulls
@@ -21,28 +21,10 @@ functions_read p d xs e f = ap (λ (ys : List Function). map function_view ys) e
 counted : (xs : List Function) → length xs ≡ length (map function_view xs)
 counted xs = sym (length-map xs function_view)
 
-pub returns-then-branch : goal.returns-then-branch
-returns-then-branch c =
-    let p = program_view c.args.program.now in
-    let xs = c.as_slice-functions.result.now in
-    let h = functions_read p c.in_ok-expanded.expanded xs c.as_slice-functions.ensures.value c.in_ok-expanded.ensures.expanded in
-    let heavy = c.in_ok-is_too_heavy.ensures ∙ is_heavy p (map function_view xs) (length xs) h (counted xs) in
-    lowest_size p true (nat_lt 65536 (stack_words p)) (sym c.if-branch.true ∙ heavy) refl
-
-pub returns-then-branch-2 : goal.returns-then-branch-2
-returns-then-branch-2 c =
-    let p = program_view c.args.program.now in
-    let xs = c.as_slice-functions.result.now in
-    let h = functions_read p c.in_ok-expanded.expanded xs c.as_slice-functions.ensures.value c.in_ok-expanded.ensures.expanded in
-    let heavy = c.in_ok-is_too_heavy.ensures ∙ is_heavy p (map function_view xs) (length xs) h (counted xs) in
-    let deep = c.in_ok-is_too_deep.ensures ∙ is_deep p (map function_view xs) (length xs) h (counted xs) in
-    lowest_size p false true (sym c.if-branch.false ∙ heavy) (sym c.if-branch-2.true ∙ deep)
-
 pub returns : goal.returns
 returns c =
     let p = program_view c.args.program.now in
-    let xs = c.as_slice-functions.result.now in
-    let h = functions_read p c.in_ok-expanded.expanded xs c.as_slice-functions.ensures.value c.in_ok-expanded.ensures.expanded in
-    let heavy = c.in_ok-is_too_heavy.ensures ∙ is_heavy p (map function_view xs) (length xs) h (counted xs) in
-    let deep = c.in_ok-is_too_deep.ensures ∙ is_deep p (map function_view xs) (length xs) h (counted xs) in
-    lowest_size p false false (sym c.if-branch.false ∙ heavy) (sym c.if-branch-2.false ∙ deep)
+    let xs = c.as_slice.result.now in
+    let h = functions_read p c.in_ok-expanded.expanded xs c.as_slice.ensures.value c.in_ok-expanded.ensures.expanded in
+    let same = lowest_size p (map function_view xs) (length xs) h (counted xs) in
+    IfOk-weaker c.expansion_rule.result _ (λ r. r ≡ lowest (size_rules p)) (λ r e. e ∙ same) c.expansion_rule.ensures

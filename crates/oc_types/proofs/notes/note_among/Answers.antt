@@ -4,7 +4,7 @@ use Rattle.std.proofs.lemmas.List.Elements.{All-push}
 use Rattle.oc_tree.specs.View.{program_view}
 use Rattle.oc_types.specs.Marks.{IsNoted}
 use Rattle.oc_types.specs.declared.notes.Noted.{Noted}
-use Rattle.oc_types.proofs.notes.note_all.Goals as goal
+use Rattle.oc_types.proofs.notes.note_among.Goals as goal
 
 pub loop-name-preserved-in_ok-push : goal.loop-name-preserved-in_ok-push
 loop-name-preserved-in_ok-push c =

@@ -40,8 +40,98 @@ use oc_tree::scope::{Origin, Var};
 use oc_tree::tree::{Block, Scalar, Stmt, StmtKind, ValueKind};
 use std::alloc::{AllocError, Global};
 
+/// The lowest rule that a statement breaks, of those on where it stands and of all later ones.
+fn placing_rule<'a>(
+    alloc: Global,
+    top: &TopLevel<'a>,
+    place: Place<'a>,
+    callers: &Marks,
+    scope: &Scope<'a>,
+    counts: &Counts,
+    statement: &Statement,
+) -> Result<Option<u8>, AllocError>
+    requires pulls { own_pulls (kind_view statement.now) < 2 ^ 32 }
+    requires callers { IsCallers (program_view top.now) place.number callers.now }
+    ensures lowest { IfOk result
+        (λ r. r
+        ≡ lowest (drop 15 (statement_rules (program_view top.now) counts.now
+        (here_of place.entry scope.now) (kind_view statement.now)))) }
+    ensures small { IfOk result
+        (λ r. r ≡ None
+        → (counts.now.variables ≤ variable_limit) × (counts.now.statements ≤ statement_limit)
+        × (counts.now.calls ≤ call_limit)) }
+{
+    let kind = statement.kind();
+    if annotates_other(place, scope, kind) {
+        return Ok(Some(ANNOTATED_ELSEWHERE));
+    }
+    if returns_elsewhere(top, place, scope, kind) {
+        return Ok(Some(RETURN_PLACE));
+    }
+    if calls_back(top, place.number, callers, statement) {
+        return Ok(Some(CALLED_BACK));
+    }
+    if has_many_turns(kind) {
+        return Ok(Some(MANY_TURNS));
+    }
+    if counts.statement_passes() {
+        return Ok(Some(LIMIT_PASSED));
+    }
+    if own_skips(kind) {
+        return Ok(Some(PULL_SKIPPED));
+    }
+    if pulls_disturb(alloc, top, statement)? {
+        return Ok(Some(PULL_DISTURBED));
+    }
+    Ok(None)
+}
+
+/// The lowest rule that a statement breaks, of those on what it writes to and lends and of all later
+/// ones.
+fn writing_rule<'a>(
+    alloc: Global,
+    top: &TopLevel<'a>,
+    place: Place<'a>,
+    callers: &Marks,
+    scope: &Scope<'a>,
+    counts: &Counts,
+    statement: &Statement,
+) -> Result<Option<u8>, AllocError>
+    requires pulls { own_pulls (kind_view statement.now) < 2 ^ 32 }
+    requires callers { IsCallers (program_view top.now) place.number callers.now }
+    ensures lowest { IfOk result
+        (λ r. r
+        ≡ lowest (drop 9 (statement_rules (program_view top.now) counts.now
+        (here_of place.entry scope.now) (kind_view statement.now)))) }
+    ensures small { IfOk result
+        (λ r. r ≡ None
+        → (counts.now.variables ≤ variable_limit) × (counts.now.statements ≤ statement_limit)
+        × (counts.now.calls ≤ call_limit)) }
+{
+    let kind = statement.kind();
+    if target_fixed(top, scope, kind) {
+        return Ok(Some(VARIABLE_FIXED));
+    }
+    if array_fixed(top, scope, kind) {
+        return Ok(Some(ARRAY_FIXED));
+    }
+    if pointee_fixed(top, scope, kind) {
+        return Ok(Some(POINTEE_FIXED));
+    }
+    if lends_fixed(top, scope, statement) {
+        return Ok(Some(LENT_FIXED));
+    }
+    if lent_twice(top, statement) {
+        return Ok(Some(LENT_TWICE));
+    }
+    if exposes_nv(alloc, top, scope, statement)? {
+        return Ok(Some(NONVOLATILE_EXPOSED));
+    }
+    let rule = placing_rule(alloc, top, place, callers, scope, counts, statement)?;
+    Ok(rule)
+}
+
 /// The lowest rule that a statement breaks.
-#[tactic(auto, using(crate::proofs::Counted::few_pulls))]
 fn statement_rule<'a>(
     alloc: Global,
     top: &TopLevel<'a>,
@@ -93,46 +183,8 @@ fn statement_rule<'a>(
     if let_bad_length(kind) {
         return Ok(Some(ARRAY_LENGTH));
     }
-    if target_fixed(top, scope, kind) {
-        return Ok(Some(VARIABLE_FIXED));
-    }
-    if array_fixed(top, scope, kind) {
-        return Ok(Some(ARRAY_FIXED));
-    }
-    if pointee_fixed(top, scope, kind) {
-        return Ok(Some(POINTEE_FIXED));
-    }
-    if lends_fixed(top, scope, statement) {
-        return Ok(Some(LENT_FIXED));
-    }
-    if lent_twice(top, statement) {
-        return Ok(Some(LENT_TWICE));
-    }
-    if exposes_nv(alloc, top, scope, statement)? {
-        return Ok(Some(NONVOLATILE_EXPOSED));
-    }
-    if annotates_other(place, scope, kind) {
-        return Ok(Some(ANNOTATED_ELSEWHERE));
-    }
-    if returns_elsewhere(top, place, scope, kind) {
-        return Ok(Some(RETURN_PLACE));
-    }
-    if calls_back(top, place.number, callers, statement) {
-        return Ok(Some(CALLED_BACK));
-    }
-    if has_many_turns(kind) {
-        return Ok(Some(MANY_TURNS));
-    }
-    if counts.statement_passes() {
-        return Ok(Some(LIMIT_PASSED));
-    }
-    if own_skips(kind) {
-        return Ok(Some(PULL_SKIPPED));
-    }
-    if pulls_disturb(alloc, top, statement)? {
-        return Ok(Some(PULL_DISTURBED));
-    }
-    Ok(None)
+    let rule = writing_rule(alloc, top, place, callers, scope, counts, statement)?;
+    Ok(rule)
 }
 
 /// The kind of a variable that holds a value of the type.

@@ -119,10 +119,6 @@ or_false : (a : Bool) → a || (false || false) ≡ a
 or_false true = refl
 or_false false = refl
 
-or_false' : (a : Bool) → (a || false) || false ≡ a
-or_false' true = refl
-or_false' false = refl
-
 -- a statement itself names it, in one of its pulls or in what is left
 own_named : (x : Text) → IsName x → (k i : ℕ) (s : TKind) → nat_lt 0 (rights_mention x (pulled k s)) || is_named x (expand_kind k i s) ≡ is_named x s
 own_named x h k i s =

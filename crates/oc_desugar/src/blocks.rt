@@ -151,13 +151,22 @@ fn expand_stmt(
     n.stmt = id + 1;
     let mut pulls = Vec::new(alloc);
     let kind = expand_kind(alloc, n, &mut pulls, &statement.kind)?;
-    add_temporaries(alloc, k, i, statement.line, pulls, out)?;
-    out.push(Stmt {
-        id,
-        line: statement.line,
-        kind,
-    })?;
-    Ok(())
+    match add_temporaries(alloc, k, i, statement.line, pulls, out) {
+        Ok(()) => {
+            out.push(Stmt {
+                id,
+                line: statement.line,
+                kind,
+            })?;
+            Ok(())
+        }
+        Err(error) => {
+            // Written out, as for the conditions below: by `?` the drop of each form of a
+            // statement would be proved here.
+            drop(kind);
+            Err(error)
+        }
+    }
 }
 
 /// What is left of a statement, whose pulls are added.
@@ -208,13 +217,23 @@ fn expand_kind(
             otherwise,
         } => {
             let condition = left_expr(alloc, &mut n.pull, pulls, condition)?;
-            let then = expand_block(alloc, n, then)?;
-            let otherwise = expand_else(alloc, n, otherwise)?;
-            Ok(StmtKind::If {
-                condition,
-                then,
-                otherwise,
-            })
+            match expand_block(alloc, n, then) {
+                Ok(then) => match expand_else(alloc, n, otherwise) {
+                    Ok(otherwise) => Ok(StmtKind::If {
+                        condition,
+                        then,
+                        otherwise,
+                    }),
+                    Err(error) => {
+                        drop(condition);
+                        Err(error)
+                    }
+                },
+                Err(error) => {
+                    drop(condition);
+                    Err(error)
+                }
+            }
         }
         StmtKind::For {
             name,
@@ -231,12 +250,17 @@ fn expand_kind(
             body,
         } => {
             let condition = left_expr(alloc, &mut n.pull, pulls, condition)?;
-            let body = expand_block(alloc, n, body)?;
-            Ok(StmtKind::While {
-                condition,
-                bound: *bound,
-                body,
-            })
+            match expand_block(alloc, n, body) {
+                Ok(body) => Ok(StmtKind::While {
+                    condition,
+                    bound: *bound,
+                    body,
+                }),
+                Err(error) => {
+                    drop(condition);
+                    Err(error)
+                }
+            }
         }
         StmtKind::CallOnly { call } => left_call_only(alloc, &mut n.pull, pulls, call),
         StmtKind::SenseOnly { sensor } => sense_only(alloc, sensor),

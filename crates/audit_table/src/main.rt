@@ -1,24 +1,28 @@
 //! What an audit finds in reports of programs whose regions are left out, some of which break by
 //! timeliness alone.
+//!
+//! The standard input has the cases: behind `# ` the name of each, a source without nonvolatile variables
+//! in the next line, and its report behind that. Each report is judged with the words of these variables,
+//! which are none, and without words.
 #![tactic(auto)]
 
 ghost use Rattle.std.specs.Prelude.{◌≡◌, []};
 
-mod reports;
-
+use anyhow::bail;
 use oc_io::sink::Sink;
 use oc_io::stream::StreamSink;
 use oc_items::item::Item;
+use oc_items::read::read_item;
 use oc_judge::judge::{Verdict, judge};
 use oc_tree::checked::Checked;
 use oc_tree::marked::Marked;
+use oc_tree::name::Names;
 use oc_worked::check_source;
-use reports::{
-    fresh_source, honest_report, late_end, late_use, other_output, outage_in_set, region_report,
-    set_report, set_source, twice_over,
-};
 use std::alloc::Global;
 use std::io;
+
+/// The most bytes that a source may have.
+const LIMIT: usize = 1048576;
 
 /// A program without regions.
 #[tactic(auto, using(crate::proofs::Unmarked::none_marked))]
@@ -35,16 +39,14 @@ fn without_regions(alloc: Global, checked: Checked) -> Marked
     Marked::new(checked, Vec::new(alloc), Vec::new(alloc))
 }
 
-/// Writes what is found in a report of these items and nonvolatile words.
+/// Writes what is found in a report.
 fn put_verdict<O: Sink>(
     alloc: Global,
     name: &str,
-    marked: &Marked,
-    items: &[Item],
-    nv: Option<&[i32]>,
+    verdict: Verdict,
     out: &mut O,
 ) -> anyhow::Result<()> {
-    let text = match judge(alloc, marked, items, nv)? {
+    let text = match verdict {
         Verdict::Honest => format!(in alloc; "{name}: honest\n")?,
         Verdict::Breaks { item } => format!(in alloc; "{name}: breaks at item {item}\n")?,
     };
@@ -52,81 +54,62 @@ fn put_verdict<O: Sink>(
     Ok(())
 }
 
-/// Reports of a program without regions, in which an input is fresh.
-fn put_fresh<O: Sink>(alloc: Global, out: &mut O) -> anyhow::Result<()> {
-    let source = fresh_source();
-    if source.len() > 1048576 {
-        return Ok(());
-    }
-    let marked = without_regions(alloc, check_source(alloc, source.as_bytes())?);
-    put_verdict(alloc, "fresh", &marked, &honest_report(), Some(&[]), out)?;
-    put_verdict(
-        alloc,
-        "an outage before a use",
-        &marked,
-        &late_use(),
-        None,
-        out,
-    )?;
-    put_verdict(
-        alloc,
-        "an outage in a use",
-        &marked,
-        &late_end(),
-        Some(&[]),
-        out,
-    )?;
-    put_verdict(alloc, "another output", &marked, &other_output(), None, out)?;
-    put_verdict(
-        alloc,
-        "an end without words",
-        &marked,
-        &honest_report(),
-        None,
-        out,
-    )?;
-    put_verdict(
-        alloc,
-        "more after the end",
-        &marked,
-        &twice_over(),
-        Some(&[]),
-        out,
-    )?;
-    put_verdict(
-        alloc,
-        "a mark of no region",
-        &marked,
-        &region_report(),
-        Some(&[]),
-        out,
-    )
+/// Writes what is found in a report of these items, with words and without.
+fn put_verdicts<O: Sink>(
+    alloc: Global,
+    name: &str,
+    marked: &Marked,
+    items: &[Item],
+    out: &mut O,
+) -> anyhow::Result<()> {
+    put_verdict(alloc, name, judge(alloc, marked, items, Some(&[]))?, out)?;
+    let without = judge(alloc, marked, items, None)?;
+    put_verdict(alloc, "without words", without, out)
 }
 
-/// Reports of a program without regions, with a consistent set.
-fn put_sets<O: Sink>(alloc: Global, out: &mut O) -> anyhow::Result<()> {
-    let source = set_source();
-    if source.len() > 1048576 {
-        return Ok(());
+/// The items of a report.
+fn items_of(alloc: Global, report: &str, names: &Names) -> anyhow::Result<Vec<Item>> {
+    let mut items = Vec::new(alloc);
+    for line in report.lines() {
+        let Some(item) = read_item(line.as_bytes(), names) else {
+            bail!("no item: {line}");
+        };
+        items.push(item)?;
     }
-    let marked = without_regions(alloc, check_source(alloc, source.as_bytes())?);
-    put_verdict(alloc, "a set", &marked, &set_report(), Some(&[]), out)?;
-    put_verdict(
-        alloc,
-        "an outage in a set",
-        &marked,
-        &outage_in_set(),
-        None,
-        out,
-    )
+    Ok(items)
 }
 
-/// Writes the tables of all reports on the standard output.
+/// Writes what is found in a report of a program.
+fn put_report<O: Sink>(
+    alloc: Global,
+    name: &str,
+    marked: &Marked,
+    report: &str,
+    out: &mut O,
+) -> anyhow::Result<()> {
+    let items = items_of(alloc, report, &marked.checked().program().names)?;
+    put_verdicts(alloc, name, marked, &items, out)
+}
+
+/// Writes what is found in the report of a case.
+fn put_case<O: Sink>(alloc: Global, case: &str, out: &mut O) -> anyhow::Result<()> {
+    let (name, rest) = case.split_once('\n').unwrap_or((case, ""));
+    let (source, report) = rest.split_once('\n').unwrap_or((rest, ""));
+    if source.len() > LIMIT {
+        bail!("a source of more than 1 MiB");
+    }
+    let marked = without_regions(alloc, check_source(alloc, source.as_bytes())?);
+    put_report(alloc, name, &marked, report, out)
+}
+
+/// Writes what is found in the reports of the standard input on the standard output.
 fn main(rt: HostRuntime) -> anyhow::Result<()> {
     let alloc = rt.alloc();
+    let text = io::read_to_string(alloc, rt.reader())?;
     let mut out = StreamSink::new(io::writer(&rt));
-    put_fresh(alloc, &mut out)?;
-    put_sets(alloc, &mut out)?;
+    for case in text.split("# ").skip(1) {
+        put_case(alloc, case, &mut out)?;
+    }
     out.flush()?;
     Ok(())
 }

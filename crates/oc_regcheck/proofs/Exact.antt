@@ -24,9 +24,10 @@ use Rattle.oc_needs.proofs.Tests.{any_of, any_same, of_any}
 use Rattle.oc_needs.proofs.SitesLaw.{join_same}
 use Rattle.oc_region.proofs.Owners.{around_function}
 use Rattle.oc_region.proofs.Required.{Own, Asks, asked}
+use Rattle.oc_laws.proofs.Bools.{both_ways}
 use Rattle.oc_regcheck.specs.Enough.{AreCovered, is_function, covers_all, is_covered, Guarded, open_call, open_calls, comes_to, is_guarded, is_met, first_open, has_both, second_of}
 use Rattle.oc_regcheck.specs.Code.{outer, same_place, shares, share_all, second_by, call_by, calls_in, calls_by, comes_by, meets, first_by}
-use Rattle.oc_regcheck.proofs.Outer.{same_answer, is_one, both_is, same_two}
+use Rattle.oc_regcheck.proofs.Outer.{is_one, both_is, same_two}
 use Rattle.oc_regcheck.proofs.Members.{of_all, all_of, each_of, among_of}
 use Rattle.oc_regcheck.proofs.Guards.{guarded_is}
 use Rattle.oc_regcheck.proofs.Marked.{up, line, encloses_is, inside_outer, one_outer}
@@ -115,7 +116,7 @@ module _ (p : TProgram) (form : Numbered p) (blocks : List ℕ) where
         (and_from (is_function k (function_of p t.0)) (list_all (encloses p t.0) (s ∷ ss)) mine (all_of (encloses p t.0) (s ∷ ss) inside))
 
   pub covered_is : (n : ℕ) (r : TRequirement) → Asks p n r → is_covered p blocks r ≡ share_all p is_block r.sites
-  covered_is n r asks = same_answer (is_covered p blocks r) (share_all p is_block r.sites)
+  covered_is n r asks = both_ways (is_covered p blocks r) (share_all p is_block r.sites)
       (λ e. share_from r.function r.policy r.sites e asks.some)
       (λ e. from_share r.function r.policy r.sites (λ s i. each_of (Own p r.function) s r.sites asks.sites i) e)
 

@@ -1,5 +1,5 @@
 -- Each requirement has an input, and those that the code finds are those of the definition.
-use Rattle.std.proofs.Common.{◌≡◌, ◌<◌, ◌≤◌, ℕ, zero, suc, ◌+◌, Bool, true, false, true≢false, ◌⊎◌, inl, inr, List, [], ◌∷◌, ◌++◌, map, length, drop, Option, Some, None, cond}
+use Rattle.std.proofs.Common.{◌≡◌, ◌<◌, ◌≤◌, ℕ, zero, suc, ◌+◌, Bool, true, false, true≢false, ◌⊎◌, inl, inr, List, [], ◌∷◌, ◌++◌, length, drop, Option, Some, None, cond}
 use Rattle.std.proofs.Common.{refl, ap, sym, ◌∙◌, subst, nat_le, arith}
 use Rattle.std.specs.Prelude.{◌&&◌, ◌||◌, not, flat_map, nat_eq, option_to_list, slice_get}
 use Rattle.std.specs.List.{list_any}
@@ -19,6 +19,7 @@ use Rattle.oc_needs.specs.Need.{is_empty, needs}
 use Rattle.oc_needs.specs.Requirements.{TRequirement, rising, is_before, with_list, in_order, with_inputs, own_sites, needed_at, call_sites, function_sites, required_in}
 use Rattle.oc_needs.specs.Requirements.{required_of, required_from, requirements}
 use Rattle.oc_needs.specs.Code.{sources, all_sites_once, rows_of, needed_in_call, needed_itself}
+use Rattle.oc_laws.proofs.Members.{image_of}
 use Rattle.oc_regcheck.specs.Inputs.{same_sites, inputs_where, own_inputs, call_inputs, inputs_in, inputs, front, lowest_input, way_inputs, call_way, call_ways, all_ways}
 use Rattle.oc_needs.proofs.NeedLevels.{in_call_is, needs_past}
 use Rattle.oc_needs.proofs.Rising.{Within, in_rising}
@@ -82,11 +83,6 @@ of_in_order x (n ∷ ns) h = by (of_with_list x n (in_order ns) h) (of_in_order 
     by (inl e) rest = inl e
     by (inr o) rest = inr (rest o)
 
-of_map : {A B : Type 0} (f : A → B) (y : B) (xs : List A) → IsOf y (map f xs) → (x : A) × IsOf x xs × (y ≡ f x)
-of_map f y [] h = absurd h
-of_map f y (x ∷ xs) (inl e) = (x, inl refl, e)
-of_map f y (x ∷ xs) (inr o) = let r = of_map f y xs o in (r.0, inr r.1, r.2)
-
 module _ (p : TProgram) where
   in_ways : (q : Policy) (g : ℕ) (sites : List ℕ) → IsOf sites (function_sites p q g) → (n : ℕ) × IsOf n (inputs_in p q g sites)
   in_ways q g sites o = by (of_either sites (cond (nat_eq g q.function) (own_sites p q) []) (flat_map (call_sites p q g) (effects_at p g)) o)
@@ -120,7 +116,7 @@ module _ (p : TProgram) where
   of_required : (n : ℕ) (q : Policy) (r : TRequirement) → IsOf r (required_of p n q) → (r.policy ≡ n) × IsOf r.sites (function_sites p q r.function) × IsOf r.function (from 0 (length p.functions))
   of_required n q r o =
       let g = of_join (required_in p n q) r (from 0 (length p.functions)) o in
-      let s = of_map (λ sites. record { policy = n; function = g.0; sites = sites }) r (in_order (function_sites p q g.0)) g.2 in
+      let s = image_of (λ sites. record { policy = n; function = g.0; sites = sites }) (in_order (function_sites p q g.0)) r g.2 in
       let i = of_in_order s.0 (function_sites p q g.0) s.1 in
       let f : r.function ≡ g.0 = ap (λ (x : TRequirement). x.function) s.2 in (
         ap (λ (x : TRequirement). x.policy) s.2,

@@ -2,7 +2,7 @@
 use Rattle.std.proofs.Common.{◌≡◌, ◌<◌, ℕ, suc, ◌+◌, Bool, true, false, true≢false, List, [], ◌∷◌, length, map, Option, Some, None, cond, refl, ap, sym, subst, ◌∙◌, inl, inr, arith}
 use Rattle.std.specs.Prelude.{◌⊎◌, ◌&&◌, not, filter, is_some, nat_eq, nat_le, option_map}
 use Rattle.std.specs.List.{list_any, list_all}
-use Rattle.std.specs.Option.{unwrap_or}
+use Rattle.std.specs.Option.{unwrap_or, option_or}
 use Rattle.std.proofs.lemmas.Bool.{eq-eqb, leb-true, le-leb, or_left, or_right, and_parts, and_from, false_from_ne_true}
 use Rattle.std.proofs.lemmas.List.Elements.{All-nil}
 use Rattle.oc_tree.specs.Tree.{TProgram}
@@ -27,11 +27,12 @@ use Rattle.oc_region.proofs.Elements.{Each, Pairs, each_all, pairs_all}
 use Rattle.oc_region.proofs.Owners.{owner, statement_function, around_function}
 use Rattle.oc_region.proofs.Required.{Own, own_effects, Asks, asked}
 use Rattle.oc_region.proofs.Chains.{Chain, line_chain}
+use Rattle.oc_laws.proofs.Members.{in_filter, of_filter}
 use Rattle.oc_regcheck.specs.Enough.{AreStatements, AreCovered, is_inside, covers_all, is_covered, Guarded, comes_to, open_calls, is_guarded}
 use Rattle.oc_regcheck.specs.BlockMarks.{outermost, block_region, block_regions, blocks_marked}
 use Rattle.oc_regcheck.specs.Code.{outer}
-use Rattle.oc_regcheck.proofs.Outer.{Line, or_else, outermost_in, among_any, over, is_one, is_alone, inside_is}
-use Rattle.oc_regcheck.proofs.Members.{in_filter, of_filter, of_all, all_of, each_of, among_of, of_among}
+use Rattle.oc_regcheck.proofs.Outer.{Line, outermost_in, among_any, over, is_one, is_alone, inside_is}
+use Rattle.oc_regcheck.proofs.Members.{of_all, all_of, each_of, among_of, of_among}
 use Rattle.oc_regcheck.proofs.Guards.{caller_guarded, not_true, guarded_is}
 
 -- ---- lists that rise
@@ -111,7 +112,7 @@ module _ (p : TProgram) where
         let t = by (outermost_in (is_number_of blocks) (up b)) in
         (t.0, λ s e. over (is_number_of blocks) up (up s) b (line form s) (of_among b blocks o) (sym (encloses_is b s) ∙ e) ∙ t.1)
       where
-        by : (u : Option ℕ) → (t : ℕ) × (or_else u (Some b) ≡ Some t)
+        by : (u : Option ℕ) → (t : ℕ) × (option_or u (Some b) ≡ Some t)
         by None = (b, refl)
         by (Some v) = (v, refl)
 

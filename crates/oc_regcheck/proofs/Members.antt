@@ -1,31 +1,11 @@
 -- What stands in lists.
-use Rattle.std.proofs.Common.{◌≡◌, ◌<◌, ◌≤◌, ℕ, zero, suc, ◌+◌, Bool, true, false, true≢false, ◌==◌, List, [], ◌∷◌, cond, refl, ap, sym, ◌∙◌, subst, inl, inr, arith}
-use Rattle.std.specs.Prelude.{filter}
+use Rattle.std.proofs.Common.{◌≡◌, ◌<◌, ◌≤◌, ℕ, zero, suc, ◌+◌, Bool, true, ◌==◌, List, [], ◌∷◌, refl, ap, sym, ◌∙◌, subst, inl, inr, arith}
 use Rattle.std.specs.List.{list_all}
 use Rattle.std.proofs.lemmas.Bool.{eqb-true, eq-eqb, and_parts, and_from, cases_lt}
 use Rattle.oc_tree.specs.Members.{IsOf, is_number_of}
 use Rattle.oc_flow.specs.Variables.{from}
 use Rattle.oc_needs.proofs.Tests.{any_of, of_any}
 use Rattle.oc_region.proofs.Elements.{Each}
-
-pub in_filter : {A : Type 0} (t : A → Bool) (x : A) (xs : List A) → IsOf x xs → t x ≡ true → IsOf x (filter t xs)
-in_filter t x [] h e = h
-in_filter t x (y ∷ ys) h e = by_test (t y) refl h (λ i. in_filter t x ys i e)
-  where
-    by_test : (b : Bool) → t y ≡ b → IsOf x (y ∷ ys) → (IsOf x ys → IsOf x (filter t ys)) → IsOf x (cond b (y ∷ filter t ys) (filter t ys))
-    by_test true is (inl s) rest = inl s
-    by_test true is (inr i) rest = inr (rest i)
-    by_test false is (inl s) rest = absurd (true≢false (sym e ∙ ap t s ∙ is))
-    by_test false is (inr i) rest = rest i
-
-pub of_filter : {A : Type 0} (t : A → Bool) (x : A) (xs : List A) → IsOf x (filter t xs) → IsOf x xs × (t x ≡ true)
-of_filter t x [] h = absurd h
-of_filter t x (y ∷ ys) h = by_test (t y) refl h (of_filter t x ys)
-  where
-    by_test : (b : Bool) → t y ≡ b → IsOf x (cond b (y ∷ filter t ys) (filter t ys)) → (IsOf x (filter t ys) → IsOf x ys × (t x ≡ true)) → IsOf x (y ∷ ys) × (t x ≡ true)
-    by_test true is (inl s) rest = (inl s, ap t s ∙ is)
-    by_test true is (inr i) rest = let r = rest i in (inr r.0, r.1)
-    by_test false is i rest = let r = rest i in (inr r.0, r.1)
 
 pub of_all : {A : Type 0} (t : A → Bool) (x : A) (xs : List A) → list_all t xs ≡ true → IsOf x xs → t x ≡ true
 of_all t x [] e h = absurd h

@@ -1,23 +1,21 @@
 -- Links added to tables.
-use Rattle.std.proofs.Common.{◌≡◌, ◌<◌, ◌≤◌, ◌+◌, map, ℕ, zero, suc, Bool, true, false, List, [], ◌∷◌, take, Some, None, refl, ap, sym, ◌∙◌, subst, length, arith}
+use Rattle.std.proofs.Common.{◌≡◌, ◌<◌, ◌≤◌, ◌+◌, map, ℕ, zero, suc, Bool, true, false, List, [], ◌∷◌, take, refl, ap, sym, ◌∙◌, subst, length}
 use Rattle.std.specs.Prelude.{◌||◌, ◌&&◌}
 use Rattle.std.specs.List.{list_any}
 use Rattle.std.proofs.Math.ListN.{get_or}
 use Rattle.std.proofs.lemmas.List.Folds.{list_any_more}
 use Rattle.std.proofs.Math.Bool.{or_assoc}
+use Rattle.std.proofs.lemmas.List.{take_all}
 use Rattle.oc_tree.specs.declared.tree.VarId.{VarId}
-use Rattle.oc_tree.specs.declared.tree.VarId.TheVariants.{Nv, Param, Declared, Returned}
-use Rattle.oc_effects.specs.Effects.{TCalled, TEffect}
-use Rattle.oc_flow.specs.Variables.{same_variable, is_among, is_variable_of, begins, ends}
-use Rattle.oc_flow.specs.Known.{TTable, linked, Adds, end_of}
-use Rattle.oc_flow.proofs.Lists.{same_tests, same_is, same_itself}
+use Rattle.oc_laws.proofs.Bools.{both_ways}
+use Rattle.oc_effects.specs.Effects.{TCalled}
+use Rattle.oc_flow.specs.Variables.{same_variable, is_among, begins}
+use Rattle.oc_flow.specs.Known.{TTable, linked, Adds}
+use Rattle.oc_flow.proofs.Lists.{same_is, same_itself}
 
 pub or_false : (a : Bool) → a ≡ a || false
 or_false true = refl
 or_false false = refl
-
-pub adds_none : (t : TTable) → Adds (λ a b. false) t t
-adds_none t = record { variables = refl; links = λ a b ha hb. or_false (linked t a b) }
 
 pub adds_on : (D E : VarId → VarId → Bool) (s t u : TTable) → Adds D s t → Adds E t u → Adds (λ a b. D a b || E a b) s u
 adds_on D E s t u d e = record {
@@ -32,7 +30,7 @@ pub adds_same : (D E : VarId → VarId → Bool) (s t : TTable) → ((a b : VarI
 adds_same D E s t h d = record { variables = d.variables; links = λ a b ha hb. d.links a b ha hb ∙ ap (λ x. linked s a b || x) (h a b) }
 
 pub same_sym : (u v : VarId) → same_variable u v ≡ same_variable v u
-same_sym u v = same_tests (same_variable u v) (same_variable v u)
+same_sym u v = both_ways (same_variable u v) (same_variable v u)
     (λ h. subst (λ x. same_variable x u ≡ true) (same_is u v h) (same_itself u))
     (λ h. subst (λ x. same_variable x v ≡ true) (same_is v u h) (same_itself v))
 
@@ -69,51 +67,15 @@ pub adds_among : (from : List VarId) (t : VarId) (s u : TTable) → Adds (λ a b
 adds_among from t s u h = adds_same (λ a b. list_any (λ x. same_variable a x && same_variable b t) from) (λ a b. is_among a from && same_variable b t) s u
     (λ a b. any_and (same_variable a) (same_variable b t) from) h
 
--- where a flow ends
-pub ends_is : (a : TEffect) (c : TCalled) (y v : VarId) → ends a c y v ≡ is_variable_of (end_of a c y) v
-ends_is a c (Nv i) v = refl
-ends_is a c (Param i) v = refl
-ends_is a c (Declared s) v = refl
-ends_is a c Returned v = refl
-
 -- what a callee's flows add, one by one
 pub adds_ends : (c : TCalled) (x : VarId) (T : VarId → VarId → Bool) (ys : List VarId) (s u : TTable) → Adds (λ a b. list_any (λ y. begins c x a && T y b) ys) s u
     → Adds (λ a b. begins c x a && list_any (λ y. T y b) ys) s u
 adds_ends c x T ys s u h = adds_same (λ a b. list_any (λ y. begins c x a && T y b) ys) (λ a b. begins c x a && list_any (λ y. T y b) ys) s u (λ a b. any_before (begins c x a) (λ y. T y b) ys) h
 
--- where nothing flows, nothing is added
-pub adds_not : (c : TCalled) (x : VarId) (f : Bool) (T : VarId → Bool) (t : TTable) → f ≡ false → Adds (λ a b. begins c x a && (f && T b)) t t
-adds_not c x f T t e = adds_same (λ a b. false) (λ a b. begins c x a && (f && T b)) t t (λ a b. none (begins c x a) ∙ ap (λ g. begins c x a && (g && T b)) (sym e)) (adds_none t)
-  where
-    none : (p : Bool) → false ≡ p && false
-    none true = refl
-    none false = refl
-
--- nor where no flow ends
-pub adds_no_end : (a : TEffect) (c : TCalled) (x y : VarId) (f : Bool) (t : TTable) → end_of a c y ≡ None → Adds (λ u v. begins c x u && (f && ends a c y v)) t t
-adds_no_end a c x y f t e = adds_same (λ u v. false) (λ u v. begins c x u && (f && ends a c y v)) t t
-    (λ u v. none (begins c x u) f ∙ ap (λ o. begins c x u && (f && is_variable_of o v)) (sym e) ∙ ap (λ z. begins c x u && (f && z)) (sym (ends_is a c y v))) (adds_none t)
-  where
-    none : (p q : Bool) → false ≡ p && (q && false)
-    none true true = refl
-    none true false = refl
-    none false q = refl
-
-pub adds_end : (a : TEffect) (c : TCalled) (x y w : VarId) (f : Bool) (s t : TTable) → f ≡ true → end_of a c y ≡ Some w → Adds (λ u v. begins c x u && same_variable v w) s t
-    → Adds (λ u v. begins c x u && (f && ends a c y v)) s t
-adds_end a c x y w f s t e q h = adds_same (λ u v. begins c x u && same_variable v w) (λ u v. begins c x u && (f && ends a c y v)) s t
-    (λ u v. ap (λ z. begins c x u && z) (same_sym v w ∙ ap (λ o. is_variable_of o v) (sym q) ∙ sym (ends_is a c y v)) ∙ ap (λ g. begins c x u && (g && ends a c y v)) (sym e)) h
-
-pub take_end : {A : Type 0} (xs : List A) (i : ℕ) → length xs ≤ i → take i xs ≡ xs
-take_end [] zero h = refl
-take_end [] (suc i) h = refl
-take_end (x ∷ xs) zero h = absurd (omega arith)
-take_end (x ∷ xs) (suc i) h = ap (λ l. x ∷ l) (take_end xs i (omega arith))
-
 -- at the end of a loop
 pub adds_done : {A : Type 0} (T : A → VarId → VarId → Bool) (xs : List A) (i : ℕ) (s t : TTable) → length xs ≤ i → Adds (λ a b. list_any (λ y. T y a b) (take i xs)) s t
     → Adds (λ a b. list_any (λ y. T y a b) xs) s t
-adds_done T xs i s t h d = adds_all T xs (take i xs) s t (take_end xs i h) d
+adds_done T xs i s t h d = adds_all T xs (take i xs) s t (take_all i xs h) d
 
 pub get_or_map : {A B : Type 0} (f : A → B) (xs : List A) (i : ℕ) (d : A) → get_or (map f xs) i (f d) ≡ f (get_or xs i d)
 get_or_map f [] i d = refl

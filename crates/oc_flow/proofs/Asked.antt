@@ -1,5 +1,5 @@
 -- What is asked of known functions.
-use Rattle.std.proofs.Common.{◌≡◌, ◌<◌, ◌≤◌, ◌⊎◌, inl, inr, ◌++◌, map, ℕ, zero, suc, Bool, true, false, true≢false, List, [], ◌∷◌, Option, Some, None, cond, refl, ap, sym, ◌∙◌, length, arith}
+use Rattle.std.proofs.Common.{◌≡◌, ◌<◌, ◌≤◌, ◌⊎◌, inl, inr, map, ℕ, zero, suc, Bool, true, false, true≢false, List, [], ◌∷◌, Option, Some, None, cond, refl, ap, sym, ◌∙◌, length, arith}
 use Rattle.std.specs.Prelude.{◌||◌, ◌&&◌, ◌==◌, nat_lt, nat_eq, is_some, option_map, flat_map, find}
 use Rattle.std.specs.List.{list_any}
 use Rattle.std.proofs.Math.ListN.{get_or}
@@ -16,6 +16,7 @@ use Rattle.oc_tree.proofs.Grouped.{ids, program_ids}
 use Rattle.oc_effects.specs.Effects.{TCalled, TEffect, effect_of, function_effects, effects_at}
 use Rattle.oc_flow.specs.Variables.{is_among, variables, is_variable, same_variable}
 use Rattle.oc_tree.specs.Members.{IsOf}
+use Rattle.oc_laws.proofs.Members.{in_append, in_image}
 use Rattle.oc_flow.specs.Flow.{chain, leads, flows_to, flows, brings, brings_at, may_bring, may_bring_at}
 use Rattle.oc_flow.specs.Known.{TKnown, Knowns, known_at, is_ready, AllKnown, known_flows, brings_seen, may_bring_seen}
 use Rattle.oc_flow.proofs.Fixpoint.{Ranked}
@@ -104,22 +105,12 @@ found_of s (x ∷ xs) b e = go (nat_eq x.id s) e (found_of s xs b)
     go true e rest = inl (sym (same_Some x b e))
     go false e rest = inr (rest e)
 
-of_join : {A : Type 0} (xs ys : List A) (x : A) → IsOf x (xs ++ ys) → IsOf x xs ⊎ IsOf x ys
-of_join [] ys x i = inr i
-of_join (y ∷ xs) ys x (inl e) = inl (inl e)
-of_join (y ∷ xs) ys x (inr i) = elim (of_join xs ys x i) [ inl a ↦ inl (inr a) | inr b ↦ inr b ]
-
-of_image : {A B : Type 0} (g : A → B) (xs : List A) (x : A) → IsOf x xs → IsOf (g x) (map g xs)
-of_image g [] x i = i
-of_image g (y ∷ xs) x (inl e) = inl (ap g e)
-of_image g (y ∷ xs) x (inr i) = inr (of_image g xs x i)
-
 -- a statement of the program is one of some function
 somewhere : (p : TProgram) (fs : List TFunction) (b : Placed) → IsOf b (flat_map (λ f. block_placed (at_start f) f.body) fs)
     → (f : ℕ) × IsOf (effect_of p b) (get_or (map (function_effects p) fs) f [])
 somewhere p [] b i = absurd i
-somewhere p (f ∷ fs) b i = elim (of_join (block_placed (at_start f) f.body) (flat_map (λ f. block_placed (at_start f) f.body) fs) b i) [
-  | inl a ↦ (0, of_image (effect_of p) (block_placed (at_start f) f.body) b a)
+somewhere p (f ∷ fs) b i = elim (in_append b (block_placed (at_start f) f.body) (flat_map (λ f. block_placed (at_start f) f.body) fs) i) [
+  | inl a ↦ (0, in_image (effect_of p) (block_placed (at_start f) f.body) b a)
   | inr a ↦ let z = somewhere p fs b a in (suc z.0, z.1)
 ]
 

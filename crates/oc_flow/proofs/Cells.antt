@@ -1,20 +1,18 @@
 -- Cells of tables.
 use Rattle.std.proofs.Common.{◌≡◌, ◌≢◌, ◌<◌, ◌⊎◌, inl, inr, ℕ, zero, suc, Bool, true, false, List, [], ◌∷◌, Option, Some, None, drop, refl, ap, sym, ◌∙◌, subst, length, arith, replicate, Vec, Global}
-use Rattle.std.proofs.lemmas.Bool.{and_from, and_parts, or_left, or_right}
+use Rattle.std.proofs.lemmas.Bool.{and_from, and_parts, or_left, or_right, cases_eq}
 use Rattle.std.specs.Prelude.{◌||◌, ◌&&◌, slice_set}
 use Rattle.std.proofs.Math.ListN.{get_or}
 use Rattle.std.proofs.lemmas.List.{get_or-set_same, get_or-set_other}
 use Rattle.std.proofs.Math.ListN.{length-set}
 use Rattle.oc_tree.specs.declared.tree.VarId.{VarId}
 use Rattle.oc_tree.proofs.ReachLaws.{or_elim}
+use Rattle.oc_laws.proofs.Bools.{both_ways}
 use Rattle.oc_flow.specs.Variables.{same_variable, is_among}
 use Rattle.oc_flow.specs.Flow.{chain}
 use Rattle.oc_flow.specs.Known.{number_in, Cells, cells_of, cell, cell_at, IsSquare, TTable, linked, Links, set_cell, Joined, JoinedEach, JoinedTo}
-use Rattle.oc_flow.proofs.Lists.{same_tests, same_is, same_itself}
+use Rattle.oc_flow.proofs.Lists.{same_is, same_itself}
 use Rattle.oc_flow.proofs.Numbers.{number_below, number_at, numbered}
-
-differs : (i j : ℕ) → (i ≡ j) ⊎ (i ≢ j)
-differs i j = grind arith
 
 -- ---- rows
 
@@ -29,14 +27,11 @@ row_same rows i row h = get_or-set_same rows i row [] h
 
 -- a row of the same length in place of one keeps a square
 pub row_square : (n : ℕ) (rows : Cells) (i : ℕ) (row : List Bool) → IsSquare n rows → i < n → length row ≡ n → IsSquare n (slice_set rows i row)
-row_square n rows i row s h e = record { height = length-set rows i row ∙ s.height; width = λ k l. wide k l (differs k i) }
+row_square n rows i row s h e = record { height = length-set rows i row ∙ s.height; width = λ k l. wide k l (cases_eq k i) }
   where
     wide : (k : ℕ) → k < n → (k ≡ i) ⊎ (k ≢ i) → length (get_or (slice_set rows i row) k []) ≡ n
     wide k l (inl q) = ap (λ m. length (get_or (slice_set rows i row) m [])) q ∙ ap length (row_same rows i row (omega (arith, s.height))) ∙ e
     wide k l (inr d) = ap length (row_other rows i row k d) ∙ s.width k l
-
-pub set_square : (n : ℕ) (rows : Cells) (i j : ℕ) → IsSquare n rows → i < n → j < n → IsSquare n (set_cell rows i j)
-set_square n rows i j s h l = row_square n rows i (slice_set (get_or rows i []) j true) s h (length-set (get_or rows i []) j true ∙ s.width i h)
 
 pub set_here : (n : ℕ) (rows : Cells) (i j : ℕ) → IsSquare n rows → i < n → j < n → cell (set_cell rows i j) i j ≡ true
 set_here n rows i j s h l =
@@ -44,7 +39,7 @@ set_here n rows i j s h l =
     ap (λ r. get_or r j false) (row_same rows i (slice_set (get_or rows i []) j true) (omega (arith, s.height))) ∙ get_or-set_same (get_or rows i []) j true false (omega (arith, w))
 
 pub set_elsewhere : (n : ℕ) (rows : Cells) (i j a b : ℕ) → IsSquare n rows → i < n → (a ≡ i → b ≡ j → ⊥) → cell (set_cell rows i j) a b ≡ cell rows a b
-set_elsewhere n rows i j a b s h d = by (differs a i)
+set_elsewhere n rows i j a b s h d = by (cases_eq a i)
   where
     by : (a ≡ i) ⊎ (a ≢ i) → cell (set_cell rows i j) a b ≡ cell rows a b
     by (inr e) = ap (λ r. get_or r b false) (row_other rows i (slice_set (get_or rows i []) j true) a e)
@@ -53,10 +48,7 @@ set_elsewhere n rows i j a b s h d = by (differs a i)
 
 -- ---- joined rows
 
-pub joined_none : (number : ℕ) (other : List Bool) (old : Cells) → IsSquare (length old) old → JoinedTo 0 number other old old
-joined_none number other old s = record { same = refl; square = s; done = λ i j h l. absurd (omega arith); rest = λ i h. refl }
-
-cut : (k i : ℕ) → i < suc k → (i < k) ⊎ (i ≡ k)
+pub cut : (k i : ℕ) → i < suc k → (i < k) ⊎ (i ≡ k)
 cut k i h = grind arith
 
 -- one row more that has the number
@@ -132,10 +124,10 @@ link_set vs rows u v i j s hu hv a b ha hb =
     let new : TTable = record { variables = vs; cells = set_cell rows i j } in
     let lu = number_below vs u i hu in
     let lv = number_below vs v j hv in
-    same_tests (linked new a b) (linked old a b || (same_variable a u && same_variable b v))
-    (λ h. more x.0 y.0 x.1 y.1 h (differs x.0 i) (differs y.0 j))
+    both_ways (linked new a b) (linked old a b || (same_variable a u && same_variable b v))
+    (λ h. more x.0 y.0 x.1 y.1 h (cases_eq x.0 i) (cases_eq y.0 j))
     (λ h. or_elim (linked old a b) (same_variable a u && same_variable b v) h
-    (λ k. kept x.0 y.0 x.1 y.1 k (differs x.0 i) (differs y.0 j))
+    (λ k. kept x.0 y.0 x.1 y.1 k (cases_eq x.0 i) (cases_eq y.0 j))
     (λ k. subst (λ w. linked new w b ≡ true) (sym (same_is a u (and_parts (same_variable a u) (same_variable b v) k).0))
     (subst (λ w. linked new u w ≡ true) (sym (same_is b v (and_parts (same_variable a u) (same_variable b v) k).1)) (linked_is new u v i j hu hv ∙ set_here (length vs) rows i j s lu lv))))
   where
@@ -183,7 +175,7 @@ link_through vs rows next w k n hw join a b ha hb =
     ∙ (λ i. sym (linked_is old a b x.0 y.0 x.1 y.1) i || (sym (linked_is old a w x.0 k x.1 hw) i && sym (linked_is old w b k y.0 hw y.1) i))
 
 -- no cell is set
-get_none : (n k : ℕ) → get_or (replicate n false) k false ≡ false
+pub get_none : (n k : ℕ) → get_or (replicate n false) k false ≡ false
 get_none zero k = refl
 get_none (suc n) zero = refl
 get_none (suc n) (suc k) = get_none n k
@@ -200,18 +192,6 @@ none_at n m (Some i) (Some j) = cell_none n m i j
 
 pub none_linked : (vs : List VarId) (n : ℕ) (u v : VarId) → linked (record { variables = vs; cells = replicate n (replicate n false) }) u v ≡ false
 none_linked vs n u v = none_at n n (number_in vs u) (number_in vs v)
-
-row_all : (n : ℕ) (row : List Bool) (i : ℕ) → i < n → get_or (replicate n row) i [] ≡ row
-row_all zero row i h = absurd (omega arith)
-row_all (suc n) row zero h = refl
-row_all (suc n) row (suc i) h = row_all n row i (omega arith)
-
-size : {A : Type 0} (n : ℕ) (x : A) → length (replicate n x) ≡ n
-size zero x = refl
-size (suc n) x = ap suc (size n x)
-
-pub none_square : (n : ℕ) → IsSquare n (replicate n (replicate n false))
-none_square n = record { height = size n (replicate n false); width = λ i h. ap length (row_all n (replicate n false) i h) ∙ size n false }
 
 -- ---- rows that code holds
 
@@ -237,7 +217,7 @@ cells_height (v ∷ r) = ap suc (cells_height r)
 -- one that is not in the table leads to nothing more
 pub link_not : (t : TTable) (u v : VarId) → ((i j : ℕ) → number_in t.variables u ≡ Some i → number_in t.variables v ≡ Some j → ⊥)
     → Links t (λ a b. linked t a b || (same_variable a u && same_variable b v))
-link_not t u v none a b ha hb = same_tests (linked t a b) (linked t a b || (same_variable a u && same_variable b v)) (λ h. or_left (linked t a b) (same_variable a u && same_variable b v) h)
+link_not t u v none a b ha hb = both_ways (linked t a b) (linked t a b || (same_variable a u && same_variable b v)) (λ h. or_left (linked t a b) (same_variable a u && same_variable b v) h)
     (λ h. or_elim (linked t a b) (same_variable a u && same_variable b v) h (λ k. k)
     (λ k.
     let x = numbered 0 t.variables u (subst (λ w. is_among w t.variables ≡ true) (same_is a u (and_parts (same_variable a u) (same_variable b v) k).0) ha) in

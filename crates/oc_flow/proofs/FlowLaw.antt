@@ -9,10 +9,11 @@ use Rattle.oc_tree.proofs.ReachLaws.{or_elim}
 use Rattle.oc_effects.specs.Effects.{TCalled, TEffect, effects_at}
 use Rattle.oc_flow.specs.Variables.{is_among, same_variable, variables, is_variable, begins, ends, is_variable_of}
 use Rattle.oc_tree.specs.Members.{IsOf}
+use Rattle.oc_laws.proofs.Members.{any_of}
 use Rattle.oc_flow.specs.Relations.{Flow, itself, by_value, by_call, Brings, by_input, by_callee}
 use Rattle.oc_flow.specs.Flow.{Between, chain, leads_by_value, leads_by_call, leads, flow_by, flows_to, flows, receives, brings_by_call, brings_to, brings}
 use Rattle.oc_flow.specs.Laws.{Decides}
-use Rattle.oc_flow.proofs.Lists.{any_in, in_any, same_is, same_itself, among_of, of_among, target_is, is_target}
+use Rattle.oc_flow.proofs.Lists.{any_in, same_is, same_itself, among_of, of_among, target_is, is_target}
 use Rattle.oc_flow.proofs.Fixpoint.{Ranked, flow_fix, brings_fix}
 
 -- ---- chains
@@ -71,7 +72,7 @@ module _ (step : VarId → VarId → Bool) where
 
 module _ (p : TProgram) where
   -- flow goes on
-  flow_on : {f : ℕ} {u w : VarId} (v : VarId) → Flow p f u w → Flow p f w v → Flow p f u v
+  pub flow_on : {f : ℕ} {u w : VarId} (v : VarId) → Flow p f u w → Flow p f w v → Flow p f u v
   flow_on v (itself h) q = q
   flow_on v (by_value a i h s t r) q = by_value a i h s t (flow_on v r q)
   flow_on v (by_call a c i e h b m n r) q = by_call a c i e h b m n (flow_on v r q)
@@ -82,15 +83,15 @@ module _ (p : TProgram) where
         → leads_by_call p F a o u t ≡ true → Flow p f u t
     lead_flows a i None e u t hu ht h = absurd (true≢false (sym h))
     lead_flows a i (Some c) e u t hu ht h =
-        let x = in_any (λ x. begins c x u && list_any (λ y. F c.function x y && ends a c y t) (variables p c.function)) (variables p c.function) h in
+        let x = any_of (λ x. begins c x u && list_any (λ y. F c.function x y && ends a c y t) (variables p c.function)) (variables p c.function) h in
         let b = (and_parts (begins c x.0 u) (list_any (λ y. F c.function x.0 y && ends a c y t) (variables p c.function)) x.2).0 in
-        let y = in_any (λ y. F c.function x.0 y && ends a c y t) (variables p c.function)
+        let y = any_of (λ y. F c.function x.0 y && ends a c y t) (variables p c.function)
         (and_parts (begins c x.0 u) (list_any (λ y. F c.function x.0 y && ends a c y t) (variables p c.function)) x.2).1 in
         by_call a c i e hu b (callee c.function x.0 y.0 (and_parts (F c.function x.0 y.0) (ends a c y.0 t) y.2).0) (and_parts (F c.function x.0 y.0) (ends a c y.0 t) y.2).1 (itself ht)
 
     leads_flow : (u t : VarId) → is_variable p f u ≡ true → is_variable p f t ≡ true → leads p F f u t ≡ true → Flow p f u t
     leads_flow u t hu ht h =
-        let a = in_any (λ a. leads_by_value a u t || leads_by_call p F a a.call u t) (effects_at p f) h in
+        let a = any_of (λ a. leads_by_value a u t || leads_by_call p F a a.call u t) (effects_at p f) h in
         or_elim (leads_by_value a.0 u t) (leads_by_call p F a.0 a.0.call u t) a.2
         (λ k. by_value a.0 a.1 hu (and_parts (is_among u a.0.sources) (is_variable_of a.0.target t) k).0
         (target_is a.0.target t (and_parts (is_among u a.0.sources) (is_variable_of a.0.target t) k).1) (itself ht))
@@ -178,10 +179,10 @@ module _ (p : TProgram) where
     brings_by_is d deeper f a v i None e h = absurd (true≢false (sym h))
     brings_by_is d deeper f a v i (Some c) e h =
         let bring = brings_to p d in
-        let y = in_any (λ y. receives p bring c.function y && ends a c y v) (variables p c.function) h in
+        let y = any_of (λ y. receives p bring c.function y && ends a c y v) (variables p c.function) h in
         let got = (and_parts (receives p bring c.function y.0) (ends a c y.0 v) y.2).0 in
-        let b = in_any (λ b. list_any (λ u. bring b u && flows p c.function u y.0) (variables p c.function)) (effects_at p c.function) got in
-        let u = in_any (λ u. bring b.0 u && flows p c.function u y.0) (variables p c.function) b.2 in
+        let b = any_of (λ b. list_any (λ u. bring b u && flows p c.function u y.0) (variables p c.function)) (effects_at p c.function) got in
+        let u = any_of (λ u. bring b.0 u && flows p c.function u y.0) (variables p c.function) b.2 in
         by_callee a b.0 c i e (deeper c.function b.0 u.0 b.1 (and_parts (bring b.0 u.0) (flows p c.function u.0 y.0) u.2).0)
         (flows_are (length p.functions) c.function u.0 y.0 (and_parts (bring b.0 u.0) (flows p c.function u.0 y.0) u.2).1) (and_parts (receives p bring c.function y.0) (ends a c y.0 v) y.2).1
 

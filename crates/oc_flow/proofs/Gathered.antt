@@ -1,19 +1,18 @@
 -- Lists of variables that statements add to.
-use Rattle.std.proofs.Common.{◌≡◌, ◌<◌, ◌≤◌, ◌+◌, ◌++◌, ℕ, Bool, true, false, List, [], ◌∷◌, take, filter, Option, Some, None, refl, ap, sym, ◌∙◌, subst, length}
+use Rattle.std.proofs.Common.{◌≡◌, ◌<◌, ◌≤◌, ◌+◌, ◌++◌, ℕ, Bool, true, false, List, [], ◌∷◌, take, filter, Option, Some, refl, ap, sym, ◌∙◌, subst, length}
 use Rattle.std.specs.Prelude.{◌||◌, ◌&&◌}
 use Rattle.std.specs.List.{list_any}
 use Rattle.std.proofs.Math.ListN.{get_or}
 use Rattle.std.proofs.lemmas.List.Folds.{list_any_more}
 use Rattle.std.proofs.Math.Bool.{or_assoc}
+use Rattle.std.proofs.lemmas.List.{take_all}
 use Rattle.oc_tree.specs.declared.tree.VarId.{VarId}
-use Rattle.oc_effects.specs.Effects.{TCalled, TEffect}
-use Rattle.oc_flow.specs.Variables.{same_variable, is_among, is_variable_of, ends}
-use Rattle.oc_flow.specs.Known.{Gathers, Holds, TKnown, Knowns, known_at, known_receives, end_of, brings_from_callee, brings_called, brings_known}
-use Rattle.oc_flow.proofs.Lists.{same_tests, any_in, in_any, kept_of, of_kept, among_of, of_among}
-use Rattle.oc_flow.proofs.Added.{or_false, same_sym, ends_is, take_end}
-
-pub gathers_none : (vs : List VarId) → Gathers (λ v. false) vs vs
-gathers_none vs = record { among = λ v. or_false (is_among v vs) }
+use Rattle.oc_laws.proofs.Bools.{both_ways}
+use Rattle.oc_laws.proofs.Members.{any_of, in_filter, of_filter}
+use Rattle.oc_flow.specs.Variables.{same_variable, is_among, is_variable_of}
+use Rattle.oc_flow.specs.Known.{Gathers, Holds}
+use Rattle.oc_flow.proofs.Lists.{any_in, among_of, of_among}
+use Rattle.oc_flow.proofs.Added.{or_false, same_sym}
 
 pub gathers_same : (D E : VarId → Bool) (vs ws : List VarId) → ((v : VarId) → D v ≡ E v) → Gathers D vs ws → Gathers E vs ws
 gathers_same D E vs ws h d = record { among = λ v. d.among v ∙ ap (λ b. is_among v vs || b) (h v) }
@@ -31,9 +30,6 @@ gathers_one o x vs ws e p = record {
   among = λ v. ap (is_among v) p ∙ among_more v x vs ∙ ap (λ b. is_among v vs || b) (same_sym v x ∙ ap (λ q. is_variable_of q v) (sym e));
 }
 
-pub gathers_not : (o : Option VarId) (vs : List VarId) → o ≡ None → Gathers (λ v. is_variable_of o v) vs vs
-gathers_not o vs e = gathers_same (λ v. false) (λ v. is_variable_of o v) vs vs (λ v. ap (λ q. is_variable_of q v) (sym e)) (gathers_none vs)
-
 and_true : (b : Bool) → b ≡ b && true
 and_true true = refl
 and_true false = refl
@@ -41,36 +37,6 @@ and_true false = refl
 and_false : (b : Bool) → false ≡ b && false
 and_false true = refl
 and_false false = refl
-
--- a callee's variable
-pub gathers_end : (k : TKnown) (a : TEffect) (c : TCalled) (y : VarId) (vs ws : List VarId) → known_receives k y ≡ true → Gathers (λ v. is_variable_of (end_of a c y) v) vs ws
-    → Gathers (λ v. ends a c y v && known_receives k y) vs ws
-gathers_end k a c y vs ws e h = gathers_same (λ v. is_variable_of (end_of a c y) v) (λ v. ends a c y v && known_receives k y) vs ws
-    (λ v. sym (ends_is a c y v) ∙ and_true (ends a c y v) ∙ ap (λ b. ends a c y v && b) (sym e)) h
-
-pub gathers_no_end : (k : TKnown) (a : TEffect) (c : TCalled) (y : VarId) (vs : List VarId) → known_receives k y ≡ false → Gathers (λ v. ends a c y v && known_receives k y) vs vs
-gathers_no_end k a c y vs e = gathers_same (λ v. false) (λ v. ends a c y v && known_receives k y) vs vs
-    (λ v. and_false (ends a c y v) ∙ ap (λ b. ends a c y v && b) (sym e)) (gathers_none vs)
-
--- a callee that is known, and one that is not
-pub gathers_called : (ks : Knowns) (a : TEffect) (c : TCalled) (k : TKnown) (vs ws : List VarId) → known_at ks c.function ≡ Some k
-    → Gathers (λ v. list_any (λ y. ends a c y v && known_receives k y) k.outer) vs ws → Gathers (λ v. brings_called ks a (Some c) v) vs ws
-gathers_called ks a c k vs ws e h = gathers_same (λ v. list_any (λ y. ends a c y v && known_receives k y) k.outer) (λ v. brings_called ks a (Some c) v) vs ws
-    (λ v. ap (λ o. brings_from_callee o a c v) (sym e)) h
-
-pub gathers_unknown : (ks : Knowns) (a : TEffect) (c : TCalled) (vs : List VarId) → known_at ks c.function ≡ None → Gathers (λ v. brings_called ks a (Some c) v) vs vs
-gathers_unknown ks a c vs e = gathers_same (λ v. false) (λ v. brings_called ks a (Some c) v) vs vs (λ v. ap (λ o. brings_from_callee o a c v) (sym e)) (gathers_none vs)
-
--- a call, where there is one
-pub gathers_call : (ks : Knowns) (a : TEffect) (o p : Option TCalled) (vs ws : List VarId) → o ≡ p → Gathers (λ v. brings_called ks a p v) vs ws → Gathers (λ v. brings_called ks a o v) vs ws
-gathers_call ks a o p vs ws e h = gathers_same (λ v. brings_called ks a p v) (λ v. brings_called ks a o v) vs ws (λ v. ap (λ q. brings_called ks a q v) (sym e)) h
-
--- what is sensed
-pub gathers_sensed : (a : TEffect) (vs ws : List VarId) → a.senses ≡ true → Gathers (λ v. is_variable_of a.target v) vs ws → Gathers (λ v. a.senses && is_variable_of a.target v) vs ws
-gathers_sensed a vs ws e h = gathers_same (λ v. is_variable_of a.target v) (λ v. a.senses && is_variable_of a.target v) vs ws (λ v. ap (λ b. b && is_variable_of a.target v) (sym e)) h
-
-pub gathers_unsensed : (a : TEffect) (vs : List VarId) → a.senses ≡ false → Gathers (λ v. a.senses && is_variable_of a.target v) vs vs
-gathers_unsensed a vs e = gathers_same (λ v. false) (λ v. a.senses && is_variable_of a.target v) vs vs (λ v. ap (λ b. b && is_variable_of a.target v) (sym e)) (gathers_none vs)
 
 -- a turn of a loop that adds what each element of a list tells, and its end
 pub gathers_turn : {A : Type 0} (T : A → VarId → Bool) (xs : List A) (i : ℕ) (x d : A) (us vs ws : List VarId) → i < length xs → x ≡ get_or xs i d
@@ -81,7 +47,7 @@ gathers_turn T xs i x d us vs ws h e old more = gathers_same (λ v. list_any (λ
 
 pub gathers_done : {A : Type 0} (T : A → VarId → Bool) (xs : List A) (i : ℕ) (us vs : List VarId) → length xs ≤ i → Gathers (λ v. list_any (λ y. T y v) (take i xs)) us vs
     → Gathers (λ v. list_any (λ y. T y v) xs) us vs
-gathers_done T xs i us vs h d = subst (λ l. Gathers (λ v. list_any (λ y. T y v) l) us vs) (take_end xs i h) d
+gathers_done T xs i us vs h d = subst (λ l. Gathers (λ v. list_any (λ y. T y v) l) us vs) (take_all i xs h) d
 
 -- what is gathered from nothing
 pub gathers_all : (D : VarId → Bool) (vs : List VarId) → Gathers D [] vs → Holds vs D
@@ -95,11 +61,11 @@ holds_same D E vs h d = record { among = λ v. d.among v ∙ h v }
 
 -- Looked for among what holds just what passes a test, and among those of a list that pass it.
 pub held_any : (P test : VarId → Bool) (us vs : List VarId) → ((v : VarId) → P v ≡ true → is_among v vs ≡ true) → Holds us test → list_any P us ≡ list_any P (filter test vs)
-held_any P test us vs inside h = same_tests (list_any P us) (list_any P (filter test vs))
+held_any P test us vs inside h = both_ways (list_any P us) (list_any P (filter test vs))
     (λ e.
-    let u = in_any P us e in
-    any_in P (filter test vs) u.0 (kept_of test vs u.0 (among_of u.0 vs (inside u.0 u.2)) (sym (h.among u.0) ∙ of_among u.0 us u.1)) u.2)
+    let u = any_of P us e in
+    any_in P (filter test vs) u.0 (in_filter test u.0 vs (among_of u.0 vs (inside u.0 u.2)) (sym (h.among u.0) ∙ of_among u.0 us u.1)) u.2)
     (λ e.
-    let u = in_any P (filter test vs) e in
-    let k = of_kept test vs u.0 u.1 in
+    let u = any_of P (filter test vs) e in
+    let k = of_filter test u.0 vs u.1 in
     any_in P us u.0 (among_of u.0 us (h.among u.0 ∙ k.1)) u.2)

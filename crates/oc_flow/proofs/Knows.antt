@@ -1,11 +1,11 @@
 -- What is known of a function by its statements is so, where what is known of its callees is so.
-use Rattle.std.proofs.Common.{◌≡◌, ◌≢◌, ◌<◌, ◌⊎◌, inl, inr, ◌+◌, ◌++◌, map, ℕ, zero, suc, Bool, true, false, true≢false, List, [], ◌∷◌, Option, Some, None, cond, refl, ap, sym}
-use Rattle.std.proofs.lemmas.Bool.{and_from, and_parts}
+use Rattle.std.proofs.Common.{◌≡◌, ◌≢◌, ◌<◌, ◌⊎◌, inl, inr, ◌+◌, ◌++◌, map, ℕ, suc, Bool, true, false, true≢false, List, [], ◌∷◌, Option, Some, None, cond, refl, ap, sym}
+use Rattle.std.proofs.lemmas.Bool.{and_from, and_parts, cases_eq}
 use Rattle.std.proofs.Common.{◌∙◌, subst, length, arith, append_assoc, filter}
 use Rattle.std.specs.Prelude.{◌||◌, ◌&&◌, nat_lt, is_some, slice_set}
 use Rattle.std.specs.List.{list_any, list_all}
-use Rattle.std.proofs.Math.ListN.{length-set, get_or}
-use Rattle.std.proofs.lemmas.List.{get_or-set_same, get_or-set_other}
+use Rattle.std.proofs.Math.ListN.{length-set}
+use Rattle.std.proofs.lemmas.List.{get_or-set_same, get_or-set_other, get_or_default}
 use Rattle.std.proofs.lemmas.Bool.Decides.{nat_tests}
 use Rattle.std.proofs.lemmas.Option.{none-some, same_Some}
 use Rattle.std.proofs.lemmas.List.Folds.{list_any-append}
@@ -16,25 +16,23 @@ use Rattle.oc_tree.specs.declared.tree.VarId.TheVariants.{Nv, Param, Declared, R
 use Rattle.oc_effects.specs.Effects.{TCalled, TEffect, effects_at, params_at}
 use Rattle.oc_flow.specs.Variables.{same_variable, is_among, is_variable_of, variables, begins, ends, from}
 use Rattle.oc_tree.specs.Members.{IsOf}
+use Rattle.oc_laws.proofs.Bools.{both_ways}
+use Rattle.oc_laws.proofs.Members.{any_of, in_filter, of_filter}
 use Rattle.oc_flow.specs.Flow.{chain, leads_by_value, leads_by_call, leads, flows, receives, brings_by_call, brings}
 use Rattle.oc_flow.specs.Known.{number_from, number_in, cell, cell_at, TTable, linked, Links, flows_between, table_flows, TKnown, known_receives, received_at, Knowns, known_at}
 use Rattle.oc_flow.specs.Known.{leads_from, leads_to_callee, leads_called, leads_known, brings_from_callee, brings_called, brings_known, is_ready, outer_of, declared_of}
 use Rattle.oc_flow.specs.Known.{some_leads, some_brings, KnownBy, KnownIs, Right, Learns, Learning, Below, function_rank}
-use Rattle.oc_flow.proofs.Lists.{same_tests, any_in, in_any, any_cong, kept_of, of_kept}
+use Rattle.oc_flow.proofs.Lists.{any_in, any_cong}
 use Rattle.oc_flow.proofs.Fixpoint.{Ranked, chain_cong, flow_fix, brings_fix}
 use Rattle.oc_flow.proofs.FlowLaw.{ends_at}
 use Rattle.oc_flow.proofs.Numbers.{numbered, number_at, number_below}
-use Rattle.oc_flow.proofs.Added.{get_or_map}
+use Rattle.oc_flow.proofs.Added.{get_or_map, or_false}
 
 -- ---- lists
 
 none_declared : (t : VarId → Bool) → ((s : ℕ) → t (Declared s) ≡ false) → (es : List TEffect) → list_any t (map (λ a. Declared a.stmt) es) ≡ false
 none_declared t h [] = refl
 none_declared t h (e ∷ es) = ap (λ b. b || list_any t (map (λ a. Declared a.stmt) es)) (h e.stmt) ∙ none_declared t h es
-
-or_false : (a : Bool) → a ≡ a || false
-or_false true = refl
-or_false false = refl
 
 and_swap : (a b : Bool) → a && b ≡ b && a
 and_swap true true = refl
@@ -67,23 +65,18 @@ all_at t (y ∷ ys) h x (inr i) = all_at t ys (and_parts (t y) (list_all t ys) h
 
 -- the two orders of the search for one that brings into a variable
 swapped : {A B : Type 0} (P : B → A → Bool) (Q : A → Bool) (es : List B) (vs : List A) → list_any Q (filter (λ u. list_any (λ b. P b u) es) vs) ≡ list_any (λ b. list_any (λ u. P b u && Q u) vs) es
-swapped P Q es vs = same_tests (list_any Q (filter (λ u. list_any (λ b. P b u) es) vs)) (list_any (λ b. list_any (λ u. P b u && Q u) vs) es)
+swapped P Q es vs = both_ways (list_any Q (filter (λ u. list_any (λ b. P b u) es) vs)) (list_any (λ b. list_any (λ u. P b u && Q u) vs) es)
     (λ h.
-    let u = in_any Q (filter (λ u. list_any (λ b. P b u) es) vs) h in
-    let k = of_kept (λ u. list_any (λ b. P b u) es) vs u.0 u.1 in
-    let b = in_any (λ b. P b u.0) es k.1 in
+    let u = any_of Q (filter (λ u. list_any (λ b. P b u) es) vs) h in
+    let k = of_filter (λ u. list_any (λ b. P b u) es) u.0 vs u.1 in
+    let b = any_of (λ b. P b u.0) es k.1 in
     any_in (λ b. list_any (λ u. P b u && Q u) vs) es b.0 b.1 (any_in (λ u. P b.0 u && Q u) vs u.0 k.0 (and_from (P b.0 u.0) (Q u.0) b.2 u.2)))
     (λ h.
-    let b = in_any (λ b. list_any (λ u. P b u && Q u) vs) es h in
-    let u = in_any (λ u. P b.0 u && Q u) vs b.2 in
+    let b = any_of (λ b. list_any (λ u. P b u && Q u) vs) es h in
+    let u = any_of (λ u. P b.0 u && Q u) vs b.2 in
     any_in Q (filter (λ u. list_any (λ b. P b u) es) vs) u.0
-    (kept_of (λ u. list_any (λ b. P b u) es) vs u.0 u.1 (any_in (λ b. P b u.0) es b.0 b.1 (and_parts (P b.0 u.0) (Q u.0) u.2).0))
+    (in_filter (λ u. list_any (λ b. P b u) es) u.0 vs u.1 (any_in (λ b. P b u.0) es b.0 b.1 (and_parts (P b.0 u.0) (Q u.0) u.2).0))
     (and_parts (P b.0 u.0) (Q u.0) u.2).1)
-
-got : {A : Type 0} (xs : List A) (i : ℕ) (d e : A) → i < length xs → get_or xs i d ≡ get_or xs i e
-got [] i d e h = absurd (omega arith)
-got (x ∷ xs) zero d e h = refl
-got (x ∷ xs) (suc i) d e h = got xs i d e (omega arith)
 
 length_map : {A B : Type 0} (f : A → B) (xs : List A) → length (map f xs) ≡ length xs
 length_map f [] = refl
@@ -93,7 +86,7 @@ length_map f (x ∷ xs) = ap suc (length_map f xs)
 received_is : (F : VarId → Bool) (vs : List VarId) (v : VarId) (i : ℕ) → number_in vs v ≡ Some i → received_at (map F vs) (Some i) ≡ F v
 received_is F vs v i e =
     let l = number_below vs v i e in
-    got (map F vs) i false (F v) (omega (arith, l, length_map F vs)) ∙ get_or_map F vs i v ∙ ap F (number_at vs v i e)
+    get_or_default (map F vs) i false (F v) (omega (arith, l, length_map F vs)) ∙ get_or_map F vs i v ∙ ap F (number_at vs v i e)
 
 -- ---- flow
 
@@ -222,38 +215,27 @@ module _ (p : TProgram) (r : Ranked p) (ks : Knowns) (right : Right p ks) where
 
         none : receives p (brings p) f v ≡ true → is_among v vs ≡ true
         none h =
-            let b = in_any (λ b. list_any (λ u. brings p b u && flows p f u v) (variables p f)) es h in
-            let u = in_any (λ u. brings p b.0 u && flows p f u v) (variables p f) b.2 in
+            let b = any_of (λ b. list_any (λ u. brings p b u && flows p f u v) (variables p f)) es h in
+            let u = any_of (λ u. brings p b.0 u && flows p f u v) (variables p f) b.2 in
             let e = ends_at p r f u.0 v (and_parts (brings p b.0 u.0) (flows p f u.0 v) u.2).1 in
             subst (λ l. is_among v l ≡ true) (sym listed_so) (and_parts (nat_lt f (length p.functions)) (is_among v (variables p f)) e).1
 
         go : (o : Option ℕ) → number_in vs v ≡ o → received_at (map F vs) o ≡ receives p (brings p) f v
         go (Some i) e = received_is F vs v i e ∙ F_is
-        go None e = same_tests false (receives p (brings p) f v) (λ h. absurd (true≢false (sym h))) (λ h. absurd (true≢false (sym (none h) ∙ not_among vs v e)))
+        go None e = both_ways false (receives p (brings p) f v) (λ h. absurd (true≢false (sym h))) (λ h. absurd (true≢false (sym (none h) ∙ not_among vs v e)))
 
     pub is_known : KnownIs p f k
     is_known = record { outer = by.outer; variables = listed_so; flows = flows_so; receives = receives_so }
 
 -- ---- learning
 
-differs : (i j : ℕ) → (i ≡ j) ⊎ (i ≢ j)
-differs i j = grind arith
-
 module _ (p : TProgram) (r : Ranked p) (fall : (f : ℕ) (a : TEffect) (c : TCalled) → IsOf a (effects_at p f) → a.call ≡ Some c → function_rank p c.function < function_rank p f) where
-  -- a function that is known is known
-  pub learns_old : (f : ℕ) (ks : Knowns) → Right p ks → is_some (known_at ks f) ≡ true → Learns p f ks ks
-  learns_old f ks right h = record { right = right; keeps = λ g k. k; learns = λ k. h }
-
-  -- one whose callees are not is left
-  pub learns_not : (f : ℕ) (ks : Knowns) → Right p ks → list_all (λ e. is_ready ks e.call) (effects_at p f) ≡ false → Learns p f ks ks
-  learns_not f ks right h = record { right = right; keeps = λ g k. k; learns = λ k. absurd (true≢false (sym k ∙ h)) }
-
   -- one whose callees are known gets known
   pub learns_new : (f : ℕ) (ks : Knowns) (k : TKnown) (n q : ℕ) → f < length p.functions → Right p ks → list_all (λ e. is_ready ks e.call) (effects_at p f) ≡ true
       → n ≡ length p.names.nvs → q ≡ length (params_at p f) → KnownBy n q ks (effects_at p f) k → Learns p f ks (slice_set ks f (Some k))
   learns_new f ks k n q h right ready en eq by = record {
-    right = record { count = length-set ks f (Some k) ∙ right.count; each = λ g l e. each g l e (differs g f) };
-    keeps = λ g s. keeps g s (differs g f);
+    right = record { count = length-set ks f (Some k) ∙ right.count; each = λ g l e. each g l e (cases_eq g f) };
+    keeps = λ g s. keeps g s (cases_eq g f);
     learns = λ _. ap is_some here;
   }
     where
@@ -282,9 +264,6 @@ module _ (p : TProgram) (r : Ranked p) (fall : (f : ℕ) (a : TEffect) (c : TCal
       one : (o : Option TCalled) → e.call ≡ o → is_ready ks o ≡ true
       one None q = refl
       one (Some c) q = h e c (inl refl) q
-
-  pub learns_start : (ks : Knowns) → Right p ks → Learning p 0 ks ks
-  learns_start ks right = record { right = right; keeps = λ g k. k; more = λ d f h l m. absurd (omega arith) }
 
   cut : (k i : ℕ) → i < k + 1 → (i < k) ⊎ (i ≡ k)
   cut k i h = grind arith

@@ -1,58 +1,25 @@
 -- Marks by the numbers of a table's variables.
-use Rattle.std.proofs.Common.{◌≡◌, ◌≢◌, ◌<◌, ◌≤◌, ◌⊎◌, inl, inr, ◌+◌, map, ℕ, zero, suc, Bool, true, false, List, [], ◌∷◌, Option, Some, None, take, filter, refl, ap, sym, ◌∙◌, subst, length, arith, replicate}
-use Rattle.std.specs.Prelude.{◌||◌, slice_set, nat_eq}
+use Rattle.std.proofs.Common.{◌≡◌, ◌≢◌, ◌<◌, ◌≤◌, inl, inr, ◌+◌, map, ℕ, Bool, true, false, List, [], ◌∷◌, Some, take, filter, refl, ap, sym, ◌∙◌, subst, length, arith}
+use Rattle.std.specs.Prelude.{◌||◌, nat_eq}
 use Rattle.std.specs.List.{list_any}
-use Rattle.std.proofs.Math.ListN.{get_or, length-set}
-use Rattle.std.proofs.lemmas.List.{get_or-set_same, get_or-set_other}
+use Rattle.std.proofs.Math.ListN.{get_or}
+use Rattle.std.proofs.lemmas.List.{take_all}
 use Rattle.std.proofs.lemmas.List.Folds.{list_any_more}
-use Rattle.std.proofs.lemmas.Bool.{eqb-true, or_left, or_right}
+use Rattle.std.proofs.lemmas.Bool.{eqb-true, eq-eqb}
 use Rattle.std.proofs.lemmas.Option.{same_Some}
 use Rattle.oc_tree.specs.declared.tree.VarId.{VarId}
 use Rattle.oc_tree.specs.Members.{IsOf}
+use Rattle.oc_laws.proofs.Bools.{both_ways}
 use Rattle.oc_flow.specs.Variables.{same_variable, is_among}
-use Rattle.oc_flow.specs.Known.{number_in, cell, TTable, Joined, MarkedRow, Marks, flows_between, table_flows, received_at, Holds}
-use Rattle.oc_flow.proofs.Lists.{same_tests, same_is, same_itself, of_among}
+use Rattle.oc_flow.specs.Known.{number_in, cell, TTable, MarkedRow, Marks, flows_between, table_flows, received_at, Holds}
+use Rattle.oc_flow.proofs.Lists.{same_is, same_itself, of_among}
 use Rattle.oc_flow.proofs.Numbers.{number_below, numbered}
 use Rattle.oc_flow.proofs.Cells.{same_number}
-use Rattle.oc_flow.proofs.Added.{or_false, take_end}
 use Rattle.oc_flow.proofs.Knows.{flows_within}
 use Rattle.oc_flow.proofs.Gathered.{held_any}
 
-differs : (i j : ℕ) → (i ≡ j) ⊎ (i ≢ j)
-differs i j = grind arith
-
-eq_self : (n : ℕ) → nat_eq n n ≡ true
-eq_self n = grind arith
-
 unlike : (i k : ℕ) → k ≢ i → nat_eq i k ≡ false
 unlike i k d = grind (arith, d)
-
-pub row_marked : (i : ℕ) (row old joined : List Bool) → i < length old → Joined row old joined → MarkedRow i row old (slice_set joined i true)
-row_marked i row old joined h j = record { same = length-set joined i true ∙ j.same; marks = λ k l. by k l (differs k i) }
-  where
-    by : (k : ℕ) → k < length old → (k ≡ i) ⊎ (k ≢ i) → get_or (slice_set joined i true) k false ≡ get_or old k false || (nat_eq i k || get_or row k false)
-    by k l (inl e) =
-        let s = j.same in
-        subst (λ m. get_or (slice_set joined i true) m false ≡ get_or old m false || (nat_eq i m || get_or row m false)) (sym e)
-        (get_or-set_same joined i true false (omega (arith, s, h)) ∙ sym (or_right (get_or old i false) (nat_eq i i || get_or row i false) (or_left (nat_eq i i) (get_or row i false) (eq_self i))))
-    by k l (inr d) = get_or-set_other joined i k true false d ∙ j.cells k l ∙ ap (λ b. get_or old k false || (b || get_or row k false)) (sym (unlike i k d))
-
-nothing_at : (n j : ℕ) → get_or (replicate n false) j false ≡ false
-nothing_at zero j = refl
-nothing_at (suc n) zero = refl
-nothing_at (suc n) (suc j) = nothing_at n j
-
-width_of : (n : ℕ) → length (replicate n false) ≡ n
-width_of zero = refl
-width_of (suc n) = ap suc (width_of n)
-
--- nothing is marked
-pub marks_none : (t : TTable) (n : ℕ) (marks : List Bool) → n ≡ length t.variables → marks ≡ replicate n false → Marks t marks (λ y. false)
-marks_none t n marks h e = subst (λ ms. Marks t ms (λ y. false)) (sym e) (record { width = width_of n ∙ h; each = λ y _. by (number_in t.variables y) })
-  where
-    by : (o : Option ℕ) → received_at (replicate n false) o ≡ false
-    by None = refl
-    by (Some j) = nothing_at n j
 
 -- what flows from one variable more
 pub marks_more : (t : TTable) (u : VarId) (i : ℕ) (old new : List Bool) (test : VarId → Bool) → number_in t.variables u ≡ Some i → MarkedRow i (get_or t.cells i []) old new
@@ -65,17 +32,10 @@ marks_more t u i old new test hu r m = record { width = r.same ∙ m.width; each
         let b = number_below t.variables y j e in
         let was : get_or old j false ≡ test y = ap (received_at old) (sym e) ∙ m.each y h in
         let flow : table_flows t u y ≡ same_variable u y || cell t.cells i j = (λ k. flows_between t.cells u y (hu k) (e k)) in
-        let same : nat_eq i j ≡ same_variable u y = same_tests (nat_eq i j) (same_variable u y)
+        let same : nat_eq i j ≡ same_variable u y = both_ways (nat_eq i j) (same_variable u y)
         (λ q. subst (λ z. same_variable u z ≡ true) (same_number t.variables u y i hu (e ∙ ap Some (sym (eqb-true i j q)))) (same_itself u))
-        (λ q. subst (λ z. nat_eq i z ≡ true) (same_Some i j (sym hu ∙ ap (number_in t.variables) (same_is u y q) ∙ e)) (eq_self i)) in
+        (λ q. subst (λ z. nat_eq i z ≡ true) (same_Some i j (sym hu ∙ ap (number_in t.variables) (same_is u y q) ∙ e)) (eq-eqb i i refl)) in
         ap (received_at new) e ∙ r.marks j (omega (arith, w, b)) ∙ (λ k. was k || (same k || cell t.cells i j)) ∙ ap (λ z. test y || z) (sym flow)
-
--- from one that is not in the table nothing flows
-pub marks_not : (t : TTable) (u : VarId) (marks : List Bool) (test : VarId → Bool) → number_in t.variables u ≡ None → Marks t marks test → Marks t marks (λ y. test y || table_flows t u y)
-marks_not t u marks test e m = record {
-  width = m.width;
-  each = λ y h. m.each y h ∙ or_false (test y) ∙ ap (λ o. test y || flows_between t.cells u y o (number_in t.variables y)) (sym e);
-}
 
 pub marks_same : (t : TTable) (marks : List Bool) (D E : VarId → Bool) → ((y : VarId) → D y ≡ E y) → Marks t marks D → Marks t marks E
 marks_same t marks D E h m = record { width = m.width; each = λ y a. m.each y a ∙ h y }
@@ -97,7 +57,7 @@ pub marks_done : (t : TTable) (from : List VarId) (i : ℕ) (marks : List Bool) 
     → map (λ y. received_at marks (number_in t.variables y)) t.variables ≡ map (λ y. list_any (λ u. table_flows t u y) from) t.variables
 marks_done t from i marks h m =
     map_within (λ y. received_at marks (number_in t.variables y)) (λ y. list_any (λ u. table_flows t u y) from) t.variables
-    (λ y o. m.each y (of_among y t.variables o) ∙ ap (list_any (λ u. table_flows t u y)) (take_end from i h))
+    (λ y o. m.each y (of_among y t.variables o) ∙ ap (list_any (λ u. table_flows t u y)) (take_all i from h))
 
 -- what flows from variables that are held, and from those of the table that pass the test
 pub received_from : (t : TTable) (us : List VarId) (test : VarId → Bool) → Holds us test

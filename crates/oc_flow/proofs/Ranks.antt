@@ -1,8 +1,7 @@
 -- In a checked program the rank of a function falls along calls.
-use Rattle.std.proofs.Common.{◌≡◌, ◌<◌, inl, inr, ℕ, zero, suc, ◌+◌, ◌++◌, Bool, true, false, List, [], ◌∷◌, length, map, Option, Some, None, refl, ap, sym, ◌∙◌, subst, arith}
+use Rattle.std.proofs.Common.{◌≡◌, ◌<◌, inl, inr, ℕ, suc, ◌+◌, ◌++◌, Bool, true, false, List, [], ◌∷◌, length, map, Option, Some, None, refl, ap, sym, ◌∙◌, subst, arith}
 use Rattle.std.specs.Prelude.{cond, option_map, option_and_then, slice_get}
 use Rattle.std.specs.Str.{bytes_eq}
-use Rattle.std.proofs.Math.ListN.{get_or}
 use Rattle.std.proofs.lemmas.List.{map-append, length-map}
 use Rattle.std.proofs.lemmas.Option.{none-some, same_Some}
 use Rattle.oc_tree.specs.Names.{Text}
@@ -22,8 +21,9 @@ use Rattle.oc_checked.proofs.BodiesPass.{function_fine}
 use Rattle.oc_checked.proofs.Declared.{AllWithin, all_within}
 use Rattle.oc_checked.proofs.Mains.{own_place}
 use Rattle.oc_tree.specs.Members.{IsOf}
-use Rattle.oc_flow.proofs.Lists.{row_within, image_of}
+use Rattle.oc_laws.proofs.Members.{some_at, at_place, image_of}
 use Rattle.oc_flow.proofs.Fixpoint.{Ranked}
+use Rattle.oc_flow.proofs.Lists.{row_within}
 
 -- ---- the statements with places are those of the body
 
@@ -102,16 +102,6 @@ place_below n (y ∷ ys) x i e = go (bytes_eq x y) e (place_below (n + 1) ys x i
     go true h rest = let same : n ≡ i = same_Some n i h in omega (arith, same)
     go false h rest = let l = rest h in omega (arith, l)
 
-row_of : {A B : Type 0} (f : A → List B) (xs : List A) (i : ℕ) (x : A) → slice_get xs i ≡ Some x → get_or (map f xs) i [] ≡ f x
-row_of f [] i x h = absurd (none-some x h)
-row_of f (y ∷ xs) zero x h = ap f (same_Some y x h)
-row_of f (y ∷ xs) (suc i) x h = row_of f xs i x h
-
-stands : {A : Type 0} (xs : List A) (i : ℕ) → i < length xs → (x : A) × (slice_get xs i ≡ Some x)
-stands [] i h = absurd (omega arith)
-stands (x ∷ xs) zero h = (x, refl)
-stands (x ∷ xs) (suc i) h = stands xs i (omega arith)
-
 module _ (p : TProgram) (groups : List Group) (checked : IsChecked p groups) where
   declared : AllWithin p
   declared = all_within p checked.form.declared checked.unbroken
@@ -135,8 +125,8 @@ module _ (p : TProgram) (groups : List Group) (checked : IsChecked p groups) whe
 
   effect_stands : (f : ℕ) (a : TEffect) → IsOf a (effects_at p f) → Stands f a
   effect_stands f a i =
-      let g = stands p.functions f (within f a i) in
-      let z = image_of (effect_of p) (block_placed (at_start g.0) g.0.body) a (subst (λ es. IsOf a es) (row_of (function_effects p) p.functions f g.0 g.1) i) in
+      let g = some_at p.functions f (within f a i) in
+      let z = image_of (effect_of p) (block_placed (at_start g.0) g.0.body) a (subst (λ es. IsOf a es) (at_place (function_effects p) p.functions f g.0 [] g.1) i) in
       record { function = g.0; at = g.1; placed = z.0; one = z.1; is = z.2 }
 
   inside : (f : ℕ) (a : TEffect) (c : TCalled) → IsOf a (effects_at p f) → a.call ≡ Some c → c.function < length p.functions

@@ -1,9 +1,10 @@
 //! The variables of a function by numbers.
 ghost use Rattle.std.specs.Prelude.{◌≡◌, ◌<◌, ◌^◌, ℕ, length, replicate, Option, Some, None, cond, nat_eq, OnOk, IfOk, IfSome};
+ghost use Rattle.std.specs.Option.{option_or};
 ghost use Rattle.std.proofs.Math.ListN.{get_or};
 ghost use Rattle.oc_tree.specs.declared.tree.VarId.{VarId};
 ghost use Rattle.oc_flow.specs.Variables.{is_among, same_variable};
-ghost use Rattle.oc_flow.specs.Known.{Entries, entry_of, number_in, or_else, slot};
+ghost use Rattle.oc_flow.specs.Known.{Entries, entry_of, number_in, slot};
 
 use oc_tree::tree::VarId;
 use std::alloc::{AllocError, Global};
@@ -107,8 +108,8 @@ impl Numbers {
         requires { slot < length self.old }
         ensures room { length self.new ≡ length self.old }
         ensures entry { OnOk result ((x : ℕ) (rest : Option ℕ)
-            → or_else (entry_of self.new x) rest
-            ≡ or_else (entry_of self.old x) (cond (nat_eq x slot) (Some number) rest)) }
+            → option_or (entry_of self.new x) rest
+            ≡ option_or (entry_of self.old x) (cond (nat_eq x slot) (Some number) rest)) }
     {
         match self.get(slot) {
             Some(_) => Ok(()),

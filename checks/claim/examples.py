@@ -63,10 +63,10 @@ DECIDING = """
     oc_verify/Reading: number_at
     oc_audit/Files: lines
     oc_audit/Findings: IsFinding
-    oc_top/Commands: command_of
-    oc_top/Answers: status_of line_of
-    oc_top/Reports: answer_of text_of
-    oc_top/RegionLines: region_line total_lines
+    oc_command/Commands: command_of
+    oc_command/Statuses: status_of line_of
+    oc_report/Reports: answer_of text_of
+    oc_report/RegionLines: region_line total_lines
     oc_top/Meant: program_marked program_code
     oc_top/Verdict: regions_of listing_of
 """

@@ -6,11 +6,11 @@ that rests on it.
 """
 
 HOMES = {
-    "p01": "oc_top/Works.Works oc_top/answer.rt.Answer oc_power/supply.rt.Supply",
+    "p01": "oc_top/Works.Works oc_command/answer.rt.Answer oc_power/supply.rt.Supply",
     "p02": "oc_top/Sources.ReadsAs oc_top/Sources.ReadsIn oc_top/Answers.IsJudged "
-           "oc_top/Commands.command_of",
+           "oc_command/Commands.command_of",
     "p04": "oc_top/Headline.IsRun oc_top/Answers.IsPrint oc_top/Verdict.regions_of "
-           "oc_top/Verdict.listing_of oc_top/Verdict.runs oc_items/item.rt.Item oc_items/Text.full_text "
+           "oc_top/Verdict.listing_of oc_report/Runs.runs oc_items/item.rt.Item oc_items/Text.full_text "
            "oc_items/Text.report_text oc_items/Told.item_of",
     "p05": "oc_top/Headline.IsHonestThroughout oc_honest/Honest.IsHonest oc_meaning/Run.source_run "
            "oc_meaning/Run.marked_run oc_meaning/Run.call_to oc_meaning/Exec.stmts_run",
@@ -21,7 +21,7 @@ HOMES = {
     "p09": "oc_bounds/Headway.Suffice oc_bounds/Headway.PeriodsKeep oc_bounds/Attempts.AttemptsClose "
            "oc_outage/Kept.CountIsKept oc_bounds/Bounds.IsBounded",
     "p10": "oc_top/Audited.IsAudit oc_top/Audited.IsVouched oc_top/Headline.IsReportedRun",
-    "p11": "oc_top/Images.IsExecution oc_top/Images.IsExecuted oc_top/Verdict.image_of "
+    "p11": "oc_report/Images.IsExecution oc_report/Images.IsExecuted oc_top/Verdict.image_of "
            "oc_isa/Run.IsSound oc_isa/Table.device_of",
     "lex": "oc_lex/Tokens.AreTokens oc_lex/Tokens.HasFault oc_lex/Stands.IsName "
            "oc_lex/Spellings.word_spelling oc_lex/token.rt.Token oc_lex/token.rt.Kind "

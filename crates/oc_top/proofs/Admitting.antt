@@ -16,20 +16,22 @@ use Rattle.oc_tree.specs.Marked.{IsMarked}
 use Rattle.oc_tree.specs.Expansion.{expansion}
 use Rattle.oc_isa.specs.Image.{Parts}
 use Rattle.oc_builds.specs.Built.{MarkedImagesBreakNoRule, MarkedImagesFitFiles}
-use Rattle.oc_top.specs.Answers.{IsJudged, status_of}
+use Rattle.oc_command.specs.Statuses.{status_of}
+use Rattle.oc_top.specs.Answers.{IsJudged}
 use Rattle.oc_top.specs.BuiltImages.{BuiltImagesAreAdmitted, BuiltImagesAreNotRefused, BuiltImagesRun}
-use Rattle.oc_top.specs.Commands.{Plan, imaging, report}
-use Rattle.oc_top.specs.Files.{Files, run_files}
-use Rattle.oc_top.specs.Images.{IsAdmitted, IsExecution, executed}
+use Rattle.oc_command.specs.Commands.{Plan, imaging, report}
+use Rattle.oc_command.specs.Files.{Files, run_files}
+use Rattle.oc_report.specs.Images.{IsAdmitted, IsExecution, executed}
 use Rattle.oc_top.specs.Meant.{program_marked, program_code}
 use Rattle.oc_top.specs.SmallImages.{ImagesAreSmall}
 use Rattle.oc_top.specs.Sources.{Reading, ReadsAs, breaks, faulty, program}
-use Rattle.oc_top.specs.Verdict.{Verdict, image_of, is_of_run, printed, prints, verdict, with_parts, with_sensors}
-use Rattle.oc_top.specs.declared.answer.Answer.{Answer}
-use Rattle.oc_top.specs.declared.answer.Answer.TheVariants as answer
+use Rattle.oc_report.specs.Runs.{Verdict, is_of_run, prints, with_parts, with_sensors}
+use Rattle.oc_top.specs.Verdict.{image_of, printed, verdict}
+use Rattle.oc_command.specs.declared.answer.Answer.{Answer}
+use Rattle.oc_command.specs.declared.answer.Answer.TheVariants as answer
 use Rattle.oc_top.proofs.Accepted.{is_written, marked_there}
 use Rattle.oc_top.proofs.Exactly.{of_run}
-use Rattle.oc_top.proofs.Executing.{one_execution}
+use Rattle.oc_report.proofs.Executing.{one_execution}
 use Rattle.oc_top.proofs.Imaging.{same_names}
 use Rattle.oc_top.proofs.OneReading.{one_reading}
 

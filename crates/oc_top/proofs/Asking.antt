@@ -21,29 +21,34 @@ use Rattle.oc_bounds.proofs.Attempting.{attempts_close}
 use Rattle.oc_bounds.specs.Headway.{PeriodsKeep, RunEnds, Suffice}
 use Rattle.oc_bounds.proofs.Sufficing.{periods_keep, run_ends}
 use Rattle.oc_top.specs.Meant.{program_code, program_bounds}
-use Rattle.oc_top.specs.Commands.{Plan, report, regions, listing, imaging, checking, auditing, executing, Task}
-use Rattle.oc_top.specs.Commands.{Exec, Run, limits_of, meters_of, audit_limits, image_limit, run_limits, source_task, task_for, plans_of, word_at}
+use Rattle.oc_command.specs.Commands.{Plan, report, regions, listing, imaging, checking, auditing, executing, Task}
+use Rattle.oc_command.specs.Commands.{Exec, Run, limits_of, meters_of, audit_limits, image_limit, run_limits, source_task, task_for, plans_of, word_at}
 use Rattle.oc_tree.specs.Tree.{TProgram}
-use Rattle.oc_top.specs.Files.{Files, AreFiles, Fetches, NotFetched, WereFetched, limit_at, listed, names_of}
+use Rattle.oc_command.specs.Files.{Files, AreFiles, Fetches, NotFetched, WereFetched, limit_at, listed, names_of}
 use Rattle.oc_top.specs.Sources.{Reading, ReadsAs, faulty, breaks}
 use Rattle.oc_top.specs.Printed.{IsPrinted, not_built, put}
 use Rattle.oc_top.specs.Judged.{IsAudited, IsChecked, honest, not_audited, not_safe, safe}
 use Rattle.oc_top.specs.Judged as judged
-use Rattle.oc_top.specs.Verdict.{RunFits, Verdict, runs, is_of_run, is_refusal, refuses, prints, printed, regions_of, listing_of, image_of}
+use Rattle.oc_report.specs.Runs.{RunFits, Verdict, runs, is_of_run, is_refusal, refuses, prints}
+use Rattle.oc_top.specs.Verdict.{printed, regions_of, listing_of, image_of}
 use Rattle.oc_top.specs.Headline.{IsHonestThroughout, IsReportedRun, IsRun, program_power}
-use Rattle.oc_top.specs.Steps.{IsNotBuilt, IsReady, IsReadyFor, IsTurnedDown, by_memory, by_files}
-use Rattle.oc_top.specs.Answers.{IsVerdict, IsPrint, IsJudged, IsDone, IsDoneWhole, Writes, TookNothing, IsWritten, whole, in_part}
-use Rattle.oc_top.specs.Answers.{Call, call_of, HasTold, IsSilent, IsUnfetched, HasFiles, AreRefused, WasDone, IsWhole, Comes}
-use Rattle.oc_top.specs.declared.command.SourceTask.{SourceTask}
-use Rattle.oc_top.specs.declared.command.SourceTask.TheVariants as tasks
-use Rattle.oc_top.specs.declared.answer.Answer.{Answer}
-use Rattle.oc_top.specs.declared.answer.Answer.TheVariants as answer
+use Rattle.oc_report.specs.Ready.{IsReadyFor}
+use Rattle.oc_top.specs.Steps.{IsNotBuilt, IsReady, IsTurnedDown, by_memory, by_files}
+use Rattle.oc_command.specs.Sinks.{Writes, TookNothing}
+use Rattle.oc_report.specs.Written.{IsWritten, whole, in_part}
+use Rattle.oc_top.specs.Answers.{IsVerdict, IsPrint, IsJudged, IsDone, IsDoneWhole}
+use Rattle.oc_command.specs.Meters.{HasTold}
+use Rattle.oc_top.specs.Answers.{Call, call_of, IsSilent, IsUnfetched, HasFiles, AreRefused, WasDone, IsWhole, Comes}
+use Rattle.oc_command.specs.declared.command.SourceTask.{SourceTask}
+use Rattle.oc_command.specs.declared.command.SourceTask.TheVariants as tasks
+use Rattle.oc_command.specs.declared.answer.Answer.{Answer}
+use Rattle.oc_command.specs.declared.answer.Answer.TheVariants as answer
 use Rattle.oc_top.proofs.Exactly.{done_answer, whole_done}
 use Rattle.oc_top.specs.Audited.{audited}
 use Rattle.oc_top.proofs.Auditing.{audit_refuses, said_refuses, without_program}
-use Rattle.oc_top.specs.Images.{IsAdmitted, IsNotRun}
+use Rattle.oc_report.specs.Images.{IsAdmitted, IsNotRun}
 use Rattle.oc_top.proofs.Checking.{check_refuses}
-use Rattle.oc_top.proofs.Executing.{is_executed}
+use Rattle.oc_report.proofs.Executing.{is_executed}
 use Rattle.oc_top.proofs.Honesty.{honest_throughout}
 
 -- what is ready is a run of the program that the source spells

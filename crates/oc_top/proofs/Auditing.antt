@@ -11,10 +11,10 @@ use Rattle.oc_audit.proofs.OneFinding.{one_finding}
 use Rattle.oc_top.specs.Meant.{program_marked}
 use Rattle.oc_top.specs.Sources.{faulty, breaks, program}
 use Rattle.oc_top.specs.Steps.{IsMarkedOf, IsNotBuilt}
-use Rattle.oc_top.specs.Verdict.{Verdict, is_refusal, refuses}
+use Rattle.oc_report.specs.Runs.{Verdict, is_refusal, refuses}
 use Rattle.oc_top.specs.Audited.{IsAudit, IsFound, IsVouched, audited, broken_rule, no_program, said_of}
-use Rattle.oc_top.specs.declared.answer.Answer.{Answer}
-use Rattle.oc_top.specs.declared.answer.Answer.TheVariants as answer
+use Rattle.oc_command.specs.declared.answer.Answer.{Answer}
+use Rattle.oc_command.specs.declared.answer.Answer.TheVariants as answer
 use Rattle.oc_top.proofs.Accepted.{marked_there}
 use Rattle.oc_top.proofs.OneReading.{one_reading, same_line, same_rule, same_tree}
 

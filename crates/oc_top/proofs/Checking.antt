@@ -21,13 +21,13 @@ use Rattle.oc_regcheck.specs.declared.verdict.BlockVerdict.{BlockVerdict}
 use Rattle.oc_regcheck.specs.declared.verdict.BlockVerdict.TheVariants.{Covered, Open}
 use Rattle.oc_top.specs.Sources.{Reading, ReadsIn, faulty, breaks, program}
 use Rattle.oc_top.specs.Steps.{IsNotRead}
-use Rattle.oc_top.specs.Verdict.{Verdict, is_refusal, refuses}
-use Rattle.oc_top.specs.Gaps.{gap_of}
+use Rattle.oc_report.specs.Runs.{Verdict, is_refusal, refuses}
+use Rattle.oc_command.specs.Gaps.{gap_of}
 use Rattle.oc_top.specs.Checked.{AcceptsBlocks, AreEnough, AreJudged, IsCheck, IsEnough, IsSafe, IsSaid, no_program, broken_rule, judged}
 use Rattle.oc_top.specs.Judged.{IsCheckedOf, IsNotSafe, IsOpenFor}
 use Rattle.oc_top.proofs.OneReading.{one_reading_in, same_line, same_rule, same_tree}
-use Rattle.oc_top.specs.declared.answer.Answer.{Answer}
-use Rattle.oc_top.specs.declared.answer.Answer.TheVariants as answer
+use Rattle.oc_command.specs.declared.answer.Answer.{Answer}
+use Rattle.oc_command.specs.declared.answer.Answer.TheVariants as answer
 
 -- ---- the steps
 

@@ -7,15 +7,19 @@ use Rattle.oc_io.specs.declared.period.Period.{Period}
 use Rattle.oc_sensors.specs.History.{Told}
 use Rattle.oc_machine.specs.Kept.{Running}
 use Rattle.oc_drill.specs.Drill.{drill_line}
-use Rattle.oc_top.specs.Answers.{IsWritten, TookNothing, Writes, whole, in_part, status_of, drill_files, Call, Comes}
-use Rattle.oc_top.specs.Commands.{Plan, drill}
+use Rattle.oc_command.specs.Sinks.{TookNothing, Writes}
+use Rattle.oc_command.specs.Statuses.{status_of}
+use Rattle.oc_report.specs.Written.{IsWritten, whole, in_part}
+use Rattle.oc_top.specs.Answers.{drill_files, Call, Comes}
+use Rattle.oc_command.specs.Commands.{Plan, drill}
 use Rattle.oc_top.specs.Drills.{IsAnswered, without_memory, turned_down, was_run, IsMeasured, IsDrilled, IsDrilledWith, no_room, told}
-use Rattle.oc_top.specs.Files.{AreFiles, Files}
+use Rattle.oc_command.specs.Files.{AreFiles, Files}
 use Rattle.oc_top.specs.Sources.{Reading, ReadsAs, program}
 use Rattle.oc_top.specs.Steps.{IsReady, IsTurnedDown, by_memory, by_files}
-use Rattle.oc_top.specs.Verdict.{Verdict, verdict, runs, prints}
-use Rattle.oc_top.specs.declared.answer.Answer.{Answer}
-use Rattle.oc_top.specs.declared.answer.Answer.TheVariants as answer
+use Rattle.oc_report.specs.Runs.{Verdict, runs, prints}
+use Rattle.oc_top.specs.Verdict.{verdict}
+use Rattle.oc_command.specs.declared.answer.Answer.{Answer}
+use Rattle.oc_command.specs.declared.answer.Answer.TheVariants as answer
 use Rattle.oc_top.proofs.Asking.{ready_run, comes_none, no_memory, was_done}
 use Rattle.oc_top.proofs.Exactly.{run_verdict}
 

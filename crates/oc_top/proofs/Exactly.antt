@@ -16,20 +16,22 @@ use Rattle.oc_isa.specs.declared.phase.Phase.{Phase}
 use Rattle.oc_isa.specs.declared.phase.Phase.TheVariants.{Over, Lost}
 use Rattle.oc_isa.specs.Table.{device_of}
 use Rattle.oc_top.specs.Meant.{program_code}
-use Rattle.oc_top.specs.Commands.{Plan, report, drill, regions, listing, imaging, checking, auditing, executing, limits_of, Task, word_at}
-use Rattle.oc_top.specs.Files.{Files, run_files, file_at, limit_at, IsFile, AreFiles, WereFetched, IsHeld, AreHeld, AreHeldBefore}
+use Rattle.oc_command.specs.Commands.{Plan, report, drill, regions, listing, imaging, checking, auditing, executing, limits_of, Task, word_at}
+use Rattle.oc_command.specs.Files.{Files, run_files, file_at, limit_at, IsFile, AreFiles, WereFetched, IsHeld, AreHeld, AreHeldBefore}
 use Rattle.oc_top.specs.Sources.{Reading, program}
 use Rattle.oc_top.proofs.OneReading.{one_reading}
 use Rattle.oc_top.proofs.Auditing.{one_audit, vouched_audit}
 use Rattle.oc_top.proofs.Checking.{one_check, safe_check}
-use Rattle.oc_top.proofs.Executing.{executed_judged, one_execution}
-use Rattle.oc_top.specs.Reports.{answer_of}
-use Rattle.oc_top.specs.Verdict.{Verdict, verdict, printed, is_of_run, is_refusal, refuses, with_sensors}
+use Rattle.oc_report.proofs.Executing.{executed_judged, one_execution}
+use Rattle.oc_report.specs.Reports.{answer_of}
+use Rattle.oc_report.specs.Runs.{Verdict, is_of_run, is_refusal, refuses, with_sensors}
+use Rattle.oc_top.specs.Verdict.{verdict, printed}
 use Rattle.oc_top.specs.Headline.{IsRun}
-use Rattle.oc_top.specs.Answers.{status_of, is_written, IsVerdict, IsJudged, IsPrint, IsDone, IsDoneWhole, Call, IsNoTask, IsUnfetched, HasFiles, AreRefused, WasDone}
-use Rattle.oc_top.specs.Answers.{IsWhole, IsPart, HadNoMemory, TookNothing, Comes}
-use Rattle.oc_top.specs.declared.answer.Answer.{Answer}
-use Rattle.oc_top.specs.declared.answer.Answer.TheVariants as answer
+use Rattle.oc_command.specs.Statuses.{status_of, is_written}
+use Rattle.oc_top.specs.Answers.{IsVerdict, IsJudged, IsPrint, IsDone, IsDoneWhole, Call, IsNoTask, IsUnfetched, HasFiles, AreRefused, WasDone, IsWhole, IsPart, HadNoMemory, Comes}
+use Rattle.oc_command.specs.Sinks.{TookNothing}
+use Rattle.oc_command.specs.declared.answer.Answer.{Answer}
+use Rattle.oc_command.specs.declared.answer.Answer.TheVariants as answer
 
 -- ---- the answer to a run
 

@@ -29,7 +29,7 @@ use Rattle.oc_honest.specs.Timely.{RunsAreTimely}
 use Rattle.oc_honest.proofs.Shorts.{ended_not_short}
 use Rattle.oc_top.specs.Meant.{RunsAs, program_marked, program_said, plain_run, plain_said}
 use Rattle.oc_top.specs.Headline.{reported, IsWholeRun, IsHonestThroughout}
-use Rattle.oc_top.proofs.Stopping.{over_is}
+use Rattle.oc_report.proofs.Stopping.{over_is}
 use Rattle.oc_top.proofs.Unmarking.{plain_is, same_words, prefix_unmarked}
 
 later_left : (a b : ℕ) → a ≤ max a b

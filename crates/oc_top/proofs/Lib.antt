@@ -1,15 +1,8 @@
-pub mod Taking
-pub mod Fetching
-pub mod Readings
 pub mod Unmarking
 pub mod Honesty
 pub mod Building
 pub mod Preparing
-pub mod Variables
-pub mod Writing
-pub mod Stopping
 pub mod Asking
-pub mod Commanding
 pub mod Parsing
 pub mod OneReading
 pub mod Exactly
@@ -17,8 +10,6 @@ pub mod Working
 pub mod Drilling
 pub mod Metering
 pub mod StandardPlans
-pub mod Naming
-pub mod Showing
 pub mod Printing
 pub mod Accepted
 pub mod ShortNames
@@ -26,7 +17,6 @@ pub mod FewTargets
 pub mod Imaging
 pub mod Auditing
 pub mod Checking
-pub mod Executing
 pub mod Admitting
 pub mod Lengths
 pub mod Vouching

@@ -4,13 +4,15 @@ use Rattle.oc_tree.specs.Marked.{TMarked}
 use Rattle.oc_isa.specs.Image.{Parts}
 use Rattle.oc_budget.specs.Budgets.{limited_budgets}
 use Rattle.oc_top.specs.Meant.{program_code}
-use Rattle.oc_top.specs.RegionLines.{regions_text}
-use Rattle.oc_top.specs.Verdict.{prints, regions_of}
+use Rattle.oc_report.specs.RegionLines.{regions_text}
+use Rattle.oc_report.specs.Runs.{prints}
+use Rattle.oc_top.specs.Verdict.{regions_of}
 use Rattle.oc_top.specs.Steps.{IsBuilt}
-use Rattle.oc_top.specs.Answers.{Writes, IsWritten}
+use Rattle.oc_command.specs.Sinks.{Writes}
+use Rattle.oc_report.specs.Written.{IsWritten}
 use Rattle.oc_top.specs.Printed.{Tells, IsPrinted, put}
 use Rattle.oc_top.specs.declared.print.Told.{Told}
-use Rattle.oc_top.specs.declared.answer.Answer.{Answer}
+use Rattle.oc_command.specs.declared.answer.Answer.{Answer}
 
 module _ (sink : Writes) (end : Answer) (source : List ℕ) where
   pub regions_printed : (t : Told) → Tells source t → IsWritten sink (prints (regions_text t.marked (limited_budgets t.marked))) end → IsPrinted source regions_of sink end

@@ -4,7 +4,7 @@ use Rattle.std.specs.Prelude.{◌==◌, option_map, if◌then◌else◌}
 use Rattle.oc_power.specs.Cutting.{cut_rows}
 use Rattle.oc_power.specs.Looping.{looped}
 use Rattle.oc_meters.specs.Tally.{Reading, reading, readings}
-use Rattle.oc_top.specs.Commands.{Command, Drill, Exec, Plan, Plans, Run, plans_of, task_of, report, drill, executing}
+use Rattle.oc_command.specs.Commands.{Command, Drill, Exec, Plan, Plans, Run, plans_of, task_of, report, drill, executing}
 use Rattle.oc_top.specs.Supplies.{piece_limit, round_limit, standard_meters, standard_plans}
 
 -- plans that give the same for each number give the same task

@@ -12,7 +12,7 @@ use Rattle.oc_audit.specs.declared.audit.Finding.TheVariants as finding
 use Rattle.oc_top.specs.Meant.{program_code, program_marked}
 use Rattle.oc_top.specs.Audited.{IsFound}
 use Rattle.oc_top.specs.Headline.{program_power}
-use Rattle.oc_top.specs.Verdict.{Verdict}
+use Rattle.oc_report.specs.Runs.{Verdict}
 use Rattle.oc_top.specs.Vouched.{RunsAreFoundHonest}
 use Rattle.oc_top.proofs.Accepted.{marked_there}
 use Rattle.oc_top.proofs.Auditing.{one_found}

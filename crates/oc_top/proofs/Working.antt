@@ -15,16 +15,19 @@ use Rattle.oc_isa.specs.declared.phase.Phase.TheVariants.{Over}
 use Rattle.oc_bounds.specs.Headway.{Suffice}
 use Rattle.oc_top.specs.Meant.{program_code, program_bounds}
 use Rattle.oc_meters.specs.Tally.{Reading}
-use Rattle.oc_top.specs.Commands.{Plan, report, limits_of, Task}
-use Rattle.oc_top.specs.Files.{Files, AreFiles, AreHeld, run_files}
+use Rattle.oc_command.specs.Commands.{Plan, report, limits_of, Task}
+use Rattle.oc_command.specs.Files.{Files, AreFiles, AreHeld, run_files}
 use Rattle.oc_top.specs.Sources.{program, ReadsAs}
-use Rattle.oc_top.specs.Reports.{answer_of}
-use Rattle.oc_top.specs.Verdict.{Verdict, verdict, is_of_run, with_sensors}
+use Rattle.oc_report.specs.Reports.{answer_of}
+use Rattle.oc_report.specs.Runs.{Verdict, is_of_run, with_sensors}
+use Rattle.oc_top.specs.Verdict.{verdict}
 use Rattle.oc_top.specs.Headline.{IsRun}
-use Rattle.oc_top.specs.Answers.{status_of, is_written, line_of, IsJudged, IsDone, Writes, TookAll, TookFront, Call, HasFiles, Comes}
+use Rattle.oc_command.specs.Sinks.{Writes, TookAll, TookFront}
+use Rattle.oc_command.specs.Statuses.{status_of, is_written, line_of}
+use Rattle.oc_top.specs.Answers.{IsJudged, IsDone, Call, HasFiles, Comes}
 use Rattle.oc_top.specs.Works.{Works}
-use Rattle.oc_top.specs.declared.answer.Answer.{Answer}
-use Rattle.oc_top.specs.declared.answer.Answer.TheVariants as answer
+use Rattle.oc_command.specs.declared.answer.Answer.{Answer}
+use Rattle.oc_command.specs.declared.answer.Answer.TheVariants as answer
 use Rattle.oc_top.proofs.OneReading.{one_reading, same_tree}
 use Rattle.oc_top.proofs.Exactly.{of_run, same_files, the_task, exactly, missing, long, no_task, usage, quiet, whole_done}
 

@@ -1,82 +1,24 @@
 -- What is answered, and why.
-use Rattle.std.specs.Prelude.{ℕ, suc, ◌<◌, ◌≤◌, ◌≡◌, ◌⊎◌, ◌==◌, ◌||◌, ◌++◌, Bool, List, [], length, codes, decimal, Option, Some, None}
-use Rattle.oc_io.specs.Faults.{Rose}
+use Rattle.std.specs.Prelude.{ℕ, suc, ◌<◌, ◌≤◌, ◌≡◌, ◌⊎◌, List, [], length, Option, Some, None}
 use Rattle.oc_io.specs.Held.{Held, nothing, Longer}
 use Rattle.oc_meters.specs.Tally.{Reading as Meter}
-use Rattle.oc_meters.specs.ReadBack.{tell_items}
-use Rattle.oc_meters.specs.Lines.{meter_lines}
-use Rattle.oc_items.specs.declared.item.Item.{Item}
 use Rattle.oc_tree.specs.Tree.{TProgram}
 use Rattle.oc_io.specs.Counts.{capped, line_feeds}
 use Rattle.oc_drill.specs.Drill.{drill_source, drill_sensors, drill_power, drill_line}
-use Rattle.oc_top.specs.Commands.{Command, Plan, Plans, Task, report, drill, regions, listing, imaging, checking, auditing, executing, limits_of, meters_of, words_if_any, task_of, word_at}
-use Rattle.oc_top.specs.Files.{Files, Fetches, AreFiles, WereFetched, file_at, limit_at, names_of, run_files}
+use Rattle.oc_command.specs.Commands.{Command, Plan, Plans, Task, report, drill, regions, listing, imaging, checking, auditing, executing, limits_of, meters_of, words_if_any, task_of, word_at}
+use Rattle.oc_command.specs.Files.{Files, Fetches, AreFiles, WereFetched, file_at, limit_at, names_of, run_files}
+use Rattle.oc_command.specs.Statuses.{status_of}
+use Rattle.oc_command.specs.Sinks.{Writes, TookNothing, TookAll, TookFront}
+use Rattle.oc_command.specs.Meters.{HasTold}
 use Rattle.oc_top.specs.Sources.{Reading, ReadsAs, program}
-use Rattle.oc_top.specs.Verdict.{Verdict, verdict, refuses, prints, printed, regions_of, listing_of, image_of}
+use Rattle.oc_report.specs.Runs.{Verdict, refuses, prints}
+use Rattle.oc_top.specs.Verdict.{verdict, printed, regions_of, listing_of, image_of}
 use Rattle.oc_top.specs.Headline.{IsReportedRun, IsRun}
-use Rattle.oc_top.specs.Gaps.{gap_line}
 use Rattle.oc_top.specs.Checked.{IsCheck, IsSafe}
 use Rattle.oc_top.specs.Audited.{IsAudit, IsVouched}
-use Rattle.oc_top.specs.Images.{IsExecuted, IsExecution}
-use Rattle.oc_top.specs.declared.answer.Answer.{Answer}
-use Rattle.oc_top.specs.declared.answer.Answer.TheVariants as answer
-
--- the status of an answer
-abbrev pub status_of : Answer → ℕ
-status_of answer.Usage = 1
-status_of (answer.Unreadable file) = 2
-status_of (answer.TooLong file) = 3
-status_of (answer.Syntax line) = 4
-status_of (answer.Rule line rule) = 5
-status_of (answer.BadSensors row) = 6
-status_of (answer.BadPower row) = 7
-status_of answer.WriteFault = 10
-status_of answer.End = 0
-status_of answer.Trapped = 8
-status_of answer.Dark = 9
-status_of answer.Memory = 11
-status_of answer.Cut = 12
-status_of (answer.Dishonest item) = 14
-status_of (answer.BadReport line) = 15
-status_of (answer.BadImage at) = 16
-status_of answer.Refused = 17
-status_of (answer.Uncovered gap) = 18
-
--- with these statuses a text was written, or a part of it
-abbrev pub is_written : ℕ → Bool
-is_written status =
-    (status == 0) || (status == 8) || (status == 9) || (status == 10) || (status == 12)
-
--- the line of an answer on the standard error, or none, where these are the words of the command's files
-abbrev pub line_of : List (List ℕ) → Answer → List ℕ
-line_of words answer.Usage = codes "ocelot: not a command\n"
-line_of words (answer.Unreadable file) =
-    codes "ocelot: cannot read " ++ (word_at words file ++ codes "\n")
-line_of words (answer.TooLong file) =
-    codes "ocelot: too long " ++ (word_at words file ++ codes "\n")
-line_of words (answer.Syntax line) =
-    codes "ocelot: syntax error in line " ++ (decimal line ++ codes "\n")
-line_of words (answer.Rule line rule) =
-    codes "ocelot: rule "
-    ++ (decimal rule ++ (codes " broken in line " ++ (decimal line ++ codes "\n")))
-line_of words (answer.BadSensors row) =
-    codes "ocelot: bad row " ++ (decimal row ++ codes " in sensors\n")
-line_of words (answer.BadPower row) =
-    codes "ocelot: bad row " ++ (decimal row ++ codes " in power\n")
-line_of words answer.WriteFault = codes "ocelot: cannot write\n"
-line_of words answer.End = []
-line_of words answer.Trapped = []
-line_of words answer.Dark = []
-line_of words answer.Memory = codes "ocelot: out of memory\n"
-line_of words answer.Cut = codes "ocelot: checkpoint lost\n"
-line_of words (answer.Dishonest item) =
-    codes "ocelot: report breaks at item " ++ (decimal item ++ codes "\n")
-line_of words (answer.BadReport line) =
-    codes "ocelot: bad report line " ++ (decimal line ++ codes "\n")
-line_of words (answer.BadImage at) =
-    codes "ocelot: bad image at byte " ++ (decimal at ++ codes "\n")
-line_of words answer.Refused = codes "ocelot: image refused\n"
-line_of words (answer.Uncovered gap) = gap_line gap
+use Rattle.oc_report.specs.Images.{IsExecuted, IsExecution}
+use Rattle.oc_command.specs.declared.answer.Answer.{Answer}
+use Rattle.oc_command.specs.declared.answer.Answer.TheVariants as answer
 
 -- this is the verdict on a source, by how it reads
 pub record IsVerdict (source : List ℕ) (on : Reading → Verdict) (run : Verdict) : Type 0 where
@@ -136,63 +78,6 @@ IsDoneWhole files (report plan meters) run = IsReportedRun (run_files files) pla
 IsDoneWhole files task run = IsDone files task run
 
 -- ---- what is written
-
--- what a sink did in a call
-pub record Writes : Type 1 where
-  -- which bytes it took
-  pub took : List ℕ → Type 0
-  -- those that it still holds back
-  pub held : List ℕ
-  -- its count of faults rose
-  pub rose : Type 0
-  -- its count of faults stayed
-  pub calm : Type 0
-
--- what a sink did from one state to another
-abbrev pub writes : {S : Type 0}
-    → (S → List ℕ → S → Type 0) → (S → List ℕ) → (S → ℕ) → S → S → Writes
-writes took held faults old new = record {
-  took = λ text. took old text new;
-  held = held new;
-  rose = Rose (faults old) (faults new);
-  calm = faults new ≡ faults old;
-}
-
--- the sink took nothing, and no fault was counted
-pub record TookNothing (sink : Writes) : Type 0 where
-  pub untaken : sink.took []
-  pub calm : sink.calm
-
--- the sink took all of a text with no fault, and holds nothing back
-pub record TookAll (sink : Writes) (text : List ℕ) : Type 0 where
-  pub taken : sink.took text
-  pub written : sink.held ≡ []
-  pub calm : sink.calm
-
--- the sink's faults rose, and it took a front part of the text
-pub record TookFront (sink : Writes) (text : List ℕ) : Type 0 where
-  pub rose : sink.rose
-  pub front : List ℕ
-  pub back : List ℕ
-  pub split : text ≡ front ++ back
-  pub taken : sink.took front
-
--- all of a run's text was written, and this is its answer; or a part was
-pub data IsWritten (sink : Writes) (run : Verdict) (end : Answer) : Type 0 where
-  whole : end ≡ run.answer → TookAll sink run.text → IsWritten sink run end
-  in_part : end ≡ answer.WriteFault → TookFront sink run.text → IsWritten sink run end
-
--- ---- what meters tell
-
--- these are the lines of meters that began so and were told these items, one after the other; or no lines are wanted
-abbrev pub HasTold : List Item → Option (List Meter) → List ℕ → Type 0
-HasTold items None told = told ≡ []
-HasTold items (Some meters) told = told ≡ meter_lines (tell_items items meters)
-
--- the lines that stand behind that of the answer, if any
-abbrev pub told_by : Option (List Meter) → List ℕ
-told_by None = []
-told_by (Some meters) = meter_lines meters
 
 -- ---- calls
 

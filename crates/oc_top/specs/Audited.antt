@@ -7,8 +7,8 @@ use Rattle.oc_audit.specs.declared.audit.Finding.{Finding}
 use Rattle.oc_audit.specs.declared.audit.Finding.TheVariants as finding
 use Rattle.oc_top.specs.Meant.{program_marked}
 use Rattle.oc_top.specs.Sources.{ReadsAs, faulty, breaks, program}
-use Rattle.oc_top.specs.Verdict.{Verdict, prints, refuses}
-use Rattle.oc_top.specs.declared.answer.Answer.TheVariants as answer
+use Rattle.oc_report.specs.Runs.{Verdict, prints, refuses}
+use Rattle.oc_command.specs.declared.answer.Answer.TheVariants as answer
 
 -- An audit of a report finds this for the program that the source spells, with its regions: the
 -- first line with which it stops being a report of this program, or the item at which it stops

@@ -3,12 +3,14 @@ use Rattle.std.specs.Prelude.{ℕ, ◌≡◌, ◌≤◌, ◌⊎◌, ◌↔◌, L
 use Rattle.oc_lex.specs.Limits.{source_limit}
 use Rattle.oc_meters.specs.Tally.{Reading}
 use Rattle.oc_tree.specs.Tree.{TProgram}
-use Rattle.oc_top.specs.Answers.{IsJudged, status_of}
-use Rattle.oc_top.specs.Commands.{Plan, executing, imaging, report}
-use Rattle.oc_top.specs.Images.{IsAdmitted}
+use Rattle.oc_command.specs.Statuses.{status_of}
+use Rattle.oc_top.specs.Answers.{IsJudged}
+use Rattle.oc_command.specs.Commands.{Plan, executing, imaging, report}
+use Rattle.oc_report.specs.Images.{IsAdmitted}
 use Rattle.oc_top.specs.Meant.{program_code}
 use Rattle.oc_top.specs.Sources.{ReadsAs, program}
-use Rattle.oc_top.specs.Verdict.{Verdict, image_of, prints}
+use Rattle.oc_report.specs.Runs.{Verdict, prints}
+use Rattle.oc_top.specs.Verdict.{image_of}
 
 -- the bytes of the image of each program that a source of at
 -- most 1 MiB spells are those of an image that breaks no rule

@@ -19,9 +19,9 @@ use Rattle.oc_regcheck.specs.Enough.{AreCovered, IsVerdict, TellsCovered}
 use Rattle.oc_regcheck.specs.declared.verdict.BlockVerdict.{BlockVerdict}
 use Rattle.oc_regcheck.specs.declared.verdict.BlockVerdict.TheVariants.{Covered, Open}
 use Rattle.oc_top.specs.Sources.{ReadsIn, faulty, breaks}
-use Rattle.oc_top.specs.Gaps.{gap_of}
-use Rattle.oc_top.specs.Verdict.{Verdict, prints, refuses}
-use Rattle.oc_top.specs.declared.answer.Answer.TheVariants as answer
+use Rattle.oc_command.specs.Gaps.{gap_of}
+use Rattle.oc_report.specs.Runs.{Verdict, prints, refuses}
+use Rattle.oc_command.specs.declared.answer.Answer.TheVariants as answer
 
 -- the tokens of the source spell this program in the grammar with `atomic`, which begins the statements that have these
 -- numbers in the expansion

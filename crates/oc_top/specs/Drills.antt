@@ -1,13 +1,17 @@
 -- A drill: a run of files that are made in memory.
 use Rattle.std.specs.Prelude.{ℕ, ◌≡◌, Option, Some, None, length}
 use Rattle.oc_io.specs.Counts.{capped, line_feeds}
-use Rattle.oc_top.specs.Answers.{IsDrill, IsWritten, TookNothing, Writes, status_of}
-use Rattle.oc_top.specs.Commands.{Plan}
-use Rattle.oc_top.specs.Files.{Files}
+use Rattle.oc_command.specs.Sinks.{TookNothing, Writes}
+use Rattle.oc_command.specs.Statuses.{status_of}
+use Rattle.oc_report.specs.Written.{IsWritten}
+use Rattle.oc_top.specs.Answers.{IsDrill}
+use Rattle.oc_command.specs.Commands.{Plan}
+use Rattle.oc_command.specs.Files.{Files}
 use Rattle.oc_top.specs.Sources.{Reading, ReadsAs}
-use Rattle.oc_top.specs.Verdict.{Verdict, verdict, refuses}
-use Rattle.oc_top.specs.declared.answer.Answer.{Answer}
-use Rattle.oc_top.specs.declared.answer.Answer.TheVariants as answer
+use Rattle.oc_report.specs.Runs.{Verdict, refuses}
+use Rattle.oc_top.specs.Verdict.{verdict}
+use Rattle.oc_command.specs.declared.answer.Answer.{Answer}
+use Rattle.oc_command.specs.declared.answer.Answer.TheVariants as answer
 
 -- how the answer to files that needn't be fetched comes: there was no memory, they are refused, or they were run
 pub data IsAnswered (files : Files) (plan : Plan) (sink : Writes) (end : Answer) : Type 0 where

@@ -25,10 +25,10 @@ use Rattle.oc_outage.specs.Kept.{CountIsKept}
 use Rattle.oc_bounds.specs.Attempts.{AttemptsClose}
 use Rattle.oc_bounds.specs.Headway.{PeriodsKeep, RunEnds, Suffice}
 use Rattle.oc_top.specs.Meant.{program_marked, program_code, program_bounds, program_run, plain_run, plain_said}
-use Rattle.oc_top.specs.Commands.{Plan}
-use Rattle.oc_top.specs.Files.{Files}
+use Rattle.oc_command.specs.Commands.{Plan}
+use Rattle.oc_command.specs.Files.{Files}
 use Rattle.oc_top.specs.Sources.{ReadsAs, program}
-use Rattle.oc_top.specs.Verdict.{RunFits, Verdict, runs}
+use Rattle.oc_report.specs.Runs.{RunFits, Verdict, runs}
 
 -- what a run reports: its items and, where it is over, its nonvolatile words
 abbrev pub reported : List Told → List ℤ → TReport

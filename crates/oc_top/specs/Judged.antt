@@ -3,15 +3,16 @@ use Rattle.std.specs.Prelude.{ℕ, ◌≡◌, ◌⊎◌, List, codes}
 use Rattle.oc_tree.specs.Tree.{TProgram}
 use Rattle.oc_tree.specs.Checked.{TChecked}
 use Rattle.oc_regcheck.specs.declared.verdict.BlockVerdict.{BlockVerdict}
-use Rattle.oc_top.specs.Verdict.{prints, refuses}
+use Rattle.oc_report.specs.Runs.{prints, refuses}
 use Rattle.oc_audit.specs.declared.audit.Finding.{Finding}
 use Rattle.oc_audit.specs.declared.audit.Finding.TheVariants.{Honest}
 use Rattle.oc_top.specs.Checked.{AcceptsBlocks, AreEnough, AreJudged, IsCheck, IsSaid, checked_of}
 use Rattle.oc_top.specs.Audited.{IsFound, said_of}
 use Rattle.oc_top.specs.Steps.{IsNotBuilt}
-use Rattle.oc_top.specs.Answers.{Writes, IsWritten, TookNothing}
-use Rattle.oc_top.specs.declared.answer.Answer.{Answer}
-use Rattle.oc_top.specs.declared.answer.Answer.TheVariants as answer
+use Rattle.oc_command.specs.Sinks.{Writes, TookNothing}
+use Rattle.oc_report.specs.Written.{IsWritten}
+use Rattle.oc_command.specs.declared.answer.Answer.{Answer}
+use Rattle.oc_command.specs.declared.answer.Answer.TheVariants as answer
 
 -- this checked program is the expansion of the one that the source spells, in which `atomic` begins these statements
 pub record IsCheckedOf (source : List ℕ) (c : TChecked) (blocks : List ℕ) : Type 0 where

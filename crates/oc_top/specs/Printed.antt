@@ -4,12 +4,13 @@ use Rattle.oc_tree.specs.Tree.{TProgram}
 use Rattle.oc_budget.specs.Budgets.{limited_budgets}
 use Rattle.oc_budget.specs.View.{budgets_view}
 use Rattle.oc_top.specs.Sources.{ReadsAs, program}
-use Rattle.oc_top.specs.Verdict.{prints}
+use Rattle.oc_report.specs.Runs.{prints}
 use Rattle.oc_top.specs.Steps.{IsMarkedOf, IsNotBuilt}
-use Rattle.oc_top.specs.RegionDetails.{HasDetails}
-use Rattle.oc_top.specs.Answers.{Writes, IsWritten, TookNothing}
+use Rattle.oc_report.specs.RegionDetails.{HasDetails}
+use Rattle.oc_command.specs.Sinks.{Writes, TookNothing}
+use Rattle.oc_report.specs.Written.{IsWritten}
 use Rattle.oc_top.specs.declared.print.Told.{Told}
-use Rattle.oc_top.specs.declared.answer.Answer.{Answer}
+use Rattle.oc_command.specs.declared.answer.Answer.{Answer}
 
 -- the regions of the program that a source spells, with all that is written of them
 pub record Tells (source : List ℕ) (t : Told) : Type 0 where

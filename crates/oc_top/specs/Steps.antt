@@ -1,20 +1,10 @@
 -- The steps before the first byte is written.
-use Rattle.std.specs.Prelude.{ℕ, ◌<◌, ◌^◌, ◌≡◌, ◌⊎◌, Bool, true, false, List, length, None}
+use Rattle.std.specs.Prelude.{ℕ, ◌≡◌, Bool, true, false, List, None}
 use Rattle.oc_io.specs.declared.period.Period.{Period}
-use Rattle.oc_power.specs.Power.{power_file}
-use Rattle.oc_power.specs.Power as power_rows
-use Rattle.oc_power.specs.Total.{total}
-use Rattle.oc_power.specs.declared.power.PowerError.{PowerError}
-use Rattle.oc_power.specs.declared.power.PowerError.TheVariants as power_error
-use Rattle.oc_sensors.specs.File.{sensor_file}
-use Rattle.oc_sensors.specs.File as sensor_rows
-use Rattle.oc_sensors.specs.History.{Told, history}
+use Rattle.oc_sensors.specs.History.{Told}
 use Rattle.oc_tree.specs.Tree.{TProgram}
 use Rattle.oc_tree.specs.Broken.{broken}
 use Rattle.oc_tree.specs.Marked.{TMarked}
-use Rattle.oc_tree.specs.Word.{is_word}
-use Rattle.oc_sensors.specs.declared.file.SensorError.{SensorError}
-use Rattle.oc_sensors.specs.declared.file.SensorError.TheVariants as sensor_error
 use Rattle.oc_lex.specs.declared.lexer.LexError.{LexError}
 use Rattle.oc_lex.specs.declared.lexer.LexError.TheVariants as lex_error
 use Rattle.oc_grammar.specs.Lexemes.{Lexemes}
@@ -23,20 +13,21 @@ use Rattle.oc_parse.specs.declared.program.ParseError.TheVariants as parse_error
 use Rattle.oc_types.specs.declared.rules.RuleError.{RuleError}
 use Rattle.oc_types.specs.declared.rules.RuleError.TheVariants as rule_error
 use Rattle.oc_isa.specs.Image.{Parts}
-use Rattle.oc_isa.specs.Power.{first_state}
 use Rattle.oc_isa.specs.Run.{IsSound}
 use Rattle.oc_isa.specs.Table.{device_of}
 use Rattle.oc_honest.specs.Timely.{RunsAreTimely}
 use Rattle.oc_machine.specs.Kept.{Running}
 use Rattle.oc_bounds.specs.Bounds.{IsBounded}
+use Rattle.oc_report.specs.Ready.{IsReadyFor}
 use Rattle.oc_top.specs.Meant.{program_marked, program_code, RunsAs, program_bounds}
-use Rattle.oc_top.specs.Commands.{Plan}
-use Rattle.oc_top.specs.Files.{Files}
+use Rattle.oc_command.specs.Commands.{Plan}
+use Rattle.oc_command.specs.Files.{Files}
 use Rattle.oc_top.specs.Faults.{token_line}
 use Rattle.oc_top.specs.Sources.{Reading, ReadsAs, ReadsIn, Spells, faulty, breaks, program, line_at}
-use Rattle.oc_top.specs.Verdict.{verdict, is_refusal, refuses, with_parts}
-use Rattle.oc_top.specs.declared.answer.Answer.{Answer}
-use Rattle.oc_top.specs.declared.answer.Answer.TheVariants as answer
+use Rattle.oc_report.specs.Runs.{is_refusal, refuses}
+use Rattle.oc_top.specs.Verdict.{verdict}
+use Rattle.oc_command.specs.declared.answer.Answer.{Answer}
+use Rattle.oc_command.specs.declared.answer.Answer.TheVariants as answer
 
 -- the answer to a source that isn't tokens, and to tokens that spell no program
 abbrev pub for_tokens : List ℕ → LexError → Answer
@@ -53,15 +44,6 @@ for_tree tokens parse_error.Memory = answer.Memory
 abbrev pub for_rules : RuleError → Answer
 for_rules (rule_error.Rule line rule) = answer.Rule line rule
 for_rules rule_error.Memory = answer.Memory
-
--- the answer to a sensor file that wasn't read, and to such a power file
-abbrev pub for_sensors : SensorError → Answer
-for_sensors (sensor_error.Row row what) = answer.BadSensors row
-for_sensors sensor_error.Memory = answer.Memory
-
-abbrev pub for_power : PowerError → Answer
-for_power (power_error.Row row what) = answer.BadPower row
-for_power power_error.Memory = answer.Memory
 
 -- the program that a source spells, where it breaks no rule
 pub record IsAccepted (source : List ℕ) (p : TProgram) : Type 0 where
@@ -97,37 +79,10 @@ IsNotRead atomic source end = ⊥
 abbrev pub IsNotBuilt : List ℕ → Answer → Type 0
 IsNotBuilt source end = IsNotRead false source end
 
--- a newly loaded machine with a sound image, its sensors, not read yet, which show words, and periods whose times are
--- below 2^63 in all
-pub record CanRun (machine : Running) (sensors : Told) (left : List Period) : Type 0 where
-  pub loaded : machine.state ≡ first_state (device_of machine.parts)
-  pub sound : IsSound (device_of machine.parts)
-  pub counted : sensors.sensors ≡ length machine.parts.names.sensors
-  pub unread : sensors.now ≡ 0
-  pub words : (sensor tick : ℕ) → is_word (history sensors.rows sensor tick) ≡ true
-  pub sum : total left < 2 ^ 63
-
--- such a machine with an image that is this one, where the sensors show the rows of the sensor file, and the periods
--- are those that the supply tells of the rows of the power file
-pub record IsReadyFor (IsIt : Parts → Type 0) (files : Files)
-    (plan : Plan) (machine : Running) (sensors : Told) (left : List Period) : Type 0 where
-  pub can_run : CanRun machine sensors left
-  pub built : IsIt machine.parts
-  pub sensed : sensor_file machine.parts.names.sensors files.sensors
-      ≡ sensor_rows.readings sensors.rows
-  pub periods : List Period
-  pub powered : power_file files.power ≡ power_rows.periods periods
-  pub planned : left ≡ plan periods
-
 -- the same with the source's image
 abbrev pub IsReady : Files → Plan → Running → Told → List Period → Type 0
 IsReady files plan machine sensors left =
     IsReadyFor (IsBuilt files.source) files plan machine sensors left
-
--- the files of an image's run are refused with this answer, or there was no memory
-abbrev pub IsNotReady : Parts → Files → Plan → Answer → Type 0
-IsNotReady parts files plan end =
-    (end ≡ answer.Memory) ⊎ ((is_refusal end ≡ true) × (with_parts parts files plan ≡ refuses end))
 
 -- the files are refused with this answer, or there was no memory
 pub data IsTurnedDown (files : Files) (plan : Plan) (end : Answer) : Type 0 where

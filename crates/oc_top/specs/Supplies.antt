@@ -3,7 +3,7 @@ use Rattle.std.specs.Prelude.{ℕ, zero, suc, List, [], ◌∷◌, Some, None}
 use Rattle.oc_power.specs.Looping.{looped}
 use Rattle.oc_power.specs.Cutting.{cut_rows}
 use Rattle.oc_meters.specs.Tally.{Reading}
-use Rattle.oc_top.specs.Commands.{Plans}
+use Rattle.oc_command.specs.Commands.{Plans}
 
 -- the rounds of the second supply
 abbrev pub round_limit : ℕ

@@ -10,10 +10,10 @@ use Rattle.oc_isa.specs.Worked.{fresh_image}
 use Rattle.oc_flow.specs.Flow.{flows_to, brings_to}
 use Rattle.oc_items.specs.Text.{report_text}
 use Rattle.oc_items.specs.declared.item.Item.TheVariants as item
-use Rattle.oc_top.specs.RegionLines.{region_line, total_lines}
+use Rattle.oc_report.specs.RegionLines.{region_line, total_lines}
 use Rattle.oc_top.specs.Meant.{program_marked, program_code}
 use Rattle.oc_top.specs.Verdict.{regions_of, listing_of}
-use Rattle.oc_top.specs.Reports.{text_of}
+use Rattle.oc_report.specs.Reports.{text_of}
 
 pub program_marked_example : program_marked fresh_input ≡ fresh_marked
 unfolding flows_to brings_to

@@ -3,10 +3,10 @@ use Rattle.std.specs.Prelude.{ℕ, ◌≡◌, List}
 use Rattle.oc_audit.specs.declared.audit.Finding.{Finding}
 use Rattle.oc_audit.specs.declared.audit.Finding.TheVariants as finding
 use Rattle.oc_top.specs.Audited.{IsFound}
-use Rattle.oc_top.specs.Commands.{Plan}
-use Rattle.oc_top.specs.Files.{Files}
+use Rattle.oc_command.specs.Commands.{Plan}
+use Rattle.oc_command.specs.Files.{Files}
 use Rattle.oc_top.specs.Headline.{IsReportedRun}
-use Rattle.oc_top.specs.Verdict.{Verdict}
+use Rattle.oc_report.specs.Runs.{Verdict}
 
 -- an audit of this report finds that it is honest for the program that the source spells, and finds nothing else
 pub record IsFoundHonest (source report : List ℕ) : Type 0 where

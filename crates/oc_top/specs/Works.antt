@@ -12,12 +12,14 @@ use Rattle.oc_tree.specs.Tree.{TProgram}
 use Rattle.oc_bounds.specs.Headway.{Suffice}
 use Rattle.oc_isa.specs.Table.{device_of}
 use Rattle.oc_top.specs.Meant.{program_bounds, program_code}
-use Rattle.oc_top.specs.Commands.{Plan, Task, report, limits_of, word_at}
-use Rattle.oc_top.specs.Files.{AreHeld, AreHeldBefore, limit_at, run_files}
+use Rattle.oc_command.specs.Commands.{Plan, Task, report, limits_of, word_at}
+use Rattle.oc_command.specs.Files.{AreHeld, AreHeldBefore, limit_at, run_files}
 use Rattle.oc_top.specs.Sources.{ReadsAs, program}
-use Rattle.oc_top.specs.Verdict.{Verdict}
-use Rattle.oc_top.specs.Answers.{Call, Comes, IsJudged, TookAll, TookFront, TookNothing, Writes, is_written, line_of, status_of}
-use Rattle.oc_top.specs.declared.answer.Answer.{Answer}
+use Rattle.oc_report.specs.Runs.{Verdict}
+use Rattle.oc_command.specs.Sinks.{TookAll, TookFront, TookNothing, Writes}
+use Rattle.oc_command.specs.Statuses.{is_written, line_of, status_of}
+use Rattle.oc_top.specs.Answers.{Call, Comes, IsJudged}
+use Rattle.oc_command.specs.declared.answer.Answer.{Answer}
 
 -- a call over a shelf, a standard output and this error output ends with this status
 pub record Works (c : Call) (err : Writes) (status : ℕ) : Type 0 where

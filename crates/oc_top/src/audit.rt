@@ -1,16 +1,16 @@
 //! Whether a report is honest for the program of a source.
 ghost use Rattle.std.specs.Prelude.{◌≤◌, length, IfOk, IfErr};
 ghost use Rattle.oc_lex.specs.Limits.{source_limit};
-ghost use Rattle.oc_top.specs.Answers.{writes};
+ghost use Rattle.oc_command.specs.Sinks.{writes};
 ghost use Rattle.oc_top.specs.Audited.{IsFound};
 ghost use Rattle.oc_top.specs.Judged.{IsAudited};
 ghost use Rattle.oc_top.specs.Steps.{IsNotBuilt};
 
-use crate::answer::Answer;
 use crate::build::marked_of;
-use crate::print::put_text;
 use oc_audit::audit::{Finding, audit_file};
+use oc_command::answer::Answer;
 use oc_io::sink::Sink;
+use oc_report::text::put_text;
 use std::alloc::Global;
 
 /// What an audit of a report finds for the program that a source spells.

@@ -21,9 +21,9 @@ ghost use Rattle.oc_top.specs.Meant.{marked_code, program_marked};
 ghost use Rattle.oc_top.specs.Sources.{Spells, line_at};
 ghost use Rattle.oc_top.specs.Steps.{IsAccepted, IsMarkedOf, IsNotBuilt, IsNotRead, for_rules, for_tokens, for_tree};
 
-use crate::answer::Answer;
 use oc_budget::laws::budgets_bound;
 use oc_codegen::compile;
+use oc_command::answer::Answer;
 use oc_desugar::expand;
 use oc_effects::effects::{Effects, Kept};
 use oc_flow::summaries;

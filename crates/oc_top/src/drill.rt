@@ -3,19 +3,20 @@ ghost use Rattle.std.specs.Prelude.{◌≤◌, ◌≡◌, length, IfOk, option_m
 ghost use Rattle.oc_drill.specs.Drill.{turn_limit};
 ghost use Rattle.oc_lex.specs.Limits.{source_limit};
 ghost use Rattle.oc_power.specs.Choice.{first_with};
-ghost use Rattle.oc_top.specs.Answers.{drill_files, writes};
+ghost use Rattle.oc_command.specs.Sinks.{writes};
+ghost use Rattle.oc_top.specs.Answers.{drill_files};
 ghost use Rattle.oc_top.specs.Drills.{IsAnswered, IsDrilled, IsDrilledWith, IsMeasured};
-ghost use Rattle.oc_top.specs.Files.{bytes_of};
+ghost use Rattle.oc_command.specs.Files.{bytes_of};
 
-use crate::answer::{Answer, status};
-use crate::files::Fetched;
 use crate::prepare::prepare;
-use crate::report::{flush_with, report};
+use oc_command::answer::{Answer, status};
+use oc_command::files::Fetched;
 use oc_drill::files::{power, sensors, source};
 use oc_drill::line::put_drill;
 use oc_io::Memory;
 use oc_io::sink::{CountSink, Sink};
 use oc_power::supply::{Supply, choose};
+use oc_report::report::{flush_with, report};
 use std::alloc::{AllocError, Global};
 
 /// The status of a run, and how many lines and bytes it writes.

@@ -1,18 +1,19 @@
 //! Runs of images.
 ghost use Rattle.std.specs.Prelude.{◌≤◌, List, [], Some};
 ghost use Rattle.oc_meters.specs.Tally.{Reading};
-ghost use Rattle.oc_top.specs.Commands.{Exec as to_execute, executing, plans_of, run_words};
-ghost use Rattle.oc_top.specs.Files.{ShelfStays, fetches};
-ghost use Rattle.oc_top.specs.Answers.{Comes, call_for, call_of, writes};
+ghost use Rattle.oc_command.specs.Commands.{Exec as to_execute, executing, plans_of, run_words};
+ghost use Rattle.oc_command.specs.Files.{ShelfStays, fetches};
+ghost use Rattle.oc_command.specs.Sinks.{writes};
+ghost use Rattle.oc_top.specs.Answers.{Comes, call_for, call_of};
 
-use crate::answer::Answer;
-use crate::command::RunWords;
-use crate::files::{IMAGE_LIMIT, fetch_files};
-use crate::prepare::prepare_image;
-use crate::report::report;
+use oc_command::answer::Answer;
+use oc_command::command::RunWords;
+use oc_command::files::{IMAGE_LIMIT, fetch_files};
 use oc_io::shelf::Shelf;
 use oc_io::sink::Sink;
 use oc_power::supply::{Supply, choose};
+use oc_report::prepare::prepare_image;
+use oc_report::report::report;
 use std::alloc::Global;
 
 /// Runs the image and the files under these words, with this supply.

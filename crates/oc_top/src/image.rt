@@ -1,32 +1,16 @@
 //! The bytes of a program's image.
 ghost use Rattle.std.specs.Prelude.{◌≤◌, length};
-ghost use Rattle.oc_isa.specs.Bytes.{IsSmall, image_bytes as bytes_of_image};
 ghost use Rattle.oc_lex.specs.Limits.{source_limit};
-ghost use Rattle.oc_top.specs.Answers.{IsWritten, writes};
+ghost use Rattle.oc_command.specs.Sinks.{writes};
 ghost use Rattle.oc_top.specs.Printed.{IsPrinted};
-ghost use Rattle.oc_top.specs.Verdict.{image_of, prints};
+ghost use Rattle.oc_top.specs.Verdict.{image_of};
 
-use crate::answer::Answer;
 use crate::laws::images_are_small;
 use crate::prepare::build_image;
-use crate::report::flush_with;
+use oc_command::answer::Answer;
 use oc_io::sink::Sink;
-use oc_isa::bytes::image_bytes;
-use oc_isa::image::Image;
+use oc_report::image::put_image;
 use std::alloc::Global;
-
-/// Writes the bytes of an image.
-fn put_image<O: Sink>(image: &Image, out: &mut O) -> Answer
-    requires { IsSmall image.now }
-    ensures written { IsWritten (writes O.took O.held O.faults out.old out.new)
-        (prints (bytes_of_image image.now)) result }
-    ensures count { O.faults out.old ≤ O.faults out.new }
-{
-    match image_bytes(image, out) {
-        Ok(()) => flush_with(Answer::End, out),
-        Err(_) => Answer::WriteFault,
-    }
-}
 
 /// Writes the bytes of the image of the program that a source spells, or answers why there is none.
 pub fn print_image<O: Sink>(alloc: Global, source: &[u8], out: &mut O) -> Answer

@@ -1,29 +1,29 @@
 //! Texts of a program: its regions, and the listing of its image.
 ghost use Rattle.std.specs.Prelude.{◌≡◌, ◌≤◌, length, IfOk, IfErr};
 ghost use Rattle.oc_effects.specs.Kept.{AreKeptOf};
-ghost use Rattle.oc_isa.specs.Listing.{listing_text};
 ghost use Rattle.oc_budget.specs.Budgets.{limited_budgets};
 ghost use Rattle.oc_budget.specs.View.{budgets_view};
 ghost use Rattle.oc_lex.specs.Limits.{source_limit};
-ghost use Rattle.oc_top.specs.Answers.{IsWritten, writes};
+ghost use Rattle.oc_command.specs.Sinks.{writes};
+ghost use Rattle.oc_report.specs.Written.{IsWritten};
 ghost use Rattle.oc_top.specs.Printed.{IsPrinted, Tells};
-ghost use Rattle.oc_top.specs.RegionDetails.{HasDetails};
-ghost use Rattle.oc_top.specs.RegionLines.{regions_text};
+ghost use Rattle.oc_report.specs.RegionDetails.{HasDetails};
+ghost use Rattle.oc_report.specs.RegionLines.{regions_text};
 ghost use Rattle.oc_top.specs.Steps.{IsNotBuilt};
-ghost use Rattle.oc_top.specs.Verdict.{listing_of, prints, regions_of};
+ghost use Rattle.oc_report.specs.Runs.{prints};
+ghost use Rattle.oc_top.specs.Verdict.{listing_of, regions_of};
 
-use crate::answer::Answer;
 use crate::build::{image_by, marked_with_effects};
 use crate::prepare::build_image;
-use crate::regions::{Details, details_of, put_regions};
-use crate::report::flush_with;
 use oc_budget::costs::budgets_by;
 use oc_budget::told::Budgets;
+use oc_command::answer::Answer;
 use oc_effects::effects::{Effects, Kept};
 use oc_io::Memory;
 use oc_io::sink::Sink;
-use oc_isa::image::Image;
-use oc_isa::listing::listing;
+use oc_report::regions::{Details, details_of, put_regions};
+use oc_report::report::flush_with;
+use oc_report::text::put_listing;
 use oc_tree::marked::Marked;
 use std::alloc::Global;
 
@@ -84,30 +84,6 @@ fn put_told<O: Sink>(told: &Told, out: &mut O) -> Answer
     ensures count { O.faults out.old ≤ O.faults out.new }
 {
     match put_regions(&told.marked, &told.budgets, &told.details, out) {
-        Ok(()) => flush_with(Answer::End, out),
-        Err(_) => Answer::WriteFault,
-    }
-}
-
-/// Writes a text.
-pub fn put_text<O: Sink>(text: &[u8], out: &mut O) -> Answer
-    ensures written { IsWritten (writes O.took O.held O.faults out.old out.new) (prints text.now)
-        result }
-    ensures count { O.faults out.old ≤ O.faults out.new }
-{
-    match out.put(text) {
-        Ok(()) => flush_with(Answer::End, out),
-        Err(_) => Answer::WriteFault,
-    }
-}
-
-/// Writes the listing of an image.
-fn put_listing<O: Sink>(image: &Image, out: &mut O) -> Answer
-    ensures written { IsWritten (writes O.took O.held O.faults out.old out.new)
-        (prints (listing_text image.now)) result }
-    ensures count { O.faults out.old ≤ O.faults out.new }
-{
-    match listing(image, out) {
         Ok(()) => flush_with(Answer::End, out),
         Err(_) => Answer::WriteFault,
     }

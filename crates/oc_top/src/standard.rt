@@ -4,9 +4,10 @@ ghost use Rattle.std.specs.String.{string_bytes};
 ghost use Rattle.oc_power.specs.Cutting.{cut_rows};
 ghost use Rattle.oc_power.specs.Looping.{looped};
 ghost use Rattle.oc_meters.specs.Tally.{reading};
-ghost use Rattle.oc_top.specs.Answers.{call_for, writes};
-ghost use Rattle.oc_top.specs.Commands.{command_of};
-ghost use Rattle.oc_top.specs.Files.{ShelfStays, fetches};
+ghost use Rattle.oc_command.specs.Sinks.{writes};
+ghost use Rattle.oc_top.specs.Answers.{call_for};
+ghost use Rattle.oc_command.specs.Commands.{command_of};
+ghost use Rattle.oc_command.specs.Files.{ShelfStays, fetches};
 ghost use Rattle.oc_top.specs.Supplies.{piece_limit, round_limit, standard_meters, standard_plans};
 ghost use Rattle.oc_top.specs.Works.{Works};
 

@@ -2,28 +2,29 @@
 ghost use Rattle.std.specs.Prelude.{◌≡◌, ◌≤◌, [], ◌∷◌, map, option_map, IfSome, Some, if◌then◌else◌};
 ghost use Rattle.std.specs.String.{string_bytes};
 ghost use Rattle.oc_meters.specs.Tally.{readings};
-ghost use Rattle.oc_top.specs.Commands.{HasFewTurns, Run as to_run, auditing as to_audit, command_of, command_view, plans_of, report as to_report, source_task, run_words};
-ghost use Rattle.oc_top.specs.Files.{ShelfStays, fetches};
-ghost use Rattle.oc_top.specs.Answers.{Comes, call_for, call_of, told_by, writes};
-ghost use Rattle.oc_top.specs.Meters.{told_of};
+ghost use Rattle.oc_command.specs.Commands.{HasFewTurns, Run as to_run, auditing as to_audit, command_of, command_view, plans_of, report as to_report, source_task, run_words};
+ghost use Rattle.oc_command.specs.Files.{ShelfStays, fetches};
+ghost use Rattle.oc_command.specs.Meters.{told_by, told_of};
+ghost use Rattle.oc_command.specs.Sinks.{writes};
+ghost use Rattle.oc_top.specs.Answers.{Comes, call_for, call_of};
 ghost use Rattle.oc_top.specs.Works.{Works};
 
-use crate::answer::{Answer, put_lines, status};
 use crate::audit::audit_report;
 use crate::check::check_source;
-use crate::command::{Command, RunWords, SourceTask, read_command};
 use crate::drill::drill_by;
 use crate::exec::exec_by;
-use crate::files::{SOURCE_LIMIT, fetch_audited, fetch_files, fetch_source};
 use crate::image::print_image;
-use crate::metered::{Outcome, report_for};
 use crate::prepare::prepare;
 use crate::print::{print_listing, print_regions};
 use oc_audit::laws::names_are_apart;
+use oc_command::answer::{Answer, put_lines, status};
+use oc_command::command::{Command, RunWords, SourceTask, read_command};
+use oc_command::files::{SOURCE_LIMIT, fetch_audited, fetch_files, fetch_source};
 use oc_io::shelf::Shelf;
 use oc_io::sink::Sink;
 use oc_meters::meter::Meter;
 use oc_power::supply::{Supply, choose};
+use oc_report::metered::{Outcome, report_for};
 use std::alloc::Global;
 
 /// An answer behind which no meters write.
@@ -215,6 +216,6 @@ pub fn ocelot<F: Shelf, O: Sink, E: Sink>(
     let command = read_command(words);
     let outcome = obey(alloc, command, shelf, out, supplies, meters);
     let status = status(&outcome.answer);
-    put_lines(outcome.answer, command, &outcome.meters, err);
+    put_lines(&outcome.answer, command, &outcome.meters, err);
     status
 }

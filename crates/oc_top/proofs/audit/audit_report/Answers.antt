@@ -1,7 +1,7 @@
 use Rattle.std.proofs.Common.{refl, subst}
 use Rattle.oc_top.specs.Audited.{IsFound}
 use Rattle.oc_top.specs.Judged.{honest, not_audited, refused}
-use Rattle.oc_top.proofs.Writing.{untouched}
+use Rattle.oc_command.proofs.Taking.{untouched}
 use Rattle.oc_top.proofs.audit.audit_report.Goals as goal
 
 pub returns-in-Ok-BadLine-clause-audited : goal.returns-in-Ok-BadLine-clause-audited

@@ -1,5 +1,5 @@
 use Rattle.oc_top.specs.Judged.{not_safe}
-use Rattle.oc_top.proofs.Writing.{untouched}
+use Rattle.oc_command.proofs.Taking.{untouched}
 use Rattle.oc_top.proofs.check.check_source.Goals as goal
 
 pub returns-in-Err-clause-checked : goal.returns-in-Err-clause-checked

@@ -1,7 +1,8 @@
 use Rattle.std.proofs.Common.{refl}
-use Rattle.oc_top.specs.Answers.{in_part}
+use Rattle.oc_report.specs.Written.{in_part}
 use Rattle.oc_top.proofs.Drilling.{is_drilled}
-use Rattle.oc_top.proofs.Writing.{flushed_written, front_of}
+use Rattle.oc_command.proofs.Taking.{front_of}
+use Rattle.oc_report.proofs.Writing.{flushed_written}
 use Rattle.oc_top.proofs.drill.drill.Goals as goal
 
 pub returns-in-Ok-put_drill-clause-drilled : goal.returns-in-Ok-put_drill-clause-drilled

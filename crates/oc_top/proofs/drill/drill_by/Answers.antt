@@ -1,8 +1,8 @@
 use Rattle.std.proofs.Common.{refl, subst, None}
-use Rattle.oc_top.specs.Answers.{writes}
+use Rattle.oc_command.specs.Sinks.{writes}
 use Rattle.oc_top.specs.Drills.{IsDrilled}
 use Rattle.oc_top.proofs.Drilling.{chosen_drill}
-use Rattle.oc_top.proofs.Writing.{untouched}
+use Rattle.oc_command.proofs.Taking.{untouched}
 use Rattle.oc_top.proofs.drill.drill_by.Goals as goal
 
 pub returns-in-Some-clause-drilled : goal.returns-in-Some-clause-drilled

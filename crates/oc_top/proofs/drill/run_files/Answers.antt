@@ -1,5 +1,5 @@
 use Rattle.oc_top.proofs.Drilling.{not_ready, was_ready}
-use Rattle.oc_top.proofs.Writing.{untouched}
+use Rattle.oc_command.proofs.Taking.{untouched}
 use Rattle.oc_top.proofs.drill.run_files.Goals as goal
 
 pub returns-in-Ok : goal.returns-in-Ok

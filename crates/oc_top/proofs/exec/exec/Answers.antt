@@ -1,6 +1,6 @@
 use Rattle.std.proofs.Common.{refl}
 use Rattle.oc_top.proofs.Asking.{not_executed, not_fetched, was_executed}
-use Rattle.oc_top.proofs.Writing.{untouched}
+use Rattle.oc_command.proofs.Taking.{untouched}
 use Rattle.oc_top.proofs.exec.exec.Goals as goal
 
 pub returns-in-Ok-prepare_image-clause-comes : goal.returns-in-Ok-prepare_image-clause-comes

@@ -1,9 +1,10 @@
 use Rattle.std.proofs.Common.{[], subst, sym, None, Some}
-use Rattle.oc_top.specs.Answers.{Comes, call_of, writes}
-use Rattle.oc_top.specs.Commands.{executing, run_words}
-use Rattle.oc_top.specs.Files.{fetches}
+use Rattle.oc_command.specs.Sinks.{writes}
+use Rattle.oc_top.specs.Answers.{Comes, call_of}
+use Rattle.oc_command.specs.Commands.{executing, run_words}
+use Rattle.oc_command.specs.Files.{fetches}
 use Rattle.oc_top.proofs.Asking.{comes_for, comes_none, image_is}
-use Rattle.oc_top.proofs.Writing.{untouched}
+use Rattle.oc_command.proofs.Taking.{untouched}
 use Rattle.oc_top.proofs.exec.exec_by.Goals as goal
 
 pub returns-in-Some-clause-comes : goal.returns-in-Some-clause-comes

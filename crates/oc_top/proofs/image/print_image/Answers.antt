@@ -1,5 +1,5 @@
 use Rattle.oc_isa.specs.Bytes.{image_bytes}
-use Rattle.oc_top.specs.Answers.{writes}
+use Rattle.oc_command.specs.Sinks.{writes}
 use Rattle.oc_top.proofs.Imaging.{small_built}
 use Rattle.oc_top.proofs.Printing.{code_printed}
 use Rattle.oc_top.proofs.image.print_image.Goals as goal

@@ -1,5 +1,6 @@
 use Rattle.std.proofs.lemmas.Result.{IfErr-weaker, IfOk-weaker, err_from_is_err_and}
-use Rattle.oc_top.proofs.Preparing.{not_built, not_ready, ready_for}
+use Rattle.oc_report.proofs.Readying.{ready_for}
+use Rattle.oc_top.proofs.Preparing.{not_built, not_ready}
 use Rattle.oc_top.proofs.prepare.prepare.Goals as goal
 
 pub set_up-requires : goal.set_up-requires

@@ -1,5 +1,5 @@
 use Rattle.oc_isa.specs.Listing.{listing_text}
-use Rattle.oc_top.specs.Answers.{writes}
+use Rattle.oc_command.specs.Sinks.{writes}
 use Rattle.oc_top.proofs.Printing.{code_printed}
 use Rattle.oc_top.proofs.print.print_listing.Goals as goal
 

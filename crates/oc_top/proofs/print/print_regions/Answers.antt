@@ -1,4 +1,4 @@
-use Rattle.oc_top.specs.Answers.{writes}
+use Rattle.oc_command.specs.Sinks.{writes}
 use Rattle.oc_top.proofs.Printing.{regions_printed}
 use Rattle.oc_top.proofs.print.print_regions.Goals as goal
 

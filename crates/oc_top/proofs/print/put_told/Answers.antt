@@ -1,4 +1,4 @@
-use Rattle.oc_top.proofs.Writing.{flushed_written}
+use Rattle.oc_report.proofs.Writing.{flushed_written}
 use Rattle.oc_top.proofs.print.put_told.Goals as goal
 
 pub returns-in-Ok-clause-written : goal.returns-in-Ok-clause-written

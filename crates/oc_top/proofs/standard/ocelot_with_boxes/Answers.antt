@@ -2,9 +2,10 @@ use Rattle.std.proofs.Common.{rules, map, ◌≡◌, ◌∙◌, ◌∷◌, [], a
 use Rattle.std.specs.Prelude.{Option}
 use Rattle.std.specs.String.{string_bytes}
 use Rattle.oc_meters.specs.Tally.{Reading}
-use Rattle.oc_top.specs.Answers.{call_of, writes}
-use Rattle.oc_top.specs.Commands.{Task, command_of, words_if_any, task_of}
-use Rattle.oc_top.specs.Files.{fetches}
+use Rattle.oc_command.specs.Sinks.{writes}
+use Rattle.oc_top.specs.Answers.{call_of}
+use Rattle.oc_command.specs.Commands.{Task, command_of, words_if_any, task_of}
+use Rattle.oc_command.specs.Files.{fetches}
 use Rattle.oc_top.specs.Supplies.{standard_plans}
 use Rattle.oc_top.specs.Works.{Works}
 use Rattle.oc_top.proofs.StandardPlans.{own_meters, standard_task}

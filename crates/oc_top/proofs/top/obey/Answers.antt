@@ -1,7 +1,8 @@
 use Rattle.std.proofs.Common.{Some, refl}
-use Rattle.oc_top.specs.Answers.{call_for, writes}
-use Rattle.oc_top.specs.Commands.{Drill, plans_of}
-use Rattle.oc_top.specs.Files.{fetches}
+use Rattle.oc_command.specs.Sinks.{writes}
+use Rattle.oc_top.specs.Answers.{call_for}
+use Rattle.oc_command.specs.Commands.{Drill, plans_of}
+use Rattle.oc_command.specs.Files.{fetches}
 use Rattle.oc_meters.specs.Tally.{readings}
 use Rattle.oc_top.proofs.Drilling.{drill_comes}
 use Rattle.oc_top.proofs.Metering.{comes_alone}

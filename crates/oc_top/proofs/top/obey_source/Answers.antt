@@ -1,6 +1,6 @@
 use Rattle.std.proofs.Common.{refl}
 use Rattle.oc_top.proofs.Asking.{checking_comes, image_comes, listing_comes, regions_come, source_unfetched}
-use Rattle.oc_top.proofs.Writing.{untouched}
+use Rattle.oc_command.proofs.Taking.{untouched}
 use Rattle.oc_top.proofs.top.obey_source.Goals as goal
 
 pub returns-in-Err-clause-comes : goal.returns-in-Err-clause-comes

@@ -1,6 +1,6 @@
 use Rattle.std.proofs.Common.{map}
 use Rattle.std.specs.String.{string_bytes}
-use Rattle.oc_top.proofs.Commanding.{few_turns}
+use Rattle.oc_command.proofs.Commanding.{few_turns}
 use Rattle.oc_top.proofs.Working.{works}
 use Rattle.oc_top.proofs.top.ocelot.Goals as goal
 

@@ -2,7 +2,7 @@ use Rattle.std.proofs.Common.{arith, refl}
 use Rattle.oc_top.proofs.Accepted.{built_apart}
 use Rattle.oc_top.proofs.Asking.{not_fetched, turned_down}
 use Rattle.oc_top.proofs.Metering.{comes_alone, was_read}
-use Rattle.oc_top.proofs.Writing.{untouched}
+use Rattle.oc_command.proofs.Taking.{untouched}
 use Rattle.oc_top.proofs.top.run.Goals as goal
 
 pub returns-in-Ok-prepare-clause-comes : goal.returns-in-Ok-prepare-clause-comes

@@ -1,12 +1,13 @@
 use Rattle.std.proofs.Common.{subst, sym, None, Some}
 use Rattle.oc_meters.specs.Tally.{readings}
-use Rattle.oc_top.specs.Answers.{Comes, call_of, told_by, writes}
-use Rattle.oc_top.specs.Commands.{report, run_words}
-use Rattle.oc_top.specs.Files.{fetches}
-use Rattle.oc_top.specs.Meters.{told_of}
+use Rattle.oc_command.specs.Meters.{told_by, told_of}
+use Rattle.oc_command.specs.Sinks.{writes}
+use Rattle.oc_top.specs.Answers.{Comes, call_of}
+use Rattle.oc_command.specs.Commands.{report, run_words}
+use Rattle.oc_command.specs.Files.{fetches}
 use Rattle.oc_top.proofs.Asking.{comes_for, comes_none, run_is}
 use Rattle.oc_top.proofs.Metering.{comes_alone}
-use Rattle.oc_top.proofs.Writing.{untouched}
+use Rattle.oc_command.proofs.Taking.{untouched}
 use Rattle.oc_top.proofs.top.run_by.Goals as goal
 
 pub returns-in-Some-clause-comes : goal.returns-in-Some-clause-comes

@@ -1,0 +1,4 @@
+pub mod Taking
+pub mod Commanding
+pub mod Fetching
+pub mod Naming

@@ -1,0 +1,10 @@
+use Rattle.std.proofs.Common.{sym, ◌∙◌, []}
+use Rattle.std.proofs.lemmas.Bool.{ltb-true}
+use Rattle.oc_tree.specs.View.{function_view}
+use Rattle.oc_command.proofs.Naming.{viewed_at}
+use Rattle.oc_command.proofs.names.function_name.Goals as goal
+
+pub returns-in-Some : goal.returns-in-Some
+returns-in-Some c =
+    let found = rw c.deref.ensures.value at c.in-Some.ensures.lookup in
+    c.bytes.ensures ∙ viewed_at function_view (λ g. g.name) c.args.program.now.functions.items c.args.function c.in-Some.function.now [] (ltb-true _ _ (sym found.0)) found.1

@@ -1,0 +1,9 @@
+pub mod Commands
+pub mod Files
+pub mod Names
+pub mod DeclaredNames
+pub mod Gaps
+pub mod Statuses
+pub mod Sinks
+pub mod Meters
+pub mod CommandExamples

@@ -1,0 +1,9 @@
+pub mod Reports
+pub mod Runs
+pub mod Written
+pub mod Ready
+pub mod Images
+pub mod Metered
+pub mod RegionLines
+pub mod RegionDetails
+pub mod RunExamples

@@ -1,8 +1,11 @@
-//! What some programs say over lists of samples, with the samples on which each event depends.
+//! What some programs say over lists of samples, with the samples on which each event depends; and at
+//! last the first parts of a run with the marks of its regions, and all of it.
 #![tactic(auto)]
 
+mod marked;
 mod sources;
 
+use marked::put_marked;
 use oc_interpreter::run::run_source;
 use oc_interpreter::trace::{Outcome, SourceTrace};
 use oc_io::sink::Sink;
@@ -143,14 +146,24 @@ fn put_given<O: Sink>(alloc: Global, worked: &Worked, out: &mut O) -> anyhow::Re
     Ok(())
 }
 
+/// Writes what a program says over samples.
+fn put_run<O: Sink>(
+    alloc: Global,
+    checked: &Checked,
+    samples: &[i32],
+    out: &mut O,
+) -> anyhow::Result<()> {
+    let trace = run_source(alloc, checked, samples)?;
+    put_trace(alloc, &checked.program().names, &trace, out)
+}
+
 /// Writes a source, its samples, and what it says over them.
 fn put_worked<O: Sink>(alloc: Global, worked: &Worked, out: &mut O) -> anyhow::Result<()> {
     let source = worked.source.as_bytes();
     if source.len() <= 1048576 {
         put_given(alloc, worked, out)?;
         let checked = check_source(alloc, source)?;
-        let trace = run_source(alloc, &checked, worked.samples)?;
-        put_trace(alloc, &checked.program().names, &trace, out)?;
+        put_run(alloc, &checked, worked.samples, out)?;
     }
     Ok(())
 }
@@ -162,6 +175,7 @@ fn main(rt: HostRuntime) -> anyhow::Result<()> {
     for worked in &cases() {
         put_worked(alloc, worked, &mut out)?;
     }
+    put_marked(alloc, &mut out)?;
     out.flush()?;
     Ok(())
 }

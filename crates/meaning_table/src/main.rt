@@ -18,6 +18,9 @@ use sources::{Worked, cases};
 use std::alloc::Global;
 use std::io;
 
+/// The greatest length of a source, in bytes.
+const LIMIT: usize = 1048576;
+
 /// Writes a word, the name of a sensor or a port, and a value.
 fn put_named<O: Sink>(
     alloc: Global,
@@ -160,7 +163,7 @@ fn put_run<O: Sink>(
 /// Writes a source, its samples, and what it says over them.
 fn put_worked<O: Sink>(alloc: Global, worked: &Worked, out: &mut O) -> anyhow::Result<()> {
     let source = worked.source.as_bytes();
-    if source.len() <= 1048576 {
+    if source.len() <= LIMIT {
         put_given(alloc, worked, out)?;
         let checked = check_source(alloc, source)?;
         put_run(alloc, &checked, worked.samples, out)?;

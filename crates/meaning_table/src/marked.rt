@@ -3,7 +3,8 @@ ghost use Rattle.std.specs.Prelude.{◌≡◌, map, IfOk};
 ghost use Rattle.oc_needs.specs.Requirements.{requirements};
 ghost use Rattle.oc_needs.specs.View.{requirement_view};
 
-use crate::put_trace;
+use crate::{LIMIT, put_trace};
+use anyhow::bail;
 use oc_budget::costs::budgets;
 use oc_budget::told::Budgets;
 use oc_codegen::compile;
@@ -35,6 +36,9 @@ fn required(alloc: Global, checked: &Checked) -> anyhow::Result<Vec<Requirement>
 
 /// A source's program with its regions.
 fn with_regions(alloc: Global, source: &[u8]) -> anyhow::Result<Marked> {
+    if source.len() > LIMIT {
+        bail!("a source of more than 1 MiB");
+    }
     let checked = check_source(alloc, source)?;
     let required = required(alloc, &checked)?;
     match infer(alloc, checked, &required) {

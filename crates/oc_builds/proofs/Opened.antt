@@ -1,11 +1,10 @@
 -- In each block of a marked program at most one region is open, and the one that ends is the one that began.
 use Rattle.std.proofs.Common.{◌≡◌, ◌<◌, ◌≤◌, ℕ, zero, suc, ◌+◌, Bool, true, false, true≢false, List, [], ◌∷◌, ◌++◌, length, Some, None, refl, ap, sym, ◌∙◌, subst, ⊎_elim, inl, inr, arith}
-use Rattle.std.proofs.Common.{length-append, append-nil, flat_map}
 use Rattle.std.specs.Prelude.{slice_get, ◌==◌, ◌&&◌, ◌||◌, ◌⊎◌, nat_lt, nat_le, if◌then◌else◌}
 use Rattle.std.specs.List.{list_any}
 use Rattle.std.proofs.lemmas.Bool.{and_parts, eqb-true, eq-eqb, ne_eqb, le-leb, lt-ltb}
-use Rattle.std.proofs.lemmas.Option.{none-some, same_Some}
-use Rattle.oc_tree.specs.Tree.{TKind, let_to, let_array, assign, assign_index, assign_deref, if_else, for_in, while_do, call_only, sense_only, emit, fresh, consistent, return}
+use Rattle.std.proofs.lemmas.Option.{same_Some}
+use Rattle.oc_tree.specs.Tree.{TKind, if_else, for_in, while_do}
 use Rattle.oc_tree.specs.Tree.{TElse, no_else, else_do, stmt, TBlock, block, TStmts, no_stmts, more, TFunction, TProgram}
 use Rattle.oc_tree.specs.Form.{Numbered}
 use Rattle.oc_tree.specs.Numbers.{kind_statements, else_statements, block_statements, stmts_statements, kind_blocks, else_blocks, block_blocks, stmts_blocks}
@@ -14,11 +13,11 @@ use Rattle.oc_tree.specs.Checked.{same_block}
 use Rattle.oc_tree.specs.Marked.{TRegion, around, is_in_region, covers, AreRegions}
 use Rattle.oc_meaning.specs.Exec.{begun_by, ended_by}
 use Rattle.oc_desugar.proofs.NumberLists.{Follow, first_of, parts}
-use Rattle.oc_desugar.proofs.BlockPairs.{kind_pairs, else_pairs, block_pairs, stmts_pairs, program_pairs, block_there}
-use Rattle.oc_checked.proofs.BlockRanges.{EachPair, Ranged, kind_ranged, else_ranged, block_ranged, stmts_ranged, functions_ranged}
+use Rattle.oc_desugar.proofs.BlockPairs.{kind_pairs, else_pairs, block_pairs, stmts_pairs, block_there}
+use Rattle.oc_checked.proofs.BlockRanges.{else_ranged, block_ranged}
 use Rattle.oc_checked.proofs.RegionsApart.{EachRegion, InBlock, Pairs, pairs_of, in_blocks}
-use Rattle.oc_checked.proofs.PairsAround.{Gap, Around, around_less, in_block_range, in_block_gap}
-use Rattle.oc_checked.proofs.RowsAround.{Part, part_first, part_second, Known, inside_part, rest_part}
+use Rattle.oc_checked.proofs.PairsAround.{Gap, in_block_range, in_block_gap}
+use Rattle.oc_checked.proofs.RowsAround.{Part, part_first, part_second, rest_part, first_stands, block_part, bodies_stand}
 use Rattle.oc_builds.proofs.Stmts.{entered}
 
 -- ---- statements whose regions end in the order in which they begin
@@ -259,75 +258,31 @@ module _ (p : TProgram) (numbered : Numbered p) (policies : ℕ) (regions : List
     block_is_paired i j (block id ss) f g h =
         let o = first_of id j (stmts_blocks ss) g in
         let z = i + length (stmts_statements ss) in
-        let d : j + suc (length (stmts_blocks ss)) ≡ suc j + length (stmts_blocks ss) = omega arith in
         let range = in_block_range p i z j (j + suc (length (stmts_blocks ss))) (stmts_pairs id ss) (block_ranged i j (block id ss) f g) h id o.0 (omega arith) in
-        let less = subst (λ d. Around p i z (suc j) d (stmts_pairs id ss)) d (around_less p i z j (j + suc (length (stmts_blocks ss))) (suc j) (stmts_pairs id ss) (omega arith) h) in
         let none = open_before p id i (λ s e. (range s e).0) regions spots in
-        subst (λ l. StmtsPaired regions l ss) none (stmts_are_paired id i (suc j) ss f o.1 less (omega (arith, o.0)) (λ s e. (range s e).1))
+        subst (λ l. StmtsPaired regions l ss) none (stmts_are_paired id i (suc j) ss f o.1 (block_part p i j id ss h) (omega (arith, o.0)) (λ s e. (range s e).1))
 
     -- statements of the block b, of which none has a number from the end of these on
     stmts_are_paired : (b i j : ℕ) (ss : TStmts) → Follow i (stmts_statements ss) → Follow j (stmts_blocks ss) → Part p i j (stmts_statements ss) (stmts_blocks ss) (stmts_pairs b ss)
         → b < j → ((s : ℕ) → block_of p s ≡ Some b → s < i + length (stmts_statements ss)) → StmtsPaired regions (open_ids regions b i) ss
     stmts_are_paired b i j no_stmts f g h below end = open_behind p b i (λ s e. omega (arith, end s e)) regions spots
     stmts_are_paired b i j (more (stmt n line k) rest) f g h below end =
-        let s = parts i (n ∷ kind_statements k) (stmts_statements rest) f in
-        let t = parts j (kind_blocks k) (stmts_blocks rest) g in
-        let o = first_of n i (kind_statements k) s.0 in
+        let s = first_stands p b i j k rest n f g h below in
+        let known = s.known in
         let next = i + suc (length (kind_statements k)) in
         let after = j + length (kind_blocks k) in
-        let top : i + length (n ∷ (kind_statements k ++ stmts_statements rest)) ≡ next + length (stmts_statements rest) = omega (arith, length-append (kind_statements k) (stmts_statements rest)) in
-        let deep : j + length (kind_blocks k ++ stmts_blocks rest) ≡ after + length (stmts_blocks rest) = omega (arith, length-append (kind_blocks k) (stmts_blocks rest)) in
-        let row1 = subst (λ m. Around p i (i + length (n ∷ (kind_statements k ++ stmts_statements rest))) j (j + length (kind_blocks k ++ stmts_blocks rest))
-        ((m, b) ∷ (kind_pairs k ++ stmts_pairs b rest))) o.0 h in
-        let row2 = subst (λ z. Around p i z j (j + length (kind_blocks k ++ stmts_blocks rest)) ((i, b) ∷ (kind_pairs k ++ stmts_pairs b rest))) top row1 in
-        let row3 = subst (λ d. Around p i (next + length (stmts_statements rest)) j d ((i, b) ∷ (kind_pairs k ++ stmts_pairs b rest))) deep row2 in
-        let width : suc i + length (kind_statements k) ≡ next = omega arith in
-        let known : Known p b i j k rest = record {
-          row = row3;
-          below = below;
-          inside = subst (λ z. EachPair (Ranged (suc i) z j after) (kind_pairs k)) width (kind_ranged (suc i) j k o.1 t.0);
-          others = stmts_ranged b next after rest s.1 t.1;
-        } in
-        let inner = subst (λ z. Around p (suc i) z j after (kind_pairs k)) (sym width) (inside_part p b i j k rest known) in
-        let here : block_of p i ≡ Some b = block_there p numbered.statements (i, b) (row3.front, (kind_pairs k ++ stmts_pairs b rest) ++ row3.back, row3.is) in
+        let top = s.end in
+        let here : block_of p i ≡ Some b = block_there p numbered.statements (i, b) (known.row.front, (kind_pairs k ++ stmts_pairs b rest) ++ known.row.back, known.row.is) in
         let gap = in_block_gap p i (next + length (stmts_statements rest)) j (after + length (stmts_blocks rest)) next after b (kind_pairs k) (stmts_pairs b rest)
-        (omega arith) below known.inside known.others row3 in
+        (omega arith) below known.inside known.others known.row in
         let cross : entered (begun_by regions i) (open_ids regions b i) ≡ entered (ended_by regions i) (open_ids regions b next) =
         crossed p b i next here (omega arith) gap regions spots behind in (
-          kind_is_paired (suc i) j k o.1 t.0 inner,
+          kind_is_paired (suc i) j k s.own_statements s.own_blocks s.own,
           open_ids regions b next,
-          subst (λ m. entered (begun_by regions m) (open_ids regions b i) ≡ entered (ended_by regions m) (open_ids regions b next)) (sym o.0) cross,
-          stmts_are_paired b next after rest s.1 t.1 (rest_part p b i j k rest known) (omega (arith, below)) (λ x e. omega (arith, end x e, top)),
+          subst (λ m. entered (begun_by regions m) (open_ids regions b i) ≡ entered (ended_by regions m) (open_ids regions b next)) (sym s.number) cross,
+          stmts_are_paired b next after rest s.rest_statements s.rest_blocks (rest_part p b i j k rest known) (omega (arith, below)) (λ x e. omega (arith, end x e, top)),
         )
-
-  -- functions
-  functions_paired : (i j : ℕ) (fs : List TFunction) → Follow i (flat_map (λ f. block_statements f.body) fs) → Follow j (flat_map (λ f. block_blocks f.body) fs)
-      → Part p i j (flat_map (λ f. block_statements f.body) fs) (flat_map (λ f. block_blocks f.body) fs) (flat_map (λ f. block_pairs f.body) fs) → (u : ℕ) (f : TFunction)
-      → slice_get fs u ≡ Some f → BlockPaired regions f.body
-  functions_paired i j [] f g h u x e = absurd (none-some x e)
-  functions_paired i j (y ∷ fs) f g h u x e =
-      let us = block_statements y.body in
-      let vs = flat_map (λ f. block_statements f.body) fs in
-      let bs = block_blocks y.body in
-      let cs = flat_map (λ f. block_blocks f.body) fs in
-      let s = parts i us vs f in
-      let t = parts j bs cs g in
-      let own = block_is_paired i j y.body s.0 t.0
-      (part_first p i j us vs bs cs (block_pairs y.body) (flat_map (λ f. block_pairs f.body) fs) (functions_ranged (i + length us) (j + length bs) fs s.1 t.1) h) in
-      let others = functions_paired (i + length us) (j + length bs) fs s.1 t.1
-      (part_second p i j us vs bs cs (block_pairs y.body) (flat_map (λ f. block_pairs f.body) fs) (block_ranged i j y.body s.0 t.0) h) in
-      go u e own others
-    where
-      go : (u : ℕ) → slice_get (y ∷ fs) u ≡ Some x → BlockPaired regions y.body → ((v : ℕ) (z : TFunction) → slice_get fs v ≡ Some z → BlockPaired regions z.body) → BlockPaired regions x.body
-      go zero e own others = subst (λ (z : TFunction). BlockPaired regions z.body) (same_Some y x e) own
-      go (suc v) e own others = others v x e
 
   -- all functions
   pub bodies_paired : (u : ℕ) (f : TFunction) → slice_get p.functions u ≡ Some f → BlockPaired regions f.body
-  bodies_paired = functions_paired 1 1 p.functions numbered.statements numbered.blocks (record {
-    front = [];
-    back = [];
-    is = sym (append-nil (program_pairs p));
-    before = tt;
-    behind = tt;
-  })
+  bodies_paired u f e = let s = bodies_stand p numbered u f e in block_is_paired s.first s.deep f.body s.statements s.blocks s.part

@@ -1,10 +1,14 @@
 -- The parts of a program's statements, with what is around them.
-use Rattle.std.proofs.Common.{◌≡◌, ◌<◌, ◌⊎◌, inl, inr, ℕ, suc, ◌+◌, List, [], ◌∷◌, ◌++◌, length, subst, arith, length-append}
-use Rattle.oc_tree.specs.Tree.{TKind, TStmts, TProgram}
-use Rattle.oc_tree.specs.Numbers.{kind_statements, stmts_statements, kind_blocks, stmts_blocks}
-use Rattle.oc_desugar.proofs.BlockPairs.{Pair, kind_pairs, stmts_pairs}
-use Rattle.oc_checked.proofs.BlockRanges.{EachPair, pairs_map, From, Ranged, RangedIn}
-use Rattle.oc_checked.proofs.PairsAround.{Outside, Later, later_part, earlier_part, Around, around_first, around_second}
+use Rattle.std.proofs.Common.{◌≡◌, ◌<◌, ◌⊎◌, inl, inr, ℕ, zero, suc, ◌+◌, List, [], ◌∷◌, ◌++◌, length, Some, sym, subst, arith, length-append, append-nil, flat_map}
+use Rattle.std.specs.Prelude.{slice_get}
+use Rattle.std.proofs.lemmas.Option.{none-some, same_Some}
+use Rattle.oc_tree.specs.Tree.{TKind, TStmts, TFunction, TProgram}
+use Rattle.oc_tree.specs.Form.{Numbered}
+use Rattle.oc_tree.specs.Numbers.{kind_statements, block_statements, stmts_statements, kind_blocks, block_blocks, stmts_blocks}
+use Rattle.oc_desugar.proofs.NumberLists.{Follow, first_of, parts}
+use Rattle.oc_desugar.proofs.BlockPairs.{Pair, kind_pairs, block_pairs, stmts_pairs, program_pairs}
+use Rattle.oc_checked.proofs.BlockRanges.{EachPair, pairs_map, From, Ranged, RangedIn, kind_ranged, block_ranged, stmts_ranged, functions_ranged}
+use Rattle.oc_checked.proofs.PairsAround.{Outside, Later, later_part, earlier_part, Around, around_first, around_second, around_less}
 
 module _ (p : TProgram) where
   -- the statements and blocks of a part, with what is around it
@@ -80,3 +84,92 @@ module _ (p : TProgram) where
         around_second p (suc i) (next + length (stmts_statements rest)) j (after + length (stmts_blocks rest)) next after (after + length (stmts_blocks rest)) (kind_pairs k)
         (stmts_pairs b rest) (omega arith) (omega arith) (omega arith)
         (earlier_part (suc i) next j after (after + length (stmts_blocks rest)) (kind_pairs k) h.inside) (behind_own h)
+
+    -- the first statement of these, where it stands
+    pub record First (n : ℕ) : Type 0 where
+      pub number : n ≡ i
+      pub known : Known
+      pub own_statements : Follow (suc i) inner
+      pub own_blocks : Follow j (kind_blocks k)
+      pub own : Part (suc i) j inner (kind_blocks k) (kind_pairs k)
+      pub rest_statements : Follow next (stmts_statements rest)
+      pub rest_blocks : Follow after (stmts_blocks rest)
+      pub end : i + length (n ∷ (inner ++ stmts_statements rest)) ≡ next + length (stmts_statements rest)
+
+    pub first_stands : (n : ℕ) → Follow i (n ∷ (inner ++ stmts_statements rest)) → Follow j (kind_blocks k ++ stmts_blocks rest)
+        → Part i j (n ∷ (inner ++ stmts_statements rest)) (kind_blocks k ++ stmts_blocks rest) ((n, b) ∷ (kind_pairs k ++ stmts_pairs b rest)) → b < j → First n
+    first_stands n f g h below =
+        let s = parts i (n ∷ inner) (stmts_statements rest) f in
+        let t = parts j (kind_blocks k) (stmts_blocks rest) g in
+        let o = first_of n i inner s.0 in
+        let top : i + length (n ∷ (inner ++ stmts_statements rest)) ≡ next + length (stmts_statements rest) = omega (arith, length-append inner (stmts_statements rest)) in
+        let deep : j + length (kind_blocks k ++ stmts_blocks rest) ≡ after + length (stmts_blocks rest) = omega (arith, length-append (kind_blocks k) (stmts_blocks rest)) in
+        let row1 = subst (λ m. Around p i (i + length (n ∷ (inner ++ stmts_statements rest))) j (j + length (kind_blocks k ++ stmts_blocks rest)) ((m, b) ∷ (kind_pairs k ++ stmts_pairs b rest))) o.0 h in
+        let row2 = subst (λ z. Around p i z j (j + length (kind_blocks k ++ stmts_blocks rest)) ((i, b) ∷ (kind_pairs k ++ stmts_pairs b rest))) top row1 in
+        let width : suc i + length inner ≡ next = omega arith in
+        let known : Known = record {
+          row = subst (λ d. Around p i (next + length (stmts_statements rest)) j d ((i, b) ∷ (kind_pairs k ++ stmts_pairs b rest))) deep row2;
+          below = below;
+          inside = subst (λ z. EachPair (Ranged (suc i) z j after) (kind_pairs k)) width (kind_ranged (suc i) j k o.1 t.0);
+          others = stmts_ranged b next after rest s.1 t.1;
+        } in
+        record {
+          number = o.0;
+          known = known;
+          own_statements = o.1;
+          own_blocks = t.0;
+          own = subst (λ z. Around p (suc i) z j after (kind_pairs k)) (sym width) (inside_part known);
+          rest_statements = s.1;
+          rest_blocks = t.1;
+          end = top;
+        }
+
+  -- the statements of a block, without the number of the block itself
+  pub block_part : (i j id : ℕ) (ss : TStmts) → Part i j (stmts_statements ss) (id ∷ stmts_blocks ss) (stmts_pairs id ss) → Part i (suc j) (stmts_statements ss) (stmts_blocks ss) (stmts_pairs id ss)
+  block_part i j id ss h =
+      let z = i + length (stmts_statements ss) in
+      let deep : j + suc (length (stmts_blocks ss)) ≡ suc j + length (stmts_blocks ss) = omega arith in
+      subst (λ d. Around p i z (suc j) d (stmts_pairs id ss)) deep (around_less p i z j (j + suc (length (stmts_blocks ss))) (suc j) (stmts_pairs id ss) (omega arith) h)
+
+  -- the body of a function, where it stands
+  pub record Body (f : TFunction) : Type 0 where
+    pub first : ℕ
+    pub deep : ℕ
+    pub statements : Follow first (block_statements f.body)
+    pub blocks : Follow deep (block_blocks f.body)
+    pub part : Part first deep (block_statements f.body) (block_blocks f.body) (block_pairs f.body)
+
+  functions_stand : (i j : ℕ) (fs : List TFunction) → Follow i (flat_map (λ f. block_statements f.body) fs) → Follow j (flat_map (λ f. block_blocks f.body) fs)
+      → Part i j (flat_map (λ f. block_statements f.body) fs) (flat_map (λ f. block_blocks f.body) fs) (flat_map (λ f. block_pairs f.body) fs) → (u : ℕ) (f : TFunction)
+      → slice_get fs u ≡ Some f → Body f
+  functions_stand i j [] f g h u x e = absurd (none-some x e)
+  functions_stand i j (y ∷ fs) f g h u x e =
+      let us = block_statements y.body in
+      let vs = flat_map (λ f. block_statements f.body) fs in
+      let bs = block_blocks y.body in
+      let cs = flat_map (λ f. block_blocks f.body) fs in
+      let ys = flat_map (λ f. block_pairs f.body) fs in
+      let s = parts i us vs f in
+      let t = parts j bs cs g in
+      let own : Body y = record {
+        first = i;
+        deep = j;
+        statements = s.0;
+        blocks = t.0;
+        part = part_first i j us vs bs cs (block_pairs y.body) ys (functions_ranged (i + length us) (j + length bs) fs s.1 t.1) h;
+      } in
+      go u e own (functions_stand (i + length us) (j + length bs) fs s.1 t.1 (part_second i j us vs bs cs (block_pairs y.body) ys (block_ranged i j y.body s.0 t.0) h))
+    where
+      go : (u : ℕ) → slice_get (y ∷ fs) u ≡ Some x → Body y → ((v : ℕ) (z : TFunction) → slice_get fs v ≡ Some z → Body z) → Body x
+      go zero e own others = subst Body (same_Some y x e) own
+      go (suc v) e own others = others v x e
+
+  -- the body of each function of a numbered program stands somewhere
+  pub bodies_stand : Numbered p → (u : ℕ) (f : TFunction) → slice_get p.functions u ≡ Some f → Body f
+  bodies_stand numbered = functions_stand 1 1 p.functions numbered.statements numbered.blocks (record {
+    front = [];
+    back = [];
+    is = sym (append-nil (program_pairs p));
+    before = tt;
+    behind = tt;
+  })

@@ -1,8 +1,7 @@
 -- The regions of a marked program begin and end in the same block.
-use Rattle.std.proofs.Common.{◌≡◌, ◌<◌, ℕ, zero, suc, ◌+◌, List, [], ◌∷◌, ◌++◌, length, sum_by, Some, ap, sym, ◌∙◌, subst, arith, length-append, append-nil, flat_map}
+use Rattle.std.proofs.Common.{◌≡◌, ◌<◌, ℕ, zero, suc, ◌+◌, List, ◌++◌, length, sum_by, Some, ap, ◌∙◌, subst, arith}
 use Rattle.std.specs.Prelude.{slice_get}
-use Rattle.std.proofs.lemmas.Option.{none-some, same_Some}
-use Rattle.oc_tree.specs.Tree.{TKind, let_to, let_array, assign, assign_index, assign_deref, if_else, for_in, while_do, call_only, sense_only, emit, fresh, consistent, return}
+use Rattle.oc_tree.specs.Tree.{TKind, if_else, for_in, while_do}
 use Rattle.oc_tree.specs.Tree.{TElse, no_else, else_do, stmt, TBlock, block, TStmts, no_stmts, more, TFunction, TProgram}
 use Rattle.oc_tree.specs.Form.{Numbered}
 use Rattle.oc_tree.specs.Numbers.{kind_statements, else_statements, block_statements, stmts_statements, kind_blocks, else_blocks, block_blocks, stmts_blocks}
@@ -11,13 +10,13 @@ use Rattle.oc_tree.specs.Marked.{TRegion}
 use Rattle.oc_meaning.specs.Exec.{begun_by, ended_by}
 use Rattle.oc_code.specs.Formed.{marks}
 use Rattle.oc_desugar.proofs.NumberLists.{Follow, first_of, parts}
-use Rattle.oc_desugar.proofs.BlockPairs.{kind_pairs, else_pairs, block_pairs, stmts_pairs, program_pairs, block_there}
+use Rattle.oc_desugar.proofs.BlockPairs.{kind_pairs, else_pairs, block_pairs, stmts_pairs, block_there}
 use Rattle.oc_formed.proofs.BodiesMarked.{KindMarked, ElseMarked, BlockMarked, StmtsMarked}
-use Rattle.oc_checked.proofs.BlockRanges.{EachPair, Ranged, kind_ranged, else_ranged, block_ranged, stmts_ranged, functions_ranged}
+use Rattle.oc_checked.proofs.BlockRanges.{else_ranged, block_ranged}
 use Rattle.oc_formed.proofs.RegionCounts.{begins, ends, open_at, begun_counted, ended_counted, all_across, none_before, none_behind}
-use Rattle.oc_checked.proofs.PairsAround.{Around, around_less, in_block_range, in_block_gap}
+use Rattle.oc_checked.proofs.PairsAround.{in_block_range, in_block_gap}
 use Rattle.oc_checked.proofs.RegionsApart.{EachRegion, Differ, InBlock}
-use Rattle.oc_checked.proofs.RowsAround.{Part, part_first, part_second, Known, inside_part, rest_part}
+use Rattle.oc_checked.proofs.RowsAround.{Part, part_first, part_second, Known, rest_part, first_stands, block_part, bodies_stand}
 
 module _ (p : TProgram) (numbered : Numbered p) (regions : List TRegion) (within : EachRegion (InBlock (block_of p)) regions) (firsts : Differ (λ r. r.first) regions)
     (lasts : Differ (λ r. r.last) regions) where
@@ -60,70 +59,25 @@ module _ (p : TProgram) (numbered : Numbered p) (regions : List TRegion) (within
     block_is_marked i j (block id ss) f g h =
         let o = first_of id j (stmts_blocks ss) g in
         let z = i + length (stmts_statements ss) in
-        let d : j + suc (length (stmts_blocks ss)) ≡ suc j + length (stmts_blocks ss) = omega arith in
         let range = in_block_range p i z j (j + suc (length (stmts_blocks ss))) (stmts_pairs id ss) (block_ranged i j (block id ss) f g) h id o.0 (omega arith) in
-        let less = subst (λ d. Around p i z (suc j) d (stmts_pairs id ss)) d (around_less p i z j (j + suc (length (stmts_blocks ss))) (suc j) (stmts_pairs id ss) (omega arith) h) in
         let none = none_before (block_of p) id i (λ s e. (range s e).0) regions within in
-        subst (λ n. StmtsMarked regions n ss) none (stmts_are_marked id i (suc j) ss f o.1 less (omega (arith, o.0)) (λ s e. (range s e).1))
+        subst (λ n. StmtsMarked regions n ss) none (stmts_are_marked id i (suc j) ss f o.1 (block_part p i j id ss h) (omega (arith, o.0)) (λ s e. (range s e).1))
 
     -- statements of the block b, of which none has a number from the end of these on
     stmts_are_marked : (b i j : ℕ) (ss : TStmts) → Follow i (stmts_statements ss) → Follow j (stmts_blocks ss) → Part p i j (stmts_statements ss) (stmts_blocks ss) (stmts_pairs b ss)
         → b < j → ((s : ℕ) → block_of p s ≡ Some b → s < i + length (stmts_statements ss)) → StmtsMarked regions (open_at regions b i) ss
     stmts_are_marked b i j no_stmts f g h below end = none_behind (block_of p) b i (λ s e. omega (arith, end s e)) regions within
     stmts_are_marked b i j (more (stmt n line k) rest) f g h below end =
-        let s = parts i (n ∷ kind_statements k) (stmts_statements rest) f in
-        let t = parts j (kind_blocks k) (stmts_blocks rest) g in
-        let o = first_of n i (kind_statements k) s.0 in
+        let s = first_stands p b i j k rest n f g h below in
         let next = i + suc (length (kind_statements k)) in
         let after = j + length (kind_blocks k) in
-        let top : i + length (n ∷ (kind_statements k ++ stmts_statements rest)) ≡ next + length (stmts_statements rest) = omega (arith, length-append (kind_statements k) (stmts_statements rest)) in
-        let deep : j + length (kind_blocks k ++ stmts_blocks rest) ≡ after + length (stmts_blocks rest) = omega (arith, length-append (kind_blocks k) (stmts_blocks rest)) in
-        let row1 = subst (λ m. Around p i (i + length (n ∷ (kind_statements k ++ stmts_statements rest))) j (j + length (kind_blocks k ++ stmts_blocks rest))
-        ((m, b) ∷ (kind_pairs k ++ stmts_pairs b rest))) o.0 h in
-        let row2 = subst (λ z. Around p i z j (j + length (kind_blocks k ++ stmts_blocks rest)) ((i, b) ∷ (kind_pairs k ++ stmts_pairs b rest))) top row1 in
-        let row3 = subst (λ d. Around p i (next + length (stmts_statements rest)) j d ((i, b) ∷ (kind_pairs k ++ stmts_pairs b rest))) deep row2 in
-        let width : suc i + length (kind_statements k) ≡ next = omega arith in
-        let known : Known p b i j k rest = record {
-          row = row3;
-          below = below;
-          inside = subst (λ z. EachPair (Ranged (suc i) z j after) (kind_pairs k)) width (kind_ranged (suc i) j k o.1 t.0);
-          others = stmts_ranged b next after rest s.1 t.1;
-        } in
-        let inner = subst (λ z. Around p (suc i) z j after (kind_pairs k)) (sym width) (inside_part p b i j k rest known) in (
-          kind_is_marked (suc i) j k o.1 t.0 inner,
+        let top = s.end in (
+          kind_is_marked (suc i) j k s.own_statements s.own_blocks s.own,
           open_at regions b next,
-          crossed b i j n k rest known o.0,
-          stmts_are_marked b next after rest s.1 t.1 (rest_part p b i j k rest known) (omega (arith, below)) (λ x e. omega (arith, end x e, top)),
+          crossed b i j n k rest s.known s.number,
+          stmts_are_marked b next after rest s.rest_statements s.rest_blocks (rest_part p b i j k rest s.known) (omega (arith, below)) (λ x e. omega (arith, end x e, top)),
         )
-
-  -- functions
-  functions_marked : (i j : ℕ) (fs : List TFunction) → Follow i (flat_map (λ f. block_statements f.body) fs) → Follow j (flat_map (λ f. block_blocks f.body) fs)
-      → Part p i j (flat_map (λ f. block_statements f.body) fs) (flat_map (λ f. block_blocks f.body) fs) (flat_map (λ f. block_pairs f.body) fs) → (u : ℕ) (f : TFunction)
-      → slice_get fs u ≡ Some f → BlockMarked regions f.body
-  functions_marked i j [] f g h u x e = absurd (none-some x e)
-  functions_marked i j (y ∷ fs) f g h u x e =
-      let us = block_statements y.body in
-      let vs = flat_map (λ f. block_statements f.body) fs in
-      let bs = block_blocks y.body in
-      let cs = flat_map (λ f. block_blocks f.body) fs in
-      let s = parts i us vs f in
-      let t = parts j bs cs g in
-      let own = block_is_marked i j y.body s.0 t.0
-      (part_first p i j us vs bs cs (block_pairs y.body) (flat_map (λ f. block_pairs f.body) fs) (functions_ranged (i + length us) (j + length bs) fs s.1 t.1) h) in
-      let others = functions_marked (i + length us) (j + length bs) fs s.1 t.1
-      (part_second p i j us vs bs cs (block_pairs y.body) (flat_map (λ f. block_pairs f.body) fs) (block_ranged i j y.body s.0 t.0) h) in
-      go u e own others
-    where
-      go : (u : ℕ) → slice_get (y ∷ fs) u ≡ Some x → BlockMarked regions y.body → ((v : ℕ) (z : TFunction) → slice_get fs v ≡ Some z → BlockMarked regions z.body) → BlockMarked regions x.body
-      go zero e own others = subst (λ (z : TFunction). BlockMarked regions z.body) (same_Some y x e) own
-      go (suc v) e own others = others v x e
 
   -- all functions
   pub bodies_marked : (u : ℕ) (f : TFunction) → slice_get p.functions u ≡ Some f → BlockMarked regions f.body
-  bodies_marked = functions_marked 1 1 p.functions numbered.statements numbered.blocks (record {
-    front = [];
-    back = [];
-    is = sym (append-nil (program_pairs p));
-    before = tt;
-    behind = tt;
-  })
+  bodies_marked u f e = let s = bodies_stand p numbered u f e in block_is_marked s.first s.deep f.body s.statements s.blocks s.part

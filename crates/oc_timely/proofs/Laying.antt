@@ -1,17 +1,16 @@
 -- Statements are numbered in source order, and each block of which a part has a statement has all of them there.
-use Rattle.std.proofs.Common.{◌≡◌, ◌<◌, ◌≤◌, inl, inr, ℕ, zero, suc, ◌+◌, List, [], ◌∷◌, ◌++◌, length, Some, sym, subst, arith}
-use Rattle.std.proofs.Common.{length-append, append-nil, flat_map}
+use Rattle.std.proofs.Common.{◌≡◌, ◌<◌, ◌≤◌, inl, inr, ℕ, zero, suc, ◌+◌, List, ◌++◌, length, Some, sym, subst, arith}
+use Rattle.std.proofs.Common.{length-append}
 use Rattle.std.specs.Prelude.{slice_get}
-use Rattle.std.proofs.lemmas.Option.{none-some, same_Some}
 use Rattle.oc_tree.specs.Tree.{TKind, if_else, for_in, while_do}
 use Rattle.oc_tree.specs.Tree.{TElse, no_else, else_do, stmt, TBlock, block, TStmts, no_stmts, more, TFunction, TProgram}
 use Rattle.oc_tree.specs.Form.{Numbered}
 use Rattle.oc_tree.specs.Numbers.{kind_statements, else_statements, block_statements, stmts_statements, kind_blocks, else_blocks, block_blocks, stmts_blocks}
 use Rattle.oc_desugar.proofs.NumberLists.{Follow, first_of, parts}
-use Rattle.oc_desugar.proofs.BlockPairs.{Pair, kind_pairs, else_pairs, block_pairs, stmts_pairs, program_pairs}
-use Rattle.oc_checked.proofs.BlockRanges.{EachPair, pairs_map, From, Ranged, kind_ranged, else_ranged, block_ranged, stmts_ranged, functions_ranged}
-use Rattle.oc_checked.proofs.PairsAround.{Outside, Earlier, Later, Around, around_less, told}
-use Rattle.oc_checked.proofs.RowsAround.{Part, part_first, part_second, Known, inside_part, rest_part}
+use Rattle.oc_desugar.proofs.BlockPairs.{Pair, kind_pairs, else_pairs, block_pairs, stmts_pairs}
+use Rattle.oc_checked.proofs.BlockRanges.{EachPair, pairs_map, From, Ranged, else_ranged, block_ranged}
+use Rattle.oc_checked.proofs.PairsAround.{Outside, Earlier, Later, Around, told}
+use Rattle.oc_checked.proofs.RowsAround.{Part, part_first, part_second, rest_part, first_stands, block_part, bodies_stand}
 use Rattle.oc_timely.specs.Laid.{IsClosed, LaidKind, LaidElse, LaidBlock, LaidStmts}
 
 module _ (p : TProgram) where
@@ -69,82 +68,24 @@ module _ (p : TProgram) where
     block_laid i j (block id ss) f g h =
         let o = first_of id j (stmts_blocks ss) g in
         let z = i + length (stmts_statements ss) in
-        let d : j + suc (length (stmts_blocks ss)) ≡ suc j + length (stmts_blocks ss) = omega arith in
-        let less = subst (λ d. Around p i z (suc j) d (stmts_pairs id ss)) d (around_less p i z j (j + suc (length (stmts_blocks ss))) (suc j) (stmts_pairs id ss) (omega arith) h) in
-        (closed i z j (j + suc (length (stmts_blocks ss))) (stmts_pairs id ss) (block_ranged i j (block id ss) f g) h, stmts_laid id i (suc j) ss f o.1 less (omega (arith, o.0)))
+        (closed i z j (j + suc (length (stmts_blocks ss))) (stmts_pairs id ss) (block_ranged i j (block id ss) f g) h, stmts_laid id i (suc j) ss f o.1 (block_part p i j id ss h) (omega (arith, o.0)))
 
     stmts_laid : (b i j : ℕ) (ss : TStmts) → Follow i (stmts_statements ss) → Follow j (stmts_blocks ss) → Part p i j (stmts_statements ss) (stmts_blocks ss) (stmts_pairs b ss) → b < j →
         LaidStmts p i ss (i + length (stmts_statements ss))
     stmts_laid b i j no_stmts f g h below = straight i
     stmts_laid b i j (more (stmt n line k) rest) f g h below =
-        let s = parts i (n ∷ kind_statements k) (stmts_statements rest) f in
-        let t = parts j (kind_blocks k) (stmts_blocks rest) g in
-        let o = first_of n i (kind_statements k) s.0 in
+        let s = first_stands p b i j k rest n f g h below in
         let next = i + suc (length (kind_statements k)) in
         let after = j + length (kind_blocks k) in
-        let top : i + length (n ∷ (kind_statements k ++ stmts_statements rest)) ≡ next + length (stmts_statements rest) = omega (arith, length-append (kind_statements k) (stmts_statements rest)) in
-        let deep : j + length (kind_blocks k ++ stmts_blocks rest) ≡ after + length (stmts_blocks rest) = omega (arith, length-append (kind_blocks k) (stmts_blocks rest)) in
-        let row1 = subst (λ m. Around p i (i + length (n ∷ (kind_statements k ++ stmts_statements rest))) j (j + length (kind_blocks k ++ stmts_blocks rest))
-        ((m, b) ∷ (kind_pairs k ++ stmts_pairs b rest))) o.0 h in
-        let row2 = subst (λ z. Around p i z j (j + length (kind_blocks k ++ stmts_blocks rest)) ((i, b) ∷ (kind_pairs k ++ stmts_pairs b rest))) top row1 in
-        let row3 = subst (λ d. Around p i (next + length (stmts_statements rest)) j d ((i, b) ∷ (kind_pairs k ++ stmts_pairs b rest))) deep row2 in
         let width : suc i + length (kind_statements k) ≡ next = omega arith in
-        let known : Known p b i j k rest = record {
-          row = row3;
-          below = below;
-          inside = subst (λ z. EachPair (Ranged (suc i) z j after) (kind_pairs k)) width (kind_ranged (suc i) j k o.1 t.0);
-          others = stmts_ranged b next after rest s.1 t.1;
-        } in
-        let inner = subst (λ z. Around p (suc i) z j after (kind_pairs k)) (sym width) (inside_part p b i j k rest known) in
-        let own : LaidKind p (suc i) k next = subst (λ z. LaidKind p (suc i) k z) width (kind_laid (suc i) j k o.1 t.0 inner) in (
-          o.0,
+        let own : LaidKind p (suc i) k next = subst (λ z. LaidKind p (suc i) k z) width (kind_laid (suc i) j k s.own_statements s.own_blocks s.own) in (
+          s.number,
           next,
-          subst (λ m. LaidKind p (suc m) k next) (sym o.0) own,
-          subst (λ z. LaidStmts p next rest z) (sym top) (stmts_laid b next after rest s.1 t.1 (rest_part p b i j k rest known) (omega (arith, below))),
+          subst (λ m. LaidKind p (suc m) k next) (sym s.number) own,
+          subst (λ z. LaidStmts p next rest z) (sym s.end) (stmts_laid b next after rest s.rest_statements s.rest_blocks (rest_part p b i j k rest s.known) (omega (arith, below))),
         )
-
-  -- a function of the list
-  record IsLaid (i : ℕ) (g : TFunction) : Type 0 where
-    pub first : ℕ
-    pub from : i ≤ first
-    pub follows : Follow first (block_statements g.body)
-    pub laid : LaidBlock p first g.body (first + length (block_statements g.body))
-
-  functions_laid : (i j : ℕ) (fs : List TFunction) → Follow i (flat_map (λ f. block_statements f.body) fs) → Follow j (flat_map (λ f. block_blocks f.body) fs) →
-      Part p i j (flat_map (λ f. block_statements f.body) fs) (flat_map (λ f. block_blocks f.body) fs) (flat_map (λ f. block_pairs f.body) fs) → (u : ℕ) (g : TFunction) → slice_get fs u ≡ Some g →
-      IsLaid i g
-  functions_laid i j [] f g h u x e = absurd (none-some x e)
-  functions_laid i j (y ∷ fs) f g h u x e =
-      let us = block_statements y.body in
-      let vs = flat_map (λ f. block_statements f.body) fs in
-      let bs = block_blocks y.body in
-      let cs = flat_map (λ f. block_blocks f.body) fs in
-      let s = parts i us vs f in
-      let t = parts j bs cs g in
-      let own : IsLaid i y = record {
-        first = i;
-        from = omega arith;
-        follows = s.0;
-        laid =
-            block_laid i j y.body s.0 t.0 (part_first p i j us vs bs cs (block_pairs y.body) (flat_map (λ f. block_pairs f.body) fs) (functions_ranged (i + length us) (j + length bs) fs s.1 t.1) h);
-      } in
-      let others = functions_laid (i + length us) (j + length bs) fs s.1 t.1
-      (part_second p i j us vs bs cs (block_pairs y.body) (flat_map (λ f. block_pairs f.body) fs) (block_ranged i j y.body s.0 t.0) h) in
-      go u e own others
-    where
-      go : (u : ℕ) → slice_get (y ∷ fs) u ≡ Some x → IsLaid i y → ((v : ℕ) (z : TFunction) → slice_get fs v ≡ Some z → IsLaid (i + length (block_statements y.body)) z) → IsLaid i x
-      go zero e own others = subst (λ (z : TFunction). IsLaid i z) (same_Some y x e) own
-      go (suc v) e own others = let r = others v x e in record { first = r.first; from = (let l = r.from in omega (arith, l)); follows = r.follows; laid = r.laid }
 
   -- each function's statements are laid from its first number on
   pub bodies_laid : Numbered p → (u : ℕ) (g : TFunction) → slice_get p.functions u ≡ Some g →
       (first : ℕ) × Follow first (block_statements g.body) × LaidBlock p first g.body (first + length (block_statements g.body))
-  bodies_laid numbered u g e =
-      let r = functions_laid 1 1 p.functions numbered.statements numbered.blocks (record {
-        front = [];
-        back = [];
-        is = sym (append-nil (program_pairs p));
-        before = tt;
-        behind = tt;
-      }) u g e in
-      (r.first, r.follows, r.laid)
+  bodies_laid numbered u g e = let s = bodies_stand p numbered u g e in (s.first, s.statements, block_laid s.first s.deep g.body s.statements s.blocks s.part)

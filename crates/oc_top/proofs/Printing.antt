@@ -10,12 +10,12 @@ use Rattle.oc_top.specs.Verdict.{regions_of}
 use Rattle.oc_top.specs.Steps.{IsBuilt}
 use Rattle.oc_command.specs.Sinks.{Writes}
 use Rattle.oc_report.specs.Written.{IsWritten}
-use Rattle.oc_top.specs.Printed.{Tells, IsPrinted, put}
+use Rattle.oc_top.specs.Printed.{TellsRegions, IsPrinted, put}
 use Rattle.oc_top.specs.declared.print.Told.{Told}
 use Rattle.oc_command.specs.declared.answer.Answer.{Answer}
 
 module _ (sink : Writes) (end : Answer) (source : List ℕ) where
-  pub regions_printed : (t : Told) → Tells source t → IsWritten sink (prints (regions_text t.marked (limited_budgets t.marked))) end → IsPrinted source regions_of sink end
+  pub regions_printed : (t : Told) → TellsRegions source t → IsWritten sink (prints (regions_text t.marked (limited_budgets t.marked))) end → IsPrinted source regions_of sink end
   regions_printed t told w =
       put told.marked.written told.marked.reads
       (subst (λ (m : TMarked). IsWritten sink (prints (regions_text m (limited_budgets m))) end) told.marked.is_marked w)

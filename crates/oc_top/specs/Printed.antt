@@ -13,7 +13,7 @@ use Rattle.oc_top.specs.declared.print.Told.{Told}
 use Rattle.oc_command.specs.declared.answer.Answer.{Answer}
 
 -- the regions of the program that a source spells, with all that is written of them
-pub record Tells (source : List ℕ) (t : Told) : Type 0 where
+pub record TellsRegions (source : List ℕ) (t : Told) : Type 0 where
   pub marked : IsMarkedOf source t.marked
   pub budgets : budgets_view t.budgets ≡ limited_budgets t.marked
   pub details : HasDetails t.marked t.details

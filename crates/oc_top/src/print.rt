@@ -6,7 +6,7 @@ ghost use Rattle.oc_budget.specs.View.{budgets_view};
 ghost use Rattle.oc_lex.specs.Limits.{source_limit};
 ghost use Rattle.oc_command.specs.Sinks.{writes};
 ghost use Rattle.oc_report.specs.Written.{IsWritten};
-ghost use Rattle.oc_top.specs.Printed.{IsPrinted, Tells};
+ghost use Rattle.oc_top.specs.Printed.{IsPrinted, TellsRegions};
 ghost use Rattle.oc_report.specs.RegionDetails.{HasDetails};
 ghost use Rattle.oc_report.specs.RegionLines.{regions_text};
 ghost use Rattle.oc_top.specs.Steps.{IsNotBuilt};
@@ -63,7 +63,7 @@ fn told_of(alloc: Global, marked: &Marked, kept: Kept) -> Result<(Budgets, Detai
 /// The regions of the program that a source spells, with their budgets.
 fn tell(alloc: Global, source: &[u8]) -> Result<Told, Answer>
     requires { length source.now ≤ source_limit }
-    ensures told { IfOk result (λ t. Tells source.now t) }
+    ensures told { IfOk result (λ t. TellsRegions source.now t) }
     ensures refused { IfErr result (λ a. IsNotBuilt source.now a) }
 {
     let (marked, kept) = marked_with_effects(alloc, source)?;

@@ -16,7 +16,7 @@ use Rattle.oc_verify.specs.declared.kind.Kind.{Kind}
 use Rattle.oc_verify.specs.Typing.{Pair, pair}
 use Rattle.oc_verify.specs.Rules.{Judged, code_at, judge, own_slots, successors}
 use Rattle.oc_verify.specs.Stacks.{Grows, Nodes, stack_to, stack}
-use Rattle.oc_verify.specs.Told.{AreIn, Tells, kinds}
+use Rattle.oc_verify.specs.Told.{AreIn, IsJudgment, kinds}
 use Rattle.oc_verify.specs.Work.{todo_at, Marks, IsWork}
 use Rattle.oc_verify.specs.Tables.{Cells, pair_in, marks, own_by, own_marks, AreCells, IsWalk, KeepsOthers, is_blank, blanks}
 use Rattle.oc_verify.specs.Facts.{IsLaid, IsStretch}
@@ -163,7 +163,7 @@ looked_others i f ks ks' rs rs' cs a n x e g h c b z =
 
 -- a fault of the judgement blames a rule that is broken
 pub blame_fault : (i : Parts) (f : ℕ) (kinds' : List Kind) (ks rs : Nodes) (cs : Cells) (todo : List (ℕ × (ℕ × ℕ))) (a : ℕ) (n : ℕ × ℕ) (w : IsWalk i f kinds' ks rs cs (todo ++ (a, n) ∷ []))
-    (x : Placed) → code_at i f a ≡ Some x → (view : ℕ × ℕ → Pair) (e : Fault) (j : Judged Pair) → Tells view (Err e) j → judge i (own_slots i f kinds') x.instr (kinds ks n.0) (stack rs n.1) ≡ j
+    (x : Placed) → code_at i f a ≡ Some x → (view : ℕ × ℕ → Pair) (e : Fault) (j : Judged Pair) → IsJudgment view (Err e) j → judge i (own_slots i f kinds') x.instr (kinds ks n.0) (stack rs n.1) ≡ j
     → BlamesIn i f kinds' (fault_at a e)
 blame_fault i f kinds' ks rs cs todo a n w x found view (faults.Broken rule) j t e = blame_step i f kinds' ks rs cs todo a n w x rule found (e ∙ t)
 blame_fault i f kinds' ks rs cs todo a n w x found view faults.Memory j t e = λ k q R c. tt

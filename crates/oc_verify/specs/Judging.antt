@@ -9,7 +9,7 @@ use Rattle.oc_verify.specs.declared.kind.Kind.{Kind}
 use Rattle.oc_verify.specs.declared.kind.Kind.TheVariants.{Number, Place}
 use Rattle.oc_verify.specs.Rules.{Judged, ◌>>=◌, closing, dropping, gives, none_open, number, number_slot, nv_words, params_of, place, run, slot}
 use Rattle.oc_verify.specs.Stacks.{Grows, Nodes}
-use Rattle.oc_verify.specs.Told.{Tells, kinds}
+use Rattle.oc_verify.specs.Told.{IsJudgment, kinds}
 use Rattle.oc_verify.specs.Typing.{level, result}
 
 -- what an instruction, in a function with these slots, makes of the kinds on the operand stack
@@ -49,6 +49,6 @@ on_regions x rs = Ok rs
 -- earlier stacks keep their numbers
 pub record TellsStack (before after : Nodes) (result : Result ℕ Fault) (judged : Judged (List Kind))
     : Type 0 where
-  pub exact : Tells (λ n. kinds after n) result judged
+  pub exact : IsJudgment (λ n. kinds after n) result judged
   pub within : IfOk result (λ n. n ≤ length after)
   pub grows : OnOk result (Grows before after)

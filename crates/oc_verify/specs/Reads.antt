@@ -24,10 +24,10 @@ Reads view (Err (faults.Bad left)) rest read = read ≡ Err left
 Reads view (Err faults.Memory) rest read = Unit {0}
 
 -- the answer on a field that tells nothing is what was to be read, unless memory ran out
-abbrev pub Passes : {A : Type 0} → Result A ReadFault → Bytes → Result Bytes ℕ → Type 0
-Passes (Ok x) rest read = read ≡ Ok rest
-Passes (Err (faults.Bad left)) rest read = read ≡ Err left
-Passes (Err faults.Memory) rest read = Unit {0}
+abbrev pub ReadsBare : {A : Type 0} → Result A ReadFault → Bytes → Result Bytes ℕ → Type 0
+ReadsBare (Ok x) rest read = read ≡ Ok rest
+ReadsBare (Err (faults.Bad left)) rest read = read ≡ Err left
+ReadsBare (Err faults.Memory) rest read = Unit {0}
 
 -- no byte is left, or the fault is where the bytes that are left begin
 abbrev pub Ends : {A : Type 0} → Result A ReadFault → Bytes → Type 0

@@ -16,7 +16,7 @@ ghost use Rattle.oc_verify.specs.Judging.{TellsStack, on_operands, on_regions};
 ghost use Rattle.oc_verify.specs.Own.{own_list};
 ghost use Rattle.oc_verify.specs.Rules.{judge, names_exist};
 ghost use Rattle.oc_verify.specs.Stacks.{Grows, kind_limit, stack};
-ghost use Rattle.oc_verify.specs.Told.{AreIn, Tells, kind_of, kinds, pair_of};
+ghost use Rattle.oc_verify.specs.Told.{AreIn, IsJudgment, kind_of, kinds, pair_of};
 ghost use Rattle.oc_verify.specs.declared.fault.Fault.TheVariants as faults;
 
 use crate::facts::Facts;
@@ -128,7 +128,7 @@ fn operands(
 /// The regions that are open behind an instruction.
 fn still_open(regions: &mut Stacks, instr: Instr, opens: u32) -> Result<u32, Fault>
     requires { opens ≤ length regions.old }
-    ensures exact { Tells (λ n. stack regions.new n) result
+    ensures exact { IsJudgment (λ n. stack regions.new n) result
         (on_regions instr (stack regions.old opens)) }
     ensures within { IfOk result (λ n. n ≤ length regions.new) }
     ensures grows { OnOk result (Grows regions.old regions.new) }
@@ -159,7 +159,7 @@ pub fn judge(
 ) -> Result<(u32, u32), Fault>
     requires pair { AreIn tops.old regions.old pair }
     requires names { names_exist facts.now home instr ≡ true }
-    ensures exact { Tells (pair_of tops.new regions.new) result
+    ensures exact { IsJudgment (pair_of tops.new regions.new) result
         (judge facts.now (own_list slots.now) instr (kinds tops.old pair.0)
         (stack regions.old pair.1)) }
     ensures within { IfOk result (AreIn tops.new regions.new) }

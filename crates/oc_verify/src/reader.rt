@@ -67,7 +67,7 @@ impl<'a> Reader<'a> {
 
     /// The bytes that each file begins with.
     pub fn magic(&mut self) -> Result<(), ReadFault>
-        ensures { reads.Passes result self.new (magic_at self.old) }
+        ensures { reads.ReadsBare result self.new (magic_at self.old) }
     {
         let left = self.rest.len();
         match self.rest.strip_prefix(b"OCELOT1\n") {
@@ -121,7 +121,7 @@ impl<'a> Reader<'a> {
     /// Two numbers that aren't used.
     #[tactic(auto, unfolding(crate::specs::Reading::unused_at))]
     pub fn skip_unused(&mut self) -> Result<(), ReadFault>
-        ensures { reads.Passes result self.new (unused_at self.old) }
+        ensures { reads.ReadsBare result self.new (unused_at self.old) }
     {
         self.number(0, 0)?;
         self.number(0, 0)?;

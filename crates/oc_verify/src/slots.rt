@@ -24,7 +24,7 @@ ghost use Rattle.oc_verify.specs.Own.{
 ghost use Rattle.oc_verify.specs.Reading.{greatest};
 ghost use Rattle.oc_verify.specs.Rules.{more, number_slot, run, slot, slot_right};
 ghost use Rattle.oc_verify.specs.Stacks.{kind_limit};
-ghost use Rattle.oc_verify.specs.Told.{Tells, kind_of};
+ghost use Rattle.oc_verify.specs.Told.{IsJudgment, kind_of};
 ghost use Rattle.oc_verify.specs.Typing.{level};
 ghost use Rattle.oc_verify.specs.declared.kind.Kind.TheVariants as kinds;
 
@@ -139,7 +139,7 @@ impl<'a> Slots<'a> {
 
     /// The number of the kind of a slot.
     pub fn kind(&self, place: u32) -> Result<u64, Fault>
-        ensures exact { Tells kind_of result (slot (level (own_list self.now) place)) }
+        ensures exact { IsJudgment kind_of result (slot (level (own_list self.now) place)) }
         ensures small { IfOk result (λ c. c < kind_limit) }
     {
         match self.code(place) {
@@ -150,7 +150,7 @@ impl<'a> Slots<'a> {
 
     /// A slot may have to be a number.
     pub fn number(&self, slot: u32) -> Result<(), Fault>
-        ensures exact { Tells (λ u. kinds.Number) result
+        ensures exact { IsJudgment (λ u. kinds.Number) result
             (number_slot (level (own_list self.now) slot)) }
     {
         match self.code(slot) {

@@ -22,7 +22,7 @@ ghost use Rattle.std.specs.Prelude.{
 };
 ghost use Rattle.std.specs.List.{list_any};
 ghost use Rattle.oc_verify.specs.Stacks.{kind_limit, stack, with_node, Grows, IsIndex};
-ghost use Rattle.oc_verify.specs.Told.{kinds, Leaves, Tells, IsTop};
+ghost use Rattle.oc_verify.specs.Told.{kinds, Leaves, IsJudgment, IsTop};
 ghost use Rattle.oc_verify.specs.Rules.{number, place, closing, dropping, none_open};
 
 use crate::fault::Fault;
@@ -171,7 +171,7 @@ impl Stacks {
     /// The kinds below a number.
     pub fn number(&self, ops: u32) -> Result<u32, Fault>
         requires { ops ≤ length self.now }
-        ensures exact { Tells (λ n. kinds self.now n) result (number (kinds self.now ops)) }
+        ensures exact { IsJudgment (λ n. kinds self.now n) result (number (kinds self.now ops)) }
         ensures within { IfOk result (λ n. n ≤ length self.now) }
     {
         match self.top(ops) {
@@ -183,7 +183,7 @@ impl Stacks {
     /// The kinds below a place of at least so many words.
     pub fn place(&self, words: u32, ops: u32) -> Result<u32, Fault>
         requires { ops ≤ length self.now }
-        ensures exact { Tells (λ n. kinds self.now n) result (place words (kinds self.now ops)) }
+        ensures exact { IsJudgment (λ n. kinds self.now n) result (place words (kinds self.now ops)) }
         ensures within { IfOk result (λ n. n ≤ length self.now) }
     {
         match self.top(ops) {
@@ -201,7 +201,7 @@ impl Stacks {
     /// The regions open outside of the last one, which is this.
     pub fn closing(&self, region: u32, opens: u32) -> Result<u32, Fault>
         requires { opens ≤ length self.now }
-        ensures exact { Tells (λ n. stack self.now n) result
+        ensures exact { IsJudgment (λ n. stack self.now n) result
             (closing region (stack self.now opens)) }
         ensures within { IfOk result (λ n. n ≤ length self.now) }
     {
@@ -220,7 +220,7 @@ impl Stacks {
     /// The kinds below so many arguments.
     pub fn drop_arguments(&mut self, count: u32, ops: u32) -> Result<u32, Fault>
         requires { ops ≤ length self.old }
-        ensures exact { Tells (λ n. kinds self.old n) result
+        ensures exact { IsJudgment (λ n. kinds self.old n) result
             (dropping count (kinds self.old ops)) }
         ensures within { IfOk result (λ n. n ≤ length self.old) }
         ensures same { self.new ≡ self.old }
@@ -247,7 +247,7 @@ impl Stacks {
     fn below(&self, count: u32, ops: u32, last: (u32, u32, u32)) -> Result<u32, Fault>
         requires ops { ops ≤ length self.now }
         requires last { Leaves self.now last }
-        ensures exact { Tells (λ n. kinds self.now n) result
+        ensures exact { IsJudgment (λ n. kinds self.now n) result
             (dropping count (kinds self.now ops)) }
         ensures within { IfOk result (λ n. n ≤ length self.now) }
     {
@@ -269,7 +269,7 @@ impl Stacks {
     /// No region may be open.
     pub fn none_open(&self, opens: u32) -> Result<(), Fault>
         requires { opens ≤ length self.now }
-        ensures { Tells (λ u. []) result (none_open (stack self.now opens)) }
+        ensures { IsJudgment (λ u. []) result (none_open (stack self.now opens)) }
     {
         match self.top(opens) {
             Some(_) => Err(Fault::Broken { rule: 8 }),

@@ -1,6 +1,6 @@
 pub mod CappedLaws
-pub mod StackLaws
 pub mod OrderLaws
 pub mod Callees
 pub mod OrderTables
 pub mod WeightCallees
+pub mod Levels

@@ -179,12 +179,16 @@ one_deeper links n u v d within link none h =
     let below = (within u v link).1 in
     omega (arith, h, rank_falls links n u v below link (no_way_back links n none v below))
 
+-- a number that doesn't lead to itself leads to fewer than there are
+pub rank_small : (links : Links) (n u : ℕ) → u < n → leads links n u u ≡ false → rank links n u < n
+rank_small links n u below none =
+    let less = count_less (leads links n u) (λ x. true) (λ x h. refl) n u below none refl in
+    omega (arith, less, count_all (λ x. true) n (λ v h. refl))
+
 -- no way on is as long as there are numbers
 pub too_deep : (links : Links) (n u : ℕ) → u < n → (comes_back links n ≡ false → n ≤ rank links n u) → comes_back links n ≡ true
 too_deep links n u below deep = by (comes_back links n) refl
   where
     by : (b : Bool) → comes_back links n ≡ b → b ≡ true
     by true e = refl
-    by false e =
-        let less = count_less (leads links n u) (λ x. true) (λ x h. refl) n u below (no_way_back links n e u below) refl in
-        absurd (omega (arith, less, deep e, count_all (λ x. true) n (λ v h. refl)))
+    by false e = absurd (omega (arith, deep e, rank_small links n u below (no_way_back links n e u below)))

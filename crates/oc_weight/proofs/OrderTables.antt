@@ -9,20 +9,26 @@ use Rattle.std.proofs.lemmas.Bool.Decides.{eqb_tells}
 use mathlib.Core.Logic.{inl, inr}
 use Rattle.oc_tree.specs.Tree.{TFunction}
 use Rattle.oc_tree.specs.Calls.{block_kinds, call_links}
+use Rattle.oc_tree.specs.Reach.{Links}
 use Rattle.oc_tree.proofs.ReachLaws.{or_elim}
+use Rattle.oc_laws.proofs.Members.{at_place}
 use Rattle.oc_reach.specs.Marked.{is_in}
 use Rattle.oc_reach.proofs.Lists.{is_in_push, in_at}
 use Rattle.oc_weight.specs.Order.{IsOrder}
-use Rattle.oc_weight.proofs.Callees.{KindsSame, at_place, same_by_links}
+use Rattle.oc_weight.proofs.Callees.{KindsSame, same_by_links}
 
 -- what is worked out of the first `i` is as at each level from there on, with a cap
 abbrev pub IsWorked : (cap : ℕ → ℕ) (to : ℕ → List ℕ) (order ws : List ℕ) (i : ℕ) → Type 0
 IsWorked cap to order ws i = (v d : ℕ) → i ≤ d → is_in (take i order) v ≡ true → get_or ws v 0 ≡ cap (get_or (to d) v 0)
 
-capped_at : (cap : ℕ → ℕ) → cap 0 ≡ 0 → (ws : List ℕ) (v : ℕ) → get_or (map cap ws) v 0 ≡ cap (get_or ws v 0)
+pub capped_at : (cap : ℕ → ℕ) → cap 0 ≡ 0 → (ws : List ℕ) (v : ℕ) → get_or (map cap ws) v 0 ≡ cap (get_or ws v 0)
 capped_at cap fixed [] v = sym fixed
 capped_at cap fixed (w ∷ ws) zero = refl
 capped_at cap fixed (w ∷ ws) (suc v) = capped_at cap fixed ws v
+
+-- a place of an order of all numbers below `n` has one of them
+pub place_within : {links : Links} {n : ℕ} {order : List ℕ} → IsOrder links n order → (i place : ℕ) → i < length order → place ≡ get_or order i 0 → place < n
+place_within {n = n} {order = order} is i place h e = subst (λ x. x < n) (sym e) (is.within (get_or order i 0) (in_at order i h))
 
 -- what is read at a place, as it is seen
 pub seen_at : {A B : Type 0} (view : A → B) (xs : List A) (u : ℕ) (x : A) → u < length xs → x ≡ get_or xs u x → slice_get (map view xs) u ≡ Some (view x)
@@ -43,7 +49,7 @@ module _ (cap : ℕ → ℕ) (fixed : cap 0 ≡ 0) (fs : List TFunction) (step :
       let u = get_or order i 0 in
       let same : step ws f ≡ step (map cap (to d)) f = same_by_links fs step by_callees ws (map cap (to d)) u f at
       (λ v link. worked v d (omega (arith, less)) (is.behind i v h link) ∙ sym (capped_at cap fixed (to d) v)) in
-      let level : get_or (to (suc d)) u 0 ≡ step (to d) f = ap (λ l. get_or l u 0) (one_level d) ∙ at_place (step (to d)) fs u f at in
+      let level : get_or (to (suc d)) u 0 ≡ step (to d) f = ap (λ l. get_or l u 0) (one_level d) ∙ at_place (step (to d)) fs u f 0 at in
       ap cap same ∙ by_capped (to d) f ∙ ap cap (sym level)
 
   pub one_worked : (ws : List ℕ) (i : ℕ) (f : TFunction) → i < length order → length ws ≡ length fs → IsWorked cap to order ws i → slice_get fs (get_or order i 0) ≡ Some f
@@ -51,7 +57,7 @@ module _ (cap : ℕ → ℕ) (fixed : cap 0 ≡ 0) (fs : List TFunction) (step :
   one_worked ws i f h many worked at v d less there =
       let u = get_or order i 0 in
       let w = cap (step ws f) in
-      let below : u < length ws = omega (arith, many, is.within u (in_at order i h)) in
+      let below : u < length ws = omega (arith, many, place_within is i u h refl) in
       elim (eqb_tells v u) [
         | inl e ↦
             subst (λ x. get_or (set ws u w) x 0 ≡ cap (get_or (to d) x 0)) (sym e.1)

@@ -9,6 +9,7 @@ ghost use Rattle.oc_tree.specs.declared.tree.BinaryOp.{BinaryOp};
 ghost use Rattle.oc_weight.specs.Capped.{capped, weight_cap};
 
 use crate::caps::{cap, greater, plus, times};
+use crate::measure::Measure;
 use oc_names::table::{Table, result_at};
 use oc_tree::tree::{Arg, BinaryOp, Block, Call, Expr, Function, Right, StmtKind};
 
@@ -38,7 +39,7 @@ fn binary_cost(op: BinaryOp, a: u64, b: u64) -> u64
 }
 
 /// How many instructions an expression without pulls takes at most; the cap where there are more.
-#[tactic(auto, using(crate::proofs::CappedLaws::binary_capped))]
+#[tactic(auto, using(crate::proofs::CappedLaws::cost_capped))]
 fn expr_cost(expr: &Expr) -> u64
     ensures cost { result ≡ capped (expr_cost (expr_view expr.now)) }
     ensures small { result ≤ weight_cap }
@@ -319,4 +320,22 @@ pub fn function_cost(
         block_cost(functions, table, weights, &function.body),
         returns,
     )
+}
+
+/// Measures functions by their weights.
+pub struct Instructions;
+
+impl Measure for Instructions {
+    ghost use Rattle.oc_tree.specs.Weight.{function_cost, weights_to};
+    ghost use Rattle.oc_weight.specs.MeasureLaws.{cost_measure};
+
+    ghost measure = { function_cost };
+
+    ghost levels = { weights_to };
+
+    fn measure(functions: &[Function], table: &Table, known: &[u64], function: &Function) -> u64 {
+        function_cost(functions, table, known, function)
+    }
+
+    ghost laws = { cost_measure };
 }

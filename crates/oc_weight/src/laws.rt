@@ -8,7 +8,7 @@ ghost use Rattle.oc_tree.specs.Stack.{function_stack, stacks};
 
 /// Where no function calls itself, each function's weight is what it costs by the weights of those
 /// that it calls.
-#[tactic(auto, using(crate::proofs::WeightCallees::program_weights))]
+#[tactic(auto, using(crate::proofs::Levels::program_weights))]
 pub fn weights_by_callees()
     ensures { (p : TProgram) → ((u : ℕ) → calls (expansion p).functions u u ≡ false)
         → weights p
@@ -17,7 +17,7 @@ pub fn weights_by_callees()
 
 /// Where no function calls itself, each function's stack is what it needs by the stacks of those
 /// that it calls.
-#[tactic(auto, using(crate::proofs::WeightCallees::program_stacks))]
+#[tactic(auto, using(crate::proofs::Levels::program_stacks))]
 pub fn stacks_by_callees()
     ensures { (p : TProgram) → ((u : ℕ) → calls (expansion p).functions u u ≡ false)
         → stacks p

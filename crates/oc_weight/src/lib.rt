@@ -6,6 +6,7 @@ pub mod called;
 pub mod caps;
 pub mod cost;
 pub mod laws;
+pub mod measure;
 pub mod stack;
 pub mod stacks;
 pub mod weights;

@@ -9,6 +9,7 @@ ghost use Rattle.oc_weight.specs.Capped.{capped, weight_cap};
 
 use crate::caps::{cap, greater, plus};
 use crate::cost::known_of;
+use crate::measure::Measure;
 use oc_names::table::Table;
 use oc_tree::tree::{Arg, BinaryOp, Block, Call, Expr, Function, Right, StmtKind};
 
@@ -108,7 +109,7 @@ fn binary_depth(op: BinaryOp, a: u64, b: u64) -> u64
 
 /// How many words an expression without pulls takes at most on top of the frame; the cap where
 /// there are more.
-#[tactic(auto, using(crate::proofs::StackLaws::binary_capped))]
+#[tactic(auto, using(crate::proofs::CappedLaws::depth_capped))]
 fn expr_depth(expr: &Expr) -> u64
     ensures depth { result ≡ capped (expr_depth (expr_view expr.now)) }
     ensures small { result ≤ weight_cap }
@@ -278,4 +279,22 @@ pub fn function_stack(
         frame(function),
         block_depth(functions, table, stacks, &function.body),
     )
+}
+
+/// Measures functions by their stacks.
+pub struct StackWords;
+
+impl Measure for StackWords {
+    ghost use Rattle.oc_tree.specs.Stack.{function_stack, stacks_to};
+    ghost use Rattle.oc_weight.specs.MeasureLaws.{stack_measure};
+
+    ghost measure = { function_stack };
+
+    ghost levels = { stacks_to };
+
+    fn measure(functions: &[Function], table: &Table, known: &[u64], function: &Function) -> u64 {
+        function_stack(functions, table, known, function)
+    }
+
+    ghost laws = { stack_measure };
 }

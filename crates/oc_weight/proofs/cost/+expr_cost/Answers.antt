@@ -7,7 +7,7 @@ use Rattle.oc_tree.specs.declared.tree.Expr as X
 use denote.Hole.Carrier
 use Rattle.oc_tree.specs.Weight.{expr_cost, binary_cost}
 use Rattle.oc_weight.specs.Capped.{capped}
-use Rattle.oc_weight.proofs.CappedLaws.{binary_capped}
+use Rattle.oc_weight.proofs.CappedLaws.{cost_capped}
 use Rattle.oc_weight.proofs.cost.+expr_cost.Goals as goal
 
 pub returns-in-Binary-clause-cost : goal.returns-in-Binary-clause-cost
@@ -23,4 +23,4 @@ returns-in-Binary-clause-cost t c =
     let e = c.expr_cost-in-Binary.ensures.cost in
     let f = c.expr_cost-in-Binary-2.ensures.cost in
     let a : c.binary_cost.result ≡ capped (binary_cost op (capped x) (capped y)) = cc in
-    a ∙ binary_capped op x y ∙ ap capped (sym k)
+    a ∙ cost_capped op x y ∙ ap capped (sym k)

@@ -7,7 +7,7 @@ use Rattle.oc_tree.specs.declared.tree.Expr as X
 use denote.Hole.Carrier
 use Rattle.oc_tree.specs.Stack.{expr_depth, binary_depth}
 use Rattle.oc_weight.specs.Capped.{capped}
-use Rattle.oc_weight.proofs.StackLaws.{binary_capped}
+use Rattle.oc_weight.proofs.CappedLaws.{depth_capped}
 use Rattle.oc_weight.proofs.stack.+expr_depth.Goals as goal
 
 pub returns-in-Binary-clause-depth : goal.returns-in-Binary-clause-depth
@@ -23,4 +23,4 @@ returns-in-Binary-clause-depth t c =
     let e = c.expr_depth-in-Binary.ensures.depth in
     let f = c.expr_depth-in-Binary-2.ensures.depth in
     let a : c.binary_depth.result ≡ capped (binary_depth op (capped x) (capped y)) = cc in
-    a ∙ binary_capped op x y ∙ ap capped (sym k)
+    a ∙ depth_capped op x y ∙ ap capped (sym k)

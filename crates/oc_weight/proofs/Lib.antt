@@ -4,3 +4,4 @@ pub mod Callees
 pub mod OrderTables
 pub mod WeightCallees
 pub mod Levels
+pub mod ExprViews

@@ -97,10 +97,7 @@ fn in_order<M: Measure>(
 
 /// What the functions of an expansion take, each exactly or as one more than any weight that is
 /// allowed.
-pub fn measured<M: Measure>(
-    alloc: Global,
-    functions: &[Function],
-) -> Result<Vec<u64>, AllocError>
+pub fn measured<M: Measure>(alloc: Global, functions: &[Function]) -> Result<Vec<u64>, AllocError>
     ensures { IfOk result
         (λ w. w.items
         ≡ map capped (M.levels (map function_view functions.now) (length functions.now))) }

@@ -1,23 +1,18 @@
 use Rattle.std.proofs.Common.{◌≡◌, ap, sym, ◌∙◌}
-use Rattle.oc_tree.specs.Tree.{TArg, TExpr, TCall}
-use Rattle.oc_tree.specs.View.{expr_view, arg_step, expr_step, call_step}
-use Rattle.oc_tree.specs.declared.tree.Expr.{fold-roll-Expr}
-use Rattle.oc_tree.specs.declared.tree.Arg.TheOpen.{Expr-F}
-use Rattle.oc_tree.specs.declared.tree.Expr as X
-use denote.Hole.Carrier
+use Rattle.oc_tree.specs.View.{expr_view}
 use Rattle.oc_tree.specs.Weight.{expr_cost, binary_cost}
 use Rattle.oc_weight.specs.Capped.{capped}
 use Rattle.oc_weight.proofs.CappedLaws.{cost_capped}
+use Rattle.oc_weight.proofs.ExprViews.{binary_seen}
 use Rattle.oc_weight.proofs.cost.+expr_cost.Goals as goal
 
 pub returns-in-Binary-clause-cost : goal.returns-in-Binary-clause-cost
-unfolding X.roll-Expr denote.Hole.Carrier.roll
 returns-in-Binary-clause-cost t c =
     let op = c.in-Binary.op in
     let x = expr_cost (expr_view c.in-Binary.left.value) in
     let y = expr_cost (expr_view c.in-Binary.right.value) in
     let k : expr_cost (expr_view c.args.expr.now) ≡ binary_cost op x y = ap (λ d. expr_cost (expr_view d)) c.in-Binary.is
-    ∙ ap expr_cost (fold-roll-Expr TArg TExpr TCall arg_step expr_step call_step (Expr-F.Binary op c.in-Binary.left c.in-Binary.right)) in
+    ∙ ap expr_cost (binary_seen op c.in-Binary.left c.in-Binary.right) in
     let p = ap (λ d. capped (expr_cost (expr_view d))) c.deref-in-Binary.ensures in
     let q = ap (λ d. capped (expr_cost (expr_view d))) c.deref-in-Binary-2.ensures in
     let e = c.expr_cost-in-Binary.ensures.cost in

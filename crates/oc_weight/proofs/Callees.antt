@@ -4,13 +4,13 @@ use Rattle.std.specs.Prelude.{nat_eq, option_to_list, slice_get}
 use Rattle.std.proofs.Math.ListN.{get_or}
 use Rattle.std.proofs.lemmas.Bool.{eq-eqb}
 use Rattle.std.proofs.lemmas.Option.{slice_get_within}
-use Rattle.oc_tree.specs.Tree.{TCall, call, TKind, let_to, let_array, TFunction}
-use Rattle.oc_tree.specs.Calls.{callee, call_calls, args_calls, own_calls, kind_hides, block_kinds, body_calls, called_places, function_names, function_place, call_links, calls}
+use Rattle.oc_tree.specs.Tree.{TCall, TKind, TFunction}
+use Rattle.oc_tree.specs.Calls.{callee, own_calls, block_kinds, body_calls, called_places, function_names, function_place, call_links, calls}
 use Rattle.oc_tree.specs.Members.{IsOf}
 use Rattle.oc_tree.specs.Reach.{linked, rank}
 use Rattle.oc_tree.specs.Weight.{known_of}
 use Rattle.oc_tree.proofs.ReachLaws.{rank_falls}
-use Rattle.oc_laws.proofs.Members.{of_right, in_flat, of_any, some_at, at_place}
+use Rattle.oc_laws.proofs.Members.{in_flat, of_any, some_at, at_place}
 use Rattle.oc_reach.specs.Marked.{is_in}
 use Rattle.oc_reach.proofs.LinkLaws.{calls_within}
 use Rattle.oc_reach.proofs.WriteLaws.{in_any}

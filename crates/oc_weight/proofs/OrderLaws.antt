@@ -13,9 +13,9 @@ use Rattle.oc_tree.specs.Tree.{TFunction}
 use Rattle.oc_tree.specs.Calls.{body_calls, called_places, links_from, function_names, call_links}
 use Rattle.oc_tree.specs.Reach.{Links, linked, is_link, leads, one, count_below, rank}
 use Rattle.oc_tree.proofs.ReachLaws.{or_elim, count_less, rank_falls}
+use Rattle.oc_laws.proofs.Bools.{or_false}
 use Rattle.oc_reach.specs.Marked.{is_in, add, rows}
 use Rattle.oc_reach.specs.Within.{IsWithin}
-use Rattle.oc_reach.proofs.Bools.{or_false}
 use Rattle.oc_reach.proofs.Lists.{is_in_push}
 use Rattle.oc_reach.proofs.Rows.{row_is, rows_length}
 use Rattle.oc_reach.proofs.Walk.{some_at}

@@ -15,6 +15,9 @@ use oc_tree::tree::Function;
 use std::alloc::{AllocError, Global};
 
 /// Says of each function how much it takes, as its weight or its stack.
+///
+/// `measure` is how much a function takes by what is known of those that it calls, and `levels` how
+/// much each takes where calls go at most so deep.
 pub trait Measure {
     ghost measure: { List TFunction → List ℕ → TFunction → ℕ };
 

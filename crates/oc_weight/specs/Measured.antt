@@ -21,8 +21,8 @@ abbrev pub KindsAlike : (ℕ → ℕ) → List TFunction → (ws vs : List ℕ) 
 KindsAlike cap fs ws vs ks =
     (k : TKind) → IsOf k ks → (c : TCall) → IsOf c (own_calls k) → KnownAlike cap fs ws vs c
 
--- What a function measures by what is known of others, and the tables of all functions where calls
--- go at most so deep: what is known of others tells it by those that the function calls alone.
+-- How much a function takes by what is known of others, and the tables of how much each takes where
+-- calls go at most so deep. Of what is known, only that of the functions that it calls counts.
 pub record IsMeasure
     (measure : List TFunction → List ℕ → TFunction → ℕ)
     (levels : List TFunction → ℕ → List ℕ) : Type 0 where

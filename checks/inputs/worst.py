@@ -139,13 +139,46 @@ def statements(n):
     return "sensor s;\nfn main() {\n" + "sense(s);\n" * n + "}\n"
 
 
+def declared(n):
+    return "".join(f"nv b{k}:i32=0;" for k in range(n))
+
+
 def nonvolatile(n):
     """N statements with a call inside, and as many nonvolatile variables, of which 64 are accepted (64; up to 36,000)"""
     calls = "fn g() -> i32 { return 1; }\nfn h(x: i32) { }\nfn main() { " + "h(g()+1);" * n + " }\n"
-    return calls + "".join(f"nv b{k}:i32=0;" for k in range(n))
+    return calls + declared(n)
+
+
+def parameters(n, kind):
+    return ",".join(f"p{k}:{kind}" for k in range(n))
+
+
+def passed(n, way="&"):
+    """a call that passes N nonvolatile variables by `&`, all declared behind it (8; up to 28,000)"""
+    arguments = ",".join(f"{way}b{k}" for k in range(n))
+    return f"fn main() {{ g({arguments}); }}\nfn g({parameters(n, way + 'i32')}) {{ }}\n" + declared(n)
+
+
+def lent(n):
+    """the same by `&mut` (8; up to 23,000)"""
+    return passed(n, "&mut ")
+
+
+def inner(n):
+    """N calls inside a statement that pass one such variable each (8; up to 27,000)"""
+    calls = ",".join(f"g(&b{k})" for k in range(n))
+    callees = f"fn g(x: &i32) -> i32 {{ return 1; }}\nfn h({parameters(n, 'i32')}) {{ }}\n"
+    return f"fn main() {{ h({calls}); }}\n" + callees + declared(n)
+
+
+def beside(n):
+    """N such variables beside calls, 250 in a statement (64; up to 44,000)"""
+    sums = ["+".join(f"b{k}" for k in range(first, min(first + 250, n))) for first in range(0, n, 250)]
+    return "fn g() -> i32 { return 1; }\n" + function("main", [f"b0=g()+{line};" for line in sums]) + declared(n)
 
 
 KINDS = [fan, chain, tied, loops, variables, sums, pulls, references, names, regions, blocks, gap, usual, called, statements, nonvolatile]
+KINDS += [passed, lent, inner, beside]
 
 
 def main():

@@ -5,3 +5,7 @@ pub mod Ends
 pub mod Sums
 pub mod SmallCounts
 pub mod SizeLaws
+pub mod ShownLaws
+pub mod TimesLaws
+pub mod Tested
+pub mod Disturbed

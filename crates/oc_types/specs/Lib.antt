@@ -2,5 +2,8 @@ pub mod Lent
 pub mod Standing
 pub mod Small
 pub mod Walk
+pub mod Shown
 pub mod Marks
+pub mod Times
+pub mod Quiet
 pub mod Told

@@ -1,24 +1,28 @@
 //! Whether calls meet the functions that they name.
-ghost use Rattle.std.specs.Prelude.{◌≡◌, ◌==◌, ◌++◌, [], ◌∷◌, ℕ, Bool, List, is_some, length};
-ghost use Rattle.std.specs.List.{list_all};
+ghost use Rattle.std.specs.Prelude.{◌≡◌, ◌==◌, ◌++◌, [], ◌∷◌, ℕ, Bool, List, is_some, length, IfOk};
+ghost use Rattle.std.specs.List.{flat_map, list_all};
 ghost use Rattle.oc_tree.specs.Tree.{TCall};
 ghost use Rattle.oc_tree.specs.View.{arg_view, args_view, call_view, expr_view, kind_view, program_view};
 ghost use Rattle.oc_tree.specs.Types.{call_type};
 ghost use Rattle.oc_reach.specs.Views.{calls_seen};
 ghost use Rattle.oc_types.specs.Lent.{passes};
-ghost use Rattle.oc_tree.specs.Mentions.{call_mentions};
+ghost use Rattle.oc_tree.specs.Names.{names_seen};
+ghost use Rattle.oc_tree.specs.Named.{part_names};
+ghost use Rattle.oc_tree.specs.Parts.{call_parts};
 ghost use Rattle.oc_tree.specs.Rules.{all_lent, arg_lends, arg_meets, args_differ, args_meet, call_args, call_meets, calls_main, has_kind, lends_alone, lends_fixed, lent_is, lent_twice, mutable_meets, result_missing, shared_meets, used_calls, value_meets};
 
 use crate::operands::find_reference;
 use crate::scope::Scope;
 use crate::statement::Statement;
 use crate::targets::{arg_lends, is_mutable_reference};
+use crate::times::Times;
 use crate::top::TopLevel;
 use crate::types::{call_type, is_same, is_same_kind, scalar_of, type_of};
-use oc_reach::mentions::call_mentions;
 use oc_tree::name::Name;
+use oc_tree::named::arg_names;
 use oc_tree::scope::Var;
 use oc_tree::tree::{Arg, Call, Expr, Param, Passing, StmtKind, ValueKind};
+use std::alloc::{AllocError, Global};
 
 /// Whether a statement calls `main`.
 pub fn calls_main(statement: &Statement) -> bool
@@ -224,47 +228,62 @@ pub fn lent_name<'b>(param: &Param, arg: &'b Arg) -> Option<&'b Name>
     }
 }
 
-/// Whether a name stands once in the call's arguments; it does where there is none.
-fn is_alone(name: Option<&Name>, call: &Call) -> bool
-    ensures { result ≡ passes (λ x. call_mentions x (call_view call.now) == 1) name.entry }
+/// The names that these arguments pass by `&mut`. Err is want of memory.
+pub fn lent_names<'b>(
+    alloc: Global,
+    params: &[Param],
+    args: &'b [Arg],
+) -> Result<Vec<&'b Name>, AllocError>
+    ensures { IfOk result (λ n. (test : List ℕ → Bool)
+        → all_lent test params.now (args_view args.now) ≡ list_all test (names_seen n.items)) }
 {
-    match name {
-        Some(x) => call_mentions(call, x) == 1,
-        None => true,
-    }
-}
-
-/// Whether each name that these arguments pass by `&mut` stands once in the call's arguments.
-fn all_alone(params: &[Param], args: &[Arg], call: &Call) -> bool
-    ensures { result ≡ all_lent (λ x. call_mentions x (call_view call.now) == 1) params.now
-        (args_view args.now) }
-{
+    let mut names = Vec::new(alloc);
     for (i, arg) in args.iter().enumerate() {
         match params.get(i) {
-            Some(param) => if !is_alone(lent_name(param, arg), call) {
-                return false;
+            Some(param) => if let Some(name) = lent_name(param, arg) {
+                names.push(name)?;
             },
-            None => return true,
+            None => return Ok(names),
         }
     }
-    true
+    Ok(names)
 }
 
-/// Whether what a call passes by `&mut` stands in its arguments just there.
-fn lends_alone(top: &TopLevel, call: &Call) -> bool
-    ensures { result ≡ lends_alone (program_view top.now) (call_view call.now) }
+/// The variables that the arguments of a call name. Err is want of memory.
+fn call_names<'b>(alloc: Global, call: &'b Call) -> Result<Vec<&'b Name>, AllocError>
+    ensures { IfOk result (λ n.
+        names_seen n.items ≡ flat_map part_names (call_parts (call_view call.now))) }
 {
-    all_alone(top.params(call), call.args.as_slice(), call)
+    let mut names = Vec::new(alloc);
+    for arg in &call.args {
+        arg_names(arg, &mut names)?;
+    }
+    Ok(names)
 }
 
-/// Whether a call passes something by `&mut` and names it in another argument.
-pub fn lent_twice(top: &TopLevel, statement: &Statement) -> bool
-    ensures { result ≡ lent_twice (program_view top.now) (kind_view statement.now) }
+/// Whether what a call passes by `&mut` stands in its arguments just there. Err is want of memory.
+fn lends_alone(alloc: Global, top: &TopLevel, call: &Call) -> Result<bool, AllocError>
+    ensures { IfOk result (λ r. r ≡ lends_alone (program_view top.now) (call_view call.now)) }
+{
+    let lent = lent_names(alloc, top.params(call), call.args.as_slice())?;
+    if lent.is_empty() {
+        return Ok(true);
+    }
+    let names = call_names(alloc, call)?;
+    let times = Times::new(alloc, names)?;
+    Ok(times.are_single(lent.as_slice()))
+}
+
+/// Whether a call passes something by `&mut` and names it in another argument. Err is want of
+/// memory.
+pub fn lent_twice(alloc: Global, top: &TopLevel, statement: &Statement) -> Result<bool, AllocError>
+    ensures { IfOk result
+        (λ r. r ≡ lent_twice (program_view top.now) (kind_view statement.now)) }
 {
     for call in statement.calls() {
-        if !lends_alone(top, call) {
-            return true;
+        if !lends_alone(alloc, top, call)? {
+            return Ok(true);
         }
     }
-    false
+    Ok(false)
 }

@@ -1,73 +1,63 @@
 //! Statements with pulls: what a call changes, and what is named beside it.
-ghost use Rattle.std.specs.Prelude.{◌≡◌, ◌<◌, ◌^◌, ◌==◌, IfOk};
+ghost use Rattle.std.specs.Prelude.{◌≡◌, ◌<◌, ◌^◌, ◌==◌, ◌||◌, false, not, count_by, length, OnOk, IfOk};
 ghost use Rattle.std.specs.List.{list_all, list_any};
-ghost use Rattle.oc_tree.specs.View.{args_view, call_view, kind_view, program_view};
+ghost use Rattle.std.specs.Str.{bytes_eq};
+ghost use Rattle.oc_tree.specs.View.{call_view, kind_view, program_view};
 ghost use Rattle.oc_tree.specs.Assigned.{reaches_assign};
 ghost use Rattle.oc_tree.specs.Calls.{own_calls};
-ghost use Rattle.oc_tree.specs.Mentions.{own_mentions};
+ghost use Rattle.oc_tree.specs.Named.{own_names};
 ghost use Rattle.oc_tree.specs.Pulls.{own_pulls};
-ghost use Rattle.oc_tree.specs.Rules.{all_lent, callee_is, lends_apart, nv_disturbed, pulls_disturb};
-ghost use Rattle.oc_types.specs.Lent.{passes};
+ghost use Rattle.oc_tree.specs.Rules.{call_lends, callee_is, lends_apart, nv_disturbed, pulls_disturb};
 ghost use Rattle.oc_types.specs.Marks.{IsAssigning};
+ghost use Rattle.oc_types.specs.Quiet.{AreQuiet, is_changed};
 
-use crate::calls::lent_name;
+use crate::calls::lent_names;
 use crate::statement::Statement;
+use crate::times::Times;
 use crate::top::TopLevel;
 use oc_reach::marks::Marks;
-use oc_reach::mentions::own_mentions;
 use oc_tree::name::Name;
+use oc_tree::named::own_names;
 use oc_tree::pulls::own_pulls;
-use oc_tree::tree::{Arg, Call, Param, StmtKind};
+use oc_tree::tree::{Call, StmtKind};
 use std::alloc::{AllocError, Global};
 
-/// Whether a name stands once in the statement's own expressions and arguments; it does where there
-/// is none.
-fn stands_once(name: Option<&Name>, kind: &StmtKind) -> bool
-    ensures { result ≡ passes (λ x. own_mentions x (kind_view kind.now) == 1) name.entry }
+/// Whether what a call passes by `&mut` stands once among these names. Err is want of memory.
+fn lends_single(
+    alloc: Global,
+    top: &TopLevel,
+    times: &Times,
+    call: &Call,
+) -> Result<bool, AllocError>
+    ensures { IfOk result
+        (λ r. r
+        ≡ call_lends (λ x. count_by (bytes_eq x) times.now == 1) (program_view top.now)
+        (call_view call.now)) }
 {
-    match name {
-        Some(x) => own_mentions(kind, x) == 1,
-        None => true,
-    }
+    let lent = lent_names(alloc, top.params(call), call.args.as_slice())?;
+    Ok(times.are_single(lent.as_slice()))
 }
 
-/// Whether each name that these arguments pass by `&mut` stands once in the statement.
-fn all_apart(params: &[Param], args: &[Arg], kind: &StmtKind) -> bool
-    ensures { result ≡ all_lent (λ x. own_mentions x (kind_view kind.now) == 1) params.now
-        (args_view args.now) }
-{
-    for (i, arg) in args.iter().enumerate() {
-        match params.get(i) {
-            Some(param) => if !stands_once(lent_name(param, arg), kind) {
-                return false;
-            },
-            None => return true,
-        }
-    }
-    true
-}
-
-/// Whether what a call passes by `&mut` stands just there in the statement.
-fn lends_apart(top: &TopLevel, kind: &StmtKind, call: &Call) -> bool
-    ensures { result
-        ≡ lends_apart (program_view top.now) (kind_view kind.now) (call_view call.now) }
-{
-    all_apart(top.params(call), call.args.as_slice(), kind)
-}
-
-/// Whether what the calls pass by `&mut` stands just there in the statement.
-fn all_lend_apart(top: &TopLevel, statement: &Statement) -> bool
-    ensures { result
+/// Whether what the calls pass by `&mut` stands just there in the statement, whose names these are.
+/// Err is want of memory.
+fn all_lend_apart(
+    alloc: Global,
+    top: &TopLevel,
+    times: &Times,
+    statement: &Statement,
+) -> Result<bool, AllocError>
+    requires { times.now ≡ own_names (kind_view statement.now) }
+    ensures { IfOk result
+        (λ r. r
         ≡ list_all (lends_apart (program_view top.now) (kind_view statement.now))
-        (own_calls (kind_view statement.now)) }
+        (own_calls (kind_view statement.now))) }
 {
-    let kind = statement.kind();
     for call in statement.calls() {
-        if !lends_apart(top, kind, call) {
-            return false;
+        if !lends_single(alloc, top, times, call)? {
+            return Ok(false);
         }
     }
-    true
+    Ok(true)
 }
 
 /// Whether the called function has a mark: it assigns the nonvolatile variable, or calls one that
@@ -101,20 +91,20 @@ fn some_callee_assigns(top: &TopLevel, name: &Name, marks: &Marks, statement: &S
     false
 }
 
-/// Whether a nonvolatile variable stands in a statement that calls a function which assigns it, or
-/// which calls one that does.
-fn nv_disturbed(
+/// Whether a function that the statement calls assigns this variable, or calls one that does. Err
+/// is want of memory.
+fn some_callee_changes(
     alloc: Global,
     top: &TopLevel,
     statement: &Statement,
     name: &Name,
 ) -> Result<bool, AllocError>
     ensures { IfOk result
-        (λ r. r ≡ nv_disturbed (program_view top.now) (kind_view statement.now) name.now) }
+        (λ r. r
+        ≡ list_any
+        (callee_is (reaches_assign (program_view top.now).functions name.now)
+        (program_view top.now)) (own_calls (kind_view statement.now))) }
 {
-    if own_mentions(statement.kind(), name) == 0 {
-        return Ok(false);
-    }
     if statement.calls().is_empty() {
         return Ok(false);
     }
@@ -127,25 +117,91 @@ fn nv_disturbed(
     }
 }
 
-/// Whether some nonvolatile variable stands in a statement that calls a function which assigns it,
-/// or which calls one that does. Err is want of memory.
-fn some_nv_disturbed(
+/// Whether a name is that of a nonvolatile variable that hasn't been looked at, and a function that
+/// the statement calls assigns it, or calls one that does. Err is want of memory.
+fn is_disturbed(
     alloc: Global,
     top: &TopLevel,
     statement: &Statement,
+    seen: &mut Marks,
+    name: &Name,
 ) -> Result<bool, AllocError>
+    requires bound { seen.old.1 ≡ length (program_view top.now).names.nvs }
+    requires before { AreQuiet (program_view top.now) (kind_view statement.now) seen.old.0 }
+    ensures bound { OnOk result (seen.new.1 ≡ seen.old.1) }
+    ensures found { IfOk result
+        (λ r. r ≡ is_changed (program_view top.now) (kind_view statement.now) name.now) }
+    ensures quiet { IfOk result
+        (λ r. r ≡ false
+        → AreQuiet (program_view top.now) (kind_view statement.now) seen.new.0) }
+{
+    match top.nv_place(name) {
+        Some(place) => {
+            if seen.has(place) {
+                return Ok(false);
+            }
+            seen.mark(place)?;
+            let changed = some_callee_changes(alloc, top, statement, name)?;
+            Ok(changed)
+        }
+        None => Ok(false),
+    }
+}
+
+/// Whether some nonvolatile variable stands in a statement that calls a function which assigns it,
+/// or which calls one that does. Err is want of memory.
+#[tactic(auto, using(crate::proofs::Disturbed::none_quiet))]
+fn some_nv_disturbed(
+    alloc: Global,
+    top: &TopLevel,
+    times: &Times,
+    statement: &Statement,
+) -> Result<bool, AllocError>
+    requires { times.now ≡ own_names (kind_view statement.now) }
     ensures { IfOk result
         (λ r. r
         ≡ list_any (nv_disturbed (program_view top.now) (kind_view statement.now))
         (program_view top.now).names.nvs) }
 {
-    let names = top.program().names.nvs.as_slice();
-    for name in names {
-        if nv_disturbed(alloc, top, statement, name)? {
+    let mut seen = Marks::new(alloc, top.program().names.nvs.len())?;
+    for name in times.names() {
+        if is_disturbed(alloc, top, statement, &mut seen, *name)? {
             return Ok(true);
         }
     }
     Ok(false)
+}
+
+/// Whether a call of a statement, whose names these are, changes what is named beside it. Err is
+/// want of memory.
+fn calls_disturb(
+    alloc: Global,
+    top: &TopLevel,
+    times: &Times,
+    statement: &Statement,
+) -> Result<bool, AllocError>
+    requires { times.now ≡ own_names (kind_view statement.now) }
+    ensures { IfOk result
+        (λ r. r
+        ≡ not
+        (list_all (lends_apart (program_view top.now) (kind_view statement.now))
+        (own_calls (kind_view statement.now)))
+        || list_any (nv_disturbed (program_view top.now) (kind_view statement.now))
+        (program_view top.now).names.nvs) }
+{
+    if !all_lend_apart(alloc, top, times, statement)? {
+        return Ok(true);
+    }
+    some_nv_disturbed(alloc, top, times, statement)
+}
+
+/// The names of a statement, counted. Err is want of memory.
+fn own_times<'a>(alloc: Global, kind: &'a StmtKind) -> Result<Times<'a>, AllocError>
+    ensures { IfOk result (λ t. t ≡ own_names (kind_view kind.now)) }
+{
+    let mut names = Vec::new(alloc);
+    own_names(kind, &mut names)?;
+    Times::new(alloc, names)
 }
 
 /// Whether a statement has a pull, and names what one of its calls may change.
@@ -161,9 +217,6 @@ pub fn pulls_disturb(
     if own_pulls(statement.kind()) == 0 {
         return Ok(false);
     }
-    if !all_lend_apart(top, statement) {
-        return Ok(true);
-    }
-    let disturbed = some_nv_disturbed(alloc, top, statement)?;
-    Ok(disturbed)
+    let times = own_times(alloc, statement.kind())?;
+    calls_disturb(alloc, top, &times, statement)
 }

@@ -1,18 +1,17 @@
-//! Marks of functions for the nonvolatile variables that stand beside calls, worked out once for
-//! each name.
+//! Marks of functions for nonvolatile variables, worked out once for each name.
 ghost use Rattle.std.specs.Prelude.{◌≡◌, IfOk, IfSome};
 ghost use Rattle.std.specs.Coded.{codes};
 ghost use Rattle.std.specs.List.{All};
 ghost use Rattle.oc_tree.specs.declared.tree.Program.{Program};
 ghost use Rattle.oc_tree.specs.contracts.tree.Block as b;
 ghost use Rattle.oc_tree.specs.View.{program_view};
-ghost use Rattle.oc_types.specs.Marks.{IsAssigning, IsNoted};
+ghost use Rattle.oc_types.specs.Marks.{IsAssigning, IsMentioning, IsNoted};
 
 use crate::statement::Statement;
-use indexmap::IndexMap;
-use oc_reach::assigned::Assigned;
+use crate::uses::Uses;
+use oc_reach::calls::Calls;
 use oc_reach::marks::Marks;
-use oc_reach::parts::block_kinds;
+use oc_reach::parts::function_kinds;
 use oc_tree::name::Name;
 use oc_tree::named::own_names;
 use oc_tree::tree::{Function, Program, StmtKind};
@@ -43,10 +42,12 @@ impl Drop for Noted<'_> {
     }
 }
 
-/// A program with marks for names that stand beside calls, which contracts see as the program.
+/// A program with marks for names, which contracts see as the program.
 pub struct Notes<'a> {
     program: &'a Program,
-    assigned: Assigned<'a>,
+    calls: Calls<'a>,
+    // none where no variable stands beside a call, so that nothing asks for marks
+    uses: Option<Uses<'a>>,
     noted: Vec<Noted<'a>>,
 }
 
@@ -55,10 +56,12 @@ impl Drop for Notes<'_> {
     fn drop(self) {
         let Notes {
             program: _,
-            assigned,
+            calls,
+            uses,
             noted,
         } = self;
-        drop(assigned);
+        drop(calls);
+        drop(uses);
         drop(noted);
     }
 }
@@ -71,9 +74,40 @@ impl<'a> Model for Notes<'a> {
     ghost view = { λ t. t.program.now };
 
     ghost invariant = { λ t.
-        (t.assigned ≡ t.program.now.functions.items)
+        (t.calls ≡ t.program.now.functions.items)
+        × (IfSome t.uses (λ u. u ≡ t.program.now.functions.items))
         × (All (λ n. IsNoted (program_view t.program.now) n.name.now n.assigning n.mentioning)
         t.noted.items) };
+}
+
+/// Marks the functions that assign a nonvolatile variable, and those that call one, directly or
+/// through others. Err is want of memory.
+fn assigning_marks(
+    alloc: Global,
+    program: &Program,
+    uses: &Uses,
+    name: &Name,
+) -> Result<Marks, AllocError>
+    requires { uses.now ≡ program.now.functions.items }
+    ensures { IfOk result (λ m. IsAssigning (program_view program.now) name.now m) }
+{
+    let marks = uses.assigning(alloc, name)?;
+    Ok(marks)
+}
+
+/// Marks the functions that name a nonvolatile variable, and those that call one, directly or
+/// through others. Err is want of memory.
+fn mentioning_marks(
+    alloc: Global,
+    program: &Program,
+    uses: &Uses,
+    name: &Name,
+) -> Result<Marks, AllocError>
+    requires { uses.now ≡ program.now.functions.items }
+    ensures { IfOk result (λ m. IsMentioning (program_view program.now) name.now m) }
+{
+    let marks = uses.mentioning(alloc, name)?;
+    Ok(marks)
 }
 
 /// Marks the functions that assign a nonvolatile variable, those that name it, and those that call
@@ -81,15 +115,15 @@ impl<'a> Model for Notes<'a> {
 fn note<'a>(
     alloc: Global,
     program: &Program,
-    assigned: &Assigned,
+    uses: &Uses,
     name: &'a Name,
 ) -> Result<Noted<'a>, AllocError>
-    requires { assigned.now ≡ program.now.functions.items }
+    requires { uses.now ≡ program.now.functions.items }
     ensures { IfOk result
         (λ n. IsNoted (program_view program.now) n.name.now n.assigning n.mentioning) }
 {
-    let assigning = assigned.assigning(alloc, name)?;
-    let mentioning = assigned.calls().mentioning(alloc, name)?;
+    let assigning = assigning_marks(alloc, program, uses, name)?;
+    let mentioning = mentioning_marks(alloc, program, uses, name)?;
     Ok(Noted {
         name,
         assigning,
@@ -97,112 +131,118 @@ fn note<'a>(
     })
 }
 
-/// Whether a statement has calls. Err is want of memory.
-fn has_calls(alloc: Global, kind: &StmtKind) -> Result<bool, AllocError> {
-    let statement = Statement::new(alloc, kind)?;
-    Ok(!statement.calls().is_empty())
-}
-
-/// Adds the variables that a statement names beside its calls, where it has some.
-fn add_names<'a>(
-    alloc: Global,
-    kind: &'a StmtKind,
-    beside: &mut IndexMap<&'a [u8], bool>,
-) -> Result<(), AllocError> {
-    if !has_calls(alloc, kind)? {
-        return Ok(());
-    }
-    let mut names = Vec::new(alloc);
-    own_names(kind, &mut names)?;
-    for name in &names {
-        beside.insert(name.bytes(), true)?;
-    }
-    Ok(())
-}
-
-/// Adds the variables that stand beside calls in a function.
-fn add_function_names<'a>(
-    alloc: Global,
-    function: &'a Function,
-    beside: &mut IndexMap<&'a [u8], bool>,
-) -> Result<(), AllocError> {
-    let mut kinds = Vec::new(alloc);
-    block_kinds(&function.body, None, &mut kinds)?;
-    for kind in &kinds {
-        add_names(alloc, *kind, beside)?;
-    }
-    Ok(())
-}
-
-/// The variables that stand beside calls, where nonvolatile ones may be among them.
-fn names_beside_calls<'a>(
+/// Marks for the first of a program's nonvolatile variables, which are all where it is accepted.
+/// Which of them are noted changes no answer.
+fn note_all<'a>(
     alloc: Global,
     program: &'a Program,
-) -> Result<IndexMap<&'a [u8], bool>, AllocError> {
-    let mut beside = IndexMap::new(alloc);
-    if program.names.nvs.is_empty() {
-        return Ok(beside);
-    }
-    for function in &program.functions {
-        add_function_names(alloc, function, &mut beside)?;
-    }
-    Ok(beside)
-}
-
-/// Whether a name is one of these.
-fn is_among(names: &IndexMap<&[u8], bool>, name: &Name) -> bool {
-    names.get(&name.bytes()).is_some()
-}
-
-/// Marks for those of these names that the program's nonvolatile variables have. Which of them are
-/// noted changes no answer.
-fn note_among<'a>(
-    alloc: Global,
-    program: &'a Program,
-    assigned: &Assigned,
-    names: &IndexMap<&[u8], bool>,
+    uses: &Uses,
 ) -> Result<Vec<Noted<'a>>, AllocError>
-    requires { assigned.now ≡ program.now.functions.items }
+    requires { uses.now ≡ program.now.functions.items }
     ensures { IfOk result
         (λ r. All (λ n. IsNoted (program_view program.now) n.name.now n.assigning n.mentioning)
         r.items) }
 {
     let mut noted = Vec::new(alloc);
     for name in program.names.nvs.as_slice().iter().take(MOST_NAMES) {
-        if is_among(names, name) {
-            noted.push(note(alloc, program, assigned, name)?)?;
-        }
+        noted.push(note(alloc, program, uses, name)?)?;
     }
     Ok(noted)
 }
 
-/// Marks for names that stand beside calls.
-fn note_all<'a>(
-    alloc: Global,
-    program: &'a Program,
-    assigned: &Assigned,
-) -> Result<Vec<Noted<'a>>, AllocError>
-    requires { assigned.now ≡ program.now.functions.items }
-    ensures { IfOk result
-        (λ r. All (λ n. IsNoted (program_view program.now) n.name.now n.assigning n.mentioning)
-        r.items) }
-{
-    let beside = names_beside_calls(alloc, program)?;
-    note_among(alloc, program, assigned, &beside)
+/// Whether a statement names a variable beside a call. Err is want of memory.
+fn names_beside_call(alloc: Global, kind: &StmtKind) -> Result<bool, AllocError> {
+    let statement = Statement::new(alloc, kind)?;
+    if statement.calls().is_empty() {
+        return Ok(false);
+    }
+    let mut names = Vec::new(alloc);
+    own_names(kind, &mut names)?;
+    Ok(!names.is_empty())
+}
+
+/// Whether a statement of a function names a variable beside a call. Err is want of memory.
+fn function_names(alloc: Global, function: &Function) -> Result<bool, AllocError> {
+    let kinds = function_kinds(alloc, function, None)?;
+    for kind in &kinds {
+        if names_beside_call(alloc, *kind)? {
+            return Ok(true);
+        }
+    }
+    Ok(false)
+}
+
+/// Whether marks may be asked for: there are nonvolatile variables, and some variable stands beside
+/// a call. Err is want of memory.
+fn asks_for_marks(alloc: Global, program: &Program) -> Result<bool, AllocError> {
+    if program.names.nvs.is_empty() {
+        return Ok(false);
+    }
+    for function in &program.functions {
+        if function_names(alloc, function)? {
+            return Ok(true);
+        }
+    }
+    Ok(false)
 }
 
 impl<'a> Notes<'a> {
+    /// A program whose marks may be asked for.
+    fn with_marks(
+        alloc: Global,
+        program: &'a Program,
+        calls: Calls<'a>,
+    ) -> Result<Notes<'a>, AllocError>
+        requires { calls ≡ program.now.functions.items }
+        ensures { IfOk result (λ n. n ≡ program.now) }
+    {
+        let uses = Uses::new(alloc, program.functions.as_slice())?;
+        let noted = note_all(alloc, program, &uses)?;
+        Ok(Notes {
+            program,
+            calls,
+            uses: Some(uses),
+            noted,
+        })
+    }
+
     /// Works out the marks of a program.
     pub fn new(alloc: Global, program: &'a Program) -> Result<Notes<'a>, AllocError>
         ensures { IfOk result (λ n. n ≡ program.now) }
     {
-        let assigned = Assigned::new(alloc, program.functions.as_slice())?;
-        let noted = note_all(alloc, program, &assigned)?;
-        Ok(Notes {
-            program,
-            assigned,
-            noted,
-        })
+        let asked = asks_for_marks(alloc, program)?;
+        let calls = Calls::new(alloc, program.functions.as_slice())?;
+        if asked {
+            Notes::with_marks(alloc, program, calls)
+        } else {
+            Ok(Notes {
+                program,
+                calls,
+                uses: None,
+                noted: Vec::new(alloc),
+            })
+        }
+    }
+
+    /// The functions with their calls.
+    pub fn calls(&self) -> &Calls<'a>
+        ensures { result.now ≡ self.now.functions.items }
+    {
+        &self.calls
+    }
+
+    /// Marks the functions that name a nonvolatile variable, and those that call one, directly or
+    /// through others.
+    pub fn mentioning(&self, alloc: Global, name: &Name) -> Result<Marks, AllocError>
+        ensures { IfOk result (λ m. IsMentioning (program_view self.now) name.now m) }
+    {
+        match &self.uses {
+            Some(uses) => mentioning_marks(alloc, self.program, uses, name),
+            None => {
+                let uses = Uses::new(alloc, self.program.functions.as_slice())?;
+                mentioning_marks(alloc, self.program, &uses, name)
+            }
+        }
     }
 
     /// Marks the functions that assign a nonvolatile variable, and those that call one, directly or
@@ -210,8 +250,13 @@ impl<'a> Notes<'a> {
     pub fn assigning(&self, alloc: Global, name: &Name) -> Result<Marks, AllocError>
         ensures { IfOk result (λ m. IsAssigning (program_view self.now) name.now m) }
     {
-        let marks = self.assigned.assigning(alloc, name)?;
-        Ok(marks)
+        match &self.uses {
+            Some(uses) => assigning_marks(alloc, self.program, uses, name),
+            None => {
+                let uses = Uses::new(alloc, self.program.functions.as_slice())?;
+                assigning_marks(alloc, self.program, &uses, name)
+            }
+        }
     }
 
     /// The marks of a nonvolatile variable, where they are worked out.

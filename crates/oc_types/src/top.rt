@@ -13,7 +13,6 @@ ghost use Rattle.oc_tree.specs.Rules.{callee_params, declared_before, stands_bef
 use crate::notes::{Noted, Notes};
 use crate::scope::Scope;
 use oc_names::table::Table;
-use oc_reach::calls::Calls;
 use oc_reach::marks::Marks;
 use oc_tree::before::Before;
 use oc_tree::name::Name;
@@ -49,7 +48,6 @@ pub struct TopLevel<'a> {
     program: &'a Program,
     names: Names<'a>,
     notes: Notes<'a>,
-    calls: Calls<'a>,
 }
 
 impl Drop for TopLevel<'_> {
@@ -58,11 +56,9 @@ impl Drop for TopLevel<'_> {
             program: _,
             names,
             notes,
-            calls,
         } = self;
         drop(names);
         drop(notes);
-        drop(calls);
     }
 }
 
@@ -77,8 +73,7 @@ impl<'a> Model for TopLevel<'a> {
         (t.names.sensors ≡ (program_view t.program.now).names.sensors)
         × (t.names.ports ≡ (program_view t.program.now).names.ports)
         × (t.names.nvs ≡ (program_view t.program.now).names.nvs)
-        × (t.notes ≡ t.program.now)
-        × (t.calls ≡ t.program.now.functions.items) };
+        × (t.notes ≡ t.program.now) };
 }
 
 /// The kind of a nonvolatile variable.
@@ -139,12 +134,10 @@ impl<'a> TopLevel<'a> {
     {
         let names = Names::new(alloc, program)?;
         let notes = Notes::new(alloc, program)?;
-        let calls = Calls::new(alloc, program.functions.as_slice())?;
         Ok(TopLevel {
             program,
             names,
             notes,
-            calls,
         })
     }
 
@@ -171,7 +164,8 @@ impl<'a> TopLevel<'a> {
 
     /// The number of a nonvolatile variable.
     pub fn nv_place(&self, name: &Name) -> Option<usize>
-        ensures { result ≡ place (program_view self.now).names.nvs name.now }
+        ensures place { result ≡ place (program_view self.now).names.nvs name.now }
+        ensures below { IfSome result (λ i. i < length (program_view self.now).names.nvs) }
     {
         self.names.nvs.place(name)
     }
@@ -181,7 +175,7 @@ impl<'a> TopLevel<'a> {
         ensures place { result ≡ function_place (program_view self.now).functions name.now }
         ensures below { IfSome result (λ i. i < length (program_view self.now).functions) }
     {
-        self.calls.place(name)
+        self.notes.calls().place(name)
     }
 
     /// Marks a function, and those that call it, directly or through others.
@@ -189,7 +183,7 @@ impl<'a> TopLevel<'a> {
         requires { number < length (program_view self.now).functions }
         ensures { IfOk result (λ m. IsCallers (program_view self.now) number m) }
     {
-        let marks = self.calls.callers(alloc, number)?;
+        let marks = self.notes.calls().callers(alloc, number)?;
         Ok(marks)
     }
 
@@ -198,7 +192,7 @@ impl<'a> TopLevel<'a> {
     pub fn mentioning(&self, alloc: Global, name: &Name) -> Result<Marks, AllocError>
         ensures { IfOk result (λ m. IsMentioning (program_view self.now) name.now m) }
     {
-        let marks = self.calls.mentioning(alloc, name)?;
+        let marks = self.notes.mentioning(alloc, name)?;
         Ok(marks)
     }
 

@@ -121,7 +121,7 @@ fn writing_rule<'a>(
     if lends_fixed(top, scope, statement) {
         return Ok(Some(LENT_FIXED));
     }
-    if lent_twice(top, statement) {
+    if lent_twice(alloc, top, statement)? {
         return Ok(Some(LENT_TWICE));
     }
     if exposes_nv(alloc, top, scope, statement)? {

@@ -7,19 +7,19 @@ use Rattle.std.proofs.lemmas.Bool.Decides.{nat_tests}
 use Rattle.std.proofs.lemmas.List.Folds.{list_any-append}
 use Rattle.std.proofs.lemmas.List.Sums.{sum_by-cons}
 use Rattle.std.proofs.lemmas.Slice.Eq.{bytes_eq-Decides}
-use Rattle.oc_tree.specs.Names.{Text, named_in}
-use Rattle.oc_tree.specs.Tree.{TArg, value, shared, mutable, TCall, call, TArgs, no_args, more_args, TKind, let_to, let_array, assign, assign_index, assign_deref, if_else, for_in, while_do, fresh, consistent}
-use Rattle.oc_tree.specs.Tree.{TElse, no_else, else_do, TStmt, stmt, TBlock, block, TStmts, no_stmts, more, TFunction}
+use Rattle.oc_tree.specs.Names.{Text}
+use Rattle.oc_tree.specs.Tree.{TArg, mutable, TCall, call, TArgs, no_args, more_args, TKind, let_to, let_array, assign, assign_index, assign_deref, if_else, for_in, while_do, fresh, consistent}
+use Rattle.oc_tree.specs.Tree.{TElse, no_else, else_do, stmt, TBlock, block, TStmts, no_stmts, more, TFunction}
 use Rattle.oc_tree.specs.declared.tree.Param.{Param}
 use Rattle.oc_tree.specs.declared.scope.Var.{Var}
 use Rattle.oc_tree.specs.Scope.{Scope, is_in_scope, variable_in}
 use Rattle.oc_tree.specs.Elements.{turn_var}
 use Rattle.oc_tree.specs.Named.{own_names}
 use Rattle.oc_tree.specs.Mentions.{is_named, own_mentions, targets, annotates}
-use Rattle.oc_tree.specs.Calls.{block_kinds, else_kinds, function_mentions, function_place, has_param, hides, kind_hides, kind_kinds, own_calls, place, place_from, stmts_kinds}
+use Rattle.oc_tree.specs.Calls.{block_kinds, else_kinds, function_mentions, function_place, has_param, kind_hides, kind_kinds, own_calls, place, place_from, stmts_kinds}
 use Rattle.oc_tree.specs.Assigned.{arg_assigns, args_assign, assigned_number, call_assigns, callee_assigns, function_assigns, is_target, mutable_param, own_assigns}
-use Rattle.oc_types.specs.Shown.{all_names, arg_assigned, args_assigned, assigned_names, block_shown, call_assigned, callee_assigned, else_shown, end_name, function_shown, hiding, hiding_kind, hiding_params, hiding_stmt}
-use Rattle.oc_types.specs.Shown.{inner_shown, stmt_shown, stmts_shown, target_name, unhidden}
+use Rattle.oc_types.specs.Shown.{all_names, arg_assigned, args_assigned, assigned_names, block_shown, call_assigned, callee_assigned, else_shown, end_name, function_shown, hiding, hiding_kind, hiding_params}
+use Rattle.oc_types.specs.Shown.{inner_shown, stmts_shown, target_name, unhidden}
 
 -- ---- tests
 

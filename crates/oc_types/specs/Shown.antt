@@ -1,5 +1,5 @@
 -- The names that stand in functions where no variable of theirs hides them, all in one list.
-use Rattle.std.specs.Prelude.{ℕ, ◌+◌, Bool, List, [], ◌∷◌, ◌++◌, Option, Some, None, cond, option_to_list}
+use Rattle.std.specs.Prelude.{ℕ, ◌+◌, List, [], ◌∷◌, ◌++◌, Option, Some, None, cond, option_to_list}
 use Rattle.std.specs.List.{flat_map}
 use Rattle.oc_tree.specs.Names.{Text}
 use Rattle.oc_tree.specs.Tree.{TArg, mutable, TCall, call, TArgs, no_args, more_args, TKind, let_to, let_array, assign, assign_index, assign_deref, if_else, for_in, while_do, fresh, consistent}

@@ -2,6 +2,8 @@
 use Rattle.std.proofs.Common.{◌≡◌, refl, ap, ◌∙◌, ℕ, Bool, true, false, true≢false, List, [], ◌∷◌, ◌++◌, cond, filter, Option, Some, None}
 use Rattle.std.specs.Prelude.{◌&&◌, ◌||◌, flat_map, is_some, not}
 use Rattle.std.specs.List.{list_any}
+use Rattle.std.proofs.Math.ListN.{get_or}
+use Rattle.std.proofs.lemmas.Bool.{or_parts}
 use Rattle.oc_tree.specs.Tree.{TProgram}
 use Rattle.oc_tree.specs.declared.tree.VarId.{VarId}
 use Rattle.oc_effects.specs.Effects.{TCalled, TEffect, effects_at}
@@ -11,6 +13,7 @@ use Rattle.oc_flow.proofs.Nothing.{no_bringer}
 use Rattle.oc_needs.specs.Need.{is_empty}
 use Rattle.oc_needs.specs.Requirements.{rising, with_inputs}
 use Rattle.oc_needs.specs.Code.{TSource, is_looped, looped_sites, sites_from, sites_inside, loops_by, source_of, source_list, sources, stands_for, needed_in_call, is_given_to, sites_for, call_list}
+use Rattle.oc_needs.specs.Code.{callee, callees, call_lists, is_any_needed, needed_in_calls}
 use Rattle.oc_needs.proofs.SiteLists.{no_sites}
 
 none_kept : {A : Type 0} (t : A → Bool) (xs : List A) → ((x : A) → t x ≡ false) → filter t xs ≡ []
@@ -44,6 +47,35 @@ pub none_listed : (p : TProgram) (g : ℕ) (rows : List (List VarId)) (a : TEffe
 none_listed p g rows a h =
     ap (λ vs. sites_for p g vs (a.stmt ∷ [])) (none_needed rows (variables p g) a.call h)
     ∙ ap (λ ns. with_inputs ns (a.stmt ∷ [])) (no_sites p g (sources p g (effects_at p g)))
+
+-- ---- where nothing is needed of the functions that are called
+
+nothing_in : {A : Type 0} (xs : List A) → not (is_empty xs) ≡ false → xs ≡ []
+nothing_in [] h = refl
+nothing_in (x ∷ xs) h = absurd (true≢false h)
+
+module _ (rows : List (List VarId)) (vs : List VarId) (es : List TEffect) where
+  -- nothing is needed at the first statement, nor is it of what the others call
+  first_idle : (o : Option TCalled) → is_any_needed rows (callee o ++ callees es) ≡ false → (needed_in_call rows vs o ≡ []) × (is_any_needed rows (callees es) ≡ false)
+  first_idle None h = (refl, h)
+  first_idle (Some c) h =
+      let s = or_parts (not (is_empty (get_or rows c.function []))) (is_any_needed rows (callees es)) h in
+      (ap (λ row. filter (stands_for c row) vs) (nothing_in (get_or rows c.function []) s.0) ∙ none_stand c vs, s.1)
+
+-- nothing is needed at the statements
+pub idle_calls : (rows : List (List VarId)) (vs : List VarId) (es : List TEffect) → is_any_needed rows (callees es) ≡ false → needed_in_calls rows vs es ≡ []
+idle_calls rows vs [] h = refl
+idle_calls rows vs (a ∷ es) h =
+    let s = first_idle rows vs es a.call h in
+    ap (λ ws. ws ++ needed_in_calls rows vs es) s.0 ∙ idle_calls rows vs es s.1
+
+-- they require nothing
+pub idle_lists : (p : TProgram) (g : ℕ) (rows : List (List VarId)) (es : List TEffect) → is_any_needed rows (callees es) ≡ false → call_lists p g rows es ≡ []
+idle_lists p g rows [] h = refl
+idle_lists p g rows (a ∷ es) h =
+    let s = first_idle rows (variables p g) es a.call h in
+    let none : call_list p g rows a ≡ [] = ap (λ vs. sites_for p g vs (a.stmt ∷ [])) s.0 ∙ ap (λ ns. with_inputs ns (a.stmt ∷ [])) (no_sites p g (sources p g (effects_at p g))) in
+    ap (λ ls. ls ++ call_lists p g rows es) none ∙ idle_lists p g rows es s.1
 
 -- where no statement with inputs stands in a loop, no variable has sites of such
 pub none_looped : (p : TProgram) (f : ℕ) (x : VarId) (ss : List TSource) → list_any is_looped ss ≡ false → looped_sites p f ss x ≡ []

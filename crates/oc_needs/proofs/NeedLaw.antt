@@ -1,6 +1,6 @@
 -- The test of need decides the relation, where the test of flow does and calls fall along a rank.
 use Rattle.std.proofs.Common.{◌≡◌, refl, sym, ap, ◌∙◌, subst, ℕ, zero, suc, ◌<◌, ◌≤◌, arith, Bool, true, false, true≢false, nat_eq, inl, inr, List, [], ◌∷◌, length, Option, Some, None}
-use Rattle.std.specs.Prelude.{◌&&◌, ◌||◌, not}
+use Rattle.std.specs.Prelude.{◌&&◌, not}
 use Rattle.std.specs.List.{list_any}
 use Rattle.std.proofs.lemmas.Bool.{cases_lt, eqb-true, eq-eqb, and_from, and_parts, or_left, or_right}
 use Rattle.oc_tree.specs.Tree.{TProgram}

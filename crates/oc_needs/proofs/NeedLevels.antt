@@ -1,10 +1,10 @@
 -- The rows of each depth of calls are those of the definition.
-use Rattle.std.proofs.Common.{◌≡◌, ◌≢◌, refl, sym, ap, ◌∙◌, subst, ℕ, zero, suc, ◌+◌, ◌<◌, ◌≤◌, arith, Bool, true, false, true≢false, nat_eq, nat_lt, ◌⊎◌, inl, inr, List, [], ◌∷◌}
+use Rattle.std.proofs.Common.{◌≡◌, refl, sym, ap, ◌∙◌, subst, ℕ, zero, suc, ◌+◌, ◌<◌, ◌≤◌, arith, Bool, true, false, true≢false, nat_eq, nat_lt, ◌⊎◌, inl, inr, List, [], ◌∷◌}
 use Rattle.std.proofs.Common.{map, length, cond, Option, Some, None}
 use Rattle.std.specs.Prelude.{◌&&◌, ◌||◌, not, filter, flat_map, option_map, option_to_list}
 use Rattle.std.specs.List.{list_any}
 use Rattle.std.proofs.Math.ListN.{get_or}
-use Rattle.std.proofs.lemmas.Bool.{cases_lt, eqb-true, eqb-false, and_parts, not-false, or_parts}
+use Rattle.std.proofs.lemmas.Bool.{cases_lt, eqb-true, and_parts, not-false, or_parts}
 use Rattle.std.proofs.lemmas.List.{get_or_past, length-map}
 use Rattle.std.proofs.lemmas.List.Folds.{list_any-append}
 use Rattle.oc_tree.specs.Tree.{TProgram}
@@ -171,11 +171,12 @@ rows_tell p q d e g w h =
 
 -- ---- levels
 
--- The rows of a depth, and which functions' rows may have changed since what was known before.
+-- The rows of a depth, and which functions' rows may have changed since what was known before. Only the policy's own
+-- function may be a step behind, and that only without a row.
 record IsLevel (p : TProgram) (q : Policy) (depth : ℕ) (level : TLevel) : Type 0 where
   rows_are : level.rows ≡ rows_of p (needs_to p q depth)
   before : Needed
-  closed : (g : ℕ) (w : VarId) → g ≢ q.function → needs_to p q depth g w ≡ needs_by p q before g w
+  closed : (g : ℕ) (w : VarId) → (nat_eq g q.function && is_empty (get_or level.rows g [])) ≡ false → needs_to p q depth g w ≡ needs_by p q before g w
   settled : (g : ℕ) (w : VarId) → get_or level.changed g true ≡ false → needs_to p q depth g w ≡ before g w
 
 needs_more : (p : TProgram) (q : Policy) (depth g : ℕ) (w : VarId) → needs_to p q (suc depth) g w ≡ needs_by p q (needs_to p q depth) g w
@@ -192,12 +193,12 @@ map_from_same f g n (suc count) h =
     ap (λ x. x ∷ map f (from (n + 1) count)) (h n (omega arith)) ∙ ap (λ xs. g n ∷ xs) (map_from_same f g (n + 1) count (λ i l. h i (omega (arith, l))))
 
 module _ (p : TProgram) (q : Policy) (depth : ℕ) (level : TLevel) (is : IsLevel p q depth level) where
-  kept : (g : ℕ) (w : VarId) → is_stale q g (effects_at p g) level.changed ≡ false → needs_to p q (suc depth) g w ≡ needs_to p q depth g w
+  kept : (g : ℕ) (w : VarId) → is_stale q g (get_or level.rows g []) (effects_at p g) level.changed ≡ false → needs_to p q (suc depth) g w ≡ needs_to p q depth g w
   kept g w h =
-      let parts = or_parts (nat_eq g q.function) (list_any (λ a. is_changed level.changed a.call) (effects_at p g)) h in
+      let parts = or_parts (nat_eq g q.function && is_empty (get_or level.rows g [])) (list_any (λ a. is_changed level.changed a.call) (effects_at p g)) h in
       needs_more p q depth g w
       ∙ (ap (λ b. is_given w && (needs_itself p q g w || b)) (same_by_calls p (needs_to p q depth) is.before level.changed is.settled g w (effects_at p g) parts.1)
-      ∙ sym (is.closed g w (eqb-false g q.function parts.0)))
+      ∙ sym (is.closed g w parts.0))
 
   old_row : (g : ℕ) → g < length p.functions → get_or level.rows g [] ≡ row_of p (needs_to p q depth) g
   old_row g h = ap (λ rows. get_or rows g []) is.rows_are ∙ get_map_from (row_of p (needs_to p q depth)) (length p.functions) g [] h
@@ -209,16 +210,16 @@ module _ (p : TProgram) (q : Policy) (depth : ℕ) (level : TLevel) (is : IsLeve
       ∙ filter_same (needs_by p q (needs_to p q depth) g) (needs_to p q (suc depth) g) (variables p g) (λ w. sym (needs_more p q depth g w)))
 
   row_step : (g : ℕ) → g < length p.functions → next_row p q level g ≡ row_of p (needs_to p q (suc depth)) g
-  row_step g h = by_stale (is_stale q g (effects_at p g) level.changed) refl
+  row_step g h = by_stale (is_stale q g (get_or level.rows g []) (effects_at p g) level.changed) refl
     where
-      by_stale : (t : Bool) → is_stale q g (effects_at p g) level.changed ≡ t → cond t (row_by p q level.rows g) (get_or level.rows g []) ≡ row_of p (needs_to p q (suc depth)) g
+      by_stale : (t : Bool) → is_stale q g (get_or level.rows g []) (effects_at p g) level.changed ≡ t → cond t (row_by p q level.rows g) (get_or level.rows g []) ≡ row_of p (needs_to p q (suc depth)) g
       by_stale true e = made_row g
       by_stale false e = old_row g h ∙ filter_same (needs_to p q depth g) (needs_to p q (suc depth) g) (variables p g) (λ w. sym (kept g w e))
 
   changed_step : (g : ℕ) (w : VarId) → g < length p.functions → is_row_changed p q level g ≡ false → needs_to p q (suc depth) g w ≡ needs_to p q depth g w
-  changed_step g w h = by_stale (is_stale q g (effects_at p g) level.changed) refl
+  changed_step g w h = by_stale (is_stale q g (get_or level.rows g []) (effects_at p g) level.changed) refl
     where
-      by_stale : (t : Bool) → is_stale q g (effects_at p g) level.changed ≡ t → cond t (is_changed_row p q level.rows g) false ≡ false → needs_to p q (suc depth) g w ≡ needs_to p q depth g w
+      by_stale : (t : Bool) → is_stale q g (get_or level.rows g []) (effects_at p g) level.changed ≡ t → cond t (is_changed_row p q level.rows g) false ≡ false → needs_to p q (suc depth) g w ≡ needs_to p q depth g w
       by_stale true e i =
           let same : row_by p q level.rows g ≡ get_or level.rows g [] = same_row_is (row_by p q level.rows g) (get_or level.rows g []) (not-false _ i) in
           rows_tell p q (suc depth) depth g w (sym (made_row g) ∙ (same ∙ old_row g h))
@@ -249,14 +250,28 @@ start_calls p q g w = any_none (λ a. list_any (λ y. is_needed_at p (needs_to p
     at_call None y = refl
     at_call (Some c) y = any_none (λ x. needs_to p q zero c.function x && begins c x y) (variables p c.function) (λ x. ap (λ b. b && begins c x y) (needs_none p q c.function x))
 
-start_closed : (p : TProgram) (q : Policy) (g : ℕ) (w : VarId) → g ≢ q.function → needs_to p q zero g w ≡ needs_by p q (needs_to p q zero) g w
-start_closed p q g w d =
-    needs_none p q g w ∙ sym (and_false (is_given w) _
-    (or_same (needs_itself p q g w) false (needs_by_call p (needs_to p q zero) g w) false (by_test (nat_eq g q.function) refl) (start_calls p q g w)))
+-- nothing has a row at the start
+start_row : (count g : ℕ) → get_or (map no_row (from 0 count)) g [] ≡ []
+start_row count g = by_place (cases_lt g count)
   where
-    by_test : (t : Bool) → nat_eq g q.function ≡ t → t && (not (is_empty (held p q)) && list_any (flows p g w) (annotated p q)) ≡ false
-    by_test false e = refl
-    by_test true e = absurd (d (eqb-true g q.function e))
+    by_place : (g < count) ⊎ (count ≤ g) → get_or (map no_row (from 0 count)) g [] ≡ []
+    by_place (inl h) = get_map_from no_row count g [] h
+    by_place (inr h) = get_or_past (map no_row (from 0 count)) g [] (omega (arith, h, length_map_from no_row 0 count))
+
+start_closed : (p : TProgram) (q : Policy) (g : ℕ) (w : VarId) → (nat_eq g q.function && is_empty (get_or (map no_row (from 0 (length p.functions))) g [])) ≡ false
+    → needs_to p q zero g w ≡ needs_by p q (needs_to p q zero) g w
+start_closed p q g w d =
+    needs_none p q g w ∙ sym (and_false (is_given w) _ (or_same (needs_itself p q g w) false (needs_by_call p (needs_to p q zero) g w) false itself (start_calls p q g w)))
+  where
+    other : (t : Bool) → (t && true) ≡ false → t ≡ false
+    other true e = e
+    other false e = refl
+
+    own : nat_eq g q.function ≡ false
+    own = other (nat_eq g q.function) (sym (ap (λ row. nat_eq g q.function && is_empty row) (start_row (length p.functions) g)) ∙ d)
+
+    itself : needs_itself p q g w ≡ false
+    itself = ap (λ t. t && (not (is_empty (held p q)) && list_any (flows p g w) (annotated p q))) own
 
 start_is : (p : TProgram) (q : Policy) → IsLevel p q zero (start_level (length p.functions))
 start_is p q = record {
@@ -345,23 +360,21 @@ level_settles p q k old new l e i none =
 
 -- ---- what the code makes of a depth
 
-pub made_is : (p : TProgram) (q : Policy) (old : TLevel) (g : ℕ) (rows : List (List VarId)) (changed : List Bool) → changed ≡ old.changed → rows ≡ old.rows
-    → is_stale q g (effects_at p g) changed ≡ true → row_by p q rows g ≡ next_row p q old g
-made_is p q old g rows changed c r e =
-    ap (λ rs. row_by p q rs g) r ∙ sym (ap (λ t. cond t (row_by p q old.rows g) (get_or old.rows g [])) (ap (is_stale q g (effects_at p g)) (sym c) ∙ e))
+module _ (p : TProgram) (q : Policy) (old : TLevel) (g : ℕ) (rows : List (List VarId)) (changed : List Bool) (c : changed ≡ old.changed) (r : rows ≡ old.rows) where
+  stale_same : is_stale q g (get_or rows g []) (effects_at p g) changed ≡ is_stale q g (get_or old.rows g []) (effects_at p g) old.changed
+  stale_same = λ i. is_stale q g (get_or (r i) g []) (effects_at p g) (c i)
 
-pub made_changed : (p : TProgram) (q : Policy) (old : TLevel) (g : ℕ) (rows : List (List VarId)) (changed : List Bool) → changed ≡ old.changed → rows ≡ old.rows
-    → is_stale q g (effects_at p g) changed ≡ true → is_changed_row p q rows g ≡ is_row_changed p q old g
-made_changed p q old g rows changed c r e =
-    ap (λ rs. is_changed_row p q rs g) r ∙ sym (ap (λ t. cond t (is_changed_row p q old.rows g) false) (ap (is_stale q g (effects_at p g)) (sym c) ∙ e))
+  pub made_is : is_stale q g (get_or rows g []) (effects_at p g) changed ≡ true → row_by p q rows g ≡ next_row p q old g
+  made_is e = ap (λ rs. row_by p q rs g) r ∙ sym (ap (λ t. cond t (row_by p q old.rows g) (get_or old.rows g [])) (sym stale_same ∙ e))
 
-pub kept_is : (p : TProgram) (q : Policy) (old : TLevel) (g : ℕ) (rows : List (List VarId)) (changed : List Bool) → changed ≡ old.changed → rows ≡ old.rows
-    → is_stale q g (effects_at p g) changed ≡ false → get_or rows g [] ≡ next_row p q old g
-kept_is p q old g rows changed c r e =
-    ap (λ rs. get_or rs g []) r ∙ sym (ap (λ t. cond t (row_by p q old.rows g) (get_or old.rows g [])) (ap (is_stale q g (effects_at p g)) (sym c) ∙ e))
+  pub made_changed : is_stale q g (get_or rows g []) (effects_at p g) changed ≡ true → is_changed_row p q rows g ≡ is_row_changed p q old g
+  made_changed e = ap (λ rs. is_changed_row p q rs g) r ∙ sym (ap (λ t. cond t (is_changed_row p q old.rows g) false) (sym stale_same ∙ e))
 
-pub kept_changed : (p : TProgram) (q : Policy) (old : TLevel) (g : ℕ) (changed : List Bool) → changed ≡ old.changed → is_stale q g (effects_at p g) changed ≡ false → false ≡ is_row_changed p q old g
-kept_changed p q old g changed c e = sym (ap (λ t. cond t (is_changed_row p q old.rows g) false) (ap (is_stale q g (effects_at p g)) (sym c) ∙ e))
+  pub kept_is : is_stale q g (get_or rows g []) (effects_at p g) changed ≡ false → get_or rows g [] ≡ next_row p q old g
+  kept_is e = ap (λ rs. get_or rs g []) r ∙ sym (ap (λ t. cond t (row_by p q old.rows g) (get_or old.rows g [])) (sym stale_same ∙ e))
+
+  pub kept_changed : is_stale q g (get_or rows g []) (effects_at p g) changed ≡ false → false ≡ is_row_changed p q old g
+  kept_changed e = sym (ap (λ t. cond t (is_changed_row p q old.rows g) false) (sym stale_same ∙ e))
 
 pub next_level_is : (p : TProgram) (q : Policy) (old : TLevel) (k : ℕ) (level : TLevel) → k ≡ length p.functions → level.rows ≡ map (next_row p q old) (from 0 k)
     → level.changed ≡ map (is_row_changed p q old) (from 0 k) → level ≡ next_level p q old

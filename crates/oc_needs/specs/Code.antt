@@ -1,6 +1,6 @@
 -- What the code works with.
 use Rattle.std.specs.Prelude.{◌+◌, ℕ, zero, suc, Bool, true, false, ◌&&◌, ◌||◌, not, List, [], ◌∷◌, ◌++◌, map, flat_map, filter, find, length, reverse, Option, Some, None, cond}
-use Rattle.std.specs.Prelude.{nat_eq, option_map, option_to_list}
+use Rattle.std.specs.Prelude.{nat_eq, option_map, option_to_list, replicate}
 use Rattle.std.specs.List.{list_any}
 use Rattle.std.specs.Option.{unwrap_or}
 use Rattle.std.proofs.Math.ListN.{get_or}
@@ -172,6 +172,10 @@ needed_in_call rows vs (Some c) = filter (stands_for c (get_or rows c.function [
 abbrev pub needed_in_calls : List (List VarId) → List VarId → List TEffect → List VarId
 needed_in_calls rows vs es = flat_map (λ a. needed_in_call rows vs a.call) es
 
+-- something is needed of one of these functions
+abbrev pub is_any_needed : List (List VarId) → List ℕ → Bool
+is_any_needed rows fs = list_any (λ f. not (is_empty (get_or rows f []))) fs
+
 -- the variables that need what flows into them: at the annotations, and at calls
 abbrev pub needed_itself : TProgram → Policy → ℕ → List VarId
 needed_itself p q g = cond (nat_eq g q.function && not (is_empty (held p q))) (annotated p q) []
@@ -191,9 +195,11 @@ abbrev pub is_changed : List Bool → Option TCalled → Bool
 is_changed changed None = false
 is_changed changed (Some c) = get_or changed c.function true
 
--- the function is to be looked at again
-abbrev pub is_stale : Policy → ℕ → List TEffect → List Bool → Bool
-is_stale q g es changed = nat_eq g q.function || list_any (λ a. is_changed changed a.call) es
+-- a function with this row is to be looked at again: the policy's own one until it has a row, and one
+-- that calls a function of which something has changed
+abbrev pub is_stale : Policy → ℕ → List VarId → List TEffect → List Bool → Bool
+is_stale q g row es changed =
+    (nat_eq g q.function && is_empty row) || list_any (λ a. is_changed changed a.call) es
 
 abbrev pub same_row : List VarId → List VarId → Bool
 same_row [] [] = true
@@ -207,20 +213,22 @@ pub record TLevel : Type 0 where
 
 abbrev pub next_row : TProgram → Policy → TLevel → ℕ → List VarId
 next_row p q old g =
-    cond (is_stale q g (effects_at p g) old.changed) (row_by p q old.rows g) (get_or old.rows g [])
+    cond (is_stale q g (get_or old.rows g []) (effects_at p g) old.changed)
+    (row_by p q old.rows g) (get_or old.rows g [])
 
 abbrev pub is_changed_row : TProgram → Policy → List (List VarId) → ℕ → Bool
 is_changed_row p q rows g = not (same_row (row_by p q rows g) (get_or rows g []))
 
 abbrev pub is_row_changed : TProgram → Policy → TLevel → ℕ → Bool
 is_row_changed p q old g =
-    cond (is_stale q g (effects_at p g) old.changed) (is_changed_row p q old.rows g) false
+    cond (is_stale q g (get_or old.rows g []) (effects_at p g) old.changed)
+    (is_changed_row p q old.rows g) false
 
 abbrev pub no_row : ℕ → List VarId
 no_row f = []
 
 abbrev pub start_level : (count : ℕ) → TLevel
-start_level count = record { rows = map no_row (from 0 count); changed = [] }
+start_level count = record { rows = map no_row (from 0 count); changed = replicate count false }
 
 abbrev pub next_level : TProgram → Policy → TLevel → TLevel
 next_level p q old = record {

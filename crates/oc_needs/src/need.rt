@@ -1,5 +1,5 @@
 //! Which variables of callers a policy needs.
-ghost use Rattle.std.specs.Prelude.{◌≡◌, ◌<◌, Some, ◌+◌, ◌++◌, true, false, [], map, filter, is_some, IfOk, OnOk};
+ghost use Rattle.std.specs.Prelude.{◌≡◌, ◌<◌, Some, ◌+◌, ◌++◌, true, false, [], map, filter, is_some, not, IfOk, OnOk};
 ghost use Rattle.std.specs.List.{list_any};
 ghost use Rattle.std.proofs.Math.ListN.{get_or};
 ghost use Rattle.oc_tree.specs.declared.tree.VarId.{VarId};
@@ -7,8 +7,8 @@ ghost use Rattle.oc_effects.specs.Effects.{effects_at};
 ghost use Rattle.oc_effects.specs.View.{called_view, effect_view};
 ghost use Rattle.oc_flow.specs.Variables.{arg_at, begins, is_among, is_given, variables};
 ghost use Rattle.oc_flow.specs.Flow.{flows};
-ghost use Rattle.oc_needs.specs.Need.{needs};
-ghost use Rattle.oc_needs.specs.Code.{is_changed, is_changed_row, is_given_to, is_row_changed, all_locals, is_stale, needed_in_call, needed_in_calls, needed_itself, needing, next_level, next_row, row_by, rows_of, same_row, stands_for, start_level};
+ghost use Rattle.oc_needs.specs.Need.{is_empty, needs};
+ghost use Rattle.oc_needs.specs.Code.{is_any_needed, is_changed, is_changed_row, is_given_to, is_row_changed, all_locals, is_stale, needed_in_call, needed_in_calls, needed_itself, needing, next_level, next_row, row_by, rows_of, same_row, stands_for, start_level};
 ghost use Rattle.oc_needs.specs.CodeView.{level_view, local_view, rows_view, IsAsked, IsBody};
 
 use crate::asked::Asked;
@@ -158,6 +158,45 @@ fn add_needed_in_calls(
     Ok(())
 }
 
+/// Whether something is needed of the function at a place.
+fn is_needed(rows: &[Vec<VarId>], function: u32) -> bool
+    ensures { result ≡ not (is_empty (get_or (rows_view rows.now) function [])) }
+{
+    !row_at(rows, function as usize).is_empty()
+}
+
+/// Whether something is needed of one of these functions.
+pub fn is_any_needed(rows: &[Vec<VarId>], functions: &[u32]) -> bool
+    ensures { result ≡ is_any_needed (rows_view rows.now) functions.now }
+{
+    functions.iter().any(|f| is_needed(rows, *f))
+}
+
+/// Adds the variables that are needed at the calls of a function. It goes over its statements only
+/// where something is needed of a function that it calls.
+fn add_needed_below(
+    alloc: Global,
+    needing: &mut Vec<VarId>,
+    body: &Body,
+    rows: &[Vec<VarId>],
+) -> Result<(), AllocError>
+    requires { IsBody body.now }
+    ensures { OnOk result
+        (needing.new.items ≡ needing.old.items
+        ++ needed_in_calls (rows_view rows.now)
+        (variables body.now.summaries.now.program body.now.function)
+        (effects_at body.now.summaries.now.program body.now.function)) }
+{
+    if !is_any_needed(rows, body.local.callees.as_slice()) {
+        return Ok(());
+    }
+    let variables = body.local.variables.as_slice();
+    let effects = body.summaries.effects();
+    let statements = effects.of_function(body.function as usize);
+    add_needed_in_calls(alloc, needing, rows, variables, statements)?;
+    Ok(())
+}
+
 /// The annotated variables, in the policy's own function, where anything is held.
 pub fn needed_itself(alloc: Global, body: &Body, asked: &Asked) -> Result<Vec<VarId>, AllocError>
     requires { IsAsked body.now.summaries.now.program asked.now }
@@ -186,10 +225,7 @@ fn ends_of(
         body.now.function) }
 {
     let mut needing = needed_itself(alloc, body, asked)?;
-    let variables = body.local.variables.as_slice();
-    let effects = body.summaries.effects();
-    let statements = effects.of_function(body.function as usize);
-    add_needed_in_calls(alloc, &mut needing, rows, variables, statements)?;
+    add_needed_below(alloc, &mut needing, body, rows)?;
     Ok(needing)
 }
 
@@ -262,14 +298,15 @@ fn callees_changed(body: &Body, changed: &[bool]) -> bool
     any_changed(changed, body.local.callees.as_slice())
 }
 
-/// Whether the row of a function is to be made anew.
-fn is_stale(body: &Body, policy: Policy, changed: &[bool]) -> bool
+/// Whether the row of a function is to be made anew: that of the policy's own function until there is
+/// one, and where that of some callee may have changed.
+fn is_stale(body: &Body, policy: Policy, row: &[VarId], changed: &[bool]) -> bool
     requires { IsBody body.now }
     ensures { result
-        ≡ is_stale policy body.now.function
+        ≡ is_stale policy body.now.function row.now
         (effects_at body.now.summaries.now.program body.now.function) changed.now }
 {
-    body.function == policy.function || callees_changed(body, changed)
+    (body.function == policy.function && row.is_empty()) || callees_changed(body, changed)
 }
 
 /// Whether two rows are the same.
@@ -320,15 +357,14 @@ fn made_row(
 }
 
 /// The row of a function as it was, and that it didn't change. Err is want of memory.
-fn kept_row(
-    alloc: Global,
-    rows: &[Vec<VarId>],
-    function: usize,
-) -> Result<(Vec<VarId>, bool), AllocError>
-    ensures row { IfOk result (λ r. r.0.items ≡ get_or (rows_view rows.now) function []) }
+fn kept_row(alloc: Global, row: &[VarId]) -> Result<(Vec<VarId>, bool), AllocError>
+    ensures row { IfOk result (λ r. r.0.items ≡ row.now) }
     ensures changed { IfOk result (λ r. r.1 ≡ false) }
 {
-    let kept = Vec::from_slice(alloc, row_at(rows, function))?;
+    if row.is_empty() {
+        return Ok((Vec::new(alloc), false));
+    }
+    let kept = Vec::from_slice(alloc, row)?;
     Ok((kept, false))
 }
 
@@ -352,16 +388,17 @@ fn next_row(
 {
     let rows = old.rows.as_slice();
     let changed = old.changed.as_slice();
-    let stale = is_stale(body, asked.policy, changed);
+    let before = row_at(rows, body.function as usize);
+    let stale = is_stale(body, asked.policy, before, changed);
     if stale {
         let (row, differs) = made_row(alloc, body, asked, rows)?;
         return Ok((row, differs));
     }
-    let (row, differs) = kept_row(alloc, rows, body.function as usize)?;
+    let (row, differs) = kept_row(alloc, before)?;
     Ok((row, differs))
 }
 
-/// What nothing is needed of yet.
+/// What nothing is needed of yet, as before.
 fn start(alloc: Global, count: usize) -> Result<Level, AllocError>
     ensures { IfOk result (λ l. level_view l ≡ start_level count) }
 {
@@ -369,7 +406,7 @@ fn start(alloc: Global, count: usize) -> Result<Level, AllocError>
     for _function in 0..count {
         rows.push(Vec::new(alloc))?;
     }
-    let changed = Vec::new(alloc);
+    let changed = vec![in alloc; false; count]?;
     Ok(Level { rows, changed })
 }
 

@@ -1,5 +1,6 @@
 //! All requirements of a program.
 ghost use Rattle.std.specs.Prelude.{◌≡◌, ◌<◌, ℕ, ◌+◌, ◌-◌, ◌++◌, map, length, option_map, option_to_list, IfOk, OnOk};
+ghost use Rattle.oc_effects.specs.Effects.{effects_at};
 ghost use Rattle.oc_effects.specs.View.{effect_view};
 ghost use Rattle.oc_tree.specs.declared.marked.Policy.{Policy};
 ghost use Rattle.oc_tree.specs.declared.tree.VarId.{VarId};
@@ -15,7 +16,7 @@ use crate::asked::{Asked, spoken_of};
 use crate::lists::{add_list, with_inputs};
 use crate::local::{Body, Local, body_at, locals};
 use crate::looped::all_looped;
-use crate::need::{calls, needed_in_call, needed_itself, needed_rows};
+use crate::need::{calls, is_any_needed, needed_in_call, needed_itself, needed_rows};
 use crate::place::number_of;
 use crate::policy::policies;
 use crate::requirement::Requirement;
@@ -133,6 +134,29 @@ fn call_lists(
     Ok(lists)
 }
 
+/// The sites at all calls of a function. It goes over its statements only where something is needed
+/// of a function that it calls.
+fn lists_below(
+    alloc: Global,
+    body: &Body,
+    rows: &[Vec<VarId>],
+) -> Result<Vec<Vec<StmtId>>, AllocError>
+    requires { IsBody body.now }
+    ensures { IfOk result
+        (λ l. sites_view l.items
+        ≡ in_order
+        (call_lists body.now.summaries.now.program body.now.function (rows_view rows.now)
+        (effects_at body.now.summaries.now.program body.now.function))) }
+{
+    if !is_any_needed(rows, body.local.callees.as_slice()) {
+        return Ok(Vec::new(alloc));
+    }
+    let effects = body.summaries.effects();
+    let statements = effects.of_function(body.function as usize);
+    let lists = call_lists(alloc, body, rows, statements)?;
+    Ok(lists)
+}
+
 /// All sites of a policy in a function.
 fn lists_in(
     alloc: Global,
@@ -147,9 +171,7 @@ fn lists_in(
         ≡ lists_in body.now.summaries.now.program asked.now.policy (rows_view rows.now)
         body.now.function) }
 {
-    let effects = body.summaries.effects();
-    let statements = effects.of_function(body.function as usize);
-    let mut lists = call_lists(alloc, body, rows, statements)?;
+    let mut lists = lists_below(alloc, body, rows)?;
     let own = own_sites(alloc, body, asked)?;
     add_sites(&mut lists, own)?;
     Ok(lists)

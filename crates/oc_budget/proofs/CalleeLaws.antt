@@ -1,5 +1,5 @@
 -- The cost of a function is told by the costs of its callees: each is worked out once, those of callees first.
-use Rattle.std.proofs.Common.{◌≡◌, ◌<◌, ◌≤◌, ◌+◌, ◌*◌, ◌++◌, ℕ, zero, suc, Bool, true, false, true≢false, List, ◌∷◌, length, Some, None, inl, inr, max, refl, sym, ap, ◌∙◌, map-id, arith, set, subst}
+use Rattle.std.proofs.Common.{◌≡◌, ◌<◌, ◌≤◌, ◌+◌, ◌*◌, ◌++◌, ℕ, zero, suc, Bool, true, false, List, length, Some, None, inr, max, refl, sym, ap, ◌∙◌, map-id, arith, set, subst}
 use Rattle.std.specs.Prelude.{cond, is_some, slice_get, ◌||◌}
 use Rattle.std.proofs.Math.ListN.{get_or}
 use Rattle.oc_tree.specs.Tree.{TKind, if_else, for_in, while_do, consistent, TElse, no_else, else_do, stmt, TBlock, block, TStmts, no_stmts, more, TFunction, TProgram}
@@ -9,7 +9,7 @@ use Rattle.oc_tree.specs.Costs.{one, marks_at, probes, inner_cost, else_cost, bl
 use Rattle.oc_tree.specs.Marked.{TRegion}
 use Rattle.oc_tree.specs.Reach.{leads, some_below, rank}
 use Rattle.oc_tree.specs.Weight.{expr_cost, turns}
-use Rattle.oc_tree.proofs.ReachLaws.{least, or_elim}
+use Rattle.oc_tree.proofs.ReachLaws.{least}
 use Rattle.oc_checked.proofs.BodiesPass.{function_fine}
 use Rattle.oc_checked.proofs.CallLinks.{body_away, links_onwards}
 use Rattle.oc_checked.proofs.Ranks.{Onwards, falls}

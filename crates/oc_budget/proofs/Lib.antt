@@ -1,5 +1,6 @@
 pub mod TableLaws
 pub mod SpentLaws
+pub mod ApartLaws
 pub mod CalleeLaws
 pub mod ToldLaws
 mod BoundSums

@@ -55,7 +55,7 @@ module _ (picks : ℕ → Bool) (cost : ℕ → TKind → ℕ) where
     else_is at no_else = refl
     else_is at (else_do b) = block_is at b
 
-    block_is : (at : Place) (b : TBlock) → block_spent picks cost b ≡ picked (block_placed at b)
+    pub block_is : (at : Place) (b : TBlock) → block_spent picks cost b ≡ picked (block_placed at b)
     block_is at (block id ss) = stmts_is (record at { block = id }) ss
 
     stmts_is : (at : Place) (ss : TStmts) → stmts_spent picks cost ss ≡ picked (stmts_placed at ss)

@@ -1,8 +1,8 @@
 //! The costs of the statements directly in a region.
-ghost use Rattle.std.specs.Prelude.{◌≡◌, cond};
+ghost use Rattle.std.specs.Prelude.{◌≡◌, cond, slice_get, Some};
 ghost use Rattle.oc_tree.specs.Marked.{is_in_region};
 ghost use Rattle.oc_tree.specs.Regions.{region_view};
-ghost use Rattle.oc_tree.specs.View.{block_view, else_view, kind_view};
+ghost use Rattle.oc_tree.specs.View.{block_view, else_view, function_view, kind_view};
 ghost use Rattle.oc_budget.specs.Budgets.{held_cost};
 ghost use Rattle.oc_budget.specs.Costs.{costs};
 ghost use Rattle.oc_budget.specs.Fitting.{IsFitted};
@@ -14,7 +14,7 @@ use crate::known::Known;
 use crate::sums::plus;
 use crate::walk::{inner_cost, probes};
 use oc_tree::marked::Region;
-use oc_tree::tree::{Block, Expr, StmtId, StmtKind};
+use oc_tree::tree::{Block, Expr, Function, StmtId, StmtKind};
 
 /// The value that a `return` returns.
 fn returned(kind: &StmtKind) -> Option<&Expr>
@@ -122,6 +122,28 @@ fn block_spent(known: &Known, callees: &[u64], region: &Region, block: &Block) -
     Some(spent)
 }
 
+/// What the statements of the function at a place cost that stand directly in the region. It goes
+/// over them only where some of their numbers are among those of the region.
+fn function_spent(
+    known: &Known,
+    callees: &[u64],
+    region: &Region,
+    place: usize,
+    function: &Function,
+) -> Option<u64>
+    requires callees { callees.now ≡ costs known.now }
+    requires place { slice_get known.now.program.functions place
+        ≡ Some (function_view function.now) }
+    ensures { IsFitted result
+        (block_spent (is_in_region known.now.program (region_view region.now))
+        (held_cost known.now) (function_view function.now).body) }
+{
+    if known.is_apart(region, place) {
+        return Some(0);
+    }
+    block_spent(known, callees, region, &function.body)
+}
+
 /// The costs of all statements directly in a region.
 pub fn region_spent(known: &Known, callees: &[u64], region: &Region) -> Option<u64>
     requires { callees.now ≡ costs known.now }
@@ -130,8 +152,10 @@ pub fn region_spent(known: &Known, callees: &[u64], region: &Region) -> Option<u
         (held_cost known.now) known.now.program.functions) }
 {
     let mut spent = 0;
-    for function in known.functions() {
-        spent = plus(spent, block_spent(known, callees, region, &function.body)?)?;
+    let functions = known.functions();
+    for (place, function) in functions.iter().enumerate() {
+        let held = function_spent(known, callees, region, place, function)?;
+        spent = plus(spent, held)?;
     }
     Some(spent)
 }

@@ -1,6 +1,6 @@
 //! What is asked of a program for every statement: what functions are called, which statements use
 //! a fresh variable, and where regions begin and end.
-ghost use Rattle.std.specs.Prelude.{◌≡◌, ℕ, false, length, map, nat_eq, codes, IfOk};
+ghost use Rattle.std.specs.Prelude.{◌≡◌, ◌<◌, ℕ, false, true, length, map, nat_eq, codes, IfOk};
 ghost use Rattle.std.specs.List.{list_any};
 ghost use Rattle.std.proofs.Math.ListN.{get_or};
 ghost use Rattle.oc_tree.specs.View.{call_view, function_view};
@@ -9,7 +9,9 @@ ghost use Rattle.oc_tree.specs.Marked.{IsMarked, is_in_region};
 ghost use Rattle.oc_tree.specs.Regions.{region_view};
 ghost use Rattle.oc_tree.specs.Weight.{has_result, result_at};
 ghost use Rattle.oc_weight.specs.Order.{IsOrder};
+ghost use Rattle.oc_effects.specs.Effects.{effects_at};
 ghost use Rattle.oc_budget.specs.Costs.{is_use};
+ghost use Rattle.oc_budget.specs.Spent.{has_within};
 ghost use Rattle.oc_tree.specs.Costs.{marks_at};
 
 use crate::tables::{has, mark};
@@ -195,5 +197,19 @@ impl<'a> Known<'a> {
         // For the proof alone: the view or the invariant speaks of this field.
         let _marked = self.marked;
         self.effects.is_in_region(region, s)
+    }
+
+    /// Whether all statements of the function at a place come before a region, or all behind it.
+    pub fn is_apart(&self, region: &Region, place: usize) -> bool
+        requires { place < length self.now.program.functions }
+        ensures { result ≡ true
+            → has_within (region_view region.now) (effects_at self.now.program place) ≡ false }
+    {
+        // For the proof alone: the view or the invariant speaks of this field.
+        let _marked = self.marked;
+        let first = self.effects.first(place);
+        let count = self.effects.of_function(place).len();
+        let range = region.range;
+        range.last < first || range.first.saturating_sub(first) as usize >= count
     }
 }

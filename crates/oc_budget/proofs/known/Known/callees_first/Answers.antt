@@ -1,8 +1,7 @@
-use Rattle.std.proofs.Common.{◌≡◌, Bool, true, false, true≢false, Option, Some, None, IfNone, List, length, map, refl, sym, ap, ◌∙◌, subst}
+use Rattle.std.proofs.Common.{◌≡◌, Bool, true, false, true≢false, Option, Some, None, IfNone, length, map, refl, sym, ap, ◌∙◌}
 use Rattle.std.specs.Option.{IsSome}
 use Rattle.std.proofs.lemmas.List.{length-map}
 use Rattle.oc_tree.specs.View.{function_view}
-use Rattle.oc_tree.specs.Tree.{TFunction}
 use Rattle.oc_tree.specs.Calls.{call_links}
 use Rattle.oc_weight.specs.Order.{comes_back}
 use Rattle.oc_budget.proofs.CalleeLaws.{none_comes_back}

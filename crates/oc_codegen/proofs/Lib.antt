@@ -1,4 +1,5 @@
 pub mod Bindings
+pub mod LastPlaces
 pub mod Patches
 pub mod Sides
 pub mod FunctionPlaces

@@ -1,4 +1,5 @@
 pub mod Slots
+pub mod Last
 pub mod Ops
 pub mod Around
 pub mod Room

@@ -1,8 +1,9 @@
 //! Where the code finds the variables that are visible.
-ghost use Rattle.std.specs.Prelude.{◌≡◌, ◌-◌, ◌∷◌, [], length, drop, OnOk};
-ghost use Rattle.oc_code.specs.Scope.{slot_of, words_of, is_fresh_in};
+ghost use Rattle.std.specs.Prelude.{◌≡◌, ◌≤◌, ◌-◌, ◌∷◌, [], length, drop, OnOk};
+ghost use Rattle.oc_code.specs.Scope.{named, slot_of, words_of, is_fresh_in};
 ghost use Rattle.oc_codegen.specs.Slots.{slot_view, named_view, found_view};
 
+use indexmap::IndexMap;
 use oc_tree::name::Name;
 use std::alloc::{AllocError, Global};
 use std::marker::Model;
@@ -35,19 +36,32 @@ pub struct Binding<'a> {
 }
 
 /// The visible variables, which contracts see as a list, newest first.
-#[derive(Drop)]
 pub struct Scope<'a> {
     bindings: Vec<Binding<'a>>,
+    /// For a name, a place behind which no variable has it. It may lie past the last one.
+    places: IndexMap<&'a [u8], usize>,
+}
+
+// Written out, so that it is one call wherever a scope goes.
+impl Drop for Scope<'_> {
+    fn drop(self) {
+        let Scope { bindings, places } = self;
+        drop(bindings);
+        drop(places);
+    }
 }
 
 impl<'a> Model for Scope<'a> {
     ghost use Rattle.std.specs.Prelude.{List};
     ghost use Rattle.oc_code.specs.Scope.{Named};
     ghost use Rattle.oc_codegen.specs.Slots.{visible};
+    ghost use Rattle.oc_codegen.specs.Last.{AreLast};
 
     ghost Value = { List Named };
 
     ghost view = { λ s. visible s.bindings.items };
+
+    ghost invariant = { λ s. AreLast s.bindings.items s.places.entries };
 }
 
 impl<'a> Scope<'a> {
@@ -57,6 +71,7 @@ impl<'a> Scope<'a> {
     {
         Scope {
             bindings: Vec::new(alloc),
+            places: IndexMap::new(alloc),
         }
     }
 
@@ -71,6 +86,8 @@ impl<'a> Scope<'a> {
     pub fn declare(&mut self, name: &'a Name, variable: Variable) -> Result<(), AllocError>
         ensures { OnOk result (self.new ≡ named_view name.now variable ∷ self.old) }
     {
+        let place = self.bindings.len();
+        self.places.insert(name.bytes(), place)?;
         self.bindings.push(Binding {
             name: name.bytes(),
             variable,
@@ -85,13 +102,27 @@ impl<'a> Scope<'a> {
         self.bindings.truncate(len);
     }
 
+    /// How many of the oldest variables there are to be gone through for the newest one of a name.
+    fn reach(&self, name: &Name) -> usize
+        ensures within { result ≤ length self.now }
+        ensures same { named (drop (length self.now - result) self.now) name.now
+            ≡ named self.now name.now }
+    {
+        let count = self.bindings.len();
+        let found = self.places.get(&name.bytes());
+        match found {
+            Some(place) => { if *place < count { *place + 1 } else { count } }
+            None => count,
+        }
+    }
+
     /// The newest variable of a name.
     fn find(&self, name: &Name) -> Option<Variable>
         ensures slot { (found_view name.now result).slot ≡ slot_of self.now name.now }
         ensures words { (found_view name.now result).words ≡ words_of self.now name.now }
         ensures fresh { (found_view name.now result).fresh ≡ is_fresh_in self.now name.now }
     {
-        let mut i = self.bindings.len();
+        let mut i = self.reach(name);
         while i > 0 {
             i -= 1;
             let binding = self.bindings[i];

@@ -1,0 +1,17 @@
+-- Behind which place no binding has a name.
+use Rattle.std.specs.Prelude.{◌≡◌, ℕ, suc, Bool, false, List, map, drop, Some}
+use Rattle.std.specs.List.{list_any}
+use Rattle.std.specs.Str.{bytes_eq}
+use Rattle.std.proofs.Common.{Bor}
+use Rattle.oc_tree.specs.Names.{Text, named_in}
+use Rattle.oc_codegen.specs.declared.scope.Binding.{Binding}
+
+-- one of these bindings has the name
+abbrev pub has_name : Text → List Binding → Bool
+has_name x bs = list_any (λ b. bytes_eq x b.name.now) bs
+
+-- behind the place that stands beside a name, if one does, no binding has it
+abbrev pub AreLast : List Binding → List (Bor Text × ℕ) → Type 0
+AreLast bs es =
+    (x : Text) (i : ℕ) → named_in (map (λ e. (e.0.now, e.1)) es) x ≡ Some i
+    → has_name x (drop (suc i) bs) ≡ false

@@ -12,6 +12,7 @@ ghost use Rattle.oc_writes.specs.Targets.{may_write};
 
 mod buffer;
 mod copy;
+mod ends;
 mod exprs;
 mod loops;
 mod program;

@@ -8,8 +8,8 @@ ghost use Rattle.oc_tree.specs.Weight.{has_result};
 ghost use Rattle.oc_meaning.specs.Exec.{begun_by, ended_by, number_in};
 ghost use Rattle.oc_code.specs.Code.{function_number};
 
+use crate::ends::{begin_table, end_table, region_at};
 use oc_meaning::names::place_in;
-use oc_meaning::regions::{begun_by, ended_by};
 use oc_names::table::{Table, function_table, result_at};
 use oc_tree::marked::Region;
 use oc_tree::name::Name;
@@ -23,18 +23,22 @@ pub struct Setting<'a> {
     program: &'a Program,
     table: Table<'a>,
     regions: &'a [Region],
+    begins: Vec<Option<u32>>,
+    ends: Vec<Option<u32>>,
     params: u32,
 }
 
 impl<'a> Model for Setting<'a> {
-    ghost use Rattle.std.specs.Prelude.{◌≡◌, ◌≤◌, map, length};
+    ghost use Rattle.std.specs.Prelude.{◌≡◌, ◌≤◌, ℕ, None, map, length};
     ghost use Rattle.std.specs.Coded.{codes};
+    ghost use Rattle.std.proofs.Math.ListN.{get_or};
     ghost use Rattle.oc_tree.specs.Names.{names_view};
     ghost use Rattle.oc_tree.specs.Stored.{block_code};
     ghost use Rattle.oc_tree.specs.View.{function_view};
     ghost use Rattle.oc_tree.specs.Regions.{region_view};
     ghost use Rattle.oc_tree.specs.Calls.{function_names};
     ghost use Rattle.oc_tree.specs.Sizes.{function_limit, name_limit};
+    ghost use Rattle.oc_meaning.specs.Exec.{begun_by, ended_by};
     ghost use Rattle.oc_codegen.specs.Around.{Around};
 
     ghost Value = { Around };
@@ -52,7 +56,9 @@ impl<'a> Model for Setting<'a> {
         ≡ function_names (map function_view a.program.now.functions.items))
         × (length a.program.now.names.sensors.items ≤ name_limit)
         × (length a.program.now.names.ports.items ≤ name_limit)
-        × (length a.program.now.functions.items ≤ function_limit) };
+        × (length a.program.now.functions.items ≤ function_limit)
+        × ((n : ℕ) → get_or a.begins.items n None ≡ begun_by (map region_view a.regions.now) n)
+        × ((n : ℕ) → get_or a.ends.items n None ≡ ended_by (map region_view a.regions.now) n) };
 }
 
 impl<'a> Setting<'a> {
@@ -76,10 +82,14 @@ impl<'a> Setting<'a> {
             }) }
     {
         let table = function_table(alloc, program.functions.as_slice())?;
+        let begins = begin_table(alloc, regions)?;
+        let ends = end_table(alloc, regions)?;
         Ok(Setting {
             program,
             table,
             regions,
+            begins,
+            ends,
             params: 0,
         })
     }
@@ -138,13 +148,17 @@ impl<'a> Setting<'a> {
     pub fn begun_by(&self, n: u32) -> Option<u32>
         ensures { result ≡ begun_by self.now.regions n }
     {
-        begun_by(self.regions, n)
+        // For the proof alone: the invariant speaks of this field.
+        let _regions = self.regions;
+        region_at(self.begins.as_slice(), n)
     }
 
     /// The region that ends with a statement.
     pub fn ended_by(&self, n: u32) -> Option<u32>
         ensures { result ≡ ended_by self.now.regions n }
     {
-        ended_by(self.regions, n)
+        // For the proof alone: the invariant speaks of this field.
+        let _regions = self.regions;
+        region_at(self.ends.as_slice(), n)
     }
 }

@@ -1,19 +1,15 @@
-use Rattle.std.proofs.Common.{◌≡◌, ◌≤◌, ◌+◌, ◌++◌, ◌∷◌, [], List, length, drop, map, ap, sym, ◌∙◌, arith, append-nil, length-append}
-use Rattle.std.specs.Prelude.{codes}
+use Rattle.std.proofs.Common.{◌≡◌, ◌+◌, ◌++◌, ◌∷◌, [], List, length, drop, map, ap, sym, ◌∙◌, arith, append-nil, length-append}
 use Rattle.std.proofs.lemmas.Grind.{common_steps}
-use Rattle.std.proofs.lemmas.List.{drop_all, length-map}
-use Rattle.oc_tree.specs.Names.{NameLists, names_view}
-use Rattle.oc_tree.specs.Tree.{TFunction, TProgram}
+use Rattle.std.proofs.lemmas.List.{drop_all}
+use Rattle.oc_tree.specs.Names.{NameLists}
+use Rattle.oc_tree.specs.Tree.{TFunction}
 use Rattle.oc_tree.specs.Marked.{TRegion}
 use Rattle.oc_tree.specs.Regions.{region_view}
 use Rattle.oc_tree.specs.View.{block_view, function_view, program_view}
 use Rattle.oc_tree.specs.declared.tree.Function.{Function}
-use Rattle.oc_tree.specs.declared.tree.NvDecl.{NvDecl}
-use Rattle.oc_tree.specs.Calls.{function_place}
-use Rattle.oc_tree.specs.Stack.{link_words, stacks_to, stack_words}
-use Rattle.oc_tree.specs.Weight.{known_of}
+use Rattle.oc_tree.specs.Stack.{link_words}
 use Rattle.oc_code.specs.Scope.{Named, params_scope}
-use Rattle.oc_code.specs.Code.{block_code, close_code, function_code, functions_code, image_function, image_functions, image_nv}
+use Rattle.oc_code.specs.Code.{block_code, close_code, function_code, functions_code, image_function, image_functions}
 use Rattle.oc_codegen.proofs.Functions.{functions_step, images_step}
 use Rattle.oc_codegen.proofs.program.functions.Goals as goal
 

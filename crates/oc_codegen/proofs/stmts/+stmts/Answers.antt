@@ -2,10 +2,9 @@ use Rattle.std.proofs.Common.{rules, ◌≡◌, ℕ, Bool, List, ◌+◌, ◌-�
 use Rattle.std.proofs.lemmas.Grind.{common_steps}
 use Rattle.std.specs.Prelude.{pos, slice_set}
 use Rattle.std.proofs.lemmas.List.{length-set}
-use Rattle.oc_tree.specs.Tree.{TKind, TBlock, TStmt, TStmts, if_else, no_else, else_do, while_do}
-use Rattle.oc_tree.specs.View.{block_view, expr_view, kind_view, stmts_view, kind_step, block_step, stmt_step}
+use Rattle.oc_tree.specs.Tree.{TStmts, if_else, no_else, else_do, while_do}
+use Rattle.oc_tree.specs.View.{block_view, expr_view, kind_view, stmts_view}
 use Rattle.oc_tree.specs.declared.tree.StmtKind.{fold-roll-StmtKind}
-use Rattle.oc_tree.specs.declared.tree.StmtKind.TheOpen.{StmtKind-F}
 use Rattle.oc_tree.specs.declared.tree.StmtKind as X
 use Rattle.oc_tree.specs.declared.tree.Block as blocks
 use Rattle.oc_tree.specs.declared.tree.Stmt as statements

@@ -6,18 +6,17 @@ ghost use Rattle.oc_tree.specs.Tree.{return};
 ghost use Rattle.oc_tree.specs.Weight.{has_result};
 ghost use Rattle.oc_isa.specs.declared.instr.Instr.TheVariants.{Store, Drop, Emit, Sense};
 ghost use Rattle.oc_isa.specs.declared.instr.ProbeKind.TheVariants.{Use};
-ghost use Rattle.oc_meaning.specs.Exec.{ended_by, number_in};
-ghost use Rattle.oc_meaning.specs.Uses.{begins_use, ends_use, is_use};
+ghost use Rattle.oc_meaning.specs.Exec.{begun_by, ended_by, number_in};
+ghost use Rattle.oc_meaning.specs.Uses.{is_use};
 ghost use Rattle.oc_code.specs.Scope.{in_scope, is_fresh_in, slot_of};
 ghost use Rattle.oc_code.specs.Forms.{placed, one, enter_code, commit_code, probe_code, write_code, expr_code};
-ghost use Rattle.oc_code.specs.Code.{call_code, right_code, element_code, return_code, after_code, last_code, first_code};
+ghost use Rattle.oc_code.specs.Code.{call_code, right_code, element_code, return_code, before_code, after_code, last_code};
 ghost use Rattle.oc_codegen.specs.Room.{HasRoom};
 
 use crate::buffer::Buffer;
 use crate::exprs::{args, base, expr, write};
 use crate::scope::{Scope, Slot, Variable};
 use crate::setting::Setting;
-use crate::uses::is_use;
 use oc_isa::instr::{Instr, ProbeKind};
 use oc_meaning::names::is_annotated;
 use oc_tree::name::Name;
@@ -294,46 +293,15 @@ pub fn test(
     expr(code, scope, n, condition)
 }
 
-/// Whether a probe before a statement says that it uses a fresh variable. A `while` has a probe at
-/// each test.
-fn begins_use(scope: &Scope, kind: &StmtKind) -> bool
-    ensures { result ≡ begins_use (is_fresh_in scope.now) (kind_view kind.now) }
-{
-    match kind {
-        StmtKind::While { .. } => false,
-        _ => is_use(scope, kind),
-    }
-}
-
-/// Whether a probe behind a statement says that its use is over. A `while` and a `return` have
-/// theirs in their own code.
-fn ends_use(scope: &Scope, kind: &StmtKind) -> bool
-    ensures { result ≡ ends_use (is_fresh_in scope.now) (kind_view kind.now) }
-{
-    match kind {
-        StmtKind::While { .. } => false,
-        StmtKind::Return { .. } => false,
-        _ => is_use(scope, kind),
-    }
-}
-
-/// What stands before a statement's own code.
-pub fn before(
-    code: &mut Buffer,
-    setting: &Setting,
-    scope: &Scope,
-    n: u32,
-    kind: &StmtKind,
-) -> Result<(), AllocError>
-    requires { HasRoom code.old (first_code setting.now.names setting.now.functions
-        setting.now.regions setting.now.params scope.now n (kind_view kind.now)) }
+/// What stands before a statement's own code: the beginning of a region, and the probe that its use
+/// of a fresh variable begins. Err is want of memory.
+pub fn before(code: &mut Buffer, setting: &Setting, n: u32, begins: bool) -> Result<(), AllocError>
+    requires { HasRoom code.old (before_code n (begun_by setting.now.regions n) begins) }
     ensures { OnOk result
-        (code.new ≡ code.old
-        ++ first_code setting.now.names setting.now.functions setting.now.regions setting.now.params
-        scope.now n (kind_view kind.now)) }
+        (code.new ≡ code.old ++ before_code n (begun_by setting.now.regions n) begins) }
 {
     enter(code, n, setting.begun_by(n))?;
-    probe(code, n, begins_use(scope, kind), ProbeKind::Use)
+    probe(code, n, begins, ProbeKind::Use)
 }
 
 /// The end of the region that ends with the statement `n`, if one does; a `return` has it in its
@@ -348,22 +316,22 @@ fn last(code: &mut Buffer, n: u32, region: Option<u32>, kind: &StmtKind) -> Resu
     }
 }
 
-/// What stands behind a statement's own code.
+/// What stands behind a statement's own code: the probe that its use of a fresh variable is over, and
+/// the end of a region. Err is want of memory.
 pub fn after(
     code: &mut Buffer,
     setting: &Setting,
-    scope: &Scope,
     n: u32,
+    ends: bool,
     kind: &StmtKind,
 ) -> Result<(), AllocError>
-    requires { HasRoom code.old (after_code n (ended_by setting.now.regions n) (ends_use
-        (is_fresh_in scope.now) (kind_view kind.now)) (kind_view kind.now)) }
+    requires { HasRoom code.old
+        (after_code n (ended_by setting.now.regions n) ends (kind_view kind.now)) }
     ensures { OnOk result
         (code.new ≡ code.old
-        ++ after_code n (ended_by setting.now.regions n)
-        (ends_use (is_fresh_in scope.now) (kind_view kind.now)) (kind_view kind.now)) }
+        ++ after_code n (ended_by setting.now.regions n) ends (kind_view kind.now)) }
 {
-    probe(code, n, ends_use(scope, kind), ProbeKind::Done)?;
+    probe(code, n, ends, ProbeKind::Done)?;
     last(code, n, setting.ended_by(n), kind)
 }
 

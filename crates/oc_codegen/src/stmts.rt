@@ -20,7 +20,7 @@ use crate::simple::{
     after, assign, assign_index, before, call_only, declare, emit, let_to, probe, return_value,
     sense_only, test,
 };
-use crate::uses::is_use;
+use crate::uses::{is_use, probes_of};
 use oc_isa::instr::{Instr, ProbeKind};
 use oc_tree::name::Name;
 use oc_tree::tree::{Block, Expr, Stmt, StmtKind};
@@ -270,9 +270,10 @@ fn statement<'a>(
         (scope.new ≡ in_scope (kind_view statement.now.kind) slot (stmts_view rest.now) scope.old) }
 {
     let n = statement.id;
-    before(code, setting, scope, n, &statement.kind)?;
+    let probes = probes_of(scope, &statement.kind);
+    before(code, setting, n, probes.begins)?;
     let next = kind(code, setting, scope, n, slot, &statement.kind)?;
-    after(code, setting, scope, n, &statement.kind)?;
+    after(code, setting, n, probes.ends, &statement.kind)?;
     declare(scope, slot, &statement.kind, rest)?;
     Ok(next)
 }

@@ -3,7 +3,7 @@ ghost use Rattle.std.specs.Prelude.{◌≡◌};
 ghost use Rattle.std.specs.List.{list_any};
 ghost use Rattle.oc_tree.specs.View.{arg_view, args_view, call_view, expr_view, kind_view, right_view};
 ghost use Rattle.oc_tree.specs.Walks.{arg_named, args_named, call_named, expr_named, kind_named, right_named};
-ghost use Rattle.oc_meaning.specs.Uses.{is_use};
+ghost use Rattle.oc_meaning.specs.Uses.{begins_use, ends_use, is_use};
 ghost use Rattle.oc_code.specs.Scope.{is_fresh_in};
 
 use crate::scope::Scope;
@@ -100,4 +100,37 @@ pub fn is_use(scope: &Scope, kind: &StmtKind) -> bool
     ensures { result ≡ is_use (is_fresh_in scope.now) (kind_view kind.now) }
 {
     kind_has(scope, kind)
+}
+
+/// Whether a probe before a statement says that it uses a fresh variable, and whether one behind it
+/// says that this is over.
+#[derive(Clone, Copy)]
+pub struct Probes {
+    pub begins: bool,
+    pub ends: bool,
+}
+
+/// The probes around a statement. A `while` has a probe at each test and the last one in its own
+/// code, as a `return` has its last one.
+pub fn probes_of(scope: &Scope, kind: &StmtKind) -> Probes
+    ensures begins { result.begins ≡ begins_use (is_fresh_in scope.now) (kind_view kind.now) }
+    ensures ends { result.ends ≡ ends_use (is_fresh_in scope.now) (kind_view kind.now) }
+{
+    match kind {
+        StmtKind::While { .. } => Probes {
+            begins: false,
+            ends: false,
+        },
+        StmtKind::Return { .. } => Probes {
+            begins: is_use(scope, kind),
+            ends: false,
+        },
+        _ => {
+            let used = is_use(scope, kind);
+            Probes {
+                begins: used,
+                ends: used,
+            }
+        }
+    }
 }

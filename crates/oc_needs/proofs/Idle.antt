@@ -1,20 +1,23 @@
 -- Statements, calls and functions for which nothing is to be done.
-use Rattle.std.proofs.Common.{◌≡◌, refl, ap, ◌∙◌, ℕ, Bool, true, false, true≢false, List, [], ◌∷◌, ◌++◌, cond, filter, Option, Some, None}
+use Rattle.std.proofs.Common.{◌≡◌, refl, sym, ap, ◌∙◌, ℕ, Bool, true, false, true≢false, List, [], ◌∷◌, ◌++◌, cond, filter, Option, Some, None}
 use Rattle.std.specs.Prelude.{◌&&◌, ◌||◌, flat_map, is_some, not}
 use Rattle.std.specs.List.{list_any}
 use Rattle.std.proofs.Math.ListN.{get_or}
-use Rattle.std.proofs.lemmas.Bool.{or_parts}
+use Rattle.std.proofs.lemmas.Bool.{or_from, or_parts}
 use Rattle.oc_tree.specs.Tree.{TProgram}
 use Rattle.oc_tree.specs.declared.tree.VarId.{VarId}
+use Rattle.oc_tree.specs.declared.tree.VarId.TheVariants.{Nv, Param, Declared, Returned}
 use Rattle.oc_effects.specs.Effects.{TCalled, TEffect, effects_at}
-use Rattle.oc_flow.specs.Variables.{variables, is_given}
+use Rattle.oc_flow.specs.Variables.{begins, variables, is_given}
 use Rattle.oc_flow.specs.Flow.{brings_at, may_bring_at}
 use Rattle.oc_flow.proofs.Nothing.{no_bringer}
 use Rattle.oc_needs.specs.Need.{is_empty}
 use Rattle.oc_needs.specs.Requirements.{rising, with_inputs}
 use Rattle.oc_needs.specs.Code.{TSource, is_looped, looped_sites, sites_from, sites_inside, loops_by, source_of, source_list, sources, stands_for, needed_in_call, is_given_to, sites_for, call_list}
 use Rattle.oc_needs.specs.Code.{callee, callees, call_lists, is_any_needed, needed_in_calls}
+use Rattle.oc_needs.specs.Code.{is_nv, is_param}
 use Rattle.oc_needs.proofs.SiteLists.{no_sites}
+use Rattle.oc_needs.proofs.Tests.{filter_same}
 
 none_kept : {A : Type 0} (t : A → Bool) (xs : List A) → ((x : A) → t x ≡ false) → filter t xs ≡ []
 none_kept t [] h = refl
@@ -29,6 +32,32 @@ no_source p f a h =
 -- where nothing is needed of a function, nothing is needed at its calls
 pub none_stand : (c : TCalled) (vs : List VarId) → filter (stands_for c []) vs ≡ []
 none_stand c vs = none_kept (stands_for c []) vs (λ v. refl)
+
+-- for nonvolatile variables only such stand
+other_begins : (c : TCalled) (x y : VarId) → is_param x ≡ false → is_nv y ≡ false → begins c x y ≡ false
+other_begins c (Nv i) (Nv j) p n = absurd (true≢false n)
+other_begins c (Nv i) (Param j) p n = refl
+other_begins c (Nv i) (Declared j) p n = refl
+other_begins c (Nv i) Returned p n = refl
+other_begins c (Param i) y p n = absurd (true≢false p)
+other_begins c (Declared i) y p n = refl
+other_begins c Returned y p n = refl
+
+other_stands : (c : TCalled) (row : List VarId) (y : VarId) → list_any is_param row ≡ false → is_nv y ≡ false → stands_for c row y ≡ false
+other_stands c [] y p n = refl
+other_stands c (x ∷ row) y p n =
+    let s = or_parts (is_param x) (list_any is_param row) p in
+    or_from (begins c x y) (stands_for c row y) (other_begins c x y s.0 n) (other_stands c row y s.1 n)
+
+nv_stands : (c : TCalled) (row : List VarId) → list_any is_param row ≡ false → (y : VarId) → (is_nv y && stands_for c row y) ≡ stands_for c row y
+nv_stands c row p y = by (is_nv y) refl
+  where
+    by : (b : Bool) → is_nv y ≡ b → (b && stands_for c row y) ≡ stands_for c row y
+    by true n = refl
+    by false n = sym (other_stands c row y p n)
+
+pub nvs_stand : (c : TCalled) (row vs : List VarId) → list_any is_param row ≡ false → filter (λ y. is_nv y && stands_for c row y) vs ≡ filter (stands_for c row) vs
+nvs_stand c row vs p = filter_same (λ y. is_nv y && stands_for c row y) (stands_for c row) vs (nv_stands c row p)
 
 pub none_needed : (rows : List (List VarId)) (vs : List VarId) (o : Option TCalled) → is_some o ≡ false → needed_in_call rows vs o ≡ []
 none_needed rows vs None h = refl

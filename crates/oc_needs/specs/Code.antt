@@ -6,7 +6,7 @@ use Rattle.std.specs.Option.{unwrap_or}
 use Rattle.std.proofs.Math.ListN.{get_or}
 use Rattle.oc_tree.specs.Tree.{TProgram}
 use Rattle.oc_tree.specs.declared.tree.VarId.{VarId}
-use Rattle.oc_tree.specs.declared.tree.VarId.TheVariants.{Declared}
+use Rattle.oc_tree.specs.declared.tree.VarId.TheVariants.{Nv, Param, Declared}
 use Rattle.oc_tree.specs.declared.marked.Policy.{Policy}
 use Rattle.oc_tree.specs.declared.marked.PolicyKind.{PolicyKind}
 use Rattle.oc_effects.specs.Effects.{TCalled, TEffect, effects_at, is_numbered}
@@ -163,6 +163,15 @@ rows_of p need = map (row_of p need) (from 0 (length p.functions))
 -- a variable stands for one of these in the function that is called
 abbrev pub stands_for : TCalled → List VarId → VarId → Bool
 stands_for c row y = list_any (λ x. begins c x y) row
+
+-- a nonvolatile variable, and a parameter
+abbrev pub is_nv : VarId → Bool
+is_nv (Nv i) = true
+is_nv _ = false
+
+abbrev pub is_param : VarId → Bool
+is_param (Param i) = true
+is_param _ = false
 
 -- the variables that are needed at a call
 abbrev pub needed_in_call : List (List VarId) → List VarId → Option TCalled → List VarId

@@ -1,5 +1,5 @@
 //! Which variables of callers a policy needs.
-ghost use Rattle.std.specs.Prelude.{◌≡◌, ◌<◌, Some, ◌+◌, ◌++◌, true, false, [], map, filter, is_some, not, IfOk, OnOk};
+ghost use Rattle.std.specs.Prelude.{◌≡◌, ◌<◌, Some, ◌+◌, ◌++◌, ◌&&◌, true, false, [], map, filter, is_some, not, IfOk, OnOk};
 ghost use Rattle.std.specs.List.{list_any};
 ghost use Rattle.std.proofs.Math.ListN.{get_or};
 ghost use Rattle.oc_tree.specs.declared.tree.VarId.{VarId};
@@ -8,7 +8,7 @@ ghost use Rattle.oc_effects.specs.View.{called_view, effect_view};
 ghost use Rattle.oc_flow.specs.Variables.{arg_at, begins, is_among, is_given, variables};
 ghost use Rattle.oc_flow.specs.Flow.{flows};
 ghost use Rattle.oc_needs.specs.Need.{is_empty, needs};
-ghost use Rattle.oc_needs.specs.Code.{is_any_needed, is_changed, is_changed_row, is_given_to, is_row_changed, all_locals, is_stale, needed_in_call, needed_in_calls, needed_itself, needing, next_level, next_row, row_by, rows_of, same_row, stands_for, start_level};
+ghost use Rattle.oc_needs.specs.Code.{is_any_needed, is_nv, is_param, is_changed, is_changed_row, is_given_to, is_row_changed, all_locals, is_stale, needed_in_call, needed_in_calls, needed_itself, needing, next_level, next_row, row_by, rows_of, same_row, stands_for, start_level};
 ghost use Rattle.oc_needs.specs.CodeView.{level_view, local_view, rows_view, IsAsked, IsBody};
 
 use crate::asked::Asked;
@@ -60,7 +60,59 @@ fn stands_for(call: &Called, row: &[VarId], y: VarId) -> bool
     row.iter().any(|x| begins(call, *x, y))
 }
 
-/// The variables that stand for one of these in the function that is called.
+/// Whether a variable is nonvolatile.
+fn is_nv(v: VarId) -> bool
+    ensures { result ≡ is_nv v }
+{
+    match v {
+        VarId::Nv { index: _ } => true,
+        _ => false,
+    }
+}
+
+/// Whether a variable is a parameter.
+fn is_param(v: VarId) -> bool
+    ensures { result ≡ is_param v }
+{
+    match v {
+        VarId::Param { index: _ } => true,
+        _ => false,
+    }
+}
+
+/// Whether one of these variables is a parameter.
+fn has_param(row: &[VarId]) -> bool
+    ensures { result ≡ list_any is_param row.now }
+{
+    row.iter().any(|v| is_param(*v))
+}
+
+/// Whether a nonvolatile variable stands for one of these in the function that is called.
+fn nv_stands_for(call: &Called, row: &[VarId], y: VarId) -> bool
+    ensures { result ≡ is_nv y && stands_for (called_view call.now) row.now y }
+{
+    is_nv(y) && stands_for(call, row, y)
+}
+
+/// The nonvolatile variables that stand for one of these in the function that is called.
+fn nvs_standing_for(
+    alloc: Global,
+    call: &Called,
+    row: &[VarId],
+    variables: &[VarId],
+) -> Result<Vec<VarId>, AllocError>
+    ensures { IfOk result (λ v. v.items
+        ≡ filter (λ y. is_nv y && stands_for (called_view call.now) row.now y) variables.now) }
+{
+    variables
+        .iter()
+        .copied()
+        .filter(|y| nv_stands_for(call, row, *y))
+        .collect(alloc)
+}
+
+/// The variables that stand for one of these in the function that is called. Only for a parameter
+/// others stand than nonvolatile ones.
 fn standing_for(
     alloc: Global,
     call: &Called,
@@ -72,6 +124,10 @@ fn standing_for(
 {
     if row.is_empty() {
         return Ok(Vec::new(alloc));
+    }
+    if !has_param(row) {
+        let standing = nvs_standing_for(alloc, call, row, variables)?;
+        return Ok(standing);
     }
     variables
         .iter()

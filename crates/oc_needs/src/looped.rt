@@ -16,7 +16,7 @@ fn looped_in(alloc: Global, body: &Body) -> Result<Vec<Vec<StmtId>>, AllocError>
     ensures { IfOk result
         (λ r. sites_view r.items ≡ looped_at body.now.summaries.now.program body.now.function) }
 {
-    let mut rows = Vec::new(alloc);
+    let mut rows = Vec::with_capacity(alloc, body.local.variables.len())?;
     for x in body.local.variables.as_slice() {
         let sites = looped_sites(alloc, body, *x)?;
         rows.push(sites)?;

@@ -458,7 +458,7 @@ fn next_row(
 fn start(alloc: Global, count: usize) -> Result<Level, AllocError>
     ensures { IfOk result (λ l. level_view l ≡ start_level count) }
 {
-    let mut rows = Vec::new(alloc);
+    let mut rows = Vec::with_capacity(alloc, count)?;
     for _function in 0..count {
         rows.push(Vec::new(alloc))?;
     }
@@ -480,8 +480,8 @@ fn next_level(
         (λ l. level_view l
         ≡ next_level summaries.now.program asked.now.policy (level_view old.now)) }
 {
-    let mut rows = Vec::new(alloc);
-    let mut changed = Vec::new(alloc);
+    let mut rows = Vec::with_capacity(alloc, locals.len())?;
+    let mut changed = Vec::with_capacity(alloc, locals.len())?;
     for function in 0..locals.len() {
         let body = body_at(summaries, locals, &[], function)?;
         let (row, differs) = next_row(alloc, &body, asked, old)?;

@@ -1,17 +1,19 @@
 -- Behind the places that are kept beside names none of them comes, so that a search may begin there.
-use Rattle.std.proofs.Common.{◌≡◌, ℕ, zero, suc, ◌-◌, ◌≤◌, Bool, true, false, true≢false, cond, List, [], ◌∷◌, ◌++◌, length, take, drop, Option, Some, refl, sym, ap, ◌∙◌, arith, Bor}
-use Rattle.std.specs.Prelude.{◌||◌, if◌then◌else◌}
+use Rattle.std.proofs.Common.{◌≡◌, ℕ, zero, suc, ◌-◌, ◌≤◌, Bool, true, false, true≢false, cond, List, [], ◌∷◌, ◌++◌, length, take, drop, Option, Some, refl, sym, ap, ◌∙◌, arith, Bor, min}
+use Rattle.std.specs.Prelude.{◌&&◌, ◌||◌, if◌then◌else◌, nat_eq, not}
+use Rattle.std.specs.List.{list_any}
 use Rattle.std.specs.Str.{bytes_eq}
-use Rattle.std.proofs.lemmas.Bool.{or_from, or_parts}
+use Rattle.std.proofs.lemmas.Bool.{eqb-true, or_from, or_parts}
 use Rattle.std.proofs.lemmas.Slice.Eq.{bytes_eq-Decides}
-use Rattle.std.proofs.lemmas.List.{drop_all, length-append}
+use Rattle.std.proofs.lemmas.List.{drop_all, length-append, length-take, take_all, take-append-le, take-take}
+use Rattle.std.proofs.lemmas.List.Folds.{list_any-append}
 use Rattle.indexmap.specs.IndexMap.{insert_entry}
 use Rattle.oc_tree.specs.Names.{Text, named_in}
 use Rattle.oc_names.proofs.Entries.{seen}
 use Rattle.oc_code.specs.Scope.{Named, named}
 use Rattle.oc_codegen.specs.declared.scope.Binding.{Binding}
 use Rattle.oc_codegen.specs.Slots.{binding_view, onto, visible}
-use Rattle.oc_codegen.specs.Last.{AreLast, has_name}
+use Rattle.oc_codegen.specs.Last.{AreLast, ArePlain, has_name, is_any_fresh}
 use Rattle.oc_codegen.proofs.Bindings.{visible_take}
 
 -- ---- names with places
@@ -122,3 +124,55 @@ looked_at_all x m bs h = looked_through x m bs (past x m bs h)
 pub looked_up_to : (x : Text) (i m : ℕ) (bs : List Binding) (es : List (Bor Text × ℕ)) → AreLast bs es → named_in (seen es) x ≡ Some i → m ≡ suc i
     → named (drop (length (visible bs) - m) (visible bs)) x ≡ named (visible bs) x
 looked_up_to x i m bs es h e s = looked_through x m bs (ap (λ j. has_name x (drop j bs)) s ∙ h x i e)
+
+-- ---- variables that aren't fresh
+
+fewer_fresh : (n m : ℕ) (bs : List Binding) → n ≤ m → is_any_fresh (take m bs) ≡ false → is_any_fresh (take n bs) ≡ false
+fewer_fresh zero m bs l h = refl
+fewer_fresh (suc n) zero bs l h = absurd (omega (arith, l))
+fewer_fresh (suc n) (suc m) [] l h = refl
+fewer_fresh (suc n) (suc m) (b ∷ bs) l h =
+    let s = or_parts b.variable.fresh (is_any_fresh (take m bs)) h in
+    or_from b.variable.fresh (is_any_fresh (take n bs)) s.0 (fewer_fresh n m bs (omega (arith, l)) s.1)
+
+-- with one more variable
+pub plain_declared : (n : ℕ) (bs : List Binding) (b : Binding) (place all : ℕ) → place ≡ length bs → all ≡ length (bs ++ b ∷ []) → ArePlain n bs
+    → ArePlain (if nat_eq n place && not b.variable.fresh then all else n) (bs ++ b ∷ [])
+plain_declared n bs b place all p a h = by (nat_eq n place) (b.variable.fresh) refl refl
+  where
+    kept : ArePlain n (bs ++ b ∷ [])
+    kept = (omega (arith, h.0, length-append bs (b ∷ [])), ap is_any_fresh (take-append-le n bs (b ∷ []) h.0) ∙ h.1)
+
+    by : (t f : Bool) → nat_eq n place ≡ t → b.variable.fresh ≡ f → ArePlain (if t && not f then all else n) (bs ++ b ∷ [])
+    by false f e g = kept
+    by true true e g = kept
+    by true false e g =
+        let same : n ≡ length bs = omega (arith, eqb-true n place e, p) in
+        let old : is_any_fresh bs ≡ false = ap is_any_fresh (sym (take_all n bs (omega (arith, same)))) ∙ h.1 in
+        let none : is_any_fresh (bs ++ b ∷ []) ≡ false = list_any-append (λ c. c.variable.fresh) bs (b ∷ []) ∙ or_from (is_any_fresh bs) (b.variable.fresh || false) old (ap (λ c. c || false) g) in
+        (omega (arith, a), ap is_any_fresh (take_all all (bs ++ b ∷ []) (omega (arith, a))) ∙ none)
+
+-- with fewer variables
+pub plain_taken : (n m : ℕ) (bs : List Binding) → ArePlain n bs → ArePlain (min n m) (take m bs)
+plain_taken n m bs h =
+    let few : min n m ≤ n = omega arith in
+    let within : min n m ≤ m = omega arith in
+    (omega (arith, h.0, length-take m bs), ap is_any_fresh (take-take (min n m) m bs within) ∙ fewer_fresh (min n m) n bs few h.1)
+
+not_fresh : (x : Text) (bs : List Binding) (γ : List Named) → is_any_fresh bs ≡ false → (named γ x).fresh ≡ false → (named (onto bs γ) x).fresh ≡ false
+not_fresh x [] γ h e = e
+not_fresh x (b ∷ bs) γ h e =
+    let s = or_parts b.variable.fresh (is_any_fresh bs) h in
+    not_fresh x bs (binding_view b ∷ γ) s.1 (by (bytes_eq x b.name.now) s.0)
+  where
+    by : (t : Bool) → b.variable.fresh ≡ false → (if t then binding_view b else named γ x).fresh ≡ false
+    by true f = f
+    by false f = e
+
+-- where all variables are plain no name is that of a fresh one
+pub none_fresh : (n : ℕ) (bs : List Binding) → length bs ≤ n → ArePlain n bs → (x : Text) → (named (visible bs) x).fresh ≡ false
+none_fresh n bs l h = λ x. not_fresh x bs [] (ap is_any_fresh (sym (take_all n bs l)) ∙ h.1) refl
+
+pub none_of_any : {A : Type 0} (is : A → Bool) (xs : List A) → ((x : A) → is x ≡ false) → list_any is xs ≡ false
+none_of_any is [] h = refl
+none_of_any is (x ∷ xs) h = or_from (is x) (list_any is xs) (h x) (none_of_any is xs h)

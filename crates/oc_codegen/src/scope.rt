@@ -1,5 +1,6 @@
 //! Where the code finds the variables that are visible.
-ghost use Rattle.std.specs.Prelude.{◌≡◌, ◌≤◌, ◌-◌, ◌∷◌, [], length, drop, OnOk};
+ghost use Rattle.std.specs.Prelude.{◌≡◌, ◌≤◌, ◌-◌, ◌∷◌, ◌&&◌, if◌then◌else◌, [], false, length, drop, nat_eq, not, OnOk};
+ghost use Rattle.oc_tree.specs.Names.{Text};
 ghost use Rattle.oc_code.specs.Scope.{named, slot_of, words_of, is_fresh_in};
 ghost use Rattle.oc_codegen.specs.Slots.{slot_view, named_view, found_view};
 
@@ -40,12 +41,18 @@ pub struct Scope<'a> {
     bindings: Vec<Binding<'a>>,
     /// For a name, a place behind which no variable has it. It may lie past the last one.
     places: IndexMap<&'a [u8], usize>,
+    /// None of so many of the oldest variables is annotated `Fresh`.
+    plain: usize,
 }
 
 // Written out, so that it is one call wherever a scope goes.
 impl Drop for Scope<'_> {
     fn drop(self) {
-        let Scope { bindings, places } = self;
+        let Scope {
+            bindings,
+            places,
+            plain: _,
+        } = self;
         drop(bindings);
         drop(places);
     }
@@ -55,13 +62,22 @@ impl<'a> Model for Scope<'a> {
     ghost use Rattle.std.specs.Prelude.{List};
     ghost use Rattle.oc_code.specs.Scope.{Named};
     ghost use Rattle.oc_codegen.specs.Slots.{visible};
-    ghost use Rattle.oc_codegen.specs.Last.{AreLast};
+    ghost use Rattle.oc_codegen.specs.Last.{AreLast, ArePlain};
 
     ghost Value = { List Named };
 
     ghost view = { λ s. visible s.bindings.items };
 
-    ghost invariant = { λ s. AreLast s.bindings.items s.places.entries };
+    ghost invariant = { λ s. AreLast s.bindings.items s.places.entries
+        × ArePlain s.plain s.bindings.items };
+}
+
+/// How many of the oldest variables are plain with one more at a place, behind which there are so
+/// many.
+fn plain_with(plain: usize, place: usize, fresh: bool, all: usize) -> usize
+    ensures { result ≡ (if nat_eq plain place && not fresh then all else plain) }
+{
+    if plain == place && !fresh { all } else { plain }
 }
 
 impl<'a> Scope<'a> {
@@ -72,6 +88,7 @@ impl<'a> Scope<'a> {
         Scope {
             bindings: Vec::new(alloc),
             places: IndexMap::new(alloc),
+            plain: 0,
         }
     }
 
@@ -92,6 +109,7 @@ impl<'a> Scope<'a> {
             name: name.bytes(),
             variable,
         })?;
+        self.plain = plain_with(self.plain, place, variable.fresh, self.bindings.len());
         Ok(())
     }
 
@@ -100,6 +118,14 @@ impl<'a> Scope<'a> {
         ensures { self.new ≡ drop (length self.old - len) self.old }
     {
         self.bindings.truncate(len);
+        self.plain = self.plain.min(len);
+    }
+
+    /// Whether a variable may be annotated `Fresh`.
+    pub fn has_fresh(&self) -> bool
+        ensures { result ≡ false → (x : Text) → is_fresh_in self.now x ≡ false }
+    {
+        self.plain < self.bindings.len()
     }
 
     /// How many of the oldest variables there are to be gone through for the newest one of a name.

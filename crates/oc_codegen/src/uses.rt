@@ -99,6 +99,9 @@ fn kind_has(scope: &Scope, kind: &StmtKind) -> bool
 pub fn is_use(scope: &Scope, kind: &StmtKind) -> bool
     ensures { result ≡ is_use (is_fresh_in scope.now) (kind_view kind.now) }
 {
+    if !scope.has_fresh() {
+        return false;
+    }
     kind_has(scope, kind)
 }
 

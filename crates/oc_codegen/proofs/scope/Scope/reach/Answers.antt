@@ -22,7 +22,7 @@ returns-then-place-count-clause-same c =
     let b = c.bytes.ensures in
     let found : named_in (seen es) x ≡ Some i = cc in
     let next : i + 1 ≡ suc i = omega arith in
-    subst (λ (γ : List Named). named (drop (length γ - (i + 1)) γ) x ≡ named γ x) c.self.view_is (looked_up_to x i (i + 1) bs es c.self.invariant found next)
+    subst (λ (γ : List Named). named (drop (length γ - (i + 1)) γ) x ≡ named γ x) c.self.view_is (looked_up_to x i (i + 1) bs es c.self.invariant.0 found next)
 
 pub returns-else-place-count-clause-within : goal.returns-else-place-count-clause-within
 returns-else-place-count-clause-within c =

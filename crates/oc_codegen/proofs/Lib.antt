@@ -1,6 +1,6 @@
 pub mod Bindings
 pub mod LastPlaces
-pub mod RegionTables
+pub mod Tables
 pub mod Patches
 pub mod Sides
 pub mod FunctionPlaces

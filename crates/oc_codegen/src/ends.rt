@@ -22,7 +22,7 @@ pub fn region_at(table: &[Option<u32>], n: StmtId) -> Option<u32>
 }
 
 /// Makes a table longer, so that it has this place.
-#[tactic(auto, using(crate::proofs::RegionTables::longer))]
+#[tactic(auto, using(crate::proofs::Tables::longer))]
 fn reach(table: &mut Vec<Option<u32>>, place: usize) -> Result<(), AllocError>
     ensures long { OnOk result (place < length table.new.items) }
     ensures same { OnOk result
@@ -35,7 +35,7 @@ fn reach(table: &mut Vec<Option<u32>>, place: usize) -> Result<(), AllocError>
 }
 
 /// Notes a region at a statement, unless one is noted there.
-#[tactic(auto, using(crate::proofs::RegionTables::noted))]
+#[tactic(auto, using(crate::proofs::Tables::noted))]
 fn note(table: &mut Vec<Option<u32>>, s: StmtId, region: u32) -> Result<(), AllocError>
     ensures { OnOk result ((n : ℕ) → get_or table.new.items n None
         ≡ option_or (get_or table.old.items n None) (cond (n == s) (Some region) None)) }
@@ -47,7 +47,7 @@ fn note(table: &mut Vec<Option<u32>>, s: StmtId, region: u32) -> Result<(), Allo
 }
 
 /// The regions at the statements with which they begin.
-#[tactic(auto, using(crate::proofs::RegionTables::noted_step, crate::proofs::RegionTables::or_none))]
+#[tactic(auto, using(crate::proofs::Tables::noted_step, crate::proofs::Tables::or_none))]
 pub fn begin_table(alloc: Global, regions: &[Region]) -> Result<Vec<Option<u32>>, AllocError>
     ensures { IfOk result (λ t. (n : ℕ)
         → get_or t.items n None ≡ begun_by (map region_view regions.now) n) }
@@ -60,7 +60,7 @@ pub fn begin_table(alloc: Global, regions: &[Region]) -> Result<Vec<Option<u32>>
 }
 
 /// The regions at the statements with which they end.
-#[tactic(auto, using(crate::proofs::RegionTables::noted_step, crate::proofs::RegionTables::or_none))]
+#[tactic(auto, using(crate::proofs::Tables::noted_step, crate::proofs::Tables::or_none))]
 pub fn end_table(alloc: Global, regions: &[Region]) -> Result<Vec<Option<u32>>, AllocError>
     ensures { IfOk result (λ t. (n : ℕ)
         → get_or t.items n None ≡ ended_by (map region_view regions.now) n) }

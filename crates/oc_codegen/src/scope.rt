@@ -72,8 +72,8 @@ impl<'a> Model for Scope<'a> {
         × ArePlain s.plain s.bindings.items };
 }
 
-/// How many of the oldest variables are plain with one more at a place, behind which there are so
-/// many.
+/// Of how many of the oldest variables none is fresh, with one more at a place: of all, if it isn't
+/// and none before it is.
 fn plain_with(plain: usize, place: usize, fresh: bool, all: usize) -> usize
     ensures { result ≡ (if nat_eq plain place && not fresh then all else plain) }
 {

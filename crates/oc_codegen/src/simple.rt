@@ -316,8 +316,8 @@ fn last(code: &mut Buffer, n: u32, region: Option<u32>, kind: &StmtKind) -> Resu
     }
 }
 
-/// What stands behind a statement's own code: the probe that its use of a fresh variable is over, and
-/// the end of a region. Err is want of memory.
+/// What stands behind a statement's own code: the probe that its use of a fresh variable is over,
+/// and the end of a region. Err is want of memory.
 pub fn after(
     code: &mut Buffer,
     setting: &Setting,

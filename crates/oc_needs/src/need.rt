@@ -354,8 +354,8 @@ fn callees_changed(body: &Body, changed: &[bool]) -> bool
     any_changed(changed, body.local.callees.as_slice())
 }
 
-/// Whether the row of a function is to be made anew: that of the policy's own function until there is
-/// one, and where that of some callee may have changed.
+/// Whether the row of a function is to be made anew: that of the policy's own function until there
+/// is one, and where that of some callee may have changed.
 fn is_stale(body: &Body, policy: Policy, row: &[VarId], changed: &[bool]) -> bool
     requires { IsBody body.now }
     ensures { result

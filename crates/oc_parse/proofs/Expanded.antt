@@ -1,11 +1,14 @@
 -- The `if`s of the expansion, by the sizes of what stands before them.
-use Rattle.std.proofs.Common.{◌≡◌, ◌≤◌, ℕ, ◌+◌, Bool, true, false, List, [], ◌∷◌, ◌++◌, flat_map, append_assoc, refl, sym, ap, ◌∙◌, cond, arith}
+use Rattle.std.proofs.Common.{◌≡◌, ◌≤◌, ℕ, ◌+◌, Bool, true, false, List, [], ◌∷◌, ◌++◌, drop, flat_map, sum_by, append_assoc, refl, sym, ap, ◌∙◌, cond, arith}
 use Rattle.std.specs.Prelude.{map, filter, Result, Ok, Err, IfOk}
+use Rattle.std.proofs.lemmas.List.Sums.{sum_by-cons}
+use Rattle.oc_tree.specs.View.{block_view, function_view}
+use Rattle.oc_tree.specs.declared.tree.Function.{Function}
 use Rattle.oc_tree.specs.Tree.{TExpr, number, truth, variable, index, deref, unary, binary, sensed, called, TArg, value, shared, mutable, TCall, call, TArgs, no_args, more_args}
 use Rattle.oc_tree.specs.Tree.{TRight, right_value, right_sense, right_call, TKind, let_to, let_array, assign, assign_index, assign_deref, if_else, for_in, while_do, call_only}
 use Rattle.oc_tree.specs.Tree.{sense_only, emit, fresh, consistent, return, TElse, no_else, else_do, stmt, TBlock, block, TStmts, no_stmts, more, TFunction, TProgram}
 use Rattle.oc_tree.specs.Pulls.{expr_pulls, call_pulls, args_pulls, arg_pulls, right_pulls, own_pulls, block_pulls, stmt_pulls}
-use Rattle.oc_tree.specs.Nodes.{expr_nodes, call_nodes, args_nodes, arg_nodes, right_nodes, kind_nodes}
+use Rattle.oc_tree.specs.Nodes.{expr_nodes, call_nodes, args_nodes, arg_nodes, right_nodes, kind_nodes, block_nodes}
 use Rattle.oc_tree.specs.Expansion.{block_size, inner_size, stmt_size, temporaries, join_stmts, pulled, expand_kind, expand_else, expand_block, expand_stmts, expand_functions, expansion}
 use Rattle.oc_lex.specs.declared.token.Kind.{Kind}
 use Rattle.oc_lex.specs.declared.token.Kind.TheVariants as kinds
@@ -175,3 +178,33 @@ ifs_more front added grown next here inside to id line k rest whole n a i b c h 
     ∙ append_assoc front own (within ++ after)
     ∙ ap (λ m. front ++ (own ++ (within ++ stmts_ifs_at m rest))) e
     ∙ h
+
+-- ---- one function or token more
+
+pub functions_more : (front grown : List ℕ) (next to i : ℕ) (l : List Function) (x : Function) (whole : List ℕ) → drop i l ≡ x ∷ drop (i + 1) l
+    → grown ≡ front ++ block_ifs_at next (block_view x.body)
+    → to ≡ next + block_size (block_view x.body)
+    → front ++ functions_ifs_at next (map function_view (drop i l)) ≡ whole
+    → grown ++ functions_ifs_at to (map function_view (drop (i + 1) l)) ≡ whole
+functions_more front grown next to i l x whole e a b h =
+    let own = block_ifs_at next (block_view x.body) in
+    let rest = map function_view (drop (i + 1) l) in
+    ap (λ g. g ++ functions_ifs_at to rest) a
+    ∙ ap (λ m. (front ++ own) ++ functions_ifs_at m rest) b
+    ∙ append_assoc front own (functions_ifs_at (next + block_size (block_view x.body)) rest)
+    ∙ ap (λ fs. front ++ functions_ifs_at next (map function_view fs)) (sym e)
+    ∙ h
+
+pub nodes_behind : (i : ℕ) (l : List Function) (x : Function) → drop i l ≡ x ∷ drop (i + 1) l
+    → sum_by (λ f. block_nodes f.body) (map function_view (drop i l)) ≡ block_nodes (block_view x.body) + sum_by (λ f. block_nodes f.body) (map function_view (drop (i + 1) l))
+nodes_behind i l x e =
+    let nodes : TFunction → ℕ = λ f. block_nodes f.body in
+    ap (λ fs. sum_by nodes (map function_view fs)) e ∙ sum_by-cons nodes (function_view x) (map function_view (drop (i + 1) l))
+
+pub begins_more : (front new : List Bool) (i : ℕ) (l : List Token) (t : Token) (whole : List Bool) → drop i l ≡ t ∷ drop (i + 1) l
+    → new ≡ front ++ kind_begins t.kind
+    → front ++ flat_map token_begins (drop i l) ≡ whole
+    → new ++ flat_map token_begins (drop (i + 1) l) ≡ whole
+begins_more front new i l t whole e a h =
+    let rest = flat_map token_begins (drop (i + 1) l) in
+    ap (λ g. g ++ rest) a ∙ append_assoc front (kind_begins t.kind) rest ∙ ap (λ ts. front ++ flat_map token_begins ts) (sym e) ∙ h

@@ -1,9 +1,11 @@
 -- The loop over the statements of a block, one turn at a time.
 use Rattle.std.proofs.Common.{◌≡◌, ℕ, Bool, true, false, Result, zero, suc, ◌+◌, ◌-◌, ◌<◌, List, [], ◌∷◌, ◌++◌, length, Some, None, Ok, Err, refl, sym, ap, ◌∙◌, arith, append_assoc}
+use Rattle.std.specs.Prelude.{MatchResult}
 use Rattle.std.proofs.lemmas.List.{append-nil}
 use Rattle.oc_tree.specs.Tree.{TKind, TStmt, stmt, block, no_stmts, more}
-use Rattle.oc_tree.specs.View.{kind_view, stmts_of}
+use Rattle.oc_tree.specs.View.{kind_view, stmt_view, stmts_of}
 use Rattle.oc_tree.specs.Names.{Text}
+use Rattle.oc_tree.specs.declared.tree.Stmt.{Stmt}
 use Rattle.oc_tree.specs.declared.tree.StmtKind.{StmtKind}
 use Rattle.oc_lex.specs.declared.token.Kind.{Kind}
 use Rattle.oc_lex.specs.declared.token.Kind.TheVariants as kinds
@@ -15,8 +17,9 @@ use Rattle.oc_grammar.specs.ReadingStatements.{ReadNumbered, simple_by, kind_by,
 use Rattle.oc_grammar.proofs.StatementsRead.{stmt_is}
 use Rattle.oc_grammar.proofs.Turns.{onward, stmts_go}
 use Rattle.oc_parse.specs.declared.stop.Stop.{Stop}
+use Rattle.oc_parse.specs.declared.stop.Stop.TheVariants as stops
 use Rattle.oc_parse.specs.declared.statement.Parser.{Parser}
-use Rattle.oc_parse.specs.Steps.{Reads, ReadsTo, Stopped, left}
+use Rattle.oc_parse.specs.Steps.{Reads, ReadsTo, Adds, Stopped, left}
 use Rattle.oc_parse.proofs.Loops.{stopped_bind, stopped_along}
 
 -- what was read before, and then what is read
@@ -122,3 +125,9 @@ stmt_is_read room n b ts us t line k n' b' vs e l d = let q : suc n ≡ n + 1 = 
 pub simple_to : (r : Result StmtKind Stop) (p : Parser) (read : Read TKind) → Reads kind_view r (left p.reader) read → ReadsTo kind_view r p (simple_by p.statements p.blocks read)
 simple_to (Ok k) p read h = rw h refl
 simple_to (Err e) p read h = stopped_bind e read _ h
+
+-- a statement is added, or there is no memory for it
+pub adds_one : {U : Type 0} (r : Result U Stop) (before after : List Stmt) (one : Stmt) (p : Parser) (read : ReadNumbered TStmt)
+    → read ≡ Ok (stmt_view one, p.statements, p.blocks, left p.reader) → MatchResult r (λ x. after ≡ before ++ one ∷ []) (λ s. s ≡ stops.Memory) → Adds before after r p read
+adds_one (Ok x) before after one p read h is = record { one = one; adds = is; reads = h }
+adds_one (Err s) before after one p read h is = rw is tt

@@ -1,10 +1,10 @@
 -- What the code reads, against the reading.
-use Rattle.std.specs.Prelude.{◌≡◌, ℕ, ◌+◌, ◌-◌, length, Result, Ok, Err, ◌<◌, ◌^◌}
+use Rattle.std.specs.Prelude.{◌≡◌, ℕ, ◌+◌, length, Result, Ok, Err, ◌<◌, ◌^◌}
 use Rattle.oc_tree.specs.Tree.{TExpr, TStmt}
-use Rattle.oc_grammar.specs.Limits.{operators_depth, brackets_depth, blocks_depth, the_depths}
+use Rattle.oc_grammar.specs.Limits.{operators_depth, brackets_depth, blocks_depth}
 use Rattle.oc_grammar.specs.Lexemes.{Lexemes, says, lexemes_in}
 use Rattle.oc_grammar.specs.Reading.{Fault, syntax_fault, depth_fault, Read}
-use Rattle.oc_grammar.specs.ReadingExpressions.{ReadExpr, chain, most, level_at}
+use Rattle.oc_grammar.specs.ReadingExpressions.{ReadExpr}
 use Rattle.std.specs.Prelude.{Bool, false, ◌&&◌}
 use Rattle.oc_lex.specs.declared.token.Kind.{Kind}
 use Rattle.oc_lex.specs.declared.token.Kind.TheVariants as kinds
@@ -123,8 +123,3 @@ IsFault (errors.Depth token) tokens = IsDepth tokens token
 abbrev pub Faults : {X : Type 0} → Result X ParseError → Lexemes → Type 0
 Faults (Ok x) tokens = Unit {0}
 Faults (Err e) tokens = IsFault e tokens
-
--- the operators of a level behind a tree of the level below
-abbrev pub operations_at : ℕ → ℕ → TExpr → ℕ → Lexemes → ReadExpr
-operations_at level room e n ts =
-    chain level (level_at the_depths (level - 1) room) (most level ts) e n ts

@@ -2,14 +2,16 @@
 ghost use Rattle.std.specs.Prelude.{◌<◌, ◌≤◌, length, map, OnOk};
 ghost use Rattle.oc_tree.specs.View.{arg_view, expr_view};
 ghost use Rattle.oc_grammar.specs.Limits.{the_depths};
-ghost use Rattle.oc_grammar.specs.ReadingExpressions.{prefix_by, unary_here, named_at, prefixed_at, inner_at, inner_args_at, inner_sensor_at, sensor_at, args_at, arg_at, part_at, level_at, whole_at};
-ghost use Rattle.oc_parse.specs.Steps.{Reads, ReadsExpr, left, operations_at};
+ghost use Rattle.oc_grammar.specs.ReadingExpressions.{prefix_by, element_by, unary_here, named_at, prefixed_at, inner_at, inner_args_at, inner_sensor_at, sensor_at, args_at, arg_at, part_at, level_at, whole_at};
+ghost use Rattle.oc_parse.specs.Parts.{operations_at, operand_at, operation_at, enclosed_at, after, ended_at};
+ghost use Rattle.oc_parse.specs.Steps.{Reads, ReadsExpr, left};
 
 use crate::reader::Reader;
 use crate::stop::Stop;
+use crate::trees::{add_arg, element, joined, prefixed};
 use oc_lex::{Kind, Mark, Word};
 use oc_tree::name::Name;
-use oc_tree::tree::{Arg, Call, Expr, UnaryOp};
+use oc_tree::tree::{Arg, BinaryOp, Call, Expr, UnaryOp};
 
 /// How many brackets and prefix operators of a whole expression may be in one another.
 pub const BRACKETS: u32 = 33;
@@ -51,11 +53,7 @@ impl Reader<'_> {
                 let name = self.name()?;
                 Ok(Expr::Deref { name })
             }
-            Kind::Mark(Mark::OpenRound) => {
-                let inner = self.inner(room, operators)?;
-                self.expect(Mark::CloseRound)?;
-                Ok(inner)
-            }
+            Kind::Mark(Mark::OpenRound) => self.enclosed(room, operators, Mark::CloseRound),
             Kind::Mark(Mark::Minus) => self.prefix_expression(room, operators, UnaryOp::Neg),
             Kind::Mark(Mark::Not) => self.prefix_expression(room, operators, UnaryOp::Not),
             _ => Err(self.refuse_last()),
@@ -78,15 +76,26 @@ impl Reader<'_> {
             };
             return Ok(Expr::Call { call });
         }
-        if !self.take(Mark::OpenSquare) {
-            return Ok(Expr::Variable { name });
+        if self.take(Mark::OpenSquare) {
+            return self.element_expression(room, operators, name);
         }
-        let index = self.inner(room, operators)?;
-        self.expect(Mark::CloseSquare)?;
-        Ok(Expr::Index {
-            array: name,
-            index: Box::new(self.alloc, index)?,
-        })
+        Ok(Expr::Variable { name })
+    }
+
+    /// Takes the place and the `]` of an element, behind the array's name and the `[`.
+    #[cycle(expression)]
+    fn element_expression(
+        &mut self,
+        room: u32,
+        operators: &mut u32,
+        array: Name,
+    ) -> Result<Expr, Stop>
+        ensures exact { ReadsExpr expr_view result operators.new (left self.new)
+            (element_by (inner_at the_depths room) array operators.old (left self.old)) }
+        ensures shorter { OnOk result (length self.new.rest.now < length self.old.rest.now) }
+    {
+        let place = self.enclosed(room, operators, Mark::CloseSquare)?;
+        element(self.alloc, array, place)
     }
 
     /// Takes what a prefix operator stands before.
@@ -106,10 +115,26 @@ impl Reader<'_> {
             return Err(self.too_many_brackets());
         }
         let inner = self.unary(room - 1, operators)?;
-        Ok(Expr::Unary {
-            op,
-            inner: Box::new(self.alloc, inner)?,
-        })
+        prefixed(self.alloc, op, inner)
+    }
+
+    /// Takes the expression behind the bracket just taken, and the bracket behind it.
+    #[cycle(expression)]
+    fn enclosed(&mut self, room: u32, operators: &mut u32, close: Mark) -> Result<Expr, Stop>
+        ensures exact { ReadsExpr expr_view result operators.new (left self.new)
+            (enclosed_at close room operators.old (left self.old)) }
+        ensures shorter { OnOk result (length self.new.rest.now < length self.old.rest.now) }
+    {
+        let inner = self.inner(room, operators)?;
+        match self.expect(close) {
+            Ok(()) => Ok(inner),
+            Err(error) => {
+                // Written out, here and wherever a tree is let go: by `?` the drop of each form of
+                // an expression would be proved there.
+                drop(inner);
+                Err(error)
+            }
+        }
     }
 
     /// Takes the expression behind the bracket just taken.
@@ -172,14 +197,25 @@ impl Reader<'_> {
         ensures shorter { OnOk result (length self.new.rest.now < length self.old.rest.now) }
     {
         let mut args = Vec::new(self.alloc);
+        self.add_args(room, &mut args)?;
+        Ok(args)
+    }
+
+    /// Takes the arguments of a call up to its `)`, and adds them to those that are there.
+    #[cycle(expression)]
+    fn add_args(&mut self, room: u32, args: &mut Vec<Arg>) -> Result<(), Stop>
+        ensures exact { Reads (λ x. map arg_view args.new.items) result (left self.new)
+            (after (map arg_view args.old.items) (args_at the_depths room (left self.old))) }
+        ensures shorter { OnOk result (length self.new.rest.now < length self.old.rest.now) }
+    {
         while !self.take(Mark::CloseRound) {
-            args.push(self.arg(room)?)?;
+            let arg = self.arg(room)?;
+            add_arg(args, arg)?;
             if !self.take(Mark::Comma) {
-                self.expect(Mark::CloseRound)?;
-                return Ok(args);
+                return self.expect(Mark::CloseRound);
             }
         }
-        Ok(args)
+        Ok(())
     }
 
     /// Takes an argument of a call: an expression, where brackets have this room, `&x` or `&mut x`.
@@ -254,13 +290,7 @@ impl Reader<'_> {
         }
         let mut tree = first;
         while let Some(op) = self.operator(level) {
-            self.spend(operators)?;
-            let right = self.level(room, operators, level - 1)?;
-            tree = Expr::Binary {
-                op,
-                left: Box::new(self.alloc, tree)?,
-                right: Box::new(self.alloc, right)?,
-            };
+            tree = self.operation(room, operators, level, op, tree)?;
         }
         Ok(tree)
     }
@@ -273,16 +303,49 @@ impl Reader<'_> {
             (operations_at COMPARISON room (expr_view first) operators.old (left self.old)) }
         ensures shorter { OnOk result (length self.new.rest.now ≤ length self.old.rest.now) }
     {
-        let Some(op) = self.operator(COMPARISON) else {
-            return Ok(first);
-        };
+        match self.operator(COMPARISON) {
+            Some(op) => self.operation(room, operators, COMPARISON, op, first),
+            None => Ok(first),
+        }
+    }
+
+    /// Takes the operand behind the operator just taken, which stands behind its first operand.
+    #[cycle(expression)]
+    #[inline(always)]
+    fn operation(
+        &mut self,
+        room: u32,
+        operators: &mut u32,
+        level: u32,
+        op: BinaryOp,
+        first: Expr,
+    ) -> Result<Expr, Stop>
+        requires above { 0 < level }
+        requires within { level ≤ ALL }
+        ensures exact { ReadsExpr expr_view result operators.new (left self.new)
+            (operation_at level room op (expr_view first) operators.old (left self.old)) }
+        ensures shorter { OnOk result (length self.new.rest.now < length self.old.rest.now) }
+    {
+        match self.operand(room, operators, level) {
+            Ok(second) => joined(self.alloc, op, first, second),
+            Err(error) => {
+                drop(first);
+                Err(error)
+            }
+        }
+    }
+
+    /// Takes what the operator of this level just taken stands before.
+    #[cycle(expression)]
+    fn operand(&mut self, room: u32, operators: &mut u32, level: u32) -> Result<Expr, Stop>
+        requires above { 0 < level }
+        requires within { level ≤ ALL }
+        ensures exact { ReadsExpr expr_view result operators.new (left self.new)
+            (operand_at level room operators.old (left self.old)) }
+        ensures shorter { OnOk result (length self.new.rest.now < length self.old.rest.now) }
+    {
         self.spend(operators)?;
-        let right = self.level(room, operators, COMPARISON - 1)?;
-        Ok(Expr::Binary {
-            op,
-            left: Box::new(self.alloc, first)?,
-            right: Box::new(self.alloc, right)?,
-        })
+        self.level(room, operators, level - 1)
     }
 
     /// Takes a whole expression.
@@ -293,5 +356,22 @@ impl Reader<'_> {
         ensures shorter { OnOk result (length self.new.rest.now < length self.old.rest.now) }
     {
         self.part(BRACKETS)
+    }
+
+    /// Takes a whole expression and the mark behind it.
+    #[inline(always)]
+    #[tactic(auto, unfolding(crate::specs::Parts::ended_at))]
+    pub fn ended_expression(&mut self, end: Mark) -> Result<Expr, Stop>
+        ensures exact { Reads expr_view result (left self.new) (ended_at end (left self.old)) }
+        ensures shorter { OnOk result (length self.new.rest.now < length self.old.rest.now) }
+    {
+        let value = self.expression()?;
+        match self.expect(end) {
+            Ok(()) => Ok(value),
+            Err(error) => {
+                drop(value);
+                Err(error)
+            }
+        }
     }
 }

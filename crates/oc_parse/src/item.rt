@@ -4,6 +4,7 @@ ghost use Rattle.oc_tree.specs.View.{function_view, program_view};
 ghost use Rattle.oc_grammar.specs.Limits.{the_depths};
 ghost use Rattle.oc_grammar.specs.Programs.{with_sensor, with_port, with_nv, with_function};
 ghost use Rattle.oc_grammar.specs.ReadingPrograms.{passing_at, param_at, params_at, scalar_at, result_at, function_at, cells_at, nv_at, declared_at, item_at};
+ghost use Rattle.oc_parse.specs.Parts.{declaration_at};
 ghost use Rattle.oc_parse.specs.Steps.{Fits, Reads, ReadsTo, from, left};
 
 use crate::reader::Reader;
@@ -109,23 +110,32 @@ impl Reader<'_> {
     }
 
     /// Takes a nonvolatile variable behind its word.
-    #[tactic(auto, unfolding(oc_grammar::specs::ReadingPrograms::nv_at))]
+    #[tactic(auto, using(crate::proofs::ItemLoops::nv_parts))]
     fn nonvolatile(&mut self) -> Result<(Name, NvDecl), Stop>
         ensures exact { Reads (λ x. (x.0, x.1)) result (left self.new) (nv_at (left self.old)) }
         ensures shorter { OnOk result (length self.new.rest.now < length self.old.rest.now) }
     {
         let name = self.name()?;
+        let declaration = self.declaration()?;
+        Ok((name, declaration))
+    }
+
+    /// Takes the type and the initial value of a nonvolatile variable, behind its name.
+    #[tactic(auto, unfolding(crate::specs::Parts::declaration_at))]
+    fn declaration(&mut self) -> Result<NvDecl, Stop>
+        ensures exact { Reads (λ d. d) result (left self.new) (declaration_at (left self.old)) }
+        ensures shorter { OnOk result (length self.new.rest.now < length self.old.rest.now) }
+    {
         self.expect(Mark::Colon)?;
         let (words, array) = self.cells()?;
         self.expect(Mark::Assign)?;
         let initial = self.constant()?;
         self.expect(Mark::Semicolon)?;
-        let declaration = NvDecl {
+        Ok(NvDecl {
             words,
             array,
             initial,
-        };
-        Ok((name, declaration))
+        })
     }
 
     /// Takes the name of a sensor or port and the `;`.

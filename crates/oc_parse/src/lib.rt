@@ -10,5 +10,6 @@ mod reader;
 mod simple;
 mod statement;
 mod stop;
+mod trees;
 
 pub use program::{ParseError, parse, parse_blocks};

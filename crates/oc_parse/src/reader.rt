@@ -140,11 +140,11 @@ impl Reader<'_> {
         let [token, rest @ ..] = self.rest else {
             return false;
         };
-        let found = is_word(self.atomic, *token, word);
-        if found {
-            self.rest = rest;
+        if !is_word(self.atomic, *token, word) {
+            return false;
         }
-        found
+        self.rest = rest;
+        true
     }
 
     /// Takes this mark.

@@ -5,6 +5,7 @@ ghost use Rattle.oc_grammar.specs.Limits.{the_depths};
 ghost use Rattle.oc_grammar.specs.Lexemes.{lexeme_of};
 ghost use Rattle.oc_grammar.specs.Statements.{right_of as right_of_tree};
 ghost use Rattle.oc_grammar.specs.ReadingStatements.{array_at, type_at, const_at, right_at, note_at, fill_at, assign_at, element_to_at, target_at, call_at, sense_at, emit_at, fresh_at, consistent_at, return_at, bind_at, let_at, set_at, simple_from};
+ghost use Rattle.oc_parse.specs.Parts.{assigned_at, emitted_at};
 ghost use Rattle.oc_parse.specs.Steps.{Reads, left};
 
 use crate::expression::BRACKETS;
@@ -71,15 +72,24 @@ impl Reader<'_> {
     }
 
     /// Takes a right side and the `;`.
-    #[tactic(auto, unfolding(oc_grammar::specs::ReadingStatements::right_at))]
+    #[tactic(auto, using(crate::proofs::SimpleParts::right_parts))]
     fn right(&mut self) -> Result<Right, Stop>
         ensures exact { Reads right_view result (left self.new)
             (right_at the_depths (left self.old)) }
         ensures shorter { OnOk result (length self.new.rest.now < length self.old.rest.now) }
     {
-        let value = self.expression()?;
-        self.expect(Mark::Semicolon)?;
+        let value = self.ended_expression(Mark::Semicolon)?;
         Ok(right_of(value))
+    }
+
+    /// Takes a `=`, a right side and the `;`.
+    #[tactic(auto, unfolding(crate::specs::Parts::assigned_at))]
+    fn assigned(&mut self) -> Result<Right, Stop>
+        ensures exact { Reads right_view result (left self.new) (assigned_at (left self.old)) }
+        ensures shorter { OnOk result (length self.new.rest.now < length self.old.rest.now) }
+    {
+        self.expect(Mark::Assign)?;
+        self.right()
     }
 
     /// Takes the type of a `let`, if there is one.
@@ -184,17 +194,20 @@ impl Reader<'_> {
     }
 
     /// Takes an assignment to an element, behind the array's name and the `[`.
-    #[tactic(auto, unfolding(oc_grammar::specs::ReadingStatements::element_to_at))]
+    #[tactic(auto, using(crate::proofs::SimpleParts::element_to_parts))]
     fn element_assignment(&mut self, name: Name) -> Result<StmtKind, Stop>
         ensures exact { Reads kind_view result (left self.new)
             (element_to_at the_depths name (left self.old)) }
         ensures shorter { OnOk result (length self.new.rest.now < length self.old.rest.now) }
     {
-        let index = self.expression()?;
-        self.expect(Mark::CloseSquare)?;
-        self.expect(Mark::Assign)?;
-        let right = self.right()?;
-        Ok(StmtKind::AssignIndex { name, index, right })
+        let index = self.ended_expression(Mark::CloseSquare)?;
+        match self.assigned() {
+            Ok(right) => Ok(StmtKind::AssignIndex { name, index, right }),
+            Err(error) => {
+                drop(index);
+                Err(error)
+            }
+        }
     }
 
     /// Takes an assignment to a variable, behind its name and the `=`.
@@ -209,15 +222,14 @@ impl Reader<'_> {
     }
 
     /// Takes an assignment through a reference behind its `*`.
-    #[tactic(auto, unfolding(oc_grammar::specs::ReadingStatements::target_at))]
+    #[tactic(auto, using(crate::proofs::SimpleParts::target_parts))]
     fn target_assignment(&mut self) -> Result<StmtKind, Stop>
         ensures exact { Reads kind_view result (left self.new)
             (target_at the_depths (left self.old)) }
         ensures shorter { OnOk result (length self.new.rest.now < length self.old.rest.now) }
     {
         let name = self.name()?;
-        self.expect(Mark::Assign)?;
-        let right = self.right()?;
+        let right = self.assigned()?;
         Ok(StmtKind::AssignDeref { name, right })
     }
 
@@ -235,7 +247,7 @@ impl Reader<'_> {
     }
 
     /// Takes an output, behind its `emit`.
-    #[tactic(auto, unfolding(oc_grammar::specs::ReadingStatements::emit_at))]
+    #[tactic(auto, using(crate::proofs::SimpleParts::emit_parts))]
     fn emit_statement(&mut self) -> Result<StmtKind, Stop>
         ensures exact { Reads kind_view result (left self.new)
             (emit_at the_depths (left self.old)) }
@@ -243,11 +255,25 @@ impl Reader<'_> {
     {
         self.expect(Mark::OpenRound)?;
         let port = self.name()?;
-        self.expect(Mark::Comma)?;
-        let value = self.expression()?;
-        self.expect(Mark::CloseRound)?;
-        self.expect(Mark::Semicolon)?;
+        let value = self.emitted()?;
         Ok(StmtKind::Emit { port, value })
+    }
+
+    /// Takes the `,`, the value and the `);` of an output, behind its port.
+    #[tactic(auto, unfolding(crate::specs::Parts::emitted_at))]
+    fn emitted(&mut self) -> Result<Expr, Stop>
+        ensures exact { Reads expr_view result (left self.new) (emitted_at (left self.old)) }
+        ensures shorter { OnOk result (length self.new.rest.now < length self.old.rest.now) }
+    {
+        self.expect(Mark::Comma)?;
+        let value = self.ended_expression(Mark::CloseRound)?;
+        match self.expect(Mark::Semicolon) {
+            Ok(()) => Ok(value),
+            Err(error) => {
+                drop(value);
+                Err(error)
+            }
+        }
     }
 
     /// Takes an annotation of a fresh variable, behind its `Fresh`.
@@ -279,14 +305,13 @@ impl Reader<'_> {
     }
 
     /// Takes a `return`, behind its word.
-    #[tactic(auto, unfolding(oc_grammar::specs::ReadingStatements::return_at))]
+    #[tactic(auto, using(crate::proofs::SimpleParts::return_parts))]
     fn return_statement(&mut self) -> Result<StmtKind, Stop>
         ensures exact { Reads kind_view result (left self.new)
             (return_at the_depths (left self.old)) }
         ensures shorter { OnOk result (length self.new.rest.now < length self.old.rest.now) }
     {
-        let value = self.expression()?;
-        self.expect(Mark::Semicolon)?;
+        let value = self.ended_expression(Mark::Semicolon)?;
         Ok(StmtKind::Return { value })
     }
 

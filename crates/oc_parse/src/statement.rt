@@ -4,10 +4,12 @@ ghost use Rattle.oc_tree.specs.View.{block_view, else_view, kind_view, stmt_view
 ghost use Rattle.oc_grammar.specs.Limits.{the_depths};
 ghost use Rattle.oc_grammar.specs.Lexemes.{lexeme_of};
 ghost use Rattle.oc_grammar.specs.ReadingStatements.{kind_by, if_by, for_by, while_by, atomic_by, stmt_here, stmts_at, block_at, chained_at, else_at};
+ghost use Rattle.oc_parse.specs.Parts.{bounded_by, ranged_by};
 ghost use Rattle.oc_parse.specs.Steps.{Adds, Fits, ReadsTo, from};
 
 use crate::reader::Reader;
 use crate::stop::Stop;
+use crate::trees::add_statement;
 use oc_lex::{Kind, Mark, Token, Word};
 use oc_tree::tree::{Block, Expr, Stmt, StmtKind};
 
@@ -39,12 +41,7 @@ impl Parser<'_> {
         let id = self.statements;
         self.statements += 1;
         let kind = self.kind(room, token)?;
-        statements.push(Stmt {
-            id,
-            line: token.line,
-            kind,
-        })?;
-        Ok(())
+        add_statement(statements, id, token.line, kind)
     }
 
     /// Takes what a statement does, whose first token was just taken.
@@ -87,18 +84,31 @@ impl Parser<'_> {
             (length self.new.reader.rest.now < length self.old.reader.rest.now) }
     {
         let condition = self.reader.expression()?;
-        let then = self.block(room)?;
-        let otherwise = self.otherwise(room)?;
-        Ok(StmtKind::If {
-            condition,
-            then,
-            otherwise,
-        })
+        match self.block(room) {
+            Ok(then) => match self.otherwise(room) {
+                Ok(otherwise) => Ok(StmtKind::If {
+                    condition,
+                    then,
+                    otherwise,
+                }),
+                Err(error) => {
+                    // Written out, here and wherever a tree is let go: by `?` the drop of each form
+                    // of an expression would be proved there.
+                    drop(condition);
+                    drop(then);
+                    Err(error)
+                }
+            },
+            Err(error) => {
+                drop(condition);
+                Err(error)
+            }
+        }
     }
 
     /// Takes a `for`, behind its word; blocks have this room.
     #[cycle(statement)]
-    #[tactic(auto, unfolding(oc_grammar::specs::ReadingStatements::for_by))]
+    #[tactic(auto, using(crate::proofs::StatementParts::for_parts))]
     fn for_statement(&mut self, room: u32) -> Result<StmtKind, Stop>
         requires { Fits self.old }
         ensures exact { ReadsTo kind_view result self.new
@@ -108,11 +118,7 @@ impl Parser<'_> {
             (length self.new.reader.rest.now < length self.old.reader.rest.now) }
     {
         let name = self.reader.name()?;
-        self.reader.expect_word(Word::In)?;
-        let from = self.reader.constant()?;
-        self.reader.expect(Mark::Range)?;
-        let to = self.reader.constant()?;
-        let body = self.block(room)?;
+        let (from, to, body) = self.ranged_block(room)?;
         Ok(StmtKind::For {
             name,
             from,
@@ -121,9 +127,28 @@ impl Parser<'_> {
         })
     }
 
+    /// Takes the ends and the block of a `for`, behind its variable; blocks have this room.
+    #[cycle(statement)]
+    #[tactic(auto, unfolding(crate::specs::Parts::ranged_by))]
+    fn ranged_block(&mut self, room: u32) -> Result<(i32, i32, Block), Stop>
+        requires { Fits self.old }
+        ensures exact { ReadsTo (λ x. (x.0, x.1, block_view x.2)) result self.new
+            (from (ranged_by (block_at the_depths room)) self.old) }
+        ensures fits { OnOk result (Fits self.new) }
+        ensures shorter { OnOk result
+            (length self.new.reader.rest.now < length self.old.reader.rest.now) }
+    {
+        self.reader.expect_word(Word::In)?;
+        let from = self.reader.constant()?;
+        self.reader.expect(Mark::Range)?;
+        let to = self.reader.constant()?;
+        let body = self.block(room)?;
+        Ok((from, to, body))
+    }
+
     /// Takes a `while`, behind its word; blocks have this room.
     #[cycle(statement)]
-    #[tactic(auto, unfolding(oc_grammar::specs::ReadingStatements::while_by))]
+    #[tactic(auto, using(crate::proofs::StatementParts::while_parts))]
     fn while_statement(&mut self, room: u32) -> Result<StmtKind, Stop>
         requires { Fits self.old }
         ensures exact { ReadsTo kind_view result self.new
@@ -133,14 +158,34 @@ impl Parser<'_> {
             (length self.new.reader.rest.now < length self.old.reader.rest.now) }
     {
         let condition = self.reader.expression()?;
+        match self.bounded_block(room) {
+            Ok((bound, body)) => Ok(StmtKind::While {
+                condition,
+                bound,
+                body,
+            }),
+            Err(error) => {
+                drop(condition);
+                Err(error)
+            }
+        }
+    }
+
+    /// Takes the bound and the block of a `while`, behind its condition; blocks have this room.
+    #[cycle(statement)]
+    #[tactic(auto, unfolding(crate::specs::Parts::bounded_by))]
+    fn bounded_block(&mut self, room: u32) -> Result<(u32, Block), Stop>
+        requires { Fits self.old }
+        ensures exact { ReadsTo (λ x. (x.0, block_view x.1)) result self.new
+            (from (bounded_by (block_at the_depths room)) self.old) }
+        ensures fits { OnOk result (Fits self.new) }
+        ensures shorter { OnOk result
+            (length self.new.reader.rest.now < length self.old.reader.rest.now) }
+    {
         self.reader.expect_word(Word::Bound)?;
         let bound = self.reader.number()?;
         let body = self.block(room)?;
-        Ok(StmtKind::While {
-            condition,
-            bound: bound.unsigned_abs(),
-            body,
-        })
+        Ok((bound.unsigned_abs(), body))
     }
 
     /// Takes the block of an `atomic`.

@@ -2,7 +2,9 @@ use Rattle.std.proofs.Common.{arith, rules, ◌≡◌, ◌+◌, ◌∷◌, ◌++
 use Rattle.std.proofs.lemmas.Grind.{common_steps}
 use Rattle.oc_tree.specs.Tree.{TKind, TBlock, TStmt, stmt, more}
 use Rattle.oc_tree.specs.View.{kind_view, stmt_view, stmts_view, kind_step, block_step, stmt_step}
+use Rattle.oc_tree.specs.declared.tree.Block as blocks
 use Rattle.oc_tree.specs.declared.tree.Stmt.{fold_out-Stmt}
+use Rattle.oc_tree.specs.declared.tree.Stmt as statements
 use Rattle.oc_tree.specs.Pulls.{own_pulls}
 use Rattle.oc_tree.specs.Expansion.{stmts_size}
 use Rattle.oc_tree.specs.Nodes.{stmts_nodes}
@@ -22,6 +24,17 @@ block_ifs-own_pulls-requires t c =
     let h = own_fits (kind_view x.kind) in
     let fit = c.loop-statement.invariant.nodes in
     omega arith
+
+pub block_ifs-kind_ifs-requires : goal.block_ifs-kind_ifs-requires
+block_ifs-kind_ifs-requires t c =
+    let i = c.loop-statement.statement-index in
+    let l = c.deref-statement-items.result.now in
+    let x = c.statement-item.result in
+    let item = c.statement-item.is in
+    let e : drop i l ≡ x ∷ drop (i + 1) l = grind (arith, common_steps) in
+    let v : stmt_view x ≡ stmt x.id x.line (kind_view x.kind) = fold_out-Stmt TKind TBlock TStmt kind_step block_step stmt_step x in
+    let n = ap stmts_nodes (ap stmts_view e ∙ ap (λ s. more s (stmts_view (drop (i + 1) l))) v) in
+    (search (rules, blocks.the_lemmas, statements.the_lemmas), omega (arith, n, c.loop-statement.invariant.nodes))
 
 pub block_ifs-loop-statement-preserved : goal.block_ifs-loop-statement-preserved
 block_ifs-loop-statement-preserved t c =

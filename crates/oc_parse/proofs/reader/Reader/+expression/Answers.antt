@@ -1,14 +1,17 @@
-use Rattle.std.proofs.Common.{rules, ◌≡◌, ◌≢◌, ℕ, ◌-◌, [], ◌∷◌, ◌++◌, map, refl, sym, ap, ◌∙◌, arith}
+use Rattle.std.proofs.Common.{rules, ◌≡◌, ◌≢◌, ℕ, ◌-◌, List, [], ◌∷◌, ◌++◌, map, refl, sym, ap, ◌∙◌, arith}
 use Rattle.std.proofs.lemmas.Result.{err_from_is_err_and}
 use Rattle.std.proofs.lemmas.List.{map_push}
+use Rattle.oc_tree.specs.Tree.{index, unary, binary}
 use Rattle.oc_tree.specs.View.{arg_view, expr_view}
+use Rattle.oc_tree.specs.declared.tree.Arg.{Arg}
 use Rattle.oc_grammar.specs.Limits.{the_depths}
-use Rattle.oc_grammar.specs.ReadingExpressions.{chain, level_at, args_at, arg_at, named_at}
-use Rattle.oc_grammar.proofs.UnaryLaws.{prefixed_is}
+use Rattle.oc_grammar.specs.ReadingExpressions.{prefix_by, element_by, prefixed_at, inner_at, chain, level_at, args_at, arg_at, named_at}
 use Rattle.oc_grammar.proofs.ExpressionLaws.{most_other}
-use Rattle.oc_parse.specs.Steps.{left, infix_front, operations_at}
-use Rattle.oc_parse.proofs.Loops.{list_goes_on, list_ends, list_closes, list_stops, list_close_stops, args_shorten, level_zero, level_more, level_alone, levels_unread, levels_stop, none_is, level_turn, spend_stops, level_stops, level_ends, prefixed_stops}
-use Rattle.oc_parse.proofs.Views.{view_binary, view_unary, view_called, view_call}
+use Rattle.oc_parse.specs.Parts.{operations_at, operation_at, after}
+use Rattle.oc_parse.specs.Steps.{left, infix_front}
+use Rattle.oc_parse.proofs.Loops.{stopped_along, made, list_goes_on, list_last, list_closes, list_stops, alone, args_shorten, level_zero, level_more, level_alone, levels_unread, levels_stop, none_is}
+use Rattle.oc_parse.proofs.Loops.{operation_turn, turn_stops, spend_stops, operand_is, operand_stops, operation_is, comparison_is, level_ends, prefixed_stops, prefixed_read, element_is, element_stops}
+use Rattle.oc_parse.proofs.Views.{view_called, view_call}
 use Rattle.oc_parse.proofs.reader.Reader.+expression.Goals as goal
 
 pub level-loop-below-init : goal.level-loop-below-init
@@ -38,19 +41,12 @@ level-returns-in_err-tree-2-clause-exact t c =
     rw (p.1, p.2) (levels_stop c.args.level c.loop-below.below c.args.room c.args.operators.now (left c.args.self.now) (expr_view c.loop-below.tree) c.loop-below.operators (left c.loop-below.self)
     c.in_err-tree-2.field-0.0 (omega arith) c.loop-below.invariant.0 c.in_err-tree-2.ensures.exact)
 
-pub operations-returns-in_err-spend-clause-exact : goal.operations-returns-in_err-spend-clause-exact
-operations-returns-in_err-spend-clause-exact t c =
+pub operations-returns-in_err-tree-clause-exact : goal.operations-returns-in_err-tree-clause-exact
+operations-returns-in_err-tree-clause-exact t c =
     let p = err_from_is_err_and c.from_residual.result c.from_residual.ensures.1 in
-    rw (p.1, p.2) (spend_stops c.args.level (level_at the_depths (c.args.level - 1) c.args.room) (expr_view c.loop-op.tree) c.loop-op.operators (left c.loop-op.self) c.in-Some.op
-    (left c.operator.new.self) c.in_err-spend.field-0.0 (operations_at c.args.level c.args.room (expr_view c.args.first) c.args.operators.now (left c.args.self.now)) c.in-Some.ensures.exact
-    c.in_err-spend.ensures c.loop-op.invariant.0)
-
-pub operations-returns-in_err-right-clause-exact : goal.operations-returns-in_err-right-clause-exact
-operations-returns-in_err-right-clause-exact t c =
-    let p = err_from_is_err_and c.from_residual-in_err-right.result c.from_residual-in_err-right.ensures.1 in
-    rw (p.1, p.2) (level_stops c.args.level (level_at the_depths (c.args.level - 1) c.args.room) (expr_view c.loop-op.tree) c.loop-op.operators (left c.loop-op.self) c.in-Some.op
-    (left c.operator.new.self) c.spend.new.operators c.in_err-right.field-0.0 (operations_at c.args.level c.args.room (expr_view c.args.first) c.args.operators.now (left c.args.self.now))
-    c.in-Some.ensures.exact c.in_ok-spend.ensures c.in_err-right.ensures.exact c.loop-op.invariant.0)
+    rw (p.1, p.2) (turn_stops c.args.level c.args.room (expr_view c.loop-op.tree) c.loop-op.operators (left c.loop-op.self) c.in-Some.op
+    (left c.operator.new.self) c.in_err-tree.field-0.0 (operations_at c.args.level c.args.room (expr_view c.args.first) c.args.operators.now (left c.args.self.now)) c.in-Some.ensures.exact
+    c.in_err-tree.ensures.exact c.loop-op.invariant.0)
 
 pub operations-loop-op-init : goal.operations-loop-op-init
 operations-loop-op-init t c =
@@ -60,12 +56,9 @@ operations-loop-op-init t c =
 
 pub operations-loop-op-preserved : goal.operations-loop-op-preserved
 operations-loop-op-preserved t c =
-    let turn = level_turn c.args.room c.args.level (expr_view c.loop-op.tree) c.loop-op.operators (left c.loop-op.self) c.in-Some.op
-    (left c.operator.new.self) c.spend.new.operators (expr_view c.in_ok-right.right) c.level.new.operators (left c.level.new.self)
-    (omega arith) c.in-Some.ensures.exact c.in_ok-spend.ensures c.in_ok-right.ensures.exact in
-    let l : c.in_ok-new.field-0.value ≡ c.loop-op.tree = c.in_ok-new.ensures.ok in
-    let r : c.in_ok-new-2.field-0.value ≡ c.in_ok-right.right = c.in_ok-new-2.ensures.ok in
-    (rw (view_binary, l, r) (sym turn ∙ c.loop-op.invariant.0), omega (arith, c.in-Some.ensures.shorter, c.in_ok-right.ensures.shorter))
+    let turn = operation_turn c.args.room c.args.level (expr_view c.loop-op.tree) c.loop-op.operators (left c.loop-op.self) c.in-Some.op (left c.operator.new.self)
+    (expr_view c.in_ok-tree.tree, c.operation.new.operators, left c.operation.new.self) (omega arith) c.in-Some.ensures.exact c.in_ok-tree.ensures.exact in
+    (sym turn ∙ c.loop-op.invariant.0, omega (arith, c.in-Some.ensures.shorter, c.in_ok-tree.ensures.shorter))
 
 pub operations-returns-clause-exact : goal.operations-returns-clause-exact
 operations-returns-clause-exact t c =
@@ -73,46 +66,88 @@ operations-returns-clause-exact t c =
     rw k (sym c.loop-op.invariant.0 ∙ level_ends c.args.level (level_at the_depths (c.args.level - 1) c.args.room) (expr_view c.loop-op.tree) c.loop-op.operators
     (left c.loop-op.self) c.in_default.ensures.exact)
 
-pub args-returns-in_err-arg-clause-exact : goal.args-returns-in_err-arg-clause-exact
-unfolding args_at arg_at
-args-returns-in_err-arg-clause-exact t c =
+pub comparison-returns-in-Some-clause-exact : goal.comparison-returns-in-Some-clause-exact
+comparison-returns-in-Some-clause-exact t c =
+    rw (comparison_is c.args.room (expr_view c.args.first) c.args.operators.now (left c.args.self.now) c.in-Some.op (left c.operator.new.self) c.in-Some.ensures.exact) c.operation.ensures.exact
+
+pub operation-returns-in-Ok-clause-exact : goal.operation-returns-in-Ok-clause-exact
+operation-returns-in-Ok-clause-exact t c =
+    made c.joined.result (binary c.args.op (expr_view c.args.first) (expr_view c.in-Ok.second)) c.operand.new.operators (left c.operand.new.self)
+    (operation_at c.args.level c.args.room c.args.op (expr_view c.args.first) c.args.operators.now (left c.args.self.now))
+    (operation_is c.args.level c.args.room c.args.op (expr_view c.args.first) c.args.operators.now (left c.args.self.now) (expr_view c.in-Ok.second) c.operand.new.operators
+    (left c.operand.new.self) c.in-Ok.ensures.exact) c.joined.ensures
+
+pub operation-returns-in-Err-clause-exact : goal.operation-returns-in-Err-clause-exact
+operation-returns-in-Err-clause-exact t c =
+    operand_stops c.args.level c.args.room c.args.op (expr_view c.args.first) c.args.operators.now (left c.args.self.now) c.in-Err.error c.in-Err.ensures.exact
+
+pub operand-returns-in_err-spend-clause-exact : goal.operand-returns-in_err-spend-clause-exact
+operand-returns-in_err-spend-clause-exact t c =
     let p = err_from_is_err_and c.from_residual.result c.from_residual.ensures.1 in
-    rw (p.1, p.2) (list_stops (arg_at the_depths c.args.room) (args_shorten c.args.room) (map arg_view c.loop-args.args.items) (left c.loop-args.self) c.in_err-arg.field-0.0
-    (args_at the_depths c.args.room (left c.args.self.now)) c.loop-args-test.ensures.exact (rw c.loop-args-test.ensures.kept at c.in_err-arg.ensures.exact) c.loop-args.invariant.0)
+    rw (p.1, p.2) (spend_stops c.args.level c.args.room c.args.operators.now (left c.args.self.now) c.in_err-spend.field-0.0 c.in_err-spend.ensures)
 
-pub args-returns-in_err-expect-clause-exact : goal.args-returns-in_err-expect-clause-exact
-unfolding args_at arg_at
-args-returns-in_err-expect-clause-exact t c =
-    let p = err_from_is_err_and c.from_residual-in_err-expect.result c.from_residual-in_err-expect.ensures.1 in
-    rw (p.1, p.2) (list_close_stops (arg_at the_depths c.args.room) (args_shorten c.args.room) (map arg_view c.loop-args.args.items) (left c.loop-args.self)
-    (arg_view c.in_ok-arg.field-0) (left c.arg.new.self) c.in_err-expect.field-0.0 (args_at the_depths c.args.room (left c.args.self.now)) c.loop-args-test.ensures.exact
-    (rw c.loop-args-test.ensures.kept at c.in_ok-arg.ensures.exact) c.if-not-take.ensures.exact (rw c.if-not-take.ensures.kept at c.in_err-expect.ensures.exact) c.loop-args.invariant.0)
+pub operand-returns-clause-exact : goal.operand-returns-clause-exact
+operand-returns-clause-exact t c =
+    rw (operand_is c.args.level c.args.room c.args.operators.now (left c.args.self.now) c.spend.new.operators c.in_ok-spend.ensures) c.level.ensures.exact
 
-pub args-returns-then-not-take-clause-exact : goal.args-returns-then-not-take-clause-exact
-unfolding args_at arg_at
-args-returns-then-not-take-clause-exact t c =
-    let e : map arg_view c.push.new.self.items ≡ map arg_view c.loop-args.args.items ++ arg_view c.in_ok-arg.field-0 ∷ [] =
-    rw c.in_ok-push.ensures.items (map_push _ c.loop-args.args.items c.in_ok-arg.field-0) in
-    rw e (list_ends (arg_at the_depths c.args.room) (args_shorten c.args.room) (map arg_view c.loop-args.args.items) (left c.loop-args.self) (arg_view c.in_ok-arg.field-0)
-    (left c.arg.new.self) (left c.expect.new.self) (args_at the_depths c.args.room (left c.args.self.now)) c.loop-args-test.ensures.exact
-    (rw c.loop-args-test.ensures.kept at c.in_ok-arg.ensures.exact) c.if-not-take.ensures.exact (rw c.if-not-take.ensures.kept at c.in_ok-expect.ensures.exact) c.loop-args.invariant.0)
-
-pub args-loop-args-preserved : goal.args-loop-args-preserved
-unfolding args_at arg_at
-args-loop-args-preserved t c =
-    let e : map arg_view c.push.new.self.items ≡ map arg_view c.loop-args.args.items ++ arg_view c.in_ok-arg.field-0 ∷ [] =
-    rw c.in_ok-push.ensures.items (map_push _ c.loop-args.args.items c.in_ok-arg.field-0) in (
-      rw e (list_goes_on (arg_at the_depths c.args.room) (args_shorten c.args.room) (map arg_view c.loop-args.args.items) (left c.loop-args.self) (arg_view c.in_ok-arg.field-0)
-          (left c.arg.new.self) (left c.take-in-loop-args.new.self) (args_at the_depths c.args.room (left c.args.self.now)) c.loop-args-test.ensures.exact
-          (rw c.loop-args-test.ensures.kept at c.in_ok-arg.ensures.exact) c.if-not-take.ensures.exact c.loop-args.invariant.0),
-      omega (arith, c.loop-args-test.ensures.shorter, c.in_ok-arg.ensures.shorter, c.if-not-take.ensures.shorter),
-    )
+pub args-returns-in_err-add_args-clause-exact : goal.args-returns-in_err-add_args-clause-exact
+args-returns-in_err-add_args-clause-exact t c =
+    let p = err_from_is_err_and c.from_residual.result c.from_residual.ensures.1 in
+    let read = args_at the_depths c.args.room (left c.args.self.now) in
+    let none = alone (map arg_view c.new-args.result.items) read (ap (λ (l : List Arg). map arg_view l) c.new-args.ensures.items) in
+    rw (p.1, p.2) (stopped_along c.in_err-add_args.field-0.0 _ read none c.in_err-add_args.ensures.exact)
 
 pub args-returns-clause-exact : goal.args-returns-clause-exact
-unfolding args_at arg_at
 args-returns-clause-exact t c =
-    list_closes (arg_at the_depths c.args.room) (map arg_view c.loop-args.args.items) (left c.loop-args.self) (left c.take.new.self)
-    (args_at the_depths c.args.room (left c.args.self.now)) c.loop-args-test.ensures.exact c.loop-args.invariant.0
+    let read = args_at the_depths c.args.room (left c.args.self.now) in
+    let none = alone (map arg_view c.new-args.result.items) read (ap (λ (l : List Arg). map arg_view l) c.new-args.ensures.items) in
+    sym none ∙ c.in_ok-add_args.ensures.exact
+
+pub add_args-returns-in_err-arg-clause-exact : goal.add_args-returns-in_err-arg-clause-exact
+unfolding args_at arg_at
+add_args-returns-in_err-arg-clause-exact t c =
+    let p = err_from_is_err_and c.from_residual.result c.from_residual.ensures.1 in
+    rw (p.1, p.2) (list_stops (arg_at the_depths c.args.room) (args_shorten c.args.room) (map arg_view c.loop-self.args.items) (left c.loop-self.self) c.in_err-arg.field-0.0
+    (after (map arg_view c.args.args.now.items) (args_at the_depths c.args.room (left c.args.self.now))) c.loop-self-test.ensures.exact
+    (rw c.loop-self-test.ensures.kept at c.in_err-arg.ensures.exact) c.loop-self.invariant.0)
+
+pub add_args-returns-then-not-take-clause-exact : goal.add_args-returns-then-not-take-clause-exact
+unfolding args_at arg_at
+add_args-returns-then-not-take-clause-exact t c =
+    let e : map arg_view c.add_arg.new.args.items ≡ map arg_view c.loop-self.args.items ++ arg_view c.in_ok-arg.arg ∷ [] =
+    rw c.in_ok-add_arg.ensures (map_push _ c.loop-self.args.items c.in_ok-arg.arg) in
+    rw e (list_last c.expect.result (arg_at the_depths c.args.room) (args_shorten c.args.room) (map arg_view c.loop-self.args.items) (left c.loop-self.self) (arg_view c.in_ok-arg.arg)
+    (left c.arg.new.self) (left c.expect.new.self) (after (map arg_view c.args.args.now.items) (args_at the_depths c.args.room (left c.args.self.now))) c.loop-self-test.ensures.exact
+    (rw c.loop-self-test.ensures.kept at c.in_ok-arg.ensures.exact) c.if-not-take.ensures.exact (rw c.if-not-take.ensures.kept at c.expect.ensures.exact) c.loop-self.invariant.0)
+
+pub add_args-loop-self-preserved : goal.add_args-loop-self-preserved
+unfolding args_at arg_at
+add_args-loop-self-preserved t c =
+    let e : map arg_view c.add_arg.new.args.items ≡ map arg_view c.loop-self.args.items ++ arg_view c.in_ok-arg.arg ∷ [] =
+    rw c.in_ok-add_arg.ensures (map_push _ c.loop-self.args.items c.in_ok-arg.arg) in (
+      rw e (list_goes_on (arg_at the_depths c.args.room) (args_shorten c.args.room) (map arg_view c.loop-self.args.items) (left c.loop-self.self) (arg_view c.in_ok-arg.arg)
+          (left c.arg.new.self) (left c.take-in-loop-self.new.self) (after (map arg_view c.args.args.now.items) (args_at the_depths c.args.room (left c.args.self.now)))
+          c.loop-self-test.ensures.exact (rw c.loop-self-test.ensures.kept at c.in_ok-arg.ensures.exact) c.if-not-take.ensures.exact c.loop-self.invariant.0),
+      omega (arith, c.loop-self-test.ensures.shorter, c.in_ok-arg.ensures.shorter, c.if-not-take.ensures.shorter),
+    )
+
+pub add_args-returns-clause-exact : goal.add_args-returns-clause-exact
+unfolding args_at arg_at
+add_args-returns-clause-exact t c =
+    list_closes (arg_at the_depths c.args.room) (map arg_view c.loop-self.args.items) (left c.loop-self.self) (left c.take.new.self)
+    (after (map arg_view c.args.args.now.items) (args_at the_depths c.args.room (left c.args.self.now))) c.loop-self-test.ensures.exact c.loop-self.invariant.0
+
+pub element_expression-returns-in_err-place-clause-exact : goal.element_expression-returns-in_err-place-clause-exact
+element_expression-returns-in_err-place-clause-exact t c =
+    let p = err_from_is_err_and c.from_residual.result c.from_residual.ensures.1 in
+    rw (p.1, p.2) (element_stops c.args.room c.args.array c.args.operators.now (left c.args.self.now) c.in_err-place.field-0.0 c.in_err-place.ensures.exact)
+
+pub element_expression-returns-clause-exact : goal.element_expression-returns-clause-exact
+element_expression-returns-clause-exact t c =
+    made c.element.result (index c.args.array (expr_view c.in_ok-place.place)) c.enclosed.new.operators (left c.enclosed.new.self)
+    (element_by (inner_at the_depths c.args.room) c.args.array c.args.operators.now (left c.args.self.now))
+    (element_is c.args.room c.args.array c.args.operators.now (left c.args.self.now) (expr_view c.in_ok-place.place) c.enclosed.new.operators (left c.enclosed.new.self)
+    c.in_ok-place.ensures.exact) c.element.ensures
 
 pub name_expression-returns-then-take-clause-exact : goal.name_expression-returns-then-take-clause-exact
 unfolding named_at
@@ -120,9 +155,10 @@ name_expression-returns-then-take-clause-exact t c = rw (view_called, view_call,
 
 pub prefix_expression-returns-clause-exact : goal.prefix_expression-returns-clause-exact
 prefix_expression-returns-clause-exact t c =
-    let e = prefixed_is the_depths c.args.room c.args.operators.now (left c.args.self.now) (omega arith) in
-    let v : c.in_ok-new.field-0.value ≡ c.in_ok-inner.inner = c.in_ok-new.ensures.ok in
-    rw (view_unary, v, e, c.in_ok-inner.ensures.exact) refl
+    made c.prefixed.result (unary c.args.op (expr_view c.in_ok-inner.inner)) c.unary.new.operators (left c.unary.new.self)
+    (prefix_by (prefixed_at the_depths c.args.room) c.args.op c.args.operators.now (left c.args.self.now))
+    (prefixed_read c.args.room c.args.op c.args.operators.now (left c.args.self.now) (expr_view c.in_ok-inner.inner) c.unary.new.operators (left c.unary.new.self) (omega arith)
+    c.in_ok-inner.ensures.exact) c.prefixed.ensures
 
 pub prefix_expression-returns-in_err-inner-clause-exact : goal.prefix_expression-returns-in_err-inner-clause-exact
 prefix_expression-returns-in_err-inner-clause-exact t c =

@@ -1,7 +1,7 @@
 use Rattle.std.proofs.Common.{◌≡◌, length, ◌≤◌}
 use Rattle.oc_grammar.specs.ReadingPrograms.{params_at}
 use Rattle.oc_parse.specs.Steps.{left}
-use Rattle.oc_parse.proofs.Loops.{after}
+use Rattle.oc_parse.specs.Parts.{after}
 use Rattle.oc_parse.proofs.reader.Reader.params.Given as goal
 
 abbrev pub invariant-loop-params : goal.invariant-loop-params

@@ -1,13 +1,14 @@
-use Rattle.std.proofs.Common.{◌≡◌, [], ◌∷◌, ◌++◌, length, map, refl, arith}
+use Rattle.std.proofs.Common.{rules, ◌≡◌, [], ◌∷◌, ◌++◌, length, map, refl, arith, w32, to_z, of_z}
 use Rattle.std.proofs.lemmas.Result.{err_from_is_err_and}
 use Rattle.std.proofs.lemmas.List.{map_push, length-map}
-use Rattle.oc_tree.specs.View.{kind_view, stmt_view}
-use Rattle.oc_tree.specs.declared.tree.Stmt.{roll-Stmt}
+use Rattle.oc_tree.specs.View.{block_view, expr_view, kind_view, stmt_view}
 use Rattle.oc_grammar.specs.Limits.{the_depths}
-use Rattle.oc_grammar.specs.ReadingStatements.{stmts_at}
+use Rattle.oc_grammar.specs.ReadingStatements.{block_at, stmts_at}
+use Rattle.oc_parse.specs.Parts.{statement_of}
 use Rattle.oc_parse.specs.Steps.{from, left}
-use Rattle.oc_parse.proofs.Views.{view_block, view_stmt}
-use Rattle.oc_parse.proofs.StatementLoops.{block_goes_on, block_stops, block_ends, expect_stops, block_too_deep, inside_stops, block_is, chained_too_deep, chained_stops, chained_is, lexeme_line, stmt_is_read}
+use Rattle.oc_parse.proofs.Views.{view_block, view_for, view_stmt, view_while}
+use Rattle.oc_parse.proofs.StatementLoops.{block_goes_on, block_stops, block_ends, expect_stops, block_too_deep, inside_stops, block_is, chained_too_deep, chained_stops, chained_is, lexeme_line, stmt_is_read, adds_one}
+use Rattle.oc_parse.proofs.StatementParts.{for_is, while_is}
 use Rattle.oc_parse.proofs.statement.Parser.+statement.Goals as goal
 
 pub block-returns-in_err-expect-clause-exact : goal.block-returns-in_err-expect-clause-exact
@@ -53,12 +54,11 @@ else_if-returns-clause-exact t c =
 pub statement-returns-clause-exact : goal.statement-returns-clause-exact
 statement-returns-clause-exact t c =
     let l = lexeme_line c.next.new.self.atomic c.in_ok-token.token.line _ c.in_ok-token.token.kind in
-    record {
-      one = roll-Stmt (record { id = c.args.self.now.statements; line = c.in_ok-token.token.line; kind = c.in_ok-kind.kind });
-      adds = c.in_ok-push.ensures.items;
-      reads = rw view_stmt (stmt_is_read c.args.room c.args.self.now.statements c.args.self.now.blocks (left c.args.self.now.reader) _ _ c.in_ok-token.token.line
-          (kind_view c.in_ok-kind.kind) c.kind.new.self.statements c.kind.new.self.blocks (left c.kind.new.self.reader) c.in_ok-token.ensures.exact l c.in_ok-kind.ensures.exact);
-    }
+    adds_one c.add_statement.result c.args.statements.now.items c.add_statement.new.statements.items
+    (statement_of c.args.self.now.statements c.in_ok-token.token.line c.in_ok-kind.kind) c.kind.new.self _
+    (rw view_stmt (stmt_is_read c.args.room c.args.self.now.statements c.args.self.now.blocks (left c.args.self.now.reader) _ _ c.in_ok-token.token.line
+    (kind_view c.in_ok-kind.kind) c.kind.new.self.statements c.kind.new.self.blocks (left c.kind.new.self.reader) c.in_ok-token.ensures.exact l c.in_ok-kind.ensures.exact))
+    c.add_statement.ensures
 
 pub statements-returns-in_err-statement-clause-exact : goal.statements-returns-in_err-statement-clause-exact
 statements-returns-in_err-statement-clause-exact t c =
@@ -83,3 +83,17 @@ pub statements-returns-clause-exact : goal.statements-returns-clause-exact
 statements-returns-clause-exact t c =
     block_ends c.args.room (map stmt_view c.loop-self.statements.items) c.loop-self.self.statements c.loop-self.self.blocks (left c.loop-self.self.reader) (left c.take.new.self)
     (from (stmts_at the_depths c.args.room) c.args.self.now) c.loop-self-test.ensures.exact c.loop-self.invariant.0
+
+pub for_statement-returns-clause-exact : goal.for_statement-returns-clause-exact
+for_statement-returns-clause-exact t c =
+    let i : to_z w32 (of_z w32 c.in_ok-from.from) ≡ c.in_ok-from.from = search rules in
+    let j : to_z w32 (of_z w32 c.in_ok-from.to) ≡ c.in_ok-from.to = search rules in
+    rw (view_for, i, j) (for_is (block_at the_depths c.args.room) c.args.self.now.statements c.args.self.now.blocks (left c.args.self.now.reader) c.in_ok-name.name (left c.name.new.self)
+    c.in_ok-from.from c.in_ok-from.to (block_view c.in_ok-from.body) c.ranged_block.new.self.statements c.ranged_block.new.self.blocks (left c.ranged_block.new.self.reader)
+    c.in_ok-name.ensures.exact c.in_ok-from.ensures.exact)
+
+pub while_statement-returns-in-Ok-clause-exact : goal.while_statement-returns-in-Ok-clause-exact
+while_statement-returns-in-Ok-clause-exact t c =
+    rw view_while (while_is (block_at the_depths c.args.room) c.args.self.now.statements c.args.self.now.blocks (left c.args.self.now.reader) (expr_view c.in_ok-condition.condition)
+    (left c.expression.new.self) c.in-Ok.bound (block_view c.in-Ok.body) c.bounded_block.new.self.statements c.bounded_block.new.self.blocks (left c.bounded_block.new.self.reader)
+    c.in_ok-condition.ensures.exact c.in-Ok.ensures.exact)

@@ -21,8 +21,14 @@ decreases-if_statement l = 8 * l.room + 3
 abbrev pub decreases-for_statement : goal.decreases-for_statement
 decreases-for_statement l = 8 * l.room + 3
 
+abbrev pub decreases-ranged_block : goal.decreases-ranged_block
+decreases-ranged_block l = 8 * l.room + 2
+
 abbrev pub decreases-while_statement : goal.decreases-while_statement
 decreases-while_statement l = 8 * l.room + 3
+
+abbrev pub decreases-bounded_block : goal.decreases-bounded_block
+decreases-bounded_block l = 8 * l.room + 2
 
 abbrev pub decreases-atomic_statement : goal.decreases-atomic_statement
 decreases-atomic_statement l = 8 * l.room + 3

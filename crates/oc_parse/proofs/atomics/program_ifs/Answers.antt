@@ -1,0 +1,26 @@
+use Rattle.std.proofs.Common.{arith, ◌≡◌, ◌+◌, ◌∷◌, drop}
+use Rattle.std.proofs.lemmas.Grind.{common_steps}
+use Rattle.oc_parse.proofs.Expanded.{functions_more, nodes_behind}
+use Rattle.oc_parse.proofs.atomics.program_ifs.Goals as goal
+
+pub block_ifs-requires : goal.block_ifs-requires
+block_ifs-requires c =
+    let i = c.loop-function.function-index in
+    let l = c.args.functions.now in
+    let x = c.function-item.result in
+    let item = c.function-item.is in
+    let e : drop i l ≡ x ∷ drop (i + 1) l = grind (arith, common_steps) in
+    omega (arith, nodes_behind i l x e, c.loop-function.invariant.nodes)
+
+pub loop-function-preserved : goal.loop-function-preserved
+loop-function-preserved c =
+    let i = c.loop-function.function-index in
+    let l = c.args.functions.now in
+    let x = c.function-item.result in
+    let item = c.function-item.is in
+    let e : drop i l ≡ x ∷ drop (i + 1) l = grind (arith, common_steps) in
+    record {
+      ifs = functions_more c.loop-function.ifs.items c.block_ifs.new.ifs.items c.loop-function.next c.in_ok-next.next i l x _ e c.in_ok-next.ensures.ifs c.in_ok-next.ensures.next
+          c.loop-function.invariant.ifs;
+      nodes = omega (arith, nodes_behind i l x e, c.loop-function.invariant.nodes);
+    }

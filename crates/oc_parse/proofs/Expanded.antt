@@ -179,7 +179,7 @@ ifs_more front added grown next here inside to id line k rest whole n a i b c h 
     ∙ ap (λ m. front ++ (own ++ (within ++ stmts_ifs_at m rest))) e
     ∙ h
 
--- ---- one function or token more
+-- ---- one function more
 
 pub functions_more : (front grown : List ℕ) (next to i : ℕ) (l : List Function) (x : Function) (whole : List ℕ) → drop i l ≡ x ∷ drop (i + 1) l
     → grown ≡ front ++ block_ifs_at next (block_view x.body)
@@ -200,11 +200,3 @@ pub nodes_behind : (i : ℕ) (l : List Function) (x : Function) → drop i l ≡
 nodes_behind i l x e =
     let nodes : TFunction → ℕ = λ f. block_nodes f.body in
     ap (λ fs. sum_by nodes (map function_view fs)) e ∙ sum_by-cons nodes (function_view x) (map function_view (drop (i + 1) l))
-
-pub begins_more : (front new : List Bool) (i : ℕ) (l : List Token) (t : Token) (whole : List Bool) → drop i l ≡ t ∷ drop (i + 1) l
-    → new ≡ front ++ kind_begins t.kind
-    → front ++ flat_map token_begins (drop i l) ≡ whole
-    → new ++ flat_map token_begins (drop (i + 1) l) ≡ whole
-begins_more front new i l t whole e a h =
-    let rest = flat_map token_begins (drop (i + 1) l) in
-    ap (λ g. g ++ rest) a ∙ append_assoc front (kind_begins t.kind) rest ∙ ap (λ ts. front ++ flat_map token_begins ts) (sym e) ∙ h

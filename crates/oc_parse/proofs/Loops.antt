@@ -1,18 +1,19 @@
 -- The loops of the code, one turn at a time.
-use Rattle.std.proofs.Common.{◌≡◌, ℕ, zero, suc, ◌+◌, ◌-◌, ◌<◌, ◌≤◌, List, [], ◌∷◌, ◌++◌, length, Option, Some, None, Bool, true, false, Result, Ok, Err, refl, sym, ap, subst, ◌∙◌, arith, append_assoc}
+use Rattle.std.proofs.Common.{◌≡◌, ℕ, zero, suc, ◌+◌, ◌-◌, ◌<◌, ◌≤◌, List, [], ◌∷◌, ◌++◌, length, Option, Some, None, Bool, false, Result, Ok, Err, refl, sym, ap, subst, ◌∙◌, arith, append_assoc}
 use Rattle.std.specs.Prelude.{is_some, MatchResult}
 use Rattle.std.proofs.lemmas.List.{append-nil}
 use Rattle.oc_tree.specs.Names.{Text}
-use Rattle.oc_tree.specs.Tree.{TExpr, index, unary, binary}
+use Rattle.oc_tree.specs.Tree.{TExpr, index, unary, binary, value}
 use Rattle.oc_tree.specs.View.{expr_view}
 use Rattle.oc_tree.specs.declared.tree.Expr.{Expr}
 use Rattle.oc_tree.specs.declared.tree.UnaryOp.{UnaryOp}
 use Rattle.oc_tree.specs.declared.tree.BinaryOp.{BinaryOp}
 use Rattle.oc_lex.specs.declared.token.Mark.TheVariants as marks
+use Rattle.oc_lex.specs.declared.token.Word.TheVariants as words
 use Rattle.oc_grammar.specs.Limits.{the_depths}
 use Rattle.oc_grammar.specs.Lexemes.{Lexemes}
-use Rattle.oc_grammar.specs.Reading.{Fault, Read, ◌>>=◌, strip_mark, expect_mark, operator_front}
-use Rattle.oc_grammar.specs.ReadingExpressions.{ReadExpr, prefix_by, element_by, prefixed_at, inner_at, spend_at, chain, levels, unary_here, level_at, arg_at, args_at}
+use Rattle.oc_grammar.specs.Reading.{Fault, Read, ◌>>=◌, strip_mark, expect_mark, name_at, take_word, operator_front}
+use Rattle.oc_grammar.specs.ReadingExpressions.{ReadExpr, prefix_by, element_by, prefixed_at, inner_at, spend_at, chain, levels, unary_here, level_at, reference, part_at, arg_at, args_at}
 use Rattle.oc_grammar.proofs.FrontLaws.{bind_ok, ok_is}
 use Rattle.oc_grammar.proofs.ListLaws.{Shortens, listed_at, behind, listed_turn, listed_closed}
 use Rattle.oc_grammar.proofs.UnaryLaws.{unary_is, prefixed_is}
@@ -109,6 +110,16 @@ args_are room ts = refl
 pub args_shorten : (room : ℕ) → Shortens (arg_at the_depths room)
 unfolding arg_at
 args_shorten room = arg_shorter the_depths room
+
+pub value_read : (room : ℕ) (ts : Lexemes) (e : TExpr) (us : Lexemes) → strip_mark marks.Ampersand ts ≡ None → part_at the_depths room ts ≡ Ok (e, us)
+    → arg_at the_depths room ts ≡ Ok (value e, us)
+unfolding arg_at part_at
+value_read room ts e us n h = rw (n, h) refl
+
+pub reference_read : (room : ℕ) (ts us : Lexemes) (m : Bool) (vs : Lexemes) (x : Text) (ws : Lexemes) → strip_mark marks.Ampersand ts ≡ Some us → (m, vs) ≡ take_word words.Mutable us
+    → name_at vs ≡ Ok (x, ws) → arg_at the_depths room ts ≡ Ok (reference m x, ws)
+unfolding arg_at
+reference_read room ts us m vs x ws n w h = rw (n, sym w, h) refl
 
 -- ---- operators of one level
 

@@ -121,6 +121,12 @@ pub stmt_is_read : (room n b : ℕ) (ts us : Lexemes) (t : Lexeme) (line : ℕ) 
 unfolding stmt_here
 stmt_is_read room n b ts us t line k n' b' vs e l d = let q : suc n ≡ n + 1 = omega arith in rw (e, q, d, l) refl
 
+pub stmt_stops : (room n b : ℕ) (ts us : Lexemes) (t : Lexeme) (s : Stop) → next_at ts ≡ Ok (t, us)
+    → Stopped s (kind_by the_depths (block_at the_depths room) (else_at the_depths room) t (n + 1) b us) → Stopped s (stmt_here the_depths room n b ts)
+unfolding stmt_here
+stmt_stops room n b ts us t s e d =
+    let q : suc n ≡ n + 1 = omega arith in rw (e, q) (stopped_bind s (kind_by the_depths (block_at the_depths room) (else_at the_depths room) t (n + 1) b us) _ d)
+
 -- a statement without blocks leaves the numbers as they are
 pub simple_to : (r : Result StmtKind Stop) (p : Parser) (read : Read TKind) → Reads kind_view r (left p.reader) read → ReadsTo kind_view r p (simple_by p.statements p.blocks read)
 simple_to (Ok k) p read h = rw h refl

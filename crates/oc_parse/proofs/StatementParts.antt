@@ -1,6 +1,5 @@
 -- Statements with blocks, whose parts behind the first one the code reads by functions of their own.
 use Rattle.std.proofs.Common.{◌≡◌, ℕ, ℤ, Ok, refl, sym, ◌∙◌}
-use Rattle.std.specs.Prelude.{unsigned_abs, Result}
 use Rattle.oc_tree.specs.Names.{Text}
 use Rattle.oc_tree.specs.Tree.{TExpr, TKind, TBlock, for_in, while_do}
 use Rattle.oc_lex.specs.declared.token.Mark.TheVariants as marks

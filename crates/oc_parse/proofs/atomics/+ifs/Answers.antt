@@ -1,4 +1,5 @@
-use Rattle.std.proofs.Common.{arith, rules, ◌≡◌, ◌+◌, ◌∷◌, ◌++◌, drop, sym, ap, ◌∙◌}
+use Rattle.std.proofs.Common.{arith, rules, ◌≡◌, ◌+◌, ◌∷◌, ◌++◌, append-nil, drop, sym, ap, ◌∙◌}
+use Rattle.std.proofs.lemmas.List.{drop_all}
 use Rattle.std.proofs.lemmas.Grind.{common_steps}
 use Rattle.oc_tree.specs.Tree.{TKind, TBlock, TStmt, stmt, more}
 use Rattle.oc_tree.specs.View.{kind_view, stmt_view, stmts_view, kind_step, block_step, stmt_step}
@@ -60,3 +61,16 @@ block_ifs-loop-statement-preserved t c =
       next = omega (arith, n, s, number, inside, to, sizes);
       nodes = omega (arith, n, fit);
     }
+
+pub block_ifs-returns-clause-ifs : goal.block_ifs-returns-clause-ifs
+block_ifs-returns-clause-ifs t c =
+    let ifs = c.loop-statement.ifs.items in
+    sym (append-nil ifs)
+    ∙ ap (λ ss. ifs ++ stmts_ifs_at c.loop-statement.next (stmts_view ss))
+    (sym (drop_all c.loop-statement.statement-index c.deref-statement-items.result.now c.loop-statement-test.false))
+    ∙ c.loop-statement.invariant.ifs
+
+pub block_ifs-returns-clause-next : goal.block_ifs-returns-clause-next
+block_ifs-returns-clause-next t c =
+    let z = ap (λ ss. stmts_size (stmts_view ss)) (drop_all c.loop-statement.statement-index c.deref-statement-items.result.now c.loop-statement-test.false) in
+    omega (arith, z, c.loop-statement.invariant.next)

@@ -1,5 +1,8 @@
-use Rattle.std.proofs.Common.{arith, ◌≡◌, ◌+◌, ◌∷◌, drop}
+use Rattle.std.proofs.Common.{arith, ◌≡◌, ◌+◌, ◌∷◌, ◌++◌, append-nil, ap, sym, ◌∙◌, drop, map}
+use Rattle.std.proofs.lemmas.List.{drop_all}
 use Rattle.std.proofs.lemmas.Grind.{common_steps}
+use Rattle.oc_tree.specs.View.{function_view}
+use Rattle.oc_parse.specs.Collected.{functions_ifs_at}
 use Rattle.oc_parse.proofs.Expanded.{functions_more, nodes_behind}
 use Rattle.oc_parse.proofs.atomics.program_ifs.Goals as goal
 
@@ -24,3 +27,10 @@ loop-function-preserved c =
           c.loop-function.invariant.ifs;
       nodes = omega (arith, nodes_behind i l x e, c.loop-function.invariant.nodes);
     }
+
+pub returns : goal.returns
+returns c =
+    let ifs = c.loop-function.ifs.items in
+    sym (append-nil ifs)
+    ∙ ap (λ fs. ifs ++ functions_ifs_at c.loop-function.next (map function_view fs)) (sym (drop_all c.loop-function.function-index c.args.functions.now c.loop-function-test.false))
+    ∙ c.loop-function.invariant.ifs

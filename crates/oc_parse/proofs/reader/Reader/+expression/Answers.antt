@@ -1,4 +1,4 @@
-use Rattle.std.proofs.Common.{rules, ◌≡◌, ◌≢◌, ℕ, ◌-◌, List, [], ◌∷◌, ◌++◌, map, refl, sym, ap, ◌∙◌, arith}
+use Rattle.std.proofs.Common.{rules, ◌≡◌, ◌≢◌, ℕ, ◌-◌, true, false, List, [], ◌∷◌, ◌++◌, map, refl, sym, ap, ◌∙◌, arith}
 use Rattle.std.proofs.lemmas.Result.{err_from_is_err_and}
 use Rattle.std.proofs.lemmas.List.{map_push}
 use Rattle.oc_tree.specs.Tree.{index, unary, binary}
@@ -10,8 +10,8 @@ use Rattle.oc_grammar.proofs.ExpressionLaws.{most_other}
 use Rattle.oc_parse.specs.Parts.{operations_at, operation_at, after}
 use Rattle.oc_parse.specs.Steps.{left, infix_front}
 use Rattle.oc_parse.proofs.Loops.{stopped_along, made, list_goes_on, list_last, list_closes, list_stops, alone, args_shorten, level_zero, level_more, level_alone, levels_unread, levels_stop, none_is}
-use Rattle.oc_parse.proofs.Loops.{operation_turn, turn_stops, spend_stops, operand_is, operand_stops, operation_is, comparison_is, level_ends, prefixed_stops, prefixed_read, element_is, element_stops}
-use Rattle.oc_parse.proofs.Views.{view_called, view_call}
+use Rattle.oc_parse.proofs.Loops.{operation_turn, turn_stops, spend_stops, operand_is, operand_stops, operation_is, comparison_is, level_ends, prefixed_stops, prefixed_read, element_is, element_stops, value_read, reference_read}
+use Rattle.oc_parse.proofs.Views.{view_called, view_call, view_value, view_shared, view_mutable}
 use Rattle.oc_parse.proofs.reader.Reader.+expression.Goals as goal
 
 pub level-loop-below-init : goal.level-loop-below-init
@@ -164,3 +164,18 @@ pub prefix_expression-returns-in_err-inner-clause-exact : goal.prefix_expression
 prefix_expression-returns-in_err-inner-clause-exact t c =
     let p = err_from_is_err_and c.from_residual.result c.from_residual.ensures.1 in
     rw (p.1, p.2) (prefixed_stops c.args.room c.args.op c.args.operators.now (left c.args.self.now) c.in_err-inner.field-0.0 (omega arith) c.in_err-inner.ensures.exact)
+
+pub arg-returns-then-not-take-clause-exact : goal.arg-returns-then-not-take-clause-exact
+arg-returns-then-not-take-clause-exact t c =
+    rw view_value (value_read c.args.room (left c.args.self.now) (expr_view c.in_ok-value.value) (left c.part.new.self) c.if-not-take.ensures.exact
+    (rw c.if-not-take.ensures.kept at c.in_ok-value.ensures.exact))
+
+pub arg-returns-then-take_word-clause-exact : goal.arg-returns-then-take_word-clause-exact
+arg-returns-then-take_word-clause-exact t c =
+    rw view_mutable (reference_read c.args.room (left c.args.self.now) (left c.take.new.self) true (left c.take_word.new.self) c.in_ok-name.name (left c.name.new.self)
+    c.if-not-take.ensures.exact c.if-take_word.ensures.pair c.in_ok-name.ensures.exact)
+
+pub arg-returns-clause-exact : goal.arg-returns-clause-exact
+arg-returns-clause-exact t c =
+    rw view_shared (reference_read c.args.room (left c.args.self.now) (left c.take.new.self) false (left c.take_word.new.self) c.in_ok-name-2.name (left c.name-2.new.self)
+    c.if-not-take.ensures.exact c.if-take_word.ensures.pair c.in_ok-name-2.ensures.exact)

@@ -3,11 +3,11 @@ use Rattle.std.proofs.lemmas.Result.{err_from_is_err_and}
 use Rattle.std.proofs.lemmas.List.{map_push, length-map}
 use Rattle.oc_tree.specs.View.{block_view, expr_view, kind_view, stmt_view}
 use Rattle.oc_grammar.specs.Limits.{the_depths}
-use Rattle.oc_grammar.specs.ReadingStatements.{block_at, stmts_at}
-use Rattle.oc_parse.specs.Parts.{statement_of}
+use Rattle.oc_grammar.specs.ReadingStatements.{if_by, block_at, stmts_at}
+use Rattle.oc_parse.specs.Parts.{ranged_by, statement_of}
 use Rattle.oc_parse.specs.Steps.{from, left}
-use Rattle.oc_parse.proofs.Views.{view_block, view_for, view_stmt, view_while}
-use Rattle.oc_parse.proofs.StatementLoops.{block_goes_on, block_stops, block_ends, expect_stops, block_too_deep, inside_stops, block_is, chained_too_deep, chained_stops, chained_is, lexeme_line, stmt_is_read, adds_one}
+use Rattle.oc_parse.proofs.Views.{view_block, view_for, view_if, view_stmt, view_while}
+use Rattle.oc_parse.proofs.StatementLoops.{block_goes_on, block_stops, block_ends, expect_stops, block_too_deep, inside_stops, block_is, chained_too_deep, chained_stops, chained_is, lexeme_line, stmt_is_read, stmt_stops, adds_one}
 use Rattle.oc_parse.proofs.StatementParts.{for_is, while_is}
 use Rattle.oc_parse.proofs.statement.Parser.+statement.Goals as goal
 
@@ -97,3 +97,21 @@ while_statement-returns-in-Ok-clause-exact t c =
     rw view_while (while_is (block_at the_depths c.args.room) c.args.self.now.statements c.args.self.now.blocks (left c.args.self.now.reader) (expr_view c.in_ok-condition.condition)
     (left c.expression.new.self) c.in-Ok.bound (block_view c.in-Ok.body) c.bounded_block.new.self.statements c.bounded_block.new.self.blocks (left c.bounded_block.new.self.reader)
     c.in_ok-condition.ensures.exact c.in-Ok.ensures.exact)
+
+pub statement-returns-in_err-kind-clause-exact : goal.statement-returns-in_err-kind-clause-exact
+statement-returns-in_err-kind-clause-exact t c =
+    let p = err_from_is_err_and c.from_residual-in_err-kind.result c.from_residual-in_err-kind.ensures.1 in
+    rw (p.1, p.2) (stmt_stops c.args.room c.args.self.now.statements c.args.self.now.blocks (left c.args.self.now.reader) _ _ c.in_err-kind.field-0.0 c.in_ok-token.ensures.exact
+    c.in_err-kind.ensures.exact)
+
+pub ranged_block-returns-clause-exact : goal.ranged_block-returns-clause-exact
+unfolding ranged_by
+ranged_block-returns-clause-exact t c =
+    let i : to_z w32 (of_z w32 c.in_ok-from.from) ≡ c.in_ok-from.from = search rules in
+    let j : to_z w32 (of_z w32 c.in_ok-to.to) ≡ c.in_ok-to.to = search rules in
+    rw (i, j, c.in_ok-expect_word.ensures.exact, c.in_ok-from.ensures.exact, c.in_ok-expect.ensures.exact, c.in_ok-to.ensures.exact, c.in_ok-body.ensures.exact) refl
+
+pub if_statement-returns-in-Ok-otherwise-clause-exact : goal.if_statement-returns-in-Ok-otherwise-clause-exact
+unfolding if_by
+if_statement-returns-in-Ok-otherwise-clause-exact t c =
+    rw (view_if, c.in_ok-condition.ensures.exact, c.in-Ok.ensures.exact, c.in-Ok-otherwise.ensures.exact) refl

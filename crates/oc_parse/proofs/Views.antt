@@ -1,6 +1,6 @@
 -- The trees of expressions that the code makes.
 use Rattle.std.proofs.Common.{rules, ◌≡◌, ℕ, ℤ, Bool, Option, Some, None, map}
-use Rattle.oc_tree.specs.Tree.{TExpr, TArg, value, shared, mutable, TCall, called, call, TKind, let_to, let_array, assign, assign_index, assign_deref, if_else, for_in, while_do}
+use Rattle.oc_tree.specs.Tree.{TExpr, TArg, value, shared, mutable, TCall, called, call, TKind, let_to, assign, assign_index, assign_deref, if_else, for_in, while_do}
 use Rattle.oc_tree.specs.Tree.{call_only, sense_only, emit, fresh, consistent, return, TStmt, stmt, TBlock, block}
 use Rattle.oc_tree.specs.View.{expr_view, arg_view, call_view, right_view, args_of, arg_step, expr_step, call_step, block_view, else_view, kind_view, stmt_view, stmts_of, kind_step, block_step, stmt_step}
 use Rattle.oc_tree.specs.Names.{Text}

@@ -7,5 +7,6 @@
 
 pub mod item;
 pub mod laws;
+mod line;
 pub mod read;
 pub mod text;

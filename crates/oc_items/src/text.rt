@@ -1,12 +1,13 @@
 //! The lines of a report.
-ghost use Rattle.std.specs.Prelude.{◌≡◌, ◌<◌, ◌++◌, length, codes, decimal};
+ghost use Rattle.std.specs.Prelude.{◌≡◌, ◌<◌, ◌≤◌, ◌++◌, length, codes, decimal};
 ghost use Rattle.std.specs.Fmt.{signed_decimal};
 ghost use Rattle.oc_io.specs.Faults.{Puts};
 ghost use Rattle.oc_tree.specs.Names.{names_view};
 ghost use Rattle.oc_items.specs.Text.{IsNamed, item_line, nv_line, trap_word, word_field, words_line};
 
 use crate::item::Item;
-use itoa::Buffer;
+use crate::line::{LINE, write_value, write_word};
+use itoa::{Buffer, write_digits};
 use oc_io::pieces::put_pieces;
 use oc_io::sink::{Sink, SinkFault};
 use oc_tree::name::Names;
@@ -22,19 +23,52 @@ fn trap_words(kind: TrapKind) -> &'static [u8]
     }
 }
 
+/// How long a name is at most in a line that is put together before it is put.
+const NAME: usize = 24;
+
 /// Writes a line of a tick, a word and a number.
+#[inline(always)]
 fn put_number<O: Sink>(tick: u64, word: &[u8], number: u64, sink: &mut O) -> Result<(), SinkFault>
+    requires { length word.now ≤ 12 }
     ensures { Puts O.took O.faults sink.old
         (decimal tick ++ (word.now ++ (decimal number ++ codes "\n"))) sink.new result }
 {
-    let mut first = Buffer::new();
-    let mut last = Buffer::new();
-    let tick = first.format(tick).as_bytes();
-    put_pieces(sink, &[tick, word, last.format(number).as_bytes(), b"\n"])
+    let mut line = [b'\n'; LINE];
+    let last = write_digits(number, &mut line, LINE - 1);
+    let middle = write_word(word, &mut line, last);
+    let from = write_digits(tick, &mut line, middle);
+    sink.put(&line[from..])
 }
 
 /// Writes a line of a tick, a word, a name and a value.
+#[inline(always)]
 fn put_value<O: Sink>(
+    tick: u64,
+    word: &[u8],
+    name: &[u8],
+    value: i32,
+    sink: &mut O,
+) -> Result<(), SinkFault>
+    requires { length word.now ≤ 7 }
+    ensures { Puts O.took O.faults sink.old
+        (decimal tick ++ (word.now ++ (name.now ++ (codes " " ++ (signed_decimal value
+        ++ codes "\n"))))) sink.new result }
+{
+    if NAME < name.len() {
+        return put_long_value(tick, word, name, value, sink);
+    }
+    let mut line = [b'\n'; LINE];
+    let last = write_value(value, &mut line, LINE - 1);
+    let gap = write_word(b" ", &mut line, last);
+    let named = write_word(name, &mut line, gap);
+    let middle = write_word(word, &mut line, named);
+    let from = write_digits(tick, &mut line, middle);
+    sink.put(&line[from..])
+}
+
+/// The same for a name of any length, in pieces.
+#[cold]
+fn put_long_value<O: Sink>(
     tick: u64,
     word: &[u8],
     name: &[u8],

@@ -1,4 +1,4 @@
-use Rattle.std.proofs.Common.{◌≡◌, ◌+◌, ◌-◌, ◌∷◌, ℤ, pos, negsuc, false, true, int_le, unsigned_abs, decimal, refl, sym, ap, ◌++◌, drop, ◌∙◌, arith, rules, to_z-of_z, true≢false}
+use Rattle.std.proofs.Common.{◌≡◌, ◌+◌, ◌-◌, ◌∷◌, ◌++◌, ℤ, pos, negsuc, false, drop, decimal, int_le, unsigned_abs, refl, sym, ap, ◌∙◌, arith, rules, to_z-of_z, true≢false}
 use lib.Dec.{leb-zero}
 use Rattle.std.specs.Fmt.{signed_decimal}
 use Rattle.std.proofs.lemmas.Fmt.{length-decimal-le}

@@ -11,7 +11,7 @@ use Rattle.oc_meaning.specs.Cuts.{events_in}
 use Rattle.oc_steps.specs.Steps.{Frame, Step, Goes, Over, step_passed}
 use Rattle.oc_steps.specs.Ages.{join_ages, of_ages}
 use Rattle.oc_steps.specs.Heard.{cleared}
-use Rattle.oc_steps.specs.Fold.{Way, Next, Went_on, Says, Stands, after_step, at_first, start, told_by}
+use Rattle.oc_steps.specs.Fold.{Way, Went_on, Says, Stands, after_step, at_first, start, told_by}
 use Rattle.oc_judge.specs.Stores.{completion_at, event_view, told}
 use Rattle.oc_judge.specs.Going.{step_at}
 use Rattle.oc_judge.specs.Ways.{KeepsRest}

@@ -8,3 +8,6 @@ mod Turning
 mod Hearing
 mod Tallies
 mod Skips
+mod Leading
+mod Beginning
+mod Taking

@@ -1,5 +1,5 @@
 -- All turns of a `for` with an empty body, one after the other.
-use Rattle.std.proofs.Common.{◌≡◌, refl, sym, ap, ◌∙◌, subst, ℕ, zero, suc, ◌-◌, ◌<◌, ℤ, pos, negsuc, ◌+ℤ◌, ◌-ℤ◌, ◌≤ℤ◌, Bool, true, false, List, [], ◌∷◌, ◌++◌, map, reverse, length, drop, arith}
+use Rattle.std.proofs.Common.{◌≡◌, refl, sym, ap, ◌∙◌, subst, ℕ, zero, suc, ◌-◌, ◌<◌, ℤ, pos, negsuc, ◌+ℤ◌, ◌-ℤ◌, ◌≤ℤ◌, true, List, [], ◌∷◌, ◌++◌, Option, Some, None, map, reverse, length, drop, arith}
 use Rattle.std.specs.Prelude.{int_lt, unsigned_abs}
 use Rattle.std.proofs.lemmas.Int.{ints}
 use Rattle.std.proofs.lemmas.List.{map-append, reverse-append}
@@ -10,13 +10,15 @@ use Rattle.oc_tree.specs.View.{block_view, stmts_view}
 use Rattle.oc_tree.specs.declared.tree.Stmt.{Stmt}
 use Rattle.oc_tree.specs.Weight.{count_of}
 use Rattle.oc_meaning.specs.Store.{Binding, Store}
-use Rattle.oc_meaning.specs.Exec.{Outcome, Went}
-use Rattle.oc_steps.specs.Ages.{one_more}
-use Rattle.oc_steps.specs.Steps.{Frame, Inside, Turns}
-use Rattle.oc_steps.specs.Fold.{Way, Next, Went_on, steps_on, next_of, then_next}
+use Rattle.oc_meaning.specs.Exec.{Went}
+use Rattle.oc_steps.specs.Ages.{join_ages, of_ages, one_more}
+use Rattle.oc_steps.specs.Steps.{Frame, Goes, Inside, Turns, step}
+use Rattle.oc_steps.specs.Fold.{Way, Next, Went_on, after_step, steps_on, next_of, then_next, told_by}
 use Rattle.oc_judge.specs.Frames.{for_frame, frame_view, frames_view, inside_view}
 use Rattle.oc_judge.specs.Passes.{more_times, HasTurns, Reaches}
-use Rattle.oc_judge.specs.Ways.{Comes}
+use Rattle.oc_judge.specs.Ways.{Comes, KeepsRest, advanced, way_view}
+use Rattle.oc_judge.specs.declared.way.Next as nexts
+use Rattle.oc_judge.specs.declared.way.Way as ways
 use Rattle.oc_judge.specs.declared.frames.ForTurns.{ForTurns}
 use Rattle.oc_judge.specs.declared.frames.Frame as frames
 
@@ -60,6 +62,9 @@ abbrev further : ℕ → ℕ → ℕ
 further zero m = m
 further (suc n) m = suc (further n m)
 
+pub keeps_then : (u v w : Way) → KeepsRest u v → KeepsRest v w → KeepsRest u w
+keeps_then u v w a b = record { sets = b.sets ∙ a.sets; inside = b.inside ∙ a.inside; over = b.over ∙ a.over }
+
 module _ (p : TProgram) (rs : List TRegion) where
   further_on : (n m : ℕ) (a b : Way) → steps_on p rs m a ≡ Went_on b → steps_on p rs (further n m) a ≡ steps_on p rs n b
   further_on zero m a b e = e
@@ -73,13 +78,31 @@ module _ (p : TProgram) (rs : List TRegion) where
   pub reaches_then : (u v w : Way) → Reaches p rs u v → Reaches p rs v w → Reaches p rs u w
   reaches_then u v w a b = record { steps = further b.steps a.steps; is = further_on b.steps a.steps u v a.is ∙ b.is }
 
-  -- one step more, which goes on
-  pub goes : (u v w : Way) → Reaches p rs u v → Went_on w ≡ next_of p rs v → Reaches p rs u w
-  goes u v w r e = record { steps = suc r.steps; is = ap (then_next p rs) r.is ∙ sym e }
+  -- some steps more, which go on
+  pub goes_then : (u v w : Way) → Reaches p rs u v → Comes p rs v (Went_on w) → Reaches p rs u w
+  goes_then u v w a b = record { steps = further b.steps a.steps; is = further_on b.steps a.steps u v a.is ∙ b.is }
 
   -- or after which it says or wants something
+  pub comes_then : (u v : Way) (next : Next) → Reaches p rs u v → Comes p rs v next → Comes p rs u next
+  comes_then u v next a b = record { steps = further b.steps a.steps; is = further_on b.steps a.steps u v a.is ∙ b.is }
+
+  -- it only went on
+  pub not_said : (u : Way) (o : Option nexts.Next) (v : ways.Way) → ((n : nexts.Next) → o ≡ Some n → ⊥) → Comes p rs u (advanced o v) → Comes p rs u (Went_on (way_view v))
+  not_said u None v h c = c
+  not_said u (Some n) v h c = absurd (h n refl)
+
+  -- one step more, after which it says or wants something
   pub comes : (u v : Way) (next : Next) → Reaches p rs u v → next ≡ next_of p rs v → Comes p rs u next
   comes u v next r e = record { steps = suc r.steps; is = ap (then_next p rs) r.is ∙ sym e }
+
+  -- an end that says nothing
+  pub passes_end : (w : Way) (fs : List Frame) (σ : Store) → w.out ≡ Went σ → σ.events ≡ [] → ((τ : Store) → step p rs join_ages of_ages w.frames (Went τ) ≡ Goes fs (Went τ))
+      → Reaches p rs w (record w { frames = fs })
+  passes_end w fs σ o e h = record {
+    steps = 1;
+    is = ap (λ q. after_step w (step p rs join_ages of_ages w.frames q)) o ∙ ap (after_step w) (h σ) ∙ ap (told_by w fs (Went σ)) e
+        ∙ ap (λ q. Went_on (record w { frames = fs; out = q })) (sym o);
+  }
 
   module _ (w : Way) (f : Inside) (x : Text) (id : ℕ) (env : List Binding) (fs : List Frame) where
     -- so many turns are left, and nothing was said

@@ -1,7 +1,7 @@
 -- The steps of a run over ages, for what runs.
-use Rattle.std.specs.Prelude.{◌≡◌, ℕ, suc, ℤ, List, [], length, map, codes, Option, Some, None}
+use Rattle.std.specs.Prelude.{◌≡◌, ℕ, suc, List, [], length, map, codes, Option, Some, None}
 use Rattle.oc_tree.specs.Names.{Text}
-use Rattle.oc_tree.specs.Tree.{TBlock, TCall, TExpr, TFunction, TKind, TProgram, TRight, TStmts}
+use Rattle.oc_tree.specs.Tree.{TCall, TFunction, TKind, TProgram, TRight, TStmts}
 use Rattle.oc_tree.specs.Marked.{TRegion}
 use Rattle.oc_tree.specs.View.{program_view}
 use Rattle.oc_tree.specs.Regions.{region_view}

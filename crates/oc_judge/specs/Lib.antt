@@ -5,6 +5,8 @@ pub mod Fresh
 pub mod Passing
 pub mod Frames
 pub mod Going
+pub mod Leading
+pub mod Statements
 pub mod Ways
 pub mod Passes
 pub mod Notes

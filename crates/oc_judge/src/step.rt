@@ -1,203 +1,34 @@
 //! One step of a run.
-ghost use Rattle.std.specs.Prelude.{◌≡◌, ◌∷◌, IfOk, List, OnOk};
+ghost use Rattle.std.specs.Prelude.{◌≡◌, IfOk, List};
 ghost use Rattle.std.specs.List.{list_any};
 ghost use Rattle.oc_tree.specs.Named.{expr_names};
-ghost use Rattle.oc_tree.specs.Tree.{more};
-ghost use Rattle.oc_tree.specs.View.{expr_view, kind_view, stmt_view, stmts_view};
-ghost use Rattle.oc_meaning.specs.Exec.{Went, done, ended_by, grown};
-ghost use Rattle.oc_meaning.specs.Scopes.{binding_view};
-ghost use Rattle.oc_meaning.specs.Uses.{ends_use, is_fresh};
-ghost use Rattle.oc_steps.specs.Steps.{Close, Done, Goes, Rest, Use};
+ghost use Rattle.oc_tree.specs.View.{expr_view, kind_view};
+ghost use Rattle.oc_meaning.specs.Exec.{Went, done};
+ghost use Rattle.oc_meaning.specs.Uses.{is_fresh};
+ghost use Rattle.oc_steps.specs.Steps.{Goes, Use};
 ghost use Rattle.oc_steps.specs.Steps as steps;
 ghost use Rattle.oc_judge.specs.Frames.{for_frame, frame_view, frames_view, inside_view, task_frame, test_frame, while_frame};
-ghost use Rattle.oc_judge.specs.Going.{IsKept, regions_of, rest_here, returned_here, step_at, step_here, stepped_at, went_here};
+ghost use Rattle.oc_judge.specs.Going.{IsKept, returned_here, step_here, went_here};
+ghost use Rattle.oc_judge.specs.Leading.{LeadsOn, LeadsTo};
 ghost use Rattle.oc_judge.specs.Stores.{completion_at};
 ghost use Rattle.oc_judge.specs.Values.{age_view, value_view};
 
 use crate::age::{Age, Got, Value};
 use crate::blocks::begin;
 use crate::eval::{is_zero, value_of};
-use crate::frames::{ForTurns, Frame, Inside, Task, WhileTurns, push_frame, push_task};
+use crate::frames::{ForTurns, Frame, Inside, Task, WhileTurns, push_task};
 use crate::going::Going;
 use crate::running::Running;
+use crate::scopes::with_variable;
+use crate::statement::{begin_work, rest};
 use crate::store::{Completion, Store};
-use crate::uses::{
-    begin_use, begins_use, end_use, ends_use, expression_age, expression_is_use, use_age,
-};
+use crate::uses::{begin_use, end_use, expression_age, expression_is_use, use_of};
 use crate::work::{take, work};
-use oc_meaning::names::is_annotated;
 use oc_meaning::place::Place;
-use oc_meaning::regions::{begun_by, ended_by};
 use oc_meaning::scope::{Binding, Scope};
-use oc_tree::tree::{Stmt, StmtId, StmtKind};
-use std::alloc::{AllocError, Global};
+use oc_tree::tree::{StmtId, StmtKind};
+use std::alloc::AllocError;
 use std::rc::Rc;
-
-/// These variables, and one more.
-fn with_variable<'a>(
-    alloc: Global,
-    scope: &Scope<'a>,
-    binding: Binding<'a>,
-) -> Result<Rc<Scope<'a>>, AllocError>
-    ensures { IfOk result (λ s. s.value ≡ binding_view binding.entry ∷ scope.now) }
-{
-    let mut more = scope.copy(alloc)?;
-    more.push(binding)?;
-    Ok(Rc::new(alloc, more)?)
-}
-
-/// The variables that are visible behind a statement of this kind, with those that follow it.
-fn grow<'a>(
-    alloc: Global,
-    scope: &Rc<Scope<'a>>,
-    kind: &'a StmtKind,
-    rest: &[Stmt],
-    store: &Store,
-) -> Result<Rc<Scope<'a>>, AllocError>
-    ensures { IfOk result
-        (λ s. s.value
-        ≡ grown (kind_view kind.now) (stmts_view rest.now) scope.now.value store.now) }
-{
-    match kind {
-        StmtKind::Let { name, .. } => {
-            let place = Place::Local {
-                level: store.locals(),
-            };
-            let more = with_variable(
-                alloc,
-                scope,
-                Binding {
-                    name,
-                    place,
-                    reference: false,
-                    fresh: is_annotated(name, rest),
-                },
-            )?;
-            Ok(more)
-        }
-        StmtKind::LetArray { name, .. } => {
-            let place = Place::Local {
-                level: store.locals(),
-            };
-            let more = with_variable(
-                alloc,
-                scope,
-                Binding {
-                    name,
-                    place,
-                    reference: false,
-                    fresh: is_annotated(name, rest),
-                },
-            )?;
-            Ok(more)
-        }
-        _ => {
-            let same = Rc::clone(scope)?;
-            Ok(same)
-        }
-    }
-}
-
-/// What comes behind the work of the statement `n`, which is of this kind: the end of its use, that
-/// of its region, and the statements that follow it.
-fn push_behind<'a>(
-    run: &Running<'a>,
-    inside: Inside<'a>,
-    scope: &Rc<Scope<'a>>,
-    n: StmtId,
-    kind: &'a StmtKind,
-    age: Age,
-    rest: &'a [Stmt],
-    frames: &mut Vec<Frame<'a>>,
-    store: &Store,
-) -> Result<(), AllocError>
-    ensures { OnOk result
-        (frames_view frames.new.items
-        ≡ Done (ends_use (is_fresh scope.now.value) (kind_view kind.now)) n (age_view age)
-        ∷ Close (ended_by (regions_of run.now) n)
-        ∷ Rest (inside_view inside.entry)
-        (grown (kind_view kind.now) (stmts_view rest.now) scope.now.value store.now)
-        (stmts_view rest.now)
-        ∷ frames_view frames.old.items) }
-{
-    let is_use = ends_use(run.alloc, scope, kind)?;
-    let behind = grow(run.alloc, scope, kind, rest, store)?;
-    push_task(
-        behind,
-        Task::Rest {
-            inside,
-            statements: rest,
-        },
-        frames,
-    )?;
-    let region = ended_by(run.regions, n);
-    push_frame(Frame::Close { region }, frames)?;
-    push_frame(
-        Frame::Done {
-            is_use,
-            stmt: n,
-            age,
-        },
-        frames,
-    )?;
-    Ok(())
-}
-
-/// The next statement, with its use, its region and the statements behind it.
-fn push_statement<'a>(
-    run: &Running<'a>,
-    inside: Inside<'a>,
-    scope: Rc<Scope<'a>>,
-    statement: &'a Stmt,
-    rest: &'a [Stmt],
-    frames: &mut Vec<Frame<'a>>,
-    store: &mut Store,
-) -> Result<Completion, AllocError>
-    ensures { IfOk result
-        (λ o. Goes (frames_view frames.new.items) (completion_at o store.new)
-        ≡ rest_here run.now (inside_view inside.entry) scope.entry.value
-        (more (stmt_view statement.now) (stmts_view rest.now)) (frames_view frames.old.items)
-        store.old) }
-{
-    let kind = &statement.kind;
-    let stmt = statement.id;
-    let age = use_age(run.alloc, &scope, store, kind)?;
-    push_behind(run, inside, &scope, stmt, kind, age, rest, frames, store)?;
-    push_task(
-        scope,
-        Task::Use {
-            inside,
-            stmt,
-            age,
-            kind,
-        },
-        frames,
-    )?;
-    store.open_region(begun_by(run.regions, stmt))?;
-    Ok(Completion::Went)
-}
-
-/// The statements that follow in a block.
-fn rest<'a>(
-    run: &Running<'a>,
-    inside: Inside<'a>,
-    scope: Rc<Scope<'a>>,
-    statements: &'a [Stmt],
-    frames: &mut Vec<Frame<'a>>,
-    store: &mut Store,
-) -> Result<Completion, AllocError>
-    ensures { IfOk result
-        (λ o. Goes (frames_view frames.new.items) (completion_at o store.new)
-        ≡ rest_here run.now (inside_view inside.entry) scope.entry.value
-        (stmts_view statements.now) (frames_view frames.old.items) store.old) }
-{
-    match statements.split_first() {
-        None => Ok(Completion::Went),
-        Some((first, others)) => {
-            push_statement(run, inside, scope, first, others, frames, store)
-        }
-    }
-}
 
 /// A turn of a `for`, if one is left.
 #[tactic(auto, using(crate::proofs::Turning::turn_over, crate::proofs::Turning::turn_more))]
@@ -214,9 +45,10 @@ fn turn<'a>(
         store.old) }
 {
     if turns.next < turns.to {
+        let more = scope.copy(run.alloc)?;
         let inner = with_variable(
             run.alloc,
-            &scope,
+            more,
             Binding {
                 name: turns.name,
                 place: Place::Turn { value: turns.next },
@@ -319,21 +151,12 @@ fn use_and_work<'a>(
         (Use (inside_view inside.entry) scope.entry.value n (age_view age) (kind_view kind.now))
         (frames_view frames.old.items) store.old) }
 {
-    let is = begins_use(run.alloc, &scope, kind)?;
-    push_task(
-        scope,
-        Task::Work {
-            inside,
-            stmt: n,
-            kind,
-        },
-        frames,
-    )?;
-    begin_use(is, n, age, store)?;
-    Ok(Completion::Went)
+    let found = use_of(run.alloc, &scope, store, kind)?;
+    begin_work(inside, scope, n, kind, found.begins, age, frames, store)
 }
 
 /// A task with these variables, where what was before it went through.
+#[tactic(auto, using(crate::proofs::Leading::at_once))]
 fn perform<'a>(
     run: &Running<'a>,
     scope: Rc<Scope<'a>>,
@@ -342,16 +165,17 @@ fn perform<'a>(
     store: &mut Store,
 ) -> Result<Going, AllocError>
     ensures { IfOk result
-        (λ s. step_at s (frames_view frames.new.items) store.new
-        ≡ went_here run.now (task_frame scope.entry.value task.entry) (frames_view frames.old.items)
-        store.old) }
+        (λ g. LeadsTo run.now
+        (went_here run.now (task_frame scope.entry.value task.entry) (frames_view frames.old.items)
+        store.old)
+        g (frames_view frames.new.items) store.new) }
 {
     let completion = match task {
         Task::Work { inside, stmt, kind } => {
             return work(run, inside, &scope, stmt, kind, frames, store);
         }
         Task::Rest { inside, statements } => {
-            rest(run, inside, scope, statements, frames, store)?
+            return rest(run, inside, scope, statements, frames, store);
         }
         Task::Use {
             inside,
@@ -368,6 +192,7 @@ fn perform<'a>(
 }
 
 /// A frame, where what was before it went through.
+#[tactic(auto, using(crate::proofs::Leading::at_once))]
 fn go_on<'a>(
     run: &Running<'a>,
     frame: Frame<'a>,
@@ -375,8 +200,9 @@ fn go_on<'a>(
     store: &mut Store,
 ) -> Result<Going, AllocError>
     ensures { IfOk result
-        (λ s. step_at s (frames_view frames.new.items) store.new
-        ≡ went_here run.now (frame_view frame.entry) (frames_view frames.old.items) store.old) }
+        (λ g. LeadsTo run.now
+        (went_here run.now (frame_view frame.entry) (frames_view frames.old.items) store.old)
+        g (frames_view frames.new.items) store.new) }
 {
     match frame {
         Frame::Scoped { scope, task } => perform(run, scope, task, frames, store),
@@ -446,7 +272,9 @@ fn go_back<'a>(
     }
 }
 
-/// One step of a run that came to this, if one is left.
+/// One step of a run that came to this, if one is left, and some that follow it where nothing was
+/// said before them.
+#[tactic(auto, using(crate::proofs::Leading::at_once))]
 pub fn step<'a>(
     run: &Running<'a>,
     completion: Completion,
@@ -454,8 +282,9 @@ pub fn step<'a>(
     store: &mut Store,
 ) -> Result<Option<Going>, AllocError>
     ensures step { IfOk result
-        (λ s. stepped_at s (frames_view frames.new.items) store.new
-        ≡ step_here run.now (frames_view frames.old.items) (completion_at completion store.old)) }
+        (λ s. LeadsOn run.now
+        (step_here run.now (frames_view frames.old.items) (completion_at completion store.old))
+        s (frames_view frames.new.items) store.new) }
     ensures kept { IfOk result
         (λ s. IsKept s (frames_view frames.old.items) store.old (frames_view frames.new.items)
         store.new) }

@@ -1,15 +1,17 @@
 //! Uses of fresh variables.
-ghost use Rattle.std.specs.Prelude.{◌≡◌, IfOk, OnOk};
+ghost use Rattle.std.specs.Prelude.{◌≡◌, true, IfOk, List, OnOk};
 ghost use Rattle.std.specs.List.{list_any};
 ghost use Rattle.oc_tree.specs.Names.{names_seen};
 ghost use Rattle.oc_tree.specs.View.{expr_view, kind_view};
 ghost use Rattle.oc_meaning.specs.Exec.{done, used};
 ghost use Rattle.oc_tree.specs.Named.{expr_names, own_names};
-ghost use Rattle.oc_meaning.specs.Uses.{begins_use, ends_use, is_fresh, is_use};
+ghost use Rattle.oc_meaning.specs.Store.{Binding, Store};
+ghost use Rattle.oc_meaning.specs.Uses.{is_fresh, is_use};
 ghost use Rattle.oc_steps.specs.Ages.{join_ages};
 ghost use Rattle.oc_steps.specs.Sets.{fresh_by, use_by};
 ghost use Rattle.oc_judge.specs.Values.{age_view};
 ghost use Rattle.oc_judge.specs.Fresh.{with_name};
+ghost use Rattle.oc_judge.specs.Statements.{IsUse};
 
 use crate::age::Age;
 use crate::store::Store;
@@ -19,6 +21,14 @@ use oc_tree::named::{expr_names, own_names};
 use oc_tree::said::{Said, Shown};
 use oc_tree::tree::{Expr, StmtId, StmtKind};
 use std::alloc::{AllocError, Global};
+
+/// Whether a statement begins a use and ends one, and the age of the fresh variables that it names.
+#[derive(Clone, Copy)]
+pub struct Use {
+    pub begins: bool,
+    pub ends: bool,
+    pub age: Age,
+}
 
 /// Whether one of these names is that of a fresh variable.
 fn names_fresh(scope: &Scope, names: &[&Name]) -> bool
@@ -73,28 +83,6 @@ fn names_of<'a>(alloc: Global, expr: &'a Expr) -> Result<Vec<&'a Name>, AllocErr
     Ok(names)
 }
 
-/// Whether a statement is a use.
-pub fn is_use(alloc: Global, scope: &Scope, kind: &StmtKind) -> Result<bool, AllocError>
-    ensures { IfOk result (λ b. b ≡ is_use (is_fresh scope.now) (kind_view kind.now)) }
-{
-    let names = names_in(alloc, kind)?;
-    Ok(names_fresh(scope, &names))
-}
-
-/// The age of the fresh variables that a statement names.
-pub fn use_age(
-    alloc: Global,
-    scope: &Scope,
-    store: &Store,
-    kind: &StmtKind,
-) -> Result<Age, AllocError>
-    ensures { IfOk result
-        (λ a. age_view a ≡ use_by join_ages scope.now (kind_view kind.now) store.now) }
-{
-    let names = names_in(alloc, kind)?;
-    Ok(age_of_fresh(scope, store, names))
-}
-
 /// Whether an expression names a fresh variable.
 pub fn expression_is_use(alloc: Global, scope: &Scope, expr: &Expr) -> Result<bool, AllocError>
     ensures { IfOk result
@@ -119,26 +107,51 @@ pub fn expression_age(
     Ok(age_of_fresh(scope, store, names))
 }
 
-/// Whether a statement begins a use before it runs: a `while` begins its uses itself.
-pub fn begins_use(alloc: Global, scope: &Scope, kind: &StmtKind) -> Result<bool, AllocError>
-    ensures { IfOk result (λ b. b ≡ begins_use (is_fresh scope.now) (kind_view kind.now)) }
+/// What a statement that names fresh variables of this age says of a use: a `while` begins and ends
+/// its uses itself, and a `return` ends them itself.
+fn use_with(kind: &StmtKind, age: Age) -> Use
+    ensures { (env : List Binding) (σ : Store) → is_use (is_fresh env) (kind_view kind.now) ≡ true
+        → age_view age ≡ use_by join_ages env (kind_view kind.now) σ
+        → IsUse env (kind_view kind.now) σ result }
 {
     match kind {
-        StmtKind::While { .. } => Ok(false),
-        _ => is_use(alloc, scope, kind),
+        StmtKind::While { .. } => Use {
+            begins: false,
+            ends: false,
+            age,
+        },
+        StmtKind::Return { .. } => Use {
+            begins: true,
+            ends: false,
+            age,
+        },
+        _ => Use {
+            begins: true,
+            ends: true,
+            age,
+        },
     }
 }
 
-/// Whether a statement ends a use where it went through: a `while` and a `return` end their uses
-/// themselves.
-pub fn ends_use(alloc: Global, scope: &Scope, kind: &StmtKind) -> Result<bool, AllocError>
-    ensures { IfOk result (λ b. b ≡ ends_use (is_fresh scope.now) (kind_view kind.now)) }
+/// What a statement says of a use, and the age of the fresh variables that it names.
+pub fn use_of(
+    alloc: Global,
+    scope: &Scope,
+    store: &Store,
+    kind: &StmtKind,
+) -> Result<Use, AllocError>
+    ensures { IfOk result (λ u. IsUse scope.now (kind_view kind.now) store.now u) }
 {
-    match kind {
-        StmtKind::While { .. } => Ok(false),
-        StmtKind::Return { .. } => Ok(false),
-        _ => is_use(alloc, scope, kind),
+    let names = names_in(alloc, kind)?;
+    if !names_fresh(scope, &names) {
+        return Ok(Use {
+            begins: false,
+            ends: false,
+            age: Age::Never,
+        });
     }
+    let age = age_of_fresh(scope, store, names);
+    Ok(use_with(kind, age))
 }
 
 /// Statement `n` begins a use of this age, if it is one.

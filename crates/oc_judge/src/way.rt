@@ -1,6 +1,6 @@
 //! A run under way, and what it does next.
 ghost use Rattle.std.specs.Prelude.{◌≡◌, IfOk};
-ghost use Rattle.oc_steps.specs.Fold.{after_step, at_first, next_of};
+ghost use Rattle.oc_steps.specs.Fold.{after_step, at_first};
 ghost use Rattle.oc_steps.specs.Steps.{Goes};
 ghost use Rattle.oc_judge.specs.Frames.{frames_view};
 ghost use Rattle.oc_judge.specs.Going.{main_here, program_of, regions_of, step_at};
@@ -11,7 +11,7 @@ use crate::age::Age;
 use crate::blocks::begin_call;
 use crate::frames::{Frame, copies};
 use crate::going::Going;
-use crate::passes::pass_turns;
+use crate::passes::{pass_ends, pass_turns};
 use crate::running::Running;
 use crate::step::step;
 use crate::store::{Completion, Event, Store};
@@ -123,15 +123,16 @@ fn find_next(going: Going, way: &mut Way) -> Option<Next>
     }
 }
 
-/// One step of a run, and what the run does next, if that isn't a further step.
-#[tactic(auto, using(crate::proofs::Advancing::same_rest, crate::proofs::Advancing::stands))]
+/// One step of a run, with those behind it that say nothing, and what the run does next, if that
+/// isn't a further step.
 fn advance<'a>(run: &Running<'a>, way: &mut Way<'a>) -> Result<Option<Next>, AllocError>
     ensures next { IfOk result
-        (λ n. advanced n way.new
-        ≡ next_of (program_of run.now) (regions_of run.now) (way_view way.old)) }
+        (λ n. Comes (program_of run.now) (regions_of run.now) (way_view way.old)
+        (advanced n way.new)) }
     ensures kept { IfOk result (λ n. KeepsRest (way_view way.old) (way_view way.new)) }
 {
-    match step(run, way.completion, &mut way.frames, &mut way.store)? {
+    let stepped = step(run, way.completion, &mut way.frames, &mut way.store)?;
+    match stepped {
         None => Ok(Some(Next::Stands)),
         Some(going) => {
             let next = find_next(going, way);
@@ -141,7 +142,7 @@ fn advance<'a>(run: &Running<'a>, way: &mut Way<'a>) -> Result<Option<Next>, All
 }
 
 /// What a run does next, behind all steps that say nothing.
-#[tactic(auto, using(crate::proofs::Skips::reaches_then, crate::proofs::Skips::goes, crate::proofs::Skips::comes, crate::proofs::Skips::stays))]
+#[tactic(auto, using(crate::proofs::Skips::reaches_then, crate::proofs::Skips::goes_then, crate::proofs::Skips::stays))]
 pub fn go<'a>(run: &Running<'a>, way: &mut Way<'a>) -> Result<Next, AllocError>
     ensures next { IfOk result
         (λ n. Comes (program_of run.now) (regions_of run.now) (way_view way.old)
@@ -149,6 +150,7 @@ pub fn go<'a>(run: &Running<'a>, way: &mut Way<'a>) -> Result<Next, AllocError>
     ensures kept { IfOk result (λ n. KeepsRest (way_view way.old) (way_view way.new)) }
 {
     for _step in 0..u64::MAX {
+        pass_ends(way);
         pass_turns(run, way)?;
         if let Some(next) = advance(run, way)? {
             return Ok(next);

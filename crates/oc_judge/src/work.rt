@@ -1,5 +1,5 @@
 //! A statement's own work.
-ghost use Rattle.std.specs.Prelude.{◌≡◌, [], ◌∷◌, ◌-ℤ◌, IfOk, List, OnOk};
+ghost use Rattle.std.specs.Prelude.{◌≡◌, [], ◌∷◌, ◌-ℤ◌, IfOk, IfSome, List, OnOk};
 ghost use Rattle.oc_tree.specs.Tree.{consistent, emit, if_else, return};
 ghost use Rattle.oc_tree.specs.View.{block_view, else_view, expr_view, kind_view, right_view};
 ghost use Rattle.oc_tree.specs.Weight.{count_of};
@@ -11,6 +11,7 @@ ghost use Rattle.oc_steps.specs.Steps.{Goes, Loop, Take, Turns, on_value};
 ghost use Rattle.oc_steps.specs.Steps as steps;
 ghost use Rattle.oc_judge.specs.Frames.{frames_view, inside_view};
 ghost use Rattle.oc_judge.specs.Going.{right_here, step_at, taken_here, work_here};
+ghost use Rattle.oc_judge.specs.Leading.{HasValue, IsWorked, Takes, TakesRight};
 ghost use Rattle.oc_judge.specs.Stores.{completion_at};
 ghost use Rattle.oc_judge.specs.Values.{value_view};
 
@@ -153,6 +154,70 @@ pub fn take(
             }
         },
         _ => Ok(Completion::Went),
+    }
+}
+
+/// The right side whose value a statement takes, where it has one.
+fn right_of(kind: &StmtKind) -> Option<&Right>
+    ensures { IfSome result (λ r. TakesRight (kind_view kind.now) (right_view r.now)) }
+{
+    match kind {
+        StmtKind::Let { right, .. } => Some(right),
+        StmtKind::Assign { right, .. } => Some(right),
+        StmtKind::AssignDeref { right, .. } => Some(right),
+        StmtKind::AssignIndex { right, .. } => Some(right),
+        _ => None,
+    }
+}
+
+/// The value of a right side that asks and calls nothing, where it has one.
+fn right_value(scope: &Scope, store: &Store, side: &Right) -> Option<Value>
+    ensures { IfSome result
+        (λ v. HasValue scope.now store.now (right_view side.now) (value_view v)) }
+{
+    match side {
+        Right::Value { value } => match value_of(scope, store, value) {
+            Got::Value { value: found } => Some(found),
+            Got::Traps { .. } => None,
+        },
+        _ => None,
+    }
+}
+
+/// The value that a statement takes, where it asks and calls nothing for it.
+fn find_value(scope: &Scope, store: &Store, kind: &StmtKind) -> Option<Value>
+    ensures { IfSome result (λ v. Takes scope.now store.now (kind_view kind.now) (value_view v)) }
+{
+    match right_of(kind) {
+        Some(side) => right_value(scope, store, side),
+        None => None,
+    }
+}
+
+/// The whole work of the statement `n`, which is of this kind, where it takes a value for which
+/// nothing is asked and called, or does nothing.
+#[tactic(auto, using(crate::proofs::Leading::at_once))]
+pub fn work_at_once(
+    run: &Running,
+    scope: &Scope,
+    n: StmtId,
+    kind: &StmtKind,
+    store: &mut Store,
+) -> Result<Option<Completion>, AllocError>
+    requires { store.old.events ≡ [] }
+    ensures { IfOk result
+        (λ o. (f : steps.Inside) (fs : List steps.Frame)
+        → IsWorked run.now f scope.now n (kind_view kind.now) fs store.old o store.new) }
+{
+    match find_value(scope, store, kind) {
+        Some(value) => {
+            let completion = take(run, scope, n, kind, value, store)?;
+            Ok(Some(completion))
+        }
+        None => match kind {
+            StmtKind::Fresh { .. } => Ok(Some(Completion::Went)),
+            _ => Ok(None),
+        },
     }
 }
 

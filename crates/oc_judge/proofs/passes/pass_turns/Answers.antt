@@ -1,4 +1,4 @@
-use Rattle.std.proofs.Common.{rules, ◌≡◌, sym, ap, subst}
+use Rattle.std.proofs.Common.{rules, sym, ap, subst}
 use Rattle.oc_judge.specs.Frames.{frames_view}
 use Rattle.oc_judge.specs.Going.{program_of, regions_of}
 use Rattle.oc_judge.specs.Passes.{HasTurns, Reaches}

@@ -20,10 +20,6 @@ abbrev pub step_at : Going → List Frame → Store → Step
 step_at (goings.Goes o) fs σ = Goes fs (completion_at o σ)
 step_at (goings.Asks s) fs σ = Asks s fs σ
 
-abbrev pub stepped_at : Option Going → List Frame → Store → Step
-stepped_at None fs σ = Over
-stepped_at (Some g) fs σ = step_at g fs σ
-
 -- where no step is left, nothing was done
 abbrev pub IsKept : Option Going → List Frame → Store → List Frame → Store → Type 0
 IsKept None fs σ fs' σ' = (fs' ≡ fs) × (σ' ≡ σ)

@@ -13,6 +13,7 @@ mod frames;
 mod going;
 mod held;
 pub mod judge;
+mod naming;
 mod notes;
 mod passes;
 mod running;

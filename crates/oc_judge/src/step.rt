@@ -18,11 +18,12 @@ use crate::blocks::begin;
 use crate::eval::{is_zero, value_of};
 use crate::frames::{ForTurns, Frame, Inside, Task, WhileTurns, push_task};
 use crate::going::Going;
+use crate::naming::expression_is_use;
 use crate::running::Running;
 use crate::scopes::with_variable;
 use crate::statement::{begin_work, rest};
 use crate::store::{Completion, Store};
-use crate::uses::{begin_use, end_use, expression_age, expression_is_use, use_of};
+use crate::uses::{begin_use, end_use, expression_age, use_of};
 use crate::work::{take, work};
 use oc_meaning::place::Place;
 use oc_meaning::scope::{Binding, Scope};
@@ -77,7 +78,7 @@ fn end_while(
         (list_any (is_fresh scope.now) (expr_names (expr_view turns.entry.condition.now)))
         turns.entry.stmt (age_view turns.entry.age) store.old)) }
 {
-    let is = expression_is_use(run.alloc, scope, turns.condition)?;
+    let is = expression_is_use(scope, turns.condition);
     end_use(is, turns.stmt, turns.age, store)?;
     Ok(Completion::Went)
 }
@@ -98,7 +99,7 @@ fn turn_while<'a>(
     if turns.left == 0 {
         return end_while(run, &scope, turns, store);
     }
-    let is = expression_is_use(run.alloc, &scope, turns.condition)?;
+    let is = expression_is_use(&scope, turns.condition);
     let now = expression_age(run.alloc, &scope, store, turns.condition)?;
     let mut behind = turns;
     behind.left -= 1;

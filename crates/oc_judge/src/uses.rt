@@ -1,6 +1,5 @@
 //! Uses of fresh variables.
 ghost use Rattle.std.specs.Prelude.{◌≡◌, true, IfOk, List, OnOk};
-ghost use Rattle.std.specs.List.{list_any};
 ghost use Rattle.oc_tree.specs.Names.{names_seen};
 ghost use Rattle.oc_tree.specs.View.{expr_view, kind_view};
 ghost use Rattle.oc_meaning.specs.Exec.{done, used};
@@ -14,6 +13,7 @@ ghost use Rattle.oc_judge.specs.Fresh.{with_name};
 ghost use Rattle.oc_judge.specs.Statements.{IsUse};
 
 use crate::age::Age;
+use crate::naming::is_use;
 use crate::store::Store;
 use oc_meaning::scope::Scope;
 use oc_tree::name::Name;
@@ -28,18 +28,6 @@ pub struct Use {
     pub begins: bool,
     pub ends: bool,
     pub age: Age,
-}
-
-/// Whether one of these names is that of a fresh variable.
-fn names_fresh(scope: &Scope, names: &[&Name]) -> bool
-    ensures { result ≡ list_any (is_fresh scope.now) (names_seen names.now) }
-{
-    for name in names {
-        if scope.is_fresh(name) {
-            return true;
-        }
-    }
-    false
 }
 
 /// This age, joined with that of the variable of a name that is one of a fresh variable.
@@ -81,15 +69,6 @@ fn names_of<'a>(alloc: Global, expr: &'a Expr) -> Result<Vec<&'a Name>, AllocErr
     let mut names = Vec::new(alloc);
     expr_names(expr, &mut names)?;
     Ok(names)
-}
-
-/// Whether an expression names a fresh variable.
-pub fn expression_is_use(alloc: Global, scope: &Scope, expr: &Expr) -> Result<bool, AllocError>
-    ensures { IfOk result
-        (λ b. b ≡ list_any (is_fresh scope.now) (expr_names (expr_view expr.now))) }
-{
-    let names = names_of(alloc, expr)?;
-    Ok(names_fresh(scope, &names))
 }
 
 /// The age of the fresh variables that an expression names.
@@ -142,14 +121,14 @@ pub fn use_of(
 ) -> Result<Use, AllocError>
     ensures { IfOk result (λ u. IsUse scope.now (kind_view kind.now) store.now u) }
 {
-    let names = names_in(alloc, kind)?;
-    if !names_fresh(scope, &names) {
+    if !is_use(scope, kind) {
         return Ok(Use {
             begins: false,
             ends: false,
             age: Age::Never,
         });
     }
+    let names = names_in(alloc, kind)?;
     let age = age_of_fresh(scope, store, names);
     Ok(use_with(kind, age))
 }

@@ -21,9 +21,10 @@ use crate::eval::{is_zero, value_of};
 use crate::frames::{ForTurns, Frame, Inside, Task, WhileTurns, push_frame, push_task};
 use crate::going::Going;
 use crate::held::Held;
+use crate::naming::expression_is_use;
 use crate::running::Running;
 use crate::store::{Completion, Store};
-use crate::uses::{end_use, expression_age, expression_is_use};
+use crate::uses::{end_use, expression_age};
 use oc_meaning::homes::set_home;
 use oc_meaning::names::number_in;
 use oc_meaning::regions::ended_by;
@@ -329,7 +330,7 @@ fn give_back<'a>(
                 },
                 frames,
             )?;
-            let is = expression_is_use(run.alloc, scope, value)?;
+            let is = expression_is_use(scope, value);
             let age = expression_age(run.alloc, scope, store, value)?;
             end_use(is, n, age, store)?;
             Ok(Completion::Went)

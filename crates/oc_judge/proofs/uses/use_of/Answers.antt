@@ -9,8 +9,8 @@ use Rattle.oc_judge.specs.Values.{age_view}
 use Rattle.oc_judge.proofs.FreshLaws.{is_none}
 use Rattle.oc_judge.proofs.uses.use_of.Goals as goal
 
-pub returns-then-not-names_fresh : goal.returns-then-not-names_fresh
-returns-then-not-names_fresh c =
+pub returns-then-not-is_use : goal.returns-then-not-is_use
+returns-then-not-is_use c =
     let env = c.args.scope.now in
     let k = kind_view c.args.kind.now in
     let none : list_any (is_fresh env) (own_names k) ≡ false = search rules in

@@ -1,5 +1,5 @@
 -- What one step says, and what stands where it says nothing.
-use Rattle.std.proofs.Common.{◌≡◌, suc, false, List, [], ◌∷◌, length, Some, None, refl, sym, ap, ◌∙◌}
+use Rattle.std.proofs.Common.{◌≡◌, suc, false, List, [], ◌∷◌, length, Some, refl, sym, ap, ◌∙◌}
 use Rattle.std.specs.Prelude.{codes}
 use Rattle.oc_tree.specs.Tree.{TProgram}
 use Rattle.oc_tree.specs.Marked.{TRegion}
@@ -34,22 +34,27 @@ cleared_at completions.Went σ = refl
 cleared_at (completions.Returned v) σ = refl
 cleared_at completions.Trapped σ = refl
 
--- something was told
-pub says_it : (w : Way) (fs : List Frame) (c : Completion) (σ τ : Store) (e : Event) → told (Some e) ≡ σ.events → τ ≡ record σ { events = [] }
-    → Says (event_view e) (record w { frames = fs; out = completion_at c τ }) ≡ told_by w fs (completion_at c σ) (events_in (completion_at c σ))
-says_it w fs c σ τ e t s =
-    ap (λ (o : Outcome). Says (event_view e) (record w { frames = fs; out = o })) (ap (completion_at c) s ∙ sym (cleared_at c σ))
-    ∙ ap (told_by w fs (completion_at c σ)) (t ∙ sym (events_at c σ))
+-- whatever stood before
+pub told_same : (w : Way) (gs fs : List Frame) (u o : Outcome) (es : List meant.Event) → told_by (record w { frames = gs; out = u }) fs o es ≡ told_by w fs o es
+told_same w gs fs u o [] = refl
+told_same w gs fs u o (e ∷ es) = refl
 
-same_store : (σ : Store) → [] ≡ σ.events → record σ { events = [] } ≡ σ
-same_store σ e = ap (λ es. record σ { events = es }) e
+-- something may have been told
+pub says_ahead : (w : Way) (fs : List Frame) (c : Completion) (σ : Store)
+    → told_by (record w { frames = fs; out = completion_at c σ }) fs (completion_at c σ) σ.events ≡ told_by w fs (completion_at c σ) (events_in (completion_at c σ))
+says_ahead w fs c σ = told_same w fs fs (completion_at c σ) (completion_at c σ) σ.events ∙ ap (told_by w fs (completion_at c σ)) (sym (events_at c σ))
 
 -- nothing was
-pub goes_on : (w : Way) (fs : List Frame) (c : Completion) (σ τ : Store) → told None ≡ σ.events → τ ≡ record σ { events = [] }
-    → Went_on (record w { frames = fs; out = completion_at c τ }) ≡ told_by w fs (completion_at c σ) (events_in (completion_at c σ))
-goes_on w fs c σ τ t s =
-    ap (λ (o : Outcome). Went_on (record w { frames = fs; out = o })) (ap (completion_at c) (s ∙ same_store σ t))
-    ∙ ap (told_by w fs (completion_at c σ)) (t ∙ sym (events_at c σ))
+pub goes_ahead : (w : Way) (fs : List Frame) (c : Completion) (σ : Store) → σ.events ≡ []
+    → Went_on (record w { frames = fs; out = completion_at c σ }) ≡ told_by w fs (completion_at c σ) (events_in (completion_at c σ))
+goes_ahead w fs c σ h = ap (told_by w fs (completion_at c σ)) (sym (events_at c σ ∙ h))
+
+-- it is taken
+pub told_ahead : (w : Way) (fs : List Frame) (c : Completion) (σ τ : Store) (e : Event) → told (Some e) ≡ σ.events → τ ≡ record σ { events = [] }
+    → Says (event_view e) (record w { frames = fs; out = completion_at c τ }) ≡ told_by (record w { frames = fs; out = completion_at c σ }) fs (completion_at c σ) σ.events
+told_ahead w fs c σ τ e t s =
+    ap (λ (o : Outcome). Says (event_view e) (record w { frames = fs; out = o })) (ap (completion_at c) s ∙ sym (cleared_at c σ))
+    ∙ ap (told_by (record w { frames = fs; out = completion_at c σ }) fs (completion_at c σ)) t
 
 -- the first frames
 pub starts : (p : TProgram) (rs : List TRegion) (fs : List Frame) (o : Outcome) → Goes fs o ≡ main_from p rs → record { frames = fs; out = o; sets = []; inside = false; over = false } ≡ at_first p rs

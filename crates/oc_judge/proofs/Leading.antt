@@ -14,7 +14,7 @@ use Rattle.oc_judge.specs.Leading.{Leads, on, one_on, silent}
 use Rattle.oc_judge.specs.Ways.{Comes, KeepsRest}
 use Rattle.oc_judge.specs.declared.going.Going.{Going}
 use Rattle.oc_judge.specs.declared.going.Going.TheVariants as goings
-use Rattle.oc_judge.proofs.Advancing.{same_rest}
+use Rattle.oc_judge.proofs.Advancing.{same_rest, told_same}
 
 abbrev further : ℕ → ℕ → ℕ
 further zero m = m
@@ -87,10 +87,6 @@ module _ (p : TProgram) (rs : List TRegion) where
   is_on Over i = i
 
   module _ (w : Way) where
-    told_same : (fs gs : List Frame) (o u : Outcome) (es : List Event) → told_by (record w { frames = fs; out = o }) gs u es ≡ told_by w gs u es
-    told_same fs gs o u [] = refl
-    told_same fs gs o u (e ∷ es) = refl
-
     one_more : (s : Step) → Comes p rs w (after_step w s) → IsOn (one_on p rs s) → Comes p rs w (after_step w (one_on p rs s))
     one_more (Asks s fs σ) h i = h
     one_more Over h i = h
@@ -102,7 +98,7 @@ module _ (p : TProgram) (rs : List TRegion) where
         by [] Over q r j = absurd j
         by [] (Goes gs u) q r j = record {
           steps = suc h.steps;
-          is = ap (then_next p rs) (h.is ∙ ap (told_by w fs o) q) ∙ ap (after_step (record w { frames = fs; out = o })) r ∙ told_same fs gs o u (events_in u);
+          is = ap (then_next p rs) (h.is ∙ ap (told_by w fs o) q) ∙ ap (after_step (record w { frames = fs; out = o })) r ∙ told_same w fs gs o u (events_in u);
         }
         by [] (Asks s gs τ) q r j = record {
           steps = suc h.steps;

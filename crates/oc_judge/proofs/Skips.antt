@@ -1,5 +1,5 @@
 -- All turns of a `for` with an empty body, one after the other.
-use Rattle.std.proofs.Common.{◌≡◌, refl, sym, ap, ◌∙◌, subst, ℕ, zero, suc, ◌-◌, ◌<◌, ℤ, pos, negsuc, ◌+ℤ◌, ◌-ℤ◌, ◌≤ℤ◌, true, List, [], ◌∷◌, ◌++◌, Option, Some, None, map, reverse, length, drop, arith}
+use Rattle.std.proofs.Common.{◌≡◌, refl, sym, ap, ◌∙◌, subst, ℕ, zero, suc, ◌-◌, ◌<◌, ℤ, pos, negsuc, ◌+ℤ◌, ◌-ℤ◌, ◌≤ℤ◌, true, List, [], ◌∷◌, ◌++◌, map, reverse, length, drop, arith}
 use Rattle.std.specs.Prelude.{int_lt, unsigned_abs}
 use Rattle.std.proofs.lemmas.Int.{ints}
 use Rattle.std.proofs.lemmas.List.{map-append, reverse-append}
@@ -16,9 +16,7 @@ use Rattle.oc_steps.specs.Steps.{Frame, Goes, Inside, Turns, step}
 use Rattle.oc_steps.specs.Fold.{Way, Next, Went_on, after_step, steps_on, next_of, then_next, told_by}
 use Rattle.oc_judge.specs.Frames.{for_frame, frame_view, frames_view, inside_view}
 use Rattle.oc_judge.specs.Passes.{more_times, HasTurns, Reaches}
-use Rattle.oc_judge.specs.Ways.{Comes, KeepsRest, advanced, way_view}
-use Rattle.oc_judge.specs.declared.way.Next as nexts
-use Rattle.oc_judge.specs.declared.way.Way as ways
+use Rattle.oc_judge.specs.Ways.{Comes, KeepsRest}
 use Rattle.oc_judge.specs.declared.frames.ForTurns.{ForTurns}
 use Rattle.oc_judge.specs.declared.frames.Frame as frames
 
@@ -85,11 +83,6 @@ module _ (p : TProgram) (rs : List TRegion) where
   -- or after which it says or wants something
   pub comes_then : (u v : Way) (next : Next) → Reaches p rs u v → Comes p rs v next → Comes p rs u next
   comes_then u v next a b = record { steps = further b.steps a.steps; is = further_on b.steps a.steps u v a.is ∙ b.is }
-
-  -- it only went on
-  pub not_said : (u : Way) (o : Option nexts.Next) (v : ways.Way) → ((n : nexts.Next) → o ≡ Some n → ⊥) → Comes p rs u (advanced o v) → Comes p rs u (Went_on (way_view v))
-  not_said u None v h c = c
-  not_said u (Some n) v h c = absurd (h n refl)
 
   -- one step more, after which it says or wants something
   pub comes : (u v : Way) (next : Next) → Reaches p rs u v → next ≡ next_of p rs v → Comes p rs u next

@@ -1,12 +1,14 @@
 -- A run under way in the terms of the definition.
-use Rattle.std.specs.Prelude.{◌≡◌, ℕ, List, map, Option, Some, None}
+use Rattle.std.specs.Prelude.{◌≡◌, ℕ, List, map}
 use Rattle.oc_tree.specs.Tree.{TProgram}
 use Rattle.oc_tree.specs.Marked.{TRegion}
 use Rattle.oc_steps.specs.Fold as fold
-use Rattle.oc_steps.specs.Fold.{steps_on}
+use Rattle.oc_steps.specs.Fold.{steps_on, told_by}
 use Rattle.oc_judge.specs.Values.{age_view}
 use Rattle.oc_judge.specs.Stores.{completion_at, event_view}
 use Rattle.oc_judge.specs.Frames.{frames_view}
+use Rattle.oc_judge.specs.declared.way.Ahead.{Ahead}
+use Rattle.oc_judge.specs.declared.way.Ahead.TheVariants as aheads
 use Rattle.oc_judge.specs.declared.way.Instance.{Instance}
 use Rattle.oc_judge.specs.declared.way.Way.{Way}
 use Rattle.oc_judge.specs.declared.way.Next.{Next}
@@ -34,10 +36,14 @@ next_view (nexts.Says e) w = fold.Says (event_view e) (way_view w)
 next_view (nexts.Wants s) w = fold.Wants s (frames_view w.frames.items) w.store
 next_view nexts.Stands w = fold.Stands (way_view w)
 
--- the same, or that it only went on
-abbrev pub advanced : Option Next → Way → fold.Next
-advanced None w = fold.Went_on (way_view w)
-advanced (Some n) w = next_view n w
+-- what a run has come to, where its store has what it says
+abbrev pub ahead_view : Ahead → Way → fold.Next
+ahead_view aheads.On w = fold.Went_on (way_view w)
+ahead_view aheads.Says w =
+    told_by (way_view w) (frames_view w.frames.items) (completion_at w.completion w.store)
+    w.store.events
+ahead_view (aheads.Wants s) w = fold.Wants s (frames_view w.frames.items) w.store
+ahead_view aheads.Stands w = fold.Stands (way_view w)
 
 -- what a step leaves of a run
 pub record KeepsRest (before now : fold.Way) : Type 0 where

@@ -1,11 +1,12 @@
 //! A run under way, and what it does next.
-ghost use Rattle.std.specs.Prelude.{◌≡◌, IfOk};
+ghost use Rattle.std.specs.Prelude.{◌≡◌, true, IfOk};
 ghost use Rattle.oc_steps.specs.Fold.{after_step, at_first};
 ghost use Rattle.oc_steps.specs.Steps.{Goes};
 ghost use Rattle.oc_judge.specs.Frames.{frames_view};
 ghost use Rattle.oc_judge.specs.Going.{main_here, program_of, regions_of, step_at};
 ghost use Rattle.oc_judge.specs.Stores.{completion_at};
-ghost use Rattle.oc_judge.specs.Ways.{Comes, KeepsRest, advanced, next_view, way_view};
+ghost use Rattle.oc_judge.specs.Ways.{Comes, KeepsRest, ahead_view, next_view, way_view};
+ghost use Rattle.oc_judge.specs.declared.way.Ahead.TheVariants.{On};
 
 use crate::age::Age;
 use crate::blocks::begin_call;
@@ -103,46 +104,85 @@ pub fn first_way<'a>(run: &Running<'a>) -> Result<Way<'a>, AllocError>
     })
 }
 
-/// What a run does next that came to this, if that isn't a further step.
-#[tactic(auto, using(crate::proofs::Advancing::says_it, crate::proofs::Advancing::goes_on))]
-fn find_next(going: Going, way: &mut Way) -> Option<Next>
-    ensures next { advanced result way.new
+/// What a run has come to: it only went on, or it does this next.
+#[derive(Clone, Copy)]
+pub enum Ahead {
+    /// It went on.
+    On,
+    /// It says something, which its store has.
+    Says,
+    /// It asks this sensor for a sample.
+    Wants { sensor: u8 },
+    /// It is at its end.
+    Stands,
+}
+
+/// What a run has come to that came to this by a step.
+#[tactic(auto, using(crate::proofs::Advancing::says_ahead, crate::proofs::Advancing::goes_ahead))]
+fn find_ahead(going: Going, way: &mut Way) -> Ahead
+    ensures next { ahead_view result way.new
         ≡ after_step (way_view way.old)
         (step_at going (frames_view way.old.frames.items) way.old.store) }
     ensures kept { KeepsRest (way_view way.old) (way_view way.new) }
 {
     match going {
-        Going::Asks { sensor } => Some(Next::Wants { sensor }),
+        Going::Asks { sensor } => Ahead::Wants { sensor },
         Going::Goes { completion } => {
             way.completion = completion;
-            match way.store.take_event() {
-                Some(event) => Some(Next::Says { event }),
-                None => None,
+            if way.store.has_event() {
+                return Ahead::Says;
             }
+            Ahead::On
         }
     }
 }
 
-/// One step of a run, with those behind it that say nothing, and what the run does next, if that
-/// isn't a further step.
-fn advance<'a>(run: &Running<'a>, way: &mut Way<'a>) -> Result<Option<Next>, AllocError>
+/// One step of a run, with those behind it that say nothing, and what the run has come to.
+fn advance<'a>(run: &Running<'a>, way: &mut Way<'a>) -> Result<Ahead, AllocError>
     ensures next { IfOk result
-        (λ n. Comes (program_of run.now) (regions_of run.now) (way_view way.old)
-        (advanced n way.new)) }
-    ensures kept { IfOk result (λ n. KeepsRest (way_view way.old) (way_view way.new)) }
+        (λ a. Comes (program_of run.now) (regions_of run.now) (way_view way.old)
+        (ahead_view a way.new)) }
+    ensures kept { IfOk result (λ a. KeepsRest (way_view way.old) (way_view way.new)) }
 {
     let stepped = step(run, way.completion, &mut way.frames, &mut way.store)?;
     match stepped {
-        None => Ok(Some(Next::Stands)),
+        None => Ok(Ahead::Stands),
         Some(going) => {
-            let next = find_next(going, way);
-            Ok(next)
+            let ahead = find_ahead(going, way);
+            Ok(ahead)
         }
+    }
+}
+
+/// Whether a run only went on.
+fn is_on(ahead: Ahead) -> bool
+    ensures { result ≡ true → ahead ≡ On }
+{
+    match ahead {
+        Ahead::On => true,
+        _ => false,
+    }
+}
+
+/// What a run does next that has come to this. Err is that it only went on.
+#[tactic(auto, using(crate::proofs::Advancing::told_ahead))]
+fn take_next(ahead: Ahead, way: &mut Way) -> Result<Next, AllocError>
+    ensures next { IfOk result (λ n. next_view n way.new ≡ ahead_view ahead way.old) }
+    ensures kept { IfOk result (λ n. KeepsRest (way_view way.old) (way_view way.new)) }
+{
+    match ahead {
+        Ahead::Wants { sensor } => Ok(Next::Wants { sensor }),
+        Ahead::Stands => Ok(Next::Stands),
+        Ahead::Says => match way.store.take_event() {
+            Some(event) => Ok(Next::Says { event }),
+            None => Err(AllocError),
+        },
+        Ahead::On => Err(AllocError),
     }
 }
 
 /// What a run does next, behind all steps that say nothing.
-#[tactic(auto, using(crate::proofs::Skips::reaches_then, crate::proofs::Skips::goes_then, crate::proofs::Skips::stays))]
+#[tactic(auto, using(crate::proofs::Skips::stays))]
 pub fn go<'a>(run: &Running<'a>, way: &mut Way<'a>) -> Result<Next, AllocError>
     ensures next { IfOk result
         (λ n. Comes (program_of run.now) (regions_of run.now) (way_view way.old)
@@ -152,7 +192,9 @@ pub fn go<'a>(run: &Running<'a>, way: &mut Way<'a>) -> Result<Next, AllocError>
     for _step in 0..u64::MAX {
         pass_ends(way);
         pass_turns(run, way)?;
-        if let Some(next) = advance(run, way)? {
+        let ahead = advance(run, way)?;
+        if !is_on(ahead) {
+            let next = take_next(ahead, way)?;
             return Ok(next);
         }
     }

@@ -4,7 +4,7 @@ use Rattle.oc_judge.specs.Frames.{frames_view}
 use Rattle.oc_judge.specs.Going.{IsKept, program_of, regions_of, step_here}
 use Rattle.oc_judge.specs.Leading.{LeadsOn}
 use Rattle.oc_judge.specs.Stores.{completion_at}
-use Rattle.oc_judge.specs.Ways.{advanced, way_view}
+use Rattle.oc_judge.specs.Ways.{ahead_view, way_view}
 use Rattle.oc_judge.proofs.Advancing.{stands}
 use Rattle.oc_judge.proofs.Leading.{goes_far}
 use Rattle.oc_judge.proofs.Skips.{comes, stays}
@@ -29,5 +29,5 @@ returns-in-Some-clause-next c =
     let w = way_view c.args.way.now in
     let fs = frames_view c.step.new.frames.items in
     let σ = c.step.new.store in
-    goes_far (program_of r) (regions_of r) w (record w { frames = fs; out = completion_at c.args.way.now.completion σ }) (advanced c.find_next-next.result c.find_next-next.new.way) c.in-Some.going fs σ
-    (record { sets = refl; inside = refl; over = refl }) (subst (λ q. LeadsOn r (step_here r w.frames w.out) q fs σ) c.in-Some.is c.in_ok-stepped.ensures.step) c.find_next-next.ensures.next
+    goes_far (program_of r) (regions_of r) w (record w { frames = fs; out = completion_at c.args.way.now.completion σ }) (ahead_view c.find_ahead-ahead.result c.find_ahead-ahead.new.way) c.in-Some.going fs σ
+    (record { sets = refl; inside = refl; over = refl }) (subst (λ q. LeadsOn r (step_here r w.frames w.out) q fs σ) c.in-Some.is c.in_ok-stepped.ensures.step) c.find_ahead-ahead.ensures.next

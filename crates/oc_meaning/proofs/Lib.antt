@@ -8,3 +8,4 @@ pub mod Parts
 pub mod Passings
 pub mod Turns
 pub mod Visible
+mod Firsts

@@ -48,13 +48,13 @@ impl<'a> Scope<'a> {
         }
     }
 
-    /// The same variables.
+    /// The same variables. There is room for one more, for which most copies are made.
     pub fn copy(&self, alloc: Global) -> Result<Scope<'a>, AllocError>
         ensures { IfOk result (λ s. s ≡ self.now) }
     {
-        Ok(Scope {
-            bindings: Vec::from_slice(alloc, &self.bindings)?,
-        })
+        let mut bindings = Vec::with_capacity(alloc, self.bindings.len().saturating_add(1))?;
+        bindings.extend_from_slice(&self.bindings)?;
+        Ok(Scope { bindings })
     }
 
     /// How many variables are visible, with those that others hide.

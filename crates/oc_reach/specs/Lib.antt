@@ -1,5 +1,4 @@
 pub mod Marked
 pub mod Within
 pub mod Views
-pub mod Few
 pub mod Through

@@ -1,23 +1,20 @@
-//! Which functions call which, and which of them name a nonvolatile variable.
+//! Which functions call which.
 ghost use Rattle.std.specs.Prelude.{◌≡◌, ◌<◌, ◌++◌, ℕ, List, false, Some, map, length, OnOk, IfOk, IfSome};
-ghost use Rattle.std.specs.List.{list_any};
 ghost use Rattle.std.proofs.Math.ListN.{get_or};
 ghost use Rattle.oc_tree.specs.declared.tree.Function.{Function};
 ghost use Rattle.oc_tree.specs.View.{function_view};
 ghost use Rattle.oc_tree.specs.declared.tree.Param.{Param};
-ghost use Rattle.oc_tree.specs.Mentions.{is_named};
 ghost use Rattle.oc_tree.specs.Reach.{reaches, reaches_some};
-ghost use Rattle.oc_tree.specs.Calls.{block_kinds, call_links, called_places, function_mentions, function_names, function_place, has_param, links_from, reaches_mention};
+ghost use Rattle.oc_tree.specs.Calls.{call_links, called_places, function_names, function_place, has_param, links_from};
 ghost use Rattle.oc_reach.specs.Marked.{is_in};
-ghost use Rattle.oc_reach.specs.Views.{calls_seen, kinds_seen};
+ghost use Rattle.oc_reach.specs.Views.{calls_seen};
 
 use crate::marks::Marks;
-use crate::mentions::own_names;
-use crate::parts::{body_calls, function_kinds};
+use crate::parts::body_calls;
 use crate::reach::Reach;
 use oc_names::table::{Table, function_table};
 use oc_tree::name::Name;
-use oc_tree::tree::{Call, Function, Param, StmtKind};
+use oc_tree::tree::{Call, Function, Param};
 use std::alloc::{AllocError, Global};
 use std::marker::Model;
 
@@ -77,47 +74,6 @@ pub fn has_param(params: &[Param], name: &Name) -> bool
         }
     }
     false
-}
-
-/// Whether the name stands in one of these statements itself.
-fn some_names(kinds: &[&StmtKind], name: &Name) -> bool
-    ensures { result ≡ list_any (is_named name.now) (kinds_seen kinds.now) }
-{
-    for kind in kinds {
-        if own_names(*kind, name) {
-            return true;
-        }
-    }
-    false
-}
-
-/// Whether a function names this nonvolatile variable where none of its own hides it. Err is want
-/// of memory.
-fn function_mentions(alloc: Global, function: &Function, name: &Name) -> Result<bool, AllocError>
-    ensures { IfOk result (λ b. b ≡ function_mentions name.now (function_view function.now)) }
-{
-    if has_param(function.params.as_slice(), name) {
-        return Ok(false);
-    }
-    let kinds = function_kinds(alloc, function, Some(name))?;
-    Ok(some_names(kinds.as_slice(), name))
-}
-
-/// Of each function, whether it names this nonvolatile variable. Err is want of memory.
-fn mention_tests(
-    alloc: Global,
-    functions: &[Function],
-    name: &Name,
-) -> Result<Vec<bool>, AllocError>
-    ensures { IfOk result
-        (λ t. t.items ≡ map (function_mentions name.now) (map function_view functions.now)) }
-{
-    let mut tests = Vec::new(alloc);
-    for function in functions {
-        let test = function_mentions(alloc, function, name)?;
-        tests.push(test)?;
-    }
-    Ok(tests)
 }
 
 /// The functions of a program, which contracts see as their list, with their calls.
@@ -192,16 +148,5 @@ impl<'a> Calls<'a> {
             (λ v. get_or tests.now v false) u) }
     {
         self.reach.back_from(alloc, tests)
-    }
-
-    /// Marks the functions that name a nonvolatile variable, and those that call one, directly or
-    /// through others.
-    pub fn mentioning(&self, alloc: Global, name: &Name) -> Result<Marks, AllocError>
-        ensures bound { IfOk result (λ m. m.1 ≡ length self.now) }
-        ensures marked { IfOk result
-            (λ m. (u : ℕ) → is_in m.0 u ≡ reaches_mention (map function_view self.now) name.now u) }
-    {
-        let tests = mention_tests(alloc, self.functions, name)?;
-        self.back_from(alloc, tests.as_slice())
     }
 }

@@ -1,14 +1,14 @@
 -- Several steps in one go.
 use Rattle.std.proofs.Common.{◌≡◌, refl, sym, ap, ◌∙◌, subst, ℕ, zero, suc, Bool, false, List, [], ◌∷◌, Option, None}
-use Rattle.oc_tree.specs.Tree.{TKind, TProgram}
+use Rattle.oc_tree.specs.Tree.{TKind, TProgram, TStmts}
 use Rattle.oc_tree.specs.Marked.{TRegion}
 use Rattle.oc_meaning.specs.Store.{Binding, Event, Store, Value}
-use Rattle.oc_meaning.specs.Exec.{Outcome, Returned, Went, opened, used}
+use Rattle.oc_meaning.specs.Exec.{Outcome, Returned, Went, done, opened, used}
 use Rattle.oc_meaning.specs.Cuts.{events_in}
 use Rattle.oc_meaning.specs.Uses.{begins_use, is_fresh}
 use Rattle.oc_steps.specs.Ages.{join_ages, of_ages}
 use Rattle.oc_steps.specs.Fold.{Next, Way, after_step, then_next, told_by}
-use Rattle.oc_steps.specs.Steps.{Asks, Close, Done, Frame, Goes, Inside, Over, Step, Take, Use, Work, step, taken, work}
+use Rattle.oc_steps.specs.Steps.{Asks, Close, Done, Frame, Goes, Inside, Over, Rest, Step, Take, Use, Work, step, step_rest, taken, work}
 use Rattle.oc_judge.specs.Going.{step_at}
 use Rattle.oc_judge.specs.Leading.{Leads, on, one_on, silent}
 use Rattle.oc_judge.specs.Ways.{Comes, KeepsRest}
@@ -63,6 +63,14 @@ module _ (p : TProgram) (rs : List TRegion) where
       (subst (λ b. Leads p rs (Goes (Done b n u ∷ Close r ∷ fs) (Went σ)) (Goes fs (Went σ))) (sym i)
       (subst (λ q. Leads p rs (Goes (Done false n u ∷ Close q ∷ fs) (Went σ)) (Goes fs (Went σ))) (sym c)
       (record { steps = 2; is = ap (one_on p rs) (one_silent (Done false n u ∷ Close None ∷ fs) σ h) ∙ one_silent (Close None ∷ fs) σ h })))
+
+  -- and then the statements that follow it
+  pub leaves_it : (e : Bool) (n : ℕ) (u : List ℕ) (r : Option ℕ) (f : Inside) (env : List Binding) (ss : TStmts) (fs : List Frame) (σ : Store) → e ≡ false → r ≡ None → σ.events ≡ []
+      → Leads p rs (Goes (Close r ∷ Rest f env ss ∷ fs) (Went (done e n u σ))) (step_rest p rs join_ages of_ages f env ss fs σ)
+  leaves_it e n u r f env ss fs σ i c h =
+      subst (λ b. Leads p rs (Goes (Close r ∷ Rest f env ss ∷ fs) (Went (done b n u σ))) (step_rest p rs join_ages of_ages f env ss fs σ)) (sym i)
+      (subst (λ q. Leads p rs (Goes (Close q ∷ Rest f env ss ∷ fs) (Went σ)) (step_rest p rs join_ages of_ages f env ss fs σ)) (sym c)
+      (record { steps = 2; is = ap (one_on p rs) (one_silent (Close None ∷ Rest f env ss ∷ fs) σ h) ∙ one_silent (Rest f env ss ∷ fs) σ h }))
 
   module _ (f : Inside) (env : List Binding) (n : ℕ) (u : List ℕ) (k : TKind) (fs : List Frame) (σ : Store) (h : σ.events ≡ []) (r : Option ℕ) (none : r ≡ None) where
     -- the use of a statement with which no region begins

@@ -11,10 +11,10 @@ use Rattle.oc_tree.specs.declared.tree.Stmt.{Stmt}
 use Rattle.oc_tree.specs.Weight.{count_of}
 use Rattle.oc_meaning.specs.Store.{Binding, Store}
 use Rattle.oc_meaning.specs.Exec.{Went}
-use Rattle.oc_steps.specs.Ages.{join_ages, of_ages, one_more}
-use Rattle.oc_steps.specs.Steps.{Frame, Goes, Inside, Turns, step}
-use Rattle.oc_steps.specs.Fold.{Way, Next, Went_on, after_step, steps_on, next_of, then_next, told_by}
-use Rattle.oc_judge.specs.Frames.{for_frame, frame_view, frames_view, inside_view}
+use Rattle.oc_steps.specs.Ages.{one_more}
+use Rattle.oc_steps.specs.Steps.{Frame, Inside, Turns}
+use Rattle.oc_steps.specs.Fold.{Way, Next, Went_on, steps_on, next_of, then_next}
+use Rattle.oc_judge.specs.Frames.{for_frame, frame_view, frames_view, inside_view, joined}
 use Rattle.oc_judge.specs.Passes.{more_times, HasTurns, Reaches}
 use Rattle.oc_judge.specs.Ways.{Comes, KeepsRest}
 use Rattle.oc_judge.specs.declared.frames.ForTurns.{ForTurns}
@@ -48,8 +48,8 @@ pub no_statements : (ss : List Stmt) → length ss ≡ 0 → stmts_view ss ≡ n
 no_statements [] h = refl
 no_statements (s ∷ ss) h = absurd (omega (arith, h))
 
-pub frames_more : (fs : List frames.Frame) (f : frames.Frame) → frames_view (fs ++ f ∷ []) ≡ frame_view f ∷ frames_view fs
-frames_more fs f = ap reverse (map-append frame_view fs (f ∷ [])) ∙ reverse-append (map frame_view fs) (frame_view f ∷ [])
+pub frames_more : (fs : List frames.Frame) (f : frames.Frame) → frames_view (fs ++ f ∷ []) ≡ frame_view f ++ frames_view fs
+frames_more fs f = ap joined (ap reverse (map-append frame_view fs (f ∷ [])) ∙ reverse-append (map frame_view fs) (frame_view f ∷ []))
 
 -- ---- their steps
 
@@ -87,15 +87,6 @@ module _ (p : TProgram) (rs : List TRegion) where
   -- one step more, after which it says or wants something
   pub comes : (u v : Way) (next : Next) → Reaches p rs u v → next ≡ next_of p rs v → Comes p rs u next
   comes u v next r e = record { steps = suc r.steps; is = ap (then_next p rs) r.is ∙ sym e }
-
-  -- an end that says nothing
-  pub passes_end : (w : Way) (fs : List Frame) (σ : Store) → w.out ≡ Went σ → σ.events ≡ [] → ((τ : Store) → step p rs join_ages of_ages w.frames (Went τ) ≡ Goes fs (Went τ))
-      → Reaches p rs w (record w { frames = fs })
-  passes_end w fs σ o e h = record {
-    steps = 1;
-    is = ap (λ q. after_step w (step p rs join_ages of_ages w.frames q)) o ∙ ap (after_step w) (h σ) ∙ ap (told_by w fs (Went σ)) e
-        ∙ ap (λ q. Went_on (record w { frames = fs; out = q })) (sym o);
-  }
 
   module _ (w : Way) (f : Inside) (x : Text) (id : ℕ) (env : List Binding) (fs : List Frame) where
     -- so many turns are left, and nothing was said

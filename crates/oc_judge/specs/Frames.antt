@@ -1,5 +1,5 @@
 -- What frames and steps are in the terms of the definition.
-use Rattle.std.specs.Prelude.{◌-ℤ◌, List, map, reverse}
+use Rattle.std.specs.Prelude.{◌-ℤ◌, List, [], ◌∷◌, ◌++◌, map, reverse}
 use Rattle.oc_tree.specs.View.{block_view, expr_view, stmts_view, kind_view}
 use Rattle.oc_tree.specs.Weight.{count_of}
 use Rattle.oc_meaning.specs.Store.{Binding}
@@ -34,24 +34,30 @@ test_frame env t =
     steps.Test (inside_view t.inside) env t.stmt (expr_view t.condition.now) t.left
     (block_view t.body.now) (age_view t.age)
 
--- a task with these variables
-abbrev pub task_frame : List Binding → Task → steps.Frame
-task_frame env (tasks.Rest f ss) = steps.Rest (inside_view f) env (stmts_view ss.now)
-task_frame env (tasks.Use f n u k) =
-    steps.Use (inside_view f) env n (age_view u) (kind_view k.now)
-task_frame env (tasks.Work f n k) = steps.Work (inside_view f) env n (kind_view k.now)
-task_frame env (tasks.Take n k) = steps.Take env n (kind_view k.now)
-task_frame env (tasks.Turns t) = for_frame env t
-task_frame env (tasks.Loop t) = while_frame env t
-task_frame env (tasks.Test t) = test_frame env t
+-- a task with these variables, or what stands behind a statement with them
+abbrev pub task_frames : List Binding → Task → List steps.Frame
+task_frames env (tasks.Rest f ss) = steps.Rest (inside_view f) env (stmts_view ss.now) ∷ []
+task_frames env (tasks.Behind f n is u r ss) =
+    steps.Done is n (age_view u) ∷ steps.Close r
+    ∷ steps.Rest (inside_view f) env (stmts_view ss.now) ∷ []
+task_frames env (tasks.Use f n u k) =
+    steps.Use (inside_view f) env n (age_view u) (kind_view k.now) ∷ []
+task_frames env (tasks.Work f n k) = steps.Work (inside_view f) env n (kind_view k.now) ∷ []
+task_frames env (tasks.Take n k) = steps.Take env n (kind_view k.now) ∷ []
+task_frames env (tasks.Turns t) = for_frame env t ∷ []
+task_frames env (tasks.Loop t) = while_frame env t ∷ []
+task_frames env (tasks.Test t) = test_frame env t ∷ []
 
-abbrev pub frame_view : Frame → steps.Frame
-frame_view (frames.Scoped env t) = task_frame env.value t
-frame_view (frames.Done is n u) = steps.Done is n (age_view u)
-frame_view (frames.Close r) = steps.Close r
-frame_view (frames.Leave n) = steps.Leave n
-frame_view (frames.Back v r) = steps.Back (value_view v) r
+abbrev pub frame_view : Frame → List steps.Frame
+frame_view (frames.Scoped env t) = task_frames env.value t
+frame_view (frames.Close r) = steps.Close r ∷ []
+frame_view (frames.Leave n) = steps.Leave n ∷ []
+frame_view (frames.Back v r) = steps.Back (value_view v) r ∷ []
+
+abbrev pub joined : List (List steps.Frame) → List steps.Frame
+joined [] = []
+joined (fs ∷ more) = fs ++ joined more
 
 -- the newest first
 abbrev pub frames_view : List Frame → List steps.Frame
-frames_view fs = reverse (map frame_view fs)
+frames_view fs = joined (reverse (map frame_view fs))

@@ -59,8 +59,5 @@ rest_here r = steps.step_rest (program_of r) (regions_of r) join_ages of_ages
 abbrev pub went_here : Running → Frame → List Frame → Store → Step
 went_here r = steps.step_went (program_of r) (regions_of r) join_ages of_ages
 
-abbrev pub returned_here : Running → Frame → Value → List Frame → Store → Step
-returned_here r = steps.step_returned (program_of r) (regions_of r) join_ages of_ages
-
 abbrev pub step_here : Running → List Frame → Outcome → Step
 step_here r = steps.step (program_of r) (regions_of r) join_ages of_ages

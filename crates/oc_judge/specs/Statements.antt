@@ -1,5 +1,5 @@
 -- Statements that begin.
-use Rattle.std.specs.Prelude.{◌≡◌, ℕ, false, List, [], ◌∷◌, None}
+use Rattle.std.specs.Prelude.{◌≡◌, ℕ, Bool, false, List, [], ◌∷◌, Option, None}
 use Rattle.oc_tree.specs.Tree.{TKind}
 use Rattle.oc_tree.specs.Marked.{TRegion}
 use Rattle.oc_tree.specs.View.{kind_view, stmts_view}
@@ -54,3 +54,9 @@ pub record IsSilent (regions : List TRegion) (s : Statement) (o : Completion) (�
   pub region_ended : ended_by regions s.id ≡ None
   pub told : σ.events ≡ []
   pub went : completion_at o σ ≡ Went σ
+
+-- the ends of a use and of a region say nothing
+pub record IsQuiet (is : Bool) (region : Option ℕ) (σ : Store) : Type 0 where
+  pub use_ended : is ≡ false
+  pub region_ended : region ≡ None
+  pub told : σ.events ≡ []

@@ -1,6 +1,6 @@
 //! What is left to do.
-ghost use Rattle.std.specs.Prelude.{◌≡◌, ◌∷◌, IfOk, OnOk};
-ghost use Rattle.oc_judge.specs.Frames.{frame_view, frames_view, task_frame};
+ghost use Rattle.std.specs.Prelude.{◌≡◌, ◌++◌, IfOk, OnOk};
+ghost use Rattle.oc_judge.specs.Frames.{frame_view, frames_view, task_frames};
 
 use crate::age::{Age, Value};
 use oc_meaning::scope::Scope;
@@ -45,6 +45,16 @@ pub enum Task<'a> {
         inside: Inside<'a>,
         statements: &'a [Stmt],
     },
+    /// What stands behind the work of a statement: the end of its use, if it is one, that of its
+    /// region, if one ends, and the statements that follow.
+    Behind {
+        inside: Inside<'a>,
+        stmt: StmtId,
+        is_use: bool,
+        age: Age,
+        region: Option<u32>,
+        statements: &'a [Stmt],
+    },
     /// The use of a statement begins, if it begins one.
     Use {
         inside: Inside<'a>,
@@ -85,12 +95,6 @@ pub enum Frame<'a> {
         scope: Rc<Scope<'a>>,
         task: Task<'a>,
     },
-    /// The use of a statement ends, if it is one.
-    Done {
-        is_use: bool,
-        stmt: StmtId,
-        age: Age,
-    },
     /// A region ends, if one does.
     Close {
         region: Option<u32>,
@@ -109,7 +113,7 @@ pub enum Frame<'a> {
 /// One thing more is left to do, and comes first.
 pub fn push_frame<'a>(frame: Frame<'a>, frames: &mut Vec<Frame<'a>>) -> Result<(), AllocError>
     ensures { OnOk result
-        (frames_view frames.new.items ≡ frame_view frame.entry ∷ frames_view frames.old.items) }
+        (frames_view frames.new.items ≡ frame_view frame.entry ++ frames_view frames.old.items) }
 {
     frames.push(frame)?;
     Ok(())
@@ -123,7 +127,7 @@ pub fn push_task<'a>(
 ) -> Result<(), AllocError>
     ensures { OnOk result
         (frames_view frames.new.items
-        ≡ task_frame scope.entry.value task.entry ∷ frames_view frames.old.items) }
+        ≡ task_frames scope.entry.value task.entry ++ frames_view frames.old.items) }
 {
     push_frame(Frame::Scoped { scope, task }, frames)?;
     Ok(())
@@ -137,11 +141,6 @@ fn copy<'a>(frame: &Frame<'a>) -> Result<Frame<'a>, AllocError>
         Frame::Scoped { scope, task } => Ok(Frame::Scoped {
             scope: Rc::clone(scope)?,
             task: *task,
-        }),
-        Frame::Done { is_use, stmt, age } => Ok(Frame::Done {
-            is_use: *is_use,
-            stmt: *stmt,
-            age: *age,
         }),
         Frame::Close { region } => Ok(Frame::Close { region: *region }),
         Frame::Leave { locals } => Ok(Frame::Leave { locals: *locals }),

@@ -1,12 +1,10 @@
-//! Loops with nothing in them, and ends that say nothing, which are gone over at once.
-ghost use Rattle.std.specs.Prelude.{◌≡◌, ◌-◌, ◌∷◌, length, take, true, List, IfSome, OnOk};
-ghost use Rattle.oc_tree.specs.Tree.{TProgram};
-ghost use Rattle.oc_tree.specs.Marked.{TRegion};
+//! Loops with nothing in them, which are gone over at once.
+ghost use Rattle.std.specs.Prelude.{◌≡◌, ◌-◌, ◌∷◌, length, take, List, IfSome, OnOk};
 ghost use Rattle.oc_meaning.specs.Store.{Binding};
 ghost use Rattle.oc_steps.specs.Steps as steps;
 ghost use Rattle.oc_judge.specs.Frames.{for_frame, frames_view};
 ghost use Rattle.oc_judge.specs.Going.{program_of, regions_of};
-ghost use Rattle.oc_judge.specs.Passes.{HasTurns, Passes, PassesNext, Reaches};
+ghost use Rattle.oc_judge.specs.Passes.{HasTurns, Reaches};
 ghost use Rattle.oc_judge.specs.Ways.{KeepsRest, way_view};
 
 use crate::frames::{ForTurns, Frame, Task};
@@ -53,59 +51,6 @@ fn leave_first(frames: &mut Vec<Frame>)
     ensures { frames.new.items ≡ take (length frames.old.items - 1) frames.old.items }
 {
     frames.truncate(frames.len().saturating_sub(1));
-}
-
-/// Whether what is left to do first is the end of a use or of a region that says nothing.
-fn is_end(frames: &[Frame]) -> bool
-    ensures { result ≡ true
-        → Passes (frames_view frames.now) (frames_view (take (length frames.now - 1) frames.now)) }
-{
-    match frames.last() {
-        Some(Frame::Done { is_use, .. }) => !*is_use,
-        Some(Frame::Close { region }) => region.is_none(),
-        _ => false,
-    }
-}
-
-/// Whether that is what a run does next.
-fn is_at_end(way: &Way) -> bool
-    ensures { result ≡ true → PassesNext way.now }
-{
-    if way.store.has_event() {
-        return false;
-    }
-    match way.completion {
-        Completion::Went => is_end(&way.frames),
-        _ => false,
-    }
-}
-
-/// The run behind the end of a use or of a region that says nothing, where it is what it does next,
-/// and whether it is.
-#[tactic(auto, using(crate::proofs::Skips::stays))]
-fn pass_end(way: &mut Way) -> bool
-    ensures reached { (p : TProgram) (regions : List TRegion)
-        → Reaches p regions (way_view way.old) (way_view way.new) }
-    ensures kept { KeepsRest (way_view way.old) (way_view way.new) }
-{
-    if !is_at_end(way) {
-        return false;
-    }
-    leave_first(&mut way.frames);
-    true
-}
-
-/// The run behind the end of a statement, or that of its region alone, where it says nothing and is
-/// what the run does next.
-pub fn pass_ends(way: &mut Way)
-    ensures reached { (p : TProgram) (regions : List TRegion)
-        → Reaches p regions (way_view way.old) (way_view way.new) }
-    ensures kept { KeepsRest (way_view way.old) (way_view way.new) }
-{
-    if !pass_end(way) {
-        return;
-    }
-    let _more = pass_end(way);
 }
 
 /// The run behind the turns of a `for` with an empty body, where they are what it does next.

@@ -3,12 +3,12 @@ ghost use Rattle.std.specs.Prelude.{◌≡◌, ◌∷◌, false, map, true, IfOk
 ghost use Rattle.oc_tree.specs.Regions.{region_view};
 ghost use Rattle.oc_tree.specs.Tree.{more};
 ghost use Rattle.oc_tree.specs.View.{kind_view, stmt_view, stmts_view};
-ghost use Rattle.oc_meaning.specs.Exec.{Went, grown, used};
-ghost use Rattle.oc_steps.specs.Steps.{Goes, Work};
+ghost use Rattle.oc_meaning.specs.Exec.{Went, done, grown, used};
+ghost use Rattle.oc_steps.specs.Steps.{Close, Goes, Rest, Work};
 ghost use Rattle.oc_judge.specs.Frames.{frames_view, inside_view};
 ghost use Rattle.oc_judge.specs.Going.{regions_of, rest_here};
 ghost use Rattle.oc_judge.specs.Leading.{LeadsTo};
-ghost use Rattle.oc_judge.specs.Statements.{IsPlain, IsSilent, IsUse, begun_here, end_frames};
+ghost use Rattle.oc_judge.specs.Statements.{IsPlain, IsQuiet, IsSilent, IsUse, begun_here, end_frames};
 ghost use Rattle.oc_judge.specs.Stores.{completion_at};
 ghost use Rattle.oc_judge.specs.Values.{age_view};
 
@@ -18,7 +18,7 @@ use crate::going::Going;
 use crate::running::Running;
 use crate::scopes::grow;
 use crate::store::{Completion, Store};
-use crate::uses::{Use, begin_use, use_of};
+use crate::uses::{Use, begin_use, end_use, use_of};
 use crate::work::{work, work_at_once};
 use oc_meaning::regions::{begun_by, ended_by};
 use oc_meaning::scope::Scope;
@@ -49,16 +49,15 @@ fn push_end<'a>(
         (frames_view frames.new.items
         ≡ end_frames run.now statement.entry behind.entry.value (frames_view frames.old.items)) }
 {
-    let inside = statement.inside;
-    let statements = statement.rest;
-    push_task(behind, Task::Rest { inside, statements }, frames)?;
-    let region = ended_by(run.regions, statement.id);
-    push_frame(Frame::Close { region }, frames)?;
-    push_frame(
-        Frame::Done {
-            is_use: statement.found.ends,
+    push_task(
+        behind,
+        Task::Behind {
+            inside: statement.inside,
             stmt: statement.id,
+            is_use: statement.found.ends,
             age: statement.found.age,
+            region: ended_by(run.regions, statement.id),
+            statements: statement.rest,
         },
         frames,
     )?;
@@ -337,4 +336,53 @@ pub fn rest<'a>(
         }),
         Some((first, others)) => begin_statement(run, inside, scope, first, others, frames, store),
     }
+}
+
+/// Whether the end of a use, if it is one, and that of a region, if one ends, say nothing.
+fn is_quiet(is_use: bool, region: Option<u32>, store: &Store) -> bool
+    ensures { result ≡ true → IsQuiet is_use region store.now }
+{
+    if is_use {
+        return false;
+    }
+    if store.has_event() {
+        return false;
+    }
+    region.is_none()
+}
+
+/// The end of the statement `n`, that of its region, and the statements that follow it, up to the
+/// first thing that is said.
+#[tactic(auto, using(crate::proofs::Leading::at_once))]
+pub fn leave_statement<'a>(
+    run: &Running<'a>,
+    inside: Inside<'a>,
+    scope: Rc<Scope<'a>>,
+    n: StmtId,
+    is_use: bool,
+    age: Age,
+    region: Option<u32>,
+    statements: &'a [Stmt],
+    frames: &mut Vec<Frame<'a>>,
+    store: &mut Store,
+) -> Result<Going, AllocError>
+    ensures { IfOk result
+        (λ g. LeadsTo run.now
+        (Goes
+        (Close region
+        ∷ Rest (inside_view inside.entry) scope.entry.value (stmts_view statements.now)
+        ∷ frames_view frames.old.items)
+        (Went (done is_use n (age_view age) store.old)))
+        g (frames_view frames.new.items) store.new) }
+{
+    if is_quiet(is_use, region, store) {
+        let going = rest(run, inside, scope, statements, frames, store)?;
+        return Ok(going);
+    }
+    push_task(scope, Task::Rest { inside, statements }, frames)?;
+    push_frame(Frame::Close { region }, frames)?;
+    end_use(is_use, n, age, store)?;
+    Ok(Going::Goes {
+        completion: Completion::Went,
+    })
 }

@@ -1,14 +1,14 @@
 //! One step of a run.
-ghost use Rattle.std.specs.Prelude.{◌≡◌, IfOk, List};
+ghost use Rattle.std.specs.Prelude.{◌≡◌, ◌++◌, IfOk};
 ghost use Rattle.std.specs.List.{list_any};
 ghost use Rattle.oc_tree.specs.Named.{expr_names};
 ghost use Rattle.oc_tree.specs.View.{expr_view, kind_view};
-ghost use Rattle.oc_meaning.specs.Exec.{Went, done};
+ghost use Rattle.oc_meaning.specs.Exec.{Returned, Went, done};
 ghost use Rattle.oc_meaning.specs.Uses.{is_fresh};
 ghost use Rattle.oc_steps.specs.Steps.{Goes, Use};
 ghost use Rattle.oc_steps.specs.Steps as steps;
-ghost use Rattle.oc_judge.specs.Frames.{for_frame, frame_view, frames_view, inside_view, task_frame, test_frame, while_frame};
-ghost use Rattle.oc_judge.specs.Going.{IsKept, returned_here, step_here, went_here};
+ghost use Rattle.oc_judge.specs.Frames.{for_frame, frame_view, frames_view, inside_view, task_frames, test_frame, while_frame};
+ghost use Rattle.oc_judge.specs.Going.{IsKept, step_here, went_here};
 ghost use Rattle.oc_judge.specs.Leading.{LeadsOn, LeadsTo};
 ghost use Rattle.oc_judge.specs.Stores.{completion_at};
 ghost use Rattle.oc_judge.specs.Values.{age_view, value_view};
@@ -16,12 +16,12 @@ ghost use Rattle.oc_judge.specs.Values.{age_view, value_view};
 use crate::age::{Age, Got, Value};
 use crate::blocks::begin;
 use crate::eval::{is_zero, value_of};
-use crate::frames::{ForTurns, Frame, Inside, Task, WhileTurns, push_task};
+use crate::frames::{ForTurns, Frame, Inside, Task, WhileTurns, push_frame, push_task};
 use crate::going::Going;
 use crate::naming::expression_is_use;
 use crate::running::Running;
 use crate::scopes::with_variable;
-use crate::statement::{begin_work, rest};
+use crate::statement::{begin_work, leave_statement, rest};
 use crate::store::{Completion, Store};
 use crate::uses::{begin_use, end_use, expression_age, use_of};
 use crate::work::{take, work};
@@ -167,8 +167,8 @@ fn perform<'a>(
 ) -> Result<Going, AllocError>
     ensures { IfOk result
         (λ g. LeadsTo run.now
-        (went_here run.now (task_frame scope.entry.value task.entry) (frames_view frames.old.items)
-        store.old)
+        (step_here run.now (task_frames scope.entry.value task.entry ++ frames_view frames.old.items)
+        (Went store.old))
         g (frames_view frames.new.items) store.new) }
 {
     let completion = match task {
@@ -177,6 +177,18 @@ fn perform<'a>(
         }
         Task::Rest { inside, statements } => {
             return rest(run, inside, scope, statements, frames, store);
+        }
+        Task::Behind {
+            inside,
+            stmt,
+            is_use,
+            age,
+            region,
+            statements,
+        } => {
+            return leave_statement(
+                run, inside, scope, stmt, is_use, age, region, statements, frames, store,
+            );
         }
         Task::Use {
             inside,
@@ -202,17 +214,12 @@ fn go_on<'a>(
 ) -> Result<Going, AllocError>
     ensures { IfOk result
         (λ g. LeadsTo run.now
-        (went_here run.now (frame_view frame.entry) (frames_view frames.old.items) store.old)
+        (step_here run.now (frame_view frame.entry ++ frames_view frames.old.items)
+        (Went store.old))
         g (frames_view frames.new.items) store.new) }
 {
     match frame {
         Frame::Scoped { scope, task } => perform(run, scope, task, frames, store),
-        Frame::Done { is_use, stmt, age } => {
-            end_use(is_use, stmt, age, store)?;
-            Ok(Going::Goes {
-                completion: Completion::Went,
-            })
-        }
         Frame::Close { region } => {
             store.close_region(region)?;
             Ok(Going::Goes {
@@ -235,19 +242,32 @@ fn go_on<'a>(
 }
 
 /// A task with these variables, where a value was returned before it.
-fn give_to(
-    run: &Running,
-    scope: &Scope,
-    task: Task,
+fn give_to<'a>(
+    run: &Running<'a>,
+    scope: Rc<Scope<'a>>,
+    task: Task<'a>,
     value: Value,
+    frames: &mut Vec<Frame<'a>>,
     store: &mut Store,
 ) -> Result<Completion, AllocError>
     ensures { IfOk result
-        (λ o. (fs : List steps.Frame) → Goes fs (completion_at o store.new)
-        ≡ returned_here run.now (task_frame scope.now task.entry) (value_view value) fs store.old) }
+        (λ o. Goes (frames_view frames.new.items) (completion_at o store.new)
+        ≡ step_here run.now
+        (task_frames scope.entry.value task.entry ++ frames_view frames.old.items)
+        (Returned (value_view value) store.old)) }
 {
     match task {
-        Task::Take { stmt, kind } => take(run, scope, stmt, kind, value, store),
+        Task::Take { stmt, kind } => take(run, &scope, stmt, kind, value, store),
+        Task::Behind {
+            inside,
+            region,
+            statements,
+            ..
+        } => {
+            push_task(scope, Task::Rest { inside, statements }, frames)?;
+            push_frame(Frame::Close { region }, frames)?;
+            Ok(Completion::Returned { value })
+        }
         _ => Ok(Completion::Returned { value }),
     }
 }
@@ -257,14 +277,16 @@ fn go_back<'a>(
     run: &Running<'a>,
     frame: Frame<'a>,
     value: Value,
+    frames: &mut Vec<Frame<'a>>,
     store: &mut Store,
 ) -> Result<Completion, AllocError>
     ensures { IfOk result
-        (λ o. (fs : List steps.Frame) → Goes fs (completion_at o store.new)
-        ≡ returned_here run.now (frame_view frame.entry) (value_view value) fs store.old) }
+        (λ o. Goes (frames_view frames.new.items) (completion_at o store.new)
+        ≡ step_here run.now (frame_view frame.entry ++ frames_view frames.old.items)
+        (Returned (value_view value) store.old)) }
 {
     match frame {
-        Frame::Scoped { scope, task } => give_to(run, &scope, task, value, store),
+        Frame::Scoped { scope, task } => give_to(run, scope, task, value, frames, store),
         Frame::Leave { locals } => {
             store.leave(locals);
             Ok(Completion::Returned { value })
@@ -302,7 +324,7 @@ pub fn step<'a>(
         Completion::Returned { value } => match frames.pop() {
             None => Ok(None),
             Some(frame) => {
-                let completion = go_back(run, frame, value, store)?;
+                let completion = go_back(run, frame, value, frames, store)?;
                 Ok(Some(Going::Goes { completion }))
             }
         },

@@ -12,7 +12,7 @@ use crate::age::Age;
 use crate::blocks::begin_call;
 use crate::frames::{Frame, copies};
 use crate::going::Going;
-use crate::passes::{pass_ends, pass_turns};
+use crate::passes::pass_turns;
 use crate::running::Running;
 use crate::step::step;
 use crate::store::{Completion, Event, Store};
@@ -190,7 +190,6 @@ pub fn go<'a>(run: &Running<'a>, way: &mut Way<'a>) -> Result<Next, AllocError>
     ensures kept { IfOk result (λ n. KeepsRest (way_view way.old) (way_view way.new)) }
 {
     for _step in 0..u64::MAX {
-        pass_ends(way);
         pass_turns(run, way)?;
         let ahead = advance(run, way)?;
         if !is_on(ahead) {

@@ -167,7 +167,8 @@ fn perform<'a>(
 ) -> Result<Going, AllocError>
     ensures { IfOk result
         (λ g. LeadsTo run.now
-        (step_here run.now (task_frames scope.entry.value task.entry ++ frames_view frames.old.items)
+        (step_here run.now
+        (task_frames scope.entry.value task.entry ++ frames_view frames.old.items)
         (Went store.old))
         g (frames_view frames.new.items) store.new) }
 {

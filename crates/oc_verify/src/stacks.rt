@@ -183,7 +183,8 @@ impl Stacks {
     /// The kinds below a place of at least so many words.
     pub fn place(&self, words: u32, ops: u32) -> Result<u32, Fault>
         requires { ops ≤ length self.now }
-        ensures exact { IsJudgment (λ n. kinds self.now n) result (place words (kinds self.now ops)) }
+        ensures exact { IsJudgment (λ n. kinds self.now n) result
+            (place words (kinds self.now ops)) }
         ensures within { IfOk result (λ n. n ≤ length self.now) }
     {
         match self.top(ops) {
